@@ -5,20 +5,20 @@ pub use Rattle.gixobj_actor.specs.declared as actor
 pub use Rattle.gixobj_codec.specs.Agreeing
 pub use Rattle.gixobj_codec.specs.LineFields
 pub use Rattle.gixobj_codec.specs.OneMarker
-pub use Rattle.gixobj_codec.specs.SignedTexts
+pub use Rattle.gixobj_codec.specs.SignedEncodings
 pub use Rattle.gixobj_commit.specs.Commit
 pub use Rattle.gixobj_commit.specs.CommitOwned
 pub use Rattle.gixobj_commit.specs.CommitSigning
 pub use Rattle.gixobj_commit.specs.CommitViews
 pub use Rattle.gixobj_commit.specs.CommitWriting
 pub use Rattle.gixobj_commit.specs.ExtraHeaders
-pub use Rattle.gixobj_commit.specs.HeadersLeft
+pub use Rattle.gixobj_commit.specs.RemainingHeaders
 pub use Rattle.gixobj_commit.specs.Mergetags
-pub use Rattle.gixobj_commit.specs.ParentsLeft
+pub use Rattle.gixobj_commit.specs.RemainingParents
 pub use Rattle.gixobj_commit.specs.Rewriting
 pub use Rattle.gixobj_commit.specs.declared as commit
 pub use Rattle.gixobj_directories.specs.Calls
-pub use Rattle.gixobj_directories.specs.Handing
+pub use Rattle.gixobj_directories.specs.Emitting
 pub use Rattle.gixobj_directories.specs.LookedUp
 pub use Rattle.gixobj_directories.specs.Openings
 pub use Rattle.gixobj_directories.specs.declared as directories
@@ -33,8 +33,8 @@ pub use Rattle.gixobj_editor.specs.Writes
 pub use Rattle.gixobj_editor.specs.declared as editor
 pub use Rattle.gixobj_fields.specs.FieldWriting
 pub use Rattle.gixobj_fields.specs.HeaderReading
-pub use Rattle.gixobj_fields.specs.HeaderText
-pub use Rattle.gixobj_fields.specs.Readers as FieldReaders
+pub use Rattle.gixobj_fields.specs.HeaderFormat
+pub use Rattle.gixobj_fields.specs.Iterators as FieldReaders
 pub use Rattle.gixobj_fields.specs.Runs
 pub use Rattle.gixobj_fields.specs.StreamHash
 pub use Rattle.gixobj_fields.specs.Streams
@@ -44,8 +44,8 @@ pub use Rattle.gixobj_files.specs.Bases
 pub use Rattle.gixobj_files.specs.Editing
 pub use Rattle.gixobj_files.specs.Edits
 pub use Rattle.gixobj_files.specs.Files
-pub use Rattle.gixobj_files.specs.Halting
-pub use Rattle.gixobj_files.specs.HandingOut
+pub use Rattle.gixobj_files.specs.OpeningStops
+pub use Rattle.gixobj_files.specs.Emission
 pub use Rattle.gixobj_files.specs.History
 pub use Rattle.gixobj_files.specs.Opening
 pub use Rattle.gixobj_files.specs.PlainHistory
@@ -64,7 +64,7 @@ pub use Rattle.gixobj_hash.specs.Encode
 pub use Rattle.gixobj_hash.specs.Hash
 pub use Rattle.gixobj_hash.specs.Kind
 pub use Rattle.gixobj_hash.specs.Optional
-pub use Rattle.gixobj_hash.specs.Texts
+pub use Rattle.gixobj_hash.specs.ByteStrings
 pub use Rattle.gixobj_hash.specs.declared as hash
 pub use Rattle.gixobj_import.specs.ByDigest
 pub use Rattle.gixobj_import.specs.Commits
@@ -79,7 +79,7 @@ pub use Rattle.gixobj_mode.specs.ModeNumber
 pub use Rattle.gixobj_mode.specs.declared as mode
 pub use Rattle.gixobj_object.specs.BorrowedObjects
 pub use Rattle.gixobj_object.specs.Checksums
-pub use Rattle.gixobj_object.specs.EntryGiving
+pub use Rattle.gixobj_object.specs.EntrySteps
 pub use Rattle.gixobj_object.specs.Lookups
 pub use Rattle.gixobj_object.specs.LooseObjects
 pub use Rattle.gixobj_object.specs.ObjectReading
@@ -94,11 +94,11 @@ pub use Rattle.gixobj_ref_iter.specs.Extracting
 pub use Rattle.gixobj_ref_iter.specs.Readers
 pub use Rattle.gixobj_ref_iter.specs.TagExtracting
 pub use Rattle.gixobj_ref_iter.specs.TagReaders
-pub use Rattle.gixobj_ref_iter.specs.TagTokenGiving
+pub use Rattle.gixobj_ref_iter.specs.TagTokenSteps
 pub use Rattle.gixobj_ref_iter.specs.TagTokens
 pub use Rattle.gixobj_ref_iter.specs.TokenFilters
-pub use Rattle.gixobj_ref_iter.specs.TokenGiving
-pub use Rattle.gixobj_ref_iter.specs.TokenPassing
+pub use Rattle.gixobj_ref_iter.specs.CommitTokenSteps
+pub use Rattle.gixobj_ref_iter.specs.TokenSearch
 pub use Rattle.gixobj_ref_iter.specs.declared as ref_iter
 pub use Rattle.gixobj_report.specs.Fields
 pub use Rattle.gixobj_report.specs.GpgReports
@@ -120,7 +120,7 @@ pub use Rattle.gixobj_tag.specs.Rewriting as TagRewriting
 pub use Rattle.gixobj_tag.specs.Signed
 pub use Rattle.gixobj_tag.specs.TagOwned
 pub use Rattle.gixobj_tag.specs.TagSigning
-pub use Rattle.gixobj_tag.specs.TagText
+pub use Rattle.gixobj_tag.specs.TagFormat
 pub use Rattle.gixobj_tag.specs.TagViews
 pub use Rattle.gixobj_tag.specs.TagWriting
 pub use Rattle.gixobj_tag.specs.declared as tag
@@ -128,8 +128,8 @@ pub use Rattle.gixobj_text.specs.Blocks
 pub use Rattle.gixobj_text.specs.Bodies
 pub use Rattle.gixobj_text.specs.BodyLines
 pub use Rattle.gixobj_text.specs.Filters
-pub use Rattle.gixobj_text.specs.GivingBlocks
-pub use Rattle.gixobj_text.specs.GivingTrailers
+pub use Rattle.gixobj_text.specs.BlockSteps
+pub use Rattle.gixobj_text.specs.TrailerSteps
 pub use Rattle.gixobj_text.specs.Markers
 pub use Rattle.gixobj_text.specs.MessageTrailers
 pub use Rattle.gixobj_text.specs.Summing
@@ -138,12 +138,12 @@ pub use Rattle.gixobj_text.specs.TrailerBlocks
 pub use Rattle.gixobj_text.specs.TrailerNames
 pub use Rattle.gixobj_text.specs.Trailers
 pub use Rattle.gixobj_text.specs.Unfolding
-pub use Rattle.gixobj_text.specs.declared as text
+pub use Rattle.gixobj_text.specs.declared as message
 pub use Rattle.gixobj_tree.specs.Entries
 pub use Rattle.gixobj_tree.specs.EntryOrder
 pub use Rattle.gixobj_tree.specs.Rewriting as TreeRewriting
-pub use Rattle.gixobj_tree.specs.TreeReading
-pub use Rattle.gixobj_tree.specs.TreeText
+pub use Rattle.gixobj_tree.specs.TreeDecoding
+pub use Rattle.gixobj_tree.specs.TreeEncoding
 pub use Rattle.gixobj_tree.specs.TreeViews
 pub use Rattle.gixobj_tree.specs.WellFormed
 pub use Rattle.gixobj_tree.specs.declared as tree

@@ -1,9 +1,13 @@
-//! Git's objects as plain bytes, and an editor of trees.
+//! Git's objects as plain bytes, lookups in object stores, and an editor of trees.
 //!
-//! It re-exports what the crates below have for users: ids, kinds, loose headers, actors and times, trees, blobs,
-//! commits, tags and objects of any kind, how they are read and written, how they are looked up in stores and kept
-//! by them, in [`signature`] how they are signed and verified by other programs, in [`tree::editor`] the editor of nested
-//! trees, with whole runs of it, and in [`import`] histories imported from lists of edits.
+//! It re-exports what users need of the crates below:
+//!
+//! - ids, kinds and loose headers; actors ([`actor`]) and times ([`date`]);
+//! - blobs, trees, commits, tags and objects of any kind: how they are decoded and encoded;
+//! - stores: how objects are looked up in them ([`find`]) and kept by them;
+//! - [`signature`]: how objects are signed and verified by other programs;
+//! - [`tree::editor`]: the editor of nested trees, with complete runs of commands;
+//! - [`import`]: histories imported from lists of edits.
 #![tactic(auto)]
 
 pub mod laws;

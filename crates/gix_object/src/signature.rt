@@ -1,5 +1,4 @@
-//! Signatures of objects: their formats, what they sign, how they are made and how they are verified
-//! (gitformat-signature).
+//! Signatures of objects, with their formats, the signed bytes, signing and verifying (gitformat-signature).
 
 pub use gixobj_signature::signature::{
     Call, Output, RunError, Runner, SignedData, Word, sign, verify,

@@ -1,4 +1,4 @@
-//! Trees (gitdatamodel, "trees").
+//! Trees, with the kinds, modes and order of their entries, and the editor (gitdatamodel, "trees").
 
 pub mod editor;
 

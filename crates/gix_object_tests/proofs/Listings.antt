@@ -1,9 +1,10 @@
--- The files of lists: of those at and below an entry, and of entries one by one.
+-- The lists that `files_of` and `files_below` return have the files of `Files` and `Below`: lemmas for the proofs of
+-- listing/.
 use Rattle.std.proofs.Common.{◌≡◌, ◌≢◌, ◌⊎◌, ◌↔◌, inl, inr, ⊎_elim, ℕ, zero, suc, ◌-◌, ◌+◌, ◌<◌, Bool, true, false, List, [], ◌∷◌, ◌++◌, drop, take, get_or, length, refl, sym, ap, subst, ◌∙◌, arith, map, Option, Some, None}
 use Rattle.std.specs.Prelude.{IsTrue, MatchOption}
 use Rattle.std.proofs.lemmas.List.{drop_more, take_more}
 use Rattle.gix_object.specs.Entries.{Pair, EntryView}
-use Rattle.gix_object.specs.Files.{Below, FileSet, Files, Path, SameFiles, Table, is_null, stands_for}
+use Rattle.gix_object.specs.Files.{Below, FileSet, Files, Path, SameFiles, Table, is_null, resolves_to}
 use Rattle.gix_object.specs.Hash.{IsNull, id_kind, id_of}
 use Rattle.gix_object.specs.Mode.{is_tree_mode}
 use Rattle.gix_object.specs.Tables.{IsFirst, IsTableOf}
@@ -11,11 +12,11 @@ use Rattle.gix_object.specs.hash.hash.kind.Kind.{Kind}
 use Rattle.gix_object.specs.hash.hash.kind.Kind.TheVariants as hash
 use Rattle.gix_object.specs.hash.hash.object_id.ObjectId.{ObjectId}
 use Rattle.gix_object.specs.hash.kind.Kind.TheVariants.{Tree}
-use Rattle.gix_object_tests.specs.Lists.{FileView, Lists, in_front}
+use Rattle.gix_object_tests.specs.Lists.{FileView, Lists, with_first_name}
 use Rattle.gixobj_files.proofs.EditedFiles.{Has-append, Has-left, Has-right}
 use Rattle.gixobj_files.proofs.NullIds.{null_tested}
 
--- appended lists
+-- A file is in `fs ++ gs` if and only if it is in `fs` or in `gs`.
 Lists-append : (fs gs : List FileView) (path : Path) (mode : ℕ) (id : ObjectId) → Lists (fs ++ gs) path mode id → Lists fs path mode id ⊎ Lists gs path mode id
 Lists-append [] gs path mode id h = inr h
 Lists-append (f ∷ fs) gs path mode id (inl q) = inl (inl q)
@@ -30,23 +31,25 @@ Lists-right : (fs gs : List FileView) (path : Path) (mode : ℕ) (id : ObjectId)
 Lists-right [] gs path mode id h = h
 Lists-right (f ∷ fs) gs path mode id h = inr (Lists-right fs gs path mode id h)
 
--- files with a name in front
-fronted : (name : List ℕ) (fs : List FileView) (first : List ℕ) (path : Path) (mode : ℕ) (id : ObjectId) → Lists (map (in_front name) fs) (first ∷ path) mode id → (name ≡ first) × Lists fs path mode id
-fronted name [] first path mode id h = absurd h
-fronted name (f ∷ fs) first path mode id (inl q) = (cc q.0, inl (cc q.0, q.1, q.2))
-fronted name (f ∷ fs) first path mode id (inr h) = let rest = fronted name fs first path mode id h in (rest.0, inr rest.1)
+-- A list with `name` before each path has the files of the list at `name ∷ path`, and none at the empty path.
+with_first_name_elim : (name : List ℕ) (fs : List FileView) (first : List ℕ) (path : Path) (mode : ℕ) (id : ObjectId)
+    → Lists (map (with_first_name name) fs) (first ∷ path) mode id → (name ≡ first) × Lists fs path mode id
+with_first_name_elim name [] first path mode id h = absurd h
+with_first_name_elim name (f ∷ fs) first path mode id (inl q) = (cc q.0, inl (cc q.0, q.1, q.2))
+with_first_name_elim name (f ∷ fs) first path mode id (inr h) = let rest = with_first_name_elim name fs first path mode id h in (rest.0, inr rest.1)
 
-to_front : (name : List ℕ) (fs : List FileView) (path : Path) (mode : ℕ) (id : ObjectId) → Lists fs path mode id → Lists (map (in_front name) fs) (name ∷ path) mode id
-to_front name [] path mode id h = h
-to_front name (f ∷ fs) path mode id (inl q) = inl (ap (λ (p : Path). name ∷ p) q.0, q.1, q.2)
-to_front name (f ∷ fs) path mode id (inr h) = inr (to_front name fs path mode id h)
+with_first_name_intro : (name : List ℕ) (fs : List FileView) (path : Path) (mode : ℕ) (id : ObjectId) → Lists fs path mode id
+    → Lists (map (with_first_name name) fs) (name ∷ path) mode id
+with_first_name_intro name [] path mode id h = h
+with_first_name_intro name (f ∷ fs) path mode id (inl q) = inl (ap (λ (p : Path). name ∷ p) q.0, q.1, q.2)
+with_first_name_intro name (f ∷ fs) path mode id (inr h) = inr (with_first_name_intro name fs path mode id h)
 
-none_fronted : (name : List ℕ) (fs : List FileView) (mode : ℕ) (id : ObjectId) → Lists (map (in_front name) fs) [] mode id → ⊥
-none_fronted name [] mode id h = h
-none_fronted name (f ∷ fs) mode id (inl q) = cc q.0
-none_fronted name (f ∷ fs) mode id (inr h) = none_fronted name fs mode id h
+with_first_name_nonempty : (name : List ℕ) (fs : List FileView) (mode : ℕ) (id : ObjectId) → Lists (map (with_first_name name) fs) [] mode id → ⊥
+with_first_name_nonempty name [] mode id h = h
+with_first_name_nonempty name (f ∷ fs) mode id (inl q) = cc q.0
+with_first_name_nonempty name (f ∷ fs) mode id (inr h) = with_first_name_nonempty name fs mode id h
 
--- no files of no depth, and none of no entries
+-- A tree has no files to depth zero, and a tree without entries has none to any depth.
 pub no_depth : (T : Table) (es : List EntryView) → SameFiles (Lists []) (Files T zero es)
 no_depth T es path mode id = ((λ h. h), λ h. h)
 
@@ -55,87 +58,95 @@ no_entries T zero path mode id = ((λ h. h), λ h. h)
 no_entries T (suc n) [] mode id = ((λ h. h), λ h. h)
 no_entries T (suc n) (name ∷ path) mode id = ((λ h. absurd h), λ h. absurd h.1)
 
--- the files of one more entry
-one_more : (T : Table) (n : ℕ) (es : List EntryView) (e : EntryView) (fs below : List FileView)
+-- One more entry adds the files at and below it, each with the entry's name before its path.
+files_snoc : (T : Table) (n : ℕ) (es : List EntryView) (e : EntryView) (fs below : List FileView)
     → SameFiles (Lists fs) (Files T (suc n) es) → SameFiles (Lists below) (Below T (Files T n) e.mode e.id)
-    → SameFiles (Lists (fs ++ map (in_front e.name) below)) (Files T (suc n) (es ++ e ∷ []))
-one_more T n es e fs below same at [] mode id = (
-  (λ h. ⊎_elim (λ k. (same [] mode id).0 k) (λ k. none_fronted e.name below mode id k) (Lists-append fs (map (in_front e.name) below) [] mode id h)),
+    → SameFiles (Lists (fs ++ map (with_first_name e.name) below)) (Files T (suc n) (es ++ e ∷ []))
+files_snoc T n es e fs below same at [] mode id = (
+  (λ h. ⊎_elim (λ k. (same [] mode id).0 k) (λ k. with_first_name_nonempty e.name below mode id k)
+      (Lists-append fs (map (with_first_name e.name) below) [] mode id h)),
   λ h. absurd h,
 )
-one_more T n es e fs below same at (name ∷ path) mode id =
+files_snoc T n es e fs below same at (name ∷ path) mode id =
     let At : EntryView → Type 0 = λ y. Below T (Files T n) y.mode y.id path mode id in (
       (λ h. ⊎_elim
           (λ k. let old = (same (name ∷ path) mode id).0 k in (old.0, Has-left es (e ∷ []) old.0 old.1, old.2, old.3))
-          (λ k. let new = fronted e.name below name path mode id k in (e, Has-right es (e ∷ []) e (inl refl), new.0, (at path mode id).0 new.1))
-          (Lists-append fs (map (in_front e.name) below) (name ∷ path) mode id h)),
+          (λ k. let new = with_first_name_elim e.name below name path mode id k in (e, Has-right es (e ∷ []) e (inl refl), new.0, (at path mode id).0 new.1))
+          (Lists-append fs (map (with_first_name e.name) below) (name ∷ path) mode id h)),
       (λ h. ⊎_elim
-          (λ k. Lists-left fs (map (in_front e.name) below) (name ∷ path) mode id ((same (name ∷ path) mode id).1 (h.0, k, h.2, h.3)))
+          (λ k. Lists-left fs (map (with_first_name e.name) below) (name ∷ path) mode id ((same (name ∷ path) mode id).1 (h.0, k, h.2, h.3)))
           (λ k. ⊎_elim
           (λ is.
           let named : e.name ≡ name = ap (λ (y : EntryView). y.name) is ∙ h.2 in
           let inner : Lists below path mode id = (at path mode id).1 (subst At (sym is) h.3) in
-          Lists-right fs (map (in_front e.name) below) (name ∷ path) mode id (subst (λ (first : List ℕ). Lists (map (in_front e.name) below) (first ∷ path) mode id) named (to_front e.name below path mode id inner)))
+          Lists-right fs (map (with_first_name e.name) below) (name ∷ path) mode id
+          (subst (λ (first : List ℕ). Lists (map (with_first_name e.name) below) (first ∷ path) mode id) named
+          (with_first_name_intro e.name below path mode id inner)))
           (λ none. absurd none) k)
           (Has-append es (e ∷ []) h.0 h.1)),
     )
 
 next_entry : (T : Table) (depth : ℕ) → depth ≢ 0 → (es : List EntryView) (e : EntryView) (fs below : List FileView)
     → SameFiles (Lists fs) (Files T depth es) → SameFiles (Lists below) (Below T (Files T (depth - 1)) e.mode e.id)
-    → SameFiles (Lists (fs ++ map (in_front e.name) below)) (Files T depth (es ++ e ∷ []))
+    → SameFiles (Lists (fs ++ map (with_first_name e.name) below)) (Files T depth (es ++ e ∷ []))
 next_entry T zero some es e fs below same at = absurd (some refl)
 next_entry T (suc n) some es e fs below same at =
     let less : suc n - 1 ≡ n = omega arith in
-    one_more T n es e fs below same (subst (λ (k : ℕ). SameFiles (Lists below) (Below T (Files T k) e.mode e.id)) less at)
+    files_snoc T n es e fs below same (subst (λ (k : ℕ). SameFiles (Lists below) (Below T (Files T k) e.mode e.id)) less at)
 
 pub entry_added : (T : Table) (depth : ℕ) → depth ≢ 0 → (tree : List EntryView) (i : ℕ) (e : EntryView) (name : List ℕ) (fs below new : List FileView)
-    → i < length tree → e ≡ get_or tree i e → name ≡ e.name → new ≡ fs ++ map (in_front name) below
+    → i < length tree → e ≡ get_or tree i e → name ≡ e.name → new ≡ fs ++ map (with_first_name name) below
     → SameFiles (Lists fs) (Files T depth (take i tree)) → SameFiles (Lists below) (Below T (Files T (depth - 1)) e.mode e.id)
     → SameFiles (Lists new) (Files T depth (take (i + 1) tree))
 entry_added T depth some tree i e name fs below new lt is named added same at =
-    let files : SameFiles (Lists (fs ++ map (in_front e.name) below)) (Files T depth (take i tree ++ e ∷ [])) = next_entry T depth some (take i tree) e fs below same at in
+    let files : SameFiles (Lists (fs ++ map (with_first_name e.name) below)) (Files T depth (take i tree ++ e ∷ [])) =
+    next_entry T depth some (take i tree) e fs below same at in
     rw (added, named, take_more tree i e lt, sym is) files
 
--- these are the files at and below the entry, in every table that the list makes
+-- The list has the files at and below the entry, for every table of these pairs.
 abbrev pub AreBelow : List Pair → ℕ → EntryView → List FileView → Type 0
 AreBelow pairs depth e files = (T : Table) → IsTableOf T pairs → SameFiles (Lists files) (Below T (Files T depth) e.mode e.id)
 
 abbrev one_file : EntryView → List FileView
 one_file e = (record { path = []; mode = e.mode; id = e.id }) ∷ []
 
--- what tests of the fields of an entry say of it
+-- The result of each test on an entry decides the property of the entry's view.
 pub null_tested_at : (b v : Bool) (inside e : EntryView) → inside ≡ e → (IsTrue b ↔ IsNull inside.id) → b ≡ v → is_null e.id ≡ v
-null_tested_at b v inside e same tells is = sym (null_tested inside.id b tells ∙ ap (λ (y : EntryView). is_null y.id) same) ∙ is
+null_tested_at b v inside e same yields is = sym (null_tested inside.id b yields ∙ ap (λ (y : EntryView). is_null y.id) same) ∙ is
 
 pub tree_tested_at : (b v : Bool) (inside e : EntryView) → inside ≡ e → b ≡ is_tree_mode inside.mode → b ≡ v → is_tree_mode e.mode ≡ v
-tree_tested_at b v inside e same tells is = sym (tells ∙ ap (λ (y : EntryView). is_tree_mode y.mode) same) ∙ is
+tree_tested_at b v inside e same yields is = sym (yields ∙ ap (λ (y : EntryView). is_tree_mode y.mode) same) ∙ is
 
-pub empty_tested_at : (b : Bool) (inside e : EntryView) → inside ≡ e → (IsTrue b ↔ (inside.id ≡ id_of (id_kind inside.id) Tree [])) → b ≡ true → e.id ≡ id_of (id_kind e.id) Tree []
-empty_tested_at b inside e same tells is = subst (λ (y : EntryView). y.id ≡ id_of (id_kind y.id) Tree []) same (tells.0 is)
+pub empty_tested_at : (b : Bool) (inside e : EntryView) → inside ≡ e → (IsTrue b ↔ (inside.id ≡ id_of (id_kind inside.id) Tree [])) → b ≡ true
+    → e.id ≡ id_of (id_kind e.id) Tree []
+empty_tested_at b inside e same yields is = subst (λ (y : EntryView). y.id ≡ id_of (id_kind y.id) Tree []) same (yields.0 is)
 
-pub filled_tested_at : (b : Bool) (inside e : EntryView) → inside ≡ e → (IsTrue b ↔ (inside.id ≡ id_of (id_kind inside.id) Tree [])) → b ≡ false → e.id ≢ id_of (id_kind e.id) Tree []
-filled_tested_at b inside e same tells is = subst (λ (y : EntryView). y.id ≢ id_of (id_kind y.id) Tree []) same (λ empty. cc (tells.1 empty, is))
+pub filled_tested_at : (b : Bool) (inside e : EntryView) → inside ≡ e → (IsTrue b ↔ (inside.id ≡ id_of (id_kind inside.id) Tree [])) → b ≡ false
+    → e.id ≢ id_of (id_kind e.id) Tree []
+filled_tested_at b inside e same yields is = subst (λ (y : EntryView). y.id ≢ id_of (id_kind y.id) Tree []) same (λ empty. cc (yields.1 empty, is))
 
-pub first_tested_at : (pairs : List Pair) (found : Option (List EntryView)) (inside e : EntryView) → inside ≡ e → IsFirst pairs inside.id found → IsFirst pairs e.id found
+pub first_tested_at : (pairs : List Pair) (found : Option (List EntryView)) (inside e : EntryView) → inside ≡ e → IsFirst pairs inside.id found
+    → IsFirst pairs e.id found
 first_tested_at pairs found inside e same = subst (λ (y : EntryView). IsFirst pairs y.id found) same
 
 pub below_null : (pairs : List Pair) (depth : ℕ) (e : EntryView) → is_null e.id ≡ true → AreBelow pairs depth e []
 below_null pairs depth e null T says path mode id = ((λ h. absurd h), λ h. cc (null, h.0))
 
--- where the entry's tree isn't known
-unknown_below : (T : Table) (L : List EntryView → FileSet) (e : EntryView) → is_null e.id ≡ false → stands_for T e.mode e.id ≡ None → SameFiles (Lists (one_file e)) (Below T L e.mode e.id)
+-- An entry whose tree is unknown has itself as its only file.
+unknown_below : (T : Table) (L : List EntryView → FileSet) (e : EntryView) → is_null e.id ≡ false → resolves_to T e.mode e.id ≡ None
+    → SameFiles (Lists (one_file e)) (Below T L e.mode e.id)
 unknown_below T L e some unknown path mode id =
     let At : Option (List EntryView) → Type 0 = λ found. MatchOption found ((path ≡ []) × (mode ≡ e.mode) × (id ≡ e.id)) (λ entries. L entries path mode id) in
     ((λ h. ⊎_elim (λ q. (some, subst At (sym unknown) q)) (λ none. absurd none) h), λ h. inl (subst At unknown h.1))
 
--- where it is known
+-- An entry whose tree is known has the files of that tree.
 known_below : (T : Table) (L : List EntryView → FileSet) (e : EntryView) (entries : List EntryView) (files : List FileView) → is_null e.id ≡ false
-    → stands_for T e.mode e.id ≡ Some entries → SameFiles (Lists files) (L entries) → SameFiles (Lists files) (Below T L e.mode e.id)
+    → resolves_to T e.mode e.id ≡ Some entries → SameFiles (Lists files) (L entries) → SameFiles (Lists files) (Below T L e.mode e.id)
 known_below T L e entries files some known same path mode id =
     let At : Option (List EntryView) → Type 0 = λ found. MatchOption found ((path ≡ []) × (mode ≡ e.mode) × (id ≡ e.id)) (λ es. L es path mode id) in
     ((λ h. (some, subst At (sym known) ((same path mode id).0 h))), λ h. (same path mode id).1 (subst At known h.1))
 
--- the first pair of an id has one tree
+-- `IsFirst` determines the tree: two results for one id are equal.
 first_once : (pairs : List Pair) (id : ObjectId) (found other : Option (List EntryView)) → IsFirst pairs id found → IsFirst pairs id other → found ≡ other
 first_once [] id found other f o = f ∙ sym o
 first_once (pair ∷ pairs) id found other (inl f) (inl o) = f.1 ∙ sym o.1
@@ -143,28 +154,33 @@ first_once (pair ∷ pairs) id found other (inl f) (inr o) = absurd (o.0 f.0)
 first_once (pair ∷ pairs) id found other (inr f) (inl o) = absurd (f.0 o.0)
 first_once (pair ∷ pairs) id found other (inr f) (inr o) = first_once pairs id found other f.1 o.1
 
--- an id of the empty tree is that of its own kind
+-- The id of an empty tree is that of the empty tree by its own hash kind.
 own_kind : (id : ObjectId) (hash : Kind) → id ≡ id_of hash Tree [] → id ≡ id_of (id_kind id) Tree []
 own_kind id hash.Sha1 is = subst (λ (k : Kind). id ≡ id_of k Tree []) (sym (ap id_kind is)) is
 own_kind id hash.Sha256 is = subst (λ (k : Kind). id ≡ id_of k Tree []) (sym (ap id_kind is)) is
 
-in_table : (T : Table) (e : EntryView) → is_tree_mode e.mode ≡ true → stands_for T e.mode e.id ≡ T.tree_at e.id
+in_table : (T : Table) (e : EntryView) → is_tree_mode e.mode ≡ true → resolves_to T e.mode e.id ≡ T.tree_at e.id
 in_table T e is = rw is refl
 
-first_in_table : (T : Table) (pairs : List Pair) (e : EntryView) (found : Option (List EntryView)) → IsTableOf T pairs → is_null e.id ≡ false → is_tree_mode e.mode ≡ true
-    → (e.id ≢ id_of (id_kind e.id) Tree []) → IsFirst pairs e.id found → stands_for T e.mode e.id ≡ found
+first_in_table : (T : Table) (pairs : List Pair) (e : EntryView) (found : Option (List EntryView)) → IsTableOf T pairs → is_null e.id ≡ false
+    → is_tree_mode e.mode ≡ true
+    → (e.id ≢ id_of (id_kind e.id) Tree []) → IsFirst pairs e.id found → resolves_to T e.mode e.id ≡ found
 first_in_table T pairs e found says some is filled first =
     in_table T e is ∙ first_once pairs e.id (T.tree_at e.id) found (says e.id some (λ hash empty. filled (own_kind e.id hash empty))) first
 
-pub below_file : (pairs : List Pair) (depth : ℕ) (e : EntryView) (files : List FileView) → is_null e.id ≡ false → is_tree_mode e.mode ≡ false → files ≡ one_file e → AreBelow pairs depth e files
+pub below_file : (pairs : List Pair) (depth : ℕ) (e : EntryView) (files : List FileView) → is_null e.id ≡ false → is_tree_mode e.mode ≡ false
+    → files ≡ one_file e → AreBelow pairs depth e files
 below_file pairs depth e files some other is T says = rw is (unknown_below T (Files T depth) e some (rw other refl))
 
-pub below_empty : (pairs : List Pair) (depth : ℕ) (e : EntryView) → is_null e.id ≡ false → is_tree_mode e.mode ≡ true → e.id ≡ id_of (id_kind e.id) Tree [] → AreBelow pairs depth e []
+pub below_empty : (pairs : List Pair) (depth : ℕ) (e : EntryView) → is_null e.id ≡ false → is_tree_mode e.mode ≡ true → e.id ≡ id_of (id_kind e.id) Tree []
+    → AreBelow pairs depth e []
 below_empty pairs depth e some is empty T says =
     known_below T (Files T depth) e [] [] some (in_table T e is ∙ ap T.tree_at empty ∙ T.none_in_empty (id_kind e.id)) (no_entries T depth)
 
-pub below_tree : (pairs : List Pair) (depth : ℕ) (e : EntryView) (tree : List EntryView) (files : List FileView) → is_null e.id ≡ false → is_tree_mode e.mode ≡ true
-    → (e.id ≢ id_of (id_kind e.id) Tree []) → IsFirst pairs e.id (Some tree) → ((T : Table) → IsTableOf T pairs → SameFiles (Lists files) (Files T depth tree)) → AreBelow pairs depth e files
+pub below_tree : (pairs : List Pair) (depth : ℕ) (e : EntryView) (tree : List EntryView) (files : List FileView) → is_null e.id ≡ false
+    → is_tree_mode e.mode ≡ true
+    → (e.id ≢ id_of (id_kind e.id) Tree []) → IsFirst pairs e.id (Some tree) → ((T : Table) → IsTableOf T pairs → SameFiles (Lists files) (Files T depth tree))
+    → AreBelow pairs depth e files
 below_tree pairs depth e tree files some is filled first same T says =
     known_below T (Files T depth) e tree files some (first_in_table T pairs e (Some tree) says some is filled first) (same T says)
 
@@ -173,11 +189,13 @@ pub below_unknown : (pairs : List Pair) (depth : ℕ) (e : EntryView) (files : L
 below_unknown pairs depth e files some is filled first one T says =
     rw one (unknown_below T (Files T depth) e some (first_in_table T pairs e None says some is filled first))
 
--- the pair at a place, where the id is sought from there on
-first_at : (pairs : List Pair) (i : ℕ) (id : ObjectId) (pair : Pair) (found : Option (List EntryView)) → i < length pairs → pair ≡ get_or pairs i pair → IsFirst (pair ∷ drop (i + 1) pairs) id found → IsFirst (drop i pairs) id found
+-- `IsFirst` on the pair at an index and those after it is `IsFirst` on the list from that index.
+first_at : (pairs : List Pair) (i : ℕ) (id : ObjectId) (pair : Pair) (found : Option (List EntryView)) → i < length pairs → pair ≡ get_or pairs i pair
+    → IsFirst (pair ∷ drop (i + 1) pairs) id found → IsFirst (drop i pairs) id found
 first_at pairs i id pair found lt is h = rw (drop_more pairs i pair lt, sym is) h
 
-pub first_here : (pairs : List Pair) (i : ℕ) (id : ObjectId) (pair : Pair) → i < length pairs → pair ≡ get_or pairs i pair → pair.0 ≡ id → IsFirst (drop i pairs) id (Some pair.1)
+pub first_here : (pairs : List Pair) (i : ℕ) (id : ObjectId) (pair : Pair) → i < length pairs → pair ≡ get_or pairs i pair → pair.0 ≡ id
+    → IsFirst (drop i pairs) id (Some pair.1)
 first_here pairs i id pair lt is same = first_at pairs i id pair (Some pair.1) lt is (inl (same, refl))
 
 pub first_later : (pairs : List Pair) (i : ℕ) (id : ObjectId) (pair : Pair) → i < length pairs → pair ≡ get_or pairs i pair → pair.0 ≢ id

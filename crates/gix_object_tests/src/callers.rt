@@ -1,7 +1,7 @@
-//! The proved callers, each once with ample memory.
+//! Calls each proved caller once with enough memory.
 ghost use Rattle.gix_object.specs.CommitViews.{commit_lines};
 ghost use Rattle.gix_object.specs.CommitWriting.{HasIds};
-ghost use Rattle.gix_object.specs.Hash.{IsHexOfAnId};
+ghost use Rattle.gix_object.specs.Hash.{IsIdHex};
 
 mod archives;
 mod checkouts;
@@ -20,7 +20,7 @@ use gix_object::hash::{Kind, ObjectId};
 use gixobj_callers::auditor::{place_of, value_of, values_of};
 use gixobj_callers::importer::owned_copy_of;
 use gixobj_callers::store::{CopyError, copy_of};
-use gixobj_callers::walker::{ends_behind_errors, message_of, parents_of, tree_of};
+use gixobj_callers::walker::{ends_after_errors, message_of, parents_of, tree_of};
 use std::alloc::Global;
 
 const TREE: &[u8] = b"4b825dc642cb6eb9a060e54bf8d69288fbee4904";
@@ -38,18 +38,18 @@ const MERGE: &[u8] = b"tree 4b825dc642cb6eb9a060e54bf8d69288fbee4904\n\
     x 1\n\
     gpgsig A\n B\n\nhi\n";
 
-/// A text that no commit has.
+/// Input that doesn't decode as a commit.
 const CUT: &[u8] = b"tree 4b";
 
-/// The tree of a commit; of another text none.
-fn tree_in(alloc: Global, text: &[u8]) -> Option<ObjectId> {
-    match tree_of(alloc, text, Kind::Sha1) {
+/// The tree of a commit. `None` for malformed input.
+fn tree_in(alloc: Global, bytes: &[u8]) -> Option<ObjectId> {
+    match tree_of(alloc, bytes, Kind::Sha1) {
         Ok(tree) => Some(tree),
         Err(_) => None,
     }
 }
 
-/// Whether these are both parents.
+/// Whether the list is both parents in order.
 fn are_both(parents: &[ObjectId]) -> bool {
     match parents {
         [first, second] => *first == id(FIRST) && *second == id(SECOND),
@@ -74,16 +74,16 @@ fn has_message(alloc: Global) -> bool {
 }
 
 #[test]
-fn walked(rt: HostRuntime) {
+fn finds_tree_parents_and_message(rt: HostRuntime) {
     let alloc = rt.alloc();
     assert!(rt; tree_in(alloc, MERGE) == Some(id(TREE)));
     assert!(rt; has_both_parents(alloc));
     assert!(rt; has_message(alloc));
-    assert!(rt; ends_behind_errors(alloc, CUT, Kind::Sha1));
+    assert!(rt; ends_after_errors(alloc, CUT, Kind::Sha1));
     assert!(rt; tree_in(alloc, CUT).is_none());
 }
 
-/// Whether the commit's copy is the same.
+/// Whether the commit's copy has the same bytes.
 fn is_copied(alloc: Global) -> bool {
     match copy_of(alloc, MERGE, Kind::Sha1) {
         Ok(copy) => copy.as_slice() == MERGE,
@@ -91,7 +91,7 @@ fn is_copied(alloc: Global) -> bool {
     }
 }
 
-/// Whether the commit's copy by owned forms is the same.
+/// Whether the commit's copy through its owned form has the same bytes.
 fn is_copied_by_owned(alloc: Global) -> bool {
     match owned_copy_of(alloc, MERGE, Kind::Sha1) {
         Ok(copy) => copy.as_slice() == MERGE,
@@ -99,7 +99,7 @@ fn is_copied_by_owned(alloc: Global) -> bool {
     }
 }
 
-/// Whether a copy of the other text is refused as it is read.
+/// Whether a copy of the malformed commit fails with `CopyError::Read`.
 fn is_not_read(alloc: Global) -> bool {
     match copy_of(alloc, CUT, Kind::Sha1) {
         Err(CopyError::Read(_)) => true,
@@ -108,16 +108,16 @@ fn is_not_read(alloc: Global) -> bool {
 }
 
 #[test]
-fn copied(rt: HostRuntime) {
+fn copies_commit_and_rejects_cut_one(rt: HostRuntime) {
     let alloc = rt.alloc();
     assert!(rt; is_copied(alloc));
     assert!(rt; is_copied_by_owned(alloc));
     assert!(rt; is_not_read(alloc));
 }
 
-/// How many values a header of the commit has; none where there is no memory.
+/// Counts the values of a header. `None` if memory runs out.
 fn count_of(alloc: Global, commit: &CommitRef<'_>, name: &str) -> Option<usize>
-    requires { IsHexOfAnId (commit_lines commit.now).tree }
+    requires { IsIdHex (commit_lines commit.now).tree }
 {
     match values_of(alloc, commit, name) {
         Ok(values) => Some(values.len()),
@@ -125,9 +125,9 @@ fn count_of(alloc: Global, commit: &CommitRef<'_>, name: &str) -> Option<usize>
     }
 }
 
-/// Whether the commit has its signature, and one header `x`.
+/// Whether the commit has its signature and one header `x`.
 fn has_headers(alloc: Global, commit: &CommitRef<'_>) -> bool
-    requires { IsHexOfAnId (commit_lines commit.now).tree }
+    requires { IsIdHex (commit_lines commit.now).tree }
 {
     value_of(commit, "gpgsig") == Some(BStr::new(b"A\nB\n"))
         && count_of(alloc, commit, "x") == Some(1)
@@ -143,7 +143,7 @@ fn is_signed_second(alloc: Global, commit: CommitRef<'_>) -> bool
     }
 }
 
-/// Whether the commit has its headers, and its owned form too.
+/// Whether the borrowed and the owned commit have their headers.
 fn is_audited(alloc: Global) -> bool {
     match CommitRef::from_bytes(alloc, MERGE, Kind::Sha1) {
         Ok(commit) => has_headers(alloc, &commit) && is_signed_second(alloc, commit),
@@ -152,6 +152,6 @@ fn is_audited(alloc: Global) -> bool {
 }
 
 #[test]
-fn audited(rt: HostRuntime) {
+fn finds_headers_and_signature(rt: HostRuntime) {
     assert!(rt; is_audited(rt.alloc()));
 }

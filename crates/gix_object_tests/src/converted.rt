@@ -1,4 +1,4 @@
-//! Why a directory isn't opened, and what becomes of it in an edit's refusal.
+//! Conversions of the errors of opening a directory, and of an edit.
 
 use gix_object::find::existing_object;
 use gix_object::tree::editor::Error;
@@ -7,7 +7,7 @@ use gixobj_directories::opening;
 use std::alloc::AllocError;
 
 #[test]
-fn want_of_memory(rt: HostRuntime) {
+fn converts_allocation_failures_to_out_of_memory(rt: HostRuntime) {
     let lookup = existing_object::Error::Find(find::Error::OutOfMemory);
     assert!(rt;
         matches!(
@@ -26,7 +26,7 @@ fn want_of_memory(rt: HostRuntime) {
 }
 
 #[test]
-fn a_tree_that_is_malformed(rt: HostRuntime) {
+fn converts_error_of_malformed_tree(rt: HostRuntime) {
     let error = Error::from(opening::Error::MalformedTree);
     assert!(rt; matches!(&error, Error::MalformedTree));
 }

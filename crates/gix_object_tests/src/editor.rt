@@ -1,4 +1,4 @@
-//! What is told of a refused tree, and a history in a caller's clause. Ids are those that `git mktree --missing` answers.
+//! Messages of write errors, and a history in a caller's contract. `git mktree --missing` prints the ids.
 ghost use Rattle.std.specs.Prelude.{ℕ, ◌∷◌, [], IfOk, IfSome};
 ghost use Rattle.gix_object.specs.Bases.{HasBases};
 ghost use Rattle.gix_object.specs.Calls.{IsCallableOnTrees, answered, names_of};
@@ -23,10 +23,10 @@ const TEST: &[u8] = b"1f7a7a472abf3dd9643fd615f6da379c4acb3e3a";
 
 const BAK: &[u8] = b"d8329fc1cc938780ffdd9f94e0d364e0ea74f579";
 
-/// The tree of the file `a` of the first id.
+/// The tree of the file `a` with the first id.
 const A: &[u8] = b"a18166ad9dc2c46e84c28b674ab8be1e202f6f82";
 
-/// An editor with an entry of this kind and id put in.
+/// An editor of an empty tree after the upsert of one entry.
 fn editor_with(
     alloc: Global,
     path: &[BString],
@@ -38,20 +38,20 @@ fn editor_with(
     Ok(editor)
 }
 
-/// What is told of a tree that was refused so.
-fn is_told(alloc: Global, error: &WriteError<u8>, wanted: &[u8]) -> bool {
+/// Whether a write error is displayed as `wanted`.
+fn is_reported(alloc: Global, error: &WriteError<u8>, wanted: &[u8]) -> bool {
     match error.to_string(alloc) {
-        Ok(text) => text.as_bytes() == wanted,
+        Ok(bytes) => bytes.as_bytes() == wanted,
         Err(_) => false,
     }
 }
 
 #[test]
 fn failed_out(rt: HostRuntime) {
-    assert!(rt; is_told(rt.alloc(), &WriteError::Out(7), b"a tree was refused: 7"));
+    assert!(rt; is_reported(rt.alloc(), &WriteError::Out(7), b"a tree was refused: 7"));
 }
 
-/// Two edits and a write: the tree that is named has the files of that history.
+/// Upserts a file, removes a path and writes. The written tree has the files of that history.
 fn edited_and_written<S: Find, E: Drop, F: FnMut(&Tree) -> Result<ObjectId, E> + Drop>(
     editor: &mut Editor<S>,
     first: &[BString],
@@ -77,8 +77,8 @@ fn edited_and_written<S: Find, E: Drop, F: FnMut(&Tree) -> Result<ObjectId, E> +
     }
 }
 
-/// Whether the tree that is named is that of the file `a`, where that is put in and the second path is removed.
-fn is_left(alloc: Global, editor: &mut Editor<Never>, a: &[BString], b: &[BString]) -> bool {
+/// Whether the tree written after an upsert of `a` and a removal of `b` is the tree of `a` alone.
+fn writes_a_alone(alloc: Global, editor: &mut Editor<Never>, a: &[BString], b: &[BString]) -> bool {
     let out = |tree: &Tree| tree.compute_id(alloc, HashKind::Sha1);
     match edited_and_written(editor, a, id(TEST), b, out) {
         Ok(Some(written)) => written.id == id(A),
@@ -86,23 +86,23 @@ fn is_left(alloc: Global, editor: &mut Editor<Never>, a: &[BString], b: &[BStrin
     }
 }
 
-/// Whether it is so beside the directory `b`.
-fn is_left_beside(alloc: Global, a: &[BString], b: &[BString]) -> bool {
+/// Whether only `a` remains in an editor that had the directory `b`.
+fn writes_a_without_b(alloc: Global, a: &[BString], b: &[BString]) -> bool {
     match editor_with(alloc, b, EntryKind::Tree, BAK) {
-        Ok(mut editor) => is_left(alloc, &mut editor, a, b),
+        Ok(mut editor) => writes_a_alone(alloc, &mut editor, a, b),
         Err(_) => false,
     }
 }
 
-/// Whether the file `a` is left where it is put in beside the directory `b`, and that is removed.
+/// Whether only the file `a` remains if it is inserted next to the directory `b`, and `b` is removed.
 fn leaves_a(alloc: Global) -> bool {
     match (path_of(alloc, &["a"]), path_of(alloc, &["b"])) {
-        (Ok(a), Ok(b)) => is_left_beside(alloc, &a, &b),
+        (Ok(a), Ok(b)) => writes_a_without_b(alloc, &a, &b),
         _ => false,
     }
 }
 
 #[test]
-fn a_history(rt: HostRuntime) {
+fn writes_files_of_history(rt: HostRuntime) {
     assert!(rt; leaves_a(rt.alloc()));
 }

@@ -1,4 +1,4 @@
-//! A walk through a store of one's own: two commits, each with a tree, as `git` names them.
+//! A walk through a caller's own store of two commits and their trees.
 
 use crate::samples::{id, path_of};
 use bstr::BString;
@@ -9,64 +9,65 @@ use gixobj_callers::history::{Error, ancestor, entry_of};
 use gixobj_callers::shelf::Shelf;
 use std::alloc::Global;
 
-/// What `git mktree --missing` answers for the file `test.txt` of the id `83baae61804e65cc73a7201a7252750c76066a30`.
+/// Id that `git mktree --missing` prints for the file `test.txt` with the id
+/// `83baae61804e65cc73a7201a7252750c76066a30`.
 const BAK: &[u8] = b"d8329fc1cc938780ffdd9f94e0d364e0ea74f579";
 
-const BAK_TEXT: &[u8] = b"100644 test.txt\0\
+const BAK_BYTES: &[u8] = b"100644 test.txt\0\
     \x83\xba\xae\x61\x80\x4e\x65\xcc\x73\xa7\x20\x1a\x72\x52\x75\x0c\x76\x06\x6a\x30";
 
-/// What it answers for that tree as `bak`, and two files.
+/// Id that `git mktree --missing` prints for the tree `BAK` as `bak`, and two files.
 const ROOT: &[u8] = b"3c4e9cd789d88d8d89c1073707c3585e41b0e614";
 
-const ROOT_TEXT: &[u8] = b"40000 bak\0\
+const ROOT_BYTES: &[u8] = b"40000 bak\0\
     \xd8\x32\x9f\xc1\xcc\x93\x87\x80\xff\xdd\x9f\x94\xe0\xd3\x64\xe0\xea\x74\xf5\x79\
     100644 new.txt\0\
     \xfa\x49\xb0\x77\x97\x23\x91\xad\x58\x03\x70\x50\xf2\xa7\x5f\x74\xe3\x67\x1e\x92\
     100644 test.txt\0\
     \x1f\x7a\x7a\x47\x2a\xbf\x3d\xd9\x64\x3f\xd6\x15\xf6\xda\x37\x9c\x4a\xcb\x3e\x3a";
 
-/// What `git hash-object -t commit` answers for the first commit.
+/// Id that `git hash-object -t commit` prints for the first commit.
 const FIRST: &[u8] = b"bd428a258222b05846c102abd2c3ce6b7f34b5f8";
 
-const FIRST_TEXT: &[u8] = b"tree d8329fc1cc938780ffdd9f94e0d364e0ea74f579\n\
+const FIRST_BYTES: &[u8] = b"tree d8329fc1cc938780ffdd9f94e0d364e0ea74f579\n\
     author A <a@b> 0 +0000\n\
     committer A <a@b> 0 +0000\n\
     \nfirst\n";
 
-/// What it answers for the second one.
+/// Id that `git hash-object -t commit` prints for the second commit.
 const SECOND: &[u8] = b"528c29ecfcd64f329e231522dc53495bf0e9b054";
 
-const SECOND_TEXT: &[u8] = b"tree 3c4e9cd789d88d8d89c1073707c3585e41b0e614\n\
+const SECOND_BYTES: &[u8] = b"tree 3c4e9cd789d88d8d89c1073707c3585e41b0e614\n\
     parent bd428a258222b05846c102abd2c3ce6b7f34b5f8\n\
     author A <a@b> 0 +0000\n\
     committer A <a@b> 0 +0000\n\
     \nsecond\n";
 
-/// What `git rev-parse` answers for `bak/test.txt` of the second commit.
+/// Id that `git rev-parse` prints for `bak/test.txt` in the second commit.
 const VERSION_1: &[u8] = b"83baae61804e65cc73a7201a7252750c76066a30";
 
-fn object(hex: &[u8], kind: Kind, text: &'static [u8]) -> (ObjectId, Data<'static>) {
-    (id(hex), Data::new(text, kind, HashKind::Sha1))
+fn object(hex: &[u8], kind: Kind, bytes: &'static [u8]) -> (ObjectId, Data<'static>) {
+    (id(hex), Data::new(bytes, kind, HashKind::Sha1))
 }
 
-/// Both commits and both trees.
+/// Both commits and both trees, with their ids.
 fn objects() -> [(ObjectId, Data<'static>); 4] {
     [
-        object(SECOND, Kind::Commit, SECOND_TEXT),
-        object(BAK, Kind::Tree, BAK_TEXT),
-        object(FIRST, Kind::Commit, FIRST_TEXT),
-        object(ROOT, Kind::Tree, ROOT_TEXT),
+        object(SECOND, Kind::Commit, SECOND_BYTES),
+        object(BAK, Kind::Tree, BAK_BYTES),
+        object(FIRST, Kind::Commit, FIRST_BYTES),
+        object(ROOT, Kind::Tree, ROOT_BYTES),
     ]
 }
 
-/// The ancestor of the second commit so many commits back.
+/// The ancestor `generations` commits before the second commit.
 fn ancestor_at(alloc: Global, generations: u32) -> Result<ObjectId, Error> {
     let objects = objects();
     let store = Shelf { objects: &objects };
     ancestor(alloc, &store, id(SECOND), generations)
 }
 
-/// Whether the ancestor so many commits back has the id of these hex digits.
+/// Whether the ancestor `generations` commits before the second one has this id.
 fn is_ancestor(alloc: Global, generations: u32, hex: &[u8]) -> bool {
     match ancestor_at(alloc, generations) {
         Ok(found) => found == id(hex),
@@ -74,8 +75,8 @@ fn is_ancestor(alloc: Global, generations: u32, hex: &[u8]) -> bool {
     }
 }
 
-/// Whether so many commits back is behind a commit without a parent.
-fn is_behind_all(alloc: Global, generations: u32) -> bool {
+/// Whether a walk over `generations` commits reaches a commit without parents.
+fn has_no_ancestor(alloc: Global, generations: u32) -> bool {
     match ancestor_at(alloc, generations) {
         Err(Error::NoParent(_)) => true,
         _ => false,
@@ -83,27 +84,27 @@ fn is_behind_all(alloc: Global, generations: u32) -> bool {
 }
 
 #[test]
-fn ancestors(rt: HostRuntime) {
+fn finds_ancestor_in_each_generation(rt: HostRuntime) {
     let alloc = rt.alloc();
     assert!(rt; is_ancestor(alloc, 0, SECOND));
     assert!(rt; is_ancestor(alloc, 1, FIRST));
-    assert!(rt; is_behind_all(alloc, 2));
+    assert!(rt; has_no_ancestor(alloc, 2));
 }
 
-/// The entry at a path in the tree of a commit of these objects.
+/// The entry at a path in the tree of a commit.
 fn at(alloc: Global, commit: &[u8], path: &[BString]) -> Result<Option<Entry>, Error> {
     let objects = objects();
     let store = Shelf { objects: &objects };
     entry_of(alloc, &store, id(commit), path)
 }
 
-/// Whether the entry is that of the file in the inner tree.
+/// Whether the entry is the file of the inner tree.
 fn is_version_1(entry: &Entry) -> bool {
     entry.oid == id(VERSION_1) && entry.filename.as_bytes() == b"test.txt".as_slice()
 }
 
-/// A word for what is found.
-fn word(found: &Result<Option<Entry>, Error>) -> &'static str {
+/// Names the result of a lookup.
+fn outcome_name(found: &Result<Option<Entry>, Error>) -> &'static str {
     match found {
         Ok(Some(entry)) if is_version_1(entry) => "version 1",
         Ok(None) => "nothing",
@@ -112,24 +113,24 @@ fn word(found: &Result<Option<Entry>, Error>) -> &'static str {
     }
 }
 
-/// A word for what is found at the path of these names in the tree of a commit.
+/// Names the result of the lookup of a path in the tree of a commit.
 fn found_at(alloc: Global, commit: &[u8], names: &[&str]) -> &'static str {
     match path_of(alloc, names) {
-        Ok(path) => word(&at(alloc, commit, &path)),
+        Ok(path) => outcome_name(&at(alloc, commit, &path)),
         Err(_) => "no memory",
     }
 }
 
 #[test]
-fn entries(rt: HostRuntime) {
+fn finds_entries_at_paths(rt: HostRuntime) {
     let alloc = rt.alloc();
     assert!(rt; found_at(alloc, SECOND, &["bak", "test.txt"]) == "version 1");
     assert!(rt; found_at(alloc, FIRST, &["test.txt"]) == "version 1");
     assert!(rt; found_at(alloc, SECOND, &["bak", "new.txt"]) == "nothing");
 }
 
-/// A tree is no commit.
+/// A tree is looked up as a commit.
 #[test]
-fn no_commit(rt: HostRuntime) {
+fn rejects_tree_as_commit(rt: HostRuntime) {
     assert!(rt; found_at(rt.alloc(), ROOT, &["bak"]) == "no commit");
 }

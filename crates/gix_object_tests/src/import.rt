@@ -1,8 +1,8 @@
-//! Tests of imports, of what no clause says: the ids that `git` gives, which refusal is told, and what the store has after it.
+//! Imports beyond their contracts: the ids that `git` prints, the error of a step, and the store after it.
 
-mod growths;
-mod refusals;
+mod allocation_failures;
+mod errors;
+mod not_stored;
 pub(crate) mod samples;
 mod thousand;
 mod three_steps;
-mod unkept;

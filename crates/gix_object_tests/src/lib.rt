@@ -14,7 +14,7 @@ mod import;
 #[cfg(test)]
 mod listing;
 #[cfg(test)]
-mod plain_lists;
+mod ordinary_lists;
 #[cfg(test)]
 mod public_paths;
 #[cfg(test)]
@@ -26,4 +26,4 @@ mod samples;
 #[cfg(test)]
 mod tasks;
 #[cfg(test)]
-mod told_by_callers;
+mod values_and_objects;

@@ -1,10 +1,10 @@
-//! The files of a tree to a depth, computed slowly, for tests to compare with.
+//! A simple, slow listing of the files of a tree to a depth: the reference of other tests.
 ghost use Rattle.std.specs.Prelude.{◌≡◌, ◌++◌, ◌∷◌, [], IfOk, OnOk, map};
 ghost use Rattle.std.specs.Option.{option_copied};
 ghost use Rattle.bstr.specs.Owned.{bstring_bytes};
 ghost use Rattle.gix_object.specs.Files.{Below, Files, SameFiles, Table};
 ghost use Rattle.gix_object.specs.Tables.{IsFirst, IsTableOf};
-ghost use Rattle.gix_object_tests.specs.Lists.{Lists, in_front};
+ghost use Rattle.gix_object_tests.specs.Lists.{Lists, with_first_name};
 
 #[cfg(test)]
 mod tests;
@@ -16,10 +16,10 @@ use gix_object::tree::{Entry, EntryMode};
 use std::alloc::{AllocError, Global};
 use std::marker::Model;
 
-/// A file.
+/// A file that a tree lists.
 #[derive(Debug, Drop)]
 pub(crate) struct Listed {
-    /// The names on the way to it, and its own.
+    /// The names of its parent directories, and its own.
     pub(crate) path: Vec<BString>,
     /// The mode of its entry.
     pub(crate) mode: EntryMode,
@@ -41,8 +41,8 @@ impl Model for Listed {
     } };
 }
 
-/// The files of the tree, with paths of at most so many names. An id names the first tree of the table
-/// that has it; the null id names none, and that of the empty tree names the empty tree.
+/// Lists the files of a tree with paths of at most `depth` names. An id names the first tree of the table
+/// with that id. The null id names no tree; the id of the empty tree names the empty tree.
 #[cycle(listing)]
 pub(crate) fn files_of(
     alloc: Global,
@@ -59,12 +59,12 @@ pub(crate) fn files_of(
     }
     for entry in &tree.entries {
         let below = files_below(alloc, table, depth - 1, entry)?;
-        add_in_front(alloc, &mut files, &entry.filename, below)?;
+        add_before(alloc, &mut files, &entry.filename, below)?;
     }
     Ok(files)
 }
 
-/// The files at and below an entry, by their paths from there.
+/// Lists the files at and below an entry, by their paths from there.
 #[cycle(listing)]
 fn files_below(
     alloc: Global,
@@ -90,7 +90,7 @@ fn files_below(
     }
 }
 
-/// The entry as a file, without its name.
+/// The list of the entry alone, with an empty path.
 fn one_file(alloc: Global, entry: &Entry) -> Result<Vec<Listed>, AllocError>
     ensures { IfOk result (λ files. files.items
         ≡ record { path = []; mode = entry.now.mode; id = entry.now.id } ∷ []) }
@@ -105,7 +105,7 @@ fn one_file(alloc: Global, entry: &Entry) -> Result<Vec<Listed>, AllocError>
     Ok(files)
 }
 
-/// The first tree of this id.
+/// Finds the first tree with this id.
 fn first_tree<'a>(table: &'a [(ObjectId, Tree)], id: &ObjectId) -> Option<&'a Tree>
     ensures { IsFirst table.now id.now (option_copied result) }
 {
@@ -117,15 +117,15 @@ fn first_tree<'a>(table: &'a [(ObjectId, Tree)], id: &ObjectId) -> Option<&'a Tr
     None
 }
 
-/// Adds files with a name in front of their paths.
-fn add_in_front(
+/// Appends files with `name` before each path.
+fn add_before(
     alloc: Global,
     files: &mut Vec<Listed>,
     name: &BString,
     below: Vec<Listed>,
 ) -> Result<(), AllocError>
     ensures { OnOk result (files.new.items
-        ≡ files.old.items ++ map (in_front (bstring_bytes name.now)) below.items) }
+        ≡ files.old.items ++ map (with_first_name (bstring_bytes name.now)) below.items) }
 {
     for file in below {
         files.push(with_name(alloc, name, file)?)?;
@@ -133,9 +133,9 @@ fn add_in_front(
     Ok(())
 }
 
-/// The file with a name in front of its path.
+/// Inserts `name` before the path of a file.
 fn with_name(alloc: Global, name: &BString, file: Listed) -> Result<Listed, AllocError>
-    ensures { IfOk result (λ named. named ≡ in_front (bstring_bytes name.now) file) }
+    ensures { IfOk result (λ named. named ≡ with_first_name (bstring_bytes name.now) file) }
 {
     let mut named = file;
     let first = BString::from_slice(alloc, name.as_bytes())?;

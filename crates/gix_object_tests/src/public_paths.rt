@@ -1,4 +1,4 @@
-//! Each public path of `gix_object`, as its users write it.
+//! Each public path of `gix_object` that users can import.
 
 mod root {
     pub use gix_object::{
@@ -84,66 +84,67 @@ mod of_kind {
 
 mod of_laws {
     pub use gix_object::laws::{
-        a_file_looked_up_is_there, a_plain_history_needs_no_table, a_root_alone_is_opened,
-        every_list_makes_a_table, every_store_has_its_own_table, every_store_names_trees,
-        fitting_imports_have_a_table, fitting_pairs_have_a_table, fitting_runs_have_a_table,
-        trees_read_as_themselves,
+        consistent_import_has_table, consistent_pairs_have_table, consistent_run_has_table,
+        encodable_tree_decodes_to_itself, list_has_table, looked_up_file_exists,
+        plain_history_is_table_independent, single_root_is_opened, store_has_table,
+        store_has_tree_map,
     };
 }
 
 mod of_laws_of_commits {
     pub use gix_object::laws::readers::{
-        actors_are_found, ids_are_found, message_is_found, readers_read_one_language,
-        tokens_are_passed,
+        actor_search_complete, commit_readers_agree, consumed_commit_tokens_are_prefix,
+        id_search_complete, message_search_complete,
     };
-    pub use gix_object::laws::tokens::{runs_are_their_tokens, tokens_have_one_reading};
+    pub use gix_object::laws::tokens::{commit_run_iff_tokens, commit_tokens_decode_uniquely};
     pub use gix_object::laws::{
-        borrowed_headers_are_found, borrowed_mergetags_are_found, commit_has_one_reading,
-        commit_reads_and_writes, commit_writes_back, owned_forms_have_the_parts,
-        owned_headers_are_found, owned_mergetags_are_found, readers, tokens,
+        borrowed_header_search_complete, borrowed_mergetag_search_complete,
+        commit_decode_encode_agree, commit_decodes_uniquely, commit_reencodes_identically,
+        owned_commit_has_same_parts, owned_header_search_complete, owned_mergetag_search_complete,
+        readers, tokens,
     };
 }
 
 mod of_laws_of_fields {
     pub use gix_object::laws::{
-        actor_line_has_one_reading, actor_reads_back, header_fields_have_one_reading,
-        header_reads_back, hex_reads_back, hex_spells_one_id, hex_writes_back,
-        loose_header_reads_back, mode_reads_back, time_reads_back, writers_fail_as_their_sinks,
+        actor_line_decodes_uniquely, actor_round_trips, header_field_decodes_uniquely,
+        header_round_trips, hex_decodes_uniquely, hex_reencodes_identically, hex_round_trips,
+        loose_header_round_trips, mode_round_trips, time_round_trips,
+        write_error_implies_sink_error,
     };
 }
 
 mod of_laws_of_messages {
     pub use gix_object::laws::{
-        bodies_have_one_block_start, bodies_have_one_list_of_blocks, messages_are_split_once,
-        messages_have_one_list_of_trailers, parts_are_the_body, readers_give_all,
-        trailer_lines_are_read,
+        blocks_are_unique, message_split_is_unique, parts_append_to_body, readers_yield_all,
+        trailer_block_start_is_unique, trailer_line_decodes, trailers_are_unique,
     };
 }
 
 mod of_laws_of_signatures {
     pub use gix_object::laws::{
-        commits_give_their_payloads, owned_commits_have_line_fields, signatures_have_one_format,
-        signed_commit_gives_its_payload, signed_tag_gives_its_payload, tag_signatures_agree,
-        tags_give_their_payloads, texts_have_one_marker_place,
+        commit_payloads_are_signed, marker_position_is_unique, owned_commits_have_line_fields,
+        signature_format_is_unique, signed_commit_has_payload, signed_tag_has_payload,
+        tag_payloads_are_signed, tag_signatures_agree,
     };
 }
 
 mod of_laws_of_stores {
-    pub use gix_object::laws::an_object_is_put_in;
+    pub use gix_object::laws::object_map_insert;
 }
 
 mod of_laws_of_tags {
     pub use gix_object::laws::{
-        owned_tags_have_the_parts, parts_of_tags_are_found, tag_has_one_reading,
-        tag_readers_read_one_language, tag_reads_and_writes, tag_tokens_are_passed,
-        tag_tokens_have_one_reading, tag_writes_back,
+        consumed_tag_tokens_are_prefix, owned_tag_has_same_parts, tag_decode_encode_agree,
+        tag_decodes_uniquely, tag_part_search_complete, tag_readers_agree,
+        tag_reencodes_identically, tag_tokens_decode_uniquely,
     };
 }
 
 mod of_laws_of_trees {
     pub use gix_object::laws::{
-        bytes_left_end_the_text, entries_are_passed, ids_are_the_same_or_not, tree_has_one_reading,
-        tree_readers_read_one_language, tree_reads_back, tree_writes_back,
+        consumed_entries_are_prefix, id_equality_is_decidable, remaining_bytes_are_suffix,
+        tree_decodes_uniquely, tree_readers_agree, tree_reencodes_identically, tree_round_trips,
     };
 }
 

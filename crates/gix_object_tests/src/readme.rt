@@ -1,4 +1,4 @@
-//! The example of the README: a commit is read, a tree is edited and written.
+//! The example of the README: decodes a commit, edits a tree and writes it.
 
 use bstr::BString;
 use gix_object::find::Never;
@@ -9,23 +9,23 @@ use gix_object::{CommitRef, Tree, decode};
 use std::alloc::Global;
 use std::test::Fail;
 
-/// The tree of the commit with this text.
-fn tree_of(alloc: Global, text: &[u8]) -> Result<ObjectId, decode::Error> {
-    let commit = CommitRef::from_bytes(alloc, text, HashKind::Sha1)?;
+/// Decodes a commit and returns its tree.
+fn tree_of(alloc: Global, bytes: &[u8]) -> Result<ObjectId, decode::Error> {
+    let commit = CommitRef::from_bytes(alloc, bytes, HashKind::Sha1)?;
     Ok(commit.tree())
 }
 
 const BLOB: &[u8] = b"ce013625030ba8dba906f756967f9e9ca394464a";
 
-/// What `git mktree` answers for the one file `hello.txt` of this blob.
+/// Id that `git mktree` prints for the file `hello.txt` with this blob.
 const TREE: &[u8] = b"aaa96ced2d9a1c8e72c56b253a0e2fe78393feb7";
 
 #[test]
-fn commit_read_and_tree_edited(rt: HostRuntime) -> Result<(), Fail> {
+fn decodes_commit_and_edits_tree(rt: HostRuntime) -> Result<(), Fail> {
     let alloc = rt.alloc();
-    let text =
+    let bytes =
         b"tree 4b825dc642cb6eb9a060e54bf8d69288fbee4904\nauthor A <a@b> 0 +0000\ncommitter A <a@b> 0 +0000\n\nm";
-    assert!(rt; tree_of(alloc, text)?.is_empty_tree());
+    assert!(rt; tree_of(alloc, bytes)?.is_empty_tree());
 
     let path = vec![in alloc; BString::from_slice(alloc, b"hello.txt")?]?;
     let blob = ObjectId::from_hex(BLOB).ok_or("an id")?;

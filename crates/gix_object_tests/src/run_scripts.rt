@@ -1,7 +1,9 @@
-//! Runs of a thousand commands: each tree that a write names has the files of a plain list that went through the same.
+//! Runs of a thousand random commands: each written tree has the files of a plain list after the same edits.
 
 use crate::listing::{Listed, files_of};
-use crate::plain_lists::{are_same, assure, begins, below, forget, joined, put};
+use crate::ordinary_lists::{
+    are_same, begins, below, ensure_directory, forget, insert_file, joined,
+};
 use crate::samples::tree_of;
 use bstr::BString;
 use gix_object::hash::{Kind as HashKind, ObjectId};
@@ -10,7 +12,7 @@ use gix_object::tree::editor::{Command, Edit, EditReply, Editor, Error, Reply, W
 use gix_object::{Keep, Memory, OutOfMemory, Tree, encode};
 use std::alloc::{AllocError, Global};
 
-/// Numbers that follow from a seed and look random.
+/// Pseudo-random numbers from a seed.
 #[derive(Drop)]
 struct Numbers {
     state: u64,
@@ -26,7 +28,7 @@ impl Numbers {
     }
 }
 
-/// A path of one name to three, each of four.
+/// Draws a path of one to three names, each one of four.
 fn drawn_path(alloc: Global, numbers: &mut Numbers) -> Result<Vec<BString>, AllocError> {
     let mut path = Vec::new(alloc);
     let length = numbers.draw() & 3;
@@ -44,25 +46,25 @@ fn drawn_path(alloc: Global, numbers: &mut Numbers) -> Result<Vec<BString>, Allo
     Ok(path)
 }
 
-/// What the commands so far came to.
+/// The state after the commands so far.
 #[derive(Drop)]
 struct Listing {
     /// The files of the editor.
     files: Vec<Listed>,
-    /// What was in the store, and then all that was handed out.
+    /// The trees of the store, then each emitted tree.
     table: Vec<(ObjectId, Tree)>,
 }
 
-/// Trees that are in the store before the run, each with its id.
+/// The ids of trees that are in the store before the run.
 #[derive(Clone, Copy)]
 struct Stored {
     /// A directory of two files.
     inner: ObjectId,
-    /// One with that directory and a file.
+    /// A directory of `inner` and a file.
     outer: ObjectId,
 }
 
-/// A tree of two entries, in this order.
+/// A tree of two entries in this order.
 fn pair_of(
     alloc: Global,
     names: [&'static [u8]; 2],
@@ -74,8 +76,8 @@ fn pair_of(
     tree_of(alloc, &[(kind, first, id), (EntryKind::Blob, second, file)])
 }
 
-/// A root: mostly one with a stored directory and a file, at times the empty one, and at times that whose entries are
-/// in the wrong order.
+/// Draws a root: the empty one, one with its entries in the wrong order, or one of a stored directory and a
+/// file.
 fn drawn_root(alloc: Global, numbers: &mut Numbers, stored: Stored) -> Result<Tree, AllocError> {
     match numbers.draw() & 3 {
         0 => Ok(Tree::empty(alloc)),
@@ -85,7 +87,7 @@ fn drawn_root(alloc: Global, numbers: &mut Numbers, stored: Stored) -> Result<Tr
     }
 }
 
-/// Whether a drawn root is the one in the wrong order.
+/// Whether the entries of a drawn root are in the wrong order.
 fn is_in_wrong_order(root: &Tree) -> bool {
     match root.entries.first() {
         Some(first) => first.filename.as_bytes() == b"d".as_slice(),
@@ -93,7 +95,7 @@ fn is_in_wrong_order(root: &Tree) -> bool {
     }
 }
 
-/// An id of a file, at times the null one.
+/// Draws the id of a file, one in eight times the null id.
 fn drawn_id(numbers: &mut Numbers) -> ObjectId {
     match numbers.draw() & 7 {
         0 => ObjectId::null(HashKind::Sha1),
@@ -101,7 +103,7 @@ fn drawn_id(numbers: &mut Numbers) -> ObjectId {
     }
 }
 
-/// An edit, or a write.
+/// Draws an edit or a write.
 fn drawn_edit(alloc: Global, numbers: &mut Numbers) -> Result<Edit, AllocError> {
     let path = drawn_path(alloc, numbers)?;
     let id = drawn_id(numbers);
@@ -117,7 +119,7 @@ fn drawn_edit(alloc: Global, numbers: &mut Numbers) -> Result<Edit, AllocError> 
     }
 }
 
-/// Edits in a directory, four at most.
+/// Draws one to four edits in a directory.
 fn drawn_visit(alloc: Global, numbers: &mut Numbers) -> Result<Command, AllocError> {
     let mut prefix = drawn_path(alloc, numbers)?;
     let _ = prefix.pop();
@@ -132,7 +134,7 @@ fn drawn_visit(alloc: Global, numbers: &mut Numbers) -> Result<Command, AllocErr
     Ok(Command::At { prefix, edits })
 }
 
-/// A command: mostly an edit, at times edits in a directory, and now and then another root.
+/// Draws a command: mostly an edit, at times edits in a directory, and rarely another root.
 fn drawn_command(
     alloc: Global,
     numbers: &mut Numbers,
@@ -151,7 +153,7 @@ fn drawn_command(
     }
 }
 
-/// A thousand commands of a seed.
+/// Draws a thousand commands from a seed.
 fn drawn_commands(alloc: Global, seed: u64, stored: Stored) -> Result<Vec<Command>, AllocError> {
     let mut numbers = Numbers { state: seed };
     let mut commands = Vec::new(alloc);
@@ -161,7 +163,7 @@ fn drawn_commands(alloc: Global, seed: u64, stored: Stored) -> Result<Vec<Comman
     Ok(commands)
 }
 
-/// Whether the last tree that was handed out has this id, and the files of the list below the prefix.
+/// Whether the last emitted tree has this id, and the files that the list has below the prefix.
 fn is_last(
     alloc: Global,
     listing: &Listing,
@@ -176,7 +178,8 @@ fn is_last(
     Ok(*id == written && are_same(&named, &wanted))
 }
 
-/// Whether what was handed out names a tree with the files of the list below the prefix.
+/// Appends the emitted trees to the table. Whether the last one has the files that the list has below the
+/// prefix.
 fn is_named(
     alloc: Global,
     listing: &mut Listing,
@@ -189,7 +192,7 @@ fn is_named(
     is_last(alloc, listing, prefix, written.id)
 }
 
-/// Whether the list has files in a directory at the path.
+/// Whether the list has files below the path.
 fn has_below(files: &[Listed], path: &[BString]) -> bool {
     for file in files {
         if path.len() < file.path.len() && begins(&file.path, path) {
@@ -209,7 +212,7 @@ fn has_at(files: &[Listed], path: &[BString]) -> bool {
     false
 }
 
-/// Whether a reply may be that to a file put in. If it is accepted the list has it; one of the null id is never written.
+/// Whether an upsert was accepted; the list then has the file. A file with the null id is never written.
 fn fits_upsert(
     alloc: Global,
     files: &mut Vec<Listed>,
@@ -220,14 +223,14 @@ fn fits_upsert(
     if !matches!(reply, EditReply::Done) {
         return Ok(false);
     }
-    put(alloc, files, path, id)?;
+    insert_file(alloc, files, path, id)?;
     if id.is_null() {
         forget(files, path);
     }
     Ok(true)
 }
 
-/// Whether a reply may be that to what is at a path taken out. If it is accepted it is not in the list.
+/// Whether a removal was accepted; the list then has nothing at the path.
 fn fits_remove(
     files: &mut Vec<Listed>,
     path: &[BString],
@@ -240,7 +243,8 @@ fn fits_remove(
     is_done
 }
 
-/// Whether a reply may be that to a file at a path taken out. If it is accepted it is not in the list.
+/// Whether the reply fits a leaf removal: accepted if nothing is below the path, an error if no file is at
+/// it.
 fn fits_remove_leaf(
     files: &mut Vec<Listed>,
     path: &[BString],
@@ -257,7 +261,7 @@ fn fits_remove_leaf(
     }
 }
 
-/// Whether a reply may be that to an edit at a path that leads there from the root. If it is accepted it is done to the list.
+/// Whether the reply fits an edit at a path from the root. The list applies an accepted edit.
 fn fits_edit(
     alloc: Global,
     files: &mut Vec<Listed>,
@@ -273,7 +277,7 @@ fn fits_edit(
     }
 }
 
-/// The path of an edit; none of a write.
+/// The path of an edit. `None` for a write.
 fn path_of(edit: &Edit) -> Option<&[BString]> {
     match edit {
         Edit::Upsert { path, .. } => Some(path.as_slice()),
@@ -283,7 +287,7 @@ fn path_of(edit: &Edit) -> Option<&[BString]> {
     }
 }
 
-/// Whether a reply may be that to an edit in the directory of a prefix, or to its write.
+/// Whether the reply fits an edit in the directory of a prefix, or its write.
 fn fits_in(
     alloc: Global,
     listing: &mut Listing,
@@ -301,7 +305,7 @@ fn fits_in(
     }
 }
 
-/// Whether the replies may be those to edits in a directory.
+/// Whether the replies fit edits in a directory.
 fn fit_at(
     alloc: Global,
     listing: &mut Listing,
@@ -309,7 +313,7 @@ fn fit_at(
     edits: &[Edit],
     replies: Vec<EditReply<encode::Error>>,
 ) -> Result<bool, AllocError> {
-    assure(&mut listing.files, prefix);
+    ensure_directory(&mut listing.files, prefix);
     if edits.len() != replies.len() {
         return Ok(false);
     }
@@ -321,13 +325,13 @@ fn fit_at(
     Ok(true)
 }
 
-/// Gives the list the files of another root, and answers whether it may be one.
+/// Replaces the list by the files of another root. Whether the entries of that root are in order.
 fn list_root(alloc: Global, listing: &mut Listing, root: &Tree) -> Result<bool, AllocError> {
     listing.files = files_of(alloc, &listing.table, 6, root)?;
     Ok(!is_in_wrong_order(root))
 }
 
-/// Whether a reply may be that to a command.
+/// Whether the reply fits the command.
 fn fits(
     alloc: Global,
     listing: &mut Listing,
@@ -345,7 +349,7 @@ fn fits(
     }
 }
 
-/// Whether the replies may be those to the commands.
+/// Whether the replies fit the commands.
 fn all_fit(
     alloc: Global,
     listing: &mut Listing,
@@ -363,14 +367,14 @@ fn all_fit(
     Ok(true)
 }
 
-/// A store, and a table of what is in it.
+/// A store and a table of its trees.
 #[derive(Drop)]
 struct Filled {
     store: Memory,
     table: Vec<(ObjectId, Tree)>,
 }
 
-/// Puts a tree of two entries into the store and the table, and answers its id. None where there is no memory for it.
+/// Stores a tree of two entries, adds it to the table and returns its id. `None` if memory runs out.
 fn store_pair(
     alloc: Global,
     filled: &mut Filled,
@@ -385,7 +389,7 @@ fn store_pair(
     Some(id)
 }
 
-/// Puts both trees into the store and the table.
+/// Stores both trees and adds them to the table.
 fn fill(alloc: Global, filled: &mut Filled) -> Option<Stored> {
     let file = ObjectId::Sha1([8; 20]);
     let inner = store_pair(alloc, filled, [b"a", b"b"], EntryKind::Blob, file)?;
@@ -393,7 +397,7 @@ fn fill(alloc: Global, filled: &mut Filled) -> Option<Stored> {
     Some(Stored { inner, outer })
 }
 
-/// The replies to commands that are run on the empty root.
+/// Runs commands on the empty root and returns the replies.
 fn replies_to(
     alloc: Global,
     store: Memory,
@@ -408,7 +412,7 @@ fn replies_to(
     )
 }
 
-/// Whether a run of the commands of a seed gets replies that fit them.
+/// Whether the replies to the commands of a seed fit them.
 fn replies_fit(
     alloc: Global,
     filled: Filled,
@@ -425,8 +429,7 @@ fn replies_fit(
     Ok(all_fit(alloc, &mut listing, &same_commands, replies)?)
 }
 
-/// Whether a run of a thousand commands gets replies that fit: of each write of it the tree that is named has the files
-/// of the list.
+/// Whether a run of a thousand commands agrees with the list: each written tree has the list's files.
 fn agrees(alloc: Global, seed: u64) -> bool {
     let mut filled = Filled {
         store: Memory::new(alloc),
@@ -439,7 +442,7 @@ fn agrees(alloc: Global, seed: u64) -> bool {
 }
 
 #[test]
-fn files_of_a_thousand_commands(rt: HostRuntime) {
+fn writes_listed_files_after_thousand_commands(rt: HostRuntime) {
     for seed in 1..3u64 {
         assert!(rt; agrees(rt.alloc(), seed));
     }

@@ -1,4 +1,4 @@
-//! Paths, ids and texts that several tests share.
+//! Paths, ids, trees and edits that several tests share.
 
 use bstr::BString;
 use gix_object::hash::{Kind as HashKind, ObjectId};
@@ -16,22 +16,22 @@ pub(crate) fn path_of(alloc: Global, names: &[&str]) -> Result<Vec<BString>, All
     Ok(path)
 }
 
-/// An edit, by the names of its path and the hex digits of its id.
+/// An edit as a row: the names of its path and the hex digits of its id.
 #[derive(Clone, Copy)]
 pub(crate) enum Row {
-    /// A file is put in.
+    /// Inserts a file.
     File(&'static [&'static str], &'static [u8]),
-    /// A directory is put in.
+    /// Inserts a directory.
     Directory(&'static [&'static str], &'static [u8]),
-    /// What is there is taken out.
+    /// Removes the entry at the path.
     Remove(&'static [&'static str]),
-    /// The file there is taken out.
+    /// Removes the file at the path.
     RemoveLeaf(&'static [&'static str]),
-    /// A write.
+    /// Writes the tree.
     Write,
 }
 
-/// An edit that puts an entry of a kind in.
+/// An upsert of an entry of this kind.
 fn upsert(alloc: Global, names: &[&str], kind: EntryKind, hex: &[u8]) -> Result<Edit, AllocError> {
     let path = path_of(alloc, names)?;
     let id = id(hex);
@@ -55,7 +55,7 @@ fn edit_of(alloc: Global, row: Row) -> Result<Edit, AllocError> {
     }
 }
 
-/// The edits of these rows.
+/// The edits of these rows, in order.
 pub(crate) fn edits_of(alloc: Global, rows: &[Row]) -> Result<Vec<Edit>, AllocError> {
     let mut edits = Vec::new(alloc);
     for row in rows {
@@ -64,12 +64,12 @@ pub(crate) fn edits_of(alloc: Global, rows: &[Row]) -> Result<Vec<Edit>, AllocEr
     Ok(edits)
 }
 
-/// The id that the hex digits spell; of others the null id.
+/// Decodes an id from hex. The null id for invalid hex.
 pub(crate) fn id(hex: &[u8]) -> ObjectId {
     ObjectId::from_hex(hex).unwrap_or(ObjectId::null(HashKind::Sha1))
 }
 
-/// A tree of entries, each with its kind, its name and its id.
+/// A tree of these entries: kind, name and id.
 pub(crate) fn tree_of(
     alloc: Global,
     rows: &[(EntryKind, &[u8], ObjectId)],
@@ -85,9 +85,9 @@ pub(crate) fn tree_of(
     Ok(Tree { entries })
 }
 
-/// The bytes of a tree as it is written.
-pub(crate) fn text_of(alloc: Global, tree: &Tree) -> Result<Vec<u8>, encode::Error> {
-    let mut text = Vec::new(alloc);
-    tree.write_to(alloc, &mut text)?;
-    Ok(text)
+/// Encodes a tree.
+pub(crate) fn bytes_of(alloc: Global, tree: &Tree) -> Result<Vec<u8>, encode::Error> {
+    let mut content = Vec::new(alloc);
+    tree.write_to(alloc, &mut content)?;
+    Ok(content)
 }

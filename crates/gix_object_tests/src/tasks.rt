@@ -1,4 +1,4 @@
-//! The examples of docs/CALLING.md, a file each, printed there whole but for their first line. Here each is called once.
+//! Calls each example of docs/CALLING.md once. That document prints the files without their head comments.
 
 mod clauses;
 mod commits;
@@ -36,31 +36,31 @@ use std::alloc::{AllocError, Global};
 
 const BLOB: &[u8] = b"ce013625030ba8dba906f756967f9e9ca394464a";
 
-/// What `git mktree` answers for the file `a.txt` of this blob and for `run.sh`, empty and executable.
+/// Id that `git mktree` prints for the file `a.txt` with this blob and for `run.sh`, empty and executable.
 const TREE: &[u8] = b"6a1189fc1d3cfd1b49810fec0ce01390b8239044";
 
-const TREE_TEXT: &[u8] = b"100644 a.txt\0\
+const TREE_BYTES: &[u8] = b"100644 a.txt\0\
     \xce\x01\x36\x25\x03\x0b\xa8\xdb\xa9\x06\xf7\x56\x96\x7f\x9e\x9c\xa3\x94\x46\x4a\
     100755 run.sh\0\
     \xe6\x9d\xe2\x9b\xb2\xd1\xd6\x43\x4b\x8b\x29\xae\x77\x5a\xd8\xc2\xe4\x8c\x53\x91";
 
-/// What `git hash-object -t commit` answers for the first commit.
+/// Id that `git hash-object -t commit` prints for the first commit.
 const FIRST: &[u8] = b"cfe258e596ae478f05508755d7b1559681b5833a";
 
-const FIRST_TEXT: &[u8] = b"tree 4b825dc642cb6eb9a060e54bf8d69288fbee4904\n\
+const FIRST_BYTES: &[u8] = b"tree 4b825dc642cb6eb9a060e54bf8d69288fbee4904\n\
     author A <a@b> 0 +0000\n\
     committer A <a@b> 0 +0000\n\
     \nfirst\n";
 
-/// A commit on it.
-const SECOND_TEXT: &[u8] = b"tree 6a1189fc1d3cfd1b49810fec0ce01390b8239044\n\
+/// The second commit, a child of the first.
+const SECOND_BYTES: &[u8] = b"tree 6a1189fc1d3cfd1b49810fec0ce01390b8239044\n\
     parent cfe258e596ae478f05508755d7b1559681b5833a\n\
     author A U Thor <a@b> 7 +0100\n\
     committer A <a@b> 8 +0000\n\
     \nsecond\n\nSigned-off-by: A\n";
 
 #[test]
-fn an_id(rt: HostRuntime) {
+fn writes_id_in_lower_case(rt: HostRuntime) {
     let mut buffer = [0; 64];
     let upper = b"CE013625030BA8DBA906F756967F9E9CA394464A";
     assert!(rt;
@@ -68,7 +68,7 @@ fn an_id(rt: HostRuntime) {
     );
 }
 
-/// Whether a loose object is shown as the blob, and has no link.
+/// Whether a loose object is the blob, without a link.
 fn is_loose_blob(alloc: Global, loose: &[u8]) -> bool {
     match loose::shown(alloc, loose) {
         Ok(it) if it == (Kind::Blob, 6, id(BLOB)) => {
@@ -78,7 +78,7 @@ fn is_loose_blob(alloc: Global, loose: &[u8]) -> bool {
     }
 }
 
-/// Whether the blob is so as a loose object.
+/// Whether the blob is encoded as a loose object.
 fn is_loose(alloc: Global) -> bool {
     match writing::loose_blob(alloc, b"hello\n") {
         Ok(blob) => is_loose_blob(alloc, &blob),
@@ -86,7 +86,7 @@ fn is_loose(alloc: Global) -> bool {
     }
 }
 
-/// Whether the blob has its id where a stream gives it.
+/// Whether the blob has its id if it is read from a stream.
 fn is_streamed() -> bool {
     match streams::blob_id(&mut b"hello\n".as_slice(), 6) {
         Ok(streamed) => streamed == id(BLOB),
@@ -95,12 +95,12 @@ fn is_streamed() -> bool {
 }
 
 #[test]
-fn loose_objects(rt: HostRuntime) {
+fn encodes_loose_blob_and_hashes_stream(rt: HostRuntime) {
     assert!(rt; is_loose(rt.alloc()));
     assert!(rt; is_streamed());
 }
 
-/// Whether the second commit is told so.
+/// Whether a log line has the fields of the second commit.
 fn is_second(line: &commits::LogLine<'_>) -> bool {
     line.tree == id(TREE)
         && line.parents.first() == Some(&id(FIRST))
@@ -109,15 +109,15 @@ fn is_second(line: &commits::LogLine<'_>) -> bool {
         && line.title == BStr::new(b"second")
 }
 
-/// Whether a log tells the second commit so.
+/// Whether the log line of the second commit has its fields.
 fn is_logged(alloc: Global) -> bool {
-    match commits::log_line(alloc, SECOND_TEXT) {
+    match commits::log_line(alloc, SECOND_BYTES) {
         Ok(line) => is_second(&line),
         Err(_) => false,
     }
 }
 
-/// How many have signed a commit off; none where there is no memory.
+/// Counts the sign-offs of a commit. `None` if memory runs out.
 fn count_of_sign_offs(alloc: Global, commit: &CommitRef<'_>) -> Option<usize> {
     match trailers::sign_offs(alloc, commit) {
         Ok(found) => Some(found.len()),
@@ -125,31 +125,31 @@ fn count_of_sign_offs(alloc: Global, commit: &CommitRef<'_>) -> Option<usize> {
     }
 }
 
-/// Whether one has signed the second commit off.
+/// Whether the second commit has one sign-off.
 fn is_signed_off(alloc: Global) -> bool {
-    match CommitRef::from_bytes(alloc, SECOND_TEXT, HashKind::Sha1) {
+    match CommitRef::from_bytes(alloc, SECOND_BYTES, HashKind::Sha1) {
         Ok(commit) => count_of_sign_offs(alloc, &commit) == Some(1),
         Err(_) => false,
     }
 }
 
-/// Whether a commit merges no tag, and is signed or isn't.
-fn is_signed(alloc: Global, text: &[u8], wanted: bool) -> bool {
-    match headers::signed_and_merging(alloc, text) {
+/// Whether a commit merges no tag, and is signed as `wanted` says.
+fn is_signed(alloc: Global, content: &[u8], wanted: bool) -> bool {
+    match headers::signed_and_merging(alloc, content) {
         Ok((signed, merging)) => signed == wanted && !merging,
         Err(_) => false,
     }
 }
 
 #[test]
-fn commits_read(rt: HostRuntime) {
+fn decodes_commit_fields_and_trailers(rt: HostRuntime) {
     let alloc = rt.alloc();
     assert!(rt; is_logged(alloc));
     assert!(rt; is_signed_off(alloc));
-    assert!(rt; is_signed(alloc, SECOND_TEXT, false));
+    assert!(rt; is_signed(alloc, SECOND_BYTES, false));
 }
 
-/// Whether what is read of a commit is the id of these hex digits.
+/// Whether the decoded id has these hex digits.
 fn is_id(read: Result<ObjectId, decode::Error>, hex: &[u8]) -> bool {
     match read {
         Ok(read) => read == id(hex),
@@ -159,26 +159,26 @@ fn is_id(read: Result<ObjectId, decode::Error>, hex: &[u8]) -> bool {
 
 /// Whether the first parent of the second commit is the first.
 fn is_first_parent(alloc: Global) -> bool {
-    match tokens::first_parent(alloc, SECOND_TEXT) {
+    match tokens::first_parent(alloc, SECOND_BYTES) {
         Ok(parent) => parent == Some(id(FIRST)),
         Err(_) => false,
     }
 }
 
 #[test]
-fn parts_of_commits(rt: HostRuntime) {
+fn decodes_tree_and_first_parent(rt: HostRuntime) {
     let alloc = rt.alloc();
-    assert!(rt; is_id(tokens::tree_of(alloc, SECOND_TEXT), TREE));
+    assert!(rt; is_id(tokens::tree_of(alloc, SECOND_BYTES), TREE));
     assert!(rt; is_first_parent(alloc));
-    assert!(rt; is_id(clauses::tree_of(alloc, SECOND_TEXT, HashKind::Sha1), TREE));
+    assert!(rt; is_id(clauses::tree_of(alloc, SECOND_BYTES, HashKind::Sha1), TREE));
 }
 
-const TAG_TEXT: &[u8] =
+const TAG_BYTES: &[u8] =
     b"object cfe258e596ae478f05508755d7b1559681b5833a\ntype commit\ntag v1\ntagger A <a@b> 0 +0000\n\nhi\n";
 
-/// Whether the tag names the first commit.
+/// Whether the tag has its name, and the first commit as its target.
 fn is_named() -> bool {
-    match tags::named(TAG_TEXT) {
+    match tags::named(TAG_BYTES) {
         Ok((name, kind, target)) => {
             name == BStr::new(b"v1") && kind == Kind::Commit && target == id(FIRST)
         }
@@ -188,36 +188,36 @@ fn is_named() -> bool {
 
 /// Whether the tag has its tagger.
 fn is_tagged() -> bool {
-    match tags::tagger_email(TAG_TEXT) {
+    match tags::tagger_email(TAG_BYTES) {
         Ok(email) => email == Some(BStr::new(b"a@b")),
         Err(_) => false,
     }
 }
 
 #[test]
-fn tags_read(rt: HostRuntime) {
+fn decodes_tag_fields(rt: HostRuntime) {
     assert!(rt; is_named());
     assert!(rt; is_tagged());
 }
 
-/// Whether the first file of the tree that may be run is the script.
+/// Whether the first executable file of the tree is the script.
 fn runs_script(alloc: Global) -> bool {
-    match listing::executables(alloc, TREE_TEXT) {
+    match listing::executables(alloc, TREE_BYTES) {
         Ok(names) => names.first() == Some(&BStr::new(b"run.sh")),
         Err(_) => false,
     }
 }
 
-/// Whether a name in the tree stands for this file, or for none.
+/// Whether the tree has this file, or none, under a name.
 fn is_file(alloc: Global, name: &[u8], wanted: Option<ObjectId>) -> bool {
-    match entries::file_id(alloc, TREE_TEXT, name) {
+    match entries::file_id(alloc, TREE_BYTES, name) {
         Ok(found) => found == wanted,
         Err(_) => false,
     }
 }
 
 #[test]
-fn trees_read(rt: HostRuntime) {
+fn finds_files_of_tree(rt: HostRuntime) {
     let alloc = rt.alloc();
     assert!(rt; runs_script(alloc));
     assert!(rt; is_file(alloc, b"a.txt", Some(id(BLOB))));
@@ -227,10 +227,10 @@ fn trees_read(rt: HostRuntime) {
 /// The second commit with another message.
 fn reworded(alloc: Global) -> Result<Commit, decode::Error> {
     let message = BString::from_slice(alloc, b"other\n")?;
-    rewording::reworded(alloc, SECOND_TEXT, message)
+    rewording::reworded(alloc, SECOND_BYTES, message)
 }
 
-/// Whether a commit has the id of these hex digits, and so many bytes.
+/// Whether the encoding of a commit has this id and `size` bytes.
 fn is_written(alloc: Global, commit: &Commit, hex: &[u8], size: usize) -> bool {
     match writing::written(alloc, commit) {
         Ok((of_commit, bytes)) => of_commit == id(hex) && bytes.len() == size,
@@ -238,7 +238,7 @@ fn is_written(alloc: Global, commit: &Commit, hex: &[u8], size: usize) -> bool {
     }
 }
 
-/// Whether it is so with the second commit and another message.
+/// Whether the reworded second commit has this id and size.
 fn is_reworded(alloc: Global, hex: &[u8], size: usize) -> bool {
     match reworded(alloc) {
         Ok(commit) => is_written(alloc, &commit, hex, size),
@@ -247,25 +247,25 @@ fn is_reworded(alloc: Global, hex: &[u8], size: usize) -> bool {
 }
 
 #[test]
-fn a_commit_written(rt: HostRuntime) {
+fn encodes_reworded_commit(rt: HostRuntime) {
     assert!(rt; is_reworded(rt.alloc(), b"5efec627b4326e3fef8d92ecf3fb65b721eb2470", 157));
 }
 
 /// A store of the first commit and of the tree.
 fn store(alloc: Global) -> Result<Memory, OutOfMemory> {
     let mut store = Memory::new(alloc);
-    store.insert(Kind::Tree, HashKind::Sha1, TREE_TEXT)?;
-    store.insert(Kind::Commit, HashKind::Sha1, FIRST_TEXT)?;
+    store.insert(Kind::Tree, HashKind::Sha1, TREE_BYTES)?;
+    store.insert(Kind::Commit, HashKind::Sha1, FIRST_BYTES)?;
     Ok(store)
 }
 
-/// What `git hash-object -t commit` answers for the second commit.
+/// Id that `git hash-object -t commit` prints for the second commit.
 const SECOND: &[u8] = b"df0d5713d06ef4f4e7699d6813312b896de0436b";
 
-/// Whether the second commit has this ancestor so many generations before it, or none.
+/// Whether the second commit has this ancestor, or none, `generations` commits before it.
 fn is_ancestor(
     alloc: Global,
-    store: &stores::Front<'_, Memory>,
+    store: &stores::Overlay<'_, Memory>,
     generations: u32,
     wanted: Option<ObjectId>,
 ) -> bool {
@@ -275,27 +275,27 @@ fn is_ancestor(
     }
 }
 
-/// Whether the script is in the tree.
-fn has_script(alloc: Global, store: &stores::Front<'_, Memory>) -> bool {
+/// Whether the tree has the script.
+fn has_script(alloc: Global, store: &stores::Overlay<'_, Memory>) -> bool {
     match paths::entry_at(alloc, store, id(TREE), b"run.sh") {
         Ok(found) => found.is_some(),
         Err(_) => false,
     }
 }
 
-/// Whether a store, with the second commit in front of it, is walked so.
+/// Whether walks and lookups succeed in a store with the second commit added.
 fn is_walked(alloc: Global, store: Memory) -> bool {
-    let store = stores::Front {
+    let store = stores::Overlay {
         store,
         id: id(SECOND),
-        object: Data::new(SECOND_TEXT, Kind::Commit, HashKind::Sha1),
+        object: Data::new(SECOND_BYTES, Kind::Commit, HashKind::Sha1),
     };
     is_ancestor(alloc, &store, 1, Some(id(FIRST)))
         && is_ancestor(alloc, &store, 2, None)
         && has_script(alloc, &store)
 }
 
-/// Whether the store of the first commit and of the tree is walked so.
+/// Whether walks and lookups succeed in the store of the first commit and of the tree.
 fn is_walked_with_second(alloc: Global) -> bool {
     match store(alloc) {
         Ok(store) => is_walked(alloc, store),
@@ -304,11 +304,11 @@ fn is_walked_with_second(alloc: Global) -> bool {
 }
 
 #[test]
-fn a_store_of_ones_own(rt: HostRuntime) {
+fn finds_objects_in_own_store(rt: HostRuntime) {
     assert!(rt; is_walked_with_second(rt.alloc()));
 }
 
-/// Whether a file is moved in the editor's tree.
+/// Whether the editor moves a file.
 fn renames<S: Find>(
     alloc: Global,
     editor: &mut Editor<S>,
@@ -320,7 +320,7 @@ fn renames<S: Find>(
     Ok(edits::rename(editor, &from, &to, id(BLOB)).is_ok())
 }
 
-/// Whether a file is put into a directory.
+/// Whether the editor inserts a file into a directory.
 fn fills<S: Find>(
     alloc: Global,
     editor: &mut Editor<S>,
@@ -332,7 +332,7 @@ fn fills<S: Find>(
     Ok(edits::fill(editor, &directory, &[file]).is_ok())
 }
 
-/// Whether a write gives the root of this id, and so many trees.
+/// Whether a write returns this root and emits `count` trees.
 fn writes_root<S>(alloc: Global, editor: &mut Editor<S>, root: &[u8], count: usize) -> bool {
     match writes::write(alloc, editor) {
         Ok((written, trees)) => written == id(root) && trees == count,
@@ -340,17 +340,17 @@ fn writes_root<S>(alloc: Global, editor: &mut Editor<S>, root: &[u8], count: usi
     }
 }
 
-/// What `git mktree` answers for `b.txt`, `docs` and `run.sh`.
+/// Id that `git mktree` prints for `b.txt`, `docs` and `run.sh`.
 const EDITED: &[u8] = b"cb60b5d33be5a9a5d719af0c303354a83d95214a";
 
-/// Whether a file is moved in the editor's tree and one put into a directory, and that is written.
+/// Whether the editor moves a file, inserts one into a directory, and writes the tree.
 fn is_edited<S: Find>(alloc: Global, editor: &mut Editor<S>) -> bool {
     renames(alloc, editor, &["a.txt"], &["b.txt"]).unwrap_or(false)
         && fills(alloc, editor, &["docs"], &["c.txt"]).unwrap_or(false)
         && writes_root(alloc, editor, EDITED, 2)
 }
 
-/// Whether it is so with the tree of a store.
+/// Whether the edits succeed on a tree of the store.
 fn is_edited_in(alloc: Global, store: &Memory) -> bool {
     match editors::editor_of(alloc, store, id(TREE)) {
         Ok(mut editor) => is_edited(alloc, &mut editor),
@@ -358,7 +358,7 @@ fn is_edited_in(alloc: Global, store: &Memory) -> bool {
     }
 }
 
-/// Whether the blob is no tree of a store.
+/// Whether an editor of the blob fails: the store has no such tree.
 fn is_unknown_in(alloc: Global, store: &Memory) -> bool {
     matches!(
         &editors::editor_of(alloc, store, id(BLOB)),
@@ -366,7 +366,7 @@ fn is_unknown_in(alloc: Global, store: &Memory) -> bool {
     )
 }
 
-/// Whether both hold in the store.
+/// Whether the edits succeed, and the editor of the blob fails.
 fn is_edited_in_store(alloc: Global) -> bool {
     match store(alloc) {
         Ok(store) => is_edited_in(alloc, &store) && is_unknown_in(alloc, &store),
@@ -375,11 +375,11 @@ fn is_edited_in_store(alloc: Global) -> bool {
 }
 
 #[test]
-fn a_tree_edited(rt: HostRuntime) {
+fn edits_stored_tree(rt: HostRuntime) {
     assert!(rt; is_edited_in_store(rt.alloc()));
 }
 
-/// Whether so many replies come to the edits of rows and a write.
+/// Whether the edits of the rows and a write have `count` replies.
 fn keeps(alloc: Global, editor: &mut Editor<Memory>, rows: &[Row], count: usize) -> bool {
     let Ok(edits) = edits_of(alloc, rows) else {
         return false;
@@ -391,7 +391,7 @@ fn keeps(alloc: Global, editor: &mut Editor<Memory>, rows: &[Row], count: usize)
 }
 
 #[test]
-fn many_edits(rt: HostRuntime) {
+fn keeps_trees_of_edits(rt: HostRuntime) {
     let alloc = rt.alloc();
     let mut editor = Editor::new(Tree::empty(alloc), Memory::new(alloc), HashKind::Sha1);
     assert!(rt;
@@ -406,7 +406,7 @@ fn many_edits(rt: HostRuntime) {
     assert!(rt; editor.store_mut().exists(docs.as_oid()));
 }
 
-/// Whether the tip of a history of one step, of these rows, is the commit of these hex digits.
+/// Whether the tip after one step of these rows is the commit with this id.
 fn is_tip_of(alloc: Global, rows: &[Row], hex: &[u8]) -> bool {
     let Ok(step) = step_by(alloc, "A", rows) else {
         return false;
@@ -417,16 +417,16 @@ fn is_tip_of(alloc: Global, rows: &[Row], hex: &[u8]) -> bool {
     }
 }
 
-/// The commit is what `git commit-tree` answers.
+/// `git commit-tree` prints the id of the commit.
 #[test]
-fn a_history(rt: HostRuntime) {
+fn imports_step_as_commit(rt: HostRuntime) {
     let tip = b"dc974f0edc684fa3ce8096d4ba7b1bc74c83d4cf";
     assert!(rt; is_tip_of(rt.alloc(), &[Row::File(&["a.txt"], BLOB)], tip));
 }
 
 const SIGNATURE: &[u8] = b"-----BEGIN PGP SIGNATURE-----\nA\n";
 
-/// A runner whose program succeeds, and writes this.
+/// A runner whose program succeeds with this output.
 pub(crate) fn runner(
     alloc: Global,
     stdout: &[u8],
@@ -443,58 +443,58 @@ pub(crate) fn runner(
     Ok(runners::Same { answer })
 }
 
-/// The second commit, owned.
+/// The second commit in its owned form.
 fn second(alloc: Global) -> Result<Commit, decode::Error> {
-    let commit = CommitRef::from_bytes(alloc, SECOND_TEXT, HashKind::Sha1)?;
+    let commit = CommitRef::from_bytes(alloc, SECOND_BYTES, HashKind::Sha1)?;
     Ok(commit.into_owned(alloc)?)
 }
 
-/// A commit, signed. None where that is refused.
+/// Signs a commit. `None` if signing fails.
 fn signed(alloc: Global, commit: Commit, signer: &mut runners::Same) -> Option<Commit> {
     let program = BString::from_slice(alloc, b"gpg").ok()?;
     let key = BString::from_slice(alloc, b"K").ok()?;
     signing::signed(alloc, commit, program, key, signer).ok()
 }
 
-/// The text of the second commit, signed. None where that is refused.
-fn signed_text(alloc: Global) -> Option<Vec<u8>> {
+/// Encodes the signed second commit. `None` if signing fails.
+fn signed_payload(alloc: Global) -> Option<Vec<u8>> {
     let mut signer = runner(alloc, SIGNATURE, b"[GNUPG:] SIG_CREATED x\n").ok()?;
     let commit = signed(alloc, second(alloc).ok()?, &mut signer)?;
     match writing::written(alloc, &commit) {
-        Ok((_, text)) => Some(text),
+        Ok((_, content)) => Some(content),
         Err(_) => None,
     }
 }
 
-/// Whether a program finds the signature of a commit valid.
-fn is_valid(alloc: Global, text: &[u8], program: BString, verifier: &mut runners::Same) -> bool {
-    match verifying::verified(alloc, text, program, verifier) {
+/// Whether a program verifies the signature of a commit as valid.
+fn is_valid(alloc: Global, content: &[u8], program: BString, verifier: &mut runners::Same) -> bool {
+    match verifying::verified(alloc, content, program, verifier) {
         Ok(Some(outcome)) => outcome.is_valid(),
         _ => false,
     }
 }
 
-/// Whether a program that reports a good signature finds that of a commit valid.
-fn is_verified(alloc: Global, text: &[u8]) -> bool {
+/// Whether a program that reports a good signature verifies the commit as valid.
+fn is_verified(alloc: Global, content: &[u8]) -> bool {
     let report = b"[GNUPG:] GOODSIG K A\n[GNUPG:] TRUST_FULLY\n";
     match (
         runner(alloc, report, b""),
         BString::from_slice(alloc, b"gpg"),
     ) {
-        (Ok(mut verifier), Ok(program)) => is_valid(alloc, text, program, &mut verifier),
+        (Ok(mut verifier), Ok(program)) => is_valid(alloc, content, program, &mut verifier),
         _ => false,
     }
 }
 
-/// Whether the second commit is signed, and verified then.
+/// Whether the second commit is signed and then verified.
 fn is_signed_and_verified(alloc: Global) -> bool {
-    match signed_text(alloc) {
-        Some(text) => is_signed(alloc, &text, true) && is_verified(alloc, &text),
+    match signed_payload(alloc) {
+        Some(content) => is_signed(alloc, &content, true) && is_verified(alloc, &content),
         None => false,
     }
 }
 
 #[test]
-fn signed_and_verified(rt: HostRuntime) {
+fn signs_and_verifies_commit(rt: HostRuntime) {
     assert!(rt; is_signed_and_verified(rt.alloc()));
 }

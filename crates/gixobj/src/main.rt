@@ -1,20 +1,21 @@
-//! The program `gixobj`, with the commands `show`, `tree` and `edit`.
+//! The program `gixobj`, with the commands `show`, `tree` and `edit`. Each takes its input on standard
+//! input, and ids by SHA-1, or by SHA-256 with the argument `sha256`.
 //!
-//! `gixobj show [sha256]`: tells what a loose object is, from its uncompressed bytes on standard
-//! input, as `<kind> <size> <id>`. `gixobj tree [sha256]`: lists the entries of a loose tree, a line
-//! `<mode> <kind> <id> <name>` each. `gixobj edit [sha256]`: runs a script of edits on an empty tree, and
-//! tells what came of each.
+//! - `gixobj show [sha256]` prints the kind, the size and the id of an uncompressed loose object, as
+//!   `<kind> <size> <id>`.
+//! - `gixobj tree [sha256]` prints a line `<mode> <kind> <id> <name>` for each entry of a loose tree.
+//! - `gixobj edit [sha256]` runs a script of edits on an empty tree, and reports the outcome of each.
 #![tactic(auto)]
 
 use gixobj_fields::streams::ToWrite;
 use gixobj_script::engine::engine;
-use gixobj_show::engine::tell;
-use gixobj_show::words::words_of_process;
+use gixobj_show::arguments::process_arguments;
+use gixobj_show::engine::report_to;
 use std::process::ExitCode;
 
 fn main(rt: HostRuntime) -> ExitCode {
     let mut errors = rt.stderr();
-    ExitCode::from(match words_of_process(&rt) {
+    ExitCode::from(match process_arguments(&rt) {
         Ok(words) => engine(
             rt.alloc(),
             words.as_slice(),
@@ -22,6 +23,6 @@ fn main(rt: HostRuntime) -> ExitCode {
             &mut rt.stdout(),
             &mut errors,
         ),
-        Err(refusal) => tell(refusal, &mut ToWrite(&mut errors)),
+        Err(error) => report_to(error, &mut ToWrite(&mut errors)),
     })
 }

@@ -1,42 +1,45 @@
--- Actor lines: made of their parts, and read in one way.
+-- A line decodes to at most one actor, and the parts that the decoder splits are its parts. The decoder of lines, the
+-- law of unique decoding and the proofs of commit and tag tokens use it.
 use Rattle.std.proofs.Common.{◌≡◌, ◌≢◌, ◌==◌, arith, false, length, inl, inr, ℕ, true, false, List, [], ◌∷◌, ◌++◌, refl, sym, ap, subst, ◌∙◌, append_assoc}
 use Rattle.std.proofs.lemmas.Bool.{true≢false}
 use Rattle.std.proofs.lemmas.Bool.Decides.{nat_tests}
 use Rattle.std.proofs.lemmas.List.Elements.{All-head, All-nil, All-tail}
 use Rattle.std.specs.List.{AllPass}
-use Rattle.gixobj_hash.proofs.Splits.{free_of_cut, one_cut, one_last_cut}
-use Rattle.gixobj_actor.specs.Actor.{ActorView, EndsTime, IsActorLine, IsActorLineOf, IsGap, IsNameOf, IsNoActor, IsNoActorLine, is_time_byte}
-use Rattle.gixobj_hash.specs.Texts.{IsFree, SplitsAt, SplitsAtLast}
+use Rattle.gixobj_hash.proofs.Splits.{free_of_split, one_cut, one_last_split}
+use Rattle.gixobj_actor.specs.Actor.{ActorView, EndsTime, IsActorLine, IsActorLineOf, IsGap, IsNameOf, IsNoActor, IsMalformedActorLine, is_time_byte}
+use Rattle.gixobj_hash.specs.ByteStrings.{IsByteFree, SplitsAt, SplitsAtLast}
 
-regrouped : (text email gap time rest : List ℕ) → text ++ 60 ∷ (email ++ 62 ∷ (gap ++ (time ++ rest))) ≡ text ++ 60 ∷ email ++ 62 ∷ gap ++ time ++ rest
-regrouped text email gap time rest = simp append_assoc
+regrouped : (name_bytes email gap time rest : List ℕ) → name_bytes ++ 60 ∷ (email ++ 62 ∷ (gap ++ (time ++ rest))) ≡ name_bytes ++ 60 ∷ email ++ 62 ∷ gap
+    ++ time ++ rest
+regrouped name_bytes email gap time rest = simp append_assoc
 
--- the parts of a line as it is cut from the left
+-- the parts of a line, split from the left
 pub record Cuts (line name email time rest : List ℕ) : Type 0 where
-  pub text : List ℕ
-  pub behind : List ℕ
+  pub name_bytes : List ℕ
+  pub following : List ℕ
   pub after : List ℕ
   pub gap : List ℕ
   pub tail : List ℕ
-  pub one_line : IsFree 10 line
-  pub first : SplitsAt 60 line text behind
-  pub last : SplitsAtLast 62 behind email after
+  pub one_line : IsByteFree 10 line
+  pub first : SplitsAt 60 line name_bytes following
+  pub last : SplitsAtLast 62 following email after
   pub skipped : after ≡ gap ++ tail
   pub spaced : IsGap gap tail
   pub joined : tail ≡ time ++ rest
-  pub named : IsNameOf text name
+  pub named : IsNameOf name_bytes name
   pub timed : AllPass is_time_byte time
   pub ends : EndsTime rest
 
-pub line_of_cuts : (line name email time rest : List ℕ) → Cuts line name email time rest → IsActorLine line name email time rest
-line_of_cuts line name email time rest cuts =
+pub line_of_splits : (line name email time rest : List ℕ) → Cuts line name email time rest → IsActorLine line name email time rest
+line_of_splits line name email time rest cuts =
     let after : cuts.after ≡ cuts.gap ++ (time ++ rest) = cuts.skipped ∙ ap (λ it. cuts.gap ++ it) cuts.joined in
-    let F : List ℕ → Type 0 = IsFree 62 in
+    let F : List ℕ → Type 0 = IsByteFree 62 in
     let G : List ℕ → Type 0 = IsGap cuts.gap in
     record {
-      text = cuts.text;
+      name_bytes = cuts.name_bytes;
       gap = cuts.gap;
-      joined = cuts.first.joined ∙ ap (λ it. cuts.text ++ 60 ∷ it) (cuts.last.joined ∙ ap (λ it. email ++ 62 ∷ it) after) ∙ regrouped cuts.text email cuts.gap time rest;
+      joined = cuts.first.joined ∙ ap (λ it. cuts.name_bytes ++ 60 ∷ it) (cuts.last.joined ∙ ap (λ it. email ++ 62 ∷ it) after)
+          ∙ regrouped cuts.name_bytes email cuts.gap time rest;
       one_line = cuts.one_line;
       first = cuts.first.first;
       last = subst F (after ∙ sym (append_assoc cuts.gap time rest)) cuts.last.last;
@@ -46,30 +49,33 @@ line_of_cuts line name email time rest cuts =
       ends = cuts.ends;
     }
 
--- what stands behind the first `<` of an actor line
-behind_first : (line name email time rest text behind : List ℕ) (actor : IsActorLine line name email time rest) → SplitsAt 60 line text behind
-    → (actor.text ≡ text) × (email ++ 62 ∷ (actor.gap ++ (time ++ rest)) ≡ behind)
-behind_first line name email time rest text behind actor split =
-    one_cut 60 actor.text (email ++ 62 ∷ (actor.gap ++ (time ++ rest))) text behind actor.first split.first
-    (regrouped actor.text email actor.gap time rest ∙ sym actor.joined ∙ split.joined)
+-- the bytes after the first `<` of an actor line are its email, gap, time and rest
+after_first : (line name email time rest name_bytes after_less_than : List ℕ) (actor : IsActorLine line name email time rest)
+    → SplitsAt 60 line name_bytes after_less_than
+    → (actor.name_bytes ≡ name_bytes) × (email ++ 62 ∷ (actor.gap ++ (time ++ rest)) ≡ after_less_than)
+after_first line name email time rest name_bytes after_less_than actor split =
+    one_cut 60 actor.name_bytes (email ++ 62 ∷ (actor.gap ++ (time ++ rest))) name_bytes after_less_than actor.first split.first
+    (regrouped actor.name_bytes email actor.gap time rest ∙ sym actor.joined ∙ split.joined)
 
-pub no_first : (line : List ℕ) → IsFree 60 line → IsNoActorLine line
+pub no_first : (line : List ℕ) → IsByteFree 60 line → IsMalformedActorLine line
 no_first line free name email time rest actor =
-    let joined : line ≡ actor.text ++ 60 ∷ (email ++ 62 ∷ (actor.gap ++ (time ++ rest))) = actor.joined ∙ sym (regrouped actor.text email actor.gap time rest) in
-    free_of_cut 60 actor.text (email ++ 62 ∷ (actor.gap ++ (time ++ rest))) (let P : List ℕ → Type 0 = IsFree 60 in subst P joined free)
+    let joined : line ≡ actor.name_bytes ++ 60 ∷ (email ++ 62 ∷ (actor.gap ++ (time ++ rest))) =
+    actor.joined ∙ sym (regrouped actor.name_bytes email actor.gap time rest) in
+    free_of_split 60 actor.name_bytes (email ++ 62 ∷ (actor.gap ++ (time ++ rest))) (let P : List ℕ → Type 0 = IsByteFree 60 in subst P joined free)
 
-pub no_last : (line text behind : List ℕ) → SplitsAt 60 line text behind → IsFree 62 behind → IsNoActorLine line
-no_last line text behind split free name email time rest actor =
-    let same = behind_first line name email time rest text behind actor split in
-    free_of_cut 62 email (actor.gap ++ (time ++ rest)) (let P : List ℕ → Type 0 = IsFree 62 in subst P (sym same.1) free)
+pub no_last : (line name_bytes after_less_than : List ℕ) → SplitsAt 60 line name_bytes after_less_than → IsByteFree 62 after_less_than
+    → IsMalformedActorLine line
+no_last line name_bytes after_less_than split free name email time rest actor =
+    let same = after_first line name email time rest name_bytes after_less_than actor split in
+    free_of_split 62 email (actor.gap ++ (time ++ rest)) (let P : List ℕ → Type 0 = IsByteFree 62 in subst P (sym same.1) free)
 
--- one reading
-same_name : (text a b : List ℕ) → IsNameOf text a → IsNameOf text b → a ≡ b
-same_name text a b (inl first) (inl second) =
-    let cut = one_last_cut 32 a [] b [] (All-nil (λ it. it ≢ 32)) (All-nil (λ it. it ≢ 32)) (sym first ∙ second) in cut.0
-same_name text a b (inl first) (inr second) = absurd (second.1 a first)
-same_name text a b (inr first) (inl second) = absurd (first.1 b second)
-same_name text a b (inr first) (inr second) = sym first.0 ∙ second.0
+-- unique decoding of each part
+same_name : (name_bytes a b : List ℕ) → IsNameOf name_bytes a → IsNameOf name_bytes b → a ≡ b
+same_name name_bytes a b (inl first) (inl second) =
+    let cut = one_last_split 32 a [] b [] (All-nil (λ it. it ≢ 32)) (All-nil (λ it. it ≢ 32)) (sym first ∙ second) in cut.0
+same_name name_bytes a b (inl first) (inr second) = absurd (second.1 a first)
+same_name name_bytes a b (inr first) (inl second) = absurd (first.1 b second)
+same_name name_bytes a b (inr first) (inr second) = sym first.0 ∙ second.0
 
 same_tail : (gap a gap' b : List ℕ) → IsGap gap a → IsGap gap' b → gap ++ a ≡ gap' ++ b → a ≡ b
 same_tail gap a gap' b (inl first) (inl second) same =
@@ -81,7 +87,7 @@ same_tail gap a gap' b (inr first) (inl second) same =
 same_tail gap a gap' b (inr first) (inr second) same =
     sym (ap (λ it. it ++ a) first.0) ∙ same ∙ ap (λ it. it ++ b) second.0
 
--- a time that goes on where another ends
+-- a time byte does not begin the bytes at which a time ends
 goes_on : (byte : ℕ) (time rest after : List ℕ) → AllPass is_time_byte (byte ∷ time) → EndsTime rest → rest ≡ byte ∷ after → ⊥
 goes_on byte time rest after passes ends same =
     let fails : is_time_byte byte ≡ false = (let P : List ℕ → Type 0 = EndsTime in subst P same ends) in
@@ -102,16 +108,17 @@ pub one_actor : (line name email time rest name' email' time' rest' : List ℕ)
     → IsActorLine line name email time rest → IsActorLine line name' email' time' rest'
     → (name ≡ name') × (email ≡ email') × (time ≡ time') × (rest ≡ rest')
 one_actor line name email time rest name' email' time' rest' first second =
-    let behind = email ++ 62 ∷ (first.gap ++ (time ++ rest)) in
-    let split : SplitsAt 60 line first.text behind = record { joined = first.joined ∙ sym (regrouped first.text email first.gap time rest); first = first.first } in
-    let cut = behind_first line name' email' time' rest' first.text behind second split in
-    let F : List ℕ → Type 0 = IsFree 62 in
-    let close = one_last_cut 62 email (first.gap ++ (time ++ rest)) email' (second.gap ++ (time' ++ rest'))
+    let after_less_than = email ++ 62 ∷ (first.gap ++ (time ++ rest)) in
+    let split : SplitsAt 60 line first.name_bytes after_less_than =
+    record { joined = first.joined ∙ sym (regrouped first.name_bytes email first.gap time rest); first = first.first } in
+    let cut = after_first line name' email' time' rest' first.name_bytes after_less_than second split in
+    let F : List ℕ → Type 0 = IsByteFree 62 in
+    let close = one_last_split 62 email (first.gap ++ (time ++ rest)) email' (second.gap ++ (time' ++ rest'))
     (subst F (append_assoc first.gap time rest) first.last) (subst F (append_assoc second.gap time' rest') second.last) (sym cut.1) in
     let tails = same_tail first.gap (time ++ rest) second.gap (time' ++ rest') first.spaced second.spaced close.1 in
     let times = same_time time rest time' rest' first.timed second.timed first.ends second.ends tails in
     let N : List ℕ → Type 0 = λ it. IsNameOf it name' in (
-      same_name first.text name name' first.named (subst N cut.0 second.named),
+      same_name first.name_bytes name name' first.named (subst N cut.0 second.named),
       close.0,
       times.0,
       times.1,
@@ -123,11 +130,12 @@ of_parts name email time = record { name = name; email = email; time = time }
 pub one_view : (line : List ℕ) (a b : ActorView) (x y : List ℕ) → IsActorLineOf line a x → IsActorLineOf line b y → a ≡ b
 one_view line a b x y first second =
     let same = one_actor line a.name a.email a.time x b.name b.email b.time y first second in
-    ap (λ (it : List ℕ). of_parts it a.email a.time) same.0 ∙ ap (λ (it : List ℕ). of_parts b.name it a.time) same.1 ∙ ap (λ (it : List ℕ). of_parts b.name b.email it) same.2
+    ap (λ (it : List ℕ). of_parts it a.email a.time) same.0 ∙ ap (λ (it : List ℕ). of_parts b.name it a.time) same.1
+    ∙ ap (λ (it : List ℕ). of_parts b.name b.email it) same.2
 
 -- ---- actors that fill their line
 
-pub no_actor_of_no_line : (line : List ℕ) → IsNoActorLine line → IsNoActor line
+pub no_actor_of_no_line : (line : List ℕ) → IsMalformedActorLine line → IsNoActor line
 no_actor_of_no_line line bad name email time actor = bad name email time [] actor
 
 pub no_actor_with_rest : (line name email time rest : List ℕ) → IsActorLine line name email time rest → (length rest == 0) ≡ false → IsNoActor line

@@ -1,6 +1,6 @@
 pub mod ActorLines
-mod ActorTexts
+mod EncodedActors
 pub mod OwnedActors
 pub mod SignatureFields
 mod TimeSizes
-mod TimeTexts
+mod EncodedTimes

@@ -1,12 +1,20 @@
--- Actors of lines that are copied, and written.
+-- The owned actor of a line encodes canonically. If it is illegal, the line is unwritable.
 use Rattle.std.proofs.Common.{ℕ, List, refl}
 use Rattle.bstr.specs.Owned.{bstring_bytes}
 use Rattle.gixobj_actor.specs.Actor.{IsOwnedActor}
-use Rattle.gixobj_actor.specs.ActorWriting.{IsCanonical, IsLegal, IsUnwritable, owned_text}
+use Rattle.gixobj_actor.specs.ActorWriting.{IsCanonical, IsLegal, IsUnwritable, encode_owned_actor}
 use Rattle.gixobj_actor.specs.declared.actor.Signature.{Signature}
 
-pub canonical : (line : List ℕ) (actor : Signature) → IsOwnedActor line actor → IsCanonical line (owned_text actor)
-canonical line actor is = record { name = bstring_bytes actor.name; email = bstring_bytes actor.email; time = is.time; said = actor.time; read = is.read; is_time = is.said; text = refl }
+pub canonical : (line : List ℕ) (actor : Signature) → IsOwnedActor line actor → IsCanonical line (encode_owned_actor actor)
+canonical line actor is = record {
+  name = bstring_bytes actor.name;
+  email = bstring_bytes actor.email;
+  time = is.time;
+  announced = actor.time;
+  read = is.read;
+  is_time = is.announced;
+  encodes = refl;
+}
 
 pub unwritable : (line : List ℕ) (actor : Signature) → IsOwnedActor line actor → ¬ (IsLegal actor) → IsUnwritable line
 unwritable line actor is illegal = (bstring_bytes actor.name, bstring_bytes actor.email, is.time, is.read, illegal)

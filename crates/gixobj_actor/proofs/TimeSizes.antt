@@ -1,10 +1,10 @@
--- How long the text of a time is.
+-- The length of an encoded time.
 use Rattle.std.proofs.Common.{◌≡◌, ◌<◌, ◌≤◌, ◌+◌, ◌*◌, ◌/◌, ◌%◌, ◌^◌, ℕ, zero, suc, List, [], ◌∷◌, ◌++◌, length, arith, ap, ◌∙◌}
 use Rattle.std.proofs.lemmas.Fmt.{decimal_digit, decimal_nonempty, decimal_step, length-decimal-le}
 use Rattle.std.proofs.lemmas.List.{length-append}
 use Rattle.std.specs.Prelude.{IsAscii, ℤ, pos, negsuc, unsigned_abs, decimal, if◌then◌else◌}
 use Rattle.std.proofs.lemmas.Str.{IsAscii-append}
-use Rattle.gixobj_actor.specs.Date.{is_below_zero, offset_text, time_text}
+use Rattle.gixobj_actor.specs.Date.{is_below_zero, encode_offset, encode_time}
 
 pub one_digit : (number : ℕ) → number < 10 → length (decimal number) ≡ 1
 one_digit number small = ap length (decimal_digit number small)
@@ -15,7 +15,7 @@ digit_more number large fits = ap length (decimal_step number large fits) ∙ le
 pub few_digits : (number : ℕ) → number < 2 ^ 64 → length (decimal number) ≤ 20
 few_digits number fits = length-decimal-le 20 number (omega arith) (omega arith) fits
 
--- 1, and so many zeros behind it
+-- the power of ten with this exponent
 abbrev power_of_ten : ℕ → ℕ
 power_of_ten zero = 1
 power_of_ten (suc zeros) = 10 * power_of_ten zeros
@@ -28,7 +28,7 @@ more_than_zeros : (zeros number : ℕ) → power_of_ten zeros ≤ number → num
 more_than_zeros zero number large fits = decimal_nonempty number fits
 more_than_zeros (suc zeros) number large fits =
     let some = positive zeros in
-    let front = more_than_zeros zeros (number / 10) (omega arith) (omega arith) in
+    let prefix = more_than_zeros zeros (number / 10) (omega arith) (omega arith) in
     omega (arith, digit_more number (omega arith) fits)
 
 pub ten_digits : (number : ℕ) → 1000000000 ≤ number → number < 10000000000 → number < 2 ^ 64 → length (decimal number) ≡ 10
@@ -37,14 +37,16 @@ ten_digits number large small fits =
     let least = more_than_zeros 9 number large fits in
     omega arith
 
--- a sign, the digits, a space, and the five bytes of an offset
-pub length_of_time : (seconds offset : ℤ) → length (time_text seconds offset) ≡ (if is_below_zero seconds then 1 else 0) + length (decimal (unsigned_abs seconds)) + 6
+-- an encoded time has a sign if it is negative, its digits, a space, and five bytes of an offset
+pub length_of_time : (seconds offset : ℤ) → length (encode_time seconds offset) ≡ (if is_below_zero seconds then 1 else 0) + length
+    (decimal (unsigned_abs seconds)) + 6
 length_of_time (pos size) offset =
-    let joined : length (time_text (pos size) offset) ≡ length (decimal size) + 6 = length-append (decimal size) (32 ∷ offset_text offset) in
-    let same : length (time_text (pos size) offset) ≡ 0 + length (decimal size) + 6 = omega (arith, joined) in same
+    let joined : length (encode_time (pos size) offset) ≡ length (decimal size) + 6 = length-append (decimal size) (32 ∷ encode_offset offset) in
+    let same : length (encode_time (pos size) offset) ≡ 0 + length (decimal size) + 6 = omega (arith, joined) in same
 length_of_time (negsuc size) offset =
-    let joined : length (decimal (suc size) ++ 32 ∷ offset_text offset) ≡ length (decimal (suc size)) + 6 = length-append (decimal (suc size)) (32 ∷ offset_text offset) in
-    let same : length (time_text (negsuc size) offset) ≡ 1 + length (decimal (suc size)) + 6 = omega (arith, joined) in same
+    let joined : length (decimal (suc size) ++ 32 ∷ encode_offset offset) ≡ length (decimal (suc size)) + 6 =
+    length-append (decimal (suc size)) (32 ∷ encode_offset offset) in
+    let same : length (encode_time (negsuc size) offset) ≡ 1 + length (decimal (suc size)) + 6 = omega (arith, joined) in same
 
-pub joined_ascii : (front rest : List ℕ) → IsAscii front → IsAscii rest → IsAscii (front ++ rest)
+pub joined_ascii : (prefix rest : List ℕ) → IsAscii prefix → IsAscii rest → IsAscii (prefix ++ rest)
 joined_ascii = IsAscii-append

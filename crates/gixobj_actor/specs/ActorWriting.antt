@@ -1,10 +1,10 @@
--- What a writer of actors answers.
+-- The encoding of actors, and the errors of writing them.
 use Rattle.std.specs.Prelude.{◌≡◌, ℕ, List, [], ◌∷◌, ◌++◌}
 use Rattle.bstr.specs.BStr.{bstr_bytes}
 use Rattle.bstr.specs.Owned.{bstring_bytes}
-use Rattle.gixobj_actor.specs.Actor.{IsActor, IsTimeOrDefault, IsWritable, actor_text}
-use Rattle.gixobj_actor.specs.Date.{time_text}
-use Rattle.gixobj_fields.specs.Writing.{Refused, illegal_actor}
+use Rattle.gixobj_actor.specs.Actor.{IsActor, IsTimeOrDefault, IsWritable, encode_actor}
+use Rattle.gixobj_actor.specs.Date.{encode_time}
+use Rattle.gixobj_fields.specs.Writing.{RejectedValue, illegal_actor}
 use Rattle.gixobj_actor.specs.declared.actor.Signature.{Signature}
 use Rattle.gixobj_actor.specs.declared.actor.SignatureRef.{SignatureRef}
 use Rattle.gixobj_actor.specs.declared.date.Time.{Time}
@@ -12,42 +12,44 @@ use Rattle.gixobj_fields.specs.declared.encode.Error.{Error}
 use Rattle.gixobj_fields.specs.declared.encode.Error.TheVariants.{IllegalActor, Writer}
 use Rattle.gixobj_hash.specs.Bytes.{space}
 
--- a borrowed actor as it is written
-abbrev pub borrowed_text : SignatureRef → List ℕ
-borrowed_text actor = actor_text (bstr_bytes actor.name) (bstr_bytes actor.email) (bstr_bytes actor.time)
+-- the encoding of a borrowed actor
+abbrev pub encode_borrowed_actor : SignatureRef → List ℕ
+encode_borrowed_actor actor = encode_actor (bstr_bytes actor.name) (bstr_bytes actor.email) (bstr_bytes actor.time)
 
--- an owned actor as it is written
-abbrev pub owned_text : Signature → List ℕ
-owned_text actor = actor_text (bstring_bytes actor.name) (bstring_bytes actor.email) (time_text actor.time.seconds actor.time.offset)
+-- the encoding of an owned actor
+abbrev pub encode_owned_actor : Signature → List ℕ
+encode_owned_actor actor = encode_actor (bstring_bytes actor.name) (bstring_bytes actor.email)
+    (encode_time actor.time.seconds actor.time.offset)
 
--- an actor of this name and this email can be written
+-- an actor with this name and this email can be written
 abbrev pub IsLegalActor : List ℕ → List ℕ → Type 0
 IsLegalActor name email = IsWritable name × IsWritable email
 
--- a name and an email that an owned actor can be written with
+-- an owned actor can be written
 abbrev pub IsLegal : Signature → Type 0
 IsLegal actor = IsLegalActor (bstring_bytes actor.name) (bstring_bytes actor.email)
 
--- why an actor is not written: it cannot be, and all is unchanged; or there was no room, and a front of it was put
-abbrev pub RefusesActor : List ℕ → List ℕ → Type 0 → Type 0 → Error → Type 0
-RefusesActor name email unchanged puts_front IllegalActor = ¬ (IsLegalActor name email) × unchanged
-RefusesActor name email unchanged puts_front (Writer error) = IsLegalActor name email × puts_front
-RefusesActor name email unchanged puts_front other = ⊥
+-- why an actor is not written: it is illegal, and its output is unchanged; or the writer failed, and a proper prefix
+-- is written
+abbrev pub IsActorError : List ℕ → List ℕ → Type 0 → Type 0 → Error → Type 0
+IsActorError name email unchanged appends_prefix IllegalActor = ¬ (IsLegalActor name email) × unchanged
+IsActorError name email unchanged appends_prefix (Writer error) = IsLegalActor name email × appends_prefix
+IsActorError name email unchanged appends_prefix other = ⊥
 
--- an actor is refused behind the name of its field and a space
-abbrev pub RefusesActorField : List ℕ → Signature → Refused → List ℕ → Type 0
-RefusesActorField name actor value parts = ¬ (IsLegal actor) × (value ≡ illegal_actor) × (parts ≡ name ++ space ∷ [])
+-- the actor of a field is illegal; the name of the field and a space are written before it
+abbrev pub IsActorFieldError : List ℕ → Signature → RejectedValue → List ℕ → Type 0
+IsActorFieldError name actor value parts = ¬ (IsLegal actor) × (value ≡ illegal_actor) × (parts ≡ name ++ space ∷ [])
 
--- the actor of the line as it is written: its parts, and the text of its time, or of the default one
+-- the canonical encoding of the line's actor: its name, its email, and its encoded time or the default one
 pub record IsCanonical (line written : List ℕ) : Type 0 where
   pub name : List ℕ
   pub email : List ℕ
   pub time : List ℕ
-  pub said : Time
+  pub announced : Time
   pub read : IsActor line name email time
-  pub is_time : IsTimeOrDefault time said
-  pub text : written ≡ actor_text name email (time_text said.seconds said.offset)
+  pub is_time : IsTimeOrDefault time announced
+  pub encodes : written ≡ encode_actor name email (encode_time announced.seconds announced.offset)
 
--- the line is an actor that no owned form writes
+-- the line is an actor whose name or email can't be written
 abbrev pub IsUnwritable : List ℕ → Type 0
 IsUnwritable line = (name email time : List ℕ) × IsActor line name email time × ¬ (IsLegalActor name email)

@@ -3,11 +3,11 @@ pub mod ActorWriting
 pub mod Date
 pub use Rattle.gixobj_fields.specs.FieldWriting
 pub use Rattle.gixobj_fields.specs.HeaderReading
-pub use Rattle.gixobj_fields.specs.HeaderText
+pub use Rattle.gixobj_fields.specs.HeaderFormat
 pub use Rattle.gixobj_fields.specs.Streams
 pub use Rattle.gixobj_fields.specs.Writing
 pub use Rattle.gixobj_hash.specs.Decode
 pub use Rattle.gixobj_hash.specs.Encode
 pub use Rattle.gixobj_hash.specs.Hash
 pub use Rattle.gixobj_hash.specs.Kind
-pub use Rattle.gixobj_hash.specs.Texts
+pub use Rattle.gixobj_hash.specs.ByteStrings

@@ -1,32 +1,35 @@
-//! Times as they stand in actor lines: seconds since 1970 and an offset from UTC (`git-fast-import`,
-//! "Date Formats", "raw").
+//! Times of actor lines: seconds since 1970 and an offset from UTC (`git-fast-import`, "Date Formats",
+//! "raw").
 ghost use Rattle.std.specs.Prelude.{◌≡◌, ◌≤◌, ◌<◌, ◌+◌, ◌*◌, ◌++◌, ◌↔◌, [], ◌∷◌, ℕ, ℤ, length, IfNone, IfSome, IsSome, IsTrue, IsAscii, decimal};
 ghost use Rattle.std.specs.Str.Parse.{IsNumeral, starts_with_minus};
-ghost use Rattle.gixobj_actor.specs.Date.{IsOffset, IsOffsetText, IsSecondsText, IsTimeText, IsNoTimeText, offset_text, seconds_digits, signed, time_text, two_digits};
+ghost use Rattle.gixobj_actor.specs.Date.{IsOffset, DecodesToOffset, DecodesToSeconds, DecodesToTime, IsMalformedTime, encode_offset, seconds_digits, signed, encode_time, two_digits};
 ghost use Rattle.gixobj_hash.specs.Bytes.{space};
 
-use gixobj_fields::short::ShortText;
-use gixobj_hash::texts::{are_digits, number_from_digits, split_at_byte};
+use gixobj_fields::short::ShortString;
+use gixobj_hash::split::{are_digits, number_from_digits, split_at_byte};
 use itoa::Buffer;
 use std::marker::Model;
 
-/// A time: seconds since the start of 1970 in UTC, and the offset of the place from UTC.
+/// A time: seconds since the epoch, which is the start of 1970 in UTC, and an offset from UTC.
 ///
-/// The offset is always one that a time's text can say: whole minutes, at most 99 hours and 59
-/// minutes either way. Times compare by their seconds first.
+/// The offset is one that an encoded time can have: a multiple of 60 seconds, at most 99 hours and 59
+/// minutes in either direction. Times compare by their seconds first. [`Time::new`] makes one, and
+/// [`parse_header`] decodes one.
 #[derive(Clone, Copy, Debug, PartialEq, Eq, PartialOrd, Ord, Hash)]
 pub struct Time {
-    /// Seconds since the start of 1970 in UTC, below zero before that.
+    /// Seconds since the epoch, negative before it.
     pub seconds: i64,
-    /// Seconds east of UTC, below zero in the west.
+    /// The offset in seconds east of UTC, negative in the west.
     pub offset: i32,
-    pub ghost whole_minutes: { IsOffset offset },
+    pub ghost full_minutes: { IsOffset offset },
 }
 
 /// Initialization
 impl Time {
-    /// The time of these seconds and this offset, or none where the offset is not of whole minutes or
-    /// is past 99 hours and 59 minutes either way.
+    /// Makes the time of these seconds and this offset, both in seconds.
+    ///
+    /// Returns `None` unless the offset is a multiple of 60 seconds, at most 99 hours and 59 minutes in
+    /// either direction.
     pub fn new(seconds: i64, offset: i32) -> Option<Time>
         ensures accepts { IsSome result ↔ IsOffset offset }
         ensures value { IfSome result (λ time. (time.seconds ≡ seconds) × (time.offset ≡ offset)) }
@@ -41,12 +44,15 @@ impl Time {
 
 /// Conversion
 impl Time {
-    /// The text of the time: seconds in decimal, a space, the offset's sign (`+` for 0), two digits of
-    /// hours and two of minutes. At most 26 bytes. The result borrows the buffer, of whose bytes nothing
-    /// is said afterwards.
+    /// Encodes the time into a buffer.
+    ///
+    /// The encoding has the seconds in decimal, a space, and the offset. The offset is its sign (`+` for
+    /// 0), two digits of hours and two of minutes. An encoded time has at most 26 bytes.
+    ///
+    /// The result borrows the buffer. The contract leaves the contents of the buffer unspecified.
     pub fn to_str<'a>(&self, buf: &'a mut TimeBuf) -> &'a str
-        ensures text { result.now ≡ time_text self.now.seconds self.now.offset }
-        ensures short { length result.now ≤ 26 }
+        ensures encoded { result.now ≡ encode_time self.now.seconds self.now.offset }
+        ensures max_len { length result.now ≤ 26 }
     {
         buf.hold(*self);
         buf.as_str()
@@ -55,24 +61,24 @@ impl Time {
 
 /// Writing
 impl Time {
-    /// Puts its text at the end.
+    /// Appends the encoded time.
     #[inline(always)]
     #[tactic(auto, using(crate::proofs::TimeSizes::joined_ascii))]
-    pub(crate) fn push_text(&self, text: &mut ShortText)
-        requires room { length text.old ≤ 6 }
-        ensures text { text.new ≡ text.old ++ time_text self.now.seconds self.now.offset }
-        ensures ascii { IsAscii (time_text self.now.seconds self.now.offset) }
-        ensures short { length (time_text self.now.seconds self.now.offset) ≤ 26 }
+    pub(crate) fn push_encoded(&self, buffer: &mut ShortString)
+        requires has_capacity { length buffer.old ≤ 6 }
+        ensures encoded { buffer.new ≡ buffer.old ++ encode_time self.now.seconds self.now.offset }
+        ensures ascii { IsAscii (encode_time self.now.seconds self.now.offset) }
+        ensures max_len { length (encode_time self.now.seconds self.now.offset) ≤ 26 }
     {
         let mut digits = Buffer::new();
-        text.extend(digits.format(self.seconds).as_bytes());
-        text.extend(&self.offset_bytes());
+        buffer.extend(digits.format(self.seconds).as_bytes());
+        buffer.extend(&self.offset_bytes());
     }
 
-    /// A space, and the text of the offset.
+    /// Encodes a space and the offset.
     #[inline(always)]
     fn offset_bytes(&self) -> [u8; 6]
-        ensures text { result ≡ space ∷ offset_text self.now.offset }
+        ensures encoded { result ≡ space ∷ encode_offset self.now.offset }
         ensures ascii { IsAscii result }
     {
         let sign = if self.offset < 0 { b'-' } else { b'+' };
@@ -82,12 +88,12 @@ impl Time {
         [b' ', sign, hour_tens, hour_ones, minute_tens, minute_ones]
     }
 
-    /// How many bytes its text has.
+    /// Returns the length of the encoded time, in bytes.
     #[inline(always)]
     #[tactic(auto, using(crate::proofs::TimeSizes::length_of_time))]
-    pub(crate) fn text_len(&self) -> u64
-        ensures is { result ≡ length (time_text self.now.seconds self.now.offset) }
-        ensures few { result ≤ 27 }
+    pub(crate) fn encoded_len(&self) -> u64
+        ensures is { result ≡ length (encode_time self.now.seconds self.now.offset) }
+        ensures bounded { result ≤ 27 }
     {
         u64::from(self.seconds < 0) + digit_count(self.seconds.unsigned_abs()) + OFFSET_LEN
     }
@@ -98,7 +104,7 @@ impl Default for Time {
 
     ghost is_default = { λ time. (time.seconds ≡ pos 0) × (time.offset ≡ pos 0) };
 
-    /// The start of 1970 in UTC.
+    /// Returns the epoch: the start of 1970 in UTC.
     fn default() -> Time {
         Time {
             seconds: 0,
@@ -107,30 +113,32 @@ impl Default for Time {
     }
 }
 
-/// The time that a text says, or none: at most a minus and one digit or more, whose number fits an
-/// `i64`, one space, a plus or a minus, two digits of hours and two of minutes up to 59.
-pub fn parse_header(text: &[u8]) -> Option<Time>
-    ensures found { IfSome result (λ time. IsTimeText text.now time.seconds time.offset) }
-    ensures none { IfNone result (IsNoTimeText text.now) }
+/// Decodes a time, or returns `None` if the bytes are malformed.
+///
+/// The seconds are at most a minus and then at least one digit, and fit an `i64`. One space follows. The
+/// offset is a plus or a minus, two digits of hours, and two digits of minutes up to 59.
+pub fn parse_header(input: &[u8]) -> Option<Time>
+    ensures found { IfSome result (λ time. DecodesToTime input.now time.seconds time.offset) }
+    ensures none { IfNone result (IsMalformedTime input.now) }
 {
-    let (seconds, offset) = split_at_byte(text, b' ')?;
-    let seconds = seconds_from_text(seconds)?;
-    let offset = offset_from_text(offset)?;
+    let (seconds, offset) = split_at_byte(input, b' ')?;
+    let seconds = seconds_from_bytes(seconds)?;
+    let offset = offset_from_bytes(offset)?;
     Time::new(seconds, offset)
 }
 
-/// The greatest offset, 99 hours and 59 minutes, in seconds.
+/// The maximum offset, 99 hours and 59 minutes, in seconds.
 const GREATEST_OFFSET: i32 = 359_940;
 
-/// How many bytes a space and the text of an offset have.
+/// The length of a space and an encoded offset, in bytes.
 const OFFSET_LEN: u64 = 6;
 
-/// How many digits a number has. Ten is looked at first: so many have the seconds since 2001.
+/// Returns the number of digits. It tests for ten digits first, which the seconds since 2001 have.
 #[inline(always)]
 #[tactic(auto, using(crate::proofs::TimeSizes::ten_digits))]
 fn digit_count(number: u64) -> u64
     ensures is { result ≡ length (decimal number) }
-    ensures few { result ≤ 20 }
+    ensures bounded { result ≤ 20 }
 {
     if 1_000_000_000 <= number && number < 10_000_000_000 {
         10
@@ -139,11 +147,11 @@ fn digit_count(number: u64) -> u64
     }
 }
 
-/// How many digits a number has, counted one by one.
+/// Returns the number of digits, counted one by one.
 #[tactic(auto, using(crate::proofs::TimeSizes::one_digit, crate::proofs::TimeSizes::digit_more, crate::proofs::TimeSizes::few_digits))]
 fn digits_counted(number: u64) -> u64
     ensures is { result ≡ length (decimal number) }
-    ensures few { result ≤ 20 }
+    ensures bounded { result ≤ 20 }
 {
     let mut count = 1;
     let mut rest = number;
@@ -154,12 +162,12 @@ fn digits_counted(number: u64) -> u64
     count
 }
 
-/// The seconds that a text says: at most a minus, and then digits.
-fn seconds_from_text(text: &[u8]) -> Option<i64>
-    ensures found { IfSome result (IsSecondsText text.now) }
-    ensures none { IfNone result ((seconds : ℤ) → ¬ IsSecondsText text.now seconds) }
+/// Decodes seconds: at most a minus, and then digits.
+fn seconds_from_bytes(input: &[u8]) -> Option<i64>
+    ensures found { IfSome result (DecodesToSeconds input.now) }
+    ensures none { IfNone result ((seconds : ℤ) → ¬ DecodesToSeconds input.now seconds) }
 {
-    let (is_negative, digits) = split_minus(text);
+    let (is_negative, digits) = split_minus(input);
     if digits.is_empty() || !are_digits(digits) {
         return None;
     }
@@ -171,21 +179,21 @@ fn seconds_from_text(text: &[u8]) -> Option<i64>
     }
 }
 
-/// Whether a minus stands first, and what stands after it.
-fn split_minus(text: &[u8]) -> (bool, &[u8])
-    ensures minus { result.0 ≡ starts_with_minus text.now }
-    ensures digits { result.1.now ≡ seconds_digits text.now }
+/// Returns whether the bytes begin with a minus, and the bytes after it.
+fn split_minus(input: &[u8]) -> (bool, &[u8])
+    ensures minus { result.0 ≡ starts_with_minus input.now }
+    ensures digits { result.1.now ≡ seconds_digits input.now }
 {
-    match text {
+    match input {
         [b'-', digits @ ..] => (true, digits),
-        _ => (false, text),
+        _ => (false, input),
     }
 }
 
-/// The offset in seconds that a text says: a sign, two digits of hours, two of minutes.
-fn offset_from_text(text: &[u8]) -> Option<i32>
-    ensures found { IfSome result (IsOffsetText text.now) }
-    ensures none { IfNone result ((offset : ℤ) → ¬ IsOffsetText text.now offset) }
+/// Decodes an offset, in seconds: a sign, two digits of hours, two of minutes.
+fn offset_from_bytes(input: &[u8]) -> Option<i32>
+    ensures found { IfSome result (DecodesToOffset input.now) }
+    ensures none { IfNone result ((offset : ℤ) → ¬ DecodesToOffset input.now offset) }
 {
     let [
         sign @ (b'+' | b'-'),
@@ -193,7 +201,7 @@ fn offset_from_text(text: &[u8]) -> Option<i32>
         hour_ones,
         minute_tens,
         minute_ones,
-    ] = text
+    ] = input
     else {
         return None;
     };
@@ -205,7 +213,7 @@ fn offset_from_text(text: &[u8]) -> Option<i32>
     Some(offset_of(*sign == b'-', hours, minutes))
 }
 
-/// The offset of this sign and size, in seconds.
+/// Returns the offset of this sign, hours and minutes, in seconds.
 fn offset_of(is_minus: bool, hours: u8, minutes: u8) -> i32
     requires hours { hours < 100 }
     requires minutes { minutes < 60 }
@@ -215,7 +223,7 @@ fn offset_of(is_minus: bool, hours: u8, minutes: u8) -> i32
     if is_minus { -size } else { size }
 }
 
-/// The number that two digits spell.
+/// Decodes a number of two digits.
 fn number_from_two_digits(tens: u8, ones: u8) -> Option<u8>
     ensures found { IfSome result (λ number. (number < 100)
         × (two_digits number ≡ tens ∷ ones ∷ [])) }
@@ -229,7 +237,7 @@ fn number_from_two_digits(tens: u8, ones: u8) -> Option<u8>
     }
 }
 
-/// The two digits of a number below a hundred.
+/// Encodes a number below 100 as two digits.
 fn two_digits_of(number: u8) -> [u8; 2]
     requires { number < 100 }
     ensures digits { result ≡ two_digits number }
@@ -238,10 +246,12 @@ fn two_digits_of(number: u8) -> [u8; 2]
     [b'0' + number / 10, b'0' + number % 10]
 }
 
-/// Room for the text of a time.
+/// A buffer for an encoded time, which has at most 26 bytes.
+///
+/// [`TimeBuf::new`] makes one. [`Time::to_str`] and [`crate::actor::Signature::to_ref`] store a time in it.
 #[derive(Drop)]
 pub struct TimeBuf {
-    text: ShortText,
+    buffer: ShortString,
 }
 
 impl Model for TimeBuf {
@@ -249,47 +259,47 @@ impl Model for TimeBuf {
 
     ghost Value = { List ℕ };
 
-    ghost view = { λ it. it.text };
+    ghost view = { λ it. it.buffer };
 
-    ghost invariant = { λ it. (length it.text ≤ 26) × IsAscii it.text };
+    ghost invariant = { λ it. (length it.buffer ≤ 26) × IsAscii it.buffer };
 }
 
 impl TimeBuf {
-    /// Room that holds no text yet.
+    /// Makes an empty buffer.
     pub fn new() -> TimeBuf
         ensures { result ≡ [] }
     {
         TimeBuf {
-            text: ShortText::new(),
+            buffer: ShortString::new(),
         }
     }
 
-    /// The text that it holds.
+    /// Returns the encoded time in the buffer, or the empty string if it has none.
     pub fn as_str(&self) -> &str
-        ensures text { result.now ≡ self.now }
-        ensures short { length result.now ≤ 26 }
+        ensures encoded { result.now ≡ self.now }
+        ensures max_len { length result.now ≤ 26 }
     {
-        match str::from_utf8(self.text.as_bytes()) {
-            Ok(text) => text,
+        match str::from_utf8(self.buffer.as_bytes()) {
+            Ok(string) => string,
             Err(_) => unreachable!(),
         }
     }
 
-    /// Holds the text of this time from now on.
+    /// Stores the encoded time in the buffer.
     fn hold(&mut self, time: Time)
-        ensures { self.new ≡ time_text time.seconds time.offset }
+        ensures { self.new ≡ encode_time time.seconds time.offset }
     {
-        let mut text = ShortText::new();
-        time.push_text(&mut text);
-        *self = TimeBuf { text };
+        let mut buffer = ShortString::new();
+        time.push_encoded(&mut buffer);
+        *self = TimeBuf { buffer };
     }
 
-    /// The text of this time, which it holds from now on, as bytes.
+    /// Stores the encoded time in the buffer, and returns its bytes.
     pub(crate) fn bytes_of(&mut self, time: Time) -> &[u8]
-        ensures { result.now ≡ time_text time.seconds time.offset }
+        ensures { result.now ≡ encode_time time.seconds time.offset }
     {
         self.hold(time);
-        self.text.as_bytes()
+        self.buffer.as_bytes()
     }
 }
 

@@ -1,4 +1,4 @@
-//! Actors and times, as the headers of commits and tags have them.
+//! Actors and times, as the headers of commits and tags have them: decoded and encoded.
 #![tactic(auto)]
 
 pub mod actor;

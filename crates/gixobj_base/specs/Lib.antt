@@ -4,7 +4,7 @@ pub use Rattle.gixobj_actor.specs.Date
 pub use Rattle.gixobj_actor.specs.declared as actor
 pub use Rattle.gixobj_fields.specs.FieldWriting
 pub use Rattle.gixobj_fields.specs.HeaderReading
-pub use Rattle.gixobj_fields.specs.HeaderText
+pub use Rattle.gixobj_fields.specs.HeaderFormat
 pub use Rattle.gixobj_fields.specs.Runs
 pub use Rattle.gixobj_fields.specs.StreamHash
 pub use Rattle.gixobj_fields.specs.Streams
@@ -15,13 +15,13 @@ pub use Rattle.gixobj_hash.specs.Decode
 pub use Rattle.gixobj_hash.specs.Encode
 pub use Rattle.gixobj_hash.specs.Hash
 pub use Rattle.gixobj_hash.specs.Kind
-pub use Rattle.gixobj_hash.specs.Texts
+pub use Rattle.gixobj_hash.specs.ByteStrings
 pub use Rattle.gixobj_hash.specs.declared as hash
 pub use Rattle.gixobj_mode.specs.Mode
 pub use Rattle.gixobj_mode.specs.ModeNumber
 pub use Rattle.gixobj_mode.specs.declared as mode
 pub use Rattle.gixobj_tree.specs.Entries
 pub use Rattle.gixobj_tree.specs.EntryOrder
-pub use Rattle.gixobj_tree.specs.TreeText
+pub use Rattle.gixobj_tree.specs.TreeEncoding
 pub use Rattle.gixobj_tree.specs.WellFormed
 pub use Rattle.gixobj_tree.specs.declared as tree

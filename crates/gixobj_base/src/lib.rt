@@ -1,9 +1,8 @@
-//! Git's objects as bytes, the ground floor: object ids, the kinds of objects, the header of a loose
-//! object, actors and times, read and written; trees and blobs, written.
+//! Decodes and encodes object ids, loose headers with their kinds, actors and times. Encodes trees and
+//! blobs.
 //!
-//! It has no code: it re-exports what the crates below it have, under the names by which users know it.
-//! Their modules are [`gixobj_hash`], [`gixobj_fields`], [`gixobj_actor`], [`gixobj_mode`] and
-//! [`gixobj_tree`].
+//! This crate has no code. It re-exports the crates below it, under the names that users know. Their
+//! modules are [`gixobj_hash`], [`gixobj_fields`], [`gixobj_actor`], [`gixobj_mode`] and [`gixobj_tree`].
 #![tactic(auto)]
 
 pub mod encode;

@@ -1,4 +1,4 @@
-//! Actors made by hand, and a writer that fails.
+//! Actors from their fields: illegal names, copies, order, and failing writers.
 
 use crate::limited::Limited;
 use bstr::BStr;
@@ -7,7 +7,7 @@ use gixobj_base::date::TimeBuf;
 use gixobj_base::encode::Error;
 use std::alloc::Global;
 
-/// Whether an actor is refused, owned and borrowed, and nothing is written of it.
+/// Returns whether both forms of an actor fail with `IllegalActor` and write nothing.
 fn is_illegal(alloc: Global, actor: &SignatureRef<'_>) -> bool {
     let Ok(owned) = actor.to_owned(alloc) else {
         return false;
@@ -19,7 +19,7 @@ fn is_illegal(alloc: Global, actor: &SignatureRef<'_>) -> bool {
 }
 
 #[test]
-fn newlines_that_cannot_be_written(rt: HostRuntime) {
+fn rejects_newline_in_name(rt: HostRuntime) {
     let actor = SignatureRef {
         name: BStr::new(b"A\nB"),
         email: BStr::new(b"a@b"),
@@ -28,7 +28,7 @@ fn newlines_that_cannot_be_written(rt: HostRuntime) {
     assert!(rt; is_illegal(rt.alloc(), &actor));
 }
 
-/// Whether an actor is the same where it is copied, copied once more and borrowed again.
+/// Returns whether `to_owned`, `to_ref` and `clone` leave an actor unchanged.
 fn is_kept(alloc: Global, actor: &SignatureRef<'_>) -> bool {
     let Ok(owned) = actor.to_owned(alloc) else {
         return false;
@@ -38,7 +38,7 @@ fn is_kept(alloc: Global, actor: &SignatureRef<'_>) -> bool {
 }
 
 #[test]
-fn owned_and_borrowed_again(rt: HostRuntime) {
+fn owned_copies_keep_fields(rt: HostRuntime) {
     let actor = SignatureRef {
         name: BStr::new(b"A"),
         email: BStr::new(b"a@b"),
@@ -53,7 +53,7 @@ fn owned_and_borrowed_again(rt: HostRuntime) {
 }
 
 #[test]
-fn writers_that_fail(rt: HostRuntime) {
+fn returns_writer_error_after_each_prefix(rt: HostRuntime) {
     let line: &[u8] = b"A <a@b> 1 +0530";
     let actor = SignatureRef {
         name: BStr::new(b"A"),

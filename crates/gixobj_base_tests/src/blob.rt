@@ -1,11 +1,11 @@
-//! Blobs.
+//! Blobs: borrowed and owned forms, order, and writing.
 
 use crate::limited::Limited;
 use gixobj_base::{Blob, BlobRef, Kind, WriteTo};
 use std::test::Fail;
 
 #[test]
-fn a_blob_borrowed_and_owned(rt: HostRuntime) -> Result<(), Fail> {
+fn converts_between_borrowed_and_owned(rt: HostRuntime) -> Result<(), Fail> {
     let borrowed = BlobRef::from_bytes(b"hello");
     assert!(rt; borrowed.bytes == b"hello".as_slice());
     let mut owned = borrowed.into_owned(rt.alloc())?;
@@ -16,7 +16,7 @@ fn a_blob_borrowed_and_owned(rt: HostRuntime) -> Result<(), Fail> {
 }
 
 #[test]
-fn blobs_in_order(rt: HostRuntime) -> Result<(), Fail> {
+fn blobs_compare_by_bytes(rt: HostRuntime) -> Result<(), Fail> {
     let owned = BlobRef::from_bytes(b"hello world").into_owned(rt.alloc())?;
     assert!(rt; BlobRef::from_bytes(b"hello") < owned.to_ref());
     let copy = owned.to_ref().into_owned(rt.alloc())?;
@@ -31,7 +31,7 @@ fn blobs_in_order(rt: HostRuntime) -> Result<(), Fail> {
 }
 
 #[test]
-fn an_owned_blob_written(rt: HostRuntime) -> Result<(), Fail> {
+fn writes_owned_blob(rt: HostRuntime) -> Result<(), Fail> {
     let alloc = rt.alloc();
     let owned = BlobRef::from_bytes(b"hello").into_owned(alloc)?;
     assert!(rt; owned.kind() == Kind::Blob);
@@ -43,7 +43,7 @@ fn an_owned_blob_written(rt: HostRuntime) -> Result<(), Fail> {
 }
 
 #[test]
-fn a_writer_that_fails(rt: HostRuntime) -> Result<(), Fail> {
+fn returns_writer_error_after_prefix(rt: HostRuntime) -> Result<(), Fail> {
     let owned = BlobRef::from_bytes(b"hello").into_owned(rt.alloc())?;
     let (held, room) = (Vec::new(rt.alloc()), 4);
     let mut writer = Limited { held, room };

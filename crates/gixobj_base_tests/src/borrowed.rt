@@ -1,4 +1,4 @@
-//! What is borrowed: ids, which are told and hashed as the owned ones, and values of one line.
+//! Borrowed ids, which have the properties and hashes of owned ids, and borrowed header values of one line.
 
 use gixobj_base::hash::ObjectId;
 use gixobj_base::parse::any_header_field;
@@ -12,7 +12,7 @@ fn hash_of<T: Hash>(value: &T) -> u64 {
     state.finish()
 }
 
-/// The id that is all but null, and those of the blob and of the tree without content.
+/// An id that is almost null, and the ids of the empty blob and the empty tree.
 const IDS: &[&str] = &[
     "0000000000000000000000000000000000000001",
     "e69de29bb2d1d6434b8b29ae775ad8c2e48c5391",
@@ -21,7 +21,7 @@ const IDS: &[&str] = &[
     "6ef19b41225c5369f1c104d45d8d85efa9b057b53b14b4b9b939dd74decc5321",
 ];
 
-/// Whether an id is told and hashed alike, borrowed and owned.
+/// Returns whether an id has the same properties and hash, borrowed and owned.
 fn is_alike(hex: &str) -> bool {
     let Some(id) = ObjectId::from_hex(hex.as_bytes()) else {
         return false;
@@ -32,22 +32,22 @@ fn is_alike(hex: &str) -> bool {
 }
 
 #[test]
-fn ids(rt: HostRuntime) {
+fn borrowed_ids_have_properties_of_owned(rt: HostRuntime) {
     for &hex in IDS {
         assert!(rt; is_alike(hex), "{hex}");
     }
 }
 
-/// Whether the value of the header with which a text begins is borrowed.
-fn is_borrowed(alloc: Global, text: &[u8]) -> Option<bool> {
-    match any_header_field(alloc, text) {
+/// Returns whether the value of the first header is borrowed; `None` if the header is invalid.
+fn is_borrowed(alloc: Global, bytes: &[u8]) -> Option<bool> {
+    match any_header_field(alloc, bytes) {
         Ok(((_, value), _)) => Some(matches!(&value, CowSlice::Borrowed(_))),
         Err(_) => None,
     }
 }
 
 #[test]
-fn values_of_one_line(rt: HostRuntime) {
+fn borrows_value_of_one_line_only(rt: HostRuntime) {
     assert!(rt; is_borrowed(rt.alloc(), b"x A\n\nhi\n") == Some(true));
     assert!(rt; is_borrowed(rt.alloc(), b"x A\n B\n\nhi\n") == Some(false));
 }

@@ -3,7 +3,7 @@
 use gixobj_base::date::{Time, TimeBuf};
 
 #[test]
-fn first_time(rt: HostRuntime) {
+fn default_time_is_epoch(rt: HostRuntime) {
     assert!(rt; Time::new(0, 0) == Some(Time::default()));
     let mut buf = TimeBuf::default();
     assert!(rt; buf.as_str() == "");
@@ -11,7 +11,7 @@ fn first_time(rt: HostRuntime) {
     assert!(rt; buf.as_str() == "0 +0000");
 }
 
-/// Seconds and offsets, each before those beside them.
+/// Pairs of times in ascending order, each as seconds since 1970 and an offset in seconds.
 const ORDER: &[((i64, i32), (i64, i32))] = &[
     ((-1, 3600), (0, -60)),
     ((0, -60), (0, 0)),
@@ -20,7 +20,7 @@ const ORDER: &[((i64, i32), (i64, i32))] = &[
     ((-1, 0), (0, -60)),
 ];
 
-/// Whether both are times, and the first is before the other.
+/// Returns whether both pairs are valid times, and the first is less than the second.
 fn is_before(first: (i64, i32), second: (i64, i32)) -> bool {
     match (Time::new(first.0, first.1), Time::new(second.0, second.1)) {
         (Some(first), Some(second)) => first < second,
@@ -29,7 +29,7 @@ fn is_before(first: (i64, i32), second: (i64, i32)) -> bool {
 }
 
 #[test]
-fn order_of_times(rt: HostRuntime) {
+fn times_compare_by_seconds_then_offset(rt: HostRuntime) {
     for (at, &(first, second)) in ORDER.iter().enumerate() {
         assert!(rt; is_before(first, second), "{at}");
     }

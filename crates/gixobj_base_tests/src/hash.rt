@@ -4,7 +4,7 @@ use gixobj_base::hash::{Kind, ObjectId};
 use std::cmp::Ordering;
 use std::hash::{DefaultHasher, Hash, Hasher};
 
-/// The hash of a value.
+/// Returns the hash of a value.
 pub(crate) fn hash_of<T: Hash>(value: &T) -> u64 {
     let mut state = DefaultHasher::new();
     value.hash(&mut state);
@@ -12,7 +12,7 @@ pub(crate) fn hash_of<T: Hash>(value: &T) -> u64 {
 }
 
 #[test]
-fn order_and_hash_of_bytes(rt: HostRuntime) {
+fn ids_compare_and_hash_by_bytes(rt: HostRuntime) {
     let low = ObjectId::null(Kind::Sha256);
     let middle = ObjectId::empty_tree(Kind::Sha1);
     let high = ObjectId::empty_blob(Kind::Sha1);

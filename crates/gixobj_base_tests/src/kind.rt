@@ -1,10 +1,10 @@
-//! Kinds by their words, and the order of kinds and of headers.
+//! Kinds by name, and the order of kinds and of headers.
 
 use gixobj_base::Header;
 use gixobj_base::kind::Kind;
 
 #[test]
-fn headers_in_order(rt: HostRuntime) {
+fn headers_compare_by_kind_then_size(rt: HostRuntime) {
     let small = Header {
         kind: Kind::Blob,
         size: 5,
@@ -24,17 +24,17 @@ fn headers_in_order(rt: HostRuntime) {
 }
 
 #[test]
-fn kinds_of_words(rt: HostRuntime) {
-    assert!(rt; Kind::of_word(b"tree") == Some(Kind::Tree));
-    assert!(rt; Kind::of_word(b"blob") == Some(Kind::Blob));
-    assert!(rt; Kind::of_word(b"commit") == Some(Kind::Commit));
-    assert!(rt; Kind::of_word(b"tag") == Some(Kind::Tag));
-    assert!(rt; Kind::of_word(b"Tag").is_none());
-    assert!(rt; Kind::of_word(b"").is_none());
+fn parses_exact_names_only(rt: HostRuntime) {
+    assert!(rt; Kind::from_name(b"tree") == Some(Kind::Tree));
+    assert!(rt; Kind::from_name(b"blob") == Some(Kind::Blob));
+    assert!(rt; Kind::from_name(b"commit") == Some(Kind::Commit));
+    assert!(rt; Kind::from_name(b"tag") == Some(Kind::Tag));
+    assert!(rt; Kind::from_name(b"Tag").is_none());
+    assert!(rt; Kind::from_name(b"").is_none());
 }
 
 #[test]
-fn order_of_kinds(rt: HostRuntime) {
+fn kinds_ascend_from_tree_to_tag(rt: HostRuntime) {
     assert!(rt; Kind::Tree < Kind::Blob);
     assert!(rt; Kind::Blob < Kind::Commit);
     assert!(rt; Kind::Commit < Kind::Tag);

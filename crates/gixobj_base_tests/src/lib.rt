@@ -1,4 +1,4 @@
-//! Tests of `gixobj_base`, and a writer and a reader that fail, for the tests of the crates above.
+//! Tests of `gixobj_base`, and a failing writer and a failing reader for the tests of higher crates.
 #![tactic(auto)]
 
 #[cfg(test)]

@@ -1,13 +1,15 @@
-//! A writer that fails and a reader that does, for tests.
+//! A writer and a reader that fail, for tests.
 
 use gixobj_base::encode::Error;
 use std::io;
 use std::io::{ErrorKind, Read, Write};
 
-/// A writer with room for so many more bytes. It keeps what it takes.
+/// A writer that appends `room` more bytes to `held`, and then fails with `StorageFull`.
 #[derive(Drop)]
 pub struct Limited {
+    /// The bytes written so far.
     pub held: Vec<u8>,
+    /// How many more bytes are accepted.
     pub room: usize,
 }
 
@@ -28,17 +30,23 @@ impl Write for Limited {
 }
 
 impl Limited {
-    /// Whether writing ended with this writer's failure, and it holds exactly so many bytes of a text.
-    pub fn stopped_at(&self, outcome: &Result<(), Error>, text: &[u8], room: usize) -> bool {
-        matches!(outcome, Err(Error::Writer(_))) && Some(self.held.as_slice()) == text.get(..room)
+    /// Returns whether `outcome` is a writer's error and `held` is the first `room` bytes of `content`.
+    pub fn stopped_at(&self, outcome: &Result<(), Error>, content: &[u8], room: usize) -> bool {
+        matches!(outcome, Err(Error::Writer(_)))
+            && Some(self.held.as_slice()) == content.get(..room)
     }
 }
 
-/// A reader that gives at most `step` bytes a time, and then fails or ends.
+/// A reader that returns at most `step` bytes of `rest` per call.
+///
+/// After the last byte it ends or, if `fails`, fails with `ConnectionReset`.
 #[derive(Drop)]
 pub struct Stepping<'a> {
+    /// The remaining bytes.
     pub rest: &'a [u8],
+    /// The maximum number of bytes per call.
     pub step: usize,
+    /// Whether it fails after the last byte.
     pub fails: bool,
 }
 
@@ -48,8 +56,8 @@ impl Read for Stepping<'_> {
             return Err(io::Error::from(ErrorKind::ConnectionReset));
         }
         let count = self.step.min(self.rest.len()).min(buf.len());
-        let (front, rest) = self.rest.split_at(count);
-        buf[..count].copy_from_slice(front);
+        let (prefix, rest) = self.rest.split_at(count);
+        buf[..count].copy_from_slice(prefix);
         self.rest = rest;
         Ok(count)
     }

@@ -1,11 +1,11 @@
-//! The content of loose objects, by the rule of gitformat-loose: `<kind> <size>`, a zero byte, and as many bytes.
+//! The content of loose objects (gitformat-loose): `<kind> <size>`, a zero byte, and `size` bytes.
 
 use gixobj_base::Kind;
 use gixobj_base::decode::{LooseContentError, LooseHeaderDecodeError, loose_content};
 use std::test::Fail;
 
 #[test]
-fn contents(rt: HostRuntime) -> Result<(), Fail> {
+fn decodes_kind_and_content(rt: HostRuntime) -> Result<(), Fail> {
     let alloc = rt.alloc();
     let rows: [(&[u8], Kind, &[u8]); 3] = [
         (b"blob 6\0hello\n", Kind::Blob, b"hello\n"),
@@ -20,14 +20,14 @@ fn contents(rt: HostRuntime) -> Result<(), Fail> {
 }
 
 #[test]
-fn refusals(rt: HostRuntime) -> Result<(), Fail> {
+fn rejects_short_content_and_invalid_header(rt: HostRuntime) -> Result<(), Fail> {
     let alloc = rt.alloc();
     let short = loose_content(alloc, b"blob 7\0hello\n")
         .err()
         .ok_or("short")?;
     assert!(rt; matches!(&short, LooseContentError::Short { size: 7 }));
-    let told = short.to_string(alloc)?;
-    assert!(rt; told.as_str() == "fewer than 7 bytes behind the header of an object");
+    let message = short.to_string(alloc)?;
+    assert!(rt; message.as_str() == "fewer than 7 bytes behind the header of an object");
     let largest = loose_content(alloc, b"blob 18446744073709551615\0")
         .err()
         .ok_or("short")?;

@@ -35,9 +35,9 @@ mod of_kind {
 
 mod of_laws {
     pub use gixobj_base::laws::{
-        actor_line_has_one_reading, actor_reads_back, header_fields_have_one_reading,
-        hex_reads_back, hex_writes_back, loose_header_reads_back, mode_reads_back, time_reads_back,
-        writers_fail_as_their_sinks,
+        actor_line_decodes_uniquely, actor_round_trips, header_field_decodes_uniquely,
+        hex_reencodes_identically, hex_round_trips, loose_header_round_trips, mode_round_trips,
+        time_round_trips, write_error_implies_sink_error,
     };
 }
 

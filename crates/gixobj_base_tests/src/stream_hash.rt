@@ -1,4 +1,4 @@
-//! Ids of objects whose content comes from a stream, as `git hash-object` answers them.
+//! Ids of objects whose content comes from a stream, compared with those of `git hash-object`.
 
 use crate::limited::Stepping;
 use gixobj_base::hash::ObjectId;
@@ -10,8 +10,8 @@ use std::test::Fail;
 
 const HELLO: &[u8] = b"ce013625030ba8dba906f756967f9e9ca394464a";
 
-/// A reader that gives one byte a time, and then fails or ends.
-fn bytes_of(rest: &[u8], fails: bool) -> Stepping<'_> {
+/// Returns a reader of one byte per call, which then fails or ends.
+fn byte_reader(rest: &[u8], fails: bool) -> Stepping<'_> {
     Stepping {
         rest,
         step: 1,
@@ -19,13 +19,13 @@ fn bytes_of(rest: &[u8], fails: bool) -> Stepping<'_> {
     }
 }
 
-/// The id of a blob by SHA-1 of the next `len` bytes.
+/// Returns the SHA-1 id of a blob of the next `len` bytes.
 fn blob_id<R: Read>(stream: &mut R, len: u64) -> Result<ObjectId, Error> {
     compute_stream_hash(hash::Kind::Sha1, Kind::Blob, stream, len)
 }
 
 #[test]
-fn a_beginning_of_a_stream(rt: HostRuntime) {
+fn hashes_prefix_of_stream(rt: HostRuntime) {
     let mut stream: &[u8] = b"hello\nrest";
     let id = blob_id(&mut stream, 6);
     assert!(rt; id.ok() == ObjectId::from_hex(HELLO));
@@ -33,7 +33,7 @@ fn a_beginning_of_a_stream(rt: HostRuntime) {
 }
 
 #[test]
-fn a_beginning_of_a_slice(rt: HostRuntime) {
+fn hashes_prefix_of_slice(rt: HostRuntime) {
     let mut slice: &[u8] = b"hello\nrest";
     let id = compute_slice_hash(hash::Kind::Sha1, Kind::Blob, &mut slice, 6);
     assert!(rt; id.ok() == ObjectId::from_hex(HELLO));
@@ -41,7 +41,7 @@ fn a_beginning_of_a_slice(rt: HostRuntime) {
 }
 
 #[test]
-fn a_beginning_of_a_source(rt: HostRuntime) {
+fn hashes_prefix_of_source(rt: HostRuntime) {
     let mut source: &[u8] = b"hello\nrest";
     let id = compute_source_hash(hash::Kind::Sha1, Kind::Blob, &mut source, 6);
     assert!(rt; id.ok() == ObjectId::from_hex(HELLO));
@@ -49,37 +49,38 @@ fn a_beginning_of_a_source(rt: HostRuntime) {
 }
 
 #[test]
-fn a_stream_that_ends_early(rt: HostRuntime) {
+fn returns_unexpected_eof_when_input_ends_early(rt: HostRuntime) {
     let mut stream: &[u8] = b"hello";
     assert!(rt; matches!(&blob_id(&mut stream, 6), Err(Error::UnexpectedEof)));
     assert!(rt; stream.is_empty());
     let mut slice: &[u8] = b"hello";
-    let refused = compute_slice_hash(hash::Kind::Sha1, Kind::Blob, &mut slice, 6);
-    assert!(rt; matches!(&refused, Err(Error::UnexpectedEof)));
+    let rejected = compute_slice_hash(hash::Kind::Sha1, Kind::Blob, &mut slice, 6);
+    assert!(rt; matches!(&rejected, Err(Error::UnexpectedEof)));
     assert!(rt; slice.is_empty());
 }
 
-/// A reader that fails or ends behind each front of `hello` and a newline.
+/// Fails with `Io` or `UnexpectedEof` if a reader fails or ends after a shorter prefix of `hello` and a
+/// newline.
 #[test]
-fn readers_that_fail(rt: HostRuntime) {
-    let text = b"hello\n".as_slice();
+fn returns_error_when_reader_fails_or_ends(rt: HostRuntime) {
+    let input = b"hello\n".as_slice();
     for count in 0..6usize {
-        let rest = &text[..count];
-        let mut failing = bytes_of(rest, true);
+        let rest = &input[..count];
+        let mut failing = byte_reader(rest, true);
         assert!(rt; matches!(&blob_id(&mut failing, 6), Err(Error::Io(_))));
-        let mut ending = bytes_of(rest, false);
+        let mut ending = byte_reader(rest, false);
         assert!(rt; matches!(&blob_id(&mut ending, 6), Err(Error::UnexpectedEof)));
     }
 }
 
-/// The reader is not asked for more than the content.
+/// Reads no byte after the content, from a reader that would fail there.
 #[test]
-fn a_reader_that_would_fail(rt: HostRuntime) {
-    let mut failing = bytes_of(b"hello\n", true);
+fn reads_nothing_after_content(rt: HostRuntime) {
+    let mut failing = byte_reader(b"hello\n", true);
     assert!(rt; blob_id(&mut failing, 6).ok() == ObjectId::from_hex(HELLO));
 }
 
-/// So many bytes: their numbers, from 0 to 250 again and again.
+/// Returns `len` bytes, which count from 0 to 250 again and again.
 fn content_of(alloc: Global, len: u64) -> Result<Vec<u8>, AllocError> {
     let mut content = Vec::new(alloc);
     for i in 0..len {
@@ -88,7 +89,7 @@ fn content_of(alloc: Global, len: u64) -> Result<Vec<u8>, AllocError> {
     Ok(content)
 }
 
-/// Lengths, kinds of ids, and the ids of blobs of so many bytes.
+/// Lengths of blobs from `content_of`, kinds of ids, and the ids of these blobs.
 const SIZES: &[(u64, hash::Kind, &str)] = &[
     (
         0,
@@ -132,24 +133,24 @@ const SIZES: &[(u64, hash::Kind, &str)] = &[
     ),
 ];
 
-/// Whether this is the id of a content, given whole, at once and byte by byte.
+/// Returns whether a content has this id, hashed as a slice, as a stream and byte by byte.
 fn has_id(content: &[u8], len: u64, hash: hash::Kind, want: &str) -> bool {
     let id = ObjectId::from_hex(want.as_bytes());
-    let mut bytes = bytes_of(content, true);
+    let mut reader = byte_reader(content, true);
     id == Some(compute_hash(hash, Kind::Blob, content))
-        && id == compute_stream_hash(hash, Kind::Blob, &mut bytes, len).ok()
-        && is_read_whole(content, len, hash, id)
+        && id == compute_stream_hash(hash, Kind::Blob, &mut reader, len).ok()
+        && is_read_entire(content, len, hash, id)
 }
 
-/// Whether a content is read whole, for this id.
-fn is_read_whole(content: &[u8], len: u64, hash: hash::Kind, id: Option<ObjectId>) -> bool {
+/// Returns whether a stream is read to its end, for this id.
+fn is_read_entire(content: &[u8], len: u64, hash: hash::Kind, id: Option<ObjectId>) -> bool {
     let mut stream = content;
     compute_stream_hash(hash, Kind::Blob, &mut stream, len).ok() == id && stream.is_empty()
 }
 
-/// Contents about as long as one buffer.
+/// Hashes contents with lengths near that of one buffer.
 #[test]
-fn sizes_about_a_buffer(rt: HostRuntime) -> Result<(), Fail> {
+fn hashes_sizes_near_buffer_length(rt: HostRuntime) -> Result<(), Fail> {
     for &(len, hash, want) in SIZES {
         let content = content_of(rt.alloc(), len)?;
         assert!(rt; has_id(&content, len, hash, want), "{len}");
@@ -157,12 +158,12 @@ fn sizes_about_a_buffer(rt: HostRuntime) -> Result<(), Fail> {
     Ok(())
 }
 
-/// A content of many buffers.
+/// Hashes a content of many buffers.
 #[test]
-fn ten_million_bytes(rt: HostRuntime) -> Result<(), Fail> {
+fn hashes_ten_million_bytes(rt: HostRuntime) -> Result<(), Fail> {
     let content = content_of(rt.alloc(), 10_000_000)?;
     let id = ObjectId::from_hex(b"95599bd33aac764385e09e5640f1a17e09df4e78");
-    assert!(rt; is_read_whole(&content, 10_000_000, hash::Kind::Sha1, id));
+    assert!(rt; is_read_entire(&content, 10_000_000, hash::Kind::Sha1, id));
     assert!(rt; Some(compute_hash(hash::Kind::Sha1, Kind::Blob, &content)) == id);
     Ok(())
 }

@@ -1,10 +1,10 @@
-//! Sources and sinks over memory.
+//! Sources and sinks in memory: slices and vectors.
 
 use gixobj_base::streams::{FromRead, Sink, Source, ToWrite};
 use std::test::Fail;
 
 #[test]
-fn slices_and_vectors(rt: HostRuntime) -> Result<(), Fail> {
+fn reads_slices_and_writes_vectors(rt: HostRuntime) -> Result<(), Fail> {
     let mut slice: &[u8] = b"abc";
     let mut chunk = [0u8; 2];
     assert!(rt; slice.read_some(&mut chunk)? == 2);
@@ -13,8 +13,8 @@ fn slices_and_vectors(rt: HostRuntime) -> Result<(), Fail> {
     assert!(rt; reader.read_some(&mut chunk)? == 1);
     assert!(rt; reader.read_some(&mut chunk)? == 0);
     let mut held = Vec::new(rt.alloc());
-    held.put(b"ab")?;
-    ToWrite(&mut held).put(b"c")?;
+    held.write_bytes(b"ab")?;
+    ToWrite(&mut held).write_bytes(b"c")?;
     assert!(rt; held.as_slice() == b"abc".as_slice());
     Ok(())
 }

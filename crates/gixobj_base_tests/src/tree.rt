@@ -1,4 +1,4 @@
-//! Entries and trees in order.
+//! The order of entries and of trees.
 
 mod write;
 
@@ -10,7 +10,7 @@ use std::alloc::{AllocError, Global};
 use std::cmp::Ordering;
 use std::test::Fail;
 
-/// An entry of this kind.
+/// Returns an entry of this kind.
 fn entry(alloc: Global, mode: EntryKind, name: &[u8], oid: ObjectId) -> Result<Entry, AllocError> {
     Ok(Entry {
         mode: mode.into(),
@@ -19,7 +19,7 @@ fn entry(alloc: Global, mode: EntryKind, name: &[u8], oid: ObjectId) -> Result<E
     })
 }
 
-/// Each entry comes before the next one.
+/// Returns a tree whose entries are in ascending order.
 fn ascending(alloc: Global) -> Result<Tree, AllocError> {
     let null = ObjectId::null(Kind::Sha1);
     let empty = ObjectId::empty_blob(Kind::Sha1);
@@ -40,7 +40,7 @@ fn ascending(alloc: Global) -> Result<Tree, AllocError> {
     Ok(tree)
 }
 
-/// Whether entries compare so, and are alike where they are equal.
+/// Returns whether entries compare as wanted, and are equal with one hash if and only if `Equal` is wanted.
 fn compare_as(first: &Entry, second: &Entry, wanted: Ordering) -> bool {
     first.cmp(second) == wanted
         && first.partial_cmp(second) == Some(wanted)
@@ -49,7 +49,7 @@ fn compare_as(first: &Entry, second: &Entry, wanted: Ordering) -> bool {
 }
 
 #[test]
-fn entries_in_order(rt: HostRuntime) -> Result<(), Fail> {
+fn entries_compare_in_tree_order(rt: HostRuntime) -> Result<(), Fail> {
     let tree = ascending(rt.alloc())?;
     for (at, first) in tree.entries.iter().enumerate() {
         for (other_at, second) in tree.entries.iter().enumerate() {

@@ -1,5 +1,4 @@
-//! Rows over bodies of messages that are made, each in three lengths: where reading takes time that grows with the
-//! length alone, the time a byte stays.
+//! Rows over generated bodies in three lengths. If time is linear in length, the time for a byte is constant.
 
 use crate::fault::Fault;
 use crate::rows::messages::{BlocksRead, TrailersRead};
@@ -7,8 +6,8 @@ use crate::rows::subject::Subject;
 use std::alloc::{AllocError, Global};
 use std::time::Clock;
 
-/// What a body repeats after its first paragraph, each with its word: one line of text, many, trailers, and lines of
-/// text and trailers in turn.
+/// The unit that a body repeats after its first paragraph, with its name: one line, many lines, trailers, and
+/// lines and trailers in turn.
 const SHAPES: &[(&str, &[u8])] = &[
     ("one-line", b"a"),
     ("lines", b"a\n"),
@@ -16,10 +15,10 @@ const SHAPES: &[(&str, &[u8])] = &[
     ("in-turn", b"a\nSigned-off-by: b\n"),
 ];
 
-/// How often a body repeats what it has.
+/// How often a body repeats its unit.
 const COUNTS: &[u32] = &[62_500, 250_000, 1_000_000];
 
-/// A body that has this so many times after its first paragraph.
+/// A body with `count` units after its first paragraph.
 fn body_of(alloc: Global, unit: &[u8], count: u32) -> Result<Vec<u8>, AllocError> {
     let mut body = Vec::new(alloc);
     body.extend_from_slice(b"A body.\n\n")?;
@@ -34,8 +33,8 @@ pub(crate) fn measure_all<R: Clock + Print + AllocGlobal>(
     rt: &R,
     rounds: u32,
 ) -> Result<(), Fault> {
-    for (word, unit) in SHAPES {
-        measure_shape(rt, rounds, word, unit)?;
+    for (name, unit) in SHAPES {
+        measure_shape(rt, rounds, name, unit)?;
     }
     Ok(())
 }
@@ -44,26 +43,26 @@ pub(crate) fn measure_all<R: Clock + Print + AllocGlobal>(
 fn measure_shape<R: Clock + Print + AllocGlobal>(
     rt: &R,
     rounds: u32,
-    word: &'static str,
+    name: &'static str,
     unit: &[u8],
 ) -> Result<(), Fault> {
     for count in COUNTS {
         let body = body_of(rt.alloc(), unit, *count)?;
-        measure_body(rt, rounds, word, &body)?;
+        measure_body(rt, rounds, name, &body)?;
     }
     Ok(())
 }
 
-/// Measures a body: its trailers read, and its messages.
+/// Measures the trailers of a body, and its messages.
 fn measure_body<R: Clock + Print + AllocGlobal>(
     rt: &R,
     rounds: u32,
-    word: &'static str,
+    name: &'static str,
     body: &[u8],
 ) -> Result<(), Fault> {
     let alloc = rt.alloc();
     let subject = Subject {
-        word,
+        name,
         rounds,
         count: 1,
         bytes: body.len() as u64,

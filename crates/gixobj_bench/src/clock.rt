@@ -1,20 +1,20 @@
-//! Times.
+//! Elapsed time and its format.
 
 use std::time::{Clock, Instant};
 use std::{fmt, io};
 
-/// How many nanoseconds have passed since then.
+/// The nanoseconds since `start`.
 pub(crate) fn nanos_since(clock: &impl Clock, start: Instant) -> io::Result<u64> {
     let nanos = start.elapsed(clock)?.as_nanos();
     Ok(u64::try_from(nanos).unwrap_or(u64::MAX))
 }
 
-/// A time divided by a count, as it is printed: with four digits behind the point.
+/// A time divided by a count, displayed with four decimal places.
 #[derive(Clone, Copy)]
 pub(crate) struct Each {
     /// The time, in nanoseconds.
     pub(crate) nanos: u64,
-    /// How many it is divided by; none count as one.
+    /// The divisor. Zero counts as one.
     pub(crate) count: u64,
 }
 

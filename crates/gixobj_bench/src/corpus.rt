@@ -1,5 +1,5 @@
-//! A file of objects, one behind the other: a byte of kind (0 a tree, 1 a blob, 2 a commit, 3 a tag), eight bytes of
-//! length, the least first, and as many bytes.
+//! Files of objects: a byte of kind (0 tree, 1 blob, 2 commit, 3 tag), a little-endian `u64` of length, and
+//! the encoding.
 
 use crate::fault::Fault;
 use gixobj_base::Kind;
@@ -16,7 +16,7 @@ fn kind_of(byte: u8) -> Option<Kind> {
     }
 }
 
-/// The kind and the text of the first object, and what follows it.
+/// Splits off the first object: its kind and its encoding, and the rest.
 fn first_object(file: &[u8]) -> Option<(Kind, &[u8], &[u8])> {
     let [kind, a, b, c, d, e, f, g, h, rest @ ..] = file else {
         return None;
@@ -30,21 +30,21 @@ fn first_object(file: &[u8]) -> Option<(Kind, &[u8], &[u8])> {
     Some((kind, &rest[..len], &rest[len..]))
 }
 
-/// The texts of the objects of a kind, in the order of the file. `NotObjects` where the file has anything else.
-pub(crate) fn texts_of(alloc: Global, wanted: Kind, file: &[u8]) -> Result<Vec<&[u8]>, Fault> {
-    let mut texts = Vec::new(alloc);
-    let mut left = file;
+/// The encodings of the objects of a kind, in the order of the file. `NotObjects` if the file is malformed.
+pub(crate) fn encodings_of(alloc: Global, wanted: Kind, file: &[u8]) -> Result<Vec<&[u8]>, Fault> {
+    let mut encodings = Vec::new(alloc);
+    let mut remaining = file;
     for _ in 0..file.len() {
-        if left.is_empty() {
+        if remaining.is_empty() {
             break;
         }
-        let Some((kind, text, rest)) = first_object(left) else {
+        let Some((kind, content, rest)) = first_object(remaining) else {
             return Err(Fault::NotObjects);
         };
         if kind == wanted {
-            texts.push(text)?;
+            encodings.push(content)?;
         }
-        left = rest;
+        remaining = rest;
     }
-    Ok(texts)
+    Ok(encodings)
 }

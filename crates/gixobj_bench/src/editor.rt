@@ -1,4 +1,4 @@
-//! Rows of the editor: files put into an editor of an empty tree, and its trees written.
+//! Rows of the editor: upserts of files into an empty tree, and the write of its trees.
 
 mod paths;
 
@@ -20,7 +20,7 @@ use std::time::{Clock, Instant};
 /// The id of each file.
 const FILE: &[u8] = b"83baae61804e65cc73a7201a7252750c76066a30";
 
-/// What is measured: where the files lie, and how many there are.
+/// The cases: the layout of the files, and their number.
 const CASES: &[(Shape, u32)] = &[
     (Shape::Nested(3), 10_000),
     (Shape::Nested(100), 1_000),
@@ -33,14 +33,14 @@ const CASES: &[(Shape, u32)] = &[
     (Shape::Alone, 20_000),
 ];
 
-/// What came of a round.
+/// The results of a round.
 #[derive(Clone, Copy)]
 struct Round {
-    /// How long the edits took, in nanoseconds.
+    /// The time of the upserts, in nanoseconds.
     upserts: u64,
-    /// How long the write took.
+    /// The time of the write, in nanoseconds.
     write: u64,
-    /// How many trees were handed out.
+    /// The number of emitted trees.
     trees: usize,
     /// The id of the root.
     root: ObjectId,
@@ -57,7 +57,7 @@ pub(crate) fn measure_all<R: Clock + Print + AllocGlobal>(
     Ok(())
 }
 
-/// Measures a case, and prints its two rows: the least time of the edits, and of the write.
+/// Measures a case and prints its two rows: the minimum time of the upserts, and of the write.
 fn measure_case<R: Clock + Print + AllocGlobal>(
     rt: &R,
     rounds: u32,
@@ -65,20 +65,20 @@ fn measure_case<R: Clock + Print + AllocGlobal>(
     files: u32,
 ) -> Result<(), Fault> {
     let Some(id) = ObjectId::from_hex(FILE) else {
-        return Err(Fault::Refused);
+        return Err(Fault::CallFailed);
     };
     let paths = paths_of(rt.alloc(), shape, files)?;
-    let mut least = measure_round(rt, &paths, id)?;
+    let mut minimum = measure_round(rt, &paths, id)?;
     for _ in 1..rounds {
         let round = measure_round(rt, &paths, id)?;
-        least.upserts = least.upserts.min(round.upserts);
-        least.write = least.write.min(round.write);
+        minimum.upserts = minimum.upserts.min(round.upserts);
+        minimum.write = minimum.write.min(round.write);
     }
-    print_row(rt, "upserts", shape, files, least.upserts, &least)?;
-    print_row(rt, "write", shape, files, least.write, &least)
+    print_row(rt, "upserts", shape, files, minimum.upserts, &minimum)?;
+    print_row(rt, "write", shape, files, minimum.write, &minimum)
 }
 
-/// Prints a row of a case: what was done, and in how many nanoseconds.
+/// Prints a row of a case: the work and its nanoseconds for a file.
 fn print_row<R: Print + AllocGlobal>(
     rt: &R,
     what: &str,
@@ -98,7 +98,7 @@ fn print_row<R: Print + AllocGlobal>(
     Ok(())
 }
 
-/// Puts the files into a new editor, and writes.
+/// Upserts the files in a new editor, and writes.
 fn measure_round<R: Clock + AllocGlobal>(
     rt: &R,
     paths: &[Vec<BString>],
@@ -107,7 +107,7 @@ fn measure_round<R: Clock + AllocGlobal>(
     let alloc = rt.alloc();
     let mut editor = Editor::new(Tree::empty(alloc), Never, Sha1);
     let start = Instant::now(rt)?;
-    put_all(&mut editor, paths, id)?;
+    upsert_all(&mut editor, paths, id)?;
     let upserts = nanos_since(rt, start)?;
     let start = Instant::now(rt)?;
     let written = write_all(alloc, &mut editor)?;
@@ -120,11 +120,15 @@ fn measure_round<R: Clock + AllocGlobal>(
     })
 }
 
-/// Puts the files into the editor.
-fn put_all(editor: &mut Editor<Never>, paths: &[Vec<BString>], id: ObjectId) -> Result<(), Fault> {
+/// Upserts the files.
+fn upsert_all(
+    editor: &mut Editor<Never>,
+    paths: &[Vec<BString>],
+    id: ObjectId,
+) -> Result<(), Fault> {
     for path in paths {
         let Ok(()) = editor.try_upsert(path, EntryKind::Blob, id) else {
-            return Err(Fault::Refused);
+            return Err(Fault::CallFailed);
         };
     }
     Ok(())
@@ -134,6 +138,6 @@ fn put_all(editor: &mut Editor<Never>, paths: &[Vec<BString>], id: ObjectId) -> 
 fn write_all(alloc: Global, editor: &mut Editor<Never>) -> Result<Written, Fault> {
     match editor.write(|tree: &Tree| tree.compute_id(alloc, Sha1)) {
         Ok(written) => Ok(written),
-        Err(_) => Err(Fault::Refused),
+        Err(_) => Err(Fault::CallFailed),
     }
 }

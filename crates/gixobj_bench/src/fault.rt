@@ -1,21 +1,21 @@
-//! Why nothing more is measured.
+//! The errors that end a measurement, and their exit statuses.
 
 use std::alloc::{AllocError, AllocFailed};
 use std::io;
 
-/// Why nothing more is measured.
+/// Why the measurement ends.
 #[derive(Debug, Drop, thiserror::Error)]
 pub(crate) enum Fault {
-    /// The words ask for nothing that the program does.
+    /// The arguments name no command.
     #[error("usage: gixobj_bench bench FILE ROUNDS | bodies ROUNDS | reports ROUNDS | editor ROUNDS")]
     Usage,
-    /// The file isn't objects, one behind the other.
+    /// The file is malformed: it isn't a sequence of objects.
     #[error("gixobj_bench: not a file of objects")]
     NotObjects,
-    /// A call refused what it was given, or found no memory.
+    /// A call rejected its input, or an allocation failed in it.
     #[error("gixobj_bench: a call was refused")]
-    Refused,
-    /// There was no memory.
+    CallFailed,
+    /// An allocation failed.
     #[error("gixobj_bench: out of memory")]
     OutOfMemory,
     /// The file, the clock or the output failed.
@@ -24,7 +24,7 @@ pub(crate) enum Fault {
 }
 
 impl Fault {
-    /// The exit status: 2 for words that ask for nothing, else 1.
+    /// The exit status: 2 for invalid arguments, else 1.
     pub(crate) fn status(&self) -> u8 {
         match self {
             Fault::Usage => 2,

@@ -1,9 +1,11 @@
-//! Measures the public calls. `gixobj_bench bench FILE ROUNDS` over the objects of a file, a row for each piece of
-//! work and each kind of object: read whole, piece by piece, written, sized, copied, digested, looked up, and
-//! the messages of commits. `gixobj_bench bodies ROUNDS` over bodies of messages that it makes, of up to a million
-//! lines. `gixobj_bench editor ROUNDS` over trees that it makes: files put in, and the trees written.
+//! Measures the public calls. `gixobj_bench bench FILE ROUNDS` prints a row for each kind of work on each
+//! kind of object in the file: decode, iterate, encode, size, copy, hash, look up, and the messages of
+//! commits. `gixobj_bench bodies ROUNDS` measures generated bodies of messages with up to a million lines.
+//! `gixobj_bench reports ROUNDS` measures reports of verifiers. `gixobj_bench editor ROUNDS` measures edits:
+//! upserts of files, and the write of the trees.
 #![tactic(auto)]
 
+mod arguments;
 mod bodies;
 mod clock;
 mod corpus;
@@ -12,13 +14,12 @@ mod fault;
 mod objects;
 mod reports;
 mod rows;
-mod words;
 
+use arguments::{Command, Measure, command_of_process};
 use fault::Fault;
 use std::fs;
 use std::io::Write;
 use std::process::ExitCode;
-use words::{Command, Measure, command_of_process};
 
 fn main(rt: HostRuntime) -> ExitCode {
     match run(&rt) {
@@ -30,7 +31,7 @@ fn main(rt: HostRuntime) -> ExitCode {
     }
 }
 
-/// Does what the words ask for.
+/// Runs the command of the arguments.
 fn run(rt: &HostRuntime) -> Result<(), Fault> {
     let Command { measure, rounds } = command_of_process(rt)?;
     match measure {

@@ -6,7 +6,7 @@ use crate::rows::subject::Subject;
 use std::alloc::{AllocError, Global};
 use std::time::Clock;
 
-/// A good signature, told by `gpg` (gnupg, doc/DETAILS).
+/// The report of `gpg` on a good signature (gnupg, doc/DETAILS).
 const GPG: &[u8] = b"[GNUPG:] NEWSIG\n\
 [GNUPG:] KEY_CONSIDERED 73D976D5C0F1A87E0D3D6A4E7C1B2A9F00112233 0\n\
 [GNUPG:] SIG_ID p2tF8tT0b9cEwq8m3Sx1UuYzV0o 2023-11-14 1700000000\n\
@@ -15,14 +15,14 @@ const GPG: &[u8] = b"[GNUPG:] NEWSIG\n\
 [GNUPG:] VALIDSIG 73D976D5C0F1A87E0D3D6A4E7C1B2A9F00112233 2023-11-14 1700000000 0 4 0 1 10 00 73D976D5C0F1A87E0D3D6A4E7C1B2A9F00112233\n\
 [GNUPG:] TRUST_ULTIMATE 0 pgp\n";
 
-/// A good signature, told by `ssh-keygen`.
+/// The report of `ssh-keygen` on a good signature.
 const SSH: &[u8] =
     b"Good \"git\" signature for author@example.org with ED25519 key SHA256:1q2w3e4r5t6y7u8i9o0pAzSxDcFvGbHnJmKlQwErTyU\n";
 
-/// How many reports of each kind are read.
+/// The number of reports of each kind.
 const COUNT: u32 = 1_000;
 
-/// Measures the readers of reports.
+/// Measures the parsers of reports.
 pub(crate) fn measure_all<R: Clock + Print + AllocGlobal>(
     rt: &R,
     rounds: u32,
@@ -34,17 +34,17 @@ pub(crate) fn measure_all<R: Clock + Print + AllocGlobal>(
     subject_of("ssh", rounds, SSH).row(rt, "report", &mut SshReportRead, &reports)
 }
 
-/// What a row over a report is about.
-fn subject_of(word: &'static str, rounds: u32, report: &[u8]) -> Subject {
+/// The subject of a row over a report.
+fn subject_of(name: &'static str, rounds: u32, report: &[u8]) -> Subject {
     Subject {
-        word,
+        name,
         rounds,
         count: COUNT as usize,
         bytes: (report.len() as u64).saturating_mul(u64::from(COUNT)),
     }
 }
 
-/// The same report as often as it is read.
+/// One part of `COUNT` copies of a report.
 fn copies_of(alloc: Global, report: &'static [u8]) -> Result<Vec<Vec<&'static [u8]>>, AllocError> {
     let mut copies = Vec::new(alloc);
     for _ in 0..COUNT {

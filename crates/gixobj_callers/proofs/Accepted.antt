@@ -1,14 +1,14 @@
--- What stands behind an outcome that is accepted.
+-- An accepted outcome implies the calls of a verification and their answers; the proof of `verified` uses it.
 use Rattle.std.proofs.Common.{◌≡◌, ◌⊎◌, ℕ, Bool, true, false, List, [], ◌∷◌, ◌++◌, ◌&&◌, ◌∙◌, Option, Some, None, Result, Ok, Err, IfOk, ap, cond, inl, inr, nat_eq, refl, subst, sym}
 use Rattle.std.specs.List.{filter_map, starts_with}
 use Rattle.std.specs.Prelude.{codes}
-use Rattle.gix_object.specs.GpgReports.{gpg_report, status_of, told_lines, verdict}
-use Rattle.gix_object.specs.Outcomes.{OutcomeView, is_good_status, is_trusted, judged, outcome_view}
+use Rattle.gix_object.specs.GpgReports.{gpg_report, status_of, status_lines, verdict}
+use Rattle.gix_object.specs.Outcomes.{OutcomeView, is_good_status, is_trusted, evaluated, outcome_view}
 use Rattle.gix_object.specs.Plans.{Carries, done}
 use Rattle.gix_object.specs.ProgramCalls.{Answer, CallView, OutputView, failed, no_memory, ran}
 use Rattle.gix_object.specs.SshReports.{ssh_report, ssh_status}
 use Rattle.gix_object.specs.Verifiers.{OptionsView, ProgramView, SshView, by_open_pgp, by_ssh, by_x509}
-use Rattle.gix_object.specs.Verifying.{ComesOf, Verified, accepts, gpg_verify_plan, human, mismatch, not_run, principals_in, reported, ssh_verified, ssh_verify_plan, tries, unsupported, verify_plan}
+use Rattle.gix_object.specs.Verifying.{IsOutcomeOf, Verified, accepts, gpg_verify_plan, human, mismatch, not_run, principals_in, reported, ssh_verified, ssh_verify_plan, tries, unsupported, verify_plan}
 use Rattle.gix_object.specs.VerifyingCalls.{open_pgp_call, principal_call, x509_call}
 use Rattle.gix_object.specs.report.report.Outcome.{Outcome}
 use Rattle.gix_object.specs.report.report.Status.{Status}
@@ -16,11 +16,11 @@ use Rattle.gix_object.specs.report.report.Status.TheVariants as status
 use Rattle.gix_object.specs.report.report.TrustLevel.{TrustLevel}
 use Rattle.gix_object.specs.report.report.TrustLevel.TheVariants as trust
 use Rattle.gix_object.specs.signature.signature.verify.Error.{Error}
-use Rattle.gix_object.specs.text.signature.Format.{Format}
-use Rattle.gix_object.specs.text.signature.Format.TheVariants as format
-use Rattle.gixobj_callers.specs.Releases.{AcceptsPrincipal, AsksInVain, ReportsGood, Vouches}
+use Rattle.gix_object.specs.message.signature.Format.{Format}
+use Rattle.gix_object.specs.message.signature.Format.TheVariants as format
+use Rattle.gixobj_callers.specs.Releases.{AcceptsPrincipal, TriesInVain, ReportsGood, Vouches}
 
--- ---- outcomes that are accepted
+-- ---- accepted outcomes
 
 outcome_or : OutcomeView → Verified → OutcomeView
 outcome_or other (reported it) = it
@@ -51,7 +51,7 @@ good_output : (begins : Bool) → is_good_status (cond begins status.Good status
 good_output true is = refl
 good_output false is = is
 
--- a good status is said by one line alone
+-- a good status is that of exactly one line
 one_line : (said : List (Status × List ℕ)) → (verdict said).status ≡ status.Good → (rest : List ℕ) × (said ≡ (status.Good, rest) ∷ [])
 one_line [] is = absurd (let never : status.Unknown ≡ status.Good = is in cc)
 one_line (one ∷ []) is = (one.1, ap (λ (it : Status). (it, one.1) ∷ []) is)
@@ -59,10 +59,11 @@ one_line (one ∷ next ∷ more) is = absurd (let never : status.Error ≡ statu
 
 -- ---- OpenPGP and X.509
 
--- what was judged to be accepted is so for these reasons
+-- an accepted report of OpenPGP or X.509 has a successful call, a good status and sufficient trust
 good_said : (success : Bool) (format : Format) (by : ProgramView) (output raw : List ℕ)
-    → (judged success by.minimum (gpg_report format output raw)).valid ≡ true
-    → (success ≡ true) × ((gpg_report format output raw).status ≡ status.Good) × (is_trusted by.minimum (gpg_report format output raw).trust_level ≡ true)
+    → (evaluated success by.minimum (gpg_report format output raw)).valid ≡ true
+    → (success ≡ true) × ((gpg_report format output raw).status ≡ status.Good)
+    × (is_trusted by.minimum (gpg_report format output raw).trust_level ≡ true)
 good_said success format by output raw valid =
     let report = gpg_report format output raw in
     let both = first_true (success && is_good_status report.status) (is_trusted by.minimum report.trust_level) valid in (
@@ -71,29 +72,32 @@ good_said success format by output raw valid =
       second_true (success && is_good_status report.status) (is_trusted by.minimum report.trust_level) valid,
     )
 
-gpg_accepted : {S : Type 0} (runs : S → CallView → Answer → S → Type 0) (format : Format) (by : ProgramView) (call : CallView) (s t : S) (outcome : OutcomeView)
+gpg_accepted : {S : Type 0} (runs : S → CallView → Answer → S → Type 0) (format : Format) (by : ProgramView) (call : CallView) (s t : S)
+    (outcome : OutcomeView)
     → Carries runs (gpg_verify_plan format by call) s (reported outcome) t → outcome.valid ≡ true → ReportsGood runs format by call s outcome t
-gpg_accepted runs format by call s t outcome (ran told, m, run, (same, end)) valid =
-    let is = same_outcome outcome (judged told.success by.minimum (gpg_report format told.stderr told.stdout)) same in
-    let (succeeded, good, trusted) = good_said told.success format by told.stderr told.stdout (sym (ap (λ (it : OutcomeView). it.valid) is) ∙ valid) in
-    let (rest, one) = one_line (filter_map status_of (told_lines told.stdout)) good in
+gpg_accepted runs format by call s t outcome (ran seen, m, run, (same, end)) valid =
+    let is = same_outcome outcome (evaluated seen.success by.minimum (gpg_report format seen.stderr seen.stdout)) same in
+    let (succeeded, good, trusted) = good_said seen.success format by seen.stderr seen.stdout
+    (sym (ap (λ (it : OutcomeView). it.valid) is) ∙ valid) in
+    let (rest, one) = one_line (filter_map status_of (status_lines seen.stdout)) good in
     record {
-      told = told;
-      asked = subst (λ (end : _). runs s call (ran told) end) (sym end) run;
+      yielded = seen;
+      requested = subst (λ (end : _). runs s call (ran seen) end) (sym end) run;
       succeeded = succeeded;
       rest = rest;
       good = one;
       trusted = trusted;
       reported = is;
     }
-gpg_accepted runs format by call s t outcome (failed why, m, run, (same, end)) valid = absurd (let never : reported outcome ≡ not_run why = same in cc)
+gpg_accepted runs format by call s t outcome (failed why, m, run, (same, end)) valid =
+    absurd (let never : reported outcome ≡ not_run why = same in cc)
 gpg_accepted runs format by call s t outcome (no_memory, m, run, none) valid = absurd none
 
 -- ---- SSH
 
--- what was judged to be accepted of a report of SSH is so for these reasons
+-- an accepted report of SSH has a successful call, a good output and sufficient trust
 ssh_said : (success : Bool) (by : ProgramView) (output : List ℕ) (signer : Option (List ℕ)) (trusted : TrustLevel)
-    → (judged success by.minimum (ssh_report output signer trusted)).valid ≡ true
+    → (evaluated success by.minimum (ssh_report output signer trusted)).valid ≡ true
     → (success ≡ true) × (starts_with nat_eq output (codes "Good \"git\" signature") ≡ true) × (is_trusted by.minimum trusted ≡ true)
 ssh_said success by output signer trusted valid =
     let both = first_true (success && is_good_status (ssh_status output)) (is_trusted by.minimum trusted) valid in (
@@ -102,78 +106,86 @@ ssh_said success by output signer trusted valid =
       second_true (success && is_good_status (ssh_status output)) (is_trusted by.minimum trusted) valid,
     )
 
-none_of_none : (before : List (List ℕ)) (principal : List ℕ) (behind : List (List ℕ)) → [] ≡ before ++ principal ∷ behind → ⊥
-none_of_none [] principal behind is = absurd (let never : [] ≡ principal ∷ behind = is in cc)
-none_of_none (one ∷ before) principal behind is = absurd (let never : [] ≡ one ∷ (before ++ principal ∷ behind) = is in cc)
+none_of_none : (before : List (List ℕ)) (principal : List ℕ) (after : List (List ℕ)) → [] ≡ before ++ principal ∷ after → ⊥
+none_of_none [] principal after is = absurd (let never : [] ≡ principal ∷ after = is in cc)
+none_of_none (one ∷ before) principal after is = absurd (let never : [] ≡ one ∷ (before ++ principal ∷ after) = is in cc)
 
--- no report is accepted of a call that counts as one that failed
-none_said : (by : ProgramView) (it : OutcomeView) → (judged false by.minimum it).valid ≡ true → ⊥
+-- the report of a failed call isn't accepted
+none_said : (by : ProgramView) (it : OutcomeView) → (evaluated false by.minimum it).valid ≡ true → ⊥
 none_said by it valid = let never : false ≡ true = valid in absurd cc
 
--- the calls for the principals that are left, of which the last one's answer is the outcome
-record Tries {S : Type 0} (runs : S → CallView → Answer → S → Type 0) (by : ProgramView) (ssh : SshView) (signature signed : List ℕ) (principals : List (List ℕ)) (old : S) (outcome : OutcomeView) (new : S) : Type 0 where
+-- the calls for the remaining principals; the outcome is that of the last one's output
+record Tries {S : Type 0} (runs : S → CallView → Answer → S → Type 0) (by : ProgramView) (ssh : SshView) (signature signed : List ℕ)
+    (principals : List (List ℕ)) (old : S) (outcome : OutcomeView) (new : S) : Type 0 where
   before : List (List ℕ)
   principal : List ℕ
-  behind : List (List ℕ)
-  all : principals ≡ before ++ principal ∷ behind
+  following : List (List ℕ)
+  all : principals ≡ before ++ principal ∷ following
   second : S
-  in_vain : AsksInVain runs by ssh signature signed before old second
-  told : OutputView
-  asked : runs second (principal_call by ssh signature signed principal) (ran told) new
-  said : outcome ≡ judged told.success by.minimum (ssh_report (human told) (cond (accepts told) (Some principal) None) trust.Fully)
-  last : accepts told ≡ false → behind ≡ []
+  in_vain : TriesInVain runs by ssh signature signed before old second
+  yielded : OutputView
+  requested : runs second (principal_call by ssh signature signed principal) (ran yielded) new
+  announced : outcome ≡ evaluated yielded.success by.minimum (ssh_report (human yielded) (cond (accepts yielded) (Some principal) None) trust.Fully)
+  last : accepts yielded ≡ false → following ≡ []
 
--- no principal is left, and the outcome is the answer to the call before, if there was one
+-- no principal remains, and the outcome is that of the output of the call before, if there was one
 abbrev EndsWith : {S : Type 0} → ProgramView → Option OutputView → List (List ℕ) → S → OutcomeView → S → Type 0
 EndsWith by None principals s outcome t = ⊥
-EndsWith by (Some told) principals s outcome t =
-    (principals ≡ []) × (t ≡ s) × (outcome ≡ judged told.success by.minimum (ssh_report (human told) None trust.Fully))
+EndsWith by (Some seen) principals s outcome t =
+    (principals ≡ []) × (t ≡ s) × (outcome ≡ evaluated seen.success by.minimum (ssh_report (human seen) None trust.Fully))
 
 module _ {S : Type 0} (runs : S → CallView → Answer → S → Type 0) (by : ProgramView) (ssh : SshView) (signature signed : List ℕ) where
-  -- a call for a principal: its answer is the outcome, or that of a later one
-  one_tried : (principal : List ℕ) (principals : List (List ℕ)) (told : OutputView) (s m t : S) (outcome : OutcomeView)
-      → runs s (principal_call by ssh signature signed principal) (ran told) m
-      → (Carries runs (tries by ssh signature signed principals (Some told)) m (reported outcome) t → Tries runs by ssh signature signed principals m outcome t ⊎ EndsWith by (Some told) principals m outcome t)
-      → (b : Bool) → accepts told ≡ b
-      → Carries runs (cond b (done (ssh_verified by told.success trust.Fully (Some principal) told)) (tries by ssh signature signed principals (Some told))) m (reported outcome) t
+  -- a call for a principal: the outcome is that of its output, or of a later call's
+  one_tried : (principal : List ℕ) (principals : List (List ℕ)) (seen : OutputView) (s m t : S) (outcome : OutcomeView)
+      → runs s (principal_call by ssh signature signed principal) (ran seen) m
+      → (Carries runs (tries by ssh signature signed principals (Some seen)) m (reported outcome) t
+      → Tries runs by ssh signature signed principals m outcome t
+      ⊎ EndsWith by (Some seen) principals m outcome t)
+      → (b : Bool) → accepts seen ≡ b
+      → Carries runs (cond b (done (ssh_verified by seen.success trust.Fully (Some principal) seen))
+      (tries by ssh signature signed principals (Some seen))) m
+      (reported outcome) t
       → Tries runs by ssh signature signed (principal ∷ principals) s outcome t
-  one_tried principal principals told s m t outcome run more true is (same, end) = record {
+  one_tried principal principals seen s m t outcome run more true is (same, end) = record {
     before = [];
     principal = principal;
-    behind = principals;
+    following = principals;
     all = refl;
     second = s;
     in_vain = refl;
-    told = told;
-    asked = subst (λ (end : S). runs s (principal_call by ssh signature signed principal) (ran told) end) (sym end) run;
-    said = subst (λ (b : Bool). outcome ≡ judged told.success by.minimum (ssh_report (human told) (cond b (Some principal) None) trust.Fully)) (sym is)
-        (same_outcome outcome (judged told.success by.minimum (ssh_report (human told) (Some principal) trust.Fully)) same);
+    yielded = seen;
+    requested = subst (λ (end : S). runs s (principal_call by ssh signature signed principal) (ran seen) end) (sym end) run;
+    announced = subst (λ (b : Bool). outcome ≡ evaluated seen.success by.minimum (ssh_report (human seen) (cond b (Some principal) None) trust.Fully))
+        (sym is)
+        (same_outcome outcome (evaluated seen.success by.minimum (ssh_report (human seen) (Some principal) trust.Fully)) same);
     last = λ rejected. absurd (let never : true ≡ false = sym is ∙ rejected in cc);
   }
-  one_tried principal principals told s m t outcome run more false is went =
+  one_tried principal principals seen s m t outcome run more false is went =
       elim (more went) [
         | inl later ↦ record {
           before = principal ∷ later.before;
           principal = later.principal;
-          behind = later.behind;
+          following = later.following;
           all = ap (λ (it : List (List ℕ)). principal ∷ it) later.all;
           second = later.second;
-          in_vain = (told, m, run, is, later.in_vain);
-          told = later.told;
-          asked = later.asked;
-          said = later.said;
+          in_vain = (seen, m, run, is, later.in_vain);
+          yielded = later.yielded;
+          requested = later.requested;
+          announced = later.announced;
           last = later.last;
         }
         | inr (none, end, said) ↦ record {
           before = [];
           principal = principal;
-          behind = principals;
+          following = principals;
           all = refl;
           second = s;
           in_vain = refl;
-          told = told;
-          asked = subst (λ (end : S). runs s (principal_call by ssh signature signed principal) (ran told) end) (sym end) run;
-          said = subst (λ (b : Bool). outcome ≡ judged told.success by.minimum (ssh_report (human told) (cond b (Some principal) None) trust.Fully)) (sym is) said;
+          yielded = seen;
+          requested = subst (λ (end : S). runs s (principal_call by ssh signature signed principal) (ran seen) end) (sym end) run;
+          announced = subst (λ (b : Bool). outcome ≡ evaluated seen.success by.minimum
+              (ssh_report (human seen) (cond b (Some principal) None) trust.Fully))
+              (sym is) said;
           last = λ rejected. none;
         }
       ]
@@ -182,77 +194,100 @@ module _ {S : Type 0} (runs : S → CallView → Answer → S → Type 0) (by : 
       → Carries runs (tries by ssh signature signed principals last) s (reported outcome) t → outcome.valid ≡ true
       → Tries runs by ssh signature signed principals s outcome t ⊎ EndsWith by last principals s outcome t
   unfolding tries
-  all_tried [] (Some told) s t outcome (same, end) valid =
-      inr (refl, end, same_outcome outcome (judged told.success by.minimum (ssh_report (human told) None trust.Fully)) same)
-  all_tried [] None s t outcome (ran told, m, run, (same, end)) valid =
-      let is = same_outcome outcome (judged false by.minimum (ssh_report (human told) None trust.Undefined)) same in
-      absurd (none_said by (ssh_report (human told) None trust.Undefined) (sym (ap (λ (it : OutcomeView). it.valid) is) ∙ valid))
+  all_tried [] (Some seen) s t outcome (same, end) valid =
+      inr (refl, end, same_outcome outcome (evaluated seen.success by.minimum (ssh_report (human seen) None trust.Fully)) same)
+  all_tried [] None s t outcome (ran seen, m, run, (same, end)) valid =
+      let is = same_outcome outcome (evaluated false by.minimum (ssh_report (human seen) None trust.Undefined)) same in
+      absurd (none_said by (ssh_report (human seen) None trust.Undefined) (sym (ap (λ (it : OutcomeView). it.valid) is) ∙ valid))
   all_tried [] None s t outcome (failed why, m, run, (same, end)) valid = absurd (let never : reported outcome ≡ not_run why = same in cc)
   all_tried [] None s t outcome (no_memory, m, run, none) valid = absurd none
-  all_tried (principal ∷ principals) last s t outcome (ran told, m, run, went) valid =
-      inl (one_tried principal principals told s m t outcome run (λ left. all_tried principals (Some told) m t outcome left valid) (accepts told) refl went)
-  all_tried (principal ∷ principals) last s t outcome (failed why, m, run, (same, end)) valid = absurd (let never : reported outcome ≡ not_run why = same in cc)
+  all_tried (principal ∷ principals) last s t outcome (ran seen, m, run, went) valid =
+      inl (one_tried principal principals seen s m t outcome run (λ remaining. all_tried principals (Some seen) m t outcome remaining valid)
+      (accepts seen) refl went)
+  all_tried (principal ∷ principals) last s t outcome (failed why, m, run, (same, end)) valid =
+      absurd (let never : reported outcome ≡ not_run why = same in cc)
   all_tried (principal ∷ principals) last s t outcome (no_memory, m, run, none) valid = absurd none
 
-  -- no principal is accepted where the call for them failed
+  -- if the call for principals fails, no principal is accepted
   named_some : (named : OutputView) (first t : S) (outcome : OutcomeView)
-      → (b : Bool) → named.success ≡ b → Carries runs (tries by ssh signature signed (cond b (principals_in named.stdout) []) None) first (reported outcome) t → outcome.valid ≡ true
+      → (b : Bool) → named.success ≡ b → Carries runs (tries by ssh signature signed (cond b (principals_in named.stdout) []) None) first
+      (reported outcome) t
+      → outcome.valid ≡ true
       → (named.success ≡ true) × Tries runs by ssh signature signed (principals_in named.stdout) first outcome t
   named_some named first t outcome true is went valid =
       elim (all_tried (principals_in named.stdout) None first t outcome went valid) [ inl it ↦ (is, it) | inr never ↦ absurd never ]
   named_some named first t outcome false is went valid =
-      elim (all_tried [] None first t outcome went valid) [ inl it ↦ absurd (none_of_none it.before it.principal it.behind it.all) | inr never ↦ absurd never ]
+      elim (all_tried [] None first t outcome went valid)
+      [ inl it ↦ absurd (none_of_none it.before it.principal it.following it.all) | inr never ↦ absurd never ]
 
   ssh_accepted : (s t : S) (outcome : OutcomeView)
-      → Carries runs (ssh_verify_plan by ssh signature signed) s (reported outcome) t → outcome.valid ≡ true → AcceptsPrincipal runs by ssh signature signed s outcome t
+      → Carries runs (ssh_verify_plan by ssh signature signed) s (reported outcome) t → outcome.valid ≡ true
+      → AcceptsPrincipal runs by ssh signature signed s outcome t
   ssh_accepted s t outcome (ran named, first, run, went) valid =
       let (is_named, it) = named_some named first t outcome named.success refl went valid in
-      let (succeeded, good, trusted) = ssh_said it.told.success by (human it.told) (cond (accepts it.told) (Some it.principal) None) trust.Fully (sym (ap (λ (it : OutcomeView). it.valid) it.said) ∙ valid) in
+      let (succeeded, good, trusted) = ssh_said it.yielded.success by (human it.yielded) (cond (accepts it.yielded) (Some it.principal) None)
+      trust.Fully
+      (sym (ap (λ (it : OutcomeView). it.valid) it.announced) ∙ valid) in
       record {
         named = named;
         first = first;
-        asked_names = run;
+        requested_names = run;
         is_named = is_named;
         before = it.before;
         principal = it.principal;
-        behind = it.behind;
+        following = it.following;
         all = it.all;
         second = it.second;
         in_vain = it.in_vain;
-        told = it.told;
-        asked = it.asked;
+        yielded = it.yielded;
+        requested = it.requested;
         succeeded = succeeded;
         good = good;
         trusted = trusted;
-        reported = it.said;
+        reported = it.announced;
         last = it.last;
       }
   ssh_accepted s t outcome (failed why, m, run, (same, end)) valid = absurd (let never : reported outcome ≡ not_run why = same in cc)
   ssh_accepted s t outcome (no_memory, m, run, none) valid = absurd none
 
--- ---- all three
+-- ---- all formats
 
--- what stands behind an accepted outcome of the plan for a signature's format
-pub accepted_by : {S : Type 0} (runs : S → CallView → Answer → S → Type 0) (it : OptionsView) (signature signed : List ℕ) (format : Option Format) (s t : S) (outcome : OutcomeView)
-    → Carries runs (verify_plan it signature signed format) s (reported outcome) t → outcome.valid ≡ true → Vouches runs it signature signed s outcome t
+-- an accepted outcome of the plan for a signature's format has calls and answers that accept it
+pub accepted_by : {S : Type 0} (runs : S → CallView → Answer → S → Type 0) (it : OptionsView) (signature signed : List ℕ) (format : Option Format)
+    (s t : S)
+    (outcome : OutcomeView)
+    → Carries runs (verify_plan it signature signed format) s (reported outcome) t → outcome.valid ≡ true
+    → Vouches runs it signature signed s outcome t
 accepted_by runs (by_open_pgp by) signature signed (Some format.OpenPgp) s t outcome went valid =
     gpg_accepted runs format.OpenPgp by (open_pgp_call by signature signed) s t outcome went valid
 accepted_by runs (by_x509 by) signature signed (Some format.X509) s t outcome went valid =
     gpg_accepted runs format.X509 by (x509_call by signature signed) s t outcome went valid
-accepted_by runs (by_ssh by ssh) signature signed (Some format.Ssh) s t outcome went valid = ssh_accepted runs by ssh signature signed s t outcome went valid
-accepted_by runs (by_open_pgp by) signature signed None s t outcome (same, end) valid = absurd (let never : reported outcome ≡ unsupported = same in cc)
+accepted_by runs (by_ssh by ssh) signature signed (Some format.Ssh) s t outcome went valid =
+    ssh_accepted runs by ssh signature signed s t outcome went valid
+accepted_by runs (by_open_pgp by) signature signed None s t outcome (same, end) valid =
+    absurd (let never : reported outcome ≡ unsupported = same in cc)
 accepted_by runs (by_x509 by) signature signed None s t outcome (same, end) valid = absurd (let never : reported outcome ≡ unsupported = same in cc)
-accepted_by runs (by_ssh by ssh) signature signed None s t outcome (same, end) valid = absurd (let never : reported outcome ≡ unsupported = same in cc)
-accepted_by runs (by_open_pgp by) signature signed (Some format.X509) s t outcome (same, end) valid = absurd (let never : reported outcome ≡ mismatch format.OpenPgp format.X509 = same in cc)
-accepted_by runs (by_open_pgp by) signature signed (Some format.Ssh) s t outcome (same, end) valid = absurd (let never : reported outcome ≡ mismatch format.OpenPgp format.Ssh = same in cc)
-accepted_by runs (by_x509 by) signature signed (Some format.OpenPgp) s t outcome (same, end) valid = absurd (let never : reported outcome ≡ mismatch format.X509 format.OpenPgp = same in cc)
-accepted_by runs (by_x509 by) signature signed (Some format.Ssh) s t outcome (same, end) valid = absurd (let never : reported outcome ≡ mismatch format.X509 format.Ssh = same in cc)
-accepted_by runs (by_ssh by ssh) signature signed (Some format.OpenPgp) s t outcome (same, end) valid = absurd (let never : reported outcome ≡ mismatch format.Ssh format.OpenPgp = same in cc)
-accepted_by runs (by_ssh by ssh) signature signed (Some format.X509) s t outcome (same, end) valid = absurd (let never : reported outcome ≡ mismatch format.Ssh format.X509 = same in cc)
+accepted_by runs (by_ssh by ssh) signature signed None s t outcome (same, end) valid =
+    absurd (let never : reported outcome ≡ unsupported = same in cc)
+accepted_by runs (by_open_pgp by) signature signed (Some format.X509) s t outcome (same, end) valid =
+    absurd (let never : reported outcome ≡ mismatch format.OpenPgp format.X509 = same in cc)
+accepted_by runs (by_open_pgp by) signature signed (Some format.Ssh) s t outcome (same, end) valid =
+    absurd (let never : reported outcome ≡ mismatch format.OpenPgp format.Ssh = same in cc)
+accepted_by runs (by_x509 by) signature signed (Some format.OpenPgp) s t outcome (same, end) valid =
+    absurd (let never : reported outcome ≡ mismatch format.X509 format.OpenPgp = same in cc)
+accepted_by runs (by_x509 by) signature signed (Some format.Ssh) s t outcome (same, end) valid =
+    absurd (let never : reported outcome ≡ mismatch format.X509 format.Ssh = same in cc)
+accepted_by runs (by_ssh by ssh) signature signed (Some format.OpenPgp) s t outcome (same, end) valid =
+    absurd (let never : reported outcome ≡ mismatch format.Ssh format.OpenPgp = same in cc)
+accepted_by runs (by_ssh by ssh) signature signed (Some format.X509) s t outcome (same, end) valid =
+    absurd (let never : reported outcome ≡ mismatch format.Ssh format.X509 = same in cc)
 
--- the same of what is answered
-pub outcome_accepted : {S : Type 0} (runs : S → CallView → Answer → S → Type 0) (it : OptionsView) (signature signed : List ℕ) (format : Option Format) (s t : S) (result : Result Outcome Error)
-    → ComesOf runs (verify_plan it signature signed format) s result t
+-- an accepted result has calls and answers that accept it
+pub outcome_accepted : {S : Type 0} (runs : S → CallView → Answer → S → Type 0) (it : OptionsView) (signature signed : List ℕ)
+    (format : Option Format)
+    (s t : S) (result : Result Outcome Error)
+    → IsOutcomeOf runs (verify_plan it signature signed format) s result t
     → IfOk result (λ outcome. (outcome_view outcome).valid ≡ true → Vouches runs it signature signed s (outcome_view outcome) t)
-outcome_accepted runs it signature signed format s t (Ok outcome) went = λ valid. accepted_by runs it signature signed format s t (outcome_view outcome) went valid
+outcome_accepted runs it signature signed format s t (Ok outcome) went = λ valid. accepted_by runs it signature signed format s t
+    (outcome_view outcome) went valid
 outcome_accepted runs it signature signed format s t (Err error) went = tt

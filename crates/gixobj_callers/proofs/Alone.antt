@@ -12,18 +12,21 @@ use Rattle.gix_object.specs.State.{root_alone}
 root_open : (entries : List EntryView) → map.get (root_alone entries) [] ≡ Some entries
 root_open entries = map.get-insert (lists_total nat_list_cmp_total) map.empty [] entries []
 
-root_shut : (entries : List EntryView) (name : List ℕ) (path : Path) → map.get (root_alone entries) (name ∷ path) ≡ None
-root_shut entries name path = map.get-insert (lists_total nat_list_cmp_total) map.empty [] entries (name ∷ path) ∙ map.get-empty (slice_cmp (slice_cmp nat_cmp)) (name ∷ path)
+root_unopened : (entries : List EntryView) (name : List ℕ) (path : Path) → map.get (root_alone entries) (name ∷ path) ≡ None
+root_unopened entries name path = map.get-insert (lists_total nat_list_cmp_total) map.empty [] entries (name ∷ path)
+    ∙ map.get-empty (slice_cmp (slice_cmp nat_cmp)) (name ∷ path)
 
-alone : (T : Table) (n : ℕ) (dirs : Dirs) (entries : List EntryView) → dirs [] ≡ Some entries → ((name : List ℕ) → dirs (name ∷ []) ≡ None) → SameFiles (OpenFiles T n dirs) (Files T n entries)
-alone T zero dirs entries root shut path mode id = ((λ h. absurd h), λ h. absurd h)
-alone T (suc n) dirs entries root shut [] mode id = ((λ h. absurd h), λ h. absurd h)
-alone T (suc n) dirs entries root shut (name ∷ path) mode id =
-    let At : EntryView → Option (List EntryView) → Type 0 = λ e o. MatchOption o (Below T (Files T n) e.mode e.id path mode id) (λ _. OpenFiles T n (in_dir name dirs) path mode id) in (
-      (λ h. (h.0, subst (λ o. HasAt o h.0) root h.1, h.2, subst (At h.0) (shut name) h.3)),
-      λ h. (h.0, subst (λ o. HasAt o h.0) (sym root) h.1, h.2, subst (At h.0) (sym (shut name)) h.3),
+alone : (T : Table) (n : ℕ) (dirs : Dirs) (entries : List EntryView) → dirs [] ≡ Some entries → ((name : List ℕ) → dirs (name ∷ []) ≡ None)
+    → SameFiles (OpenFiles T n dirs) (Files T n entries)
+alone T zero dirs entries root unopened path mode id = ((λ h. absurd h), λ h. absurd h)
+alone T (suc n) dirs entries root unopened [] mode id = ((λ h. absurd h), λ h. absurd h)
+alone T (suc n) dirs entries root unopened (name ∷ path) mode id =
+    let At : EntryView → Option (List EntryView) → Type 0 = λ e o. MatchOption o (Below T (Files T n) e.mode e.id path mode id)
+    (λ _. OpenFiles T n (in_dir name dirs) path mode id) in (
+      (λ h. (h.0, subst (λ o. HasAt o h.0) root h.1, h.2, subst (At h.0) (unopened name) h.3)),
+      λ h. (h.0, subst (λ o. HasAt o h.0) (sym root) h.1, h.2, subst (At h.0) (sym (unopened name)) h.3),
     )
 
--- they are those of its tree
+-- the files of a root that is open alone are those of its tree
 pub root_files : (T : Table) (n : ℕ) (entries : List EntryView) → SameFiles (OpenFiles T n (λ path. map.get (root_alone entries) path)) (Files T n entries)
-root_files T n entries = alone T n (λ path. map.get (root_alone entries) path) entries (root_open entries) (λ name. root_shut entries name [])
+root_files T n entries = alone T n (λ path. map.get (root_alone entries) path) entries (root_open entries) (λ name. root_unopened entries name [])

@@ -1,4 +1,4 @@
--- What edits that come through, and a write behind them, make of the files and of the store.
+-- The files and the store after accepted edits and a write; the proof of `import_files` uses it.
 use Rattle.std.proofs.Common.{◌≡◌, ◌∙◌, ◌++◌, ℕ, List, [], ◌∷◌, Option, Some, ap, subst, sym}
 use Rattle.std.specs.FinMap as map
 use Rattle.std.specs.Prelude.{MatchOption}
@@ -15,7 +15,7 @@ use Rattle.gix_object.specs.Openings.{AreTreesOf}
 use Rattle.gix_object.specs.Replies.{Answers, IsEditReply}
 use Rattle.gix_object.specs.RunTables.{AgreesWithObjects}
 use Rattle.gix_object.specs.State.{DirMap, EditorFiles, State, open_bases, open_dirs}
-use Rattle.gix_object.specs.Stores.{Objects, Meaning}
+use Rattle.gix_object.specs.Stores.{Objects, StoreModel}
 use Rattle.gix_object.specs.Tables.{AgreesWithPairs, AgreesWithStore}
 use Rattle.gix_object.specs.directories.write.Written.{Written}
 use Rattle.gix_object.specs.editor.command.Edit.{Edit}
@@ -26,25 +26,27 @@ use Rattle.gixobj_callers.specs.Imports.{AreEditsDone, Decides, HasWriteReply, i
 use Rattle.gixobj_callers.proofs.Alone.{root_files}
 use Rattle.gixobj_callers.proofs.Histories.{history_append, same_history, same_refl, same_sym, same_trans}
 
--- what agrees with the objects agrees with their trees
+-- a table that agrees with the objects agrees with their trees
 agrees_with_trees : (T : Table) (objects : Objects) (trees : Trees) → AreTreesOf objects trees → AgreesWithObjects T objects → AgreesWithStore T trees
-agrees_with_trees T objects trees fits agrees = λ id entries asked is. agrees id entries asked ((fits id entries).0 is)
+agrees_with_trees T objects trees fits agrees = λ id entries requested is. agrees id entries requested ((fits id entries).0 is)
 
--- the table has the last pair of those with which it agrees
+-- a table that agrees with pairs has the last pair
 pairs_last : (T : Table) (pairs below : List Pair) (pair : Pair) → pairs ≡ below ++ pair ∷ [] → AgreesWithPairs T pairs → T.tree_at pair.0 ≡ Some pair.1
 pairs_last T pairs below pair is agrees =
     let Known : Pair → Type 0 = λ p. T.tree_at p.0 ≡ Some p.1 in
     All-contains Known (below ++ pair ∷ []) pair (subst (λ (ps : List Pair). AgreesWithPairs T ps) is agrees) (Contains-push below pair)
 
--- with the law that every store names trees
-module _ {S E : Type 0} (means : Meaning S) (answers : Answers E) (trees_of : (objects : Objects) → (trees : Trees) × AreTreesOf objects trees) where
+-- by the law that every store names trees
+module _ {S E : Type 0} (means : StoreModel S) (answers : Answers E) (trees_of : (objects : Objects) → (trees : Trees) × AreTreesOf objects trees) where
   edit_stays : (old new : State S) (it : Edit) → IsEditReply means answers at_root old it edit_reply.Done new → new.store ≡ old.store
-  edit_stays old new (edit.Upsert path kind id) done = let trees = trees_of (means.objects old.store) in ap (λ (s : State S). s.store) (done trees.0 trees.1).rest
+  edit_stays old new (edit.Upsert path kind id) done = let trees = trees_of (means.objects old.store) in ap (λ (s : State S). s.store)
+      (done trees.0 trees.1).rest
   edit_stays old new (edit.Remove path) done = let trees = trees_of (means.objects old.store) in ap (λ (s : State S). s.store) (done trees.0 trees.1).rest
-  edit_stays old new (edit.RemoveLeaf path) done = let trees = trees_of (means.objects old.store) in ap (λ (s : State S). s.store) (done trees.0 trees.1).removed.rest
+  edit_stays old new (edit.RemoveLeaf path) done = let trees = trees_of (means.objects old.store) in ap (λ (s : State S). s.store)
+      (done trees.0 trees.1).removed.rest
   edit_stays old new edit.Write done = absurd done
 
-  -- the store stays as it is
+  -- accepted edits leave the store unchanged
   edits_stay : (old new : State S) (edits : List Edit) → AreEditsDone means answers old edits new → new.store ≡ old.store
   edits_stay old new [] done = ap (λ (s : State S). s.store) done
   edits_stay old new (it ∷ edits) (between, first, done) = edits_stay between new edits done ∙ edit_stays old between it first
@@ -53,65 +55,83 @@ module _ {S E : Type 0} (means : Meaning S) (answers : Answers E) (trees_of : (o
     edit_files : (old new : State S) (it : Edit) → IsEditReply means answers at_root old it edit_reply.Done new → AgreesWithObjects T (means.objects old.store)
         → SameFiles (EditorFiles T n new) (History T n (steps_if_done it) (EditorFiles T n old))
     edit_files old new (edit.Upsert path kind id) done agrees =
-        let trees = trees_of (means.objects old.store) in (done trees.0 trees.1).files T n (agrees_with_trees T (means.objects old.store) trees.0 trees.1 agrees)
+        let trees = trees_of (means.objects old.store) in (done trees.0 trees.1).files T n
+        (agrees_with_trees T (means.objects old.store) trees.0 trees.1 agrees)
     edit_files old new (edit.Remove path) done agrees =
-        let trees = trees_of (means.objects old.store) in (done trees.0 trees.1).files T n (agrees_with_trees T (means.objects old.store) trees.0 trees.1 agrees)
+        let trees = trees_of (means.objects old.store) in (done trees.0 trees.1).files T n
+        (agrees_with_trees T (means.objects old.store) trees.0 trees.1 agrees)
     edit_files old new (edit.RemoveLeaf path) done agrees =
-        let trees = trees_of (means.objects old.store) in (done trees.0 trees.1).removed.files T n (agrees_with_trees T (means.objects old.store) trees.0 trees.1 agrees)
+        let trees = trees_of (means.objects old.store) in (done trees.0 trees.1).removed.files T n
+        (agrees_with_trees T (means.objects old.store) trees.0 trees.1 agrees)
     edit_files old new edit.Write done agrees = absurd done
 
-    -- the files are those of the steps
+    -- accepted edits make the files that their steps make
     edits_files : (old new : State S) (edits : List Edit) → AreEditsDone means answers old edits new → AgreesWithObjects T (means.objects old.store)
         → SameFiles (EditorFiles T n new) (History T n (import_steps edits) (EditorFiles T n old))
-    edits_files old new [] done agrees = subst (λ (s : State S). SameFiles (EditorFiles T n s) (EditorFiles T n old)) (sym done) (same_refl (EditorFiles T n old))
+    edits_files old new [] done agrees = subst (λ (s : State S). SameFiles (EditorFiles T n s) (EditorFiles T n old)) (sym done)
+        (same_refl (EditorFiles T n old))
     edits_files old new (it ∷ edits) (between, first, done) agrees =
-        let later = edits_files between new edits done (subst (λ (s : S). AgreesWithObjects T (means.objects s)) (sym (edit_stays old between it first)) agrees) in
+        let later = edits_files between new edits done
+        (subst (λ (s : S). AgreesWithObjects T (means.objects s)) (sym (edit_stays old between it first)) agrees) in
         same_trans _ _ _ later
-        (same_trans _ _ _ (same_history T n (import_steps edits) (EditorFiles T n between) (History T n (steps_if_done it) (EditorFiles T n old)) (edit_files old between it first agrees))
+        (same_trans _ _ _ (same_history T n (import_steps edits) (EditorFiles T n between) (History T n (steps_if_done it) (EditorFiles T n old))
+        (edit_files old between it first agrees))
         (same_sym _ _ (history_append T n (steps_if_done it) (import_steps edits) (EditorFiles T n old))))
 
     edit_based : (old new : State S) (it : Edit) → IsEditReply means answers at_root old it edit_reply.Done new → AgreesWithObjects T (means.objects old.store)
         → HasBases T (open_dirs old) (open_bases old) → HasBases T (open_dirs new) (open_bases new)
     edit_based old new (edit.Upsert path kind id) done agrees has =
-        let trees = trees_of (means.objects old.store) in (done trees.0 trees.1).has_bases T (agrees_with_trees T (means.objects old.store) trees.0 trees.1 agrees) has
+        let trees = trees_of (means.objects old.store) in (done trees.0 trees.1).has_bases T
+        (agrees_with_trees T (means.objects old.store) trees.0 trees.1 agrees) has
     edit_based old new (edit.Remove path) done agrees has =
-        let trees = trees_of (means.objects old.store) in (done trees.0 trees.1).has_bases T (agrees_with_trees T (means.objects old.store) trees.0 trees.1 agrees) has
+        let trees = trees_of (means.objects old.store) in (done trees.0 trees.1).has_bases T
+        (agrees_with_trees T (means.objects old.store) trees.0 trees.1 agrees) has
     edit_based old new (edit.RemoveLeaf path) done agrees has =
-        let trees = trees_of (means.objects old.store) in (done trees.0 trees.1).removed.has_bases T (agrees_with_trees T (means.objects old.store) trees.0 trees.1 agrees) has
+        let trees = trees_of (means.objects old.store) in (done trees.0 trees.1).removed.has_bases T
+        (agrees_with_trees T (means.objects old.store) trees.0 trees.1 agrees) has
     edit_based old new edit.Write done agrees has = absurd done
 
-    -- the bases are those of their ids still
+    -- a table that has the bases before accepted edits has them after
     edits_based : (old new : State S) (edits : List Edit) → AreEditsDone means answers old edits new → AgreesWithObjects T (means.objects old.store)
         → HasBases T (open_dirs old) (open_bases old) → HasBases T (open_dirs new) (open_bases new)
     edits_based old new [] done agrees has = subst (λ (s : State S). HasBases T (open_dirs s) (open_bases s)) (sym done) has
     edits_based old new (it ∷ edits) (between, first, done) agrees has =
-        edits_based between new edits done (subst (λ (s : S). AgreesWithObjects T (means.objects s)) (sym (edit_stays old between it first)) agrees) (edit_based old between it first agrees has)
+        edits_based between new edits done (subst (λ (s : S). AgreesWithObjects T (means.objects s)) (sym (edit_stays old between it first)) agrees)
+        (edit_based old between it first agrees has)
 
     pub named_files : (old new : State S) (edits : List Edit) (written : Written) → HasWriteReply means answers old edits (edit_reply.Written written) new
-        → AgreesWithObjects T (means.objects old.store) → AgreesWithPairs T written.trees.items → HasBases T (open_dirs old) (open_bases old) → SameFiles (NamedFiles T n written.id) (History T n (import_steps edits) (EditorFiles T n old))
-    named_files old new edits written behind agrees pairs has =
-        same_trans _ _ _ (behind.write.written.files T n pairs (edits_based old behind.edited edits behind.done agrees has)) (edits_files old behind.edited edits behind.done agrees)
+        → AgreesWithObjects T (means.objects old.store) → AgreesWithPairs T written.trees.items → HasBases T (open_dirs old) (open_bases old)
+        → SameFiles (NamedFiles T n written.id) (History T n (import_steps edits) (EditorFiles T n old))
+    named_files old new edits written after agrees pairs has =
+        same_trans _ _ _ (after.write.written.files T n pairs (edits_based old after.edited edits after.done agrees has))
+        (edits_files old after.edited edits after.done agrees)
 
-    pub files_left : (old new : State S) (edits : List Edit) (written : Written) → HasWriteReply means answers old edits (edit_reply.Written written) new
+    pub files_remaining : (old new : State S) (edits : List Edit) (written : Written) → HasWriteReply means answers old edits (edit_reply.Written written) new
         → AgreesWithPairs T written.trees.items → SameFiles (EditorFiles T n new) (NamedFiles T n written.id)
-    files_left old new edits written behind pairs =
-        let it = behind.write in
+    files_remaining old new edits written after pairs =
+        let it = after.write in
         let own = it.written.own in
-        let root : SameFiles (EditorFiles T n it.between) (Files T n own) = subst (λ (dirs : DirMap). SameFiles (OpenFiles T n (λ path. map.get dirs path)) (Files T n own)) (sym it.written.dirs) (root_files T n own) in
+        let root : SameFiles (EditorFiles T n it.between) (Files T n own) =
+        subst (λ (dirs : DirMap). SameFiles (OpenFiles T n (λ path. map.get dirs path)) (Files T n own)) (sym it.written.dirs) (root_files T n own) in
         let there : T.tree_at written.id ≡ Some own = pairs_last T written.trees.items it.written.below (written.id, own) it.written.last pairs in
         subst (λ (s : State S). SameFiles (EditorFiles T n s) (NamedFiles T n written.id)) (sym it.rest)
-        (same_trans _ _ _ root (subst (λ (found : Option (List EntryView)). SameFiles (Files T n own) (λ path mode id. MatchOption found ⊥ (λ es. Files T n es path mode id))) (sym there) (same_refl (Files T n own))))
+        (same_trans _ _ _ root (subst
+        (λ (found : Option (List EntryView)). SameFiles (Files T n own) (λ path mode id. MatchOption found ⊥ (λ es. Files T n es path mode id))) (sym there)
+        (same_refl (Files T n own))))
 
-    -- the root alone is open then
-    pub bases_left : (old new : State S) (edits : List Edit) (written : Written) → HasWriteReply means answers old edits (edit_reply.Written written) new → HasBases T (open_dirs new) (open_bases new)
-    bases_left old new edits written behind = subst (λ (s : State S). HasBases T (open_dirs s) (open_bases s)) (sym behind.write.rest) (behind.write.written.has_bases T)
+    -- after the write the root alone is open
+    pub bases_remaining : (old new : State S) (edits : List Edit) (written : Written) → HasWriteReply means answers old edits (edit_reply.Written written) new
+        → HasBases T (open_dirs new) (open_bases new)
+    bases_remaining old new edits written after = subst (λ (s : State S). HasBases T (open_dirs s) (open_bases s)) (sym after.write.rest)
+        (after.write.written.has_bases T)
 
-  -- the reply that decides says what went out
-  pub write_done : (old new : State S) (edits : List Edit) (index : ℕ) (its_reply : EditReply E) (written : Written) → Decides means answers old edits index its_reply new → its_reply ≡ edit_reply.Written written
+  -- if the deciding reply is that of a write, the write succeeded with this result
+  pub write_done : (old new : State S) (edits : List Edit) (index : ℕ) (its_reply : EditReply E) (written : Written)
+      → Decides means answers old edits index its_reply new → its_reply ≡ edit_reply.Written written
       → HasWriteReply means answers old edits (edit_reply.Written written) new
   write_done old new edits index its_reply written decides is = subst (λ (r : EditReply E). Decides means answers old edits index r new) is decides
 
   pub all_kept : (old new : State S) (edits : List Edit) (written : Written) → HasWriteReply means answers old edits (edit_reply.Written written) new
       → means.objects new.store ≡ with_trees written.trees.items (means.objects old.store)
-  all_kept old new edits written behind =
-      behind.write.kept.0 ∙ ap (λ (s : S). with_trees written.trees.items (means.objects s)) (edits_stay old behind.edited edits behind.done)
+  all_kept old new edits written after =
+      after.write.stored.0 ∙ ap (λ (s : S). with_trees written.trees.items (means.objects s)) (edits_stay old after.edited edits after.done)

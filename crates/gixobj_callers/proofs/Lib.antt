@@ -7,9 +7,9 @@ mod Importing
 mod Listed
 mod Once
 mod Planned
-mod PutIn
+mod Inserted
 mod Rebuilt
-mod Refusals
+mod Errors
 mod Tips
-mod Told
+mod Yielded
 mod Uploaded

@@ -1,15 +1,15 @@
--- No path comes twice among those of the directories below one, entry by entry.
+-- No path is repeated among the directories below one, entry by entry; the proof of `Uploaded` uses it.
 use Rattle.std.proofs.Common.{◌≡◌, ◌≢◌, ◌∙◌, ◌⊎◌, ℕ, List, [], ◌∷◌, ◌++◌, ⊎_elim, ap, inl, inr, map, refl, subst, sym}
 use Rattle.std.specs.List.{AllByRecursion}
 use Rattle.gix_object.specs.Entries.{EntryView}
 use Rattle.gix_object.specs.Files.{Has, Path}
 use Rattle.gixobj_callers.specs.Uploads.{Once}
 
--- each begins with a name of these
+-- each path begins with a name of these
 abbrev pub Starts : (List ℕ → Type 0) → List Path → Type 0
 Starts P paths = AllByRecursion (λ (path : Path). (name : List ℕ) × (rest : Path) × P name × (path ≡ name ∷ rest)) paths
 
--- it is the name of one of the entries
+-- the name of one of the entries
 abbrev pub IsOf : List EntryView → List ℕ → Type 0
 IsOf entries name = (e : EntryView) × Has entries e × (e.name ≡ name)
 
@@ -27,17 +27,19 @@ module _ {X : Type 0} where
 
 pub starts_more : (P Q : List ℕ → Type 0) → ((name : List ℕ) → P name → Q name) → (paths : List Path) → Starts P paths → Starts Q paths
 starts_more P Q weaker paths starts =
-    all_weaker (λ (path : Path). (name : List ℕ) × (rest : Path) × P name × (path ≡ name ∷ rest)) (λ (path : Path). (name : List ℕ) × (rest : Path) × Q name × (path ≡ name ∷ rest)) (λ path it. (it.0, it.1, weaker it.0 it.2, it.3)) paths starts
+    all_weaker (λ (path : Path). (name : List ℕ) × (rest : Path) × P name × (path ≡ name ∷ rest)) (λ (path : Path). (name : List ℕ) × (rest : Path) × Q name
+    × (path ≡ name ∷ rest)) (λ path it. (it.0, it.1, weaker it.0 it.2, it.3)) paths starts
 
 pub starts_joined : (P : List ℕ → Type 0) (xs ys : List Path) → Starts P xs → Starts P ys → Starts P (xs ++ ys)
 starts_joined P xs ys = all_joined (λ (path : Path). (name : List ℕ) × (rest : Path) × P name × (path ≡ name ∷ rest)) xs ys
 
--- the same, one name further down
+-- paths with a name before them begin with that name
 pub starts_under : (P : List ℕ → Type 0) (name : List ℕ) (paths : List Path) → P name → Starts P (map (under name) paths)
 starts_under P name [] is = tt
 starts_under P name (path ∷ paths) is = ((name, path, is, refl), starts_under P name paths is)
 
-other_under : (name : List ℕ) (path : Path) (paths : List Path) → AllByRecursion (λ (q : Path). path ≢ q) paths → AllByRecursion (λ (q : Path). (name ∷ path) ≢ q) (map (under name) paths)
+other_under : (name : List ℕ) (path : Path) (paths : List Path) → AllByRecursion (λ (q : Path). path ≢ q) paths
+    → AllByRecursion (λ (q : Path). (name ∷ path) ≢ q) (map (under name) paths)
 other_under name path [] others = tt
 other_under name path (q ∷ paths) others = ((λ same. others.0 (cc same)), other_under name path paths others.1)
 
@@ -49,18 +51,22 @@ once_joined : (xs ys : List Path) → Once xs → Once ys → AllByRecursion (λ
 once_joined [] ys once_x once_y apart = once_y
 once_joined (x ∷ xs) ys once_x once_y apart = (all_joined (λ (y : Path). x ≢ y) xs ys once_x.0 apart.0, once_joined xs ys once_x.1 once_y apart.1)
 
--- a path that begins with one name is none of those that begin with others
+-- a path that begins with a name differs from each that begins with another
 apart_from : (name : List ℕ) (path : Path) (paths : List Path) → Starts (λ other. other ≢ name) paths → AllByRecursion (λ (q : Path). (name ∷ path) ≢ q) paths
 apart_from name path [] starts = tt
-apart_from name path (q ∷ paths) ((other, rest, differs, is), starts) = ((λ same. let both : name ∷ path ≡ other ∷ rest = same ∙ is in differs (cc both)), apart_from name path paths starts)
+apart_from name path (q ∷ paths) ((other, rest, differs, is), starts) =
+    ((λ same. let both : name ∷ path ≡ other ∷ rest = same ∙ is in differs (cc both)), apart_from name path paths starts)
 
-all_apart : (name : List ℕ) (paths others : List Path) → Starts (λ other. other ≢ name) others → AllByRecursion (λ (x : Path). AllByRecursion (λ (y : Path). x ≢ y) others) (map (under name) paths)
+all_apart : (name : List ℕ) (paths others : List Path) → Starts (λ other. other ≢ name) others
+    → AllByRecursion (λ (x : Path). AllByRecursion (λ (y : Path). x ≢ y) others) (map (under name) paths)
 all_apart name [] others starts = tt
 all_apart name (path ∷ paths) others starts = (apart_from name path others starts, all_apart name paths others starts)
 
--- the directories below one of this name, perhaps that one, and those below others
-pub once_below : (P : List ℕ → Type 0) (name : List ℕ) (low late : List Path) → Once low → Once late → Starts (λ other. other ≢ name) late → Once (map (under name) low ++ late)
-once_below P name low late once_low once_late starts = once_joined (map (under name) low) late (once_under name low once_low) once_late (all_apart name low late starts)
+-- the paths below a directory of this name, that directory at most once, and the paths below others
+pub once_below : (P : List ℕ → Type 0) (name : List ℕ) (low late : List Path) → Once low → Once late → Starts (λ other. other ≢ name) late
+    → Once (map (under name) low ++ late)
+once_below P name low late once_low once_late starts = once_joined (map (under name) low) late (once_under name low once_low) once_late
+    (all_apart name low late starts)
 
 bare_apart : (P : List ℕ → Type 0) (name : List ℕ) (paths others : List Path) → Starts P paths → Starts (λ other. other ≢ name) others
     → AllByRecursion (λ (x : Path). AllByRecursion (λ (y : Path). x ≢ y) ((name ∷ []) ∷ others)) (map (under name) paths)
@@ -70,29 +76,36 @@ bare_apart P name (path ∷ paths) others ((first, rest, holds, is), starts) apa
   bare_apart P name paths others starts apart,
 )
 
-pub once_with_it : (P : List ℕ → Type 0) (name : List ℕ) (low late : List Path) → Once low → Starts P low → Once late → Starts (λ other. other ≢ name) late → Once (map (under name) low ++ (name ∷ []) ∷ late)
+pub once_with_it : (P : List ℕ → Type 0) (name : List ℕ) (low late : List Path) → Once low → Starts P low → Once late → Starts (λ other. other ≢ name) late
+    → Once (map (under name) low ++ (name ∷ []) ∷ late)
 once_with_it P name low late once_low deeper once_late starts =
-    once_joined (map (under name) low) ((name ∷ []) ∷ late) (once_under name low once_low) (apart_from name [] late starts, once_late) (bare_apart P name low late deeper starts)
+    once_joined (map (under name) low) ((name ∷ []) ∷ late) (once_under name low once_low) (apart_from name [] late starts, once_late)
+    (bare_apart P name low late deeper starts)
 
--- the names of later entries are others
-pub other_names : (e : EntryView) (rest : List EntryView) → AllByRecursion (λ (x : EntryView). e.name ≢ x.name) rest → (name : List ℕ) → IsOf rest name → name ≢ e.name
+-- the names of later entries differ
+pub other_names : (e : EntryView) (rest : List EntryView) → AllByRecursion (λ (x : EntryView). e.name ≢ x.name) rest → (name : List ℕ) → IsOf rest name
+    → name ≢ e.name
 other_names e [] others name (x, has, named) = absurd has
 other_names e (y ∷ rest) others name (x, has, named) = λ same. ⊎_elim
     (λ is. others.0 (sym same ∙ sym named ∙ ap (λ (it : EntryView). it.name) (sym is)))
     (λ later. other_names e rest others.1 name (x, later, named) same) has
 
--- that one, or no path
+-- this path, or none
 abbrev pub IsPerhaps : List ℕ → List Path → Type 0
 IsPerhaps name mid = (mid ≡ []) ⊎ (mid ≡ (name ∷ []) ∷ [])
 
-pub once_all : (P : List ℕ → Type 0) (name : List ℕ) (low mid late : List Path) → IsPerhaps name mid → Once low → Starts P low → Once late → Starts (λ other. other ≢ name) late → Once (map (under name) low ++ (mid ++ late))
+pub once_all : (P : List ℕ → Type 0) (name : List ℕ) (low mid late : List Path) → IsPerhaps name mid → Once low → Starts P low → Once late
+    → Starts (λ other. other ≢ name) late → Once (map (under name) low ++ (mid ++ late))
 once_all P name low mid late (inl none) once_low deeper once_late starts =
     subst (λ (m : List Path). Once (map (under name) low ++ (m ++ late))) (sym none) (once_below P name low late once_low once_late starts)
 once_all P name low mid late (inr one) once_low deeper once_late starts =
     subst (λ (m : List Path). Once (map (under name) low ++ (m ++ late))) (sym one) (once_with_it P name low late once_low deeper once_late starts)
 
-pub starts_all : (P : List ℕ → Type 0) (name : List ℕ) (low mid late : List Path) → IsPerhaps name mid → P name → Starts P late → Starts P (map (under name) low ++ (mid ++ late))
+pub starts_all : (P : List ℕ → Type 0) (name : List ℕ) (low mid late : List Path) → IsPerhaps name mid → P name → Starts P late
+    → Starts P (map (under name) low ++ (mid ++ late))
 starts_all P name low mid late (inl none) is starts =
-    subst (λ (m : List Path). Starts P (map (under name) low ++ (m ++ late))) (sym none) (starts_joined P (map (under name) low) late (starts_under P name low is) starts)
+    subst (λ (m : List Path). Starts P (map (under name) low ++ (m ++ late))) (sym none)
+    (starts_joined P (map (under name) low) late (starts_under P name low is) starts)
 starts_all P name low mid late (inr one) is starts =
-    subst (λ (m : List Path). Starts P (map (under name) low ++ (m ++ late))) (sym one) (starts_joined P (map (under name) low) ((name ∷ []) ∷ late) (starts_under P name low is) ((name, [], is, refl), starts))
+    subst (λ (m : List Path). Starts P (map (under name) low ++ (m ++ late))) (sym one)
+    (starts_joined P (map (under name) low) ((name ∷ []) ∷ late) (starts_under P name low is) ((name, [], is, refl), starts))

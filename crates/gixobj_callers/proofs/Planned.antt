@@ -1,4 +1,4 @@
--- A stored root, an editor of it, and the files of what is named once an entry was put in.
+-- An editor of a stored root, and the files of the named tree after an entry was inserted.
 use Rattle.std.proofs.Common.{◌≡◌, ◌≢◌, ◌⊎◌, ◌∙◌, ℕ, List, [], Some, ⊎_elim, ap, subst, sym}
 use Rattle.std.specs.Prelude.{IsFalse, MatchOption, Option}
 use Rattle.gix_object.specs.Entries.{Pair, EntryView}
@@ -8,9 +8,9 @@ use Rattle.gix_object.specs.Files.{Files, NamedFiles, Path, SameFiles, Table, Tr
 use Rattle.gix_object.specs.Hash.{id_kind, id_of}
 use Rattle.gix_object.specs.Openings.{AreTreesOf, OfTrees}
 use Rattle.gix_object.specs.State.{EditorFiles, State, open_bases, open_dirs, root_alone}
-use Rattle.gix_object.specs.Stores.{Objects, Meaning}
+use Rattle.gix_object.specs.Stores.{Objects, StoreModel}
 use Rattle.gix_object.specs.Tables.{AgreesWithPairs, AgreesWithStore}
-use Rattle.gix_object.specs.Upserts.{IsUpserted, RefusesUpsert}
+use Rattle.gix_object.specs.Upserts.{IsUpserted, IsUpsertError}
 use Rattle.gix_object.specs.Writes.{IsWrittenEditor}
 use Rattle.gix_object.specs.directories.write.Written.{Written}
 use Rattle.gix_object.specs.editor.editor.error.Error.{Error}
@@ -18,15 +18,18 @@ use Rattle.gix_object.specs.hash.hash.kind.Kind.{Kind}
 use Rattle.gix_object.specs.hash.hash.object_id.ObjectId.{ObjectId}
 use Rattle.gix_object.specs.hash.kind.Kind.TheVariants.{Tree}
 use Rattle.gixobj_callers.proofs.Histories.{same_trans, same_upserted}
-use Rattle.gixobj_callers.specs.Plans.{IsNotPutIn, IsPutIn, IsRoot, started}
+use Rattle.gixobj_callers.specs.Plans.{IsNotInserted, IsInserted, IsRoot, started}
 
 -- an editor with these parts is a new one
-pub is_started : {S : Type 0} (state : State S) (store : S) (object_hash : Kind) (entries : List EntryView) → state.dirs ≡ root_alone entries → state.bases ≡ root_alone [] → state.store ≡ store → state.lookups ≡ 0
+pub is_started : {S : Type 0} (state : State S) (store : S) (object_hash : Kind) (entries : List EntryView) → state.dirs ≡ root_alone entries
+    → state.bases ≡ root_alone [] → state.store ≡ store → state.lookups ≡ 0
     → state.object_hash ≡ object_hash → state.prefix ≡ [] → state ≡ started store object_hash entries
-is_started state store object_hash entries root bare same_store none same_kind no_prefix i = record { dirs = root i; bases = bare i; store = same_store i; lookups = none i; object_hash = same_kind i; prefix = no_prefix i }
+is_started state store object_hash entries root bare same_store none same_kind no_prefix i =
+    record { dirs = root i; bases = bare i; store = same_store i; lookups = none i; object_hash = same_kind i; prefix = no_prefix i }
 
--- by the law that ids are the same or not, a table that agrees with the store has the root by its id, where that isn't null
-module _ (same_or_not : (x y : ObjectId) → (x ≡ y) ⊎ (x ≢ y)) (T : Table) (objects : Objects) (trees : Trees) (it : ObjectId) (entries : List EntryView) (filled : IsFalse (is_null it)) (fits : AreTreesOf objects trees) (agrees : AgreesWithStore T trees) (is : IsRoot objects it entries) where
+-- a table that agrees with the store has the root by its id, if that isn't null; by the law that ids are equal or not
+module _ (same_or_not : (x y : ObjectId) → (x ≡ y) ⊎ (x ≢ y)) (T : Table) (objects : Objects) (trees : Trees) (it : ObjectId) (entries : List EntryView)
+    (filled : IsFalse (is_null it)) (fits : AreTreesOf objects trees) (agrees : AgreesWithStore T trees) (is : IsRoot objects it entries) where
   empty_root : IsEmptyId Tree it → T.tree_at it ≡ Some entries
   empty_root same = ap T.tree_at same ∙ T.none_in_empty (id_kind it) ∙ ap Some (sym (is.empty same))
 
@@ -41,34 +44,45 @@ module _ (same_or_not : (x y : ObjectId) → (x ≡ y) ⊎ (x ≢ y)) (T : Table
       let at : Option (List EntryView) → Type 0 = λ found. MatchOption found ⊥ (λ es. Files T n es path mode id) in
       (subst at (sym root_there), subst at root_there)
 
-module _ {S : Type 0} (means : Meaning S) (store : S) (root_id : ObjectId) (path : Path) (mode : ℕ) (id : ObjectId) where
-  -- what an editor of the stored root accepts and refuses
-  pub put_in_root : (editor edited : State S) (entries : List EntryView) → IsRoot (means.objects store) root_id entries → editor ≡ started store (id_kind root_id) entries
-      → ((trees : Trees) → AreTreesOf (means.objects editor.store) trees → IsUpserted trees editor path mode id edited) → IsPutIn means store root_id path mode id edited
-  put_in_root editor edited entries is same put = record {
+module _ {S : Type 0} (means : StoreModel S) (store : S) (root_id : ObjectId) (path : Path) (mode : ℕ) (id : ObjectId) where
+  -- the errors and the effect of an edit by an editor of the stored root
+  pub inserted_in_root : (editor edited : State S) (entries : List EntryView) → IsRoot (means.objects store) root_id entries
+      → editor ≡ started store (id_kind root_id) entries
+      → ((trees : Trees) → AreTreesOf (means.objects editor.store) trees → IsUpserted trees editor path mode id edited)
+      → IsInserted means store root_id path mode id edited
+  inserted_in_root editor edited entries is same appended = record {
     entries = entries;
     is_root = is;
-    put_in = subst (λ (state : State S). (trees : Trees) → AreTreesOf (means.objects state.store) trees → IsUpserted trees state path mode id edited) same put;
+    inserted = subst (λ (state : State S). (trees : Trees) → AreTreesOf (means.objects state.store) trees → IsUpserted trees state path mode id edited) same
+        appended;
   }
 
-  pub not_put_in_root : (editor : State S) (entries : List EntryView) (error : Error) → IsRoot (means.objects store) root_id entries → editor ≡ started store (id_kind root_id) entries
-      → ((trees : Trees) → AreTreesOf (means.objects editor.store) trees → RefusesUpsert (means.objects editor.store) (means.may_fail editor.store) trees (open_dirs editor) path error)
-      → IsNotPutIn means store root_id path mode id error
-  not_put_in_root editor entries error is same refuses = (
+  pub not_inserted_in_root : (editor : State S) (entries : List EntryView) (error : Error) → IsRoot (means.objects store) root_id entries
+      → editor ≡ started store (id_kind root_id) entries
+      → ((trees : Trees) → AreTreesOf (means.objects editor.store) trees → IsUpsertError (means.objects editor.store) (means.may_fail editor.store) trees
+      (open_dirs editor) path error)
+      → IsNotInserted means store root_id path mode id error
+  not_inserted_in_root editor entries error is same rejects = (
     entries,
     is,
-    subst (λ (state : State S). (trees : Trees) → AreTreesOf (means.objects state.store) trees → RefusesUpsert (means.objects state.store) (means.may_fail state.store) trees (open_dirs state) path error) same refuses,
+    subst (λ (state : State S). (trees : Trees) → AreTreesOf (means.objects state.store) trees
+        → IsUpsertError (means.objects state.store) (means.may_fail state.store) trees (open_dirs state) path error) same rejects,
   )
 
-  -- the tree that is named has the files that the edit makes of the root's
-  module _ (editor : State S) (entries : List EntryView) (is_root : IsRoot (means.objects store) root_id entries) (new : editor ≡ started store (id_kind root_id) entries)
-      (bases : (T : Table) → HasBases T (open_dirs editor) (open_bases editor)) (begun : (T : Table) (n : ℕ) → SameFiles (EditorFiles T n editor) (Files T n entries)) where
-    pub planned_files : ((x y : ObjectId) → (x ≡ y) ⊎ (x ≢ y)) → {F : Type 0} (gave : F → Pair → F → Type 0) (out last : F) (edited left : State S) (written : Written) → OfTrees (means.objects editor.store) (λ trees. IsUpserted trees editor path mode id edited)
-        → IsWrittenEditor gave out edited written left last
-        → IsFalse (is_null root_id) → (trees : Trees) → AreTreesOf (means.objects store) trees → (T : Table) (n : ℕ) → AgreesWithStore T trees → AgreesWithPairs T written.trees.items
+  -- the named tree has the files that the edit makes of the root's
+  module _ (editor : State S) (entries : List EntryView) (is_root : IsRoot (means.objects store) root_id entries)
+      (new : editor ≡ started store (id_kind root_id) entries)
+      (bases : (T : Table) → HasBases T (open_dirs editor) (open_bases editor))
+      (begun : (T : Table) (n : ℕ) → SameFiles (EditorFiles T n editor) (Files T n entries)) where
+    pub planned_files : ((x y : ObjectId) → (x ≡ y) ⊎ (x ≢ y)) → {F : Type 0} (gave : F → Pair → F → Type 0) (out last : F) (edited remaining : State S)
+        (written : Written) → OfTrees (means.objects editor.store) (λ trees. IsUpserted trees editor path mode id edited)
+        → IsWrittenEditor gave out edited written remaining last
+        → IsFalse (is_null root_id) → (trees : Trees) → AreTreesOf (means.objects store) trees → (T : Table) (n : ℕ) → AgreesWithStore T trees
+        → AgreesWithPairs T written.trees.items
         → SameFiles (NamedFiles T n written.id) (Upserted T n path mode id (NamedFiles T n root_id))
-    planned_files same_or_not gave out last edited left written put wrote filled trees fits T n agrees pairs =
-        let done = put trees (subst (λ (it : S). AreTreesOf (means.objects it) trees) (sym (ap (λ (state : State S). state.store) new)) fits) in
-        let root : SameFiles (EditorFiles T n editor) (NamedFiles T n root_id) = same_trans _ _ _ (begun T n) (root_named same_or_not T (means.objects store) trees root_id entries filled fits agrees is_root n) in
+    planned_files same_or_not gave out last edited remaining written appended wrote filled trees fits T n agrees pairs =
+        let done = appended trees (subst (λ (it : S). AreTreesOf (means.objects it) trees) (sym (ap (λ (state : State S). state.store) new)) fits) in
+        let root : SameFiles (EditorFiles T n editor) (NamedFiles T n root_id) =
+        same_trans _ _ _ (begun T n) (root_named same_or_not T (means.objects store) trees root_id entries filled fits agrees is_root n) in
         same_trans _ _ _ (wrote.files T n pairs (done.has_bases T agrees (bases T)))
         (same_trans _ _ _ (done.files T n agrees) (same_upserted T n path mode id (EditorFiles T n editor) (NamedFiles T n root_id) root))

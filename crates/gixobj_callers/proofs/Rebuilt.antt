@@ -1,9 +1,9 @@
--- Two writes of a run that starts with no files.
+-- Two writes of a run without files at its start; the proofs of `wrote_the_same` and `id_written` use it.
 use Rattle.std.proofs.Common.{◌≡◌, ◌<◌, ◌≤◌, ◌↔◌, ℕ, zero, suc, Bool, IsTrue, List, [], ◌∷◌, None, Option, Some, ap, arith, get_or, inl, inr, length, refl, subst, sym, take, ◌∙◌}
 use Rattle.gix_object.specs.Commands.{accepted_steps, written_at, written_by}
 use Rattle.gix_object.specs.Files.{SameFiles, Table}
 use Rattle.gix_object.specs.History.{Step}
-use Rattle.gix_object.specs.OneId.{IdsTellFiles, IsPlainRun, files_before}
+use Rattle.gix_object.specs.OneId.{IdsDetermineFiles, IsPlainRun, files_before}
 use Rattle.gix_object.specs.PlainHistory.{NoFiles, PlainHistory}
 use Rattle.gix_object.specs.Replies.{Answers, IsRun}
 use Rattle.gix_object.specs.State.{State}
@@ -13,20 +13,21 @@ use Rattle.gix_object.specs.editor.reply.Reply.{Reply}
 use Rattle.gix_object.specs.hash.hash.kind.Kind.{Kind}
 use Rattle.gix_object.specs.hash.hash.object_id.ObjectId.{ObjectId}
 use Rattle.gixobj_callers.specs.Plans.{started}
-use Rattle.gixobj_callers.specs.Rebuilds.{AreReplies, IsCompared, NamesWritten, RefusesComparison, id_named, up_to}
+use Rattle.gixobj_callers.specs.Rebuilds.{AreReplies, IsCompared, NamesWritten, IsComparisonError, id_named, up_to}
 use Rattle.gixobj_callers.specs.declared.rebuilder.CompareError.{CompareError}
 use Rattle.gixobj_callers.specs.declared.rebuilder.CompareError.TheVariants as compare
-use Rattle.gix_object.specs.Stores.{Meaning}
+use Rattle.gix_object.specs.Stores.{StoreModel}
 
--- what the first replies tell, all of them tell
-written_front : {E : Type 0} (m k : ℕ) (replies : List (Reply E)) → k < m → written_at (take m replies) k ≡ written_at replies k
-written_front zero k replies low = absurd (omega (arith, low))
-written_front (suc m) k [] low = refl
-written_front (suc m) zero (r ∷ replies) low = refl
-written_front (suc m) (suc k) (r ∷ replies) low = written_front m k replies (omega (arith, low))
+-- a prefix of the replies reports the same writes at its indices
+written_prefix : {E : Type 0} (m k : ℕ) (replies : List (Reply E)) → k < m → written_at (take m replies) k ≡ written_at replies k
+written_prefix zero k replies low = absurd (omega (arith, low))
+written_prefix (suc m) k [] low = refl
+written_prefix (suc m) zero (r ∷ replies) low = refl
+written_prefix (suc m) (suc k) (r ∷ replies) low = written_prefix m k replies (omega (arith, low))
 
--- what the reply at a place tells
-at_place : {E : Type 0} (replies : List (Reply E)) (k : ℕ) (r : Reply E) → k < length replies → r ≡ get_or replies k r → written_at replies k ≡ written_by r
+-- the write that the reply at an index reports
+at_place : {E : Type 0} (replies : List (Reply E)) (k : ℕ) (r : Reply E) → k < length replies → r ≡ get_or replies k r
+    → written_at replies k ≡ written_by r
 at_place [] k r low is = absurd (omega (arith, low))
 at_place (x ∷ replies) zero r low is = ap written_by (sym is)
 at_place (x ∷ replies) (suc k) r low is = at_place replies k r (omega (arith, low)) is
@@ -36,89 +37,112 @@ past_end [] k past = refl
 past_end (x ∷ replies) zero past = absurd (omega (arith, past))
 past_end (x ∷ replies) (suc k) past = past_end replies k (omega (arith, past))
 
-named_by : (told : Option Written) (id : ObjectId) → Some id ≡ id_named told → (written : Written) × (told ≡ Some written) × (written.id ≡ id)
+named_by : (seen : Option Written) (id : ObjectId) → Some id ≡ id_named seen → (written : Written) × (seen ≡ Some written) × (written.id ≡ id)
 named_by None id is = absurd (cc is)
 named_by (Some written) id is = (written, refl, cc is)
 
-not_named : (told : Option Written) → None ≡ id_named told → told ≡ None
+not_named : (seen : Option Written) → None ≡ id_named seen → seen ≡ None
 not_named None is = refl
 not_named (Some written) is = absurd (cc is)
 
-pub names : {E : Type 0} (replies : List (Reply E)) (k : ℕ) (r : Reply E) (id : ObjectId) → k < length replies → r ≡ get_or replies k r → Some id ≡ id_named (written_by r) → NamesWritten replies k id
-names replies k r id low is told = let it = named_by (written_by r) id told in (it.0, at_place replies k r low is ∙ it.1, it.2)
+pub names : {E : Type 0} (replies : List (Reply E)) (k : ℕ) (r : Reply E) (id : ObjectId) → k < length replies → r ≡ get_or replies k r
+    → Some id ≡ id_named (written_by r) → NamesWritten replies k id
+names replies k r id low is seen = let it = named_by (written_by r) id seen in (it.0, at_place replies k r low is ∙ it.1, it.2)
 
-pub names_none : {E : Type 0} (replies : List (Reply E)) (k : ℕ) (r : Reply E) → k < length replies → r ≡ get_or replies k r → None ≡ id_named (written_by r) → written_at replies k ≡ None
-names_none replies k r low is told = at_place replies k r low is ∙ not_named (written_by r) told
+pub names_none : {E : Type 0} (replies : List (Reply E)) (k : ℕ) (r : Reply E) → k < length replies → r ≡ get_or replies k r
+    → None ≡ id_named (written_by r)
+    → written_at replies k ≡ None
+names_none replies k r low is seen = at_place replies k r low is ∙ not_named (written_by r) seen
 
--- the first ones of the first ones are the first ones
+-- a prefix of a prefix is a prefix
 first_of_first : {A : Type 0} (k m : ℕ) (xs : List A) → k < m → take k (take m xs) ≡ take k xs
 first_of_first zero m xs low = refl
 first_of_first (suc k) zero xs low = absurd (omega (arith, low))
 first_of_first (suc k) (suc m) [] low = refl
 first_of_first {A} (suc k) (suc m) (x ∷ xs) low = ap (λ (l : List A). x ∷ l) (first_of_first k m xs (omega (arith, low)))
 
-module _ {S E : Type 0} (means : Meaning S) (commands : List Command) (start : State S) (replies : List (Reply E)) where
-  -- what a run tells of two of its writes
+module _ {S E : Type 0} (means : StoreModel S) (commands : List Command) (start : State S) (replies : List (Reply E)) where
+  -- in each prefix of the run ids determine files
   abbrev OneId : Type 0
-  OneId = (T : Table) (m : ℕ) → IsPlainRun T (means.objects start.store) start (take m commands) (take m replies) → IdsTellFiles (take m commands) (take m replies)
+  OneId = (T : Table) (m : ℕ) → IsPlainRun T (means.objects start.store) start (take m commands) (take m replies)
+      → IdsDetermineFiles (take m commands) (take m replies)
 
-  steps_front : (m k : ℕ) → k < m → accepted_steps (take k (take m commands)) (take k (take m replies)) ≡ accepted_steps (take k commands) (take k replies)
-  steps_front m k low = ap (λ (cs : List Command). accepted_steps cs (take k (take m replies))) (first_of_first k m commands low) ∙ ap (λ (rs : List (Reply E)). accepted_steps (take k commands) rs) (first_of_first k m replies low)
+  steps_prefix : (m k : ℕ) → k < m → accepted_steps (take k (take m commands)) (take k (take m replies)) ≡ accepted_steps (take k commands)
+      (take k replies)
+  steps_prefix m k low = ap (λ (cs : List Command). accepted_steps cs (take k (take m replies))) (first_of_first k m commands low)
+      ∙ ap (λ (rs : List (Reply E)). accepted_steps (take k commands) rs) (first_of_first k m replies low)
 
-  -- of the writes at two places
-  told_at : OneId → (T : Table) (k l : ℕ) → IsPlainRun T (means.objects start.store) start (take (up_to k l) commands) (take (up_to k l) replies) → (first second : Written) → written_at replies k ≡ Some first → written_at replies l ≡ Some second
+  -- ids determine files for the writes at two indices
+  known_at : OneId → (T : Table) (k l : ℕ) → IsPlainRun T (means.objects start.store) start (take (up_to k l) commands) (take (up_to k l) replies)
+      → (first second : Written) → written_at replies k ≡ Some first → written_at replies l ≡ Some second
       → (first.id ≡ second.id) ↔ SameFiles (files_before k commands replies) (files_before l commands replies)
-  told_at one_id T k l plain first second at_first at_second =
+  known_at one_id T k l plain first second at_first at_second =
       let m = up_to k l in
-      let of_front = one_id T m plain k l first second (written_front m k replies (omega arith) ∙ at_first) (written_front m l replies (omega arith) ∙ at_second) in
-      subst (λ (steps : List Step). (first.id ≡ second.id) ↔ SameFiles (files_before k commands replies) (PlainHistory steps NoFiles)) (steps_front m l (omega arith))
-      (subst (λ (steps : List Step). (first.id ≡ second.id) ↔ SameFiles (PlainHistory steps NoFiles) (files_before l (take m commands) (take m replies))) (steps_front m k (omega arith)) of_front)
+      let of_prefix = one_id T m plain k l first second (written_prefix m k replies (omega arith) ∙ at_first)
+      (written_prefix m l replies (omega arith) ∙ at_second) in
+      subst (λ (steps : List Step). (first.id ≡ second.id) ↔ SameFiles (files_before k commands replies) (PlainHistory steps NoFiles))
+      (steps_prefix m l (omega arith))
+      (subst (λ (steps : List Step). (first.id ≡ second.id) ↔ SameFiles (PlainHistory steps NoFiles)
+      (files_before l (take m commands) (take m replies)))
+      (steps_prefix m k (omega arith)) of_prefix)
 
-module _ {S E : Type 0} (means : Meaning S) (answers : Answers E) (store : S) (object_hash : Kind) (commands : List Command) where
-  -- the replies of an editor that is a new one
-  pub replied : (start left : State S) (replies : List (Reply E)) → start ≡ started store object_hash [] → IsRun means answers start commands replies left → AreReplies means answers store object_hash commands replies
-  replied start left replies new run = (left, subst (λ (state : State S). IsRun means answers state commands replies left) new run)
+module _ {S E : Type 0} (means : StoreModel S) (answers : Answers E) (store : S) (object_hash : Kind) (commands : List Command) where
+  -- the replies of a new editor
+  pub replied : (start remaining : State S) (replies : List (Reply E)) → start ≡ started store object_hash []
+      → IsRun means answers start commands replies remaining → AreReplies means answers store object_hash commands replies
+  replied start remaining replies new run = (remaining, subst (λ (state : State S). IsRun means answers state commands replies remaining) new run)
 
-  pub compared : (start left : State S) (replies : List (Reply E)) (place other : ℕ) (same : Bool) (first second : Written) → start ≡ started store object_hash [] → IsRun means answers start commands replies left
+  pub compared : (start remaining : State S) (replies : List (Reply E)) (place other : ℕ) (same : Bool) (first second : Written)
+      → start ≡ started store object_hash [] → IsRun means answers start commands replies remaining
       → OneId means commands start replies
       → written_at replies place ≡ Some first → written_at replies other ≡ Some second → IsTrue same ↔ (first.id ≡ second.id)
       → IsCompared means answers store object_hash commands place other same
-  compared start left replies place other same first second new run one_id at_first at_second ids = record {
+  compared start remaining replies place other same first second new run one_id at_first at_second ids = record {
     replies = replies;
-    run = replied start left replies new run;
+    run = replied start remaining replies new run;
     first = first;
     second = second;
     first_at = at_first;
     second_at = at_second;
     ids = ids;
     files = λ T plain.
-        let its_own = subst (λ (state : State S). IsPlainRun T (means.objects state.store) state (take (up_to place other) commands) (take (up_to place other) replies)) (sym new) plain in
-        let told = told_at means commands start replies one_id T place other its_own first second at_first at_second in
-        ((λ yes. told.0 (ids.0 yes)), λ equal. ids.1 (told.1 equal));
+        let its_own = subst (λ (state : State S). IsPlainRun T (means.objects state.store) state (take (up_to place other) commands)
+        (take (up_to place other) replies)) (sym new) plain in
+        let seen = known_at means commands start replies one_id T place other its_own first second at_first at_second in
+        ((λ yes. seen.0 (ids.0 yes)), λ equal. ids.1 (seen.1 equal));
   }
 
-  -- the same by ids that were found in the replies as they were shown
-  pub is_told : (start left : State S) (replies shown again : List (Reply E)) (place other : ℕ) (same : Bool) (id its_id : ObjectId) → start ≡ started store object_hash [] → IsRun means answers start commands replies left
+  -- the result by ids that were found in equal lists of replies
+  pub is_reported : (start remaining : State S) (replies shown again : List (Reply E)) (place other : ℕ) (same : Bool) (id its_id : ObjectId)
+      → start ≡ started store object_hash [] → IsRun means answers start commands replies remaining
       → OneId means commands start replies
-      → shown ≡ replies → again ≡ replies → NamesWritten shown place id → NamesWritten again other its_id → IsTrue same ↔ (id ≡ its_id) → IsCompared means answers store object_hash commands place other same
-  is_told start left replies shown again place other same id its_id new run one_id is_shown is_again (first, first_at, first_is) (second, second_at, second_is) ids =
+      → shown ≡ replies → again ≡ replies → NamesWritten shown place id → NamesWritten again other its_id → IsTrue same ↔ (id ≡ its_id)
+      → IsCompared means answers store object_hash commands place other same
+  is_reported start remaining replies shown again place other same id its_id new run one_id is_shown is_again (first, first_at, first_is)
+      (second, second_at, second_is) ids =
       let at_first : written_at replies place ≡ Some first = subst (λ (rs : List (Reply E)). written_at rs place ≡ Some first) is_shown first_at in
-      let at_second : written_at replies other ≡ Some second = subst (λ (rs : List (Reply E)). written_at rs other ≡ Some second) is_again second_at in
-      compared start left replies place other same first second new run one_id at_first at_second
+      let at_second : written_at replies other ≡ Some second =
+      subst (λ (rs : List (Reply E)). written_at rs other ≡ Some second) is_again second_at in
+      compared start remaining replies place other same first second new run one_id at_first at_second
       ((λ yes. first_is ∙ ids.0 yes ∙ sym second_is), λ equal. ids.1 (sym first_is ∙ equal ∙ second_is))
 
-  -- no write is at the first place
-  pub none_at_first : (start left : State S) (replies shown : List (Reply E)) (place other : ℕ) (error : CompareError) → start ≡ started store object_hash [] → IsRun means answers start commands replies left
-      → shown ≡ replies → error ≡ compare.NoWrite place → written_at shown place ≡ None → RefusesComparison means answers store object_hash commands place other error
-  none_at_first start left replies shown place other error new run is_shown is none =
+  -- the first index has no write
+  pub none_at_first : (start remaining : State S) (replies shown : List (Reply E)) (place other : ℕ) (error : CompareError)
+      → start ≡ started store object_hash [] → IsRun means answers start commands replies remaining
+      → shown ≡ replies → error ≡ compare.NoWrite place → written_at shown place ≡ None
+      → IsComparisonError means answers store object_hash commands place other error
+  none_at_first start remaining replies shown place other error new run is_shown is none =
       let here : written_at replies place ≡ None = subst (λ (rs : List (Reply E)). written_at rs place ≡ None) is_shown none in
-      subst (λ (e : CompareError). RefusesComparison means answers store object_hash commands place other e) (sym is) (replies, replied start left replies new run, (here, inl refl))
+      subst (λ (e : CompareError). IsComparisonError means answers store object_hash commands place other e) (sym is)
+      (replies, replied start remaining replies new run, (here, inl refl))
 
-  -- one is there, but none at the second
-  pub none_at_second : (start left : State S) (replies shown again : List (Reply E)) (place other : ℕ) (id : ObjectId) (error : CompareError) → start ≡ started store object_hash [] → IsRun means answers start commands replies left
-      → shown ≡ replies → again ≡ replies → NamesWritten shown place id → error ≡ compare.NoWrite other → written_at again other ≡ None → RefusesComparison means answers store object_hash commands place other error
-  none_at_second start left replies shown again place other id error new run is_shown is_again (first, first_at, first_is) is none =
+  -- the first index has a write, the second has none
+  pub none_at_second : (start remaining : State S) (replies shown again : List (Reply E)) (place other : ℕ) (id : ObjectId) (error : CompareError)
+      → start ≡ started store object_hash [] → IsRun means answers start commands replies remaining
+      → shown ≡ replies → again ≡ replies → NamesWritten shown place id → error ≡ compare.NoWrite other → written_at again other ≡ None
+      → IsComparisonError means answers store object_hash commands place other error
+  none_at_second start remaining replies shown again place other id error new run is_shown is_again (first, first_at, first_is) is none =
       let here : written_at replies other ≡ None = subst (λ (rs : List (Reply E)). written_at rs other ≡ None) is_again none in
       let there : written_at replies place ≡ Some first = subst (λ (rs : List (Reply E)). written_at rs place ≡ Some first) is_shown first_at in
-      subst (λ (e : CompareError). RefusesComparison means answers store object_hash commands place other e) (sym is)
-      (replies, replied start left replies new run, (here, inr (refl, λ missing. let both : Some first ≡ None = sym there ∙ missing in cc both)))
+      subst (λ (e : CompareError). IsComparisonError means answers store object_hash commands place other e) (sym is)
+      (replies, replied start remaining replies new run, (here, inr (refl, λ missing. let both : Some first ≡ None = sym there ∙ missing in cc both)))

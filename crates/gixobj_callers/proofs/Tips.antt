@@ -15,13 +15,14 @@ use Rattle.gix_object.specs.import.import.Imported.{Imported}
 use Rattle.gix_object.specs.import.import.Step.{Step}
 use Rattle.gixobj_callers.specs.Archives.{IsOfStep, IsTip}
 
-pub as_many : (hash : hash.Kind) (parent : Option ObjectId) (steps : List Step) (imported : List Imported) (final : Objects) → AreCommitsOf hash parent steps imported final → length imported ≡ length steps
+pub as_many : (hash : hash.Kind) (parent : Option ObjectId) (steps : List Step) (imported : List Imported) (final : Objects)
+    → AreCommitsOf hash parent steps imported final → length imported ≡ length steps
 as_many hash parent [] [] final are = refl
 as_many hash parent (step ∷ steps) (it ∷ imported) final are = ap suc (as_many hash (Some it.commit) steps imported final are.1)
 as_many hash parent [] (it ∷ imported) final are = absurd are
 as_many hash parent (step ∷ steps) [] final are = absurd are
 
--- the last step, those before it, and that the last import is of it
+-- the last step, the steps before it, and that the last import is of the last step
 record LastStep (hash : hash.Kind) (steps : List Step) (earlier : List Imported) (tip : Imported) : Type 0 where
   before : List Step
   last : Step
@@ -29,20 +30,29 @@ record LastStep (hash : hash.Kind) (steps : List Step) (earlier : List Imported)
   one_each : length earlier ≡ length before
   commit : IsOfStep hash last tip
 
-last_step : (hash : hash.Kind) (parent : Option ObjectId) (steps : List Step) (earlier : List Imported) (tip : Imported) (final : Objects) → AreCommitsOf hash parent steps (earlier ++ tip ∷ []) final → LastStep hash steps earlier tip
+last_step : (hash : hash.Kind) (parent : Option ObjectId) (steps : List Step) (earlier : List Imported) (tip : Imported) (final : Objects)
+    → AreCommitsOf hash parent steps (earlier ++ tip ∷ []) final → LastStep hash steps earlier tip
 last_step hash parent [] [] tip final are = absurd are
 last_step hash parent [] (it ∷ earlier) tip final are = absurd are
-last_step hash parent (step ∷ []) [] tip final are = record { before = []; last = step; all = refl; one_each = refl; commit = record { parent = parent; id = are.0.id; text = are.0.text } }
+last_step hash parent (step ∷ []) [] tip final are =
+    record { before = []; last = step; all = refl; one_each = refl; commit = record { parent = parent; id = are.0.id; decodes = are.0.decodes } }
 last_step hash parent (step ∷ next ∷ steps) [] tip final are = absurd are.1
 last_step hash parent (step ∷ steps) (it ∷ earlier) tip final are =
     let later = last_step hash (Some it.commit) steps earlier tip final are.1 in
-    record { before = step ∷ later.before; last = later.last; all = ap (λ (ss : List Step). step ∷ ss) later.all; one_each = ap suc later.one_each; commit = later.commit }
+    record {
+      before = step ∷ later.before;
+      last = later.last;
+      all = ap (λ (ss : List Step). step ∷ ss) later.all;
+      one_each = ap suc later.one_each;
+      commit = later.commit;
+    }
 
 found_last : (earlier : List Imported) (tip : Imported) → slice_get (earlier ++ tip ∷ []) (length earlier) ≡ Some tip
 found_last [] tip = refl
 found_last (it ∷ earlier) tip = found_last earlier tip
 
-pub is_tip : (objects final : Objects) (hash : hash.Kind) (steps : List Step) (imported earlier : List Imported) (tip : Imported) → imported ≡ earlier ++ tip ∷ [] → AreCommitsOf hash None steps imported final
+pub is_tip : (objects final : Objects) (hash : hash.Kind) (steps : List Step) (imported earlier : List Imported) (tip : Imported)
+    → imported ≡ earlier ++ tip ∷ [] → AreCommitsOf hash None steps imported final
     → HaveFilesOfNothing objects steps imported → IsTip objects hash steps tip
 is_tip objects final hash steps imported earlier tip is commits files =
     let last = last_step hash None steps earlier tip final (subst (λ (all : List Imported). AreCommitsOf hash None steps all final) is commits) in
@@ -55,23 +65,26 @@ is_tip objects final hash steps imported earlier tip is commits files =
       one_each = last.one_each;
       commit = last.commit;
       files = λ T n agrees.
-          subst (λ (ss : List Step). SameFiles (NamedFiles T n tip.written.id) (History T n (edits_of ss) NoFiles)) (take_all (suc (length earlier)) steps (omega (arith, count)))
+          subst (λ (ss : List Step). SameFiles (NamedFiles T n tip.written.id) (History T n (edits_of ss) NoFiles))
+          (take_all (suc (length earlier)) steps (omega (arith, count)))
           (subst (λ (all : List Imported). HaveFilesOfNothing objects steps all) is files T n agrees (length earlier) tip (found_last earlier tip));
     }
 
--- of the item that was taken off the end of the list, if there was one
-pub is_tip_taken : (objects final : Objects) (hash : hash.Kind) (steps : List Step) (imported left : List Imported) (tip : Option Imported) → imported ≡ left ++ option_to_list tip → AreCommitsOf hash None steps imported final
+-- the item that was removed from the end of the list, if there was one
+pub is_tip_taken : (objects final : Objects) (hash : hash.Kind) (steps : List Step) (imported remaining : List Imported) (tip : Option Imported)
+    → imported ≡ remaining ++ option_to_list tip → AreCommitsOf hash None steps imported final
     → HaveFilesOfNothing objects steps imported → IfSome tip (IsTip objects hash steps)
-is_tip_taken objects final hash steps imported left None is commits files = tt
-is_tip_taken objects final hash steps imported left (Some tip) is commits files = is_tip objects final hash steps imported left tip is commits files
+is_tip_taken objects final hash steps imported remaining None is commits files = tt
+is_tip_taken objects final hash steps imported remaining (Some tip) is commits files = is_tip objects final hash steps imported remaining tip is commits files
 
--- there is none exactly where there are no steps
-pub none_of_none : (final : Objects) (hash : hash.Kind) (steps : List Step) (imported left : List Imported) (tip : Option Imported) (count : ℕ) → imported ≡ left ++ option_to_list tip → count ≡ length imported
+-- there is no last import if and only if there are no steps
+pub none_of_none : (final : Objects) (hash : hash.Kind) (steps : List Step) (imported remaining : List Imported) (tip : Option Imported) (count : ℕ)
+    → imported ≡ remaining ++ option_to_list tip → count ≡ length imported
     → IsSome tip ↔ (0 < count) → AreCommitsOf hash None steps imported final → IsNone tip ↔ (steps ≡ [])
-none_of_none final hash [] [] left None count is counted some commits = ((λ none. refl), λ nothing. refl)
-none_of_none final hash (step ∷ steps) [] left None count is counted some commits = absurd commits
-none_of_none final hash steps (it ∷ imported) left None count is counted some commits = absurd (false≢true (some.1 (omega (arith, counted))))
-none_of_none final hash steps imported left (Some tip) count is counted some commits = (
+none_of_none final hash [] [] remaining None count is counted some commits = ((λ none. refl), λ nothing. refl)
+none_of_none final hash (step ∷ steps) [] remaining None count is counted some commits = absurd commits
+none_of_none final hash steps (it ∷ imported) remaining None count is counted some commits = absurd (false≢true (some.1 (omega (arith, counted))))
+none_of_none final hash steps imported remaining (Some tip) count is counted some commits = (
   (λ none. absurd (true≢false none)),
-  λ nothing. absurd (omega (arith, ap length is, length-append left (tip ∷ []), as_many hash None steps imported final commits, ap length nothing)),
+  λ nothing. absurd (omega (arith, ap length is, length-append remaining (tip ∷ []), as_many hash None steps imported final commits, ap length nothing)),
 )

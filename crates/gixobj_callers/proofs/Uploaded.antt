@@ -1,4 +1,4 @@
--- Which open directories a write hands out, and which it spares.
+-- The open directories that a write emits, and those that are unchanged; the proof of `upload_of` uses it.
 use Rattle.std.proofs.Common.{◌≡◌, ◌≢◌, ◌<◌, ◌+◌, ◌∙◌, ⊎_elim, inl, inr, ℕ, All, Contains, List, [], ◌∷◌, ◌++◌, None, Option, Some, ap, append_assoc, arith, length, length-append, map, refl, subst, sym}
 use Rattle.std.proofs.lemmas.List.{append-nil, get_or-map, length-map, map-append}
 use Rattle.std.proofs.lemmas.List.Elements.{All-append, All-cons, All-map, All-nil, All-weaker, Contains-append_left, Contains-append_right}
@@ -6,7 +6,7 @@ use Rattle.std.specs.List.{AllByRecursion}
 use Rattle.gix_object.specs.Entries.{Pair, EachLater, EntryView, IsWellFormed}
 use Rattle.gix_object.specs.Edits.{raised}
 use Rattle.gix_object.specs.Files.{Has, Path}
-use Rattle.gix_object.specs.HandingOut.{HandsOut, Leaves, Walks, emptied, end, leaves, shut, unchanged, written}
+use Rattle.gix_object.specs.Emission.{Emits, EmitsBelow, Walks, emptied, end, leaves, unopened, unchanged, written}
 use Rattle.gix_object.specs.Opening.{Dirs, HasAt, IsOpened, in_dir}
 use Rattle.gix_object.specs.hash.hash.object_id.ObjectId.{ObjectId}
 use Rattle.gixobj_callers.proofs.Once.{IsOf, IsPerhaps, Starts, once_all, other_names, starts_all, starts_more, under}
@@ -19,24 +19,26 @@ contains_map f xs x (k, low, there) =
     let short : k < length (map f xs) = rw length-map low in
     (k, short, get_or-map f xs k x (f x) low ∙ ap f there)
 
-no_shorter : (xs : List Pair) (x : Pair) → [] ≡ xs ++ x ∷ [] → ⊥
-no_shorter [] x is = cc is
-no_shorter (y ∷ xs) x is = cc is
+no_last : (xs : List Pair) (x : Pair) → [] ≡ xs ++ x ∷ [] → ⊥
+no_last [] x is = cc is
+no_last (y ∷ xs) x is = cc is
 
 last_same : (xs ys : List Pair) (x y : Pair) → xs ++ x ∷ [] ≡ ys ++ y ∷ [] → (xs ≡ ys) × (x ≡ y)
 last_same [] [] x y is = (refl, cc is)
-last_same [] (b ∷ ys) x y is = let rest : [] ≡ ys ++ y ∷ [] = cc is in absurd (no_shorter ys y rest)
-last_same (a ∷ xs) [] x y is = let rest : [] ≡ xs ++ x ∷ [] = cc is in absurd (no_shorter xs x rest)
+last_same [] (b ∷ ys) x y is = let rest : [] ≡ ys ++ y ∷ [] = cc is in absurd (no_last ys y rest)
+last_same (a ∷ xs) [] x y is = let rest : [] ≡ xs ++ x ∷ [] = cc is in absurd (no_last xs x rest)
 last_same (a ∷ xs) (b ∷ ys) x y is =
     let first : a ≡ b = cc is in
     let rest : xs ++ x ∷ [] ≡ ys ++ y ∷ [] = cc is in
     let later = last_same xs ys x y rest in
     (cc (first, later.0), later.1)
 
--- ---- open directories lie in open ones
+-- ---- open directories are in open directories
 
 abbrev Closed : Dirs → Type 0
-Closed dirs = (path : Path) (name : List ℕ) (entries : List EntryView) → dirs (path ++ name ∷ []) ≡ Some entries → (e : EntryView) × HasAt (dirs path) e × (e.name ≡ name)
+Closed dirs = (path : Path) (name : List ℕ) (entries : List EntryView) → dirs (path ++ name ∷ []) ≡ Some entries → (e : EntryView)
+    × HasAt (dirs path) e
+    × (e.name ≡ name)
 
 abbrev IsOpen : Dirs → Path → Type 0
 IsOpen dirs path = (entries : List EntryView) × (dirs path ≡ Some entries)
@@ -52,41 +54,53 @@ root_open (name ∷ path) dirs entries closed is =
     let it = closed [] name below.0 below.1 in
     has_some (dirs []) it.0 it.1
 
--- ---- a directory among more of them
+-- ---- a directory in a longer list of pairs
 
 module _ (dirs bases : Dirs) where
-  own_among : (pairs front part back : List Pair) → pairs ≡ front ++ (part ++ back) → (path : Path) (own : List EntryView) → IsOwnTree dirs bases part path own → IsOwnTree dirs bases pairs path own
-  own_among pairs front part back is path own it = record {
-    front = front ++ it.front;
+  own_among : (pairs head part back : List Pair) → pairs ≡ head ++ (part ++ back) → (path : Path) (own : List EntryView)
+      → IsOwnTree dirs bases part path own
+      → IsOwnTree dirs bases pairs path own
+  own_among pairs head part back is path own it = record {
+    prefix = head ++ it.prefix;
     below = it.below;
     back = it.back ++ back;
     count = it.count;
-    place = is ∙ ap (λ (ps : List Pair). front ++ (ps ++ back)) it.place ∙ simp append_assoc;
+    place = is ∙ ap (λ (ps : List Pair). head ++ (ps ++ back)) it.place ∙ simp append_assoc;
     leaves = it.leaves;
   }
 
-  changed_among : (pairs front part back : List Pair) → pairs ≡ front ++ (part ++ back) → (it : Sent) → IsChanged dirs bases part it → IsChanged dirs bases pairs it
-  changed_among pairs front part back is it changed = record { own = own_among pairs front part back is it.path it.pair.1 changed.own; filled = changed.filled; other = changed.other }
+  changed_among : (pairs head part back : List Pair) → pairs ≡ head ++ (part ++ back) → (it : Sent) → IsChanged dirs bases part it
+      → IsChanged dirs bases pairs it
+  changed_among pairs head part back is it changed =
+      record { own = own_among pairs head part back is it.path it.pair.1 changed.own; filled = changed.filled; other = changed.other }
 
-  unchanged_among : (pairs front part back : List Pair) → pairs ≡ front ++ (part ++ back) → (path : Path) → IsUnchanged dirs bases part path → IsUnchanged dirs bases pairs path
-  unchanged_among pairs front part back is path same = record { tree = same.tree; own = own_among pairs front part back is path same.tree same.own; filled = same.filled; same = same.same }
+  unchanged_among : (pairs head part back : List Pair) → pairs ≡ head ++ (part ++ back) → (path : Path) → IsUnchanged dirs bases part path
+      → IsUnchanged dirs bases pairs path
+  unchanged_among pairs head part back is path same =
+      record { tree = same.tree; own = own_among pairs head part back is path same.tree same.own; filled = same.filled; same = same.same }
 
-  sorted_among : (pairs front part back : List Pair) → pairs ≡ front ++ (part ++ back) → (sent : List Sent) (spared : List Path) (path : Path) → IsSorted dirs bases part sent spared path → IsSorted dirs bases pairs sent spared path
-  sorted_among pairs front part back is sent spared path = ⊎_elim inl (λ stays. inr (⊎_elim inl (λ bare. inr (own_among pairs front part back is path [] bare)) stays))
+  sorted_among : (pairs head part back : List Pair) → pairs ≡ head ++ (part ++ back) → (sent : List Sent) (spared : List Path) (path : Path)
+      → IsSorted dirs bases part sent spared path → IsSorted dirs bases pairs sent spared path
+  sorted_among pairs head part back is sent spared path =
+      ⊎_elim inl (λ stays. inr (⊎_elim inl (λ bare. inr (own_among pairs head part back is path [] bare)) stays))
 
-  sorted_behind : (pairs : List Pair) (more sent : List Sent) (others spared : List Path) (path : Path) → IsSorted dirs bases pairs sent spared path → IsSorted dirs bases pairs (more ++ sent) (others ++ spared) path
-  sorted_behind pairs more sent others spared path =
-      ⊎_elim (λ goes. inl (goes.0, Contains-append_right more sent (record { path = path; pair = goes.0 }) goes.1)) (λ stays. inr (⊎_elim (λ at. inl (Contains-append_right others spared path at)) inr stays))
+  sorted_after : (pairs : List Pair) (more sent : List Sent) (others spared : List Path) (path : Path) → IsSorted dirs bases pairs sent spared path
+      → IsSorted dirs bases pairs (more ++ sent) (others ++ spared) path
+  sorted_after pairs more sent others spared path =
+      ⊎_elim (λ goes. inl (goes.0, Contains-append_right more sent (record { path = path; pair = goes.0 }) goes.1))
+      (λ stays. inr (⊎_elim (λ at. inl (Contains-append_right others spared path at)) inr stays))
 
-  sorted_before : (pairs : List Pair) (sent more : List Sent) (spared others : List Path) (path : Path) → IsSorted dirs bases pairs sent spared path → IsSorted dirs bases pairs (sent ++ more) (spared ++ others) path
+  sorted_before : (pairs : List Pair) (sent more : List Sent) (spared others : List Path) (path : Path) → IsSorted dirs bases pairs sent spared path
+      → IsSorted dirs bases pairs (sent ++ more) (spared ++ others) path
   sorted_before pairs sent more spared others path =
-      ⊎_elim (λ goes. inl (goes.0, Contains-append_left sent more (record { path = path; pair = goes.0 }) goes.1)) (λ stays. inr (⊎_elim (λ at. inl (Contains-append_left spared others path at)) inr stays))
+      ⊎_elim (λ goes. inl (goes.0, Contains-append_left sent more (record { path = path; pair = goes.0 }) goes.1))
+      (λ stays. inr (⊎_elim (λ at. inl (Contains-append_left spared others path at)) inr stays))
 
-  -- what goes out, and what is spared, of some of the directories
+  -- the emitted and the unchanged directories, of some of the directories
   record Parts (pairs : List Pair) (saved : ℕ) : Type 0 where
     sent : List Sent
     spared : List Path
-    whole : pairs ≡ map loose_pair_of sent
+    entire : pairs ≡ map loose_pair_of sent
     changed : All (IsChanged dirs bases pairs) sent
     same : All (IsUnchanged dirs bases pairs) spared
     count : length spared ≡ saved
@@ -94,23 +108,25 @@ module _ (dirs bases : Dirs) where
   abbrev IsIn : (pairs : List Pair) (saved : ℕ) → Parts pairs saved → Path → Type 0
   IsIn pairs saved parts path = IsSorted dirs bases pairs parts.sent parts.spared path
 
-  -- each open one below these entries is one of them
+  -- each open directory below these entries is one of them
   abbrev AreParts : List EntryView → (pairs : List Pair) (saved : ℕ) → Parts pairs saved → Type 0
   AreParts entries pairs saved parts =
-      Closed dirs → (e : EntryView) → Has entries e → (path : Path) (there : List EntryView) → dirs (e.name ∷ path) ≡ Some there → IsIn pairs saved parts (e.name ∷ path)
+      Closed dirs → (e : EntryView) → Has entries e → (path : Path) (there : List EntryView) → dirs (e.name ∷ path) ≡ Some there
+      → IsIn pairs saved parts (e.name ∷ path)
 
-  -- each open one below this one is one of them
+  -- each open directory below this one is one of them
   abbrev AreAllParts : (pairs : List Pair) (saved : ℕ) → Parts pairs saved → Type 0
-  AreAllParts pairs saved parts = Closed dirs → (name : List ℕ) (path : Path) (there : List EntryView) → dirs (name ∷ path) ≡ Some there → IsIn pairs saved parts (name ∷ path)
+  AreAllParts pairs saved parts = Closed dirs → (name : List ℕ) (path : Path) (there : List EntryView) → dirs (name ∷ path) ≡ Some there
+      → IsIn pairs saved parts (name ∷ path)
 
-  -- none comes twice, and each begins with a name of these
+  -- no path is repeated, and each begins with a name of these
   record Onces (P : List ℕ → Type 0) (pairs : List Pair) (saved : ℕ) (parts : Parts pairs saved) : Type 0 where
     sent : Once (map path_of parts.sent)
     sent_start : Starts P (map path_of parts.sent)
     spared : Once parts.spared
     spared_start : Starts P parts.spared
 
--- what is open is well-formed
+-- each open directory is well-formed
 abbrev Formed : Dirs → Type 0
 Formed dirs = (path : Path) (entries : List EntryView) → dirs path ≡ Some entries → IsWellFormed entries
 
@@ -131,61 +147,80 @@ paths_inside : (name : List ℕ) (sent : List Sent) → map path_of (map (inside
 paths_inside name [] = refl
 paths_inside name (it ∷ sent) = ap (λ (ps : List Path). (name ∷ it.path) ∷ ps) (paths_inside name sent)
 
--- ---- the directories in one, that one, and those behind it
+-- ---- the directories in one, that one, and those after it
 
 module _ (dirs bases : Dirs) (name : List ℕ) where
-  own_inside : (part : List Pair) (path : Path) (own : List EntryView) → IsOwnTree (in_dir name dirs) (in_dir name bases) part path own → IsOwnTree dirs bases part (name ∷ path) own
-  own_inside part path own it = record { front = it.front; below = it.below; back = it.back; count = it.count; place = it.place; leaves = it.leaves }
+  own_inside : (part : List Pair) (path : Path) (own : List EntryView) → IsOwnTree (in_dir name dirs) (in_dir name bases) part path own
+      → IsOwnTree dirs bases part (name ∷ path) own
+  own_inside part path own it =
+      record { prefix = it.prefix; below = it.below; back = it.back; count = it.count; place = it.place; leaves = it.leaves }
 
-  changed_inside : (part : List Pair) (it : Sent) → IsChanged (in_dir name dirs) (in_dir name bases) part it → IsChanged dirs bases part (inside name it)
+  changed_inside : (part : List Pair) (it : Sent) → IsChanged (in_dir name dirs) (in_dir name bases) part it
+      → IsChanged dirs bases part (inside name it)
   changed_inside part it changed = record { own = own_inside part it.path it.pair.1 changed.own; filled = changed.filled; other = changed.other }
 
-  unchanged_inside : (part : List Pair) (path : Path) → IsUnchanged (in_dir name dirs) (in_dir name bases) part path → IsUnchanged dirs bases part (name ∷ path)
+  unchanged_inside : (part : List Pair) (path : Path) → IsUnchanged (in_dir name dirs) (in_dir name bases) part path
+      → IsUnchanged dirs bases part (name ∷ path)
   unchanged_inside part path same = record { tree = same.tree; own = own_inside part path same.tree same.own; filled = same.filled; same = same.same }
 
-  sorted_inside : (part : List Pair) (sent : List Sent) (spared : List Path) (path : Path) → IsSorted (in_dir name dirs) (in_dir name bases) part sent spared path
+  sorted_inside : (part : List Pair) (sent : List Sent) (spared : List Path) (path : Path)
+      → IsSorted (in_dir name dirs) (in_dir name bases) part sent spared path
       → IsSorted dirs bases part (map (inside name) sent) (map (under name) spared) (name ∷ path)
   sorted_inside part sent spared path =
-      ⊎_elim (λ goes. inl (goes.0, contains_map (inside name) sent (record { path = path; pair = goes.0 }) goes.1)) (λ stays. inr (⊎_elim (λ at. inl (contains_map (under name) spared path at)) (λ bare. inr (own_inside part path [] bare)) stays))
+      ⊎_elim (λ goes. inl (goes.0, contains_map (inside name) sent (record { path = path; pair = goes.0 }) goes.1))
+      (λ stays. inr (⊎_elim (λ at. inl (contains_map (under name) spared path at)) (λ bare. inr (own_inside part path [] bare)) stays))
 
-  module _ (pairs inner below : List Pair) (low more total : ℕ) (here : List Sent) (kept : List Path) (is : pairs ≡ inner ++ (map loose_pair_of here ++ below)) (sum : total ≡ low + (length kept + more))
-      (mine : All (IsChanged dirs bases pairs) here) (its : All (IsUnchanged dirs bases pairs) kept) (in_it : Parts (in_dir name dirs) (in_dir name bases) inner low) (behind : Parts dirs bases below more) where
-    at_front : pairs ≡ [] ++ (inner ++ (map loose_pair_of here ++ below))
-    at_front = is
+  module _ (pairs inner below : List Pair) (low more total : ℕ) (here : List Sent) (kept : List Path)
+      (is : pairs ≡ inner ++ (map loose_pair_of here ++ below))
+      (sum : total ≡ low + (length kept + more))
+      (mine : All (IsChanged dirs bases pairs) here) (its : All (IsUnchanged dirs bases pairs) kept)
+      (in_it : Parts (in_dir name dirs) (in_dir name bases) inner low) (after : Parts dirs bases below more) where
+    at_prefix : pairs ≡ [] ++ (inner ++ (map loose_pair_of here ++ below))
+    at_prefix = is
 
     at_back : pairs ≡ (inner ++ map loose_pair_of here) ++ (below ++ [])
     at_back = is ∙ simp (append_assoc, append-nil)
 
-    all_of_them : pairs ≡ map loose_pair_of (map (inside name) in_it.sent ++ (here ++ behind.sent))
+    all_of_them : pairs ≡ map loose_pair_of (map (inside name) in_it.sent ++ (here ++ after.sent))
     all_of_them =
-        let first : inner ≡ map loose_pair_of (map (inside name) in_it.sent) = in_it.whole ∙ sym (pairs_inside name in_it.sent) in
-        let apart : map loose_pair_of (map (inside name) in_it.sent ++ (here ++ behind.sent)) ≡ map loose_pair_of (map (inside name) in_it.sent) ++ (map loose_pair_of here ++ map loose_pair_of behind.sent) = simp map-append in
-        cc (is, first, behind.whole, apart)
+        let first : inner ≡ map loose_pair_of (map (inside name) in_it.sent) = in_it.entire ∙ sym (pairs_inside name in_it.sent) in
+        let apart : map loose_pair_of (map (inside name) in_it.sent ++ (here ++ after.sent)) ≡ map loose_pair_of (map (inside name) in_it.sent)
+        ++ (map loose_pair_of here ++ map loose_pair_of after.sent) = simp map-append in
+        cc (is, first, after.entire, apart)
 
-    number : length (map (under name) in_it.spared ++ (kept ++ behind.spared)) ≡ total
-    number = simp (length-append, length-map) (omega (arith, in_it.count, behind.count, sum))
+    number : length (map (under name) in_it.spared ++ (kept ++ after.spared)) ≡ total
+    number = simp (length-append, length-map) (omega (arith, in_it.count, after.count, sum))
 
-    all_changed : All (IsChanged dirs bases pairs) (map (inside name) in_it.sent ++ (here ++ behind.sent))
+    all_changed : All (IsChanged dirs bases pairs) (map (inside name) in_it.sent ++ (here ++ after.sent))
     all_changed =
         let There : Sent → Type 0 = IsChanged dirs bases pairs in
         let low = All-weaker (IsChanged (in_dir name dirs) (in_dir name bases) inner) (λ (it : Sent). There (inside name it))
-        (λ it changed. changed_among dirs bases pairs [] inner (map loose_pair_of here ++ below) at_front (inside name it) (changed_inside inner it changed)) in_it.sent in_it.changed in
-        let late = All-weaker (IsChanged dirs bases below) There (λ it changed. changed_among dirs bases pairs (inner ++ map loose_pair_of here) below [] at_back it changed) behind.sent behind.changed in
-        All-append There (map (inside name) in_it.sent) (here ++ behind.sent) (All-map There (inside name) in_it.sent low) (All-append There here behind.sent mine late)
+        (λ it changed. changed_among dirs bases pairs [] inner (map loose_pair_of here ++ below) at_prefix (inside name it)
+        (changed_inside inner it changed))
+        in_it.sent in_it.changed in
+        let late = All-weaker (IsChanged dirs bases below) There (λ it changed. changed_among dirs bases pairs (inner ++ map loose_pair_of here) below
+        [] at_back it changed) after.sent after.changed in
+        All-append There (map (inside name) in_it.sent) (here ++ after.sent) (All-map There (inside name) in_it.sent low)
+        (All-append There here after.sent mine late)
 
-    all_unchanged : All (IsUnchanged dirs bases pairs) (map (under name) in_it.spared ++ (kept ++ behind.spared))
+    all_unchanged : All (IsUnchanged dirs bases pairs) (map (under name) in_it.spared ++ (kept ++ after.spared))
     all_unchanged =
         let There : Path → Type 0 = IsUnchanged dirs bases pairs in
         let low = All-weaker (IsUnchanged (in_dir name dirs) (in_dir name bases) inner) (λ (path : Path). There (under name path))
-        (λ path same. unchanged_among dirs bases pairs [] inner (map loose_pair_of here ++ below) at_front (name ∷ path) (unchanged_inside inner path same)) in_it.spared in_it.same in
-        let late = All-weaker (IsUnchanged dirs bases below) There (λ path same. unchanged_among dirs bases pairs (inner ++ map loose_pair_of here) below [] at_back path same) behind.spared behind.same in
-        All-append There (map (under name) in_it.spared) (kept ++ behind.spared) (All-map There (under name) in_it.spared low) (All-append There kept behind.spared its late)
+        (λ path same. unchanged_among dirs bases pairs [] inner (map loose_pair_of here ++ below) at_prefix (name ∷ path)
+        (unchanged_inside inner path same))
+        in_it.spared in_it.same in
+        let late = All-weaker (IsUnchanged dirs bases below) There
+        (λ path same. unchanged_among dirs bases pairs (inner ++ map loose_pair_of here) below
+        [] at_back path same) after.spared after.same in
+        All-append There (map (under name) in_it.spared) (kept ++ after.spared) (All-map There (under name) in_it.spared low)
+        (All-append There kept after.spared its late)
 
     abbrev joined : Parts dirs bases pairs total
     joined = record {
-      sent = map (inside name) in_it.sent ++ (here ++ behind.sent);
-      spared = map (under name) in_it.spared ++ (kept ++ behind.spared);
-      whole = all_of_them;
+      sent = map (inside name) in_it.sent ++ (here ++ after.sent);
+      spared = map (under name) in_it.spared ++ (kept ++ after.spared);
+      entire = all_of_them;
       changed = all_changed;
       same = all_unchanged;
       count = number;
@@ -196,43 +231,62 @@ module _ (dirs bases : Dirs) (name : List ℕ) where
     at_or_below all closed this [] there open_there = this
     at_or_below all closed this (next ∷ path) there open_there =
         let its = all (λ at. closed (name ∷ at)) next path there open_there in
-        sorted_before dirs bases pairs (map (inside name) in_it.sent) (here ++ behind.sent) (map (under name) in_it.spared) (kept ++ behind.spared) (name ∷ next ∷ path)
-        (sorted_among dirs bases pairs [] inner (map loose_pair_of here ++ below) at_front (map (inside name) in_it.sent) (map (under name) in_it.spared) (name ∷ next ∷ path) (sorted_inside inner in_it.sent in_it.spared (next ∷ path) its))
+        sorted_before dirs bases pairs (map (inside name) in_it.sent) (here ++ after.sent) (map (under name) in_it.spared) (kept ++ after.spared)
+        (name ∷ next ∷ path)
+        (sorted_among dirs bases pairs [] inner (map loose_pair_of here ++ below) at_prefix (map (inside name) in_it.sent)
+        (map (under name) in_it.spared)
+        (name ∷ next ∷ path) (sorted_inside inner in_it.sent in_it.spared (next ∷ path) its))
 
-    each_joined : (e : EntryView) (rest : List EntryView) → e.name ≡ name → IsIn dirs bases pairs total joined (name ∷ []) → AreAllParts (in_dir name dirs) (in_dir name bases) inner low in_it
-        → AreParts dirs bases rest below more behind → AreParts dirs bases (e ∷ rest) pairs total joined
+    each_joined : (e : EntryView) (rest : List EntryView) → e.name ≡ name → IsIn dirs bases pairs total joined (name ∷ [])
+        → AreAllParts (in_dir name dirs) (in_dir name bases) inner low in_it
+        → AreParts dirs bases rest below more after → AreParts dirs bases (e ∷ rest) pairs total joined
     each_joined e rest named this all others closed x (inl same) path there open_there =
         let so : x.name ≡ name = sym (ap (λ (y : EntryView). y.name) same) ∙ named in
-        let at : (path : Path) → dirs (name ∷ path) ≡ Some there → IsIn dirs bases pairs total joined (name ∷ path) = λ path open_there. at_or_below all closed this path there open_there in
-        subst (λ (first : List ℕ). IsIn dirs bases pairs total joined (first ∷ path)) (sym so) (at path (subst (λ (first : List ℕ). dirs (first ∷ path) ≡ Some there) so open_there))
+        let at : (path : Path) → dirs (name ∷ path) ≡ Some there → IsIn dirs bases pairs total joined (name ∷ path) =
+        λ path open_there. at_or_below all closed this path there open_there in
+        subst (λ (first : List ℕ). IsIn dirs bases pairs total joined (first ∷ path)) (sym so)
+        (at path (subst (λ (first : List ℕ). dirs (first ∷ path) ≡ Some there) so open_there))
     each_joined e rest named this all others closed x (inr later) path there open_there =
         let its = others closed x later path there open_there in
-        sorted_behind dirs bases pairs (map (inside name) in_it.sent) (here ++ behind.sent) (map (under name) in_it.spared) (kept ++ behind.spared) (x.name ∷ path)
-        (sorted_behind dirs bases pairs here behind.sent kept behind.spared (x.name ∷ path) (sorted_among dirs bases pairs (inner ++ map loose_pair_of here) below [] at_back behind.sent behind.spared (x.name ∷ path) its))
+        sorted_after dirs bases pairs (map (inside name) in_it.sent) (here ++ after.sent) (map (under name) in_it.spared) (kept ++ after.spared)
+        (x.name ∷ path)
+        (sorted_after dirs bases pairs here after.sent kept after.spared (x.name ∷ path)
+        (sorted_among dirs bases pairs (inner ++ map loose_pair_of here) below [] at_back after.sent after.spared (x.name ∷ path) its))
 
-    paths_joined : map path_of (map (inside name) in_it.sent ++ (here ++ behind.sent)) ≡ map (under name) (map path_of in_it.sent) ++ (map path_of here ++ map path_of behind.sent)
+    paths_joined : map path_of (map (inside name) in_it.sent ++ (here ++ after.sent)) ≡ map (under name) (map path_of in_it.sent)
+        ++ (map path_of here ++ map path_of after.sent)
     paths_joined =
-        let apart : map path_of (map (inside name) in_it.sent ++ (here ++ behind.sent)) ≡ map path_of (map (inside name) in_it.sent) ++ (map path_of here ++ map path_of behind.sent) = simp map-append in
-        apart ∙ ap (λ (ps : List Path). ps ++ (map path_of here ++ map path_of behind.sent)) (paths_inside name in_it.sent)
+        let apart : map path_of (map (inside name) in_it.sent ++ (here ++ after.sent)) ≡ map path_of (map (inside name) in_it.sent)
+        ++ (map path_of here ++ map path_of after.sent) = simp map-append in
+        apart ∙ ap (λ (ps : List Path). ps ++ (map path_of here ++ map path_of after.sent)) (paths_inside name in_it.sent)
 
-    once_joined : (e : EntryView) (rest : List EntryView) → e.name ≡ name → AllByRecursion (λ (x : EntryView). e.name ≢ x.name) rest → IsPerhaps name (map path_of here) → IsPerhaps name kept
-        → Onces (in_dir name dirs) (in_dir name bases) Any inner low in_it → Onces dirs bases (IsOf rest) below more behind → Onces dirs bases (IsOf (e ∷ rest)) pairs total joined
+    once_joined : (e : EntryView) (rest : List EntryView) → e.name ≡ name → AllByRecursion (λ (x : EntryView). e.name ≢ x.name) rest
+        → IsPerhaps name (map path_of here) → IsPerhaps name kept
+        → Onces (in_dir name dirs) (in_dir name bases) Any inner low in_it → Onces dirs bases (IsOf rest) below more after
+        → Onces dirs bases (IsOf (e ∷ rest)) pairs total joined
     once_joined e rest named others one_here one_kept lower later =
         let differ : (n : List ℕ) → IsOf rest n → n ≢ name = λ n of same. other_names e rest others n of (same ∙ sym named) in
         let more : (n : List ℕ) → IsOf rest n → IsOf (e ∷ rest) n = λ n of. (of.0, inr of.1, of.2) in
         let this : IsOf (e ∷ rest) name = (e, inl refl, named) in
-        let goes = map path_of behind.sent in
+        let goes = map path_of after.sent in
         record {
-          sent = subst Once (sym paths_joined) (once_all Any name (map path_of in_it.sent) (map path_of here) goes one_here lower.sent lower.sent_start later.sent (starts_more (IsOf rest) (λ n. n ≢ name) differ goes later.sent_start));
-          sent_start = subst (Starts (IsOf (e ∷ rest))) (sym paths_joined) (starts_all (IsOf (e ∷ rest)) name (map path_of in_it.sent) (map path_of here) goes one_here this (starts_more (IsOf rest) (IsOf (e ∷ rest)) more goes later.sent_start));
-          spared = once_all Any name in_it.spared kept behind.spared one_kept lower.spared lower.spared_start later.spared (starts_more (IsOf rest) (λ n. n ≢ name) differ behind.spared later.spared_start);
-          spared_start = starts_all (IsOf (e ∷ rest)) name in_it.spared kept behind.spared one_kept this (starts_more (IsOf rest) (IsOf (e ∷ rest)) more behind.spared later.spared_start);
+          sent = subst Once (sym paths_joined)
+              (once_all Any name (map path_of in_it.sent) (map path_of here) goes one_here lower.sent lower.sent_start later.sent
+              (starts_more (IsOf rest) (λ n. n ≢ name) differ goes later.sent_start));
+          sent_start = subst (Starts (IsOf (e ∷ rest))) (sym paths_joined)
+              (starts_all (IsOf (e ∷ rest)) name (map path_of in_it.sent) (map path_of here) goes one_here this
+              (starts_more (IsOf rest) (IsOf (e ∷ rest)) more goes later.sent_start));
+          spared = once_all Any name in_it.spared kept after.spared one_kept lower.spared lower.spared_start later.spared
+              (starts_more (IsOf rest) (λ n. n ≢ name) differ after.spared later.spared_start);
+          spared_start = starts_all (IsOf (e ∷ rest)) name in_it.spared kept after.spared one_kept this
+              (starts_more (IsOf rest) (IsOf (e ∷ rest)) more after.spared later.spared_start);
         }
 
--- ---- all that a write goes through
+-- ---- all directories of a write
 
-own_here : (dirs bases : Dirs) (name : List ℕ) (inner back : List Pair) (own : List EntryView) (count : ℕ) → Leaves (in_dir name dirs) (in_dir name bases) inner own count → IsOwnTree dirs bases (inner ++ back) (name ∷ []) own
-own_here dirs bases name inner back own count it = record { front = []; below = inner; back = back; count = count; place = refl; leaves = it }
+own_here : (dirs bases : Dirs) (name : List ℕ) (inner back : List Pair) (own : List EntryView) (count : ℕ)
+    → EmitsBelow (in_dir name dirs) (in_dir name bases) inner own count → IsOwnTree dirs bases (inner ++ back) (name ∷ []) own
+own_here dirs bases name inner back own count it = record { prefix = []; below = inner; back = back; count = count; place = refl; leaves = it }
 
 none_changed : (dirs bases : Dirs) (pairs : List Pair) → All (IsChanged dirs bases pairs) []
 none_changed dirs bases pairs = All-nil (IsChanged dirs bases pairs)
@@ -243,11 +297,12 @@ none_unchanged dirs bases pairs = All-nil (IsUnchanged dirs bases pairs)
 one_changed : (dirs bases : Dirs) (pairs : List Pair) (it : Sent) → IsChanged dirs bases pairs it → All (IsChanged dirs bases pairs) (it ∷ [])
 one_changed dirs bases pairs it changed = All-cons (IsChanged dirs bases pairs) it [] changed (none_changed dirs bases pairs)
 
-one_unchanged : (dirs bases : Dirs) (pairs : List Pair) (path : Path) → IsUnchanged dirs bases pairs path → All (IsUnchanged dirs bases pairs) (path ∷ [])
+one_unchanged : (dirs bases : Dirs) (pairs : List Pair) (path : Path) → IsUnchanged dirs bases pairs path
+    → All (IsUnchanged dirs bases pairs) (path ∷ [])
 one_unchanged dirs bases pairs path same = All-cons (IsUnchanged dirs bases pairs) path [] same (none_unchanged dirs bases pairs)
 
 mutual
-  leaves_parted : (dirs bases : Dirs) (pairs : List Pair) (own : List EntryView) (saved : ℕ) → Leaves dirs bases pairs own saved
+  leaves_parted : (dirs bases : Dirs) (pairs : List Pair) (own : List EntryView) (saved : ℕ) → EmitsBelow dirs bases pairs own saved
       → (parts : Parts dirs bases pairs saved) × AreAllParts dirs bases pairs saved parts × (Formed dirs → Onces dirs bases Any pairs saved parts)
   leaves_parted dirs bases pairs own saved (leaves d b entries below os n is walk) =
       let it = walk_parted d b entries below os n walk in (
@@ -256,7 +311,8 @@ mutual
             let first = root_open path (in_dir name d) there (λ at. closed (name ∷ at)) open_there in
             let (e, has, named) = closed [] name first.0 first.1 in
             let one : Has entries e = subst (λ (found : Option (List EntryView)). HasAt found e) is has in
-            subst (λ (n : List ℕ). IsSorted d b below it.0.sent it.0.spared (n ∷ path)) named (it.1 closed e one path there (subst (λ (n : List ℕ). d (n ∷ path) ≡ Some there) (sym named) open_there)),
+            subst (λ (n : List ℕ). IsSorted d b below it.0.sent it.0.spared (n ∷ path)) named
+            (it.1 closed e one path there (subst (λ (n : List ℕ). d (n ∷ path) ≡ Some there) (sym named) open_there)),
         λ formed.
             let once = it.2 formed (formed [] entries is).apart in
             let any : (n : List ℕ) → IsOf entries n → Any n = λ n of. tt in
@@ -268,14 +324,16 @@ mutual
             },
       )
 
-  walk_parted : (dirs bases : Dirs) (entries : List EntryView) (pairs : List Pair) (own : List EntryView) (saved : ℕ) → Walks dirs bases entries pairs own saved
-      → (parts : Parts dirs bases pairs saved) × AreParts dirs bases entries pairs saved parts × (Formed dirs → AreNamedApart entries → Onces dirs bases (IsOf entries) pairs saved parts)
+  walk_parted : (dirs bases : Dirs) (entries : List EntryView) (pairs : List Pair) (own : List EntryView) (saved : ℕ)
+      → Walks dirs bases entries pairs own saved
+      → (parts : Parts dirs bases pairs saved) × AreParts dirs bases entries pairs saved parts
+      × (Formed dirs → AreNamedApart entries → Onces dirs bases (IsOf entries) pairs saved parts)
   walk_parted dirs bases entries pairs own saved (end d b) = (
-    record { sent = []; spared = []; whole = refl; changed = none_changed d b []; same = none_unchanged d b []; count = refl },
+    record { sent = []; spared = []; entire = refl; changed = none_changed d b []; same = none_unchanged d b []; count = refl },
     λ closed e has. absurd has,
     λ formed apart. record { sent = tt; sent_start = tt; spared = tt; spared_start = tt },
   )
-  walk_parted dirs bases entries pairs own saved (shut d b e rest below os n none walk) =
+  walk_parted dirs bases entries pairs own saved (unopened d b e rest below os n none walk) =
       let it = walk_parted d b rest below os n walk in (
         it.0,
         λ closed x has path there open_there. ⊎_elim
@@ -299,9 +357,13 @@ mutual
       let low = leaves_parted (in_dir e.name d) (in_dir e.name b) inner [] m found in
       let it = walk_parted d b rest below os n walk in
       let sum : m + n ≡ m + (length {A = Path} [] + n) = omega arith in (
-        joined d b e.name (inner ++ below) inner below m n (m + n) [] [] refl sum (none_changed d b (inner ++ below)) (none_unchanged d b (inner ++ below)) low.0 it.0,
-        each_joined d b e.name (inner ++ below) inner below m n (m + n) [] [] refl sum (none_changed d b (inner ++ below)) (none_unchanged d b (inner ++ below)) low.0 it.0 e rest refl (inr (inr (own_here d b e.name inner below [] m found))) low.1 it.1,
-        λ formed apart. once_joined d b e.name (inner ++ below) inner below m n (m + n) [] [] refl sum (none_changed d b (inner ++ below)) (none_unchanged d b (inner ++ below)) low.0 it.0 e rest refl apart.0 (inl refl) (inl refl) (low.2 (λ path. formed (e.name ∷ path))) (it.2 formed apart.1),
+        joined d b e.name (inner ++ below) inner below m n (m + n) [] [] refl sum (none_changed d b (inner ++ below))
+            (none_unchanged d b (inner ++ below)) low.0 it.0,
+        each_joined d b e.name (inner ++ below) inner below m n (m + n) [] [] refl sum (none_changed d b (inner ++ below))
+            (none_unchanged d b (inner ++ below)) low.0 it.0 e rest refl (inr (inr (own_here d b e.name inner below [] m found))) low.1 it.1,
+        λ formed apart. once_joined d b e.name (inner ++ below) inner below m n (m + n) [] [] refl sum (none_changed d b (inner ++ below))
+            (none_unchanged d b (inner ++ below)) low.0 it.0 e rest refl apart.0 (inl refl) (inl refl) (low.2 (λ path. formed (e.name ∷ path)))
+            (it.2 formed apart.1),
       )
   walk_parted dirs bases entries pairs own saved (unchanged d b e first rest more inner below os m n found same walk) =
       let low = leaves_parted (in_dir e.name d) (in_dir e.name b) inner (first ∷ more) m found in
@@ -310,11 +372,17 @@ mutual
       let kept : List Path = (e.name ∷ []) ∷ [] in
       let sum : m + 1 + n ≡ m + (1 + n) = omega arith in
       let its : All (IsUnchanged d b (inner ++ below)) kept =
-      one_unchanged d b (inner ++ below) (e.name ∷ []) (record { tree = tree; own = own_here d b e.name inner below tree m found; filled = λ empty. cc empty; same = same }) in
-      let at = Contains-append_right (map (under e.name) low.0.spared) (kept ++ it.0.spared) (e.name ∷ []) (Contains-append_left kept it.0.spared (e.name ∷ []) (0, omega arith, refl)) in (
+      one_unchanged d b (inner ++ below) (e.name ∷ [])
+      (record { tree = tree; own = own_here d b e.name inner below tree m found; filled = λ empty. cc empty; same = same }) in
+      let at = Contains-append_right (map (under e.name) low.0.spared) (kept ++ it.0.spared) (e.name ∷ [])
+      (Contains-append_left kept it.0.spared (e.name ∷ []) (0, omega arith, refl)) in (
         joined d b e.name (inner ++ below) inner below m n (m + 1 + n) [] kept refl sum (none_changed d b (inner ++ below)) its low.0 it.0,
-        each_joined d b e.name (inner ++ below) inner below m n (m + 1 + n) [] kept refl sum (none_changed d b (inner ++ below)) its low.0 it.0 e rest refl (inr (inl at)) low.1 it.1,
-        λ formed apart. once_joined d b e.name (inner ++ below) inner below m n (m + 1 + n) [] kept refl sum (none_changed d b (inner ++ below)) its low.0 it.0 e rest refl apart.0 (inl refl) (inr refl) (low.2 (λ path. formed (e.name ∷ path))) (it.2 formed apart.1),
+        each_joined d b e.name (inner ++ below) inner below m n (m + 1 + n) [] kept refl sum (none_changed d b (inner ++ below)) its low.0 it.0 e rest
+            refl
+            (inr (inl at)) low.1 it.1,
+        λ formed apart. once_joined d b e.name (inner ++ below) inner below m n (m + 1 + n) [] kept refl sum
+            (none_changed d b (inner ++ below)) its low.0 it.0
+            e rest refl apart.0 (inl refl) (inr refl) (low.2 (λ path. formed (e.name ∷ path))) (it.2 formed apart.1),
       )
   walk_parted dirs bases entries pairs own saved (written d b e first rest more inner below os m n id found other walk) =
       let low = leaves_parted (in_dir e.name d) (in_dir e.name b) inner (first ∷ more) m found in
@@ -324,32 +392,45 @@ mutual
       let one : Sent = record { path = e.name ∷ []; pair = (id, tree) } in
       let sum : m + n ≡ m + (0 + n) = omega arith in
       let mine : All (IsChanged d b all) (one ∷ []) =
-      one_changed d b all one (record { own = own_here d b e.name inner ((id, tree) ∷ below) tree m found; filled = λ empty. cc empty; other = other }) in
-      let at = Contains-append_right (map (inside e.name) low.0.sent) ((one ∷ []) ++ it.0.sent) one (Contains-append_left (one ∷ []) it.0.sent one (0, omega arith, refl)) in (
+      one_changed d b all one (record {
+        own = own_here d b e.name inner ((id, tree) ∷ below) tree m found;
+        filled = λ empty. cc empty;
+        other = other;
+      }) in
+      let at = Contains-append_right (map (inside e.name) low.0.sent) ((one ∷ []) ++ it.0.sent) one
+      (Contains-append_left (one ∷ []) it.0.sent one (0, omega arith, refl)) in (
         joined d b e.name all inner below m n (m + n) (one ∷ []) [] refl sum mine (none_unchanged d b all) low.0 it.0,
-        each_joined d b e.name all inner below m n (m + n) (one ∷ []) [] refl sum mine (none_unchanged d b all) low.0 it.0 e rest refl (inl ((id, tree), at)) low.1 it.1,
-        λ formed apart. once_joined d b e.name all inner below m n (m + n) (one ∷ []) [] refl sum mine (none_unchanged d b all) low.0 it.0 e rest refl apart.0 (inr refl) (inl refl) (low.2 (λ path. formed (e.name ∷ path))) (it.2 formed apart.1),
+        each_joined d b e.name all inner below m n (m + n) (one ∷ []) [] refl sum mine (none_unchanged d b all) low.0 it.0 e rest refl
+            (inl ((id, tree), at)) low.1 it.1,
+        λ formed apart. once_joined d b e.name all inner below m n (m + n) (one ∷ []) [] refl sum mine (none_unchanged d b all) low.0 it.0 e rest refl
+            apart.0
+            (inr refl) (inl refl) (low.2 (λ path. formed (e.name ∷ path))) (it.2 formed apart.1),
       )
 
 closed_of : (dirs : Dirs) → IsOpened dirs → Closed dirs
 closed_of dirs is path name entries there = let it = is.above path name entries there in (it.0, it.1, it.2)
 
--- what a write hands out, its own pair apart
-pub divided : (dirs bases : Dirs) (pairs below : List Pair) (saved : ℕ) (id : ObjectId) (own : List EntryView) → HandsOut dirs bases saved pairs → pairs ≡ below ++ (id, own) ∷ [] → IsDivided dirs bases pairs id saved
-divided dirs bases pairs below saved id own (part, its_id, its_own, (count, goes, saves), whole) last =
+-- the emitted pairs of a write, without its own
+pub divided : (dirs bases : Dirs) (pairs below : List Pair) (saved : ℕ) (id : ObjectId) (own : List EntryView) → Emits dirs bases saved pairs
+    → pairs ≡ below ++ (id, own) ∷ [] → IsDivided dirs bases pairs id saved
+divided dirs bases pairs below saved id own (part, its_id, its_own, (count, goes, saves), full) last =
     let (parts, each, once) = leaves_parted dirs bases part its_own count goes in
-    let same = last_same part below (its_id, its_own) (id, own) (sym whole ∙ last) in
+    let same = last_same part below (its_id, its_own) (id, own) (sym full ∙ last) in
     let its : List Pair = (its_id, its_own) ∷ [] in
-    let among : pairs ≡ [] ++ (part ++ its) = whole in
+    let among : pairs ≡ [] ++ (part ++ its) = full in
     record {
       sent = parts.sent;
       spared = parts.spared;
       own = own;
-      whole = last ∙ ap (λ (ps : List Pair). ps ++ (id, own) ∷ []) (sym same.0 ∙ parts.whole);
-      changed = All-weaker (IsChanged dirs bases part) (IsChanged dirs bases pairs) (λ it. changed_among dirs bases pairs [] part its among it) parts.sent parts.changed;
-      same = All-weaker (IsUnchanged dirs bases part) (IsUnchanged dirs bases pairs) (λ path. unchanged_among dirs bases pairs [] part its among path) parts.spared parts.same;
+      entire = last ∙ ap (λ (ps : List Pair). ps ++ (id, own) ∷ []) (sym same.0 ∙ parts.entire);
+      changed = All-weaker (IsChanged dirs bases part) (IsChanged dirs bases pairs) (λ it. changed_among dirs bases pairs [] part its among it)
+          parts.sent
+          parts.changed;
+      same = All-weaker (IsUnchanged dirs bases part) (IsUnchanged dirs bases pairs) (λ path. unchanged_among dirs bases pairs [] part its among path)
+          parts.spared parts.same;
       count = saves ∙ ap (raised 0) (sym parts.count);
       once = λ opened. let them = once opened.well_formed in (them.sent, them.spared);
       each = λ opened name path entries there.
-          sorted_among dirs bases pairs [] part its among parts.sent parts.spared (name ∷ path) (each (closed_of dirs opened) name path entries there);
+          sorted_among dirs bases pairs [] part its among parts.sent parts.spared (name ∷ path)
+          (each (closed_of dirs opened) name path entries there);
     }

@@ -1,7 +1,7 @@
--- What a history comes to that was imported.
+-- The last commit and the files of an imported history.
 use Rattle.std.specs.Prelude.{◌≡◌, ◌++◌, ◌∷◌, ℕ, List, [], None, Option, length}
-use Rattle.gix_object.specs.Commit.{IsCommitText}
-use Rattle.gix_object.specs.Commits.{step_commit, step_text}
+use Rattle.gix_object.specs.Commit.{DecodesToCommit}
+use Rattle.gix_object.specs.Commits.{step_commit, encode_step}
 use Rattle.gix_object.specs.Files.{NamedFiles, SameFiles, Table}
 use Rattle.gix_object.specs.Hash.{id_of}
 use Rattle.gix_object.specs.History.{History}
@@ -14,15 +14,16 @@ use Rattle.gix_object.specs.hash.kind.Kind.TheVariants.{Commit}
 use Rattle.gix_object.specs.import.import.Imported.{Imported}
 use Rattle.gix_object.specs.import.import.Step.{Step}
 
--- the commit's id is the digest of a text that is this step's, with its tree and a parent or none
+-- the commit's id is the digest of this step's encoding, with its tree and a parent or none; the encoding decodes to
+-- the step's commit
 pub record IsOfStep (hash : hash.Kind) (step : Step) (it : Imported) : Type 0 where
   pub parent : Option ObjectId
-  pub id : it.commit ≡ id_of hash Commit (step_text step it.written.id parent)
-  pub text : IsCommitText hash (step_text step it.written.id parent) (step_commit step it.written.id parent)
+  pub id : it.commit ≡ id_of hash Commit (encode_step step it.written.id parent)
+  pub decodes : DecodesToCommit hash (encode_step step it.written.id parent) (step_commit step it.written.id parent)
 
--- what was imported last: behind one import for each earlier step it is that of the last step; and in every table that agrees
--- with the store and with the ids given out, its tree has, to every depth, exactly the files that the edits of all steps make
--- of nothing
+-- the last import: after one import for each earlier step, it is that of the last step. Its tree has, at every depth,
+-- exactly the files that the edits of all steps make of none; this holds in every table that agrees with the store and
+-- the imports
 pub record IsTip (objects : Objects) (hash : hash.Kind) (steps : List Step) (tip : Imported) : Type 0 where
   pub before : List Step
   pub last : Step

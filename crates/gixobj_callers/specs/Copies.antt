@@ -1,4 +1,4 @@
--- Why a commit that was read is not written back.
+-- Errors of copies, which decode an object and then encode it.
 use Rattle.std.specs.Prelude.{◌⊎◌, ⊤}
 use Rattle.gix_object.specs.ActorWriting.{IsUnwritable}
 use Rattle.gix_object.specs.Commit.{CommitLines}
@@ -8,13 +8,13 @@ use Rattle.gix_object.specs.hash.decode.Error.TheVariants as decode
 use Rattle.gixobj_callers.specs.declared.store.CopyError.{CopyError}
 use Rattle.gixobj_callers.specs.declared.store.CopyError.TheVariants.{Read, Write}
 
--- there was no memory to read it, or no room to write it
+-- out of memory in decoding, or a failure of the sink
 abbrev pub FailsForRoom : CopyError → Type 0
 FailsForRoom (Read decode.OutOfMemory) = ⊤
 FailsForRoom (Write (encode.Writer cause)) = ⊤
 FailsForRoom _ = ⊥
 
--- the same, or a part of the commit is refused
+-- out of memory in decoding, a failure of the sink, or an invalid part of the commit
 abbrev pub FailsForPart : CommitLines → CopyError → Type 0
 FailsForPart commit (Read decode.OutOfMemory) = ⊤
 FailsForPart commit (Write (encode.Writer cause)) = ⊤

@@ -1,8 +1,8 @@
--- Imports: edits that all come through, one after the other, and then a write, all of whose trees the store keeps.
+-- Imports, in which edits succeed one after the other, and then a write, all of whose trees the store keeps.
 use Rattle.std.specs.Prelude.{◌≡◌, ◌++◌, ◌∷◌, ℕ, Bool, true, false, Contains, List, [], flat_map, length, map}
 use Rattle.gixobj_callers.specs.declared.importer.ImportError.{ImportError}
 use Rattle.gixobj_callers.specs.declared.importer.ImportError.TheVariants as import
-use Rattle.gix_object.specs.Stores.{Meaning}
+use Rattle.gix_object.specs.Stores.{StoreModel}
 use Rattle.gix_object.specs.Commands.{at_root}
 use Rattle.gix_object.specs.Edited.{steps_if_done}
 use Rattle.gix_object.specs.History.{Step}
@@ -18,54 +18,56 @@ use Rattle.gix_object.specs.editor.reply.EditReply.TheVariants as edit_reply
 use Rattle.gix_object.specs.editor.reply.Reply.{Reply}
 use Rattle.gix_object.specs.editor.reply.Reply.TheVariants as reply
 
--- what all of the edits do, in order
+-- the steps of all edits, in order
 abbrev pub import_steps : List Edit → List Step
 import_steps edits = flat_map steps_if_done edits
 
--- a command for each edit, and then one to write
+-- a command for each edit, and then one that writes
 abbrev pub edits_and_write : List Edit → List Command
 edits_and_write edits = map command.Edit edits ++ command.Edit edit.Write ∷ []
 
--- the edit came through
+-- the edit is accepted
 abbrev pub is_done : {E : Type 0} → Reply E → Bool
 is_done (reply.Edit edit_reply.Done) = true
 is_done its_reply = false
 
-module _ {S E : Type 0} (means : Meaning S) (answers : Answers E) where
-  -- the edits come through, one after the other
+module _ {S E : Type 0} (means : StoreModel S) (answers : Answers E) where
+  -- the edits are accepted, one after the other
   abbrev pub AreEditsDone : State S → List Edit → State S → Type 0
   AreEditsDone old edits new = AreEditReplies means answers at_root old edits (map (λ _. edit_reply.Done) edits) new
 
-  -- behind the edits, which come through, the write gets this reply
+  -- the edits are accepted, and then the write gets this reply
   pub record HasWriteReply (old : State S) (edits : List Edit) (its_reply : EditReply E) (new : State S) : Type 0 where
     pub edited : State S
     pub done : AreEditsDone old edits edited
     pub write : IsEditReply means answers at_root edited edit.Write its_reply new
 
-  -- the edit of this number is refused, those before it come through, and those behind it and the write are tried all the same
-  pub record IsEditRefusedAt (old : State S) (edits : List Edit) (index : ℕ) (error : Error) (new : State S) : Type 0 where
+  -- the edit with this index fails, those before it are accepted, and those after it and the write are still tried
+  pub record IsEditFailedAt (old : State S) (edits : List Edit) (index : ℕ) (error : Error)
+      (new : State S) : Type 0 where
     pub before : List Edit
-    pub refused : Edit
-    pub behind : List Edit
-    pub place : edits ≡ before ++ refused ∷ behind
+    pub error_state : Edit
+    pub following : List Edit
+    pub place : edits ≡ before ++ error_state ∷ following
     pub number : length before ≡ index
     pub reached : State S
     pub done : AreEditsDone old before reached
-    pub left : State S
-    pub refusal : IsEditReply means answers at_root reached refused (edit_reply.Refused error) left
+    pub remaining : State S
+    pub cause : IsEditReply means answers at_root reached error_state (edit_reply.Refused error) remaining
     pub replies : List (Reply E)
-    pub rest : IsRun means answers left (edits_and_write behind) replies new
+    pub rest : IsRun means answers remaining (edits_and_write following) replies new
 
-  -- what an import comes to where this reply, of this number, is the first that isn't that to an edit which came through
+  -- the result of an import by its first reply, with its index, other than that to an accepted edit
   abbrev pub Decides : State S → List Edit → ℕ → EditReply E → State S → Type 0
   Decides old edits index edit_reply.Done new = ⊥
-  Decides old edits index (edit_reply.Refused error) new = IsEditRefusedAt old edits index error new
+  Decides old edits index (edit_reply.Refused error) new = IsEditFailedAt old edits index error new
   Decides old edits index its_reply new = HasWriteReply old edits its_reply new
 
-  -- why an import fails, and what it leaves
+  -- the errors of an import, and their effect
   abbrev pub FailsImport : State S → List Edit → ImportError E → State S → Type 0
   FailsImport old edits import.HoldsWrite new = Contains edits edit.Write × (new ≡ old)
-  FailsImport old edits (import.Edit index error) new = IsEditRefusedAt old edits index error new
+  FailsImport old edits (import.Edit index error) new = IsEditFailedAt old edits index error new
   FailsImport old edits (import.Write error) new = HasWriteReply old edits (edit_reply.WriteRefused error) new
-  FailsImport old edits (import.NotKept written count error) new = HasWriteReply old edits (edit_reply.NotKept written count error) new
+  FailsImport old edits (import.NotKept written count error) new =
+      HasWriteReply old edits (edit_reply.NotKept written count error) new
   FailsImport old edits import.OutOfMemory new = new ≡ old

@@ -8,6 +8,6 @@ pub mod Rebuilds
 pub mod Releases
 pub mod Shelves
 pub mod Signers
-pub mod Takings
-pub mod Told
+pub mod CopiesById
+pub mod Yielded
 pub mod Uploads

@@ -1,16 +1,16 @@
--- Plans: an entry that is put into a stored root, and what goes out then.
+-- Plans, which insert an entry into a stored root, and then write.
 use Rattle.std.specs.Prelude.{◌≡◌, ◌≢◌, ℕ, Bool, List, []}
 use Rattle.gix_object.specs.Entries.{Pair, EntryView, IsWellFormed}
-use Rattle.gix_object.specs.Stores.{Meaning, Objects}
+use Rattle.gix_object.specs.Stores.{StoreModel, Objects}
 use Rattle.gix_object.specs.Openings.{OfTrees, NamesMalformed, NamesTree}
-use Rattle.gix_object.specs.Existing.{IsEmptyId, NamesSuch, RefusesObject}
+use Rattle.gix_object.specs.Existing.{IsEmptyId, NamesSuch, IsFindObjectError}
 use Rattle.gix_object.specs.Files.{Path}
-use Rattle.gix_object.specs.Handing.{Stopped}
-use Rattle.gix_object.specs.HandingOut.{HandsOutSome}
+use Rattle.gix_object.specs.Emitting.{Stopped}
+use Rattle.gix_object.specs.Emission.{EmitsSome}
 use Rattle.gix_object.specs.Hash.{id_kind}
 use Rattle.gix_object.specs.State.{State, open_bases, open_dirs, root_alone}
-use Rattle.gix_object.specs.TreeReading.{IsTreeText}
-use Rattle.gix_object.specs.Upserts.{IsUpserted, RefusesUpsert}
+use Rattle.gix_object.specs.TreeDecoding.{DecodesToTree}
+use Rattle.gix_object.specs.Upserts.{IsUpserted, IsUpsertError}
 use Rattle.gix_object.specs.Writes.{IsWrittenEditor}
 use Rattle.gix_object.specs.directories.write.Written.{Written}
 use Rattle.gix_object.specs.editor.editor.error.Error.{Error}
@@ -22,7 +22,7 @@ use Rattle.gixobj_callers.specs.declared.planner.PlanError.TheVariants as plan
 use Rattle.gixobj_callers.specs.declared.planner.RootError.{RootError}
 use Rattle.gixobj_callers.specs.declared.planner.RootError.TheVariants as root
 
--- the root that the id stands for: that without entries by the empty tree's id, else the well-formed tree that the store names
+-- the root with this id: no entries for the empty tree's id, else the well-formed tree that the store names
 pub record IsRoot (objects : Objects) (id : ObjectId) (entries : List EntryView) : Type 0 where
   pub well_formed : IsWellFormed entries
   pub empty : IsEmptyId Tree id → entries ≡ []
@@ -30,42 +30,58 @@ pub record IsRoot (objects : Objects) (id : ObjectId) (entries : List EntryView)
 
 -- the id names a tree that has entries
 abbrev pub NamesFilled : Objects → ObjectId → Type 0
-NamesFilled objects id = (entries : List EntryView) × NamesSuch objects id Tree (λ hash text. IsTreeText hash text entries) × (entries ≢ [])
+NamesFilled objects id = (entries : List EntryView)
+    × NamesSuch objects id Tree (λ hash bytes. DecodesToTree hash bytes entries) × (entries ≢ [])
 
--- why the store gives no root: the lookup was refused, or the tree isn't well-formed, or memory for its entries ran out
-abbrev pub RefusesStored : Objects → (ObjectId → Bool) → ObjectId → RootError → Type 0
-RefusesStored objects may_fail id (root.Find cause) = RefusesObject objects may_fail Tree id cause
-RefusesStored objects may_fail id root.Malformed = NamesMalformed objects id
-RefusesStored objects may_fail id root.OutOfMemory = NamesFilled objects id
+-- the errors of a stored root: the lookup fails, or the tree isn't well-formed, or allocation of its entries fails
+abbrev pub IsStoredRootError : Objects → (ObjectId → Bool) → ObjectId → RootError → Type 0
+IsStoredRootError objects may_fail id (root.Find cause) = IsFindObjectError objects may_fail Tree id cause
+IsStoredRootError objects may_fail id root.Malformed = NamesMalformed objects id
+IsStoredRootError objects may_fail id root.OutOfMemory = NamesFilled objects id
 
--- why there is no root; there always is one for the empty tree's id
-abbrev pub RefusesRoot : Objects → (ObjectId → Bool) → ObjectId → RootError → Type 0
-RefusesRoot objects may_fail id error = (¬ IsEmptyId Tree id) × RefusesStored objects may_fail id error
+-- the errors of a root; there are none for the empty tree's id
+abbrev pub IsRootError : Objects → (ObjectId → Bool) → ObjectId → RootError → Type 0
+IsRootError objects may_fail id error = (¬ IsEmptyId Tree id) × IsStoredRootError objects may_fail id error
 
 -- a new editor of this root
 abbrev pub started : {S : Type 0} → S → hash.Kind → List EntryView → State S
-started store object_hash entries = record { dirs = root_alone entries; bases = root_alone []; store = store; lookups = 0; object_hash = object_hash; prefix = [] }
+started store object_hash entries =
+    record {
+      dirs = root_alone entries;
+      bases = root_alone [];
+      store = store;
+      lookups = 0;
+      object_hash = object_hash;
+      prefix = [];
+    }
 
--- a plan: in the tree that an id stands for in a store, an entry of this mode and id at this path
-module _ {S : Type 0} (means : Meaning S) (store : S) (root_id : ObjectId) (path : Path) (mode : ℕ) (id : ObjectId) where
-  -- a new editor of the stored root puts the entry in
-  pub record IsPutIn (edited : State S) : Type 0 where
+-- a plan: an entry of this mode and id at this path of the tree with this id in a store
+module _ {S : Type 0} (means : StoreModel S) (store : S) (root_id : ObjectId) (path : Path) (mode : ℕ)
+    (id : ObjectId) where
+  -- a new editor of the stored root inserts the entry
+  pub record IsInserted (edited : State S) : Type 0 where
     pub entries : List EntryView
     pub is_root : IsRoot (means.objects store) root_id entries
-    pub put_in : OfTrees (means.objects store) (λ trees. IsUpserted trees (started store (id_kind root_id) entries) path mode id edited)
+    pub inserted : OfTrees (means.objects store)
+        (λ trees. IsUpserted trees (started store (id_kind root_id) entries) path mode id edited)
 
-  -- a new editor of the stored root refuses the entry
-  abbrev pub IsNotPutIn : Error → Type 0
-  IsNotPutIn error =
+  -- a new editor of the stored root fails to insert the entry
+  abbrev pub IsNotInserted : Error → Type 0
+  IsNotInserted error =
       (entries : List EntryView) × IsRoot (means.objects store) root_id entries
-      × OfTrees (means.objects store) (λ trees. RefusesUpsert (means.objects store) (means.may_fail store) trees (open_dirs (started store (id_kind root_id) entries)) path error)
+      × OfTrees (means.objects store)
+      (λ trees. IsUpsertError (means.objects store) (means.may_fail store) trees
+      (open_dirs (started store (id_kind root_id) entries)) path error)
 
-  -- the entry is put in, and the write behind it comes through
+  -- the entry is inserted, and then the write succeeds
   abbrev pub IsPlanned : {F : Type 0} → (F → Pair → F → Type 0) → F → Written → Type 0
-  IsPlanned {F} gave out written = (edited left : State S) × (last : F) × IsPutIn edited × IsWrittenEditor gave out edited written left last
+  IsPlanned {F} gave out written = (edited remaining : State S) × (last : F) × IsInserted edited
+      × IsWrittenEditor gave out edited written remaining last
 
-  -- why no tree is named: there is no root, or the entry is refused, or the write behind it stops
-  abbrev pub RefusesPlan : {F E : Type 0} → (F → Pair → F → Type 0) → (F → List EntryView → E → F → Type 0) → F → PlanError E → Type 0
-  RefusesPlan gave denied out (plan.Root error) = RefusesRoot (means.objects store) (means.may_fail store) root_id error
-  RefusesPlan gave denied out (plan.Edit error) = IsNotPutIn error
-  RefusesPlan {F} gave denied out (plan.Write error) = (edited : State S) × (last : F) × IsPutIn edited × Stopped gave denied (HandsOutSome (open_dirs edited) (open_bases edited)) out last error
+  -- the errors of a plan: there is no root, or the entry isn't inserted, or the write fails
+  abbrev pub IsPlanError : {F E : Type 0} → (F → Pair → F → Type 0) → (F → List EntryView → E → F → Type 0) → F
+      → PlanError E → Type 0
+  IsPlanError gave denied out (plan.Root error) = IsRootError (means.objects store) (means.may_fail store) root_id error
+  IsPlanError gave denied out (plan.Edit error) = IsNotInserted error
+  IsPlanError {F} gave denied out (plan.Write error) = (edited : State S) × (last : F) × IsInserted edited
+      × Stopped gave denied (EmitsSome (open_dirs edited) (open_bases edited)) out last error

@@ -1,4 +1,4 @@
--- What a shelf means as a store.
+-- The model of a shelf as a store.
 use Rattle.std.specs.Prelude.{List, map}
 use Rattle.std.specs.FinMap as finite
 use Rattle.gix_object.specs.Stores.{Objects, stored}
@@ -6,10 +6,10 @@ use Rattle.gix_object.specs.hash.hash.object_id.ObjectId.{ObjectId}
 use Rattle.gix_object.specs.object.«data».Data.{Data}
 use Rattle.gixobj_callers.specs.declared.shelf.Shelf.{Shelf}
 
--- what these objects mean: of an id that stands twice, the first one
+-- the objects by their ids; the first object of an id counts
 abbrev pub listed_objects : List (ObjectId × Data) → Objects
 listed_objects objects = finite.from_entries (map (λ pair. (pair.0, stored pair.1)) objects)
 
--- the objects that lie on the shelf, by their ids
+-- the objects on the shelf, by their ids
 abbrev pub shelf_objects : Shelf → Objects
 shelf_objects shelf = listed_objects shelf.objects.now

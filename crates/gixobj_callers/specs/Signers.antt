@@ -1,4 +1,4 @@
--- Who signed a commit off.
+-- Sign-offs of a commit.
 use Rattle.std.specs.Prelude.{◌≡◌, ℕ, List, codes, filter}
 use Rattle.gix_object.specs.MessageTrailers.{HasTrailers}
 use Rattle.gix_object.specs.TrailerNames.{is_named}

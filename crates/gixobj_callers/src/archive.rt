@@ -1,4 +1,4 @@
-//! An archive: a history that is imported into a store of one's own, and what it comes to in the end.
+//! An archive, which imports a history into an object store and returns its last commit.
 ghost use Rattle.std.specs.Prelude.{◌≡◌, ◌↔◌, [], IfOk, IfSome, IsNone};
 ghost use Rattle.gixobj_callers.specs.Archives.{IsTip};
 
@@ -7,8 +7,13 @@ use gix_object::import::{ImportError, Imported, Importer, Step, import_all};
 use gix_object::{Keep, KeepCommit};
 use std::alloc::Global;
 
-/// Imports the steps of a history into a store, and answers what was imported last: its commit, and the root that was written
-/// for it. None of no steps. The first refusal of a step ends it.
+/// Imports the steps of a history into a store, and returns the last import: its commit and the written root.
+///
+/// The result is `None` if and only if there are no steps.
+///
+/// # Errors
+///
+/// [`ImportError`] of the first step that fails, which ends the import.
 pub fn tip_of<S: Keep + KeepCommit + Drop>(
     alloc: Global,
     store: S,

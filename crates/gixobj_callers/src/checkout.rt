@@ -7,9 +7,9 @@ ghost use Rattle.gix_object.specs.Entries.{IsWellFormed};
 ghost use Rattle.gix_object.specs.Files.{Files, NamedFiles, SameFiles, Table, Trees};
 ghost use Rattle.gix_object.specs.History.{History};
 ghost use Rattle.gix_object.specs.Tables.{AgreesWithPairs, AgreesWithStore};
-ghost use Rattle.gixobj_callers.specs.Checkouts.{AreNotPutIn, ArePutIn, IsCheckedOut, IsFilled, IsNotFilled, RefusesCheckout, steps_of_checkout};
+ghost use Rattle.gixobj_callers.specs.Checkouts.{AreNotInserted, AreInserted, IsCheckedOut, IsFilled, IsNotFilled, IsCheckoutError, steps_of_checkout};
 ghost use Rattle.gixobj_callers.specs.Plans.{started};
-ghost use Rattle.gix_object.specs.Stores.{meaning};
+ghost use Rattle.gix_object.specs.Stores.{store_model};
 
 use bstr::BString;
 use gix_object::hash::{Kind, ObjectId};
@@ -18,32 +18,39 @@ use gix_object::tree::editor::{Cursor, Editor, Error, WriteError, Written};
 use gix_object::{Find, Tree};
 use std::fmt::Display;
 
-/// An entry that is to be put in, at a path from the directory of the checkout.
+/// An entry to insert, at a path from the directory of the checkout.
 #[derive(Debug, Drop)]
 pub struct Planned {
-    /// The names on the way to it, and its own.
+    /// The path of the entry: the names of its parent directories, and its own.
     pub path: Vec<BString>,
-    /// What it is.
+    /// The kind of the entry.
     pub kind: EntryKind,
-    /// What it names.
+    /// The id of the entry.
     pub id: ObjectId,
 }
 
-/// Why no checkout is handed out.
+/// The error of [`with_entries_at`].
 #[derive(Debug, Drop, thiserror::Error)]
 #[error_bound(E: Display)]
 pub enum CheckoutError<E> {
-    /// The directory wasn't made, or an entry wasn't put in. Nothing was handed out.
+    /// The directory wasn't made, or an entry wasn't inserted. Nothing was emitted.
     #[error("not edited: {0}")]
     Edit(Error),
-    /// Handing out was refused.
+    /// The write failed.
     #[error("not written: {0}")]
     Write(WriteError<E>),
 }
 
-/// A root with entries put into the directory at a prefix, handed out. The directory is made where it is missing,
-/// also in place of a file; else what is in it stays. In each table that agrees with the store and with what was
-/// handed out, the tree that is named has, to every depth, exactly the files that these steps make of the root's.
+/// Inserts entries into the directory at a prefix of a root, and emits the changed trees to `out`.
+///
+/// The directory is made if it is missing, also in place of a file; an existing one keeps its entries. The
+/// named tree has, at every depth, exactly the files that these steps make of the root's. This holds in each
+/// table that agrees with the store and the emitted trees.
+///
+/// # Errors
+///
+/// - [`CheckoutError::Edit`] if the directory isn't made, or an entry isn't inserted;
+/// - [`CheckoutError::Write`] if the write fails.
 pub fn with_entries_at<S: Find + Drop, E: Drop, F: FnMut(&Tree) -> Result<ObjectId, E> + Drop>(
     root: Tree,
     store: S,
@@ -60,16 +67,17 @@ pub fn with_entries_at<S: Find + Drop, E: Drop, F: FnMut(&Tree) -> Result<Object
         → SameFiles (NamedFiles T n written.id)
         (History T n (steps_of_checkout (prefix_of (names_of prefix.now)) entries.now)
         (Files T n root)))) }
-    // The directory was filled, and then the write came through; or else it is told which of them didn't, and why.
-    ensures done { IfOk result (IsCheckedOut (meaning S.objects S.may_fail)
+    // The directory is filled, and then the write succeeds; or the error reports which of them failed, and
+    // why.
+    ensures done { IfOk result (IsCheckedOut (store_model S.objects S.may_fail)
         (started store object_hash root) (prefix_of (names_of prefix.now)) entries.now
         (answered F.FnMut) out) }
-    ensures refusal { IfErr result (RefusesCheckout (meaning S.objects S.may_fail)
+    ensures error { IfErr result (IsCheckoutError (store_model S.objects S.may_fail)
         (started store object_hash root) (prefix_of (names_of prefix.now)) entries.now
         (answered F.FnMut) (denied F.FnMut) out) }
 {
     let mut editor = Editor::new(root, store, object_hash);
-    if let Err(error) = put_entries_at(&mut editor, prefix, entries) {
+    if let Err(error) = insert_entries_at(&mut editor, prefix, entries) {
         return Err(CheckoutError::Edit(error));
     }
     match editor.write(out) {
@@ -78,27 +86,27 @@ pub fn with_entries_at<S: Find + Drop, E: Drop, F: FnMut(&Tree) -> Result<Object
     }
 }
 
-/// Puts entries into the directory at a prefix.
-fn put_entries_at<S: Find>(
+/// Makes the directory at a prefix, and inserts the entries into it.
+fn insert_entries_at<S: Find>(
     editor: &mut Editor<S>,
     prefix: &[BString],
     entries: &[Planned],
 ) -> Result<(), Error>
-    ensures filled { OnOk result (IsFilled (meaning S.objects S.may_fail) editor.old
+    ensures filled { OnOk result (IsFilled (store_model S.objects S.may_fail) editor.old
         (prefix_of (names_of prefix.now)) entries.now editor.new) }
-    ensures refusal { IfErr result (IsNotFilled (meaning S.objects S.may_fail) editor.old
+    ensures error { IfErr result (IsNotFilled (store_model S.objects S.may_fail) editor.old
         (prefix_of (names_of prefix.now)) entries.now) }
 {
     let mut cursor = editor.cursor_at(prefix)?;
-    put_entries(&mut cursor, entries)
+    insert_entries(&mut cursor, entries)
 }
 
-/// Puts entries into the directory of a cursor.
-fn put_entries<S: Find>(cursor: &mut Cursor<'_, S>, entries: &[Planned]) -> Result<(), Error>
+/// Inserts the entries into the directory of a cursor.
+fn insert_entries<S: Find>(cursor: &mut Cursor<'_, S>, entries: &[Planned]) -> Result<(), Error>
     ensures same_reference { cursor.new.editor.ghost_name ≡ cursor.old.editor.ghost_name }
-    ensures put_in { OnOk result (ArePutIn (meaning S.objects S.may_fail)
+    ensures inserted { OnOk result (AreInserted (store_model S.objects S.may_fail)
         cursor.old.editor.now.prefix cursor.old.editor.now entries.now cursor.new.editor.now) }
-    ensures refusal { IfErr result (AreNotPutIn (meaning S.objects S.may_fail)
+    ensures error { IfErr result (AreNotInserted (store_model S.objects S.may_fail)
         cursor.old.editor.now.prefix cursor.old.editor.now entries.now) }
 {
     for entry in entries {

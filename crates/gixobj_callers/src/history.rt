@@ -3,7 +3,7 @@ ghost use Rattle.std.specs.Prelude.{IfErr, IfOk, Some, map};
 ghost use Rattle.bstr.specs.Owned.{bstring_bytes};
 ghost use Rattle.gix_object.specs.Lookups.{IsAtPath};
 ghost use Rattle.gix_object.specs.Stores.{StoredObject};
-ghost use Rattle.gixobj_callers.specs.Ancestors.{HasTree, IsAncestor, IsFirstParent, RefusesEntryOfCommit, RefusesParent, RefusesWalk};
+ghost use Rattle.gixobj_callers.specs.Ancestors.{HasTree, IsAncestor, IsFirstParent, IsEntryOfCommitError, IsParentError, IsWalkError};
 
 use bstr::BString;
 use gix_object::find::{existing_iter, existing_object};
@@ -12,19 +12,19 @@ use gix_object::tree::Entry;
 use gix_object::{Find, FindExt, find};
 use std::alloc::Global;
 
-/// Why a walk stops.
+/// The error of [`ancestor`] and of [`entry_of`].
 #[derive(Debug, Drop, thiserror::Error)]
 pub enum Error {
-    /// A commit isn't found.
+    /// A commit isn't found, for this cause.
     #[error("{0}")]
     Commit(existing_object::Error),
-    /// The tree of a commit isn't found.
+    /// The tree of a commit isn't found, for this cause.
     #[error("{0}")]
     Tree(existing_iter::Error),
     /// A lookup on the path failed.
     #[error("{0}")]
     Path(find::Error),
-    /// A commit has no parent.
+    /// The commit with this id has no parent.
     #[error("{0} has no parent")]
     NoParent(ObjectId),
 }
@@ -62,8 +62,12 @@ impl From<find::Error> for Error {
     }
 }
 
-/// The id of the commit so many generations before the first one, from first parent to first parent. It is refused
-/// at the first commit on the way that isn't found or has no parent.
+/// Returns the id of an ancestor: that many generations before the start, from first parent to first parent.
+///
+/// # Errors
+///
+/// - [`Error::Commit`] if a commit on the way isn't found;
+/// - [`Error::NoParent`] with the id of a commit on the way that has no parent.
 #[tactic(auto, using(crate::proofs::Commits::further))]
 pub fn ancestor<S: Find>(
     alloc: Global,
@@ -72,7 +76,7 @@ pub fn ancestor<S: Find>(
     generations: u32,
 ) -> Result<ObjectId, Error>
     ensures found { IfOk result (IsAncestor (S.objects store.now) generations start) }
-    ensures refusal { IfErr result (RefusesWalk (S.objects store.now) (S.may_fail store.now)
+    ensures error { IfErr result (IsWalkError (S.objects store.now) (S.may_fail store.now)
         generations start) }
 {
     let mut buffer = Vec::new(alloc);
@@ -83,7 +87,7 @@ pub fn ancestor<S: Find>(
     Ok(id)
 }
 
-/// The id of the first parent of a commit.
+/// Returns the id of the first parent of a commit.
 fn first_parent<S: Find>(
     alloc: Global,
     store: &S,
@@ -91,7 +95,7 @@ fn first_parent<S: Find>(
     id: ObjectId,
 ) -> Result<ObjectId, Error>
     ensures found { IfOk result (IsFirstParent (S.objects store.now) id) }
-    ensures refusal { IfErr result (RefusesParent (S.objects store.now) (S.may_fail store.now) id) }
+    ensures error { IfErr result (IsParentError (S.objects store.now) (S.may_fail store.now) id) }
 {
     let commit = store.find_commit(alloc, id.as_oid(), buffer)?;
     match commit.parents().next() {
@@ -100,7 +104,13 @@ fn first_parent<S: Find>(
     }
 }
 
-/// The entry at a path in the tree of a commit, or none where there is none.
+/// Returns the entry at a path in the tree of a commit, or `None` if there is none.
+///
+/// # Errors
+///
+/// - [`Error::Commit`] if the commit isn't found;
+/// - [`Error::Tree`] if its tree isn't found;
+/// - [`Error::Path`] if a lookup on the path fails.
 pub fn entry_of<S: Find>(
     alloc: Global,
     store: &S,
@@ -110,14 +120,14 @@ pub fn entry_of<S: Find>(
     ensures found { IfOk result (λ found. (tree : StoredObject)
         × HasTree (S.objects store.now) commit tree
         × IsAtPath (S.objects store.now) (Some tree) (map bstring_bytes path.now) found) }
-    ensures refusal { IfErr result (RefusesEntryOfCommit (S.objects store.now)
+    ensures error { IfErr result (IsEntryOfCommitError (S.objects store.now)
         (S.may_fail store.now) commit (map bstring_bytes path.now)) }
 {
     let mut buffer = Vec::new(alloc);
     let tree = store
         .find_commit(alloc, commit.as_oid(), &mut buffer)?
         .tree();
-    let mut text = Vec::new(alloc);
-    let reader = store.find_tree_iter(tree.as_oid(), &mut text)?;
+    let mut bytes = Vec::new(alloc);
+    let reader = store.find_tree_iter(tree.as_oid(), &mut bytes)?;
     Ok(reader.lookup_entry(alloc, store, &mut buffer, path)?)
 }

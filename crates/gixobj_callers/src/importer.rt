@@ -1,26 +1,24 @@
-//! An importer of history: of edits, whose trees it has kept, and of commits, which it makes its own and writes.
+//! An importer of history, by edits whose trees are kept, and by commits that are copied and encoded.
 ghost use Rattle.std.specs.Prelude.{◌≡◌, ◌↔◌, ℕ, Contains, Err, IfErr, IfOk, IsTrue, OnErr, not, position};
 ghost use Rattle.std.specs.Fn.{FnReturnsAt};
 ghost use Rattle.gix_object.specs.Bases.{HasBases};
-ghost use Rattle.gix_object.specs.Commit.{CommitLines, IsCommitText};
-ghost use Rattle.gix_object.specs.CommitWriting.{commit_text};
+ghost use Rattle.gix_object.specs.Commit.{CommitLines, DecodesToCommit};
+ghost use Rattle.gix_object.specs.CommitWriting.{encode_commit};
 ghost use Rattle.gix_object.specs.Files.{NamedFiles, SameFiles, Table};
 ghost use Rattle.gix_object.specs.History.{History};
 ghost use Rattle.gix_object.specs.Keeping.{with_trees};
 ghost use Rattle.gix_object.specs.Replies.{IsCallable};
-ghost use Rattle.gix_object.specs.Rewriting.{AreOwnPartsOfCommit};
+ghost use Rattle.gix_object.specs.Rewriting.{AreNormalizedPartsOfCommit};
 ghost use Rattle.gix_object.specs.RunTables.{AgreesWithObjects};
 ghost use Rattle.gix_object.specs.State.{EditorFiles, open_bases, open_dirs};
 ghost use Rattle.gix_object.specs.Tables.{AgreesWithPairs};
 ghost use Rattle.gixobj_callers.specs.Copies.{FailsForPart};
 ghost use Rattle.gixobj_callers.specs.Imports.{Decides, FailsImport, HasWriteReply, edits_and_write, import_steps, is_done};
-ghost use Rattle.gix_object.specs.Stores.{meaning};
+ghost use Rattle.gix_object.specs.Stores.{store_model};
 
 use crate::store::CopyError;
 use gix_object::hash::{Kind, ObjectId};
-use gix_object::laws::{
-    commit_has_one_reading, every_store_names_trees, owned_forms_have_the_parts,
-};
+use gix_object::laws::{commit_decodes_uniquely, owned_commit_has_same_parts, store_has_tree_map};
 use gix_object::tree::editor::{
     Command, Edit, EditReply, Editor, Error, Reply, WriteError, Written, run,
 };
@@ -28,35 +26,35 @@ use gix_object::{CommitRef, Keep, KeepError, OutOfMemory, Tree, WriteTo};
 use std::alloc::Global;
 use std::fmt::Display;
 
-/// Why an import has no root.
+/// The error of [`import_files`].
 #[derive(Debug, Drop, thiserror::Error)]
 #[error_bound(E: Display)]
 pub enum ImportError<E> {
     /// One of the edits is a write. Nothing was done.
     #[error("a write among the edits")]
     HoldsWrite,
-    /// An edit was refused. Those behind it and the write were tried all the same.
+    /// An edit failed. The edits after it and the write were still tried.
     #[error("edit {index} was refused: {error}")]
     Edit {
-        /// The number of the first one that was refused, from 0.
+        /// The index of the first edit that failed, from 0.
         index: usize,
-        /// Why it was.
+        /// The error of that edit.
         error: Error,
     },
-    /// The edits are done, but the write was refused.
+    /// The edits are done, but the write failed.
     #[error("not written: {0}")]
     Write(WriteError<E>),
-    /// The edits are done and written, but the store didn't keep all that went out.
+    /// The edits are done and written, but the store didn't keep all emitted trees.
     #[error("not kept: {error}")]
     NotKept {
-        /// What went out.
+        /// The result of the write.
         written: Written,
-        /// How many trees of it, in order, are kept.
+        /// The number of emitted trees that the store has kept, in order.
         count: usize,
-        /// Why the next one isn't.
+        /// Why it didn't keep the next one.
         error: KeepError,
     },
-    /// There was no memory for the commands or for their replies. Nothing was done.
+    /// Allocation of the commands or of their replies failed. Nothing was done.
     #[error("out of memory")]
     OutOfMemory,
 }
@@ -72,12 +70,20 @@ impl<E> From<OutOfMemory> for ImportError<E> {
     }
 }
 
-/// Does the edits, writes, and has the store keep what went out, which is answered: the id of the root, and each tree with
-/// its id. There is an answer only where each edit came through; else the first that was refused is told.
+/// Does the edits, writes the root, has the store keep the emitted trees, and returns the result of the
+/// write.
 ///
-/// In each table that agrees with the store and with what went out, and has what the open directories were opened with, the
-/// tree that is named has, to every depth, exactly the files that the edits make of the editor's. The editor goes on with
-/// these files, and its root alone is open then.
+/// The named tree has, at every depth, exactly the files that the edits make of the editor's. This holds in
+/// each table that agrees with the store and the emitted trees, and has the bases of the open directories.
+/// The editor has these files then, and its root alone is open.
+///
+/// # Errors
+///
+/// - [`ImportError::HoldsWrite`] if and only if one of the edits is a write;
+/// - [`ImportError::Edit`] with index and error, for the first edit that fails;
+/// - [`ImportError::Write`] if the write fails;
+/// - [`ImportError::NotKept`] with result, count and error, if the store doesn't keep all emitted trees;
+/// - [`ImportError::OutOfMemory`] if allocation of the commands or of their replies fails.
 pub fn import_files<S: Keep, E: Drop, F: Fn(&Tree) -> Result<ObjectId, E> + Drop>(
     alloc: Global,
     editor: &mut Editor<S>,
@@ -90,23 +96,23 @@ pub fn import_files<S: Keep, E: Drop, F: Fn(&Tree) -> Result<ObjectId, E> + Drop
         → HasBases T (open_dirs editor.old) (open_bases editor.old)
         → SameFiles (NamedFiles T n written.id)
         (History T n (import_steps edits.items) (EditorFiles T n editor.old))) }
-    ensures goes_on { IfOk result (λ written. (T : Table) (n : ℕ)
+    ensures continues { IfOk result (λ written. (T : Table) (n : ℕ)
         → AgreesWithPairs T written.trees.items
         → SameFiles (EditorFiles T n editor.new) (NamedFiles T n written.id)) }
     ensures has_bases { IfOk result (λ written. (T : Table)
         → HasBases T (open_dirs editor.new) (open_bases editor.new)) }
-    ensures kept { IfOk result (λ written. S.objects editor.new.store
+    ensures stored { IfOk result (λ written. S.objects editor.new.store
         ≡ with_trees written.trees.items (S.objects editor.old.store)) }
-    // Each edit came through, and then the write; or else it is told which call didn't, and why.
+    // Each edit succeeds, and then the write; or the error reports which call failed, and why.
     ensures done { IfOk result (λ written.
-        HasWriteReply (meaning S.objects S.may_fail) (FnReturnsAt F.Fn out) editor.old edits.items
+        HasWriteReply (store_model S.objects S.may_fail) (FnReturnsAt F.Fn out) editor.old edits.items
         (EditReply.Written written) editor.new) }
     ensures fails { IfErr result (λ error.
-        FailsImport (meaning S.objects S.may_fail) (FnReturnsAt F.Fn out) editor.old edits.items
+        FailsImport (store_model S.objects S.may_fail) (FnReturnsAt F.Fn out) editor.old edits.items
         error editor.new) }
     ensures holds_write { (result ≡ Err ImportError.HoldsWrite) ↔ Contains edits.items Edit.Write }
 {
-    every_store_names_trees();
+    store_has_tree_map();
     if hold_a_write(&edits) {
         return Err(ImportError::HoldsWrite);
     }
@@ -124,8 +130,8 @@ pub fn import_files<S: Keep, E: Drop, F: Fn(&Tree) -> Result<ObjectId, E> + Drop
     }
 }
 
-/// Does the edits and a write, and answers the first reply that isn't `Done`, with its number: that to an edit which was
-/// refused, or to the write.
+/// Does the edits and a write, and returns the first reply other than `Done`, with its index: that to an edit
+/// that failed, or to the write.
 fn deciding_reply<S: Keep, E: Drop, F: Fn(&Tree) -> Result<ObjectId, E> + Drop>(
     alloc: Global,
     editor: &mut Editor<S>,
@@ -135,9 +141,9 @@ fn deciding_reply<S: Keep, E: Drop, F: Fn(&Tree) -> Result<ObjectId, E> + Drop>(
     requires callable { IsCallable F.pre out }
     requires no_write { ¬ Contains edits.items Edit.Write }
     ensures decides { IfOk result (λ it.
-        Decides (meaning S.objects S.may_fail) (FnReturnsAt F.Fn out) editor.old edits.items it.0
+        Decides (store_model S.objects S.may_fail) (FnReturnsAt F.Fn out) editor.old edits.items it.0
         it.1 editor.new) }
-    ensures nothing_done { OnErr result (editor.new ≡ editor.old) }
+    ensures no_effect { OnErr result (editor.new ≡ editor.old) }
 {
     let commands = commands_of(alloc, edits)?;
     let mut replies = run(alloc, editor, commands, out)?;
@@ -150,14 +156,14 @@ fn deciding_reply<S: Keep, E: Drop, F: Fn(&Tree) -> Result<ObjectId, E> + Drop>(
     Ok((index, reply))
 }
 
-/// Whether one of the edits is a write.
+/// Tests if one of the edits is a write.
 fn hold_a_write(edits: &[Edit]) -> bool
     ensures { IsTrue result ↔ Contains edits.now Edit.Write }
 {
     edits.iter().any(|edit| matches!(edit, Edit::Write))
 }
 
-/// A command for each edit, and then one to write.
+/// Makes a command of each edit, and appends a write.
 fn commands_of(alloc: Global, edits: Vec<Edit>) -> Result<Vec<Command>, OutOfMemory>
     ensures { IfOk result (λ commands. commands.items ≡ edits_and_write edits.items) }
 {
@@ -166,7 +172,7 @@ fn commands_of(alloc: Global, edits: Vec<Edit>) -> Result<Vec<Command>, OutOfMem
     Ok(commands)
 }
 
-/// The place of the first reply that isn't that to an edit that came through: it decides.
+/// Returns the index of the first reply other than that to an accepted edit.
 fn place_of_answer<E>(replies: &[Reply<E>]) -> Option<usize>
     ensures { result ≡ position (λ reply. not (is_done reply)) replies.now }
 {
@@ -175,19 +181,25 @@ fn place_of_answer<E>(replies: &[Reply<E>]) -> Option<usize>
         .position(|reply| !matches!(reply, Reply::Edit(EditReply::Done)))
 }
 
-/// Reads a commit, copies it and writes the copy: its parts as they were read, with ids in lower case,
-/// actors by their parts, and times as they are written. Of a commit's text it is refused only where
-/// memory runs out, an actor has a byte that no owned one may have, or the encoding is empty.
-pub fn owned_copy_of(alloc: Global, text: &[u8], kind: Kind) -> Result<Vec<u8>, CopyError>
+/// Decodes a commit, and encodes an owned copy of it.
+///
+/// The copy has the decoded parts, with ids in lower case, and with actors and times as they are encoded.
+///
+/// # Errors
+///
+/// - [`CopyError::Read`] if the bytes are malformed, or allocation fails;
+/// - [`CopyError::Write`] if an actor has a byte that no owned one may have, the encoding header is empty, or
+///   allocation fails.
+pub fn owned_copy_of(alloc: Global, bytes: &[u8], kind: Kind) -> Result<Vec<u8>, CopyError>
     ensures parts { IfOk result (λ copy. (commit own : CommitLines)
-        × IsCommitText kind text.now commit × AreOwnPartsOfCommit commit own
-        × (copy.items ≡ commit_text own)) }
-    ensures refusal { IfErr result (λ error. (commit : CommitLines)
-        → IsCommitText kind text.now commit → FailsForPart commit error) }
+        × DecodesToCommit kind bytes.now commit × AreNormalizedPartsOfCommit commit own
+        × (copy.items ≡ encode_commit own)) }
+    ensures error { IfErr result (λ error. (commit : CommitLines)
+        → DecodesToCommit kind bytes.now commit → FailsForPart commit error) }
 {
-    owned_forms_have_the_parts();
-    commit_has_one_reading();
-    let commit = match CommitRef::from_bytes(alloc, text, kind) {
+    owned_commit_has_same_parts();
+    commit_decodes_uniquely();
+    let commit = match CommitRef::from_bytes(alloc, bytes, kind) {
         Ok(commit) => commit,
         Err(error) => return Err(CopyError::Read(error)),
     };

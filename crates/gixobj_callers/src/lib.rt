@@ -1,7 +1,11 @@
-//! Callers of the public calls, each proved on their contracts and laws alone: what a store of objects, a walker of
-//! commits, an archive of history, a planner of checkouts and of uploads, an auditor, a signer and a publisher of
-//! releases, a verifier of tags, a reader and an importer of history, a rebuilder of trees, and who writes a store of
-//! objects, can rely on.
+//! Callers of the public calls, each proved by their contracts and laws alone.
+//!
+//! They show what users can rely on:
+//!
+//! - stores of objects, an archive, a reader and an importer of history;
+//! - planners of checkouts and of uploads, a rebuilder of trees;
+//! - a walker of commits, a reader of messages;
+//! - an auditor, a signer and a publisher of releases, a verifier of tags.
 #![tactic(auto)]
 
 pub mod archive;

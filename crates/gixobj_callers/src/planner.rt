@@ -1,4 +1,4 @@
-//! A planner of checkouts, which goes through the entries of trees, and makes a tree from a stored one.
+//! A planner of checkouts, which iterates over trees, and makes a tree of a stored one.
 ghost use Rattle.std.specs.Prelude.{◌≡◌, ℕ, All, IfErr, IfOk, IsFalse, List, MatchBool};
 ghost use Rattle.gix_object.specs.Calls.{answered, denied, IsCallableOnTrees, names_of};
 ghost use Rattle.gix_object.specs.Openings.{OfTrees, AreTreesOf};
@@ -6,19 +6,20 @@ ghost use Rattle.gix_object.specs.Entries.{EntryView};
 ghost use Rattle.gix_object.specs.Files.{NamedFiles, SameFiles, Table, Trees, Upserted, is_null};
 ghost use Rattle.gix_object.specs.Mode.{mode_of_kind};
 ghost use Rattle.gix_object.specs.Tables.{AgreesWithPairs, AgreesWithStore};
-ghost use Rattle.gix_object.specs.TreeReading.{IsNoTreeText, IsTreeText};
-ghost use Rattle.gix_object.specs.TreeRewriting.{ReadsBack};
+ghost use Rattle.gix_object.specs.TreeDecoding.{IsMalformedTree, DecodesToTree};
+ghost use Rattle.gix_object.specs.TreeRewriting.{RoundTrips};
 ghost use Rattle.gixobj_callers.specs.Copies.{FailsForRoom};
-ghost use Rattle.gixobj_callers.specs.Plans.{IsPlanned, IsRoot, RefusesPlan, RefusesRoot};
-ghost use Rattle.gix_object.specs.Stores.{meaning};
+ghost use Rattle.gixobj_callers.specs.Plans.{IsPlanned, IsRoot, IsPlanError, IsRootError};
+ghost use Rattle.gix_object.specs.Stores.{store_model};
 
 use crate::store::CopyError;
 use bstr::BString;
 use gix_object::find::existing_object;
 use gix_object::hash::{Kind, ObjectId};
 use gix_object::laws::{
-    entries_are_passed, ids_are_the_same_or_not, tree_has_one_reading,
-    tree_readers_read_one_language, tree_reads_back, tree_writes_back, writers_fail_as_their_sinks,
+    consumed_entries_are_prefix, id_equality_is_decidable, tree_decodes_uniquely,
+    tree_readers_agree, tree_reencodes_identically, tree_round_trips,
+    write_error_implies_sink_error,
 };
 use gix_object::tree::EntryKind;
 use gix_object::tree::editor::{Editor, Error, WriteError, Written};
@@ -26,14 +27,14 @@ use gix_object::{Find, FindExt, Tree, TreeRef, TreeRefIter, WriteTo};
 use std::alloc::Global;
 use std::fmt::Display;
 
-/// Whether the bytes are the text of a tree: goes through its entries to their end, and takes no memory.
-pub fn is_tree(text: &[u8], kind: Kind) -> bool
-    ensures { MatchBool result ((entries : List EntryView) × IsTreeText kind text.now entries)
-        (IsNoTreeText kind text.now) }
+/// Tests if the bytes are the encoding of a tree, by iteration to their end. Allocates nothing.
+pub fn is_tree(content: &[u8], kind: Kind) -> bool
+    ensures { MatchBool result ((entries : List EntryView) × DecodesToTree kind content.now entries)
+        (IsMalformedTree kind content.now) }
 {
-    tree_readers_read_one_language();
-    entries_are_passed();
-    for item in TreeRefIter::from_bytes(text, kind) {
+    tree_readers_agree();
+    consumed_entries_are_prefix();
+    for item in TreeRefIter::from_bytes(content, kind) {
         if let Err(_) = item {
             return false;
         }
@@ -41,16 +42,22 @@ pub fn is_tree(text: &[u8], kind: Kind) -> bool
     true
 }
 
-/// A tree that was written and read again: the same one. Where each of its entries is read as it is
-/// written, it is refused only because memory or room ran out.
+/// Encodes a tree and decodes it again. The result equals the tree if each entry round-trips.
+///
+/// # Errors
+///
+/// - [`CopyError::Write`] if the tree can't be encoded, or allocation fails;
+/// - [`CopyError::Read`] if decoding fails.
+///
+/// If each entry round-trips, the call fails only for memory.
 pub fn read_back(alloc: Global, tree: &Tree, kind: Kind) -> Result<Tree, CopyError>
-    ensures same { IfOk result (λ back. All (ReadsBack kind) tree.now → back ≡ tree.now) }
-    ensures room { IfErr result (λ error. All (ReadsBack kind) tree.now → FailsForRoom error) }
+    ensures same { IfOk result (λ back. All (RoundTrips kind) tree.now → back ≡ tree.now) }
+    ensures has_capacity { IfErr result (λ error. All (RoundTrips kind) tree.now → FailsForRoom error) }
 {
-    tree_has_one_reading();
-    tree_reads_back();
-    tree_writes_back();
-    writers_fail_as_their_sinks(tree);
+    tree_decodes_uniquely();
+    tree_round_trips();
+    tree_reencodes_identically();
+    write_error_implies_sink_error(tree);
     let mut bytes = Vec::new(alloc);
     if let Err(error) = tree.write_to_vec(alloc, &mut bytes) {
         return Err(CopyError::Write(error));
@@ -65,43 +72,49 @@ pub fn read_back(alloc: Global, tree: &Tree, kind: Kind) -> Result<Tree, CopyErr
     }
 }
 
-/// Why a stored tree is no root.
+/// The error of [`root_in`].
 #[derive(Debug, Drop, thiserror::Error)]
 pub enum RootError {
-    /// Its lookup was refused.
+    /// The lookup failed, for this cause.
     #[error("{0}")]
     Find(existing_object::Error),
-    /// It isn't well-formed, as `Tree::is_well_formed` tells.
+    /// The stored tree isn't well-formed, as `Tree::is_well_formed` reports.
     #[error("the root isn't well-formed")]
     Malformed,
-    /// There was no memory for its entries. It has some.
+    /// Allocation of the entries failed; the tree has entries.
     #[error("out of memory")]
     OutOfMemory,
 }
 
-/// Why no entry is put into a stored tree.
+/// The error of [`with_entry_in_stored`].
 #[derive(Debug, Drop, thiserror::Error)]
 #[error_bound(E: Display)]
 pub enum PlanError<E> {
-    /// The tree is no root. Nothing was edited.
+    /// The root isn't found, or is invalid. Nothing was edited.
     #[error("no root: {0}")]
     Root(RootError),
-    /// The edit was refused. Nothing was handed out.
+    /// The edit failed. Nothing was emitted.
     #[error("not edited: {0}")]
     Edit(Error),
-    /// Handing out was refused.
+    /// The write failed.
     #[error("not written: {0}")]
     Write(WriteError<E>),
 }
 
-/// The root that an id stands for in a store, well-formed. That of the empty tree's id has no entries, and no store is
-/// asked for it.
+/// Returns the well-formed tree with this id from a store. For the empty tree's id it has no entries, and
+/// isn't looked up.
+///
+/// # Errors
+///
+/// - [`RootError::Find`] if the lookup fails;
+/// - [`RootError::Malformed`] if the stored tree isn't well-formed;
+/// - [`RootError::OutOfMemory`] if allocation of its entries fails.
 pub fn root_in<S: Find>(alloc: Global, store: &S, id: ObjectId) -> Result<Tree, RootError>
     ensures found { IfOk result (λ root. IsRoot (S.objects store.now) id root) }
-    ensures refusal { IfErr result (RefusesRoot (S.objects store.now) (S.may_fail store.now) id) }
+    ensures error { IfErr result (IsRootError (S.objects store.now) (S.may_fail store.now) id) }
 {
-    let mut text = Vec::new(alloc);
-    let stored = match store.find_tree(alloc, id.as_oid(), &mut text) {
+    let mut content = Vec::new(alloc);
+    let stored = match store.find_tree(alloc, id.as_oid(), &mut content) {
         Ok(stored) => stored,
         Err(error) => return Err(RootError::Find(error)),
     };
@@ -115,12 +128,17 @@ pub fn root_in<S: Find>(alloc: Global, store: &S, id: ObjectId) -> Result<Tree, 
     Ok(root)
 }
 
-/// A stored root with an entry put in at a path, handed out. The root is looked up by its id; that of the empty tree is
-/// found in every store.
+/// Inserts an entry at a path of a stored root, and emits the changed trees to `out`.
 ///
-/// In each table that agrees with the store and with what was handed out, the tree that is named has, to every depth,
-/// exactly the files that the edit makes of those of the tree that the root's id names. The null id names none in a
-/// table, whatever the store has there.
+/// The root is looked up by its id; that of the empty tree is found in every store. The named tree has, at
+/// every depth, exactly the files that the edit makes of the root's. This holds in each table that agrees
+/// with the store and the emitted trees. The null id names no tree in a table, whatever the store has for it.
+///
+/// # Errors
+///
+/// - [`PlanError::Root`] if the root isn't found, or is invalid;
+/// - [`PlanError::Edit`] if the edit fails;
+/// - [`PlanError::Write`] if the write fails.
 pub fn with_entry_in_stored<S: Find + Drop, E: Drop, F: FnMut(&Tree) -> Result<ObjectId, E> + Drop>(
     alloc: Global,
     root: ObjectId,
@@ -136,13 +154,14 @@ pub fn with_entry_in_stored<S: Find + Drop, E: Drop, F: FnMut(&Tree) -> Result<O
         → AgreesWithPairs T written.trees.items
         → SameFiles (NamedFiles T n written.id)
         (Upserted T n (names_of path.now) (mode_of_kind kind) id (NamedFiles T n root)))) }
-    // The root was found, the edit came through, and then the write; or else it is told which of them didn't, and why.
-    ensures done { IfOk result (IsPlanned (meaning S.objects S.may_fail) store root
+    // The root is found, the edit succeeds, and then the write; or the error reports which of them failed,
+    // and why.
+    ensures done { IfOk result (IsPlanned (store_model S.objects S.may_fail) store root
         (names_of path.now) (mode_of_kind kind) id (answered F.FnMut) out) }
-    ensures refusal { IfErr result (RefusesPlan (meaning S.objects S.may_fail) store root
+    ensures error { IfErr result (IsPlanError (store_model S.objects S.may_fail) store root
         (names_of path.now) (mode_of_kind kind) id (answered F.FnMut) (denied F.FnMut) out) }
 {
-    ids_are_the_same_or_not();
+    id_equality_is_decidable();
     let tree = match root_in(alloc, &store, root) {
         Ok(tree) => tree,
         Err(error) => return Err(PlanError::Root(error)),

@@ -1,10 +1,10 @@
-//! A publisher of releases, who reads tags, checks their names and copies them.
+//! A publisher of releases, who decodes tags, validates their names and encodes them.
 ghost use Rattle.std.specs.Prelude.{◌≡◌, IfErr, IfOk, MatchOption, Some};
 ghost use Rattle.bstr.specs.BStr.{bstr_bytes};
-ghost use Rattle.gix_object.specs.Hash.{Spells};
+ghost use Rattle.gix_object.specs.Hash.{DecodesToId};
 ghost use Rattle.gix_object.specs.NameRule.{IsTagName};
-ghost use Rattle.gix_object.specs.TagRewriting.{KeepsBody};
-ghost use Rattle.gix_object.specs.TagText.{IsTagText, TagLines};
+ghost use Rattle.gix_object.specs.TagRewriting.{PreservesBody};
+ghost use Rattle.gix_object.specs.TagFormat.{DecodesToTag, TagLines};
 ghost use Rattle.gix_object.specs.TagViews.{tag_lines};
 ghost use Rattle.gix_object.specs.hash.hash.object_id.ObjectId.{ObjectId};
 ghost use Rattle.gixobj_callers.specs.Copies.{FailsForRoom};
@@ -13,27 +13,33 @@ use crate::store::CopyError;
 use bstr::BStr;
 use gix_object::hash::{Kind, ObjectId};
 use gix_object::laws::{
-    parts_of_tags_are_found, tag_has_one_reading, tag_writes_back, writers_fail_as_their_sinks,
+    tag_decodes_uniquely, tag_part_search_complete, tag_reencodes_identically,
+    write_error_implies_sink_error,
 };
 use gix_object::tag::write::validated_name;
 use gix_object::{TagRef, TagRefIter, WriteTo};
 use std::alloc::Global;
 
-/// Reads a tag and writes it: a text comes back as it was where it is unsigned or its message is more than
-/// newlines. Of the text of a tag whose name may be a tag's it is refused only where memory runs out.
-pub fn tag_copy_of(alloc: Global, text: &[u8], kind: Kind) -> Result<Vec<u8>, CopyError>
-    ensures same { IfOk result (λ copy. (tag : TagLines) → IsTagText kind text.now tag
-        → KeepsBody tag → copy.items ≡ text.now) }
-    ensures room { IfErr result (λ error. (tag : TagLines) → IsTagText kind text.now tag
+/// Decodes a tag and encodes it. The result equals the bytes if the tag is unsigned or its message is more
+/// than newlines.
+///
+/// # Errors
+///
+/// - [`CopyError::Read`] if the bytes are malformed;
+/// - [`CopyError::Write`] if the name is invalid, or allocation fails.
+pub fn tag_copy_of(alloc: Global, bytes: &[u8], kind: Kind) -> Result<Vec<u8>, CopyError>
+    ensures same { IfOk result (λ copy. (tag : TagLines) → DecodesToTag kind bytes.now tag
+        → PreservesBody tag → copy.items ≡ bytes.now) }
+    ensures has_capacity { IfErr result (λ error. (tag : TagLines) → DecodesToTag kind bytes.now tag
         → IsTagName tag.name → FailsForRoom error) }
 {
-    tag_has_one_reading();
-    tag_writes_back();
-    let tag = match TagRef::from_bytes(text, kind) {
+    tag_decodes_uniquely();
+    tag_reencodes_identically();
+    let tag = match TagRef::from_bytes(bytes, kind) {
         Ok(tag) => tag,
         Err(error) => return Err(CopyError::Read(error)),
     };
-    writers_fail_as_their_sinks(&tag);
+    write_error_implies_sink_error(&tag);
     let mut copy = Vec::new(alloc);
     match tag.write_to_vec(alloc, &mut copy) {
         Ok(()) => Ok(copy),
@@ -41,19 +47,19 @@ pub fn tag_copy_of(alloc: Global, text: &[u8], kind: Kind) -> Result<Vec<u8>, Co
     }
 }
 
-/// The id of the object that is tagged, told without reading the rest: of a tag's text it is always found.
-pub fn target_of(text: &[u8], kind: Kind) -> Option<ObjectId>
-    ensures { (tag : TagLines) → IsTagText kind text.now tag → (id : ObjectId) × (result ≡ Some id)
-        × Spells tag.target id }
+/// Returns the id of the tagged object without decoding the rest: always for the encoding of a tag.
+pub fn target_of(bytes: &[u8], kind: Kind) -> Option<ObjectId>
+    ensures { (tag : TagLines) → DecodesToTag kind bytes.now tag → (id : ObjectId) × (result ≡ Some id)
+        × DecodesToId tag.target id }
 {
-    parts_of_tags_are_found();
-    match TagRefIter::from_bytes(text, kind).target_id() {
+    tag_part_search_complete();
+    match TagRefIter::from_bytes(bytes, kind).target_id() {
         Ok(id) => Some(id),
         Err(_) => None,
     }
 }
 
-/// The name of the tag, where it may be that of a reference.
+/// Returns the name of the tag if it is a valid name of a reference.
 pub fn checked_name<'a>(tag: &TagRef<'a>) -> Option<BStr<'a>>
     ensures { MatchOption result (¬ IsTagName (tag_lines tag.now).name)
         (λ name. (bstr_bytes name ≡ (tag_lines tag.now).name)

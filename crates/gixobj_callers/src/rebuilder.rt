@@ -1,26 +1,26 @@
-//! A rebuilder, which runs a script on no files, and tells whether two of its writes are the same.
+//! A rebuilder, which runs commands on an editor without files, and compares two of their writes.
 ghost use Rattle.std.specs.Prelude.{◌≡◌, ◌↔◌, IfErr, IfOk, IsTrue, None, OnErr};
 ghost use Rattle.std.specs.Fn.{FnReturnsAt};
 ghost use Rattle.gix_object.specs.Commands.{written_at, written_by, written_by_edit};
 ghost use Rattle.gix_object.specs.Replies.{IsCallable};
-ghost use Rattle.gixobj_callers.specs.Rebuilds.{IsCompared, NamesWritten, RefusesComparison, id_named};
-ghost use Rattle.gix_object.specs.Stores.{meaning};
+ghost use Rattle.gixobj_callers.specs.Rebuilds.{IsCompared, NamesWritten, IsComparisonError, id_named};
+ghost use Rattle.gix_object.specs.Stores.{store_model};
 
 use gix_object::hash::{Kind, ObjectId};
 use gix_object::tree::editor::{Command, EditReply, Editor, Reply, run};
 use gix_object::{Keep, OutOfMemory, Tree};
 use std::alloc::Global;
 
-/// Why two writes of a script aren't compared.
+/// The error of [`wrote_the_same`].
 #[derive(Debug, Drop, thiserror::Error)]
 pub enum CompareError {
-    /// The command at this place isn't a write of the root that came through, or there is none. The script was run.
+    /// The command at this index isn't a successful write of the root, or is missing. The commands were run.
     #[error("no write of the root at place {place}")]
     NoWrite {
-        /// The place, from 0: the first one, where neither is one of a write.
+        /// The index, from 0; the first of the two if neither is that of a write.
         place: usize,
     },
-    /// There was no memory for the replies. Nothing was done.
+    /// Allocation of the replies failed. Nothing was done.
     #[error("out of memory")]
     OutOfMemory,
 }
@@ -36,11 +36,19 @@ impl From<OutOfMemory> for CompareError {
     }
 }
 
-/// Runs a script on an editor of no files, and tells whether its writes of the root at two places, from 0, name one id.
-/// A write whose trees the store didn't all keep counts too. It takes memory for the replies, and what the edits take.
+/// Runs commands on an editor without files, and tests if its writes of the root at two indices, from 0, name
+/// one id.
 ///
-/// As long as the script puts in no tree, sets no root but the empty one, and `out` gives no tree two ids, it tells
-/// whether the files of the two writes are equal to every depth.
+/// A write also counts if the store didn't keep all its trees. Allocates the replies, and what the edits
+/// allocate.
+///
+/// Let the commands insert no tree and set no root but the empty one, and let `out` return one id for each
+/// tree. Then the result is whether the files of both writes are equal at every depth.
+///
+/// # Errors
+///
+/// - [`CompareError::NoWrite`] with the index, if its command isn't a successful write of the root;
+/// - [`CompareError::OutOfMemory`] if allocation of the replies fails.
 pub fn wrote_the_same<S: Keep + Drop, E: Drop, F: Fn(&Tree) -> Result<ObjectId, E> + Drop>(
     alloc: Global,
     store: S,
@@ -51,9 +59,9 @@ pub fn wrote_the_same<S: Keep + Drop, E: Drop, F: Fn(&Tree) -> Result<ObjectId, 
     out: F,
 ) -> Result<bool, CompareError>
     requires callable { IsCallable F.pre out }
-    ensures compared { IfOk result (IsCompared (meaning S.objects S.may_fail) (FnReturnsAt F.Fn out)
+    ensures compared { IfOk result (IsCompared (store_model S.objects S.may_fail) (FnReturnsAt F.Fn out)
         store object_hash commands.items place other) }
-    ensures refusal { IfErr result (RefusesComparison (meaning S.objects S.may_fail)
+    ensures error { IfErr result (IsComparisonError (store_model S.objects S.may_fail)
         (FnReturnsAt F.Fn out) store object_hash commands.items place other) }
 {
     let mut editor = Editor::new(Tree::empty(alloc), store, object_hash);
@@ -69,17 +77,17 @@ pub fn wrote_the_same<S: Keep + Drop, E: Drop, F: Fn(&Tree) -> Result<ObjectId, 
     Ok(are_same(first, second))
 }
 
-/// Whether both are the same id.
+/// Tests if the ids are equal.
 fn are_same(id: ObjectId, other: ObjectId) -> bool
     ensures { IsTrue result ↔ (id ≡ other) }
 {
     id == other
 }
 
-/// The id that a write of the root names, of which the reply at this place tells.
+/// Returns the id that a write of the root names, by the reply at this index.
 fn id_written<E>(replies: &[Reply<E>], place: usize) -> Result<ObjectId, CompareError>
     ensures found { IfOk result (NamesWritten replies.now place) }
-    ensures refusal { IfErr result (λ error. error ≡ CompareError.NoWrite place) }
+    ensures error { IfErr result (λ error. error ≡ CompareError.NoWrite place) }
     ensures none { OnErr result (written_at replies.now place ≡ None) }
 {
     let Some(reply) = replies.get(place) else {
@@ -91,7 +99,7 @@ fn id_written<E>(replies: &[Reply<E>], place: usize) -> Result<ObjectId, Compare
     }
 }
 
-/// The id that a write of the root names, if the reply tells of one that came through.
+/// Returns the id that a write of the root names, if the reply reports a successful one.
 fn id_in<E>(reply: &Reply<E>) -> Option<ObjectId>
     ensures { result ≡ id_named (written_by reply.now) }
 {
@@ -104,7 +112,7 @@ fn id_in<E>(reply: &Reply<E>) -> Option<ObjectId>
     }
 }
 
-/// The same of the reply to an edit.
+/// Returns the id that a write names, if the reply to an edit reports a successful one.
 fn id_in_edit<E>(reply: &EditReply<E>) -> Option<ObjectId>
     ensures { result ≡ id_named (written_by_edit reply.now) }
 {

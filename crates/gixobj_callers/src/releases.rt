@@ -1,15 +1,15 @@
-//! Who signs commits, and an auditor of releases, who has signatures of commits and tags verified: both by programs that
-//! a runner runs.
+//! A signer of commits, and an auditor of releases, who verifies signatures of commits and tags: both by
+//! programs that a runner runs.
 ghost use Rattle.std.specs.Prelude.{◌≡◌, IfErr, IfOk, IfSome, true};
 ghost use Rattle.std.specs.Cow.{cow_slice_items};
-ghost use Rattle.gix_object.specs.CommitSigning.{RefusesWritingCommit};
+ghost use Rattle.gix_object.specs.CommitSigning.{IsCommitWriteError};
 ghost use Rattle.gix_object.specs.CommitViews.{owned_commit_lines};
-ghost use Rattle.gix_object.specs.CommitWriting.{commit_text};
+ghost use Rattle.gix_object.specs.CommitWriting.{encode_commit};
 ghost use Rattle.gix_object.specs.Outcomes.{outcome_view};
 ghost use Rattle.gix_object.specs.SignedBytes.{signed_bytes};
 ghost use Rattle.gix_object.specs.Signing as signing;
 ghost use Rattle.gix_object.specs.Verifiers.{options_view};
-ghost use Rattle.gixobj_callers.specs.Releases.{ComesOfVerifying, GivesSignature, IsAccepted, IsAudit, IsSignedText, RefusesAudit, RefusesSignature, RefusesSignedText, Vouches};
+ghost use Rattle.gixobj_callers.specs.Releases.{IsOutcomeOfVerifying, FindsSignature, IsAccepted, IsAudit, IsSignedEncoding, IsAuditError, IsSignatureError, IsSignedEncodingError, Vouches};
 
 use bstr::BStr;
 use gix_object::signature::verify::{self, Options, Outcome};
@@ -18,58 +18,68 @@ use gix_object::{Commit, CommitRefIter, Kind, TagRefIter, WriteTo, decode, encod
 use std::alloc::Global;
 use std::borrow::CowSlice;
 
-/// The text of a commit with a new signature.
-pub fn signed_text<R: Runner>(
+/// Signs a commit, and returns its encoding with the new signature.
+///
+/// # Errors
+///
+/// [`sign::Error`] if the commit isn't signed; `Encode` also if the signed commit can't be encoded.
+pub fn signed_payload<R: Runner>(
     alloc: Global,
     commit: Commit,
     options: sign::Options,
     runner: &mut R,
 ) -> Result<Vec<u8>, sign::Error>
-    ensures signed { IfOk result (λ text.
-        IsSignedText R.runs (signing.options_view options) commit runner.old text.items
+    ensures signed { IfOk result (λ content.
+        IsSignedEncoding R.runs (signing.options_view options) commit runner.old content.items
         runner.new) }
-    ensures refusal { IfErr result (RefusesSignedText R.runs options commit runner.old runner.new) }
+    ensures error { IfErr result (IsSignedEncodingError R.runs options commit runner.old runner.new) }
 {
     match commit.sign(alloc, options, runner) {
         Ok(signed) => match written(alloc, &signed) {
-            Ok(text) => Ok(text),
+            Ok(content) => Ok(content),
             Err(error) => Err(sign::Error::Encode(error)),
         },
         Err(error) => Err(error),
     }
 }
 
-/// The text of a commit.
+/// Encodes a commit.
 fn written(alloc: Global, commit: &Commit) -> Result<Vec<u8>, encode::Error>
-    ensures text { IfOk result (λ text. text.items ≡ commit_text (owned_commit_lines commit.now)) }
-    ensures refusal { IfErr result (RefusesWritingCommit commit.now
-        (commit_text (owned_commit_lines commit.now))) }
+    ensures encoded { IfOk result (λ content. content.items ≡ encode_commit (owned_commit_lines commit.now)) }
+    ensures error { IfErr result (IsCommitWriteError commit.now
+        (encode_commit (owned_commit_lines commit.now))) }
 {
-    let mut text = Vec::new(alloc);
-    commit.write_to_vec(alloc, &mut text)?;
-    Ok(text)
+    let mut content = Vec::new(alloc);
+    commit.write_to_vec(alloc, &mut content)?;
+    Ok(content)
 }
 
-/// Why an object isn't audited.
+/// The error of [`audit`].
 #[derive(Debug, Drop, thiserror::Error)]
 pub enum AuditError {
-    /// It is neither a commit nor a tag. No call was made.
+    /// The object is neither a commit nor a tag. No call was made.
     #[error("neither a commit nor a tag")]
     NoRelease,
-    /// No signature is found, since a line before it can't be read, or because memory ran out. No call was made.
+    /// No signature is found: a line before it is malformed, or allocation failed. No call was made.
     #[error("not read: {0}")]
     Read(decode::Error),
-    /// The signature isn't verified.
+    /// The signature isn't verified, for this cause.
     #[error("not verified: {0}")]
     Verify(verify::Error),
 }
 
-/// Takes the signature out of the bytes of an object, as a store has them, and has it verified by a runner. No outcome
-/// where the object has no signature.
+/// Extracts the signature from the bytes of an object, and has a runner verify it; `None` if the object is
+/// unsigned.
 ///
-/// Where the outcome is accepted ([`Outcome::is_valid`]), the signature is one of exactly the object's other bytes, of a
-/// commit all but the signature's header, of a tag all before the marker; and to the stated calls, and no others,
-/// programs answered that it is good. That they told the truth doesn't follow.
+/// If the outcome is accepted ([`Outcome::is_valid`]), the signature is of exactly the object's other bytes:
+/// of a commit all but the signature header, of a tag all before the marker. To the stated calls, and no
+/// others, programs answered that it is good. That these answers are true doesn't follow.
+///
+/// # Errors
+///
+/// - [`AuditError::NoRelease`] if the object is neither a commit nor a tag;
+/// - [`AuditError::Read`] if a line before the signature is malformed, or allocation fails;
+/// - [`AuditError::Verify`] if the signature isn't verified.
 pub fn audit<R: Runner>(
     alloc: Global,
     kind: Kind,
@@ -84,7 +94,7 @@ pub fn audit<R: Runner>(
         IfSome it (λ outcome. (outcome_view outcome).valid ≡ true
         → IsAccepted R.runs (options_view options) kind hash_kind bytes.now runner.old
         (outcome_view outcome) runner.new)) }
-    ensures refusal { IfErr result (RefusesAudit R.runs (options_view options) kind hash_kind
+    ensures error { IfErr result (IsAuditError R.runs (options_view options) kind hash_kind
         bytes.now runner.old runner.new) }
 {
     match signature_of(alloc, kind, hash_kind, bytes) {
@@ -99,15 +109,15 @@ pub fn audit<R: Runner>(
     }
 }
 
-/// The signature of an object, and what it signs.
+/// Returns the signature of an object, and what it signs.
 fn signature_of(
     alloc: Global,
     kind: Kind,
     hash_kind: hash::Kind,
     bytes: &[u8],
 ) -> Result<Option<(CowSlice<'_, u8>, SignedData<'_>)>, AuditError>
-    ensures found { IfOk result (GivesSignature kind hash_kind bytes.now) }
-    ensures refusal { IfErr result (RefusesSignature kind hash_kind bytes.now) }
+    ensures found { IfOk result (FindsSignature kind hash_kind bytes.now) }
+    ensures error { IfErr result (IsSignatureError kind hash_kind bytes.now) }
 {
     match kind {
         Kind::Commit => match CommitRefIter::signature(alloc, bytes, hash_kind) {
@@ -125,7 +135,7 @@ fn signature_of(
     }
 }
 
-/// Has a signature of these bytes verified.
+/// Has a runner verify a signature of these bytes.
 fn verified<R: Runner>(
     alloc: Global,
     signature: &[u8],
@@ -133,7 +143,7 @@ fn verified<R: Runner>(
     options: Options,
     runner: &mut R,
 ) -> Result<Outcome, verify::Error>
-    ensures came { ComesOfVerifying R.runs (options_view options) signature.now
+    ensures outcome { IsOutcomeOfVerifying R.runs (options_view options) signature.now
         (signed_bytes signed.now) runner.old result runner.new }
     ensures accepted { IfOk result (λ outcome. (outcome_view outcome).valid ≡ true
         → Vouches R.runs (options_view options) signature.now (signed_bytes signed.now) runner.old

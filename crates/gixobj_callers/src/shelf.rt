@@ -1,12 +1,12 @@
-//! A store of one's own: objects that lie in memory already, in no order.
+//! A store of one's own, of objects in memory, in no order.
 ghost use Rattle.gixobj_callers.specs.Shelves.{shelf_objects};
 ghost use Rattle.gix_object.specs.Stores.{IsFound};
 
 use gix_object::hash::{ObjectId, oid};
-use gix_object::laws::an_object_is_put_in;
+use gix_object::laws::object_map_insert;
 use gix_object::{Data, Exists, Find, FindHeader, Header, Store, find};
 
-/// Objects with their ids. Where an id stands twice, the first one counts.
+/// Objects with their ids, as a store. The first object of an id counts.
 #[derive(Clone, Copy, Debug)]
 pub struct Shelf<'a> {
     /// Each id, and the object that it names.
@@ -14,11 +14,11 @@ pub struct Shelf<'a> {
 }
 
 impl<'a> Shelf<'a> {
-    /// The first object of this id.
+    /// Returns the first object of this id.
     fn first(&self, id: ObjectId) -> Option<Data<'a>>
         ensures { IsFound (shelf_objects self.now) id result }
     {
-        an_object_is_put_in();
+        object_map_insert();
         for (at, object) in self.objects {
             if *at == id {
                 return Some(*object);
@@ -28,7 +28,7 @@ impl<'a> Shelf<'a> {
     }
 }
 
-/// No lookup fails.
+/// No lookup fails, except for memory.
 impl Store for Shelf<'_> {
     ghost use Rattle.std.specs.Prelude.{false};
 

@@ -1,8 +1,8 @@
-//! A planner of uploads, which tells what an editor's files need that isn't there yet.
+//! A planner of uploads, which returns the trees of an editor's files that a store lacks.
 ghost use Rattle.std.specs.Prelude.{◌≡◌, IfErr, IfOk, OnErr};
 ghost use Rattle.gix_object.specs.Calls.{answered, denied, IsCallableOnTrees};
-ghost use Rattle.gix_object.specs.Handing.{Stopped};
-ghost use Rattle.gix_object.specs.HandingOut.{HandsOutSome};
+ghost use Rattle.gix_object.specs.Emitting.{Stopped};
+ghost use Rattle.gix_object.specs.Emission.{EmitsSome};
 ghost use Rattle.gix_object.specs.State.{open_bases, open_dirs};
 ghost use Rattle.gix_object.specs.Writes.{IsWrittenEditor};
 ghost use Rattle.gixobj_callers.specs.Uploads.{Divides, IsEnough, NamesItsFiles};
@@ -11,23 +11,30 @@ use gix_object::Tree;
 use gix_object::hash::ObjectId;
 use gix_object::tree::editor::{Editor, WriteError};
 
-/// What has to be uploaded, for the files of an editor, to a store that has what the editor opened.
+/// What to upload for the files of an editor, to a store that has what the editor opened. [`upload_of`] makes
+/// one.
 #[derive(Debug, Drop)]
 pub struct Upload {
     /// The id of the root.
     pub id: ObjectId,
     /// The trees, each with its id: those in a directory before the directory, and the root's own last.
     pub trees: Vec<(ObjectId, Tree)>,
-    /// How many open directories below the root have entries and needn't be uploaded, since their trees are as they
-    /// were when they were opened. It stays at the greatest `usize`.
+    /// The number of open directories below the root that have entries and aren't uploaded: their trees are
+    /// as they were opened. It saturates at `usize::MAX`.
     pub unchanged: usize,
 }
 
-/// What has to be uploaded for the files of an editor. `out` answers the id of each tree that goes out. The editor goes on
-/// with these files, and its root alone is open then.
+/// Writes the files of an editor, and returns what to upload for them. `out` returns the id of each emitted
+/// tree.
 ///
-/// `Out` where `out` refused a tree, `OutOfMemory` where memory ran out, which is taken for what goes out. A refusal
-/// leaves the editor as it was, and what `out` was asked so far stands.
+/// The editor still has these files, and its root alone is open then. Allocates for the emitted trees.
+///
+/// # Errors
+///
+/// - [`WriteError::Out`] with the error that `out` returns for a tree;
+/// - [`WriteError::OutOfMemory`] if allocation fails.
+///
+/// The editor is unchanged after an error; earlier calls of `out` aren't undone.
 pub fn upload_of<S, E, F: FnMut(&Tree) -> Result<ObjectId, E>>(
     editor: &mut Editor<S>,
     out: &mut F,
@@ -38,8 +45,8 @@ pub fn upload_of<S, E, F: FnMut(&Tree) -> Result<ObjectId, E>>(
     ensures enough { IfOk result (IsEnough editor.old) }
     ensures done { IfOk result (λ it. IsWrittenEditor (answered F.FnMut) out.old editor.old
         (record { id = it.id; trees = it.trees; saved = it.unchanged }) editor.new out.new) }
-    ensures refusal { IfErr result (Stopped (answered F.FnMut) (denied F.FnMut)
-        (HandsOutSome (open_dirs editor.old) (open_bases editor.old)) out.old out.new) }
+    ensures error { IfErr result (Stopped (answered F.FnMut) (denied F.FnMut)
+        (EmitsSome (open_dirs editor.old) (open_bases editor.old)) out.old out.new) }
     ensures unchanged { OnErr result (editor.new ≡ editor.old) }
 {
     let written = editor.try_write(out)?;

@@ -1,20 +1,20 @@
--- An owned commit of which its writer refuses nothing has fields of one line.
+-- The fields of an owned commit that its encoder accepts are of one line.
 use Rattle.std.proofs.Common.{◌≡◌, ◌≢◌, ◌∙◌, true, ap, inl, inr, refl, subst, sym, ℕ, List, [], ◌∷◌, All, Option, Some, None}
 use Rattle.std.specs.Prelude.{Contains}
 use Rattle.std.proofs.lemmas.Bool.{true≢false}
 use Rattle.std.proofs.lemmas.List.Elements.{All-cons, All-head, All-map, All-nil, All-tail, Contains-get_or}
 use Rattle.std.specs.List.{AllPass}
-use Rattle.gixobj_actor.specs.ActorWriting.{IsLegal, owned_text}
+use Rattle.gixobj_actor.specs.ActorWriting.{IsLegal, encode_owned_actor}
 use Rattle.gixobj_actor.specs.declared.actor.Signature.{Signature}
 use Rattle.gixobj_commit.specs.CommitViews.{owned_commit_lines}
-use Rattle.gixobj_commit.specs.CommitWriting.{RefusesEncoding, RefusesOwnedCommit, before_author, before_committer}
+use Rattle.gixobj_commit.specs.CommitWriting.{IsEncodingError, IsOwnedCommitError, before_author, before_committer}
 use Rattle.gixobj_commit.specs.declared.commit.Commit.{Commit}
-use Rattle.gixobj_fields.specs.Writing.{Refused, RefusesNothing, header_with_newline, illegal_actor}
-use Rattle.gixobj_hash.specs.Hash.{hex_text, is_lower_hex_digit}
+use Rattle.gixobj_fields.specs.Writing.{RejectedValue, RejectsNothing, header_with_newline, illegal_actor}
+use Rattle.gixobj_hash.specs.Hash.{encode_id_hex, is_lower_hex_digit}
 use Rattle.gixobj_commit.specs.Commit.{before_encoding}
 use Rattle.gixobj_hash.specs.Bytes.{greater_than, less_than, newline}
 use Rattle.gixobj_hash.specs.Optional.{owned_bytes_if_some}
-use Rattle.gixobj_hash.specs.Texts.{IsFree}
+use Rattle.gixobj_hash.specs.ByteStrings.{IsByteFree}
 use Rattle.gixobj_codec.specs.LineFields.{HasLineFields, IsOneLine}
 
 -- ---- ids
@@ -22,47 +22,60 @@ use Rattle.gixobj_codec.specs.LineFields.{HasLineFields, IsOneLine}
 digit_is_no_newline : (byte : ℕ) → is_lower_hex_digit byte ≡ true → byte ≢ newline
 digit_is_no_newline byte digit same = true≢false (sym digit ∙ ap is_lower_hex_digit same)
 
-pub digits_have_one_line : (text : List ℕ) → AllPass is_lower_hex_digit text → IsFree newline text
+pub digits_have_one_line : (bytes : List ℕ) → AllPass is_lower_hex_digit bytes → IsByteFree newline bytes
 digits_have_one_line [] digits = All-nil (λ (it : ℕ). it ≢ newline)
-digits_have_one_line (byte ∷ text) digits =
+digits_have_one_line (byte ∷ bytes) digits =
     let P : ℕ → Type 0 = λ it. is_lower_hex_digit it ≡ true in
-    All-cons (λ (it : ℕ). it ≢ newline) byte text (digit_is_no_newline byte (All-head P byte text digits)) (digits_have_one_line text (All-tail P byte text digits))
+    All-cons (λ (it : ℕ). it ≢ newline) byte bytes (digit_is_no_newline byte (All-head P byte bytes digits))
+    (digits_have_one_line bytes (All-tail P byte bytes digits))
 
--- ---- what isn't refused is so
+-- ---- what the encoder accepts is legal
 
--- a text of which it can't be denied that it is free of a byte is free of it
-free_undenied : (byte : ℕ) (text : List ℕ) → ¬ ¬ IsFree byte text → IsFree byte text
+-- bytes are free of a byte if the opposite is refuted
+free_undenied : (byte : ℕ) (bytes : List ℕ) → ¬ ¬ IsByteFree byte bytes → IsByteFree byte bytes
 free_undenied byte [] denied = All-nil (λ (it : ℕ). it ≢ byte)
-free_undenied byte (first ∷ text) denied =
+free_undenied byte (first ∷ bytes) denied =
     let Other : ℕ → Type 0 = λ it. it ≢ byte in
-    All-cons Other first text (λ same. denied (λ free. All-head Other first text free same)) (free_undenied byte text (λ not. denied (λ free. not (All-tail Other first text free))))
+    All-cons Other first bytes (λ same. denied (λ free. All-head Other first bytes free same))
+    (free_undenied byte bytes (λ not. denied (λ free. not (All-tail Other first bytes free))))
 
 legal_undenied : (actor : Signature) → ¬ ¬ IsLegal actor → IsLegal actor
 legal_undenied actor denied = (
-  (free_undenied less_than _ (λ not. denied (λ legal. not legal.0.0)), free_undenied greater_than _ (λ not. denied (λ legal. not legal.0.1)), free_undenied newline _ (λ not. denied (λ legal. not legal.0.2))),
-  (free_undenied less_than _ (λ not. denied (λ legal. not legal.1.0)), free_undenied greater_than _ (λ not. denied (λ legal. not legal.1.1)), free_undenied newline _ (λ not. denied (λ legal. not legal.1.2))),
+  (
+    free_undenied less_than _ (λ not. denied (λ legal. not legal.0.0)),
+    free_undenied greater_than _ (λ not. denied (λ legal. not legal.0.1)),
+    free_undenied newline _ (λ not. denied (λ legal. not legal.0.2)),
+  ),
+  (
+    free_undenied less_than _ (λ not. denied (λ legal. not legal.1.0)),
+    free_undenied greater_than _ (λ not. denied (λ legal. not legal.1.1)),
+    free_undenied newline _ (λ not. denied (λ legal. not legal.1.2)),
+  ),
 )
 
-free_without : (byte : ℕ) (text : List ℕ) → ¬ Contains text byte → IsFree byte text
-free_without byte text none = λ k other within same. none (subst (λ (it : ℕ). Contains text it) same (Contains-get_or text k other within))
+free_without : (byte : ℕ) (bytes : List ℕ) → ¬ Contains bytes byte → IsByteFree byte bytes
+free_without byte bytes none = λ k other within same. none (subst (λ (it : ℕ). Contains bytes it) same (Contains-get_or bytes k other within))
 
-encoding_has_one_line : (encoding : Option (List ℕ)) → ((value : Refused) → ¬ RefusesEncoding encoding value) → IsOneLine encoding
+encoding_has_one_line : (encoding : Option (List ℕ)) → ((value : RejectedValue) → ¬ IsEncodingError encoding value) → IsOneLine encoding
 encoding_has_one_line None written = tt
 encoding_has_one_line (Some encoding) written = free_without newline encoding (λ has. written (header_with_newline encoding) (inr (has, refl)))
 
 -- ---- commits
 
-pub owned_fields : (commit : Commit) → IsFree newline (hex_text commit.tree) → All (λ id. IsFree newline (hex_text id)) commit.parents.items
-    → (IsLegal commit.author → IsFree newline (owned_text commit.author)) → (IsLegal commit.committer → IsFree newline (owned_text commit.committer)) → RefusesNothing (RefusesOwnedCommit commit)
+pub owned_fields : (commit : Commit) → IsByteFree newline (encode_id_hex commit.tree) → All (λ id. IsByteFree newline (encode_id_hex id)) commit.parents.items
+    → (IsLegal commit.author → IsByteFree newline (encode_owned_actor commit.author))
+    → (IsLegal commit.committer → IsByteFree newline (encode_owned_actor commit.committer)) → RejectsNothing (IsOwnedCommitError commit)
     → HasLineFields (owned_commit_lines commit)
 owned_fields commit tree parents author committer written =
     let lines = owned_commit_lines commit in
     let legal_author : IsLegal commit.author = legal_undenied commit.author (λ no. written illegal_actor (before_author lines) (inl (no, refl, refl))) in
-    let legal_committer : IsLegal commit.committer = legal_undenied commit.committer (λ no. written illegal_actor (before_committer lines) (inr (inl (legal_author, no, refl, refl)))) in
+    let legal_committer : IsLegal commit.committer =
+    legal_undenied commit.committer (λ no. written illegal_actor (before_committer lines) (inr (inl (legal_author, no, refl, refl)))) in
     record {
       tree = tree;
-      parents = All-map (λ (hex : List ℕ). IsFree newline hex) hex_text commit.parents.items parents;
+      parents = All-map (λ (hex : List ℕ). IsByteFree newline hex) encode_id_hex commit.parents.items parents;
       author = author legal_author;
       committer = committer legal_committer;
-      encoding = encoding_has_one_line (owned_bytes_if_some commit.encoding) (λ value refused. written value (before_encoding lines) (inr (inr (legal_author, legal_committer, (refused, refl)))));
+      encoding = encoding_has_one_line (owned_bytes_if_some commit.encoding)
+          (λ value rejected. written value (before_encoding lines) (inr (inr (legal_author, legal_committer, (rejected, refl)))));
     }

@@ -1,10 +1,10 @@
--- What is found again in the text of what was signed is what the signer got.
+-- The payload that is found in a signed object is the one that the signer got.
 use Rattle.std.proofs.Common.{◌≡◌, IfOk, subst, sym, ℕ, List, Result, Ok, Err}
 use Rattle.gixobj_commit.specs.CommitSigning as commit
 use Rattle.gixobj_commit.specs.CommitViews as commit_views
-use Rattle.gixobj_commit.specs.CommitWriting.{RefusesOwnedCommit, commit_text}
+use Rattle.gixobj_commit.specs.CommitWriting.{IsOwnedCommitError, encode_commit}
 use Rattle.gixobj_commit.specs.declared.commit.Commit.{Commit}
-use Rattle.gixobj_fields.specs.Writing.{RefusesNothing}
+use Rattle.gixobj_fields.specs.Writing.{RejectsNothing}
 use Rattle.gixobj_hash.specs.Hash.{id_kind}
 use Rattle.gixobj_commit.specs.Commit.{CommitLines}
 use Rattle.gixobj_signature.specs.Calls.{Answer, CallView}
@@ -14,42 +14,47 @@ use Rattle.gixobj_signature.specs.declared.signature.sign.Error.{Error}
 use Rattle.gixobj_signature.specs.declared.signature.sign.Options.{Options}
 use Rattle.gixobj_ref_iter.specs.TagExtracting as tags
 use Rattle.gixobj_tag.specs.TagSigning as tag
-use Rattle.gixobj_tag.specs.TagText.{TagLines}
+use Rattle.gixobj_tag.specs.TagFormat.{TagLines}
 use Rattle.gixobj_tag.specs.TagViews as tag_views
-use Rattle.gixobj_tag.specs.TagWriting.{tag_text}
+use Rattle.gixobj_tag.specs.TagWriting.{encode_tag}
 use Rattle.gixobj_tag.specs.declared.tag.Tag.{Tag}
 use Rattle.gixobj_ref_iter.specs.Extracting as commits
 use Rattle.gixobj_codec.proofs.CommitsExtracted.{payload_extracted}
 use Rattle.gixobj_codec.proofs.SignaturesFound.{signature_is_there}
 use Rattle.gixobj_codec.proofs.TagsExtracted.{tag_payload_extracted}
 use Rattle.gixobj_codec.specs.LineFields.{HasHeaderNames, HasLineFields}
-use Rattle.gixobj_codec.specs.SignedTexts.{CommitGivesPayload, TagGivesPayload}
+use Rattle.gixobj_codec.specs.SignedEncodings.{CommitPayloadIsSigned, TagPayloadIsSigned}
 
 module _ {S : Type 0} (runs : S → CallView → Answer → S → Type 0) (options : Options) (old new : S) where
-  module _ (it : Commit) (fields : RefusesNothing (RefusesOwnedCommit it) → HasLineFields (commit_views.owned_commit_lines it)) where
+  module _ (it : Commit) (fields : RejectsNothing (IsOwnedCommitError it) → HasLineFields (commit_views.owned_commit_lines it)) where
     pub commit_found : (result : Result Commit Error) → IfOk result (commit.IsSignedCommit runs options it old new)
-        → IfOk result (λ signed. HasHeaderNames (commit_views.owned_commit_lines it) → ¬ commits.HasNoSignature (id_kind it.tree) (commit_text (commit_views.owned_commit_lines signed)))
+        → IfOk result (λ signed. HasHeaderNames (commit_views.owned_commit_lines it)
+        → ¬ commits.HasNoSignature (id_kind it.tree) (encode_commit (commit_views.owned_commit_lines signed)))
     commit_found (Err error) is = tt
     commit_found (Ok signed) is = λ named none.
         signature_is_there (id_kind it.tree) (commit_views.owned_commit_lines it) is.bytes named (fields is.writable)
-        (subst (λ (lines : CommitLines). commits.HasNoSignature (id_kind it.tree) (commit_text lines)) is.lines none)
+        (subst (λ (lines : CommitLines). commits.HasNoSignature (id_kind it.tree) (encode_commit lines)) is.lines none)
 
     pub commit_payload : (result : Result Commit Error) → IfOk result (commit.IsSignedCommit runs options it old new)
-        → IfOk result (λ signed. HasHeaderNames (commit_views.owned_commit_lines it) → CommitGivesPayload runs options (id_kind it.tree) (commit_text (commit_views.owned_commit_lines signed)) old new)
+        → IfOk result (λ signed. HasHeaderNames (commit_views.owned_commit_lines it) → CommitPayloadIsSigned runs options (id_kind it.tree)
+        (encode_commit (commit_views.owned_commit_lines signed)) old new)
     commit_payload (Err error) is = tt
     commit_payload (Ok signed) is = λ named value payload has.
-        let again : commits.HasCommitSignature (id_kind it.tree) (commit_text (commit.with_signature (id_kind it.tree) is.bytes (commit_views.owned_commit_lines it))) value payload =
-        subst (λ (lines : CommitLines). commits.HasCommitSignature (id_kind it.tree) (commit_text lines) value payload) is.lines has in
+        let again : commits.HasCommitSignature (id_kind it.tree)
+        (encode_commit (commit.with_signature (id_kind it.tree) is.bytes (commit_views.owned_commit_lines it))) value payload =
+        subst (λ (lines : CommitLines). commits.HasCommitSignature (id_kind it.tree) (encode_commit lines) value payload) is.lines has in
         let same : payload ≡ commit.payload_of_commit (id_kind it.tree) (commit_views.owned_commit_lines it) =
         payload_extracted (id_kind it.tree) (commit_views.owned_commit_lines it) is.bytes named (fields is.writable) value payload again in
-        (is.bytes, subst (λ (signs : List ℕ). Carries runs (sign_plan (options_view options) signs) old (signature is.bytes) new) (sym same) is.went)
+        (is.bytes, subst (λ (signs : List ℕ). Carries runs (sign_plan (options_view options) signs) old (signature is.bytes) new) (sym same) is.called)
 
-  pub tag_payload : (it : Tag) (result : Result Tag Error) → IfOk result (tag.IsSignedTag runs options it old new) → IfOk result (λ signed. TagGivesPayload runs options (tag_text (tag_views.owned_tag_lines signed)) old new)
+  pub tag_payload : (it : Tag) (result : Result Tag Error) → IfOk result (tag.IsSignedTag runs options it old new)
+      → IfOk result (λ signed. TagPayloadIsSigned runs options (encode_tag (tag_views.owned_tag_lines signed)) old new)
   tag_payload it (Err error) is = tt
   tag_payload it (Ok signed) is = record {
     payload = tag.payload_of_tag (tag_views.owned_tag_lines it);
     bytes = is.bytes;
-    went = is.went;
-    found = λ marker given told format has.
-        tag_payload_extracted (tag_views.owned_tag_lines it) is.bytes given told format marker (subst (λ (lines : TagLines). tags.HasTagSignature (tag_text lines) given told format) is.lines has);
+    called = is.called;
+    found = λ marker passed seen format has.
+        tag_payload_extracted (tag_views.owned_tag_lines it) is.bytes passed seen format marker
+        (subst (λ (lines : TagLines). tags.HasTagSignature (encode_tag lines) passed seen format) is.lines has);
   }

@@ -1,10 +1,11 @@
--- Signatures of tags, told in two ways.
+-- Signatures of tags, found in two ways.
 use Rattle.std.specs.Prelude.{◌≡◌, Option, Some, None, ⊤}
 use Rattle.bstr.specs.BStr.{bstr_bytes}
 use Rattle.gixobj_text.specs.declared.signature.SignatureRef.{SignatureRef}
 use Rattle.gixobj_signature.specs.declared.signature.signed_data.SignedData.{SignedData}
 
--- a tag's own signature and the one that is found in a text, with what it signs: both none, or the same bytes in the same format
+-- a tag's own signature, and the one found in an encoding with the data that it signs: both none, or the same bytes and
+-- format
 abbrev pub AreTheSame : Option SignatureRef → Option (SignatureRef × SignedData) → Type 0
 AreTheSame None None = ⊤
 AreTheSame None (Some found) = ⊥

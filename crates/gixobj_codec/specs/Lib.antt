@@ -1,7 +1,7 @@
 pub mod Agreeing
 pub mod LineFields
 pub mod OneMarker
-pub mod SignedTexts
+pub mod SignedEncodings
 pub use Rattle.gixobj_actor.specs.Actor
 pub use Rattle.gixobj_actor.specs.ActorWriting
 pub use Rattle.gixobj_actor.specs.Date
@@ -12,14 +12,14 @@ pub use Rattle.gixobj_commit.specs.CommitSigning
 pub use Rattle.gixobj_commit.specs.CommitViews
 pub use Rattle.gixobj_commit.specs.CommitWriting
 pub use Rattle.gixobj_commit.specs.ExtraHeaders
-pub use Rattle.gixobj_commit.specs.HeadersLeft
+pub use Rattle.gixobj_commit.specs.RemainingHeaders
 pub use Rattle.gixobj_commit.specs.Mergetags
-pub use Rattle.gixobj_commit.specs.ParentsLeft
+pub use Rattle.gixobj_commit.specs.RemainingParents
 pub use Rattle.gixobj_commit.specs.Rewriting
 pub use Rattle.gixobj_commit.specs.declared as commit
 pub use Rattle.gixobj_fields.specs.FieldWriting
 pub use Rattle.gixobj_fields.specs.HeaderReading
-pub use Rattle.gixobj_fields.specs.HeaderText
+pub use Rattle.gixobj_fields.specs.HeaderFormat
 pub use Rattle.gixobj_fields.specs.Runs
 pub use Rattle.gixobj_fields.specs.Streams
 pub use Rattle.gixobj_fields.specs.Writing
@@ -30,13 +30,13 @@ pub use Rattle.gixobj_hash.specs.Encode
 pub use Rattle.gixobj_hash.specs.Hash
 pub use Rattle.gixobj_hash.specs.Kind
 pub use Rattle.gixobj_hash.specs.Optional
-pub use Rattle.gixobj_hash.specs.Texts
+pub use Rattle.gixobj_hash.specs.ByteStrings
 pub use Rattle.gixobj_hash.specs.declared as hash
 pub use Rattle.gixobj_line.specs.Lines
 pub use Rattle.gixobj_line.specs.declared as line
 pub use Rattle.gixobj_object.specs.BorrowedObjects
 pub use Rattle.gixobj_object.specs.Checksums
-pub use Rattle.gixobj_object.specs.EntryGiving
+pub use Rattle.gixobj_object.specs.EntrySteps
 pub use Rattle.gixobj_object.specs.Lookups
 pub use Rattle.gixobj_object.specs.LooseObjects
 pub use Rattle.gixobj_object.specs.ObjectReading
@@ -51,11 +51,11 @@ pub use Rattle.gixobj_ref_iter.specs.Extracting
 pub use Rattle.gixobj_ref_iter.specs.Readers
 pub use Rattle.gixobj_ref_iter.specs.TagExtracting
 pub use Rattle.gixobj_ref_iter.specs.TagReaders
-pub use Rattle.gixobj_ref_iter.specs.TagTokenGiving
+pub use Rattle.gixobj_ref_iter.specs.TagTokenSteps
 pub use Rattle.gixobj_ref_iter.specs.TagTokens
 pub use Rattle.gixobj_ref_iter.specs.TokenFilters
-pub use Rattle.gixobj_ref_iter.specs.TokenGiving
-pub use Rattle.gixobj_ref_iter.specs.TokenPassing
+pub use Rattle.gixobj_ref_iter.specs.CommitTokenSteps
+pub use Rattle.gixobj_ref_iter.specs.TokenSearch
 pub use Rattle.gixobj_ref_iter.specs.declared as ref_iter
 pub use Rattle.gixobj_tag.specs.LineReading
 pub use Rattle.gixobj_tag.specs.NameRule
@@ -63,7 +63,7 @@ pub use Rattle.gixobj_tag.specs.Rewriting as TagRewriting
 pub use Rattle.gixobj_tag.specs.Signed
 pub use Rattle.gixobj_tag.specs.TagOwned
 pub use Rattle.gixobj_tag.specs.TagSigning
-pub use Rattle.gixobj_tag.specs.TagText
+pub use Rattle.gixobj_tag.specs.TagFormat
 pub use Rattle.gixobj_tag.specs.TagViews
 pub use Rattle.gixobj_tag.specs.TagWriting
 pub use Rattle.gixobj_tag.specs.declared as tag
@@ -71,8 +71,8 @@ pub use Rattle.gixobj_text.specs.Blocks
 pub use Rattle.gixobj_text.specs.Bodies
 pub use Rattle.gixobj_text.specs.BodyLines
 pub use Rattle.gixobj_text.specs.Filters
-pub use Rattle.gixobj_text.specs.GivingBlocks
-pub use Rattle.gixobj_text.specs.GivingTrailers
+pub use Rattle.gixobj_text.specs.BlockSteps
+pub use Rattle.gixobj_text.specs.TrailerSteps
 pub use Rattle.gixobj_text.specs.Markers
 pub use Rattle.gixobj_text.specs.MessageTrailers
 pub use Rattle.gixobj_text.specs.Summing
@@ -81,8 +81,8 @@ pub use Rattle.gixobj_text.specs.TrailerBlocks
 pub use Rattle.gixobj_text.specs.TrailerNames
 pub use Rattle.gixobj_text.specs.Trailers
 pub use Rattle.gixobj_text.specs.Unfolding
-pub use Rattle.gixobj_text.specs.declared as text
+pub use Rattle.gixobj_text.specs.declared as message
 pub use Rattle.gixobj_tree.specs.Rewriting as TreeRewriting
-pub use Rattle.gixobj_tree.specs.TreeReading
+pub use Rattle.gixobj_tree.specs.TreeDecoding
 pub use Rattle.gixobj_tree.specs.TreeViews
 pub use Rattle.gixobj_tree.specs.declared as tree

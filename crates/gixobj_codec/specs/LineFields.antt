@@ -1,23 +1,23 @@
--- Commits whose headers have names, and whose fields of one line have no newline.
+-- Commits with valid header names, and without a newline in fields of one line.
 use Rattle.std.specs.Prelude.{ℕ, List, All, Option, Some, None, ⊤}
-use Rattle.gixobj_fields.specs.HeaderText.{IsHeaderName}
+use Rattle.gixobj_fields.specs.HeaderFormat.{IsHeaderName}
 use Rattle.gixobj_commit.specs.Commit.{CommitLines}
 use Rattle.gixobj_hash.specs.Bytes.{newline}
-use Rattle.gixobj_hash.specs.Texts.{IsFree}
+use Rattle.gixobj_hash.specs.ByteStrings.{IsByteFree}
 
--- each header has a name that a header may have
+-- each extra header has a valid name
 abbrev pub HasHeaderNames : CommitLines → Type 0
 HasHeaderNames commit = All (λ header. IsHeaderName header.name) commit.extra_headers
 
--- a text that may be missing has no newline
+-- an optional value has no newline
 abbrev pub IsOneLine : Option (List ℕ) → Type 0
 IsOneLine None = ⊤
-IsOneLine (Some text) = IsFree newline text
+IsOneLine (Some bytes) = IsByteFree newline bytes
 
--- no field of one line has a newline, as in every commit of which nothing is refused by its writer
+-- no field of one line has a newline, as in every commit that its encoder accepts
 pub record HasLineFields (commit : CommitLines) : Type 0 where
-  pub tree : IsFree newline commit.tree
-  pub parents : All (λ hex. IsFree newline hex) commit.parents
-  pub author : IsFree newline commit.author
-  pub committer : IsFree newline commit.committer
+  pub tree : IsByteFree newline commit.tree
+  pub parents : All (λ hex. IsByteFree newline hex) commit.parents
+  pub author : IsByteFree newline commit.author
+  pub committer : IsByteFree newline commit.committer
   pub encoding : IsOneLine commit.encoding

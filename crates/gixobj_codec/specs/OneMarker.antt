@@ -3,8 +3,8 @@ use Rattle.std.specs.Prelude.{◌≡◌, ℕ, List}
 use Rattle.gixobj_text.specs.Markers.{BeginsWithMarker, MarksPlace}
 use Rattle.gixobj_text.specs.declared.signature.Format.{Format}
 
--- the text begins with a marker, and no other line of it does
-pub record HasOneMarker (text : List ℕ) : Type 0 where
+-- the bytes begin with a marker, and no other line begins with one
+pub record HasOneMarker (bytes : List ℕ) : Type 0 where
   pub format : Format
-  pub begins : BeginsWithMarker format text
-  pub one : (place : ℕ) (other : Format) → MarksPlace text place other → place ≡ 0
+  pub begins : BeginsWithMarker format bytes
+  pub one : (place : ℕ) (other : Format) → MarksPlace bytes place other → place ≡ 0

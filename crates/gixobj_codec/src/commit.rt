@@ -1,4 +1,4 @@
-//! Commits (gitdatamodel, "commits").
+//! Borrowed and owned commits, their headers and their token iterator (gitdatamodel, "commits").
 
 pub mod message;
 

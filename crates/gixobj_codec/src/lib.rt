@@ -1,8 +1,9 @@
-//! Git's trees, commits and tags, read and written: whole, or read piece by piece (gitdatamodel, "trees",
-//! "commits", "tag objects"); objects of any kind; and what a store of objects is.
+//! Decoding and encoding of git's trees, commits, tags and objects of any kind, and the interface of object
+//! stores (gitdatamodel, "trees", "commits", "tag objects"). Trees, commits and tags are decoded entirely or
+//! piece by piece.
 //!
-//! It re-exports what the crates below it have, under the names by which users know it. Of its own it has laws alone:
-//! what is signed, written and then found again is what the signer got (gitformat-signature).
+//! It re-exports the crates below it under the names that users know. Its own items are laws: the payload
+//! that is found in a signed object is the one that the signer got (gitformat-signature).
 #![tactic(auto)]
 
 pub mod commit;

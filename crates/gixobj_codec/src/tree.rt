@@ -1,4 +1,4 @@
-//! Trees, read (gitdatamodel, "trees").
+//! Decoding of trees (gitdatamodel, "trees").
 
 pub use gixobj_object::TreeRefIter;
 pub use gixobj_object::tree::next_entry;

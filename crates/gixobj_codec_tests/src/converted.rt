@@ -1,10 +1,10 @@
-//! Why a loose object isn't read, told by the part that is refused.
+//! Conversions of decode errors into `LooseDecodeError`, which keeps the cause.
 
 use gixobj_base::decode::Error;
 use gixobj_codec::LooseDecodeError;
 
 #[test]
-fn the_cause_is_kept(rt: HostRuntime) {
+fn conversion_keeps_cause(rt: HostRuntime) {
     let of_memory = LooseDecodeError::from(Error::OutOfMemory);
     let of_bytes = LooseDecodeError::from(Error::Malformed);
     assert!(rt;

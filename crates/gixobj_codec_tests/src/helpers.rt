@@ -1,4 +1,4 @@
-//! What the tests share.
+//! Helpers that the tests share: hashes, orders, copies, writers, and outcomes of allocation failures.
 
 use gixobj_base::{WriteTo, encode};
 use gixobj_base_tests::limited::Limited;
@@ -6,21 +6,21 @@ use std::alloc::Global;
 use std::cmp::Ordering;
 use std::hash::{DefaultHasher, Hash, Hasher};
 
-/// The hash of a value.
+/// Returns the hash of a value.
 pub(crate) fn hash_of<T: Hash>(value: &T) -> u64 {
     let mut state = DefaultHasher::new();
     value.hash(&mut state);
     state.finish()
 }
 
-/// Whether two values are so in order, and have one hash where they are equal alone.
+/// Returns whether values compare as wanted, and are equal with one hash if and only if `Equal` is wanted.
 pub(crate) fn are_ordered<T: Ord + Hash>(first: &T, second: &T, wanted: Ordering) -> bool {
     first.cmp(second) == wanted
         && (first == second) == wanted.is_eq()
         && (hash_of(first) == hash_of(second)) == wanted.is_eq()
 }
 
-/// Whether the value at a place comes behind those before it, and before those behind it.
+/// Returns whether the value at a position is greater than those before it, and less than those after it.
 fn is_at<T: Ord + Hash>(values: &[T], at: usize, value: &T) -> bool {
     for (other_at, other) in values.iter().enumerate() {
         if !are_ordered(value, other, at.cmp(&other_at)) {
@@ -30,7 +30,7 @@ fn is_at<T: Ord + Hash>(values: &[T], at: usize, value: &T) -> bool {
     true
 }
 
-/// Whether each value comes before those behind it.
+/// Returns whether each value is less than those after it.
 pub(crate) fn are_in_order<T: Ord + Hash>(values: &[T]) -> bool {
     for (at, value) in values.iter().enumerate() {
         if !is_at(values, at, value) {
@@ -40,7 +40,7 @@ pub(crate) fn are_in_order<T: Ord + Hash>(values: &[T]) -> bool {
     true
 }
 
-/// Whether a value is copied as it is.
+/// Returns whether a clone equals the value.
 pub(crate) fn is_copied<T: Clone + PartialEq + Drop>(value: &T) -> bool {
     match value.clone() {
         Ok(copy) => copy == *value,
@@ -48,7 +48,7 @@ pub(crate) fn is_copied<T: Clone + PartialEq + Drop>(value: &T) -> bool {
     }
 }
 
-/// Whether a value is copied as it is, with its hash.
+/// Returns whether a clone equals the value and has its hash.
 pub(crate) fn is_copied_with_hash<T: Clone + PartialEq + Hash + Drop>(value: &T) -> bool {
     match value.clone() {
         Ok(copy) => copy == *value && hash_of(&copy) == hash_of(value),
@@ -56,7 +56,7 @@ pub(crate) fn is_copied_with_hash<T: Clone + PartialEq + Hash + Drop>(value: &T)
     }
 }
 
-/// Whether that is so of each.
+/// Returns whether a clone of each value equals it and has its hash.
 pub(crate) fn are_copied<T: Clone + PartialEq + Hash + Drop>(values: &[T]) -> bool {
     for value in values {
         if !is_copied_with_hash(value) {
@@ -66,7 +66,7 @@ pub(crate) fn are_copied<T: Clone + PartialEq + Hash + Drop>(values: &[T]) -> bo
     true
 }
 
-/// What is written of an object, borrowed or owned.
+/// Returns the bytes written of an object, borrowed or owned.
 pub(crate) fn written<T: WriteTo>(alloc: Global, object: &T) -> Result<Vec<u8>, encode::Error>
     requires { T.can_write object.now }
 {
@@ -75,57 +75,57 @@ pub(crate) fn written<T: WriteTo>(alloc: Global, object: &T) -> Result<Vec<u8>, 
     Ok(out)
 }
 
-/// Whether a writer that takes so many bytes and then fails holds exactly those.
-fn stops_at<T: WriteTo>(alloc: Global, object: &T, text: &[u8], room: usize) -> bool
+/// Returns whether a writer with room for `room` bytes fails after that prefix of the encoding.
+fn stops_at<T: WriteTo>(alloc: Global, object: &T, bytes: &[u8], room: usize) -> bool
     requires { T.can_write object.now }
 {
-    let Ok(held) = Vec::with_capacity(alloc, text.len()) else {
+    let Ok(held) = Vec::with_capacity(alloc, bytes.len()) else {
         return false;
     };
     let mut writer = Limited { held, room };
     match object.write_to(alloc, &mut writer) {
-        Err(encode::Error::Writer(_)) => Some(writer.held.as_slice()) == text.get(..room),
+        Err(encode::Error::Writer(_)) => Some(writer.held.as_slice()) == bytes.get(..room),
         _ => false,
     }
 }
 
-/// Whether each writer with less room than the text stops.
-pub(crate) fn stops<T: WriteTo>(alloc: Global, object: &T, text: &[u8]) -> bool
+/// Returns whether each writer with less room than the encoding fails after the prefix of that length.
+pub(crate) fn stops<T: WriteTo>(alloc: Global, object: &T, bytes: &[u8]) -> bool
     requires { T.can_write object.now }
 {
-    for room in 0..text.len() {
-        if !stops_at(alloc, object, text, room) {
+    for room in 0..bytes.len() {
+        if !stops_at(alloc, object, bytes, room) {
             return false;
         }
     }
     true
 }
 
-/// What a call came to where a growth may be refused.
+/// The outcome of a call in which an allocation may fail.
 #[derive(Clone, Copy, Debug, PartialEq, Eq)]
 pub(crate) enum Answer {
-    /// The answer with ample memory.
-    Whole,
-    /// Out of memory, where it may be answered.
+    /// The result with ample memory.
+    Complete,
+    /// Out of memory, if the call may return it.
     WithoutMemory,
-    /// Another answer.
+    /// Another result.
     Other,
 }
 
 impl Answer {
-    /// The answer with ample memory, where it is right.
-    pub(crate) fn whole_where(is_right: bool) -> Answer {
+    /// Returns `Complete` if the result is right, and `Other` otherwise.
+    pub(crate) fn complete_where(is_right: bool) -> Answer {
         if is_right {
-            Answer::Whole
+            Answer::Complete
         } else {
             Answer::Other
         }
     }
 
-    /// What two calls came to.
+    /// Combines the outcomes of two calls.
     pub(crate) fn and(self, other: Answer) -> Answer {
         match (self, other) {
-            (Answer::Whole, it) | (it, Answer::Whole) => it,
+            (Answer::Complete, it) | (it, Answer::Complete) => it,
             (Answer::WithoutMemory, Answer::WithoutMemory) => Answer::WithoutMemory,
             _ => Answer::Other,
         }

@@ -1,17 +1,17 @@
-//! A commit read, told, copied and written, by the calls of which laws speak.
+//! A commit decoded, iterated, copied and written, by the calls that laws are about.
 
 use crate::commit::SIGNED;
 use gixobj_base::WriteTo;
 use gixobj_base::hash::Kind;
-use gixobj_codec::laws::commit_reads_and_writes;
+use gixobj_codec::laws::commit_decode_encode_agree;
 use gixobj_codec::{CommitRef, CommitRefIter};
 use std::alloc::Global;
 
-/// Whether a reader tells the message that is read whole.
-fn tells_the_message(alloc: Global, text: &[u8]) -> bool {
-    let reader = CommitRefIter::from_bytes(alloc, text, Kind::Sha1);
+/// Returns whether a reader finds the message of the decoded commit.
+fn yields_the_message(alloc: Global, bytes: &[u8]) -> bool {
+    let reader = CommitRefIter::from_bytes(alloc, bytes, Kind::Sha1);
     match (
-        CommitRef::from_bytes(alloc, text, Kind::Sha1),
+        CommitRef::from_bytes(alloc, bytes, Kind::Sha1),
         reader.message(),
     ) {
         (Ok(commit), Ok(message)) => message == commit.message,
@@ -19,41 +19,41 @@ fn tells_the_message(alloc: Global, text: &[u8]) -> bool {
     }
 }
 
-/// What is told of a commit, and whether the last token is its message.
+/// A reader yields the tokens of a commit, and finds its message.
 #[test]
-fn read_and_told(rt: HostRuntime) {
+fn yields_tokens_and_message(rt: HostRuntime) {
     assert!(rt; CommitRefIter::from_bytes(rt.alloc(), SIGNED, Kind::Sha1).count() == 5);
-    assert!(rt; tells_the_message(rt.alloc(), SIGNED));
+    assert!(rt; yields_the_message(rt.alloc(), SIGNED));
 }
 
-/// Whether a commit that is read is written back.
-fn is_written_back(alloc: Global, text: &[u8]) -> bool {
-    let Ok(commit) = CommitRef::from_bytes(alloc, text, Kind::Sha1) else {
+/// Returns whether a decoded commit is written back as its input.
+fn is_written_back(alloc: Global, bytes: &[u8]) -> bool {
+    let Ok(commit) = CommitRef::from_bytes(alloc, bytes, Kind::Sha1) else {
         return false;
     };
     let mut written = Vec::new(alloc);
-    match commit_reads_and_writes(alloc, &commit, &mut written) {
-        Ok(()) => written.as_slice() == text,
+    match commit_decode_encode_agree(alloc, &commit, &mut written) {
+        Ok(()) => written.as_slice() == bytes,
         Err(_) => false,
     }
 }
 
-/// Whether its owned form is written so.
-fn is_owned_form_written_back(alloc: Global, text: &[u8]) -> bool {
-    let Ok(commit) = CommitRef::from_bytes(alloc, text, Kind::Sha1) else {
+/// Returns whether the owned form of a commit is written back as its input.
+fn is_owned_form_written_back(alloc: Global, bytes: &[u8]) -> bool {
+    let Ok(commit) = CommitRef::from_bytes(alloc, bytes, Kind::Sha1) else {
         return false;
     };
     let mut written = Vec::new(alloc);
     match commit.into_owned(alloc) {
         Ok(commit) => {
-            commit.write_to_vec(alloc, &mut written).is_ok() && written.as_slice() == text
+            commit.write_to_vec(alloc, &mut written).is_ok() && written.as_slice() == bytes
         }
         Err(_) => false,
     }
 }
 
 #[test]
-fn read_and_written(rt: HostRuntime) {
+fn reencodes_identically(rt: HostRuntime) {
     assert!(rt; is_written_back(rt.alloc(), SIGNED));
     assert!(rt; is_owned_form_written_back(rt.alloc(), SIGNED));
 }

@@ -8,6 +8,8 @@ mod converted;
 #[cfg(test)]
 mod data;
 #[cfg(test)]
+mod entire_parts;
+#[cfg(test)]
 mod helpers;
 #[cfg(test)]
 mod laws;
@@ -26,5 +28,3 @@ mod spaced_encoding;
 mod tags;
 #[cfg(test)]
 mod trees;
-#[cfg(test)]
-mod whole_parts;

@@ -1,5 +1,5 @@
-//! Objects of any kind: taken apart, changed and written, told by their ids. What is read and written of loose
-//! objects is compared by `gixobj_replay`.
+//! Objects of any kind: conversions, changes, writing, and verified ids. `gixobj_replay` compares decoded
+//! loose objects, and the bytes that are written of them.
 
 pub(crate) mod borrowed;
 pub(crate) mod owned;
@@ -10,19 +10,19 @@ use gixobj_base::decode::{Error, LooseHeaderDecodeError};
 use gixobj_base::hash::{Kind as HashKind, ObjectId};
 use gixobj_base::{Blob, Kind, WriteTo};
 use gixobj_codec::{Data, LooseDecodeError, Object, ObjectRef, data};
-use samples::{KINDS, text_of};
+use samples::{KINDS, bytes_of};
 use std::alloc::Global;
 
-/// Whether what is given back is the object, or nothing, as is wanted.
-fn is_same<T: PartialEq>(given: &Option<T>, object: &Result<T, Error>, wanted: bool) -> bool {
-    match (given, object) {
-        (Some(given), Ok(object)) => wanted && given == object,
+/// Returns whether a conversion returned the object if `wanted`, and nothing otherwise.
+fn is_same<T: PartialEq>(returned: &Option<T>, object: &Result<T, Error>, wanted: bool) -> bool {
+    match (returned, object) {
+        (Some(returned), Ok(object)) => wanted && returned == object,
         (None, Ok(_)) => !wanted,
         _ => false,
     }
 }
 
-/// Whether the first object comes before the second.
+/// Returns whether the first object is less than the second.
 fn is_before<T: Ord>(first: &Result<T, Error>, second: &Result<T, Error>) -> bool {
     match (first, second) {
         (Ok(first), Ok(second)) => first < second,
@@ -30,17 +30,17 @@ fn is_before<T: Ord>(first: &Result<T, Error>, second: &Result<T, Error>) -> boo
     }
 }
 
-/// Whether an object is of this kind, and written so.
-fn is_written<T: WriteTo>(alloc: Global, object: &T, kind: Kind, text: &[u8]) -> bool
+/// Returns whether an object has this kind, and this encoding is written.
+fn is_written<T: WriteTo>(alloc: Global, object: &T, kind: Kind, bytes: &[u8]) -> bool
     requires { T.can_write object.now }
 {
     match written(alloc, object) {
-        Ok(out) => out.as_slice() == text && object.kind() == kind,
+        Ok(out) => out.as_slice() == bytes && object.kind() == kind,
         Err(_) => false,
     }
 }
 
-/// The object that is read of a loose one, owned.
+/// Decodes a loose object into its owned form.
 fn loose_object(alloc: Global, bytes: &[u8]) -> Option<Object> {
     match ObjectRef::from_loose(alloc, bytes, HashKind::Sha1) {
         Ok(object) => object.into_owned(alloc).ok(),
@@ -48,7 +48,7 @@ fn loose_object(alloc: Global, bytes: &[u8]) -> Option<Object> {
     }
 }
 
-/// The same as a blob.
+/// Decodes a loose object into a blob.
 fn loose_blob(alloc: Global, bytes: &[u8]) -> Option<Blob> {
     match loose_object(alloc, bytes) {
         Some(object) => object.try_into_blob().ok(),
@@ -56,7 +56,7 @@ fn loose_blob(alloc: Global, bytes: &[u8]) -> Option<Blob> {
     }
 }
 
-/// Whether a blob has this loose header.
+/// Returns whether a blob has this loose header.
 fn has_header(alloc: Global, blob: &Blob, wanted: &[u8]) -> bool {
     match blob.loose_header(alloc) {
         Some(header) => header.as_slice() == wanted,
@@ -64,7 +64,7 @@ fn has_header(alloc: Global, blob: &Blob, wanted: &[u8]) -> bool {
     }
 }
 
-/// Whether the bytes are refused for their header alone.
+/// Returns whether the bytes are rejected for their invalid header.
 fn is_cut_short(alloc: Global, bytes: &[u8]) -> bool {
     match ObjectRef::from_loose(alloc, bytes, HashKind::Sha1) {
         Err(LooseDecodeError::InvalidHeader(cause)) => {
@@ -75,24 +75,24 @@ fn is_cut_short(alloc: Global, bytes: &[u8]) -> bool {
 }
 
 #[test]
-fn a_blob_of_fewer_bytes_than_its_header_says(rt: HostRuntime) {
+fn rejects_blob_shorter_than_its_header_says(rt: HostRuntime) {
     assert!(rt; is_cut_short(rt.alloc(), b"blob 5\0hell"));
     assert!(rt; !is_cut_short(rt.alloc(), b"blob 5\0hello"));
 }
 
-/// Whether a blob has these bytes, and takes others behind them.
+/// Returns whether a blob has these bytes, and appends others to it.
 fn takes(blob: &mut Blob, bytes: &[u8], others: &[u8]) -> bool {
     blob.bytes.as_slice() == bytes && blob.bytes.extend_from_slice(others).is_ok()
 }
 
-/// Whether that is so of the hello, and what is written then, and the loose header.
+/// Appends to the blob of `hello`. Returns whether its encoding and loose header are then as expected.
 fn grows(alloc: Global, blob: &mut Blob) -> bool {
     takes(blob, b"hello", b" world")
         && is_written(alloc, blob, Kind::Blob, b"hello world")
         && has_header(alloc, blob, b"blob 11\0")
 }
 
-/// Whether that is so of the blob of a loose object.
+/// Returns whether the blob of a loose object is `hello`, and is written as expected after an append.
 fn is_grown(alloc: Global, bytes: &[u8]) -> bool {
     match loose_blob(alloc, bytes) {
         Some(mut blob) => grows(alloc, &mut blob),
@@ -105,7 +105,7 @@ fn hello_blob(rt: HostRuntime) {
     assert!(rt; is_grown(rt.alloc(), b"blob 5\0hello"));
 }
 
-/// Whether an empty object of this kind is that of the first id, and not of the other one.
+/// Returns whether an empty object of this kind has the first id, and verifying the other id fails with both.
 fn is_verified(kind: Kind, id: ObjectId, other: ObjectId) -> bool {
     let empty = Data::new(b"", kind, HashKind::Sha1);
     match (
@@ -120,7 +120,7 @@ fn is_verified(kind: Kind, id: ObjectId, other: ObjectId) -> bool {
 }
 
 #[test]
-fn ids_are_verified(rt: HostRuntime) {
+fn verifies_ids_of_empty_objects(rt: HostRuntime) {
     for kind in [HashKind::Sha1, HashKind::Sha256] {
         let (tree, blob) = (ObjectId::empty_tree(kind), ObjectId::empty_blob(kind));
         assert!(rt; is_verified(Kind::Blob, blob, tree), "{kind:?}");
@@ -128,7 +128,7 @@ fn ids_are_verified(rt: HostRuntime) {
     }
 }
 
-/// Whether the object of this kind is copied as it is.
+/// Returns whether a clone of the decoded sample of this kind equals it.
 fn is_read_copied(alloc: Global, kind: Kind) -> bool {
     match borrowed::object(alloc, kind) {
         Ok(object) => is_copied(&object),
@@ -136,12 +136,12 @@ fn is_read_copied(alloc: Global, kind: Kind) -> bool {
     }
 }
 
-/// The object of this kind, owned by the other name of the call.
+/// Returns the owned sample of this kind, by `to_owned`.
 fn owned_again(alloc: Global, kind: Kind) -> Result<Object, Error> {
-    ObjectRef::from_bytes(alloc, text_of(kind), kind, HashKind::Sha1)?.to_owned(alloc)
+    ObjectRef::from_bytes(alloc, bytes_of(kind), kind, HashKind::Sha1)?.to_owned(alloc)
 }
 
-/// Whether it is this one.
+/// Returns whether `to_owned` of the sample of this kind returns this object.
 fn is_owned_again(alloc: Global, kind: Kind, object: &Object) -> bool {
     match owned_again(alloc, kind) {
         Ok(again) => again == *object,
@@ -149,7 +149,7 @@ fn is_owned_again(alloc: Global, kind: Kind, object: &Object) -> bool {
     }
 }
 
-/// Whether the owned object of this kind is copied as it is, and comes of both names of the call.
+/// Returns whether the owned sample of this kind equals its clone, and the result of `to_owned`.
 fn is_owned_copied(alloc: Global, kind: Kind) -> bool {
     match owned::object(alloc, kind) {
         Ok(object) => is_copied(&object) && is_owned_again(alloc, kind, &object),
@@ -158,7 +158,7 @@ fn is_owned_copied(alloc: Global, kind: Kind) -> bool {
 }
 
 #[test]
-fn copies(rt: HostRuntime) {
+fn clones_equal_their_objects(rt: HostRuntime) {
     for kind in KINDS {
         assert!(rt; is_read_copied(rt.alloc(), kind), "{kind:?}");
         assert!(rt; is_owned_copied(rt.alloc(), kind), "{kind:?}");

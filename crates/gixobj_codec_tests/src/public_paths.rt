@@ -38,36 +38,36 @@ mod of_ref_iter {
 
 mod of_laws {
     pub use gixobj_codec::laws::{
-        borrowed_headers_are_found, borrowed_mergetags_are_found, commit_has_one_reading,
-        commit_reads_and_writes, commit_writes_back, header_reads_back, hex_spells_one_id,
-        owned_forms_have_the_parts, owned_headers_are_found, owned_mergetags_are_found, readers,
-        tokens,
+        borrowed_header_search_complete, borrowed_mergetag_search_complete,
+        commit_decode_encode_agree, commit_decodes_uniquely, commit_reencodes_identically,
+        header_round_trips, hex_decodes_uniquely, owned_commit_has_same_parts,
+        owned_header_search_complete, owned_mergetag_search_complete, readers, tokens,
     };
 }
 
 mod of_laws_of_messages {
     pub use gixobj_codec::laws::{
-        bodies_have_one_block_start, messages_are_split_once, messages_have_one_list_of_trailers,
-        parts_are_the_body, readers_give_all, trailer_lines_are_read,
+        message_split_is_unique, parts_append_to_body, readers_yield_all,
+        trailer_block_start_is_unique, trailer_line_decodes, trailers_are_unique,
     };
 }
 
 mod of_laws_of_stores {
-    pub use gixobj_codec::laws::an_object_is_put_in;
+    pub use gixobj_codec::laws::object_map_insert;
 }
 
 mod of_laws_of_tags {
     pub use gixobj_codec::laws::{
-        owned_tags_have_the_parts, parts_of_tags_are_found, tag_has_one_reading,
-        tag_readers_read_one_language, tag_reads_and_writes, tag_tokens_are_passed,
-        tag_tokens_have_one_reading, tag_writes_back,
+        consumed_tag_tokens_are_prefix, owned_tag_has_same_parts, tag_decode_encode_agree,
+        tag_decodes_uniquely, tag_part_search_complete, tag_readers_agree,
+        tag_reencodes_identically, tag_tokens_decode_uniquely,
     };
 }
 
 mod of_laws_of_trees {
     pub use gixobj_codec::laws::{
-        bytes_left_end_the_text, entries_are_passed, ids_are_the_same_or_not, tree_has_one_reading,
-        tree_readers_read_one_language, tree_reads_back, tree_writes_back,
+        consumed_entries_are_prefix, id_equality_is_decidable, remaining_bytes_are_suffix,
+        tree_decodes_uniquely, tree_readers_agree, tree_reencodes_identically, tree_round_trips,
     };
 }
 
@@ -83,8 +83,8 @@ mod of_tag {
 
 mod of_laws_by_topic {
     pub use gixobj_codec::laws::readers::{
-        actors_are_found, ids_are_found, message_is_found, readers_read_one_language,
-        tokens_are_passed,
+        actor_search_complete, commit_readers_agree, consumed_commit_tokens_are_prefix,
+        id_search_complete, message_search_complete,
     };
-    pub use gixobj_codec::laws::tokens::{runs_are_their_tokens, tokens_have_one_reading};
+    pub use gixobj_codec::laws::tokens::{commit_run_iff_tokens, commit_tokens_decode_uniquely};
 }

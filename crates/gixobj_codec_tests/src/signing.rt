@@ -1,4 +1,4 @@
-//! Tests of `gixobj_signature`, and of commits and tags that are signed.
+//! Tests of `gixobj_signature`, and of signed commits and tags.
 
 #[cfg(test)]
 pub(crate) mod calls;
@@ -6,7 +6,7 @@ pub(crate) mod calls;
 mod commits;
 #[cfg(test)]
 mod objects;
-pub mod played;
+pub mod scripted;
 #[cfg(test)]
 mod signing;
 #[cfg(test)]

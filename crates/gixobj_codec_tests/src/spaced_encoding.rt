@@ -1,4 +1,4 @@
-//! An encoding with spaces at its ends, which the reader of tokens tells as it stands.
+//! An encoding with spaces at its ends, which the reader of tokens yields unchanged.
 
 use gixobj_base::hash::Kind;
 use gixobj_codec::CommitRefIter;
@@ -11,9 +11,9 @@ const COMMIT: &[u8] = b"tree 4b825dc642cb6eb9a060e54bf8d69288fbee4904\n\
     encoding  UTF-8 \n\
     \nhi\n";
 
-/// Whether the fourth token of a commit is this encoding.
-fn is_encoding(alloc: Global, text: &[u8], wanted: &[u8]) -> bool {
-    let mut tokens = CommitRefIter::from_bytes(alloc, text, Kind::Sha1);
+/// Returns whether the fourth token of a commit is this encoding.
+fn is_encoding(alloc: Global, bytes: &[u8], wanted: &[u8]) -> bool {
+    let mut tokens = CommitRefIter::from_bytes(alloc, bytes, Kind::Sha1);
     for _ in 0..3 {
         let _ = tokens.next();
     }
@@ -24,6 +24,6 @@ fn is_encoding(alloc: Global, text: &[u8], wanted: &[u8]) -> bool {
 }
 
 #[test]
-fn told_as_it_stands(rt: HostRuntime) {
+fn yields_encoding_unchanged(rt: HostRuntime) {
     assert!(rt; is_encoding(rt.alloc(), COMMIT, b" UTF-8 "));
 }

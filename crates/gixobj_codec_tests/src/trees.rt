@@ -1,4 +1,4 @@
-//! Trees: told from an object, ordered, written to writers that fail, and how far their reader is.
+//! Trees: entries yielded from an object, orders, failing writers, and offsets of the reader.
 
 mod data;
 mod memory;
@@ -11,7 +11,7 @@ use std::alloc::{AllocError, Global};
 /// The bytes of an id.
 const ONES: [u8; 20] = [1; 20];
 
-/// The text of one file with the id of ones, of 29 bytes.
+/// The encoding of a file's entry with the id of ones, of 29 bytes.
 const ENTRY: &[u8] = b"100644 a\0\
     \x01\x01\x01\x01\x01\x01\x01\x01\x01\x01\x01\x01\x01\x01\x01\x01\x01\x01\x01\x01";
 
@@ -24,12 +24,13 @@ const EXAMPLE: &[u8] =
     160000 module\0\x65\x6d\x88\xde\x43\x3e\xc9\xf9\xc5\xd4\xed\x9b\x2c\x64\x38\x44\x12\x7a\x0f\xb4\
     100755 run.sh\0\x21\xba\x68\x25\x58\xa4\x22\x64\x51\x8f\x1e\x0b\xa5\x5e\x8a\x5c\xd9\xd7\xdb\x0a";
 
-/// The text of a tree of entries with these modes, spaces, names and zero bytes, and the id of ones.
-fn tree_text(alloc: Global, fronts: &[&str]) -> Result<Vec<u8>, AllocError> {
-    let mut text = Vec::new(alloc);
-    for front in fronts {
-        text.extend_from_slice(front.as_bytes())?;
-        text.extend_from_slice(&ONES)?;
+/// Returns a tree's encoding. Each prefix is an entry's mode, space, name and zero byte; the id of ones
+/// follows.
+fn tree_bytes(alloc: Global, prefixes: &[&str]) -> Result<Vec<u8>, AllocError> {
+    let mut content = Vec::new(alloc);
+    for prefix in prefixes {
+        content.extend_from_slice(prefix.as_bytes())?;
+        content.extend_from_slice(&ONES)?;
     }
-    Ok(text)
+    Ok(content)
 }

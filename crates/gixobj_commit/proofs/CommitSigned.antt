@@ -1,81 +1,115 @@
--- Commits that are signed, by what is signed of them.
+-- States that a signed commit has the signature of its payload, and why signing fails; the proofs of both `sign` calls
+-- use it.
 use Rattle.std.proofs.Common.{◌≡◌, ◌∙◌, ap, inl, inr, refl, subst, Bool, true, false, cond, List, [], ◌∷◌, ℕ, map, IfErr, IfOk, Result, Ok, Err}
 use Rattle.std.specs.List.{filter}
 use Rattle.gixobj_commit.specs.CommitOwned.{IsOwnedFormOfCommit}
-use Rattle.gixobj_commit.specs.CommitSigning.{GetsCommitSignature, IsSignedCommit, IsSignedCommitCopy, RefusesSigningCommit, RefusesSigningCommitCopy, RefusesWritingCommit, payload_of_commit, with_last_header, without_headers}
+use Rattle.gixobj_commit.specs.CommitSigning.{GetsCommitSignature, IsSignedCommit, IsSignedCommitCopy, IsCommitSigningError, IsCommitCopySigningError, IsCommitWriteError, payload_of_commit, with_last_header, without_headers}
 use Rattle.gixobj_commit.specs.CommitViews.{owned_commit_lines}
-use Rattle.gixobj_commit.specs.CommitWriting.{RefusesOwnedCommit, commit_text}
+use Rattle.gixobj_commit.specs.CommitWriting.{IsOwnedCommitError, encode_commit}
 use Rattle.gixobj_commit.specs.declared.commit.Commit.{Commit}
 use Rattle.gixobj_commit.specs.ExtraHeaders.{signature_field}
-use Rattle.gixobj_fields.specs.Writing.{Refused, RefusesNothing, RefusesWriting}
+use Rattle.gixobj_fields.specs.Writing.{RejectedValue, RejectsNothing, IsWritingError}
 use Rattle.gixobj_fields.specs.declared.encode.Error as encode
 use Rattle.gixobj_hash.specs.Hash.{id_kind}
 use Rattle.gixobj_commit.specs.Commit.{CommitLines}
 use Rattle.gixobj_signature.specs.Calls.{Answer, CallView}
-use Rattle.gixobj_signature.specs.Plans.{BeginsPlan, Carries, Goes, Plan, ask, done, no_more}
-use Rattle.gixobj_signature.specs.Signing.{options_view, sign_plan, signature, signer_refusal}
+use Rattle.gixobj_signature.specs.Plans.{BeginsPlan, Carries, IsCarriedOut, Plan, ask, done, no_more}
+use Rattle.gixobj_signature.specs.Signing.{options_view, sign_plan, signature, signer_error}
 use Rattle.gixobj_signature.specs.declared.signature.sign.Error.{Error}
 use Rattle.gixobj_signature.specs.declared.signature.sign.Error.TheVariants as sign
 use Rattle.gixobj_signature.specs.declared.signature.sign.Options.{Options}
 
--- what was carried out was begun
-pub begun : {S R : Type 0} (runs : S → CallView → Answer → S → Type 0) (plan : Plan R) (s t : S) (outcome : R) → Carries runs plan s outcome t → BeginsPlan runs plan s t
+-- a plan that is carried out is begun
+pub begun : {S R : Type 0} (runs : S → CallView → Answer → S → Type 0) (plan : Plan R) (s t : S) (outcome : R) → Carries runs plan s outcome t
+    → BeginsPlan runs plan s t
 begun runs (done it) s t outcome carried = carried.1
 begun runs (ask call next) s t outcome (answer, m, ran, rest) = inr (answer, m, ran, begun runs (next answer) m t outcome rest)
 begun runs no_more s t outcome carried = absurd carried
 
--- what is kept of a list, seen by its views, is what is kept of the views
-one_kept : {X Y : Type 0} (view : X → Y) (x : X) (xs : List X) (ys : List Y) (b : Bool) → map view xs ≡ ys → map view (cond b (x ∷ xs) xs) ≡ cond b (view x ∷ ys) ys
+-- filtering a list and then taking views equals filtering the views
+one_kept : {X Y : Type 0} (view : X → Y) (x : X) (xs : List X) (ys : List Y) (b : Bool) → map view xs ≡ ys
+    → map view (cond b (x ∷ xs) xs) ≡ cond b (view x ∷ ys) ys
 one_kept view x xs ys true same = ap (λ (rest : List _). view x ∷ rest) same
 one_kept view x xs ys false same = same
 
-pub kept_views : {X Y : Type 0} (view : X → Y) (test : Y → Bool) (xs : List X) → map view (filter (λ x. test (view x)) xs) ≡ filter test (map view xs)
-kept_views view test [] = refl
-kept_views view test (x ∷ xs) = one_kept view x (filter (λ y. test (view y)) xs) (filter test (map view xs)) (test (view x)) (kept_views view test xs)
+pub filtered_views : {X Y : Type 0} (view : X → Y) (test : Y → Bool) (xs : List X) → map view (filter (λ x. test (view x)) xs) ≡ filter test
+    (map view xs)
+filtered_views view test [] = refl
+filtered_views view test (x ∷ xs) = one_kept view x (filter (λ y. test (view y)) xs) (filter test (map view xs)) (test (view x))
+    (filtered_views view test xs)
 
--- a commit, and the same one without the headers of its signature's name
-module _ (commit other : Commit) (others : other ≡ record commit { extra_headers = other.extra_headers }) (name : List ℕ) (named : name ≡ signature_field (id_kind commit.tree))
+-- a commit, and the same commit without its signature headers
+module _ (commit other : Commit) (others : other ≡ record commit { extra_headers = other.extra_headers }) (name : List ℕ)
+    (named : name ≡ signature_field (id_kind commit.tree))
     (kept : owned_commit_lines other ≡ without_headers name (owned_commit_lines commit)) where
-  -- their writer refuses the same
-  refuses_same : RefusesOwnedCommit other ≡ RefusesOwnedCommit commit
-  refuses_same = ap RefusesOwnedCommit others
+  -- their encoders reject the same values
+  rejects_same : IsOwnedCommitError other ≡ IsOwnedCommitError commit
+  rejects_same = ap IsOwnedCommitError others
 
   kept_lines : owned_commit_lines other ≡ without_headers (signature_field (id_kind commit.tree)) (owned_commit_lines commit)
   kept_lines = kept ∙ ap (λ (it : List ℕ). without_headers it (owned_commit_lines commit)) named
 
-  -- a commit gets the signature of its payload
-  pub signed : {S : Type 0} (runs : S → CallView → Answer → S → Type 0) (options : Options) (payload : List ℕ) → payload ≡ commit_text (owned_commit_lines other) → RefusesNothing (RefusesOwnedCommit other) → (old new : S)
-      → (result : Result Commit Error) → IfOk result (GetsCommitSignature runs options payload name other old new) → IfOk result (IsSignedCommit runs options commit old new)
-  signed runs options payload text writable old new (Ok it) (bytes, went, lines) = record {
+  -- the commit gets the signature of its payload
+  pub signed : {S : Type 0} (runs : S → CallView → Answer → S → Type 0) (options : Options) (payload : List ℕ)
+      → payload ≡ encode_commit (owned_commit_lines other) → RejectsNothing (IsOwnedCommitError other) → (old new : S)
+      → (result : Result Commit Error) → IfOk result (GetsCommitSignature runs options payload name other old new)
+      → IfOk result (IsSignedCommit runs options commit old new)
+  signed runs options payload content writable old new (Ok it) (bytes, went, lines) = record {
     bytes = bytes;
-    went = subst (λ (signs : List ℕ). Carries runs (sign_plan (options_view options) signs) old (signature bytes) new) (text ∙ ap commit_text kept_lines) went;
+    called = subst (λ (signs : List ℕ). Carries runs (sign_plan (options_view options) signs) old (signature bytes) new)
+        (content ∙ ap encode_commit kept_lines) went;
     lines = lines ∙ ap (λ (of : CommitLines). with_last_header name bytes of) kept_lines
         ∙ ap (λ (it : List ℕ). with_last_header it bytes (without_headers (signature_field (id_kind commit.tree)) (owned_commit_lines commit))) named;
-    writable = subst RefusesNothing refuses_same writable;
+    writable = subst RejectsNothing rejects_same writable;
   }
-  signed runs options payload text writable old new (Err error) is = tt
+  signed runs options payload content writable old new (Err error) is = tt
 
-  -- a commit that can be written is refused for what came of the call
-  pub refused_signing : {S : Type 0} (runs : S → CallView → Answer → S → Type 0) (options : Options) (payload : List ℕ) → payload ≡ commit_text (owned_commit_lines other) → RefusesNothing (RefusesOwnedCommit other) → (old new : S)
-      → (result : Result Commit Error) → IfErr result (λ error. Goes runs (sign_plan (options_view options) payload) old (signer_refusal error) new) → IfErr result (RefusesSigningCommit runs options commit old new)
-  refused_signing runs options payload text writable old new (Ok it) why = tt
-  refused_signing runs options payload text writable old new (Err error) why =
-      inl (subst RefusesNothing refuses_same writable, subst (λ (signs : List ℕ). Goes runs (sign_plan (options_view options) signs) old (signer_refusal error) new) (text ∙ ap commit_text kept_lines) why)
+  -- signing a commit that can be written fails with the error of the call
+  pub failed_signing : {S : Type 0} (runs : S → CallView → Answer → S → Type 0) (options : Options) (payload : List ℕ)
+      → payload ≡ encode_commit (owned_commit_lines other) → RejectsNothing (IsOwnedCommitError other) → (old new : S)
+      → (result : Result Commit Error)
+      → IfErr result (λ error. IsCarriedOut runs (sign_plan (options_view options) payload) old (signer_error error) new)
+      → IfErr result (IsCommitSigningError runs options commit old new)
+  failed_signing runs options payload content writable old new (Ok it) why = tt
+  failed_signing runs options payload content writable old new (Err error) why =
+      inl (
+        subst RejectsNothing rejects_same writable,
+        subst
+            (λ (signs : List ℕ). IsCarriedOut runs (sign_plan (options_view options) signs) old (signer_error error) new)
+            (content ∙ ap encode_commit kept_lines) why,
+      )
 
-  -- a commit that can't be written is refused before any call
-  pub refused_unwritten : {S : Type 0} (runs : S → CallView → Answer → S → Type 0) (options : Options) (old : S) (cause : encode.Error)
-      → RefusesWritingCommit other (commit_text (owned_commit_lines other)) cause → RefusesSigningCommit runs options commit old old (sign.Encode cause)
-  refused_unwritten runs options old cause (before, after, why) =
-      let of_text : RefusesWriting (RefusesOwnedCommit other) before after (payload_of_commit (id_kind commit.tree) (owned_commit_lines commit)) cause =
-      subst (λ (it : List ℕ). RefusesWriting (RefusesOwnedCommit other) before after it cause) (ap commit_text kept_lines) why in
-      inr (cause, refl, (before, after, subst (λ (it : Refused → List ℕ → Type 0). RefusesWriting it before after (payload_of_commit (id_kind commit.tree) (owned_commit_lines commit)) cause) refuses_same of_text), refl)
+  -- signing a commit that can't be written fails before any call
+  pub rejected_unwritten : {S : Type 0} (runs : S → CallView → Answer → S → Type 0) (options : Options) (old : S) (cause : encode.Error)
+      → IsCommitWriteError other (encode_commit (owned_commit_lines other)) cause → IsCommitSigningError runs options commit old old
+      (sign.Encode cause)
+  rejected_unwritten runs options old cause (before, after, why) =
+      let of_bytes : IsWritingError (IsOwnedCommitError other) before after (payload_of_commit (id_kind commit.tree) (owned_commit_lines commit))
+      cause =
+      subst (λ (it : List ℕ). IsWritingError (IsOwnedCommitError other) before after it cause) (ap encode_commit kept_lines) why in
+      inr (
+        cause,
+        refl,
+        (
+          before,
+          after,
+          subst
+              (λ (it : RejectedValue → List ℕ → Type 0). IsWritingError it before after
+              (payload_of_commit (id_kind commit.tree) (owned_commit_lines commit)) cause)
+              rejects_same of_bytes,
+        ),
+        refl,
+      )
 
--- what comes of signing a commit that was copied
-module _ {S : Type 0} (runs : S → CallView → Answer → S → Type 0) (options : Options) (lines : CommitLines) (commit : Commit) (owned : IsOwnedFormOfCommit lines commit) (old new : S) where
-  pub signed_copy : (result : Result Commit Error) → IfOk result (IsSignedCommit runs options commit old new) → IfOk result (IsSignedCommitCopy runs options lines old new)
+-- the result of signing a copy
+module _ {S : Type 0} (runs : S → CallView → Answer → S → Type 0) (options : Options) (lines : CommitLines) (commit : Commit)
+    (owned : IsOwnedFormOfCommit lines commit) (old new : S) where
+  pub signed_copy : (result : Result Commit Error) → IfOk result (IsSignedCommit runs options commit old new)
+      → IfOk result (IsSignedCommitCopy runs options lines old new)
   signed_copy (Ok it) is = (commit, owned, is)
   signed_copy (Err error) is = tt
 
-  pub refused_copy : (result : Result Commit Error) → IfErr result (RefusesSigningCommit runs options commit old new) → IfErr result (RefusesSigningCommitCopy runs options lines old new)
-  refused_copy (Ok it) why = tt
-  refused_copy (Err error) why = inr (commit, owned, why)
+  pub rejected_copy : (result : Result Commit Error) → IfErr result (IsCommitSigningError runs options commit old new)
+      → IfErr result (IsCommitCopySigningError runs options lines old new)
+  rejected_copy (Ok it) why = tt
+  rejected_copy (Err error) why = inr (commit, owned, why)

@@ -1,135 +1,162 @@
--- Lines that are read one by one, put together: what stands of a commit's text at each place, and the whole commit at the end.
+-- States what the decoded lines of a commit are in each state of the decoder, and the complete commit at the end;
+-- `EntireCommits` uses it.
 use Rattle.std.proofs.Common.{◌≡◌, ◌≢◌, ℕ, List, [], ◌∷◌, ◌++◌, All, Option, Some, None, refl, sym, ap, subst, ◌∙◌, append_assoc}
 use Rattle.std.proofs.lemmas.List.{append-nil}
 use Rattle.std.proofs.lemmas.List.Concat.{flat_map-append}
 use Rattle.std.proofs.lemmas.List.Elements.{All-nil, All-push}
 use Rattle.std.specs.List.{flat_map}
 use Rattle.std.specs.Prelude.{codes}
-use Rattle.gixobj_fields.specs.HeaderText.{HasField, Header, IsHeaderText, field_text}
+use Rattle.gixobj_fields.specs.HeaderFormat.{HasField, Header, DecodesToHeader, encode_field}
 use Rattle.gixobj_fields.specs.Runs.{Passes}
-use Rattle.gixobj_hash.specs.Hash.Hex.{IsHexOf}
+use Rattle.gixobj_hash.specs.Hash.Hex.{IsIdHexOfKind}
 use Rattle.gixobj_hash.specs.declared.hash.kind.Kind.{Kind}
-use Rattle.gixobj_commit.specs.Commit.{AreHeaderTexts, BeginsCommit, CommitLines, IsCommitText, IsEncoding, before_encoding, encoding_text, ids_text, parent_text}
-use Rattle.gixobj_commit.specs.Gathering.{gather, gathered, nothing}
+use Rattle.gixobj_commit.specs.Commit.{DecodesToHeaders, BeginsCommit, CommitLines, DecodesToCommit, IsEncoding, before_encoding, encode_encoding, encode_ids, encode_parent}
+use Rattle.gixobj_commit.specs.Gathering.{gather, gathered, empty_commit}
 use Rattle.gixobj_line.specs.Lines.{HasLine, LineView, author_comes, committer_comes, encoding_comes, first_header_comes, first_message_comes, header_comes, header_line, message_comes, parent_comes, tree_comes}
 use Rattle.gixobj_actor.specs.Actor.{NamesActor}
 use Rattle.gixobj_line.specs.declared.lines.State.{State}
 use Rattle.gixobj_line.specs.declared.lines.State.TheVariants as state
 
--- ---- what stands at each place
+-- ---- the state of the decoder
 
--- no encoding and no header was read
+-- no message encoding and no header was decoded
 abbrev pub LacksHeaders : CommitLines → Type 0
 LacksHeaders commit = (commit.encoding ≡ None) × (commit.extra_headers ≡ [])
 
--- the ids that were read
+-- the ids that were decoded
 pub record ReadsIds (kind : Kind) (commit : CommitLines) : Type 0 where
-  pub tree : IsHexOf kind commit.tree
-  pub parents : All (IsHexOf kind) commit.parents
+  pub tree : IsIdHexOfKind kind commit.tree
+  pub parents : All (IsIdHexOfKind kind) commit.parents
   pub lacks : LacksHeaders commit
 
--- where a reader stands before the rest, the text begins with the lines of this commit so far
+-- in this state, before the rest, the bytes begin with the lines of the commit built so far
 abbrev pub Reads : Kind → List ℕ → State → List ℕ → CommitLines → Type 0
-Reads kind text state.Tree rest commit = (text ≡ rest) × (commit.parents ≡ []) × LacksHeaders commit
-Reads kind text state.Parents rest commit = (text ≡ ids_text commit ++ rest) × ReadsIds kind commit
-Reads kind text state.Committer rest commit = (text ≡ ids_text commit ++ field_text (codes "author") commit.author ++ rest) × ReadsIds kind commit × NamesActor commit.author
-Reads kind text state.Encoding rest commit = BeginsCommit kind text commit rest × LacksHeaders commit
-Reads kind text state.ExtraHeaders rest commit = BeginsCommit kind text commit rest × (commit.encoding ≡ None → commit.extra_headers ≢ [])
-Reads kind text state.End rest commit = IsCommitText kind text commit
+Reads kind bytes state.Tree rest commit = (bytes ≡ rest) × (commit.parents ≡ []) × LacksHeaders commit
+Reads kind bytes state.Parents rest commit = (bytes ≡ encode_ids commit ++ rest) × ReadsIds kind commit
+Reads kind bytes state.Committer rest commit = (bytes ≡ encode_ids commit ++ encode_field (codes "author") commit.author ++ rest)
+    × ReadsIds kind commit
+    × NamesActor commit.author
+Reads kind bytes state.Encoding rest commit = BeginsCommit kind bytes commit rest × LacksHeaders commit
+Reads kind bytes state.ExtraHeaders rest commit = BeginsCommit kind bytes commit rest × (commit.encoding ≡ None → commit.extra_headers ≢ [])
+Reads kind bytes state.End rest commit = DecodesToCommit kind bytes commit
 
 -- ---- joins
 
-first_id : (text tree input rest : List ℕ) (parents : List (List ℕ)) → text ≡ input → input ≡ tree ++ rest → parents ≡ [] → text ≡ tree ++ flat_map parent_text parents ++ rest
-first_id text tree input rest parents is joined none = rw (is, joined, none, append-nil tree) refl
+first_id : (bytes tree input rest : List ℕ) (parents : List (List ℕ)) → bytes ≡ input → input ≡ tree ++ rest → parents ≡ []
+    → bytes ≡ tree ++ flat_map encode_parent parents ++ rest
+first_id bytes tree input rest parents is joined none = rw (is, joined, none, append-nil tree) refl
 
-further_id : (text tree input hex rest : List ℕ) (parents : List (List ℕ)) → text ≡ tree ++ flat_map parent_text parents ++ input → input ≡ parent_text hex ++ rest
-    → text ≡ tree ++ flat_map parent_text (parents ++ hex ∷ []) ++ rest
-further_id text tree input hex rest parents is joined =
-    let each : flat_map parent_text (parents ++ hex ∷ []) ≡ flat_map parent_text parents ++ parent_text hex = flat_map-append parent_text parents (hex ∷ []) ∙ ap (λ (it : List ℕ). flat_map parent_text parents ++ it) (append-nil (parent_text hex)) in
+further_id : (bytes tree input hex rest : List ℕ) (parents : List (List ℕ)) → bytes ≡ tree ++ flat_map encode_parent parents ++ input
+    → input ≡ encode_parent hex ++ rest
+    → bytes ≡ tree ++ flat_map encode_parent (parents ++ hex ∷ []) ++ rest
+further_id bytes tree input hex rest parents is joined =
+    let each : flat_map encode_parent (parents ++ hex ∷ []) ≡ flat_map encode_parent parents ++ encode_parent hex =
+    flat_map-append encode_parent parents (hex ∷ []) ∙ ap (λ (it : List ℕ). flat_map encode_parent parents ++ it) (append-nil (encode_parent hex)) in
     rw (is, joined, each) (simp append_assoc)
 
-joined_behind : (text front input part rest : List ℕ) → text ≡ front ++ input → input ≡ part ++ rest → text ≡ front ++ part ++ rest
-joined_behind text front input part rest is joined = rw (is, joined) (simp append_assoc)
+joined_after : (bytes prefix input part rest : List ℕ) → bytes ≡ prefix ++ input → input ≡ part ++ rest → bytes ≡ prefix ++ part ++ rest
+joined_after bytes prefix input part rest is joined = rw (is, joined) (simp append_assoc)
 
-without_headers : (text front rest : List ℕ) (encoding : Option (List ℕ)) → text ≡ front ++ rest → encoding ≡ None → text ≡ front ++ encoding_text encoding ++ [] ++ rest
-without_headers text front rest encoding is none = rw (is, none) (sym (simp append-nil))
+without_headers : (bytes prefix rest : List ℕ) (encoding : Option (List ℕ)) → bytes ≡ prefix ++ rest → encoding ≡ None
+    → bytes ≡ prefix ++ encode_encoding encoding ++ [] ++ rest
+without_headers bytes prefix rest encoding is none = rw (is, none) (sym (simp append-nil))
 
-with_encoding : (text front input headers rest name : List ℕ) (encoding : Option (List ℕ)) → text ≡ front ++ encoding_text encoding ++ headers ++ input → encoding ≡ None → headers ≡ [] → input ≡ field_text (codes "encoding") name ++ rest
-    → text ≡ front ++ field_text (codes "encoding") name ++ [] ++ rest
-with_encoding text front input headers rest name encoding is none bare joined = rw (is, none, bare, joined) (simp (append_assoc, append-nil))
+with_encoding : (bytes prefix input headers rest name : List ℕ) (encoding : Option (List ℕ))
+    → bytes ≡ prefix ++ encode_encoding encoding ++ headers ++ input
+    → encoding ≡ None → headers ≡ [] → input ≡ encode_field (codes "encoding") name ++ rest
+    → bytes ≡ prefix ++ encode_field (codes "encoding") name ++ [] ++ rest
+with_encoding bytes prefix input headers rest name encoding is none bare joined = rw (is, none, bare, joined) (simp (append_assoc, append-nil))
 
 -- ---- headers
 
-headers_more : (text first : List ℕ) (headers : List Header) (header : Header) → AreHeaderTexts text headers → IsHeaderText first header → AreHeaderTexts (text ++ first) (headers ++ header ∷ [])
-headers_more text first [] header none is = (first, [], rw none (sym (append-nil first)), is, refl)
-headers_more text first (other ∷ headers) header (front, rest, joined, it, others) is =
-    (front, rest ++ first, ap (λ (it : List ℕ). it ++ first) joined ∙ append_assoc front rest first, it, headers_more rest first headers header others is)
+headers_more : (bytes first : List ℕ) (headers : List Header) (header : Header) → DecodesToHeaders bytes headers → DecodesToHeader first header
+    → DecodesToHeaders (bytes ++ first) (headers ++ header ∷ [])
+headers_more bytes first [] header none is = (first, [], rw none (sym (append-nil first)), is, refl)
+headers_more bytes first (other ∷ headers) header (prefix, rest, joined, it, others) is = (
+  prefix,
+  rest ++ first,
+  ap (λ (it : List ℕ). it ++ first) joined ∙ append_assoc prefix rest first,
+  it,
+  headers_more rest first headers header others is,
+)
 
-pub encoding_more : (encoding : Option (List ℕ)) (headers : List Header) (header : Header) → IsEncoding encoding headers → (encoding ≡ None → headers ≢ []) → IsEncoding encoding (headers ++ header ∷ [])
+pub encoding_more : (encoding : Option (List ℕ)) (headers : List Header) (header : Header) → IsEncoding encoding headers
+    → (encoding ≡ None → headers ≢ [])
+    → IsEncoding encoding (headers ++ header ∷ [])
 encoding_more (Some encoding) headers header is filled = is
 encoding_more None [] header is filled = absurd (filled refl refl)
 encoding_more None (first ∷ headers) header is filled = is
 
-pub first_named : (encoding : Option (List ℕ)) (headers : List Header) (header : Header) → encoding ≡ None → headers ≡ [] → header.name ≢ codes "encoding" → IsEncoding encoding (headers ++ header ∷ [])
+pub first_named : (encoding : Option (List ℕ)) (headers : List Header) (header : Header) → encoding ≡ None → headers ≡ []
+    → header.name ≢ codes "encoding"
+    → IsEncoding encoding (headers ++ header ∷ [])
 first_named encoding headers header none bare other = rw (none, bare) other
 
 pub some_header : (headers : List Header) (header : Header) → headers ++ header ∷ [] ≢ []
 some_header [] header same = cc same
 some_header (first ∷ headers) header same = cc same
 
-no_texts : (text : List ℕ) (headers : List Header) → headers ≡ [] → AreHeaderTexts text headers → text ≡ []
-no_texts text [] same are = are
-no_texts text (header ∷ headers) same are = cc same
+no_encodings : (bytes : List ℕ) (headers : List Header) → headers ≡ [] → DecodesToHeaders bytes headers → bytes ≡ []
+no_encodings bytes [] same are = are
+no_encodings bytes (header ∷ headers) same are = cc same
 
--- a header is put behind those that were read
-pub put_header : (kind : Kind) (text input first rest : List ℕ) (commit : CommitLines) (header : Header) → BeginsCommit kind text commit input → input ≡ first ++ rest → IsHeaderText first header
-    → IsEncoding commit.encoding (commit.extra_headers ++ header ∷ []) → BeginsCommit kind text (gather commit (header_line header)) rest
-put_header kind text input first rest commit header begins joined is encoding =
+-- a header is appended to the decoded ones
+pub appended_header : (kind : Kind) (bytes input first rest : List ℕ) (commit : CommitLines) (header : Header) → BeginsCommit kind bytes commit input
+    → input ≡ first ++ rest → DecodesToHeader first header
+    → IsEncoding commit.encoding (commit.extra_headers ++ header ∷ []) → BeginsCommit kind bytes (gather commit (header_line header)) rest
+appended_header kind bytes input first rest commit header begins joined is encoding =
     record {
-      headers_text = begins.headers_text ++ first;
-      joined = begins.joined ∙ ap (λ (it : List ℕ). before_encoding commit ++ encoding_text commit.encoding ++ begins.headers_text ++ it) joined ∙ sym (simp append_assoc);
+      headers_encoding = begins.headers_encoding ++ first;
+      joined = begins.joined ∙ ap (λ (it : List ℕ). before_encoding commit ++ encode_encoding commit.encoding ++ begins.headers_encoding ++ it) joined
+          ∙ sym (simp append_assoc);
       tree = begins.tree;
       parents = begins.parents;
       author = begins.author;
       committer = begins.committer;
       encoding = encoding;
-      extra_headers = headers_more begins.headers_text first commit.extra_headers header begins.extra_headers is;
+      extra_headers = headers_more begins.headers_encoding first commit.extra_headers header begins.extra_headers is;
     }
 
-put_encoding : (kind : Kind) (text input encoding rest : List ℕ) (commit : CommitLines) → BeginsCommit kind text commit input → LacksHeaders commit → HasField (codes "encoding") input encoding rest
-    → BeginsCommit kind text (record commit { encoding = Some encoding }) rest
-put_encoding kind text input encoding rest commit begins lacks has =
+write_encoding : (kind : Kind) (bytes input encoding rest : List ℕ) (commit : CommitLines) → BeginsCommit kind bytes commit input
+    → LacksHeaders commit
+    → HasField (codes "encoding") input encoding rest
+    → BeginsCommit kind bytes (record commit { encoding = Some encoding }) rest
+write_encoding kind bytes input encoding rest commit begins lacks has =
     record {
-      headers_text = [];
-      joined = with_encoding text (before_encoding commit) input begins.headers_text rest encoding commit.encoding begins.joined lacks.0 (no_texts begins.headers_text commit.extra_headers lacks.1 begins.extra_headers) has.joined;
+      headers_encoding = [];
+      joined = with_encoding bytes (before_encoding commit) input begins.headers_encoding rest encoding commit.encoding begins.joined lacks.0
+          (no_encodings begins.headers_encoding commit.extra_headers lacks.1 begins.extra_headers) has.joined;
       tree = begins.tree;
       parents = begins.parents;
       author = begins.author;
       committer = begins.committer;
       encoding = has.one_line;
-      extra_headers = subst (λ (it : List Header). AreHeaderTexts [] it) (sym lacks.1) refl;
+      extra_headers = subst (λ (it : List Header). DecodesToHeaders [] it) (sym lacks.1) refl;
     }
 
-put_committer : (kind : Kind) (text input line rest : List ℕ) (commit : CommitLines) → text ≡ ids_text commit ++ field_text (codes "author") commit.author ++ input → ReadsIds kind commit → NamesActor commit.author
-    → input ≡ field_text (codes "committer") line ++ rest → NamesActor line → BeginsCommit kind text (record commit { committer = line }) rest
-put_committer kind text input line rest commit is ids author joined names =
-    let to_author = ids_text commit ++ field_text (codes "author") commit.author in
+write_committer : (kind : Kind) (bytes input line rest : List ℕ) (commit : CommitLines)
+    → bytes ≡ encode_ids commit ++ encode_field (codes "author") commit.author ++ input → ReadsIds kind commit → NamesActor commit.author
+    → input ≡ encode_field (codes "committer") line ++ rest → NamesActor line → BeginsCommit kind bytes (record commit { committer = line }) rest
+write_committer kind bytes input line rest commit is ids author joined names =
+    let to_author = encode_ids commit ++ encode_field (codes "author") commit.author in
     record {
-      headers_text = [];
-      joined = without_headers text (to_author ++ field_text (codes "committer") line) rest commit.encoding (joined_behind text to_author input (field_text (codes "committer") line) rest is joined) ids.lacks.0;
+      headers_encoding = [];
+      joined = without_headers bytes (to_author ++ encode_field (codes "committer") line) rest commit.encoding
+          (joined_after bytes to_author input (encode_field (codes "committer") line) rest is joined) ids.lacks.0;
       tree = ids.tree;
       parents = ids.parents;
       author = author;
       committer = names;
       encoding = rw (ids.lacks.0, ids.lacks.1) tt;
-      extra_headers = subst (λ (it : List Header). AreHeaderTexts [] it) (sym ids.lacks.1) refl;
+      extra_headers = subst (λ (it : List Header). DecodesToHeaders [] it) (sym ids.lacks.1) refl;
     }
 
-put_message : (kind : Kind) (text input message : List ℕ) (commit : CommitLines) → BeginsCommit kind text commit input → input ≡ 10 ∷ message → IsCommitText kind text (record commit { message = message })
-put_message kind text input message commit begins is =
+write_message : (kind : Kind) (bytes input message : List ℕ) (commit : CommitLines) → BeginsCommit kind bytes commit input → input ≡ 10 ∷ message
+    → DecodesToCommit kind bytes (record commit { message = message })
+write_message kind bytes input message commit begins is =
     record {
-      headers_text = begins.headers_text;
-      joined = begins.joined ∙ ap (λ (it : List ℕ). before_encoding commit ++ encoding_text commit.encoding ++ begins.headers_text ++ it) is;
+      headers_encoding = begins.headers_encoding;
+      joined = begins.joined ∙ ap (λ (it : List ℕ). before_encoding commit ++ encode_encoding commit.encoding ++ begins.headers_encoding ++ it) is;
       tree = begins.tree;
       parents = begins.parents;
       author = begins.author;
@@ -138,31 +165,57 @@ put_message kind text input message commit begins is =
       extra_headers = begins.extra_headers;
     }
 
--- ---- a line more
+-- ---- one more line
 
-pub reads_line : (kind : Kind) (text : List ℕ) (commit : CommitLines) (before : State) (input : List ℕ) (line : LineView) (behind : State) (rest : List ℕ) → HasLine kind before input line behind rest
-    → Reads kind text before input commit → Reads kind text behind rest (gather commit line)
-reads_line kind text commit before input line after rest (tree_comes _ hex _ has) (is, none, lacks) =
-    (first_id text (field_text (codes "tree") hex) input rest commit.parents is has.0.joined none, record { tree = has.1; parents = subst (All (IsHexOf kind)) (sym none) (All-nil (IsHexOf kind)); lacks = lacks })
-reads_line kind text commit before input line after rest (parent_comes _ hex _ has) (is, ids) =
-    (further_id text (field_text (codes "tree") commit.tree) input hex rest commit.parents is has.0.joined, record { tree = ids.tree; parents = All-push (IsHexOf kind) commit.parents hex ids.parents has.1; lacks = ids.lacks })
-reads_line kind text commit before input line after rest (author_comes _ actor _ has) (is, ids) =
-    (joined_behind text (ids_text commit) input (field_text (codes "author") actor) rest is has.0.joined, record { tree = ids.tree; parents = ids.parents; lacks = ids.lacks }, has.1)
-reads_line kind text commit before input line after rest (committer_comes _ actor _ has) (is, ids, author) = (put_committer kind text input actor rest commit is ids author has.0.joined has.1, ids.lacks)
-reads_line kind text commit before input line after rest (encoding_comes _ encoding _ has) (begins, lacks) = (put_encoding kind text input encoding rest commit begins lacks has, λ none. cc none)
-reads_line kind text commit before input line after rest (first_header_comes _ header _ has other) (begins, lacks) =
-    (put_header kind text input has.text rest commit header begins has.joined has.written (first_named commit.encoding commit.extra_headers header lacks.0 lacks.1 other), λ none. some_header commit.extra_headers header)
-reads_line kind text commit before input line after rest (header_comes _ header _ has) (begins, filled) =
-    (put_header kind text input has.text rest commit header begins has.joined has.written (encoding_more commit.encoding commit.extra_headers header begins.encoding filled), λ none. some_header commit.extra_headers header)
-reads_line kind text commit before input line after rest (first_message_comes _ message is) (begins, lacks) = put_message kind text input message commit begins is
-reads_line kind text commit before input line after rest (message_comes _ message is) (begins, filled) = put_message kind text input message commit begins is
+pub reads_line : (kind : Kind) (bytes : List ℕ) (commit : CommitLines) (before : State) (input : List ℕ) (line : LineView) (following : State)
+    (rest : List ℕ)
+    → HasLine kind before input line following rest
+    → Reads kind bytes before input commit → Reads kind bytes following rest (gather commit line)
+reads_line kind bytes commit before input line after rest (tree_comes _ hex _ has) (is, none, lacks) = (
+  first_id bytes (encode_field (codes "tree") hex) input rest commit.parents is has.0.joined none,
+  record
+      { tree = has.1; parents = subst (All (IsIdHexOfKind kind)) (sym none) (All-nil (IsIdHexOfKind kind)); lacks = lacks },
+)
+reads_line kind bytes commit before input line after rest (parent_comes _ hex _ has) (is, ids) = (
+  further_id bytes (encode_field (codes "tree") commit.tree) input hex rest commit.parents is has.0.joined,
+  record
+      { tree = ids.tree; parents = All-push (IsIdHexOfKind kind) commit.parents hex ids.parents has.1; lacks = ids.lacks },
+)
+reads_line kind bytes commit before input line after rest (author_comes _ actor _ has) (is, ids) = (
+  joined_after bytes (encode_ids commit) input (encode_field (codes "author") actor) rest is has.0.joined,
+  record
+      { tree = ids.tree; parents = ids.parents; lacks = ids.lacks },
+  has.1,
+)
+reads_line kind bytes commit before input line after rest (committer_comes _ actor _ has) (is, ids, author) =
+    (write_committer kind bytes input actor rest commit is ids author has.0.joined has.1, ids.lacks)
+reads_line kind bytes commit before input line after rest (encoding_comes _ encoding _ has) (begins, lacks) =
+    (write_encoding kind bytes input encoding rest commit begins lacks has, λ none. cc none)
+reads_line kind bytes commit before input line after rest (first_header_comes _ header _ has other) (begins, lacks) = (
+  appended_header kind bytes input has.encoded rest commit header begins has.joined has.written
+      (first_named commit.encoding commit.extra_headers header lacks.0 lacks.1 other),
+  λ none. some_header commit.extra_headers header,
+)
+reads_line kind bytes commit before input line after rest (header_comes _ header _ has) (begins, filled) = (
+  appended_header kind bytes input has.encoded rest commit header begins has.joined has.written
+      (encoding_more commit.encoding commit.extra_headers header begins.encoding filled),
+  λ none. some_header commit.extra_headers header,
+)
+reads_line kind bytes commit before input line after rest (first_message_comes _ message is) (begins, lacks) =
+    write_message kind bytes input message commit begins is
+reads_line kind bytes commit before input line after rest (message_comes _ message is) (begins, filled) =
+    write_message kind bytes input message commit begins is
 
-pub reads_lines : (kind : Kind) (text : List ℕ) (commit : CommitLines) (before : State) (input : List ℕ) (lines : List LineView) (behind : State) (rest : List ℕ) → Passes (HasLine kind) before input lines behind rest
-    → Reads kind text before input commit → Reads kind text behind rest (gathered commit lines)
-reads_lines kind text commit before input [] behind rest (same_state, same_input) reads = rw (← same_state, ← same_input) reads
-reads_lines kind text commit before input (line ∷ lines) behind rest (next, after, has, more) reads =
-    reads_lines kind text (gather commit line) next after lines behind rest more (reads_line kind text commit before input line next after has reads)
+pub reads_lines : (kind : Kind) (bytes : List ℕ) (commit : CommitLines) (before : State) (input : List ℕ) (lines : List LineView) (following : State)
+    (rest : List ℕ) → Passes (HasLine kind) before input lines following rest
+    → Reads kind bytes before input commit → Reads kind bytes following rest (gathered commit lines)
+reads_lines kind bytes commit before input [] following rest (same_state, same_input) reads = rw (← same_state, ← same_input) reads
+reads_lines kind bytes commit before input (line ∷ lines) following rest (next, after, has, more) reads =
+    reads_lines kind bytes (gather commit line) next after lines following rest more
+    (reads_line kind bytes commit before input line next after has reads)
 
--- the lines of a text from its start
-pub reads_from_start : (kind : Kind) (text : List ℕ) (lines : List LineView) (behind : State) (rest : List ℕ) → Passes (HasLine kind) state.Tree text lines behind rest → Reads kind text behind rest (gathered nothing lines)
-reads_from_start kind text lines behind rest passes = reads_lines kind text nothing state.Tree text lines behind rest passes (refl, refl, (refl, refl))
+-- the lines of the encoding from its start
+pub reads_from_start : (kind : Kind) (bytes : List ℕ) (lines : List LineView) (following : State) (rest : List ℕ)
+    → Passes (HasLine kind) state.Tree bytes lines following rest → Reads kind bytes following rest (gathered empty_commit lines)
+reads_from_start kind bytes lines following rest passes = reads_lines kind bytes empty_commit state.Tree bytes lines following rest passes
+    (refl, refl, (refl, refl))

@@ -1,40 +1,46 @@
--- Headers found by their names, among those that an iterator gives.
+-- Searches by name of the headers that an iterator yields.
 use Rattle.std.proofs.Common.{◌≡◌, ◌≢◌, ℕ, List, [], ◌∷◌, ◌++◌, map, Option, Some, arith, length, length-append, refl, sym, ap, subst, ◌∙◌}
 use Rattle.std.proofs.lemmas.List.Elements.{All-nil, All-push}
 use Rattle.std.proofs.lemmas.List.{map-append}
 use Rattle.std.specs.Iterator.{Yields}
 use Rattle.bstr.specs.BStr.{bstr_bytes}
 use Rattle.bstr.specs.declared.bstr.BStr.{BStr}
-use Rattle.gixobj_commit.specs.ExtraHeaders.{FindsPlace, Gave, GivesValue, LacksHeader, header_at, pair_of}
+use Rattle.gixobj_commit.specs.ExtraHeaders.{FindsPlace, Gave, NextValue, HasNoHeaderNamed, header_at, pair_of}
 
-pub none_before : (name : List ℕ) → LacksHeader name (map pair_of [])
+pub none_before : (name : List ℕ) → HasNoHeaderNamed name (map pair_of [])
 none_before name = All-nil (λ it. it.name ≢ name)
 
-pub one_more : (name : List ℕ) (others : List (BStr × BStr)) (key value : BStr) → LacksHeader name (map pair_of others) → bstr_bytes key ≢ name
-    → LacksHeader name (map pair_of (others ++ (key, value) ∷ []))
+pub one_more : (name : List ℕ) (others : List (BStr × BStr)) (key value : BStr) → HasNoHeaderNamed name (map pair_of others) → bstr_bytes key ≢ name
+    → HasNoHeaderNamed name (map pair_of (others ++ (key, value) ∷ []))
 one_more name others key value lacks other =
-    subst (LacksHeader name) (sym (map-append pair_of others ((key, value) ∷ []))) (All-push (λ it. it.name ≢ name) (map pair_of others) (pair_of (key, value)) lacks other)
+    subst (HasNoHeaderNamed name) (sym (map-append pair_of others ((key, value) ∷ [])))
+    (All-push (λ it. it.name ≢ name) (map pair_of others) (pair_of (key, value)) lacks other)
 
 module _ {S : Type 0} (steps : S → Option (BStr × BStr) → S → Type 0) (name : List ℕ) where
-  -- what a call gives behind others
-  one_given : (from at to : S) (others : List (BStr × BStr)) (pair : BStr × BStr) → Yields steps from others at → steps at (Some pair) to → Yields steps from (others ++ pair ∷ []) to
-  one_given from at to [] pair yielded step = (to, subst (λ it. steps it (Some pair) to) (sym yielded) step, refl)
-  one_given from at to (first ∷ others) pair (next, gave, yielded) step = (next, gave, one_given next at to others pair yielded step)
+  -- a step after others yields one more header
+  one_passed : (from at to : S) (others : List (BStr × BStr)) (pair : BStr × BStr) → Yields steps from others at → steps at (Some pair) to
+      → Yields steps from (others ++ pair ∷ []) to
+  one_passed from at to [] pair yielded step = (to, subst (λ it. steps it (Some pair) to) (sym yielded) step, refl)
+  one_passed from at to (first ∷ others) pair (next, gave, yielded) step = (next, gave, one_passed next at to others pair yielded step)
 
-  first_given : (from at to : S) (others : List (BStr × BStr)) (key value : BStr) → LacksHeader name (map pair_of others) → Yields steps from others at → steps at (Some (key, value)) to → bstr_bytes key ≡ name
+  first_passed : (from at to : S) (others : List (BStr × BStr)) (key value : BStr) → HasNoHeaderNamed name (map pair_of others) → Yields steps from others at
+      → steps at (Some (key, value)) to → bstr_bytes key ≡ name
       → Gave steps name from (others ++ (key, value) ∷ []) (Some value) to
-  first_given from at to others key value lacks yielded step named = (
-    one_given from at to others (key, value) yielded step,
+  first_passed from at to others key value lacks yielded step named = (
+    one_passed from at to others (key, value) yielded step,
     map pair_of others,
     (lacks, map-append pair_of others ((key, value) ∷ []) ∙ ap (λ (it : List ℕ). map pair_of others ++ header_at it value ∷ []) named),
   )
 
-  pub value_given : (from at to : S) (others : List (BStr × BStr)) (key value : BStr) → LacksHeader name (map pair_of others) → Yields steps from others at → steps at (Some (key, value)) to → bstr_bytes key ≡ name
-      → GivesValue steps name from (Some value) to
-  value_given from at to others key value lacks yielded step named = (others ++ (key, value) ∷ [], first_given from at to others key value lacks yielded step named)
+  pub value_passed : (from at to : S) (others : List (BStr × BStr)) (key value : BStr) → HasNoHeaderNamed name (map pair_of others)
+      → Yields steps from others at → steps at (Some (key, value)) to → bstr_bytes key ≡ name
+      → NextValue steps name from (Some value) to
+  value_passed from at to others key value lacks yielded step named =
+      (others ++ (key, value) ∷ [], first_passed from at to others key value lacks yielded step named)
 
-  pub place_given : (start from at to : S) (others : List (BStr × BStr)) (key value : BStr) (place : ℕ) → place ≡ length others → LacksHeader name (map pair_of others) → from ≡ start
+  pub place_passed : (start from at to : S) (others : List (BStr × BStr)) (key value : BStr) (place : ℕ) → place ≡ length others
+      → HasNoHeaderNamed name (map pair_of others) → from ≡ start
       → Yields steps from others at → steps at (Some (key, value)) to → bstr_bytes key ≡ name → FindsPlace steps name start (Some place)
-  place_given start from at to others key value place counted lacks same yielded step named =
-      let given = first_given start at to others key value lacks (subst (λ it. Yields steps it others at) same yielded) step named in
-      (others ++ (key, value) ∷ [], to, (value, given, omega (arith, counted, length-append others ((key, value) ∷ []))))
+  place_passed start from at to others key value place counted lacks same yielded step named =
+      let passed = first_passed start at to others key value lacks (subst (λ it. Yields steps it others at) same yielded) step named in
+      (others ++ (key, value) ∷ [], to, (value, passed, omega (arith, counted, length-append others ((key, value) ∷ []))))

@@ -1,4 +1,4 @@
--- What is found among the headers of a list, which an iterator gives in order.
+-- Searches of headers that an iterator yields from a list.
 use Rattle.std.proofs.Common.{◌≡◌, ◌≢◌, ℕ, Bool, List, [], ◌∷◌, ◌++◌, map, Option, None, Some, append_assoc, arith, length, length-append, true, false, cond, refl, sym, ap, subst, ◌∙◌}
 use Rattle.std.proofs.lemmas.Iterator.{YieldsList}
 use Rattle.std.proofs.lemmas.Iterator.Consumers.{YieldsList-from_shown}
@@ -10,8 +10,8 @@ use Rattle.std.specs.List.{filter}
 use Rattle.std.specs.Str.{bytes_eq}
 use Rattle.bstr.specs.BStr.{bstr_bytes}
 use Rattle.bstr.specs.declared.bstr.BStr.{BStr}
-use Rattle.gixobj_fields.specs.HeaderText.{Header}
-use Rattle.gixobj_commit.specs.ExtraHeaders.{FindsPlace, FindsValue, Gave, GivesAll, HasFirstHeader, IsFirstPlace, IsFirstValue, LacksHeader, header_at, pair_of, searched, sought, values_named}
+use Rattle.gixobj_fields.specs.HeaderFormat.{Header}
+use Rattle.gixobj_commit.specs.ExtraHeaders.{FindsPlace, FindsValue, Gave, NextOfAll, HasFirstHeader, IsFirstPlace, IsFirstValue, HasNoHeaderNamed, header_at, pair_of, searched, searched_name, values_named}
 use Rattle.gixobj_commit.specs.declared.extra_headers.FindAll.{FindAll}
 
 -- ---- values in a list of headers
@@ -20,60 +20,74 @@ is_other : (b : Bool) (xs ys : List ℕ) → bytes_eq xs ys ≡ b → xs ≢ ys 
 is_other false xs ys test other = test
 is_other true xs ys test other = absurd (other ((bytes_eq-Decides xs ys).0 test))
 
-passed : (name : List ℕ) (others more : List Header) → LacksHeader name others → values_named name (others ++ more) ≡ values_named name more
+passed : (name : List ℕ) (others more : List Header) → HasNoHeaderNamed name others → values_named name (others ++ more) ≡ values_named name more
 passed name [] more lacks = refl
 passed name (one ∷ others) more lacks =
     let other = is_other (bytes_eq one.name name) one.name name refl (All-head (λ it. it.name ≢ name) one others lacks) in
     let kept = filter (λ it. bytes_eq it.name name) (others ++ more) in
     ap (λ test. map (λ it. it.value) (cond test (one ∷ kept) kept)) other ∙ passed name others more (All-tail (λ it. it.name ≢ name) one others lacks)
 
-taken : (name : List ℕ) (value : BStr) (more : List Header) → values_named name (header_at name value ∷ more) ≡ bstr_bytes value ∷ values_named name more
+taken : (name : List ℕ) (value : BStr) (more : List Header) → values_named name (header_at name value ∷ more) ≡ bstr_bytes value
+    ∷ values_named name more
 taken name value more =
     let kept = filter (λ it. bytes_eq it.name name) more in
     ap (λ test. map (λ it. it.value) (cond test (header_at name value ∷ kept) kept)) ((bytes_eq-Decides name name).1 refl)
 
--- ---- what an iterator gives of them
+-- ---- steps of the iterator
 
 module _ {S : Type 0} (rest : S → List Header) where
-  -- what came stands in front of what is still to come
+  -- the yielded headers, and then the remaining ones
   came : (s t : S) (pairs : List (BStr × BStr)) → Yields (YieldsFirstBy pair_of rest) s pairs t → rest s ≡ map pair_of pairs ++ rest t
   came s t [] yielded = ap rest yielded
   came s t (pair ∷ pairs) (next, step, yielded) = step ∙ ap (λ it. pair_of pair ∷ it) (came next t pairs yielded)
 
-  all_came : (name : List ℕ) (s t : S) (given : List (BStr × BStr)) → Gave (YieldsFirstBy pair_of rest) name s given None t → rest s ≡ map pair_of given
-  all_came name s t given ((last, yielded, step), lacks) =
-      came s last given yielded ∙ ap (λ it. map pair_of given ++ it) step.0 ∙ append-nil (map pair_of given)
+  all_came : (name : List ℕ) (s t : S) (received : List (BStr × BStr)) → Gave (YieldsFirstBy pair_of rest) name s received None t
+      → rest s ≡ map pair_of received
+  all_came name s t received ((last, yielded, step), lacks) =
+      came s last received yielded ∙ ap (λ it. map pair_of received ++ it) step.0 ∙ append-nil (map pair_of received)
 
-  first : (name : List ℕ) (s t : S) (given : List (BStr × BStr)) (value : BStr) → (gave : Gave (YieldsFirstBy pair_of rest) name s given (Some value) t) → HasFirstHeader name (rest s) gave.1 value (rest t)
-  first name s t given value (yielded, others, (lacks, last)) =
-      (lacks, came s t given yielded ∙ ap (λ (it : List Header). it ++ rest t) last ∙ append_assoc others (header_at name value ∷ []) (rest t))
+  first : (name : List ℕ) (s t : S) (received : List (BStr × BStr)) (value : BStr)
+      → (gave : Gave (YieldsFirstBy pair_of rest) name s received (Some value) t)
+      → HasFirstHeader name (rest s) gave.1 value (rest t)
+  first name s t received value (yielded, others, (lacks, last)) =
+      (lacks, came s t received yielded ∙ ap (λ (it : List Header). it ++ rest t) last ∙ append_assoc others (header_at name value ∷ []) (rest t))
 
-  pub first_value : (name : List ℕ) (s : S) (result : Option BStr) → FindsValue (YieldsFirstBy pair_of rest) name s result → IsFirstValue name (rest s) result
-  first_value name s None (to, (given, gave)) = subst (LacksHeader name) (sym (all_came name s to given gave)) gave.1
-  first_value name s (Some value) (to, (given, gave)) = (gave.1, rest to, first name s to given value gave)
+  pub first_value : (name : List ℕ) (s : S) (result : Option BStr) → FindsValue (YieldsFirstBy pair_of rest) name s result
+      → IsFirstValue name (rest s) result
+  first_value name s None (to, (received, gave)) = subst (HasNoHeaderNamed name) (sym (all_came name s to received gave)) gave.1
+  first_value name s (Some value) (to, (received, gave)) = (gave.1, rest to, first name s to received value gave)
 
-  pub first_place : (name : List ℕ) (s : S) (result : Option ℕ) → FindsPlace (YieldsFirstBy pair_of rest) name s result → IsFirstPlace name (rest s) result
-  first_place name s None (given, to, gave) = first_value name s None (to, (given, gave))
-  first_place name s (Some place) (given, to, (value, gave, counted)) =
-      let last = gave.2.1 in
-      (gave.1, rest to, value, first name s to given value gave, omega (arith, counted, length-map given pair_of, ap length last, length-append gave.1 (header_at name value ∷ [])))
+  pub first_place : (name : List ℕ) (s : S) (result : Option ℕ) → FindsPlace (YieldsFirstBy pair_of rest) name s result
+      → IsFirstPlace name (rest s) result
+  first_place name s None (received, to, gave) = first_value name s None (to, (received, gave))
+  first_place name s (Some place) (received, to, (value, gave, counted)) =
+      let last = gave.2.1 in (
+        gave.1,
+        rest to,
+        value,
+        first name s to received value gave,
+        omega
+            (arith, counted, length-map received pair_of, ap length last, length-append gave.1 (header_at name value ∷ [])),
+      )
 
   -- ---- all values
 
   abbrev pub still_to_come : FindAll S → List (List ℕ)
-  still_to_come s = values_named (sought s) (rest (searched s))
+  still_to_come s = values_named (searched_name s) (rest (searched s))
 
-  pub none_to_come : (s t : FindAll S) → GivesAll (YieldsFirstBy pair_of rest) s None t → length (still_to_come s) ≡ 0
-  none_to_come s t (same, (given, gave)) =
-      let all = all_came s.name.now s.inner t.inner given gave ∙ sym (append-nil (map pair_of given)) in
-      ap (λ it. length (values_named s.name.now it)) all ∙ ap length (passed s.name.now (map pair_of given) [] gave.1)
+  pub none_to_come : (s t : FindAll S) → NextOfAll (YieldsFirstBy pair_of rest) s None t → length (still_to_come s) ≡ 0
+  none_to_come s t (same, (received, gave)) =
+      let all = all_came s.name.now s.inner t.inner received gave ∙ sym (append-nil (map pair_of received)) in
+      ap (λ it. length (values_named s.name.now it)) all ∙ ap length (passed s.name.now (map pair_of received) [] gave.1)
 
-  pub one_came : (s : FindAll S) (value : BStr) (t : FindAll S) → GivesAll (YieldsFirstBy pair_of rest) s (Some value) t → still_to_come s ≡ bstr_bytes value ∷ still_to_come t
-  one_came s value t (same, (given, gave)) =
+  pub one_came : (s : FindAll S) (value : BStr) (t : FindAll S) → NextOfAll (YieldsFirstBy pair_of rest) s (Some value) t
+      → still_to_come s ≡ bstr_bytes value ∷ still_to_come t
+  one_came s value t (same, (received, gave)) =
       let name = s.name.now in
-      let (lacks, all) = first name s.inner t.inner given value gave in
+      let (lacks, all) = first name s.inner t.inner received value gave in
       ap (values_named name) all ∙ passed name gave.1 (header_at name value ∷ rest t.inner) lacks ∙ taken name value (rest t.inner)
       ∙ ap (λ it. bstr_bytes value ∷ values_named it (rest t.inner)) (sym same)
 
-  pub all_values : (s : FindAll S) → YieldsList (GivesAll (YieldsFirstBy pair_of rest)) bstr_bytes s (values_named (sought s) (rest (searched s)))
-  all_values = YieldsList-from_shown (GivesAll (YieldsFirstBy pair_of rest)) bstr_bytes still_to_come none_to_come one_came
+  pub all_values : (s : FindAll S) → YieldsList (NextOfAll (YieldsFirstBy pair_of rest)) bstr_bytes s
+      (values_named (searched_name s) (rest (searched s)))
+  all_values = YieldsList-from_shown (NextOfAll (YieldsFirstBy pair_of rest)) bstr_bytes still_to_come none_to_come one_came

@@ -4,9 +4,9 @@ pub mod CommitsRead
 mod HeaderSearches
 pub mod HeadersFound
 mod HexFields
-pub mod LinesTold
+pub mod LinesYielded
 mod MergetagsFound
 pub mod ParentHexes
-pub mod WholeCommits
-mod WritingBack
-mod WrittenBack
+pub mod EntireCommits
+mod Reencoding
+mod Reencoded

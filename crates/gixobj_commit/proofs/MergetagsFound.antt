@@ -1,4 +1,4 @@
--- The tags that are given of the headers of a list, in order.
+-- States that `mergetags` yields the tags of the remaining headers in order; the two laws on merged tags use it.
 use Rattle.std.proofs.Common.{◌≡◌, ℕ, List, [], ◌∷◌, Option, None, Some, Result, Ok, Err, ap, arith, length, refl, sym, subst, ◌∙◌}
 use Rattle.std.proofs.lemmas.Iterator.{YieldsList}
 use Rattle.std.proofs.lemmas.List.{nil_from_length}
@@ -7,35 +7,36 @@ use Rattle.std.specs.List.{AllZip}
 use Rattle.bstr.specs.BStr.{bstr_bytes}
 use Rattle.gixobj_commit.proofs.HeadersFound.{none_to_come, one_came}
 use Rattle.gixobj_commit.specs.ExtraHeaders.{pair_of}
-use Rattle.gixobj_commit.specs.Mergetags.{GivesMergetag, IsTagOf, IsTagOrNone, mergetag_kind, mergetag_values, mergetags_left, tag_if_ok}
+use Rattle.gixobj_commit.specs.Mergetags.{NextMergetag, IsTagOf, IsTagOrNone, mergetag_kind, mergetag_values, remaining_mergetags, tag_if_ok}
 use Rattle.gixobj_commit.specs.declared.extra_headers.Mergetags.{Mergetags}
-use Rattle.gixobj_fields.specs.HeaderText.{Header}
+use Rattle.gixobj_fields.specs.HeaderFormat.{Header}
 use Rattle.gixobj_hash.specs.declared.decode.Error.{Error}
 use Rattle.gixobj_hash.specs.declared.hash.kind.Kind.{Kind}
-use Rattle.gixobj_tag.proofs.WholeTags.{one_tag}
-use Rattle.gixobj_tag.specs.TagText.{TagLines}
+use Rattle.gixobj_tag.proofs.EntireTags.{one_tag}
+use Rattle.gixobj_tag.specs.TagFormat.{TagLines}
 use Rattle.gixobj_tag.specs.TagViews.{tag_lines}
 use Rattle.gixobj_tag.specs.declared.tag.TagRef.{TagRef}
 
--- a text is read in one way
-one_reading : (kind : Kind) (text : List ℕ) (item : Result TagRef Error) (read : Option TagLines) → IsTagOf kind text item → IsTagOrNone kind text read → tag_if_ok item ≡ read
-one_reading kind text (Ok tag) (Some lines) is is' = ap Some (one_tag kind text (tag_lines tag) lines is is')
-one_reading kind text (Ok tag) None is none = absurd (none (tag_lines tag) is)
-one_reading kind text (Err error) (Some lines) (same, none) is = absurd (none lines is)
-one_reading kind text (Err error) None none none' = refl
+-- bytes decode as at most one tag
+one_reading : (kind : Kind) (content : List ℕ) (item : Result TagRef Error) (read : Option TagLines) → IsTagOf kind content item → IsTagOrNone kind content read
+    → tag_if_ok item ≡ read
+one_reading kind content (Ok tag) (Some lines) is is' = ap Some (one_tag kind content (tag_lines tag) lines is is')
+one_reading kind content (Ok tag) None is none = absurd (none (tag_lines tag) is)
+one_reading kind content (Err error) (Some lines) (same, none) is = absurd (none lines is)
+one_reading kind content (Err error) None none none' = refl
 
 module _ {S : Type 0} (rest : S → List Header) where
   abbrev Steps : Mergetags S → Option (Result TagRef Error) → Mergetags S → Type 0
-  Steps = GivesMergetag (YieldsFirstBy pair_of rest)
+  Steps = NextMergetag (YieldsFirstBy pair_of rest)
 
-  none_left : (s t : Mergetags S) → Steps s None t → length (mergetags_left rest s) ≡ 0
-  none_left s t (None, gives, reads, same) = none_to_come rest (mergetag_values s) (mergetag_values t) gives
-  none_left s t (Some value, gives, reads, same) = absurd reads
+  none_remaining : (s t : Mergetags S) → Steps s None t → length (remaining_mergetags rest s) ≡ 0
+  none_remaining s t (None, gives, reads, same) = none_to_come rest (mergetag_values s) (mergetag_values t) gives
+  none_remaining s t (Some value, gives, reads, same) = absurd reads
 
-  -- what one call gives is the tag of the first value that was left
+  -- one step yields the tag of the first remaining value
   record Came (s t : Mergetags S) (item : Result TagRef Error) : Type 0 where
     value : List ℕ
-    joined : mergetags_left rest s ≡ value ∷ mergetags_left rest t
+    joined : remaining_mergetags rest s ≡ value ∷ remaining_mergetags rest t
     is : IsTagOf (mergetag_kind s) value item
     same : mergetag_kind t ≡ mergetag_kind s
 
@@ -46,36 +47,44 @@ module _ {S : Type 0} (rest : S → List Header) where
 
   -- ---- a run to its end
 
-  run_given : (kind : Kind) (s last after : Mergetags S) (given : List (Result TagRef Error)) → mergetag_kind s ≡ kind → Yields Steps s given last → Steps last None after
-      → AllZip (IsTagOf kind) (mergetags_left rest s) given
-  run_given kind s last after [] same yielded none =
-      let bare : mergetags_left rest s ≡ [] = nil_from_length (mergetags_left rest s) (ap (λ it. length (mergetags_left rest it)) yielded ∙ none_left last after none) in
+  run_passed : (kind : Kind) (s last after : Mergetags S) (passed : List (Result TagRef Error)) → mergetag_kind s ≡ kind → Yields Steps s passed last
+      → Steps last None after
+      → AllZip (IsTagOf kind) (remaining_mergetags rest s) passed
+  run_passed kind s last after [] same yielded none =
+      let bare : remaining_mergetags rest s ≡ [] =
+      nil_from_length (remaining_mergetags rest s) (ap (λ it. length (remaining_mergetags rest it)) yielded ∙ none_remaining last after none) in
       subst (λ (it : List (List ℕ)). AllZip (IsTagOf kind) it []) (sym bare) tt
-  run_given kind s last after (item ∷ given) same (next, step, yielded) none =
+  run_passed kind s last after (item ∷ passed) same (next, step, yielded) none =
       let it = came s next item step in
       let is : IsTagOf kind it.value item = subst (λ (of : Kind). IsTagOf of it.value item) same it.is in
-      subst (λ (values : List (List ℕ)). AllZip (IsTagOf kind) values (item ∷ given)) (sym it.joined) (is, run_given kind next last after given (it.same ∙ same) yielded none)
+      subst (λ (values : List (List ℕ)). AllZip (IsTagOf kind) values (item ∷ passed)) (sym it.joined)
+      (is, run_passed kind next last after passed (it.same ∙ same) yielded none)
 
-  pub all_given : (s after : Mergetags S) (given : List (Result TagRef Error)) → YieldsThen Steps s given None after → AllZip (IsTagOf (mergetag_kind s)) (mergetags_left rest s) given
-  all_given s after given (last, yielded, none) = run_given (mergetag_kind s) s last after given refl yielded none
+  pub all_passed : (s after : Mergetags S) (passed : List (Result TagRef Error)) → YieldsThen Steps s passed None after
+      → AllZip (IsTagOf (mergetag_kind s)) (remaining_mergetags rest s) passed
+  all_passed s after passed (last, yielded, none) = run_passed (mergetag_kind s) s last after passed refl yielded none
 
-  -- ---- the list of what the values are
+  -- ---- the list of all results
 
-  run_listed : (kind : Kind) (s : Mergetags S) (texts : List (List ℕ)) (read : List (Option TagLines)) → mergetag_kind s ≡ kind → mergetags_left rest s ≡ texts → AllZip (IsTagOrNone kind) texts read
+  run_listed : (kind : Kind) (s : Mergetags S) (encodings : List (List ℕ)) (read : List (Option TagLines)) → mergetag_kind s ≡ kind
+      → remaining_mergetags rest s ≡ encodings → AllZip (IsTagOrNone kind) encodings read
       → AlwaysYields Steps tag_if_ok s read
-  run_listed kind s [] [] same left all = λ item t step. let it = came s t item step in let none : [] ≡ it.value ∷ mergetags_left rest t = sym left ∙ it.joined in absurd (cc none)
-  run_listed kind s [] (one ∷ read) same left all = absurd all
-  run_listed kind s (text ∷ texts) [] same left all = absurd all
-  run_listed kind s (text ∷ texts) (one ∷ read) same left (is, all) = (
-    (λ t step. absurd (omega (arith, none_left s t step, ap length left))),
+  run_listed kind s [] [] same remaining all = λ item t step. let it = came s t item step in let none : [] ≡ it.value ∷ remaining_mergetags rest t =
+      sym remaining ∙ it.joined in absurd (cc none)
+  run_listed kind s [] (one ∷ read) same remaining all = absurd all
+  run_listed kind s (content ∷ encodings) [] same remaining all = absurd all
+  run_listed kind s (content ∷ encodings) (one ∷ read) same remaining (is, all) = (
+    (λ t step. absurd (omega (arith, none_remaining s t step, ap length remaining))),
     λ item t step.
         let it = came s t item step in
-        let joined : it.value ∷ mergetags_left rest t ≡ text ∷ texts = sym it.joined ∙ left in
-        let value : it.value ≡ text = cc joined in
-        let others : mergetags_left rest t ≡ texts = cc joined in
-        let answer : IsTagOf kind text item = subst (λ (of : Kind). IsTagOf of text item) same (subst (λ (bytes : List ℕ). IsTagOf (mergetag_kind s) bytes item) value it.is) in
-        (one_reading kind text item one answer is, run_listed kind t texts read (it.same ∙ same) others all),
+        let joined : it.value ∷ remaining_mergetags rest t ≡ content ∷ encodings = sym it.joined ∙ remaining in
+        let value : it.value ≡ content = cc joined in
+        let others : remaining_mergetags rest t ≡ encodings = cc joined in
+        let answer : IsTagOf kind content item = subst (λ (of : Kind). IsTagOf of content item) same
+        (subst (λ (bytes : List ℕ). IsTagOf (mergetag_kind s) bytes item) value it.is) in
+        (one_reading kind content item one answer is, run_listed kind t encodings read (it.same ∙ same) others all),
   )
 
-  pub all_listed : (s : Mergetags S) (read : List (Option TagLines)) → AllZip (IsTagOrNone (mergetag_kind s)) (mergetags_left rest s) read → YieldsList Steps tag_if_ok s read
-  all_listed s read all = record { runs = run_listed (mergetag_kind s) s (mergetags_left rest s) read refl refl all }
+  pub all_listed : (s : Mergetags S) (read : List (Option TagLines)) → AllZip (IsTagOrNone (mergetag_kind s)) (remaining_mergetags rest s) read
+      → YieldsList Steps tag_if_ok s read
+  all_listed s read all = record { runs = run_listed (mergetag_kind s) s (remaining_mergetags rest s) read refl refl all }

@@ -1,26 +1,28 @@
--- The hex texts of the ids of parents.
+-- The hex of the parents' ids.
 use Rattle.std.proofs.Common.{ℕ, zero, suc, get_or, ◌-◌, ◌<◌, ◌≤◌, All, List, [], ◌∷◌, map, take, drop, length, subst, sym, arith}
 use Rattle.std.proofs.lemmas.List.Elements.{All-head, All-tail, All-weaker}
 use Rattle.std.proofs.lemmas.List.{take_all}
 use Rattle.bstr.specs.BStr.{bstr_bytes}
 use Rattle.bstr.specs.declared.bstr.BStr.{BStr}
 use Rattle.gixobj_hash.proofs.HexIds.{of_an_id, of_its_kind}
-use Rattle.gixobj_hash.specs.Hash.{IsHexOfAnId}
-use Rattle.gixobj_hash.specs.Hash.Hex.{IsHexOfItsKind}
+use Rattle.gixobj_hash.specs.Hash.{IsIdHex}
+use Rattle.gixobj_hash.specs.Hash.Hex.{IsIdHexOfItsKind}
 
-pub all_of_their_kind : (texts : List (List ℕ)) → All IsHexOfAnId texts → All IsHexOfItsKind texts
-all_of_their_kind texts all = All-weaker IsHexOfAnId IsHexOfItsKind of_its_kind texts all
+pub all_of_their_kind : (encodings : List (List ℕ)) → All IsIdHex encodings → All IsIdHexOfItsKind encodings
+all_of_their_kind encodings all = All-weaker IsIdHex IsIdHexOfItsKind of_its_kind encodings all
 
-pub first_id : (text : List ℕ) (texts : List (List ℕ)) → All IsHexOfItsKind (text ∷ texts) → IsHexOfAnId text
-first_id text texts all = of_an_id text (All-head IsHexOfItsKind text texts all)
+pub first_id : (bytes : List ℕ) (encodings : List (List ℕ)) → All IsIdHexOfItsKind (bytes ∷ encodings) → IsIdHex bytes
+first_id bytes encodings all = of_an_id bytes (All-head IsIdHexOfItsKind bytes encodings all)
 
-pub other_ids : (texts : List BStr) → 1 ≤ length texts → All IsHexOfItsKind (map bstr_bytes texts)
-    → All IsHexOfItsKind (map bstr_bytes (take (length texts - 1) (drop 1 texts)))
+pub other_ids : (encodings : List BStr) → 1 ≤ length encodings → All IsIdHexOfItsKind (map bstr_bytes encodings)
+    → All IsIdHexOfItsKind (map bstr_bytes (take (length encodings - 1) (drop 1 encodings)))
 other_ids [] least all = absurd (omega arith)
-other_ids (first ∷ texts) least all =
-    subst (λ it. All IsHexOfItsKind (map bstr_bytes it)) (sym (take_all (length {A = BStr} (first ∷ texts) - 1) texts (omega arith))) (All-tail IsHexOfItsKind (bstr_bytes first) (map bstr_bytes texts) all)
+other_ids (first ∷ encodings) least all =
+    subst (λ it. All IsIdHexOfItsKind (map bstr_bytes it)) (sym (take_all (length {A = BStr} (first ∷ encodings) - 1) encodings (omega arith)))
+    (All-tail IsIdHexOfItsKind (bstr_bytes first) (map bstr_bytes encodings) all)
 
-pub id_at : (texts : List BStr) (i : ℕ) (d : BStr) → i < length texts → All IsHexOfAnId (map bstr_bytes texts) → IsHexOfAnId (bstr_bytes (get_or texts i d))
+pub id_at : (encodings : List BStr) (i : ℕ) (d : BStr) → i < length encodings → All IsIdHex (map bstr_bytes encodings)
+    → IsIdHex (bstr_bytes (get_or encodings i d))
 id_at [] i d low all = absurd (omega arith)
-id_at (first ∷ texts) zero d low all = All-head IsHexOfAnId (bstr_bytes first) (map bstr_bytes texts) all
-id_at (first ∷ texts) (suc i) d low all = id_at texts i d (omega arith) (All-tail IsHexOfAnId (bstr_bytes first) (map bstr_bytes texts) all)
+id_at (first ∷ encodings) zero d low all = All-head IsIdHex (bstr_bytes first) (map bstr_bytes encodings) all
+id_at (first ∷ encodings) (suc i) d low all = id_at encodings i d (omega arith) (All-tail IsIdHex (bstr_bytes first) (map bstr_bytes encodings) all)

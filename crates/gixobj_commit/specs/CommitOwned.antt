@@ -1,9 +1,9 @@
--- Actors of commits taken apart, and commits with parts of their own.
+-- Owned copies of borrowed commits, and the times of actors.
 use Rattle.std.specs.Prelude.{◌≡◌, ◌⊎◌, ℕ, List, map}
 use Rattle.std.specs.List.{AllZip}
 use Rattle.bstr.specs.Owned.{bstring_bytes}
 use Rattle.gixobj_actor.specs.Actor.{IsActor, IsNoActor, IsOwnedActor, IsTimeOrDefault, NamesActor}
-use Rattle.gixobj_hash.specs.Hash.{Spells}
+use Rattle.gixobj_hash.specs.Hash.{DecodesToId}
 use Rattle.gixobj_fields.specs.HeaderReading.{owned_header_of}
 use Rattle.gixobj_actor.specs.declared.date.Time.{Time}
 use Rattle.gixobj_hash.specs.declared.decode.Error.{Error}
@@ -12,25 +12,25 @@ use Rattle.gixobj_commit.specs.Commit.{CommitLines}
 use Rattle.gixobj_hash.specs.Optional.{owned_bytes_if_some}
 use Rattle.gixobj_commit.specs.declared.commit.Commit.{Commit}
 
--- the time of the line's actor, or the default one
+-- the time of the line's actor, or the default time if the actor's is malformed
 pub record IsTimeOfLine (line : List ℕ) (it : Time) : Type 0 where
   pub name : List ℕ
   pub email : List ℕ
   pub time : List ℕ
   pub read : IsActor line name email time
-  pub said : IsTimeOrDefault time it
+  pub announced : IsTimeOrDefault time it
 
--- the commit with these lines, with parts of its own
+-- the owned commit has the parts of these lines, with ids, actors and times decoded
 pub record IsOwnedFormOfCommit (lines : CommitLines) (commit : Commit) : Type 0 where
-  pub tree : Spells lines.tree commit.tree
-  pub parents : AllZip Spells lines.parents commit.parents.items
+  pub tree : DecodesToId lines.tree commit.tree
+  pub parents : AllZip DecodesToId lines.parents commit.parents.items
   pub author : IsOwnedActor lines.author commit.author
   pub committer : IsOwnedActor lines.committer commit.committer
   pub encoding : owned_bytes_if_some commit.encoding ≡ lines.encoding
   pub message : bstring_bytes commit.message ≡ lines.message
   pub extra_headers : map owned_header_of commit.extra_headers.items ≡ lines.extra_headers
 
--- why a commit gets no parts of its own: a line of an actor is none, or memory ran out
-abbrev pub RefusesOwningCommit : CommitLines → Error → Type 0
-RefusesOwningCommit lines Malformed = IsNoActor lines.author ⊎ IsNoActor lines.committer
-RefusesOwningCommit lines OutOfMemory = NamesActor lines.author × NamesActor lines.committer
+-- why copying fails: an actor line is malformed; or memory ran out, and both actor lines are valid
+abbrev pub IsIntoOwnedCommitError : CommitLines → Error → Type 0
+IsIntoOwnedCommitError lines Malformed = IsNoActor lines.author ⊎ IsNoActor lines.committer
+IsIntoOwnedCommitError lines OutOfMemory = NamesActor lines.author × NamesActor lines.committer

@@ -1,16 +1,16 @@
--- Commits as their readers see them, wherever they lie.
+-- The views of borrowed and of owned commits.
 use Rattle.std.specs.Prelude.{All, map}
 use Rattle.bstr.specs.BStr.{bstr_bytes}
 use Rattle.bstr.specs.Owned.{bstring_bytes}
-use Rattle.gixobj_actor.specs.ActorWriting.{owned_text}
-use Rattle.gixobj_hash.specs.Hash.{hex_text}
+use Rattle.gixobj_actor.specs.ActorWriting.{encode_owned_actor}
+use Rattle.gixobj_hash.specs.Hash.{encode_id_hex}
 use Rattle.gixobj_fields.specs.HeaderReading.{BorrowsOneLine, header_of, owned_header_of}
 use Rattle.gixobj_commit.specs.Commit.{CommitLines}
 use Rattle.gixobj_commit.specs.declared.commit.Commit.{Commit}
 use Rattle.gixobj_commit.specs.declared.commit.CommitRef.{CommitRef}
 use Rattle.gixobj_hash.specs.Optional.{bytes_if_some, owned_bytes_if_some}
 
--- what a borrowed commit holds
+-- the parts of a borrowed commit
 abbrev pub commit_lines : CommitRef → CommitLines
 commit_lines commit = record {
   tree = bstr_bytes commit.tree;
@@ -22,17 +22,17 @@ commit_lines commit = record {
   message = bstr_bytes commit.message;
 }
 
--- values of headers of one line are borrowed, those of several are owned
+-- header values of one line are borrowed, values of several lines are owned
 abbrev pub BorrowsLines : CommitRef → Type 0
 BorrowsLines commit = All (λ header. BorrowsOneLine header.1) commit.extra_headers.items
 
--- what an owned commit holds: ids in lower case, actors and times as they are written
+-- the parts of an owned commit: ids in lower-case hex, and actors and times encoded
 abbrev pub owned_commit_lines : Commit → CommitLines
 owned_commit_lines commit = record {
-  tree = hex_text commit.tree;
-  parents = map hex_text commit.parents.items;
-  author = owned_text commit.author;
-  committer = owned_text commit.committer;
+  tree = encode_id_hex commit.tree;
+  parents = map encode_id_hex commit.parents.items;
+  author = encode_owned_actor commit.author;
+  committer = encode_owned_actor commit.committer;
   encoding = owned_bytes_if_some commit.encoding;
   extra_headers = map owned_header_of commit.extra_headers.items;
   message = bstring_bytes commit.message;

@@ -1,21 +1,21 @@
--- Commits as they are written, and what is refused.
+-- The encoder of commits, and what it rejects.
 use Rattle.std.specs.Prelude.{◌≡◌, ◌⊎◌, ℕ, List, [], ◌∷◌, ◌++◌, All, Option, Some, None, codes, map}
 use Rattle.std.specs.List.{flat_map}
 use Rattle.std.specs.Str.{str_to_ascii_lowercase}
 use Rattle.bstr.specs.BStr.{bstr_bytes}
 use Rattle.bstr.specs.declared.bstr.BStr.{BStr}
 use Rattle.gixobj_actor.specs.ActorWriting.{IsLegal}
-use Rattle.gixobj_hash.specs.Hash.{IsHexOfAnId, hex_text}
-use Rattle.gixobj_hash.specs.Hash.Hex.{spelled_id}
-use Rattle.gixobj_fields.specs.FieldWriting.{RefusesValue, header_text}
-use Rattle.gixobj_fields.specs.HeaderText.{field_text}
-use Rattle.gixobj_fields.specs.Writing.{Refused, illegal_actor}
-use Rattle.gixobj_commit.specs.Commit.{CommitLines, before_encoding, encoding_text, ids_text, parent_text}
+use Rattle.gixobj_hash.specs.Hash.{IsIdHex, encode_id_hex}
+use Rattle.gixobj_hash.specs.Hash.Hex.{decoded_id}
+use Rattle.gixobj_fields.specs.FieldWriting.{IsValueError, encode_header}
+use Rattle.gixobj_fields.specs.HeaderFormat.{encode_field}
+use Rattle.gixobj_fields.specs.Writing.{RejectedValue, illegal_actor}
+use Rattle.gixobj_commit.specs.Commit.{CommitLines, before_encoding, encode_encoding, encode_ids, encode_parent}
 use Rattle.gixobj_commit.specs.CommitViews.{owned_commit_lines}
 use Rattle.gixobj_commit.specs.declared.commit.Commit.{Commit}
 use Rattle.gixobj_hash.specs.Bytes.{newline, space}
 
--- a commit with its hex in lower case
+-- the commit with its ids in lower case
 abbrev pub in_lower_case : CommitLines → CommitLines
 in_lower_case commit = record {
   tree = str_to_ascii_lowercase commit.tree;
@@ -27,50 +27,54 @@ in_lower_case commit = record {
   message = commit.message;
 }
 
--- the line of the tree, and that of a parent, by the hex text of its id
+-- the line of the tree, from the hex of its id
 abbrev pub hex_tree : BStr → List ℕ
-hex_tree hex = field_text (codes "tree") (hex_text (spelled_id (bstr_bytes hex)))
+hex_tree hex = encode_field (codes "tree") (encode_id_hex (decoded_id (bstr_bytes hex)))
 
+-- the line of a parent, with its id in lower case
 abbrev pub hex_parent : BStr → List ℕ
-hex_parent hex = parent_text (str_to_ascii_lowercase (bstr_bytes hex))
+hex_parent hex = encode_parent (str_to_ascii_lowercase (bstr_bytes hex))
 
--- both, as they are put of a borrowed commit
+-- the lines of the tree and of the parents of a borrowed commit
 abbrev pub hex_lines : BStr → List BStr → List ℕ
 hex_lines tree parents = hex_tree tree ++ flat_map hex_parent parents
 
 -- what is written before the author's bytes
 abbrev pub before_author : CommitLines → List ℕ
-before_author commit = ids_text commit ++ codes "author" ++ space ∷ []
+before_author commit = encode_ids commit ++ codes "author" ++ space ∷ []
 
 -- what is written before the committer's bytes
 abbrev pub before_committer : CommitLines → List ℕ
-before_committer commit = ids_text commit ++ field_text (codes "author") commit.author ++ codes "committer" ++ space ∷ []
+before_committer commit = encode_ids commit ++ encode_field (codes "author") commit.author ++ codes "committer" ++ space
+    ∷ []
 
--- a commit as it is written
-abbrev pub commit_text : CommitLines → List ℕ
-commit_text commit = before_encoding commit ++ encoding_text commit.encoding ++ flat_map header_text commit.extra_headers ++ newline ∷ commit.message
+-- the encoding of a commit
+abbrev pub encode_commit : CommitLines → List ℕ
+encode_commit commit = before_encoding commit ++ encode_encoding commit.encoding ++ flat_map encode_header
+    commit.extra_headers ++ newline ∷ commit.message
 
--- an encoding is refused that is empty or has a newline
-abbrev pub RefusesEncoding : Option (List ℕ) → Refused → Type 0
-RefusesEncoding None value = ⊥
-RefusesEncoding (Some encoding) value = RefusesValue encoding value
+-- a message encoding is rejected if it is empty or has a newline
+abbrev pub IsEncodingError : Option (List ℕ) → RejectedValue → Type 0
+IsEncodingError None value = ⊥
+IsEncodingError (Some encoding) value = IsValueError encoding value
 
--- an encoding is refused before any byte of its line
-abbrev pub RefusesEncodingLine : Option (List ℕ) → Refused → List ℕ → Type 0
-RefusesEncodingLine encoding value parts = RefusesEncoding encoding value × (parts ≡ [])
+-- a message encoding is rejected before any byte of its line
+abbrev pub IsEncodingLineError : Option (List ℕ) → RejectedValue → List ℕ → Type 0
+IsEncodingLineError encoding value parts = IsEncodingError encoding value × (parts ≡ [])
 
--- a borrowed commit is refused for its encoding alone
-abbrev pub RefusesCommitLines : CommitLines → Refused → List ℕ → Type 0
-RefusesCommitLines commit value parts = RefusesEncoding commit.encoding value × (parts ≡ before_encoding commit)
+-- a borrowed commit is rejected only for its message encoding, after all lines before it
+abbrev pub IsCommitLinesError : CommitLines → RejectedValue → List ℕ → Type 0
+IsCommitLinesError commit value parts = IsEncodingError commit.encoding value × (parts ≡ before_encoding commit)
 
--- an owned commit is refused for its author, or else its committer, or else its encoding
-abbrev pub RefusesOwnedCommit : Commit → Refused → List ℕ → Type 0
-RefusesOwnedCommit commit value parts =
+-- an owned commit is rejected for its author, else for its committer, else for its message encoding
+abbrev pub IsOwnedCommitError : Commit → RejectedValue → List ℕ → Type 0
+IsOwnedCommitError commit value parts =
     (¬ (IsLegal commit.author) × (value ≡ illegal_actor) × (parts ≡ before_author (owned_commit_lines commit)))
-    ⊎ ((IsLegal commit.author × ¬ (IsLegal commit.committer) × (value ≡ illegal_actor) × (parts ≡ before_committer (owned_commit_lines commit)))
-    ⊎ (IsLegal commit.author × IsLegal commit.committer × RefusesCommitLines (owned_commit_lines commit) value parts))
+    ⊎ ((IsLegal commit.author × ¬ (IsLegal commit.committer) × (value ≡ illegal_actor)
+    × (parts ≡ before_committer (owned_commit_lines commit)))
+    ⊎ (IsLegal commit.author × IsLegal commit.committer × IsCommitLinesError (owned_commit_lines commit) value parts))
 
 -- the hex fields of a commit are ids
 pub record HasIds (commit : CommitLines) : Type 0 where
-  pub tree : IsHexOfAnId commit.tree
-  pub parents : All IsHexOfAnId commit.parents
+  pub tree : IsIdHex commit.tree
+  pub parents : All IsIdHex commit.parents

@@ -1,22 +1,22 @@
--- Headers of commits, found by their names.
+-- Searches of a commit's headers by name.
 use Rattle.std.specs.Prelude.{◌≡◌, ◌≢◌, ℕ, suc, List, [], ◌∷◌, ◌++◌, All, Option, None, Some, MatchOption, codes, length, map}
 use Rattle.std.specs.Iterator.{Yields, YieldsThen}
 use Rattle.std.specs.List.{filter}
 use Rattle.std.specs.Str.{bytes_eq}
 use Rattle.bstr.specs.BStr.{bstr_bytes}
 use Rattle.bstr.specs.declared.bstr.BStr.{BStr}
-use Rattle.gixobj_fields.specs.HeaderText.{Header}
+use Rattle.gixobj_fields.specs.HeaderFormat.{Header}
 use Rattle.gixobj_commit.specs.declared.extra_headers.ExtraHeaders.{ExtraHeaders}
 use Rattle.gixobj_commit.specs.declared.extra_headers.FindAll.{FindAll}
 use Rattle.gixobj_hash.specs.declared.hash.kind.Kind.{Kind}
 use Rattle.gixobj_hash.specs.declared.hash.kind.Kind.TheVariants as hash
 
--- the name of the header with a commit's signature (gitformat-signature, "Commit signatures")
+-- the name of the signature header of a commit (gitformat-signature, "Commit signatures")
 abbrev pub signature_field : Kind → List ℕ
 signature_field hash.Sha1 = codes "gpgsig"
 signature_field hash.Sha256 = codes "gpgsig-sha256"
 
--- the iterator that gives the headers
+-- the iterator that yields the headers
 abbrev pub iterator_of : {I : Type 0} → ExtraHeaders I → I
 iterator_of headers = headers.inner
 
@@ -24,15 +24,15 @@ iterator_of headers = headers.inner
 abbrev pub hash_kind_of : {I : Type 0} → ExtraHeaders I → Kind
 hash_kind_of headers = headers.hash_kind
 
--- the iterator that gives the headers among which all of a name are searched
+-- the iterator that yields the searched headers
 abbrev pub searched : {I : Type 0} → FindAll I → I
 searched values = values.inner
 
--- the name that is searched
-abbrev pub sought : {I : Type 0} → FindAll I → List ℕ
-sought values = values.name.now
+-- the name that is searched for
+abbrev pub searched_name : {I : Type 0} → FindAll I → List ℕ
+searched_name values = values.name.now
 
--- a header that an iterator gave: a name and a value
+-- a yielded header: a name and a value
 abbrev pub pair_of : BStr × BStr → Header
 pair_of it = record { name = bstr_bytes it.0; value = bstr_bytes it.1 }
 
@@ -41,45 +41,52 @@ abbrev pub header_at : List ℕ → BStr → Header
 header_at name value = record { name = name; value = bstr_bytes value }
 
 -- no header has this name
-abbrev pub LacksHeader : List ℕ → List Header → Type 0
-LacksHeader name headers = All (λ it. it.name ≢ name) headers
+abbrev pub HasNoHeaderNamed : List ℕ → List Header → Type 0
+HasNoHeaderNamed name headers = All (λ it. it.name ≢ name) headers
 
--- the first header of this name has this value, and stands behind these others and before this rest
+-- the first header of this name has this value; these others come before it, and this rest after it
 abbrev pub HasFirstHeader : List ℕ → List Header → List Header → BStr → List Header → Type 0
-HasFirstHeader name headers others value rest = LacksHeader name others × (headers ≡ others ++ header_at name value ∷ rest)
+HasFirstHeader name headers others value rest = HasNoHeaderNamed name others
+    × (headers ≡ others ++ header_at name value ∷ rest)
 
--- the value of the first header of this name, or none where no header has it
+-- the value of the first header of this name, or none if no header has it
 abbrev pub IsFirstValue : List ℕ → List Header → Option BStr → Type 0
-IsFirstValue name headers result = MatchOption result (LacksHeader name headers) (λ value. (others rest : List Header) × HasFirstHeader name headers others value rest)
+IsFirstValue name headers result = MatchOption result (HasNoHeaderNamed name headers)
+    (λ value. (others rest : List Header) × HasFirstHeader name headers others value rest)
 
--- the place from 0 of the first header of this name, or none where no header has it
+-- the position, from 0, of the first header of this name, or none if no header has it
 abbrev pub IsFirstPlace : List ℕ → List Header → Option ℕ → Type 0
-IsFirstPlace name headers result = MatchOption result (LacksHeader name headers)
-    (λ place. (others rest : List Header) × (value : BStr) × HasFirstHeader name headers others value rest × (place ≡ length others))
+IsFirstPlace name headers result = MatchOption result (HasNoHeaderNamed name headers)
+    (λ place. (others rest : List Header) × (value : BStr) × HasFirstHeader name headers others value rest
+    × (place ≡ length others))
 
 -- the values of all headers of this name, in order
 abbrev pub values_named : List ℕ → List Header → List (List ℕ)
 values_named name headers = map (λ it. it.value) (filter (λ it. bytes_eq it.name name) headers)
 
 module _ {S : Type 0} (steps : S → Option (BStr × BStr) → S → Type 0) (name : List ℕ) where
-  -- calls from one state to another gave these headers, and no more: the last is the first of this name, or they are all and none has it
+  -- the calls from one state to another yielded these headers: up to the first of this name, or all of them if none has
+  -- it
   abbrev pub Gave : S → List (BStr × BStr) → Option BStr → S → Type 0
-  Gave from given None to = YieldsThen steps from given None to × LacksHeader name (map pair_of given)
-  Gave from given (Some value) to = Yields steps from given to × (others : List Header) × HasFirstHeader name (map pair_of given) others value []
+  Gave from passed None to = YieldsThen steps from passed None to × HasNoHeaderNamed name (map pair_of passed)
+  Gave from passed (Some value) to = Yields steps from passed to × (others : List Header)
+      × HasFirstHeader name (map pair_of passed) others value []
 
-  -- the next value of this name, or none where none comes
-  abbrev pub GivesValue : S → Option BStr → S → Type 0
-  GivesValue from result to = (given : List (BStr × BStr)) × Gave from given result to
+  -- the next value of this name, or none if the iterator ends first
+  abbrev pub NextValue : S → Option BStr → S → Type 0
+  NextValue from result to = (passed : List (BStr × BStr)) × Gave from passed result to
 
-  -- the value of the first header of this name that comes, or none where none comes
+  -- the value of the first header of this name that the iterator yields, or none if it yields none
   abbrev pub FindsValue : S → Option BStr → Type 0
-  FindsValue from result = (to : S) × GivesValue from result to
+  FindsValue from result = (to : S) × NextValue from result to
 
-  -- how many headers come before the first of this name, or none where none comes
+  -- the number of headers that the iterator yields before the first of this name, or none if it yields none
   abbrev pub FindsPlace : S → Option ℕ → Type 0
-  FindsPlace from result = (given : List (BStr × BStr)) × (to : S) × MatchOption result (Gave from given None to)
-      (λ place. (value : BStr) × Gave from given (Some value) to × (length given ≡ suc place))
+  FindsPlace from result = (passed : List (BStr × BStr)) × (to : S) × MatchOption result (Gave from passed None to)
+      (λ place. (value : BStr) × Gave from passed (Some value) to × (length passed ≡ suc place))
 
--- one call of a search for all values of a name: the next of them, or none where none comes
-abbrev pub GivesAll : {S : Type 0} → (S → Option (BStr × BStr) → S → Type 0) → FindAll S → Option BStr → FindAll S → Type 0
-GivesAll steps before result after = (sought after ≡ sought before) × GivesValue steps (sought before) (searched before) result (searched after)
+-- one step of a search for all values of a name: the next of them, or none at the end
+abbrev pub NextOfAll : {S : Type 0} → (S → Option (BStr × BStr) → S → Type 0) → FindAll S → Option BStr → FindAll S
+    → Type 0
+NextOfAll steps before result after = (searched_name after ≡ searched_name before)
+    × NextValue steps (searched_name before) (searched before) result (searched after)

@@ -1,4 +1,4 @@
--- A commit put together of its lines.
+-- A commit built from its lines, one by one.
 use Rattle.std.specs.Prelude.{◌≡◌, ◌≢◌, ℕ, List, [], ◌∷◌, ◌++◌, Some, None, ⊤}
 use Rattle.gixobj_fields.specs.Runs.{Passes}
 use Rattle.gixobj_hash.specs.declared.hash.kind.Kind.{Kind}
@@ -7,7 +7,7 @@ use Rattle.gixobj_line.specs.Lines.{HasLine, LineView, author_line, committer_li
 use Rattle.gixobj_line.specs.declared.lines.State.{State}
 use Rattle.gixobj_line.specs.declared.lines.State.TheVariants as state
 
--- the commit with this line put into it: behind the parents and headers that it has, or in its place
+-- the commit with this line: a parent or a header is appended, any other line sets its field
 abbrev pub gather : CommitLines → LineView → CommitLines
 gather commit (tree_line hex) = record commit { tree = hex }
 gather commit (parent_line hex) = record commit { parents = commit.parents ++ hex ∷ [] }
@@ -17,21 +17,30 @@ gather commit (encoding_line encoding) = record commit { encoding = Some encodin
 gather commit (header_line header) = record commit { extra_headers = commit.extra_headers ++ header ∷ [] }
 gather commit (message_line message) = record commit { message = message }
 
--- the commit with all these lines put into it
+-- the commit with all these lines, in order
 abbrev pub gathered : CommitLines → List LineView → CommitLines
 gathered commit [] = commit
 gathered commit (line ∷ lines) = gathered (gather commit line) lines
 
 -- a commit without any line
-abbrev pub nothing : CommitLines
-nothing = record { tree = []; parents = []; author = []; committer = []; encoding = None; extra_headers = []; message = [] }
+abbrev pub empty_commit : CommitLines
+empty_commit = record {
+  tree = [];
+  parents = [];
+  author = [];
+  committer = [];
+  encoding = None;
+  extra_headers = [];
+  message = [];
+}
 
--- the line takes memory: it is not the first parent, or it is a header
-abbrev pub TakesMemory : CommitLines → LineView → Type 0
-TakesMemory commit (parent_line hex) = commit.parents ≢ []
-TakesMemory commit (header_line header) = ⊤
-TakesMemory commit _ = ⊥
+-- the line allocates: it is a parent after the first, or an extra header
+abbrev pub Allocates : CommitLines → LineView → Type 0
+Allocates commit (parent_line hex) = commit.parents ≢ []
+Allocates commit (header_line header) = ⊤
+Allocates commit _ = ⊥
 
--- the text begins with the lines of this commit so far, and goes on with the rest in this state
+-- the bytes begin with the lines of the commit that was built so far, and the rest follows in this state
 abbrev pub Gathers : Kind → List ℕ → State → List ℕ → CommitLines → Type 0
-Gathers kind text behind rest commit = (lines : List LineView) × Passes (HasLine kind) state.Tree text lines behind rest × (commit ≡ gathered nothing lines)
+Gathers kind bytes after rest commit = (lines : List LineView) × Passes (HasLine kind) state.Tree bytes lines after rest
+    × (commit ≡ gathered empty_commit lines)

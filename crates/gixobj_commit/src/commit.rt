@@ -1,18 +1,18 @@
-//! Commits (gitdatamodel, "commits").
+//! Borrowed and owned commits, their fields and conversions (gitdatamodel, "commits").
 ghost use Rattle.std.specs.Prelude.{◌≡◌, All, IfErr, IfOk, map};
 ghost use Rattle.std.specs.List.{AllZip};
 ghost use Rattle.bstr.specs.BStr.{bstr_bytes};
 ghost use Rattle.gixobj_actor.specs.Actor.{IsActor, IsNoActor, IsTrimmedActor};
-ghost use Rattle.gixobj_hash.specs.Hash.{IsHexOfAnId, Spells, id_kind};
+ghost use Rattle.gixobj_hash.specs.Hash.{IsIdHex, DecodesToId, id_kind};
 ghost use Rattle.gixobj_fields.specs.HeaderReading.{owned_header_of};
 ghost use Rattle.gixobj_hash.specs.declared.decode.Error.TheVariants.{Malformed};
-ghost use Rattle.gixobj_commit.specs.ParentsLeft.{parents_left};
-ghost use Rattle.gixobj_commit.specs.CommitOwned.{IsOwnedFormOfCommit, IsTimeOfLine, RefusesOwningCommit};
+ghost use Rattle.gixobj_commit.specs.RemainingParents.{remaining_parents};
+ghost use Rattle.gixobj_commit.specs.CommitOwned.{IsOwnedFormOfCommit, IsTimeOfLine, IsIntoOwnedCommitError};
 ghost use Rattle.gixobj_commit.specs.CommitViews.{commit_lines};
 ghost use Rattle.gixobj_commit.specs.CommitWriting.{HasIds};
 ghost use Rattle.gixobj_commit.specs.ExtraHeaders.{hash_kind_of, iterator_of};
-ghost use Rattle.gixobj_commit.specs.HeadersLeft.{headers_left, owned_headers_left};
-ghost use Rattle.gixobj_hash.specs.Hash.Hex.{IsHexOf};
+ghost use Rattle.gixobj_commit.specs.RemainingHeaders.{remaining_headers, remaining_owned_headers};
+ghost use Rattle.gixobj_hash.specs.Hash.Hex.{IsIdHexOfKind};
 
 mod decode;
 mod message;
@@ -35,109 +35,158 @@ use smallvec::SmallVec;
 use std::alloc::Global;
 use std::borrow::CowSlice;
 
-/// A commit, borrowed: its fields as they stand in its text.
+/// A commit that borrows its fields from its encoding. [`CommitRef::from_bytes`] decodes one.
 #[derive(Clone, Debug, Drop, PartialEq, Eq, PartialOrd, Ord, Hash)]
 pub struct CommitRef<'a> {
-    /// The hex text of the tree's id. [`CommitRef::tree`] is the id.
+    /// The hex digits of the tree's id. [`CommitRef::tree`] decodes them.
     pub tree: BStr<'a>,
-    /// The hex texts of the parents' ids, none for a first commit. [`CommitRef::parents`] are the ids.
+    /// The hex digits of each parent's id, none for a root commit. [`CommitRef::parents`] decodes them.
     pub parents: SmallVec<BStr<'a>, 1>,
-    /// The line of the author, white space and all. [`CommitRef::author`] takes it apart.
+    /// The value of the `author` line, white space included. [`CommitRef::author`] decodes it.
     pub author: BStr<'a>,
-    /// The line of the committer, white space and all. [`CommitRef::committer`] takes it apart.
+    /// The value of the `committer` line, white space included. [`CommitRef::committer`] decodes it.
     pub committer: BStr<'a>,
-    /// The name of the message's encoding, which is UTF-8 without one (git-commit, "DISCUSSION").
+    /// The name of the message's character encoding, UTF-8 if absent (git-commit, "DISCUSSION").
     pub encoding: Option<BStr<'a>>,
-    /// The message in that encoding, bytes as they stand.
+    /// The message in that character encoding, as unchanged bytes.
     pub message: BStr<'a>,
-    /// The headers behind these, a name and a value each, in the order in which they stand.
+    /// The other headers, as pairs of name and value, in the order of the encoding.
     pub extra_headers: Vec<(BStr<'a>, CowSlice<'a, u8>)>,
 }
 
-/// A commit, owned.
+/// An owned commit, to be changed, encoded or signed. [`CommitRef::into_owned`] copies a decoded one.
 #[derive(Clone, Debug, Drop, PartialEq, Eq, PartialOrd, Ord, Hash)]
 pub struct Commit {
     /// The id of the tree.
     pub tree: ObjectId,
-    /// The ids of the parents, none for a first commit.
+    /// The ids of the parents, none for a root commit.
     pub parents: SmallVec<ObjectId, 1>,
-    /// Who made the change.
+    /// Who made the change, and when.
     pub author: Signature,
-    /// Who made the commit.
+    /// Who made the commit, and when.
     pub committer: Signature,
-    /// The name of the message's encoding, which is UTF-8 without one (git-commit, "DISCUSSION").
+    /// The name of the message's character encoding, UTF-8 if absent (git-commit, "DISCUSSION").
     pub encoding: Option<BString>,
-    /// The message in that encoding, bytes as they stand.
+    /// The message in that character encoding, as unchanged bytes.
     pub message: BString,
-    /// The headers behind these, a name and a value each, in the order in which they are written.
+    /// The other headers, as pairs of name and value, in the order in which they are written.
     pub extra_headers: Vec<(BString, BString)>,
 }
 
 /// Access
 impl<'a> CommitRef<'a> {
-    /// The id of the tree. It takes no memory.
+    /// Returns the id of the tree. Allocates nothing.
     ///
-    /// The tree's hex field must be an id, as that of every commit that was read is.
+    /// The `tree` field has to be a hex id, as [`CommitRef::from_bytes`] ensures.
     pub fn tree(&self) -> ObjectId
-        requires { IsHexOfAnId (commit_lines self.now).tree }
-        ensures { Spells (commit_lines self.now).tree result }
+        requires { IsIdHex (commit_lines self.now).tree }
+        ensures { DecodesToId (commit_lines self.now).tree result }
     {
         id_of_hex(self.tree)
     }
 
-    /// The ids of the parents, in order. It takes no memory.
+    /// Returns an iterator over the ids of the parents, in order. Allocates nothing.
     ///
-    /// Their hex fields must be ids, as those of every commit that was read are.
-    #[tactic(auto, using(gixobj_hash::proofs::HexIds::all_spelled))]
+    /// Each of the `parents` has to be a hex id, as [`CommitRef::from_bytes`] ensures.
+    ///
+    /// # Examples
+    ///
+    /// ```rust
+    /// let commit = store.find_commit(alloc, id.as_oid(), &mut buffer)?;
+    /// match commit.parents().next() {
+    ///     Some(parent) => id = parent,
+    ///     None => return Ok(None),
+    /// }
+    /// ```
+    #[tactic(auto, using(gixobj_hash::proofs::HexIds::all_decode))]
     pub fn parents(&self) -> Parents<'_>
-        requires { All IsHexOfAnId (commit_lines self.now).parents }
-        ensures { AllZip Spells (commit_lines self.now).parents (parents_left result) }
+        requires { All IsIdHex (commit_lines self.now).parents }
+        ensures { AllZip DecodesToId (commit_lines self.now).parents (remaining_parents result) }
     {
         Parents::new(self.parents.as_slice())
     }
 
-    /// The headers behind the author, the committer and the encoding. It takes no memory.
+    /// Returns the headers after the author, the committer and the encoding. Allocates nothing.
     ///
-    /// The tree's hex field must be an id, as that of every commit that was read is: it tells the kind of ids.
+    /// The `tree` field sets the kind of ids. It has to be a hex id, as [`CommitRef::from_bytes`] ensures.
+    ///
+    /// # Examples
+    ///
+    /// ```rust
+    /// let commit = CommitRef::from_bytes(alloc, bytes, HashKind::Sha1)?;
+    /// let is_signed = commit.extra_headers().pgp_signature().is_some();
+    /// let merges_a_tag = commit.extra_headers().find("mergetag").is_some();
+    /// Ok((is_signed, merges_a_tag))
+    /// ```
     pub fn extra_headers(&self) -> ExtraHeaders<BorrowedHeaders<'_, 'a>>
-        requires { IsHexOfAnId (commit_lines self.now).tree }
-        ensures headers { headers_left (iterator_of result)
+        requires { IsIdHex (commit_lines self.now).tree }
+        ensures headers { remaining_headers (iterator_of result)
             ≡ (commit_lines self.now).extra_headers }
-        ensures hash_kind { IsHexOf (hash_kind_of result) (commit_lines self.now).tree }
+        ensures hash_kind { IsIdHexOfKind (hash_kind_of result) (commit_lines self.now).tree }
     {
         let hash_kind = self.tree().kind();
         ExtraHeaders::new(BorrowedHeaders::new(&self.extra_headers), hash_kind)
     }
 
-    /// The author, without white space at the ends of name, email and time.
+    /// Decodes the author, with white space trimmed from name, email and time. Allocates nothing.
     ///
-    /// `Malformed` where the line is no actor's. It takes no memory.
+    /// # Errors
+    ///
+    /// [`Error::Malformed`] if the `author` line is malformed.
+    ///
+    /// # Examples
+    ///
+    /// ```rust
+    /// Ok(LogLine {
+    ///     tree: commit.tree(),
+    ///     parents: commit.parents().collect(alloc)?,
+    ///     author: commit.author()?.name,
+    ///     seconds: commit.time()?.seconds,
+    ///     title: commit.message().title,
+    /// })
+    /// ```
     pub fn author(&self) -> Result<SignatureRef<'a>, Error>
         ensures found { IfOk result (IsTrimmedActor (commit_lines self.now).author) }
-        ensures refusal { IfErr result (λ e. (e ≡ Malformed)
+        ensures error { IfErr result (λ e. (e ≡ Malformed)
             × IsNoActor (commit_lines self.now).author) }
     {
         trimmed_actor(self.author)
     }
 
-    /// The committer, without white space at the ends of name, email and time.
+    /// Decodes the committer, with white space trimmed from name, email and time. Allocates nothing.
     ///
-    /// `Malformed` where the line is no actor's. It takes no memory.
+    /// # Errors
+    ///
+    /// [`Error::Malformed`] if the `committer` line is malformed.
     pub fn committer(&self) -> Result<SignatureRef<'a>, Error>
         ensures found { IfOk result (IsTrimmedActor (commit_lines self.now).committer) }
-        ensures refusal { IfErr result (λ e. (e ≡ Malformed)
+        ensures error { IfErr result (λ e. (e ≡ Malformed)
             × IsNoActor (commit_lines self.now).committer) }
     {
         trimmed_actor(self.committer)
     }
 
-    /// When the commit was made: the time of the committer's line as it stands, or the start of 1970
-    /// in UTC where that says no time.
+    /// Decodes when the commit was made: seconds since the epoch and the offset from UTC in seconds, from the
+    /// untrimmed `committer` line. An invalid time decodes as the epoch in UTC. Allocates nothing.
     ///
-    /// `Malformed` where the line is no actor's. It takes no memory.
+    /// # Errors
+    ///
+    /// [`Error::Malformed`] if the `committer` line is malformed.
+    ///
+    /// # Examples
+    ///
+    /// ```rust
+    /// Ok(LogLine {
+    ///     tree: commit.tree(),
+    ///     parents: commit.parents().collect(alloc)?,
+    ///     author: commit.author()?.name,
+    ///     seconds: commit.time()?.seconds,
+    ///     title: commit.message().title,
+    /// })
+    /// ```
     pub fn time(&self) -> Result<Time, Error>
         ensures found { IfOk result (IsTimeOfLine (commit_lines self.now).committer) }
-        ensures refusal { IfErr result (λ e. (e ≡ Malformed)
+        ensures error { IfErr result (λ e. (e ≡ Malformed)
             × IsNoActor (commit_lines self.now).committer) }
     {
         let actor = actor_of_line(self.committer)?;
@@ -150,26 +199,44 @@ impl<'a> CommitRef<'a> {
 
 /// Conversion
 impl CommitRef<'_> {
-    /// The same commit, with parts of its own: ids, actors as they stand, their times, and copies of
-    /// the rest. A time is the start of 1970 in UTC where its text says none.
+    /// Copies the commit into an owned one, with ids, untrimmed actors and times decoded. An invalid time
+    /// becomes the epoch in UTC. The hex fields have to be ids, as [`CommitRef::from_bytes`] ensures.
+    /// Allocates the copy.
     ///
-    /// The hex fields must be ids, as those of every commit that was read are.
+    /// # Errors
     ///
-    /// `Malformed` where the line of the author or of the committer is no actor's, and else
-    /// `OutOfMemory` where memory runs out.
+    /// - [`Error::Malformed`] if the `author` or the `committer` line is malformed.
+    /// - [`Error::OutOfMemory`] otherwise, if an allocation fails.
+    ///
+    /// # Examples
+    ///
+    /// ```rust
+    /// pub fn reworded(alloc: Global, bytes: &[u8], message: BString) -> Result<Commit, decode::Error> {
+    ///     let mut commit = CommitRef::from_bytes(alloc, bytes, HashKind::Sha1)?.into_owned(alloc)?;
+    ///     commit.message = message;
+    ///     commit.extra_headers.clear();
+    ///     Ok(commit)
+    /// }
+    /// ```
     pub fn into_owned(self, alloc: Global) -> Result<Commit, Error>
         requires { HasIds (commit_lines self) }
         ensures owned { IfOk result (IsOwnedFormOfCommit (commit_lines self.entry)) }
-        ensures refusal { IfErr result (RefusesOwningCommit (commit_lines self.entry)) }
+        ensures error { IfErr result (IsIntoOwnedCommitError (commit_lines self.entry)) }
     {
         owned_copy(alloc, &self)
     }
 
-    /// What [`CommitRef::into_owned`] gives. The hex fields must be ids, as those of every commit that was read are.
+    /// Copies the commit into an owned one, by [`CommitRef::into_owned`]. The hex fields have to be ids, as
+    /// [`CommitRef::from_bytes`] ensures. Allocates the copy.
+    ///
+    /// # Errors
+    ///
+    /// - [`Error::Malformed`] if the `author` or the `committer` line is malformed.
+    /// - [`Error::OutOfMemory`] otherwise, if an allocation fails.
     pub fn to_owned(self, alloc: Global) -> Result<Commit, Error>
         requires { HasIds (commit_lines self) }
         ensures owned { IfOk result (IsOwnedFormOfCommit (commit_lines self.entry)) }
-        ensures refusal { IfErr result (RefusesOwningCommit (commit_lines self.entry)) }
+        ensures error { IfErr result (IsIntoOwnedCommitError (commit_lines self.entry)) }
     {
         self.into_owned(alloc)
     }
@@ -177,9 +244,9 @@ impl CommitRef<'_> {
 
 /// Access
 impl Commit {
-    /// The headers behind the author, the committer and the encoding. It takes no memory.
+    /// Returns the headers after the author, the committer and the encoding. Allocates nothing.
     pub fn extra_headers(&self) -> ExtraHeaders<OwnedHeaders<'_>>
-        ensures headers { owned_headers_left (iterator_of result)
+        ensures headers { remaining_owned_headers (iterator_of result)
             ≡ map owned_header_of self.now.extra_headers.items }
         ensures hash_kind { hash_kind_of result ≡ id_kind self.now.tree }
     {
@@ -187,12 +254,17 @@ impl Commit {
     }
 }
 
-/// What [`CommitRef::into_owned`] gives, of a commit that is only borrowed. Its hex fields must be ids, as those of
-/// every commit that was read are.
+/// Copies a borrowed commit into an owned one, by the rules of [`CommitRef::into_owned`]. The hex fields have
+/// to be ids, as [`CommitRef::from_bytes`] ensures. Allocates the copy.
+///
+/// # Errors
+///
+/// - [`Error::Malformed`] if the `author` or the `committer` line is malformed.
+/// - [`Error::OutOfMemory`] otherwise, if an allocation fails.
 pub fn owned_copy(alloc: Global, commit: &CommitRef<'_>) -> Result<Commit, Error>
     requires { HasIds (commit_lines commit.now) }
     ensures owned { IfOk result (IsOwnedFormOfCommit (commit_lines commit.now)) }
-    ensures refusal { IfErr result (RefusesOwningCommit (commit_lines commit.now)) }
+    ensures error { IfErr result (IsIntoOwnedCommitError (commit_lines commit.now)) }
 {
     let author = actor_of_line(commit.author)?;
     let committer = actor_of_line(commit.committer)?;

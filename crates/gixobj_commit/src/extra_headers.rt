@@ -1,10 +1,10 @@
-//! The headers of commits behind those that each has.
+//! The extra headers of commits, searched by name: signatures and merged tags.
 ghost use Rattle.std.specs.Prelude.{◌≡◌, ◌↔◌, ◌<◌, ◌^◌, IsTrue, codes, map};
 ghost use Rattle.bstr.specs.BStr.{bstr_bytes};
 ghost use Rattle.std.specs.Iterator.{IsFinite, MakesProgress, size};
 ghost use Rattle.gixobj_fields.specs.HeaderReading.{header_of, owned_header_of};
-ghost use Rattle.gixobj_commit.specs.ExtraHeaders.{FindsPlace, FindsValue, GivesValue, hash_kind_of, iterator_of, searched, signature_field, sought};
-ghost use Rattle.gixobj_commit.specs.HeadersLeft.{headers_left, owned_headers_left};
+ghost use Rattle.gixobj_commit.specs.ExtraHeaders.{FindsPlace, FindsValue, NextValue, hash_kind_of, iterator_of, searched, signature_field, searched_name};
+ghost use Rattle.gixobj_commit.specs.RemainingHeaders.{remaining_headers, remaining_owned_headers};
 ghost use Rattle.gixobj_commit.specs.Mergetags.{IsTagOf, mergetag_kind, mergetag_values};
 
 use bstr::{BStr, BString};
@@ -13,14 +13,14 @@ use gixobj_hash::hash::Kind;
 use gixobj_tag::TagRef;
 use std::borrow::CowSlice;
 
-/// The name of the header with the signature of a commit whose ids are of SHA-1.
+/// The name of the signature header of a commit with SHA-1 ids.
 pub const SIGNATURE_FIELD_NAME: &str = "gpgsig";
 
-/// The name of the header with the signature of a commit whose ids are of SHA-256.
+/// The name of the signature header of a commit with SHA-256 ids.
 pub const SIGNATURE_FIELD_NAME_SHA256: &str = "gpgsig-sha256";
 
-/// The name of the header with the signature of a commit whose ids are of this kind
-/// (gitformat-signature, "Commit signatures"). It takes no memory.
+/// Returns the name of the signature header of a commit with ids of this kind (gitformat-signature, "Commit
+/// signatures"). Allocates nothing.
 pub fn signature_field_name(hash_kind: Kind) -> &'static str
     ensures { result.now ≡ signature_field hash_kind }
 {
@@ -30,7 +30,8 @@ pub fn signature_field_name(hash_kind: Kind) -> &'static str
     }
 }
 
-/// The headers that an iterator gives, to be found by their names.
+/// The extra headers of a commit, searched by name. [`crate::CommitRef::extra_headers`] and
+/// [`crate::Commit::extra_headers`] return them.
 #[derive(Drop)]
 pub struct ExtraHeaders<I> {
     inner: I,
@@ -39,7 +40,8 @@ pub struct ExtraHeaders<I> {
 
 /// Initialization
 impl<'a, I: Iterator<Item = (BStr<'a>, BStr<'a>)> + Drop> ExtraHeaders<I> {
-    /// The headers, a name and a value each, of a commit with ids of this kind. It takes no memory.
+    /// Wraps an iterator over the headers, as pairs of name and value, of a commit with ids of this kind.
+    /// Allocates nothing.
     pub fn new(iter: I, hash_kind: Kind) -> ExtraHeaders<I>
         ensures headers { iterator_of result ≡ iter }
         ensures hash_kind { hash_kind_of result ≡ hash_kind }
@@ -53,9 +55,9 @@ impl<'a, I: Iterator<Item = (BStr<'a>, BStr<'a>)> + Drop> ExtraHeaders<I> {
 
 /// Access
 impl<'a, I: Iterator<Item = (BStr<'a>, BStr<'a>)> + Drop> ExtraHeaders<I> {
-    /// The value of the first header of this name, or none. It takes no memory.
+    /// Finds the value of the first header of this name. Allocates nothing.
     pub fn find(self, name: &str) -> Option<BStr<'a>>
-        requires can { I.can_next (iterator_of self) }
+        requires can_next { I.can_next (iterator_of self) }
         requires ends { IsFinite (I.remaining (iterator_of self)) }
         ensures { FindsValue I.next_gives name.now (iterator_of self) result }
     {
@@ -63,10 +65,10 @@ impl<'a, I: Iterator<Item = (BStr<'a>, BStr<'a>)> + Drop> ExtraHeaders<I> {
         next_value(&mut headers, name)
     }
 
-    /// The place of the first header of this name, counted from 0, or none. It takes no memory.
+    /// Finds the position, from 0, of the first header of this name. Allocates nothing.
     #[tactic(auto, using(crate::proofs::HeaderSearches::none_before, crate::proofs::HeaderSearches::one_more))]
     pub fn find_pos(self, name: &str) -> Option<usize>
-        requires can { I.can_next (iterator_of self) }
+        requires can_next { I.can_next (iterator_of self) }
         requires ends { IsFinite (I.remaining (iterator_of self)) }
         requires fits { size (I.remaining (iterator_of self)) < 2 ^ 64 }
         ensures { FindsPlace I.next_gives name.now (iterator_of self) result }
@@ -81,10 +83,10 @@ impl<'a, I: Iterator<Item = (BStr<'a>, BStr<'a>)> + Drop> ExtraHeaders<I> {
         None
     }
 
-    /// The values of all headers of this name, in order. It takes no memory.
+    /// Returns an iterator over the values of all headers of this name, in order. Allocates nothing.
     pub fn find_all(self, name: &'a str) -> FindAll<'a, I>
         ensures headers { searched result ≡ iterator_of self }
-        ensures name { sought result ≡ name.now }
+        ensures name { searched_name result ≡ name.now }
     {
         FindAll {
             inner: self.inner,
@@ -92,11 +94,11 @@ impl<'a, I: Iterator<Item = (BStr<'a>, BStr<'a>)> + Drop> ExtraHeaders<I> {
         }
     }
 
-    /// The tags that were merged: of each header `mergetag`, in order, the tag that its value is, or why it
-    /// is none (git-merge, "MERGING TAG"). Making it reads nothing. It takes no memory.
+    /// Returns an iterator over the merged tags: the tag that each `mergetag` header encodes, or an error, in
+    /// order (git-merge, "MERGING TAG"). The call itself decodes nothing. Allocates nothing.
     pub fn mergetags(self) -> Mergetags<'a, I>
         ensures headers { searched (mergetag_values result) ≡ iterator_of self }
-        ensures name { sought (mergetag_values result) ≡ codes "mergetag" }
+        ensures name { searched_name (mergetag_values result) ≡ codes "mergetag" }
         ensures hash_kind { mergetag_kind result ≡ hash_kind_of self }
     {
         let kind = self.hash_kind;
@@ -106,10 +108,10 @@ impl<'a, I: Iterator<Item = (BStr<'a>, BStr<'a>)> + Drop> ExtraHeaders<I> {
         }
     }
 
-    /// The signature of the commit: the value of the first header that is named as
-    /// [`signature_field_name`] says for the kind of its ids, or none. It takes no memory.
+    /// Finds the signature of the commit: the value of the first header with the name that
+    /// [`signature_field_name`] returns for the kind of the commit's ids. Allocates nothing.
     pub fn pgp_signature(self) -> Option<BStr<'a>>
-        requires can { I.can_next (iterator_of self) }
+        requires can_next { I.can_next (iterator_of self) }
         requires ends { IsFinite (I.remaining (iterator_of self)) }
         ensures { FindsValue I.next_gives (signature_field (hash_kind_of self)) (iterator_of self)
             result }
@@ -119,7 +121,7 @@ impl<'a, I: Iterator<Item = (BStr<'a>, BStr<'a>)> + Drop> ExtraHeaders<I> {
     }
 }
 
-/// The values of all headers of a name, in order.
+/// An iterator over the values of all headers of a name, in order. [`ExtraHeaders::find_all`] returns one.
 #[derive(Drop)]
 pub struct FindAll<'a, I> {
     inner: I,
@@ -129,13 +131,13 @@ pub struct FindAll<'a, I> {
 impl<'a, I: Iterator<Item = (BStr<'a>, BStr<'a>)> + Drop> Iterator for FindAll<'a, I> {
     ghost use Rattle.std.specs.Prelude.{◌≡◌};
     ghost use Rattle.std.specs.Iterator.{IsFinite};
-    ghost use Rattle.gixobj_commit.specs.ExtraHeaders.{GivesAll, searched};
+    ghost use Rattle.gixobj_commit.specs.ExtraHeaders.{NextOfAll, searched};
 
     type Item = BStr<'a>;
 
     ghost can_next = { λ s. I.can_next (searched s) × IsFinite (I.remaining (searched s)) };
 
-    ghost next_gives = { GivesAll I.next_gives };
+    ghost next_gives = { NextOfAll I.next_gives };
 
     ghost remaining = { λ s. I.remaining (searched s) };
 
@@ -144,25 +146,25 @@ impl<'a, I: Iterator<Item = (BStr<'a>, BStr<'a>)> + Drop> Iterator for FindAll<'
     }
 }
 
-/// The tags in headers of a commit, in order, each read whole.
+/// An iterator over the tags in a commit's headers, in order. [`ExtraHeaders::mergetags`] returns one.
 #[derive(Drop)]
 pub struct Mergetags<'a, I> {
     values: FindAll<'a, I>,
     hash_kind: Kind,
 }
 
-/// `Malformed` where the value of a header is no tag's text. It takes no memory.
+/// Yields [`Error::Malformed`] for a header value that isn't the encoding of a tag. Allocates nothing.
 impl<'a, I: Iterator<Item = (BStr<'a>, BStr<'a>)> + Drop> Iterator for Mergetags<'a, I> {
     ghost use Rattle.std.specs.Iterator.{IsFinite};
     ghost use Rattle.gixobj_commit.specs.ExtraHeaders.{searched};
-    ghost use Rattle.gixobj_commit.specs.Mergetags.{GivesMergetag, mergetag_values};
+    ghost use Rattle.gixobj_commit.specs.Mergetags.{NextMergetag, mergetag_values};
 
     type Item = Result<TagRef<'a>, Error>;
 
     ghost can_next = { λ s. I.can_next (searched (mergetag_values s))
         × IsFinite (I.remaining (searched (mergetag_values s))) };
 
-    ghost next_gives = { GivesMergetag I.next_gives };
+    ghost next_gives = { NextMergetag I.next_gives };
 
     ghost remaining = { λ s. I.remaining (searched (mergetag_values s)) };
 
@@ -174,7 +176,7 @@ impl<'a, I: Iterator<Item = (BStr<'a>, BStr<'a>)> + Drop> Iterator for Mergetags
     }
 }
 
-/// The tag that the value is.
+/// Decodes the tag that the value encodes.
 fn read_tag(value: BStr<'_>, hash_kind: Kind) -> Result<TagRef<'_>, Error>
     ensures { IsTagOf hash_kind (bstr_bytes value.entry) result }
 {
@@ -191,15 +193,15 @@ fn is_named(key: BStr<'_>, name: &str) -> bool
     key.as_bytes() == name.as_bytes()
 }
 
-/// The value of the next header of this name, or none.
+/// Returns the value of the next header of this name.
 #[tactic(auto, using(crate::proofs::HeaderSearches::none_before, crate::proofs::HeaderSearches::one_more))]
 fn next_value<'a, I: Iterator<Item = (BStr<'a>, BStr<'a>)>>(
     headers: &mut I,
     name: &str,
 ) -> Option<BStr<'a>>
-    requires can { I.can_next headers.old }
+    requires can_next { I.can_next headers.old }
     requires ends { IsFinite (I.remaining headers.old) }
-    ensures value { GivesValue I.next_gives name.now headers.old result headers.new }
+    ensures value { NextValue I.next_gives name.now headers.old result headers.new }
     ensures goes { MakesProgress I.can_next I.remaining headers.old result headers.new }
 {
     'headers: while let Some((key, value)) = headers.next() {
@@ -210,16 +212,16 @@ fn next_value<'a, I: Iterator<Item = (BStr<'a>, BStr<'a>)>>(
     None
 }
 
-/// The extra headers of a borrowed commit, in order: a name and a value each.
+/// An iterator over the extra headers of a borrowed commit, in order, as pairs of name and value.
 #[derive(Clone, Copy)]
 pub struct BorrowedHeaders<'a, 'b> {
     rest: &'a [(BStr<'b>, CowSlice<'b, u8>)],
 }
 
 impl<'a, 'b> BorrowedHeaders<'a, 'b> {
-    /// These headers, in order.
+    /// Returns an iterator over these headers, in order.
     pub fn new(headers: &'a [(BStr<'b>, CowSlice<'b, u8>)]) -> BorrowedHeaders<'a, 'b>
-        ensures { headers_left result ≡ map header_of headers.now }
+        ensures { remaining_headers result ≡ map header_of headers.now }
     {
         BorrowedHeaders { rest: headers }
     }
@@ -228,13 +230,13 @@ impl<'a, 'b> BorrowedHeaders<'a, 'b> {
 impl<'a, 'b> Iterator for BorrowedHeaders<'a, 'b> {
     ghost use Rattle.std.specs.Iterator.{YieldsFirstBy, item_count};
     ghost use Rattle.gixobj_commit.specs.ExtraHeaders.{pair_of};
-    ghost use Rattle.gixobj_commit.specs.HeadersLeft.{headers_left};
+    ghost use Rattle.gixobj_commit.specs.RemainingHeaders.{remaining_headers};
 
     type Item = (BStr<'a>, BStr<'a>);
 
-    ghost next_gives = { YieldsFirstBy pair_of headers_left };
+    ghost next_gives = { YieldsFirstBy pair_of remaining_headers };
 
-    ghost remaining = { item_count headers_left };
+    ghost remaining = { item_count remaining_headers };
 
     fn next(&mut self) -> Option<(BStr<'a>, BStr<'a>)> {
         let [(name, value), rest @ ..] = self.rest else {
@@ -245,16 +247,16 @@ impl<'a, 'b> Iterator for BorrowedHeaders<'a, 'b> {
     }
 }
 
-/// The extra headers of an owned commit, in order: a name and a value each.
+/// An iterator over the extra headers of an owned commit, in order, as pairs of name and value.
 #[derive(Clone, Copy)]
 pub struct OwnedHeaders<'a> {
     rest: &'a [(BString, BString)],
 }
 
 impl<'a> OwnedHeaders<'a> {
-    /// These headers, in order.
+    /// Returns an iterator over these headers, in order.
     pub fn new(headers: &'a [(BString, BString)]) -> OwnedHeaders<'a>
-        ensures { owned_headers_left result ≡ map owned_header_of headers.now }
+        ensures { remaining_owned_headers result ≡ map owned_header_of headers.now }
     {
         OwnedHeaders { rest: headers }
     }
@@ -263,13 +265,13 @@ impl<'a> OwnedHeaders<'a> {
 impl<'a> Iterator for OwnedHeaders<'a> {
     ghost use Rattle.std.specs.Iterator.{YieldsFirstBy, item_count};
     ghost use Rattle.gixobj_commit.specs.ExtraHeaders.{pair_of};
-    ghost use Rattle.gixobj_commit.specs.HeadersLeft.{owned_headers_left};
+    ghost use Rattle.gixobj_commit.specs.RemainingHeaders.{remaining_owned_headers};
 
     type Item = (BStr<'a>, BStr<'a>);
 
-    ghost next_gives = { YieldsFirstBy pair_of owned_headers_left };
+    ghost next_gives = { YieldsFirstBy pair_of remaining_owned_headers };
 
-    ghost remaining = { item_count owned_headers_left };
+    ghost remaining = { item_count remaining_owned_headers };
 
     fn next(&mut self) -> Option<(BStr<'a>, BStr<'a>)> {
         let ((name, value), rest) = self.rest.split_first()?;

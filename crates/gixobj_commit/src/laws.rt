@@ -1,12 +1,13 @@
-//! Laws of commits and of their headers: most functions do nothing, and their contract is the law.
+//! Laws of commits and of their headers. Most functions are empty, and their contract is the law.
 
 mod commits;
 mod headers;
 
 pub use commits::{
-    commit_has_one_reading, commit_reads_and_writes, commit_writes_back, owned_forms_have_the_parts,
+    commit_decode_encode_agree, commit_decodes_uniquely, commit_reencodes_identically,
+    owned_commit_has_same_parts,
 };
 pub use headers::{
-    borrowed_headers_are_found, borrowed_mergetags_are_found, owned_headers_are_found,
-    owned_mergetags_are_found,
+    borrowed_header_search_complete, borrowed_mergetag_search_complete,
+    owned_header_search_complete, owned_mergetag_search_complete,
 };

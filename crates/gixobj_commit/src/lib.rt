@@ -1,5 +1,5 @@
-//! Commits, read whole, copied, signed and written (gitdatamodel, "commits"). They are read line by line, as tokens are
-//! in a crate above, by [`gixobj_line::lines`].
+//! Decoding, copying, signing and encoding of commits (gitdatamodel, "commits"). [`gixobj_line::lines`]
+//! decodes their lines, here and for the token iterators of a later crate.
 #![tactic(auto)]
 
 pub mod commit;

@@ -1,28 +1,28 @@
-//! The parents of commits.
+//! The parents of a commit, decoded one by one.
 ghost use Rattle.std.specs.Prelude.{◌≡◌, All, map};
 ghost use Rattle.bstr.specs.BStr.{bstr_bytes};
-ghost use Rattle.gixobj_hash.specs.Hash.{IsHexOfAnId};
-ghost use Rattle.gixobj_hash.specs.Hash.Hex.{IsHexOfItsKind, spelled_id};
+ghost use Rattle.gixobj_hash.specs.Hash.{IsIdHex};
+ghost use Rattle.gixobj_hash.specs.Hash.Hex.{IsIdHexOfItsKind, decoded_id};
 
 use bstr::BStr;
 use gixobj_hash::hash::ObjectId;
 use gixobj_hash::parse::id_of_hex;
 
-/// The ids of a commit's parents, in order.
+/// An iterator over the ids of a commit's parents, in order. [`crate::CommitRef::parents`] returns one.
 #[derive(Clone, Copy, Debug)]
 pub struct Parents<'a> {
     rest: &'a [BStr<'a>],
-    ghost are_ids: { All IsHexOfItsKind (map bstr_bytes rest.now) },
+    ghost are_ids: { All IsIdHexOfItsKind (map bstr_bytes rest.now) },
 }
 
 impl<'a> Parents<'a> {
-    ghost use Rattle.gixobj_commit.specs.ParentsLeft.{parents_left};
+    ghost use Rattle.gixobj_commit.specs.RemainingParents.{remaining_parents};
 
-    /// The ids that these hex texts spell. It takes no memory.
+    /// Returns an iterator over the ids with this hex, each of which has to be an id. Allocates nothing.
     #[tactic(auto, using(crate::proofs::ParentHexes::all_of_their_kind))]
     pub fn new(hexes: &'a [BStr<'a>]) -> Parents<'a>
-        requires { All IsHexOfAnId (map bstr_bytes hexes.now) }
-        ensures { parents_left result ≡ map spelled_id (map bstr_bytes hexes.now) }
+        requires { All IsIdHex (map bstr_bytes hexes.now) }
+        ensures { remaining_parents result ≡ map decoded_id (map bstr_bytes hexes.now) }
     {
         Parents { rest: hexes }
     }
@@ -30,13 +30,13 @@ impl<'a> Parents<'a> {
 
 impl Iterator for Parents<'_> {
     ghost use Rattle.std.specs.Iterator.{YieldsFirst, item_count};
-    ghost use Rattle.gixobj_commit.specs.ParentsLeft.{parents_left};
+    ghost use Rattle.gixobj_commit.specs.RemainingParents.{remaining_parents};
 
     type Item = ObjectId;
 
-    ghost next_gives = { YieldsFirst parents_left };
+    ghost next_gives = { YieldsFirst remaining_parents };
 
-    ghost remaining = { item_count parents_left };
+    ghost remaining = { item_count remaining_parents };
 
     #[tactic(auto, using(crate::proofs::ParentHexes::first_id))]
     fn next(&mut self) -> Option<ObjectId> {

@@ -1,4 +1,5 @@
--- A walk along the entries of a directory and the open directories in it, side by side.
+-- A walk along the entries of a directory and the open directories in it, in step: for the loops of a write and for
+-- leaf trees.
 use mathlib.Core.Bool.{true≢false}
 use Rattle.std.proofs.Common.{◌≡◌, ◌≢◌, ◌∙◌, ◌<◌, ◌+◌, inl, inr, ℕ, suc, true, false, cond, List, [], ◌∷◌, Option, Some, None, get_or, length, drop, refl, sym, ap, subst, arith, add-one, drop-cons, length-append}
 use Rattle.std.specs.Cmp.Lexicographic.{bytes_decides, slice_cmp}
@@ -16,24 +17,25 @@ use Rattle.gixobj_files.proofs.Sublists.{all_both, all_weaker}
 use Rattle.gixobj_tree.specs.Entries.{ComesBefore, EachLater, EntryView, entry_key, key_of}
 use Rattle.gixobj_mode.specs.Mode.{is_tree_mode}
 use Rattle.gixobj_directories.specs.declared.open.Child.{Child}
-use Rattle.gixobj_directories.specs.Handing.{pairs_behind_next, child_side, next_child}
+use Rattle.gixobj_directories.specs.Emitting.{pairs_after_next, child_side, next_child}
 use Rattle.gixobj_directories.specs.Nested.{AreOrdered, IsLevel, Level, Opened, Part, at_side, below, length-under, opened, part, part_at, part_key, parts, under}
 use Rattle.gixobj_directories.proofs.Levels.{level_at_by}
 use Rattle.gixobj_directories.proofs.Ordered.{Before, differ, level_apart}
 
--- the children to come are those of the entries to come
-pub record Ahead (node : Opened) (rest : List EntryView) (left : List Child) : Type 0 where
-  pub same : (side : Level → List EntryView) → AllByRecursion (λ e. (path : Path) → at_side side node (e.name ∷ path) ≡ part_at side e.name (parts left) path) rest
-  pub above : AllByRecursion (λ p. has_tree p.0 rest ≡ true) (parts left)
-  pub ordered : AreOrdered (parts left)
+-- the remaining children are those of the remaining entries
+pub record Ahead (node : Opened) (rest : List EntryView) (remaining : List Child) : Type 0 where
+  pub same : (side : Level → List EntryView)
+      → AllByRecursion (λ e. (path : Path) → at_side side node (e.name ∷ path) ≡ part_at side e.name (parts remaining) path) rest
+  pub above : AllByRecursion (λ p. has_tree p.0 rest ≡ true) (parts remaining)
+  pub ordered : AreOrdered (parts remaining)
   pub apart : EachLater (λ x y. x.name ≢ y.name) rest
   pub ascending : EachLater ComesBefore rest
-  pub fewer : length (below (parts left)) < length node
+  pub fewer : length (below (parts remaining)) < length node
 
--- the next child is what is open at the entry, and those behind it are those of the other entries
-pub record Stepped (node : Opened) (e : EntryView) (rest : List EntryView) (next : Option Child) (behind : List Child) : Type 0 where
+-- the next child is what is open at the entry, and those after it are those of the other entries
+pub record Stepped (node : Opened) (e : EntryView) (rest : List EntryView) (next : Option Child) (after : List Child) : Type 0 where
   pub here : (side : Level → List EntryView) (path : Path) → at_side side node (e.name ∷ path) ≡ child_side side next path
-  pub ahead : Ahead node rest behind
+  pub ahead : Ahead node rest after
   pub fewer : (child : Child) → next ≡ Some child → length child.open < length node
 
 every : {X : Type 0} (P : X → Type 0) → ((x : X) → P x) → (xs : List X) → AllByRecursion P xs
@@ -45,64 +47,97 @@ at_has P [] x h all = absurd h
 at_has P (e ∷ es) x (inl same) all = subst P same all.0
 at_has P (e ∷ es) x (inr h) all = at_has P es x h all.1
 
-tree_behind : (name : List ℕ) (e : EntryView) (rest : List EntryView) → name ≢ e.name → has_tree name (e ∷ rest) ≡ true → has_tree name rest ≡ true
-tree_behind name e rest other h = rw (name_other e.name name (λ q. other (sym q))) at h
+tree_after : (name : List ℕ) (e : EntryView) (rest : List EntryView) → name ≢ e.name → has_tree name (e ∷ rest) ≡ true → has_tree name rest ≡ true
+tree_after name e rest other h = rw (name_other e.name name (λ q. other (sym q))) at h
 
-none_at : (side : Level → List EntryView) (name : List ℕ) (ps : List Part) (path : Path) → AllByRecursion (λ p. p.0 ≢ name) ps → part_at side name ps path ≡ None
+none_at : (side : Level → List EntryView) (name : List ℕ) (ps : List Part) (path : Path) → AllByRecursion (λ p. p.0 ≢ name) ps
+    → part_at side name ps path ≡ None
 none_at side name [] path others = refl
 none_at side name (p ∷ ps) path others = rw (name_other p.0 name others.0) (none_at side name ps path others.1)
 
-module _ (e : EntryView) (rest : List EntryView) (apart : AllByRecursion (λ y. e.name ≢ y.name) rest) (ascending : AllByRecursion (ComesBefore e) rest) where
-  all_behind : (ps : List Part) → AllByRecursion (λ p. p.0 ≢ e.name) ps → AllByRecursion (λ p. has_tree p.0 (e ∷ rest) ≡ true) ps → AllByRecursion (λ p. has_tree p.0 rest ≡ true) ps
-  all_behind [] others h = tt
-  all_behind (p ∷ ps) others h = (tree_behind p.0 e rest others.0 h.0, all_behind ps others.1 h.1)
+module _ (e : EntryView) (rest : List EntryView) (apart : AllByRecursion (λ y. e.name ≢ y.name) rest)
+    (ascending : AllByRecursion (ComesBefore e) rest) where
+  all_after : (ps : List Part) → AllByRecursion (λ p. p.0 ≢ e.name) ps → AllByRecursion (λ p. has_tree p.0 (e ∷ rest) ≡ true) ps
+      → AllByRecursion (λ p. has_tree p.0 rest ≡ true) ps
+  all_after [] others h = tt
+  all_after (p ∷ ps) others h = (tree_after p.0 e rest others.0 h.0, all_after ps others.1 h.1)
 
-  -- a tree's entry of this name is the first
+  -- an entry of tree mode with this name is the first entry
   own_tree : (y : EntryView) → Has (e ∷ rest) y → y.name ≡ e.name → is_tree_mode y.mode ≡ true → is_tree_mode e.mode ≡ true
   own_tree y (inl same) named tree = ap (λ (x : EntryView). is_tree_mode x.mode) same ∙ tree
   own_tree y (inr h) named tree = absurd (at_has (λ z. e.name ≢ z.name) rest y h apart (sym named))
 
   own_key : (name : List ℕ) → name ≡ e.name → has_tree name (e ∷ rest) ≡ true → entry_key e ≡ key_of name true
-  own_key name is h = let y = has_tree_of name (e ∷ rest) h in ap (key_of e.name) (own_tree y.0 y.1 (y.2 ∙ is) y.3) ∙ ap (λ (n : List ℕ). key_of n true) (sym is)
+  own_key name is h = let y = has_tree_of name (e ∷ rest) h in ap (key_of e.name) (own_tree y.0 y.1 (y.2 ∙ is) y.3)
+      ∙ ap (λ (n : List ℕ). key_of n true)
+      (sym is)
 
-  -- behind the directory of another entry there is none of the first
-  not_behind : (p q : Part) → Before p q → p.0 ≢ e.name → has_tree p.0 (e ∷ rest) ≡ true → has_tree q.0 (e ∷ rest) ≡ true → q.0 ≢ e.name
-  not_behind p q before other first second same =
-      let x = has_tree_of p.0 rest (tree_behind p.0 e rest other first) in
+  -- after the directory of another entry there is none of the first entry
+  not_after : (p q : Part) → Before p q → p.0 ≢ e.name → has_tree p.0 (e ∷ rest) ≡ true → has_tree q.0 (e ∷ rest) ≡ true → q.0 ≢ e.name
+  not_after p q before other first second same =
+      let x = has_tree_of p.0 rest (tree_after p.0 e rest other first) in
       let key : entry_key x.0 ≡ part_key p = ap (key_of x.0.name) x.3 ∙ ap (λ (n : List ℕ). key_of n true) x.2 in
-      let back : Before q p = ap (λ k. slice_cmp nat_cmp k (part_key p)) (sym (own_key q.0 same second)) ∙ ap (slice_cmp nat_cmp (entry_key e)) (sym key) ∙ at_has (ComesBefore e) rest x.0 x.1 ascending in
-      true≢false (ap is_lt (sym (nat_list_cmp_total.trans (part_key p) (part_key q) (part_key p) before back) ∙ tied_itself nat_list_cmp_total (part_key p)))
+      let back : Before q p = ap (λ k. slice_cmp nat_cmp k (part_key p)) (sym (own_key q.0 same second)) ∙ ap (slice_cmp nat_cmp (entry_key e))
+      (sym key)
+      ∙ at_has (ComesBefore e) rest x.0 x.1 ascending in
+      true≢false (ap is_lt (sym (nat_list_cmp_total.trans (part_key p) (part_key q) (part_key p) before back) ∙ tied_itself nat_list_cmp_total
+      (part_key p)))
 
-  all_others : (p : Part) (qs : List Part) → AllByRecursion (Before p) qs → p.0 ≢ e.name → has_tree p.0 (e ∷ rest) ≡ true → AllByRecursion (λ q. has_tree q.0 (e ∷ rest) ≡ true) qs → AllByRecursion (λ q. q.0 ≢ e.name) qs
+  all_others : (p : Part) (qs : List Part) → AllByRecursion (Before p) qs → p.0 ≢ e.name → has_tree p.0 (e ∷ rest) ≡ true
+      → AllByRecursion (λ q. has_tree q.0 (e ∷ rest) ≡ true) qs → AllByRecursion (λ q. q.0 ≢ e.name) qs
   all_others p [] before other first above = tt
-  all_others p (q ∷ qs) before other first above = (not_behind p q before.0 other first above.0, all_others p qs before.1 other first above.1)
+  all_others p (q ∷ qs) before other first above = (not_after p q before.0 other first above.0, all_others p qs before.1 other first above.1)
 
-step : (node : Opened) (e : EntryView) (rest : List EntryView) (left : List Child) → Ahead node (e ∷ rest) left → Stepped node e rest (next_child e.name left) (pairs_behind_next e.name left)
+step : (node : Opened) (e : EntryView) (rest : List EntryView) (remaining : List Child) → Ahead node (e ∷ rest) remaining
+    → Stepped node e rest (next_child e.name remaining) (pairs_after_next e.name remaining)
 step node e rest [] a = record {
   here = λ side path. (a.same side).0 path;
   ahead = record { same = λ side. (a.same side).1; above = tt; ordered = tt; apart = a.apart.1; ascending = a.ascending.1; fewer = a.fewer };
   fewer = λ child is. absurd (cc is);
 }
 step node e rest (c ∷ cs) a =
-    elim (same_name (bstring_bytes c.name) e.name) as (λ b. same_name (bstring_bytes c.name) e.name ≡ b → Stepped node e rest (cond b (Some c) None) (cond b cs (c ∷ cs))) [
+    elim (same_name (bstring_bytes c.name) e.name) as (λ b. same_name (bstring_bytes c.name) e.name ≡ b
+    → Stepped node e rest (cond b (Some c) None) (cond b cs (c ∷ cs))) [
       | true ↦ λ is. let own : bstring_bytes c.name ≡ e.name = (bytes_decides (bstring_bytes c.name) e.name).0 is in record {
         here = λ side path. (a.same side).0 path ∙ ap (λ b. cond b (at_side side c.open path) (part_at side e.name (parts cs) path)) is;
         ahead = record {
-          same = λ side. all_weaker (λ (y : EntryView). (e.name ≢ y.name) × ((path : Path) → at_side side node (y.name ∷ path) ≡ part_at side y.name (parts (c ∷ cs)) path)) (λ (y : EntryView). (path : Path) → at_side side node (y.name ∷ path) ≡ part_at side y.name (parts cs) path)
-              (λ y h path. h.1 path ∙ ap (λ b. cond b (at_side side c.open path) (part_at side y.name (parts cs) path)) (name_other (bstring_bytes c.name) y.name (λ q. h.0 (sym own ∙ q)))) rest
-              (all_both (λ (y : EntryView). e.name ≢ y.name) (λ (y : EntryView). (path : Path) → at_side side node (y.name ∷ path) ≡ part_at side y.name (parts (c ∷ cs)) path) rest a.apart.0 (a.same side).1);
-          above = all_behind e rest a.apart.0 a.ascending.0 (parts cs) (all_weaker (Before (part c)) (λ q. q.0 ≢ e.name) (λ q before same. differ (part c) q before (own ∙ sym same)) (parts cs) a.ordered.0) a.above.1;
+          same = λ side. all_weaker
+              (λ (y : EntryView). (e.name ≢ y.name) × ((path : Path) → at_side side node (y.name ∷ path) ≡ part_at side y.name (parts (c ∷ cs)) path))
+              (λ (y : EntryView). (path : Path) → at_side side node (y.name ∷ path) ≡ part_at side y.name (parts cs) path)
+              (λ y h path. h.1 path ∙ ap (λ b. cond b (at_side side c.open path) (part_at side y.name (parts cs) path))
+              (name_other (bstring_bytes c.name) y.name (λ q. h.0 (sym own ∙ q)))) rest
+              (all_both (λ (y : EntryView). e.name ≢ y.name)
+              (λ (y : EntryView). (path : Path) → at_side side node (y.name ∷ path) ≡ part_at side y.name
+              (parts (c ∷ cs)) path) rest a.apart.0 (a.same side).1);
+          above = all_after e rest a.apart.0 a.ascending.0 (parts cs)
+              (all_weaker (Before (part c)) (λ q. q.0 ≢ e.name) (λ q before same. differ (part c) q before (own ∙ sym same)) (parts cs) a.ordered.0)
+              a.above.1;
           ordered = a.ordered.1;
           apart = a.apart.1;
           ascending = a.ascending.1;
           fewer = omega (arith, a.fewer, length-append (under (bstring_bytes c.name) c.open) (below (parts cs)));
         };
-        fewer = λ child same. subst (λ (d : Child). length d.open < length node) (some_is c child same) (omega (arith, a.fewer, length-append (under (bstring_bytes c.name) c.open) (below (parts cs)), length-under (bstring_bytes c.name) c.open));
+        fewer = λ child same. subst (λ (d : Child). length d.open < length node) (some_is c child same)
+            (omega (
+              arith,
+              a.fewer,
+              length-append (under (bstring_bytes c.name) c.open) (below (parts cs)),
+              length-under
+                  (bstring_bytes c.name) c.open,
+            ));
       }
       | false ↦ λ is. let other : bstring_bytes c.name ≢ e.name = λ q. true≢false (sym ((bytes_decides (bstring_bytes c.name) e.name).1 q) ∙ is) in
-          let others : AllByRecursion (λ q. q.0 ≢ e.name) (parts (c ∷ cs)) = (other, all_others e rest a.apart.0 a.ascending.0 (part c) (parts cs) a.ordered.0 other a.above.0 a.above.1) in record {
+          let others : AllByRecursion (λ q. q.0 ≢ e.name) (parts (c ∷ cs)) =
+          (other, all_others e rest a.apart.0 a.ascending.0 (part c) (parts cs) a.ordered.0 other a.above.0 a.above.1) in record {
             here = λ side path. (a.same side).0 path ∙ none_at side e.name (parts (c ∷ cs)) path others;
-            ahead = record { same = λ side. (a.same side).1; above = all_behind e rest a.apart.0 a.ascending.0 (parts (c ∷ cs)) others a.above; ordered = a.ordered; apart = a.apart.1; ascending = a.ascending.1; fewer = a.fewer };
+            ahead = record {
+              same = λ side. (a.same side).1;
+              above = all_after e rest a.apart.0 a.ascending.0 (parts (c ∷ cs)) others a.above;
+              ordered = a.ordered;
+              apart = a.apart.1;
+              ascending = a.ascending.1;
+              fewer = a.fewer;
+            };
             fewer = λ child none. absurd (cc none);
           }
     ] refl
@@ -110,17 +145,20 @@ step node e rest (c ∷ cs) a =
     some_is : (x y : Child) → Some x ≡ Some y → x ≡ y
     some_is x y is = cc is
 
--- at the place of an entry
-pub stepped : (node : Opened) (items : List EntryView) (i : ℕ) (e : EntryView) (left : List Child) → i < length items → e ≡ get_or items i e → Ahead node (drop i items) left
-    → Stepped node e (drop (i + 1) items) (next_child e.name left) (pairs_behind_next e.name left)
-stepped node items i e left low is a =
+-- a step of the walk at the position of an entry
+pub stepped : (node : Opened) (items : List EntryView) (i : ℕ) (e : EntryView) (remaining : List Child) → i < length items → e ≡ get_or items i e
+    → Ahead node (drop i items) remaining
+    → Stepped node e (drop (i + 1) items) (next_child e.name remaining) (pairs_after_next e.name remaining)
+stepped node items i e remaining low is a =
     let here : drop i items ≡ e ∷ drop (i + 1) items = rw add-one (drop-cons items i e low ∙ ap (λ x. x ∷ drop (suc i) items) (sym is)) in
-    step node e (drop (i + 1) items) left (subst (λ es. Ahead node es left) here a)
+    step node e (drop (i + 1) items) remaining (subst (λ es. Ahead node es remaining) here a)
 
--- before the first entry
-pub all_ahead : (node : Opened) (es base : List EntryView) (cs : List Child) → opened es base (parts cs) ≡ node → IsLevel es (parts cs) → Ahead node es cs
+-- before the first entry all children remain
+pub all_ahead : (node : Opened) (es base : List EntryView) (cs : List Child) → opened es base (parts cs) ≡ node → IsLevel es (parts cs)
+    → Ahead node es cs
 all_ahead node es base cs is level = record {
-  same = λ side. every (λ (e : EntryView). (path : Path) → at_side side node (e.name ∷ path) ≡ part_at side e.name (parts cs) path) (λ e path. level_at_by side node es base (parts cs) is (level_apart level) e.name path) es;
+  same = λ side. every (λ (e : EntryView). (path : Path) → at_side side node (e.name ∷ path) ≡ part_at side e.name (parts cs) path)
+      (λ e path. level_at_by side node es base (parts cs) is (level_apart level) e.name path) es;
   above = level.above;
   ordered = level.ordered;
   apart = level.formed.apart;
@@ -128,11 +166,12 @@ all_ahead node es base cs is level = record {
   fewer = omega (arith, ap length is);
 }
 
--- how much is open in a directory that is given, or in none
-abbrev pub given_size : Option (Bor Child) → ℕ
-given_size None = 0
-given_size (Some child) = length child.now.open
+-- the number of open directories in a child, and zero without one
+abbrev pub passed_size : Option (Bor Child) → ℕ
+passed_size None = 0
+passed_size (Some child) = length child.now.open
 
-pub given_fewer : (node : Opened) (given : Option (Bor Child)) (next : Option Child) → option_copied given ≡ next → ((child : Child) → next ≡ Some child → length child.open < length node) → 0 < length node → given_size given < length node
-given_fewer node None next is fewer filled = filled
-given_fewer node (Some child) next is fewer filled = fewer child.now (sym is)
+pub passed_fewer : (node : Opened) (passed : Option (Bor Child)) (next : Option Child) → option_copied passed ≡ next
+    → ((child : Child) → next ≡ Some child → length child.open < length node) → 0 < length node → passed_size passed < length node
+passed_fewer node None next is fewer filled = filled
+passed_fewer node (Some child) next is fewer filled = fewer child.now (sym is)

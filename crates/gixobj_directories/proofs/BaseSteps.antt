@@ -1,4 +1,5 @@
--- What an edit of one level, or an opening in it, makes of the bases.
+-- The bases after an edit of one level, or an opening in it: for the edits and openings of open directories, and for
+-- the editor.
 use Rattle.std.proofs.Common.{◌≡◌, ◌≢◌, ◌∙◌, ℕ, true, false, cond, get_or, List, [], ◌∷◌, Option, Some, None, refl, sym, ap, subst}
 use Rattle.std.specs.Prelude.{set}
 use Rattle.std.specs.List.{AllByRecursion, position}
@@ -21,18 +22,20 @@ use Rattle.gixobj_directories.proofs.Ordered.{level_apart}
 pub no_base : (ds : Opened) (at : Path) → dirs_of ds at ≡ None → bases_of ds at ≡ None
 no_base [] at none = refl
 no_base (d ∷ ds) at none =
-    elim (tied at d.0) as (λ b. cond b (Some d.1.0) (dirs_of ds at) ≡ None → cond b (Some d.1.1) (bases_of ds at) ≡ None) [ true ↦ λ is. absurd (cc is) | false ↦ λ is. no_base ds at is ] none
+    elim (tied at d.0) as (λ b. cond b (Some d.1.0) (dirs_of ds at) ≡ None → cond b (Some d.1.1) (bases_of ds at) ≡ None)
+    [ true ↦ λ is. absurd (cc is) | false ↦ λ is. no_base ds at is ] none
 
 no_base_in : (name : List ℕ) (ps : List Part) (at : Path) → in_part name ps at ≡ None → bases_in name ps at ≡ None
 no_base_in name [] at none = refl
 no_base_in name (p ∷ ps) at none =
-    elim (same_name p.0 name) as (λ b. cond b (dirs_of p.1 at) (in_part name ps at) ≡ None → cond b (bases_of p.1 at) (bases_in name ps at) ≡ None) [ true ↦ λ is. no_base p.1 at is | false ↦ λ is. no_base_in name ps at is ] none
+    elim (same_name p.0 name) as (λ b. cond b (dirs_of p.1 at) (in_part name ps at) ≡ None → cond b (bases_of p.1 at) (bases_in name ps at) ≡ None)
+    [ true ↦ λ is. no_base p.1 at is | false ↦ λ is. no_base_in name ps at is ] none
 
--- what is made of the base of a directory, by what is open there before and after
+-- the base of a directory after a change, by what is open there before and after
 abbrev pub OfBase : Type 0
 OfBase = Option (List EntryView) → Option (List EntryView) → Option (List EntryView) → Option (List EntryView)
 
--- nothing where the same is open, or a directory is open before and after
+-- the base is unchanged if the same is open, or if the directory is open before and after
 pub record Settles (g : OfBase) : Type 0 where
   pub same : (o base : Option (List EntryView)) → (o ≡ None → base ≡ None) → base ≡ g o o base
   pub stays : (was now : List EntryView) (base : Option (List EntryView)) → base ≡ g (Some was) (Some now) base
@@ -55,70 +58,104 @@ module _ (g : OfBase) (settles : Settles g) where
   pub unmoved : (ds : Opened) (at : Path) → bases_of ds at ≡ g (dirs_of ds at) (dirs_of ds at) (bases_of ds at)
   unmoved ds at = settles.same (dirs_of ds at) (bases_of ds at) (no_base ds at)
 
-  module _ (old : Opened) (es es' : List EntryView) (ps ps' : List Part) {base : List EntryView} (view : opened es base ps ≡ old) (apart : EachLater (λ x y. x.0 ≢ y.0) ps) (apart' : EachLater (λ x y. x.0 ≢ y.0) ps')
-      (name : List ℕ) (next based : Dirs) (becomes : Becomes name next ps ps') (bases_become : BecomesBy base_side name based ps ps') (inside : (path : Path) → based path ≡ g (in_part name ps path) (next path) (bases_in name ps path)) where
+  module _ (old : Opened) (es es' : List EntryView) (ps ps' : List Part) {base : List EntryView} (view : opened es base ps ≡ old)
+      (apart : EachLater (λ x y. x.0 ≢ y.0) ps) (apart' : EachLater (λ x y. x.0 ≢ y.0) ps')
+      (name : List ℕ) (next based : Dirs) (becomes : Becomes name next ps ps') (bases_become : BecomesBy base_side name based ps ps')
+      (inside : (path : Path) → based path ≡ g (in_part name ps path) (next path) (bases_in name ps path)) where
     pub moved : (at : Path) → bases_of (opened es' base ps') at ≡ g (dirs_of old at) (dirs_of (opened es' base ps') at) (bases_of old at)
-    moved [] = settles.stays es es' (Some base) ∙ ap (λ o. g o (Some es') (Some base)) (sym (level_root old es ps view)) ∙ ap (λ o. g (dirs_of old []) (Some es') o) (sym (based_root old es ps view))
+    moved [] = settles.stays es es' (Some base) ∙ ap (λ o. g o (Some es') (Some base)) (sym (level_root old es ps view))
+        ∙ ap (λ o. g (dirs_of old []) (Some es') o) (sym (based_root old es ps view))
     moved (first ∷ path) =
         at_name_by base_side es' base ps' first path apart' ∙ bases_become.says first path ∙ here
-        ∙ ap (λ o. g o (cond (same_name name first) (next path) (in_part first ps path)) (bases_in first ps path)) (sym (level_at old es ps view apart first path))
+        ∙ ap (λ o. g o (cond (same_name name first) (next path) (in_part first ps path)) (bases_in first ps path))
+        (sym (level_at old es ps view apart first path))
         ∙ ap (λ o. g (dirs_of old (first ∷ path)) o (bases_in first ps path)) (sym (at_name es' base ps' first path apart' ∙ becomes.says first path))
         ∙ ap (λ o. g (dirs_of old (first ∷ path)) (dirs_of (opened es' base ps') (first ∷ path)) o) (sym (based_at old es ps view apart first path))
       where
-        here : cond (same_name name first) (based path) (bases_in first ps path) ≡ g (in_part first ps path) (cond (same_name name first) (next path) (in_part first ps path)) (bases_in first ps path)
-        here = elim (same_name name first) as (λ b. same_name name first ≡ b → cond b (based path) (bases_in first ps path) ≡ g (in_part first ps path) (cond b (next path) (in_part first ps path)) (bases_in first ps path)) [
-          | true ↦ λ is. subst (λ n. based path ≡ g (in_part n ps path) (next path) (bases_in n ps path)) ((bytes_decides name first).0 is) (inside path)
-          | false ↦ λ is. settles.same (in_part first ps path) (bases_in first ps path) (no_base_in first ps path)
-        ] refl
+        here : cond (same_name name first) (based path) (bases_in first ps path) ≡ g (in_part first ps path)
+            (cond (same_name name first) (next path) (in_part first ps path)) (bases_in first ps path)
+        here = elim (same_name name first) as
+            (λ b. same_name name first ≡ b → cond b (based path) (bases_in first ps path) ≡ g (in_part first ps path)
+            (cond b (next path) (in_part first ps path)) (bases_in first ps path)) [
+              | true ↦ λ is. subst (λ n. based path ≡ g (in_part n ps path) (next path) (bases_in n ps path)) ((bytes_decides name first).0 is)
+                  (inside path)
+              | false ↦ λ is. settles.same (in_part first ps path) (bases_in first ps path) (no_base_in first ps path)
+            ] refl
 
--- a directory that was made: in an empty one, and where nothing is open
-pub made_base : (path : Path) (new base : Option (List EntryView)) → base_edited (dirs_of (opened [] [] []) path) new (bases_of (opened [] [] []) path) ≡ base_edited None new base
+-- in a created directory the bases after an edit are those of directories that weren't open
+pub made_base : (path : Path) (new base : Option (List EntryView)) → base_edited (dirs_of (opened [] [] []) path) new
+    (bases_of (opened [] [] []) path)
+    ≡ base_edited None new base
 made_base [] None base = refl
 made_base [] (Some es) base = refl
 made_base (name ∷ path) None base = refl
 made_base (name ∷ path) (Some es) base = refl
 
--- a directory that was opened
-pub found_base : (es : List EntryView) (path : Path) (new : Dirs) → new [] ≡ Some es → base_opened (dirs_of (opened es es []) path) (new path) (bases_of (opened es es []) path) ≡ new path
+-- the base of a directory that was opened is the list found
+pub found_base : (es : List EntryView) (path : Path) (new : Dirs) → new [] ≡ Some es → base_opened (dirs_of (opened es es []) path) (new path)
+    (bases_of (opened es es []) path) ≡ new path
 found_base es [] new root = sym root
 found_base es (name ∷ path) new root = refl
 
 -- a written directory is open alone, with its base
-pub written_base : (old : Opened) (es own base : List EntryView) → dirs_of old [] ≡ Some es → bases_of old [] ≡ Some base → (at : Path) → bases_of (opened own base []) at ≡ base_edited (dirs_of old at) (dirs_of (opened own base []) at) (bases_of old at)
-written_base old es own base root is [] = ap (λ o. base_edited o (Some own) (Some base)) (sym root) ∙ ap (λ o. base_edited (dirs_of old []) (Some own) o) (sym is)
+pub written_base : (old : Opened) (es own base : List EntryView) → dirs_of old [] ≡ Some es → bases_of old [] ≡ Some base → (at : Path)
+    → bases_of (opened own base []) at ≡ base_edited (dirs_of old at) (dirs_of (opened own base []) at) (bases_of old at)
+written_base old es own base root is [] = ap (λ o. base_edited o (Some own) (Some base)) (sym root)
+    ∙ ap (λ o. base_edited (dirs_of old []) (Some own) o)
+    (sym is)
 written_base old es own base root is (name ∷ path) = refl
 
--- a directory in it is set, added, or shut
+-- the bases after a directory in it was replaced, added or closed
 module _ (g : OfBase) (settles : Settles g) (old : Opened) (es : List EntryView) where
-  pub set_moved : (cs l : List Child) {base : List EntryView} → opened es base (parts cs) ≡ old → EachLater (λ x y. x.0 ≢ y.0) (parts cs) → (name : List ℕ) (i : ℕ) (child next : Child) → EachLater (λ x y. x.0 ≢ y.0) (parts (set cs i next))
+  pub set_moved : (cs l : List Child) {base : List EntryView} → opened es base (parts cs) ≡ old → EachLater (λ x y. x.0 ≢ y.0) (parts cs)
+      → (name : List ℕ) (i : ℕ) (child next : Child) → EachLater (λ x y. x.0 ≢ y.0) (parts (set cs i next))
       → l ≡ cs → Some i ≡ position (called name) l → child ≡ get_or cs i child → bstring_bytes next.name ≡ bstring_bytes child.name
       → ((path : Path) → bases_of next.open path ≡ g (dirs_of child.open path) (dirs_of next.open path) (bases_of child.open path))
-      → (at : Path) → bases_of (opened es base (parts (set cs i next))) at ≡ g (dirs_of old at) (dirs_of (opened es base (parts (set cs i next))) at) (bases_of old at)
+      → (at : Path) → bases_of (opened es base (parts (set cs i next))) at ≡ g (dirs_of old at) (dirs_of (opened es base (parts (set cs i next))) at)
+      (bases_of old at)
   set_moved cs l view apart name i child next apart' same at is named inside =
-      moved g settles old es es (parts cs) (parts (set cs i next)) view apart apart' name (dirs_of next.open) (bases_of next.open) (set_becomes name cs l i child next same at is named) (set_becomes_by base_side name cs l i child next same at is named)
+      moved g settles old es es (parts cs) (parts (set cs i next)) view apart apart' name (dirs_of next.open) (bases_of next.open)
+      (set_becomes name cs l i child next same at is named) (set_becomes_by base_side name cs l i child next same at is named)
       (λ path. inside path ∙ ap (λ o. g o (dirs_of next.open path) (bases_of child.open path)) (sym (found name cs l i child same at is path))
       ∙ ap (λ b. g (in_part name (parts cs) path) (dirs_of next.open path) b) (sym (found_by base_side name cs l i child same at is path)))
 
-  pub with_moved : (es' : List EntryView) (ps : List Part) {base : List EntryView} → opened es base ps ≡ old → EachLater (λ x y. x.0 ≢ y.0) ps → (name : List ℕ) (inner : Opened) → EachLater (λ x y. x.0 ≢ y.0) (with_part (name, inner) ps) → AllByRecursion (λ p. p.0 ≢ name) ps
+  pub with_moved : (es' : List EntryView) (ps : List Part) {base : List EntryView} → opened es base ps ≡ old → EachLater (λ x y. x.0 ≢ y.0) ps
+      → (name : List ℕ) (inner : Opened) → EachLater (λ x y. x.0 ≢ y.0) (with_part (name, inner) ps) → AllByRecursion (λ p. p.0 ≢ name) ps
       → ((path : Path) → in_part name ps path ≡ None) → ((path : Path) → bases_of inner path ≡ g None (dirs_of inner path) None)
-      → (at : Path) → bases_of (opened es' base (with_part (name, inner) ps)) at ≡ g (dirs_of old at) (dirs_of (opened es' base (with_part (name, inner) ps)) at) (bases_of old at)
+      → (at : Path) → bases_of (opened es' base (with_part (name, inner) ps)) at ≡ g (dirs_of old at)
+      (dirs_of (opened es' base (with_part (name, inner) ps)) at) (bases_of old at)
   with_moved es' ps view apart name inner apart' others none inside =
-      moved g settles old es es' ps (with_part (name, inner) ps) view apart apart' name (dirs_of inner) (bases_of inner) (with_becomes name inner ps others) (with_becomes_by base_side name inner ps others)
-      (λ path. inside path ∙ ap (λ o. g o (dirs_of inner path) None) (sym (none path)) ∙ ap (λ b. g (in_part name ps path) (dirs_of inner path) b) (sym (no_base_in name ps path (none path))))
+      moved g settles old es es' ps (with_part (name, inner) ps) view apart apart' name (dirs_of inner) (bases_of inner)
+      (with_becomes name inner ps others)
+      (with_becomes_by base_side name inner ps others)
+      (λ path. inside path ∙ ap (λ o. g o (dirs_of inner path) None) (sym (none path)) ∙ ap (λ b. g (in_part name ps path) (dirs_of inner path) b)
+      (sym (no_base_in name ps path (none path))))
 
-pub dropped_moved : (old : Opened) (es es' : List EntryView) (ps : List Part) {base : List EntryView} → opened es base ps ≡ old → EachLater (λ x y. x.0 ≢ y.0) ps → (name : List ℕ) → EachLater (λ x y. x.0 ≢ y.0) (other_parts name ps)
-    → (at : Path) → bases_of (opened es' base (other_parts name ps)) at ≡ base_edited (dirs_of old at) (dirs_of (opened es' base (other_parts name ps)) at) (bases_of old at)
+pub dropped_moved : (old : Opened) (es es' : List EntryView) (ps : List Part) {base : List EntryView} → opened es base ps ≡ old
+    → EachLater (λ x y. x.0 ≢ y.0) ps → (name : List ℕ) → EachLater (λ x y. x.0 ≢ y.0) (other_parts name ps)
+    → (at : Path) → bases_of (opened es' base (other_parts name ps)) at ≡ base_edited (dirs_of old at)
+    (dirs_of (opened es' base (other_parts name ps)) at)
+    (bases_of old at)
 dropped_moved old es es' ps view apart name apart' =
-    moved base_edited editing old es es' ps (other_parts name ps) view apart apart' name (λ _. None) (λ _. None) (others_becomes name ps) (others_becomes_by base_side name ps) (λ path. refl)
+    moved base_edited editing old es es' ps (other_parts name ps) view apart apart' name (λ _. None) (λ _. None) (others_becomes name ps)
+    (others_becomes_by base_side name ps) (λ path. refl)
 
--- another copy of a directory that hasn't moved
-pub unmoved_as : (g : OfBase) → Settles g → (old new : Opened) → new ≡ old → (at : Path) → bases_of new at ≡ g (dirs_of old at) (dirs_of new at) (bases_of old at)
-unmoved_as g settles old new same at = subst (λ (d : Opened). bases_of d at ≡ g (dirs_of old at) (dirs_of d at) (bases_of old at)) (sym same) (unmoved g settles old at)
+-- the bases of an equal directory are unchanged
+pub unmoved_as : (g : OfBase) → Settles g → (old new : Opened) → new ≡ old → (at : Path) → bases_of new at ≡ g (dirs_of old at) (dirs_of new at)
+    (bases_of old at)
+unmoved_as g settles old new same at = subst (λ (d : Opened). bases_of d at ≡ g (dirs_of old at) (dirs_of d at) (bases_of old at)) (sym same)
+    (unmoved g settles old at)
 
--- a directory that was opened is added
-pub opened_moved : (old : Opened) (es : List EntryView) (cs new : List Child) {base : List EntryView} → opened es base (parts cs) ≡ old → IsLevel es (parts cs) → (name : List ℕ) → AllByRecursion (λ p. p.0 ≢ name) (parts cs) → ((path : Path) → in_part name (parts cs) path ≡ None)
-    → (e : EntryView) → IsEntryOf name (Some es) e → is_tree_mode e.mode ≡ true → (inner : Opened) → parts new ≡ with_part (name, inner) (parts cs) → ((path : Path) → bases_of inner path ≡ dirs_of inner path)
-    → (at : Path) → bases_of (opened es base (parts new)) at ≡ base_opened (dirs_of old at) (dirs_of (opened es base (parts new)) at) (bases_of old at)
+-- the bases after a directory that was opened is added
+pub opened_moved : (old : Opened) (es : List EntryView) (cs new : List Child) {base : List EntryView} → opened es base (parts cs) ≡ old
+    → IsLevel es (parts cs)
+    → (name : List ℕ) → AllByRecursion (λ p. p.0 ≢ name) (parts cs) → ((path : Path) → in_part name (parts cs) path ≡ None)
+    → (e : EntryView) → IsEntryOf name (Some es) e → is_tree_mode e.mode ≡ true → (inner : Opened) → parts new ≡ with_part (name, inner) (parts cs)
+    → ((path : Path) → bases_of inner path ≡ dirs_of inner path)
+    → (at : Path) → bases_of (opened es base (parts new)) at ≡ base_opened (dirs_of old at) (dirs_of (opened es base (parts new)) at)
+    (bases_of old at)
 opened_moved old es cs new {base} view level name others none e entry tree inner is inside at =
-    subst (λ (ps : List Part). bases_of (opened es base ps) at ≡ base_opened (dirs_of old at) (dirs_of (opened es base ps) at) (bases_of old at)) (sym is)
-    (with_moved base_opened opening old es es (parts cs) view (level_apart level) name inner (level_apart (level_with name inner es (parts cs) (of_has_tree name es e entry.0 entry.1 tree) others level)) others none inside at)
+    subst (λ (ps : List Part). bases_of (opened es base ps) at ≡ base_opened (dirs_of old at) (dirs_of (opened es base ps) at) (bases_of old at))
+    (sym is)
+    (with_moved base_opened opening old es es (parts cs) view (level_apart level) name inner
+    (level_apart (level_with name inner es (parts cs) (of_has_tree name es e entry.0 entry.1 tree) others level)) others none inside at)

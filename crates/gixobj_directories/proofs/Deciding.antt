@@ -4,12 +4,12 @@ use Rattle.std.specs.Cmp.Lexicographic.{bytes_decides, slice_cmp}
 use Rattle.std.specs.List.{AllByRecursion}
 use Rattle.std.specs.Ordering.{nat_cmp}
 use Rattle.gixobj_files.specs.Editing.{same_name}
-use Rattle.gixobj_hash.proofs.Splits.{free_of_cut}
-use Rattle.gixobj_hash.specs.Texts.{IsFree}
-use Rattle.gixobj_tree.proofs.Deciding.{cut_or_free}
+use Rattle.gixobj_hash.proofs.Splits.{free_of_split}
+use Rattle.gixobj_hash.specs.ByteStrings.{IsByteFree}
+use Rattle.gixobj_tree.proofs.Deciding.{split_or_free}
 use Rattle.gixobj_tree.specs.Entries.{ComesBefore, EachLater, EntryView, IsEntryName, IsWellFormed, entry_key}
 
--- a fact that holds, or doesn't
+-- a statement holds, or it doesn't
 abbrev OrNot : Type 0 → Type 0
 OrNot P = P ⊎ (P → ⊥)
 
@@ -24,9 +24,9 @@ later_or_not R either (x ∷ xs) =
     ⊎_elim (λ first. ⊎_elim (λ more. inl (first, more)) (λ other. inr (λ all. other all.1)) (later_or_not R either xs)) (λ other. inr (λ all. other all.0))
     (all_or_not (R x) (either x) xs)
 
-free_or_not : (byte : ℕ) (text : List ℕ) → OrNot (IsFree byte text)
-free_or_not byte text =
-    ⊎_elim (λ cut. inr (λ free. free_of_cut byte cut.0 cut.1 (subst (IsFree byte) cut.2.joined free))) (λ free. inl free) (cut_or_free byte text)
+free_or_not : (byte : ℕ) (bytes : List ℕ) → OrNot (IsByteFree byte bytes)
+free_or_not byte bytes =
+    ⊎_elim (λ cut. inr (λ free. free_of_split byte cut.0 cut.1 (subst (IsByteFree byte) cut.2.joined free))) (λ free. inl free) (split_or_free byte bytes)
 
 name_or_not : (name : List ℕ) → OrNot (IsEntryName name)
 name_or_not [] = inr (λ is. is.filled refl)
@@ -57,7 +57,8 @@ pub formed_or_not : (entries : List EntryView) → IsWellFormed entries ⊎ (IsW
 formed_or_not entries = ⊎_elim of_names (λ other. inr (λ is. other is.names)) (names_or_not entries)
   where
     of_both : AllByRecursion (λ e. IsEntryName e.name) entries → EachLater (λ x y. x.name ≢ y.name) entries → OrNot (IsWellFormed entries)
-    of_both names apart = ⊎_elim (λ ascending. inl (record { names = names; apart = apart; ascending = ascending })) (λ other. inr (λ is. other is.ascending)) (ascending_or_not entries)
+    of_both names apart = ⊎_elim (λ ascending. inl (record { names = names; apart = apart; ascending = ascending })) (λ other. inr (λ is. other is.ascending))
+        (ascending_or_not entries)
 
     of_names : AllByRecursion (λ e. IsEntryName e.name) entries → OrNot (IsWellFormed entries)
     of_names names = ⊎_elim (of_both names) (λ other. inr (λ is. other is.apart)) (apart_or_not entries)

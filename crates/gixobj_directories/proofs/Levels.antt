@@ -1,4 +1,5 @@
--- One level of open directories: what is open at the directory itself, and at and below each name in it.
+-- One level of open directories: what is open at the directory itself, and at and below each name in it. All proofs of
+-- open directories use it.
 use mathlib.Core.Bool.{true≢false}
 use Rattle.std.proofs.Common.{inl, inr, zero, suc, ◌≡◌, ◌≢◌, ◌<◌, ◌≤◌, ◌+◌, ℕ, Bool, true, false, not, cond, Less, List, [], ◌∷◌, ◌++◌, Option, Some, None, get_or, length, nat_lt, refl, sym, ap, subst, ◌∙◌, one-add, arith}
 use Rattle.std.specs.Prelude.{◌&&◌, set}
@@ -17,7 +18,7 @@ use Rattle.gixobj_directories.specs.Nested.{IsLevel, Level, Opened, Part, at_sid
 use Rattle.gixobj_files.specs.Opening.{Dirs}
 use Rattle.gixobj_directories.specs.declared.open.Child.{Child}
 use Rattle.gixobj_files.proofs.Formed.{well_formed_with, well_formed_without}
-use Rattle.gixobj_files.proofs.HasTrees.{formed_directory, tree_beside, tree_left, tree_still, tree_there}
+use Rattle.gixobj_files.proofs.HasTrees.{formed_directory, tree_next_to, tree_remaining, tree_still, tree_there}
 use Rattle.gixobj_files.proofs.Namesakes.{PassOnce, first_removed, none_passes}
 use Rattle.gixobj_files.proofs.Sublists.{all_weaker, later_kept}
 use Rattle.gixobj_files.proofs.OpenedFiles.{name_itself, name_other, same_names}
@@ -49,181 +50,225 @@ crossed true true x y z apart = absurd (apart refl refl)
 crossed true false x y z apart = refl
 crossed false b x y z apart = refl
 
--- two names cannot both be a third, where they differ
+-- a name equals at most one of two names that differ
 apart_names : (x y first : List ℕ) → same_name x y ≡ false → same_name x first ≡ true → same_name y first ≡ true → ⊥
 apart_names x y first differ p q = true≢false (sym ((bytes_decides x y).1 ((bytes_decides x first).0 p ∙ sym ((bytes_decides y first).0 q))) ∙ differ)
 
--- the directory of one name becomes another, or goes; those of other names are as before
+-- the directory of one name is replaced or removed; those of other names are unchanged
 pub record BecomesBy (side : Level → List EntryView) (name : List ℕ) (next : Dirs) (old new : List Part) : Type 0 where
   pub says : (first : List ℕ) (path : Path) → part_at side first new path ≡ cond (same_name name first) (next path) (part_at side first old path)
 
--- of either list of the directories
+-- for either list of the open directories
 module _ (side : Level → List EntryView) where
-  in_under : (name : List ℕ) (ds rest : Opened) (path : Path) → at_side side rest (name ∷ path) ≡ None → at_side side (under name ds ++ rest) (name ∷ path) ≡ at_side side ds path
+  in_under : (name : List ℕ) (ds rest : Opened) (path : Path) → at_side side rest (name ∷ path) ≡ None
+      → at_side side (under name ds ++ rest) (name ∷ path) ≡ at_side side ds path
   in_under name [] rest path none = none
   in_under name (d ∷ ds) rest path none =
       rw (tied_name name name path d.0, name_itself name) (ap (λ r. cond (tied path d.0) (Some (side d.1)) r) (in_under name ds rest path none))
 
-  out_of_under : (name other : List ℕ) (ds rest : Opened) (path : Path) → other ≢ name → at_side side (under name ds ++ rest) (other ∷ path) ≡ at_side side rest (other ∷ path)
+  out_of_under : (name other : List ℕ) (ds rest : Opened) (path : Path) → other ≢ name
+      → at_side side (under name ds ++ rest) (other ∷ path) ≡ at_side side rest
+      (other ∷ path)
   out_of_under name other [] rest path differ = refl
-  out_of_under name other (d ∷ ds) rest path differ = rw (tied_name other name path d.0, name_other other name differ) (out_of_under name other ds rest path differ)
+  out_of_under name other (d ∷ ds) rest path differ = rw (tied_name other name path d.0, name_other other name differ)
+      (out_of_under name other ds rest path differ)
 
   none_below : (name : List ℕ) (ps : List Part) (path : Path) → AllByRecursion (λ p. name ≢ p.0) ps → at_side side (below ps) (name ∷ path) ≡ None
   none_below name [] path differ = refl
   none_below name (p ∷ ps) path differ = out_of_under p.0 name p.1 (below ps) path differ.0 ∙ none_below name ps path differ.1
 
-  below_name : (name : List ℕ) (ps : List Part) (path : Path) → EachLater (λ x y. x.0 ≢ y.0) ps → at_side side (below ps) (name ∷ path) ≡ part_at side name ps path
+  below_name : (name : List ℕ) (ps : List Part) (path : Path) → EachLater (λ x y. x.0 ≢ y.0) ps
+      → at_side side (below ps) (name ∷ path) ≡ part_at side name ps path
   below_name name [] path apart = refl
   below_name name (p ∷ ps) path apart =
       elim (same_names p.0 name) [
         | inl same ↦ subst (λ (n : List ℕ). at_side side (below (p ∷ ps)) (n ∷ path) ≡ part_at side n (p ∷ ps) path) same
             (rw (name_itself p.0) (in_under p.0 p.1 (below ps) path (none_below p.0 ps path apart.0)))
-        | inr differ ↦ rw (name_other p.0 name differ) (out_of_under p.0 name p.1 (below ps) path (λ e. differ (sym e)) ∙ below_name name ps path apart.1)
+        | inr differ ↦ rw (name_other p.0 name differ) (out_of_under p.0 name p.1 (below ps) path (λ e. differ (sym e))
+            ∙ below_name name ps path apart.1)
       ]
 
-  -- at and below a name: what is open in its directory
-  pub at_name_by : (es base : List EntryView) (ps : List Part) (name : List ℕ) (path : Path) → EachLater (λ x y. x.0 ≢ y.0) ps → at_side side (opened es base ps) (name ∷ path) ≡ part_at side name ps path
+  -- what is open at and below a name is what is open in its directory
+  pub at_name_by : (es base : List EntryView) (ps : List Part) (name : List ℕ) (path : Path) → EachLater (λ x y. x.0 ≢ y.0) ps
+      → at_side side (opened es base ps) (name ∷ path) ≡ part_at side name ps path
   at_name_by es base ps name path apart = below_name name ps path apart
 
-  found_first : (name : List ℕ) (cs : List Child) (d : Child) (path : Path) → position_or_len (called name) cs < length cs → part_at side name (parts cs) path ≡ at_side side (get_or cs (position_or_len (called name) cs) d).open path
+  found_first : (name : List ℕ) (cs : List Child) (d : Child) (path : Path) → position_or_len (called name) cs < length cs
+      → part_at side name (parts cs) path ≡ at_side side (get_or cs (position_or_len (called name) cs) d).open path
   found_first name [] d path low = absurd (omega (arith, low))
   found_first name (c ∷ cs) d path low =
       elim (called name c) as (λ b. cond (not b) (1 + position_or_len (called name) cs) 0 < length (c ∷ cs)
-      → cond b (at_side side c.open path) (part_at side name (parts cs) path) ≡ at_side side (get_or (c ∷ cs) (cond (not b) (1 + position_or_len (called name) cs) 0) d).open path) [
+      → cond b (at_side side c.open path) (part_at side name (parts cs) path) ≡ at_side side
+      (get_or (c ∷ cs) (cond (not b) (1 + position_or_len (called name) cs) 0) d).open path) [
         | true ↦ λ l. refl
         | false ↦ λ l. rw one-add (found_first name cs d path (omega (arith, l)))
       ] low
 
-  -- the child at the place that the search gave
-  pub found_by : (name : List ℕ) (cs l : List Child) (i : ℕ) (child : Child) → l ≡ cs → Some i ≡ position (called name) l → child ≡ get_or cs i child → (path : Path) → part_at side name (parts cs) path ≡ at_side side child.open path
+  -- the child at the position that the search returned is that of the name
+  pub found_by : (name : List ℕ) (cs l : List Child) (i : ℕ) (child : Child) → l ≡ cs → Some i ≡ position (called name) l → child ≡ get_or cs i child
+      → (path : Path) → part_at side name (parts cs) path ≡ at_side side child.open path
   found_by name cs l i child same found_at is path =
       let at : Some i ≡ position (called name) cs = subst (λ (m : List Child). Some i ≡ position (called name) m) same found_at in
       let place : ℕ = position_or_len (called name) cs in
       let chose = chosen (nat_lt place (length cs)) place i at in
-      found_first name cs child path (ltb-true _ _ chose.0) ∙ ap (λ (c : Child). at_side side c.open path) (ap (λ k. get_or cs k child) chose.1 ∙ sym is)
+      found_first name cs child path (ltb-true _ _ chose.0) ∙ ap (λ (c : Child). at_side side c.open path)
+      (ap (λ k. get_or cs k child) chose.1 ∙ sym is)
 
-  none_first : (name : List ℕ) (cs : List Child) (path : Path) → length cs ≤ position_or_len (called name) cs → part_at side name (parts cs) path ≡ None
+  none_first : (name : List ℕ) (cs : List Child) (path : Path) → length cs ≤ position_or_len (called name) cs
+      → part_at side name (parts cs) path ≡ None
   none_first name [] path high = refl
   none_first name (c ∷ cs) path high =
-      elim (called name c) as (λ b. length (c ∷ cs) ≤ cond (not b) (1 + position_or_len (called name) cs) 0 → cond b (at_side side c.open path) (part_at side name (parts cs) path) ≡ None) [
+      elim (called name c) as (λ b. length (c ∷ cs) ≤ cond (not b) (1 + position_or_len (called name) cs) 0
+      → cond b (at_side side c.open path) (part_at side name (parts cs) path) ≡ None) [
         | true ↦ λ l. absurd (omega (arith, l))
         | false ↦ λ l. none_first name cs path (omega (arith, l))
       ] high
 
-  pub not_found_by : (name : List ℕ) (cs l : List Child) → l ≡ cs → None ≡ position (called name) l → (path : Path) → part_at side name (parts cs) path ≡ None
+  pub not_found_by : (name : List ℕ) (cs l : List Child) → l ≡ cs → None ≡ position (called name) l → (path : Path)
+      → part_at side name (parts cs) path ≡ None
   not_found_by name cs l same found_at path =
       let at : None ≡ position (called name) cs = subst (λ (m : List Child). None ≡ position (called name) m) same found_at in
       none_first name cs path (ltb-false _ _ (unchosen (nat_lt (position_or_len (called name) cs) (length cs)) _ at))
 
-  -- the directories of a level, by its list
-  pub level_at_by : (ds : Opened) (es base : List EntryView) (ps : List Part) → opened es base ps ≡ ds → EachLater (λ x y. x.0 ≢ y.0) ps → (name : List ℕ) (path : Path) → at_side side ds (name ∷ path) ≡ part_at side name ps path
-  level_at_by ds es base ps is apart name path = subst (λ (d : Opened). at_side side d (name ∷ path) ≡ part_at side name ps path) is (at_name_by es base ps name path apart)
+  -- the open directories of a level, by its list of parts
+  pub level_at_by : (ds : Opened) (es base : List EntryView) (ps : List Part) → opened es base ps ≡ ds → EachLater (λ x y. x.0 ≢ y.0) ps
+      → (name : List ℕ) (path : Path) → at_side side ds (name ∷ path) ≡ part_at side name ps path
+  level_at_by ds es base ps is apart name path = subst (λ (d : Opened). at_side side d (name ∷ path) ≡ part_at side name ps path) is
+      (at_name_by es base ps name path apart)
 
-  -- a child that is set at its place
-  set_first : (name : List ℕ) (cs : List Child) (d child : Child) (first : List ℕ) (path : Path) → position_or_len (called name) cs < length cs → bstring_bytes child.name ≡ bstring_bytes (get_or cs (position_or_len (called name) cs) d).name
-      → part_at side first (parts (set cs (position_or_len (called name) cs) child)) path ≡ cond (same_name name first) (at_side side child.open path) (part_at side first (parts cs) path)
+  -- a child that is replaced at its position
+  set_first : (name : List ℕ) (cs : List Child) (d child : Child) (first : List ℕ) (path : Path) → position_or_len (called name) cs < length cs
+      → bstring_bytes child.name ≡ bstring_bytes (get_or cs (position_or_len (called name) cs) d).name
+      → part_at side first (parts (set cs (position_or_len (called name) cs) child)) path ≡ cond (same_name name first) (at_side side child.open path)
+      (part_at side first (parts cs) path)
   set_first name [] d child first path low named = absurd (omega (arith, low))
   set_first name (c ∷ cs) d child first path low named =
       elim (called name c) as (λ b. called name c ≡ b → cond (not b) (1 + position_or_len (called name) cs) 0 < length (c ∷ cs)
       → bstring_bytes child.name ≡ bstring_bytes (get_or (c ∷ cs) (cond (not b) (1 + position_or_len (called name) cs) 0) d).name
-      → part_at side first (parts (set (c ∷ cs) (cond (not b) (1 + position_or_len (called name) cs) 0) child)) path ≡ cond (same_name name first) (at_side side child.open path) (cond (same_name (bstring_bytes c.name) first) (at_side side c.open path) (part_at side first (parts cs) path))) [
+      → part_at side first (parts (set (c ∷ cs) (cond (not b) (1 + position_or_len (called name) cs) 0) child)) path ≡ cond (same_name name first)
+      (at_side side child.open path) (cond (same_name (bstring_bytes c.name) first) (at_side side c.open path) (part_at side first (parts cs) path))) [
         | true ↦ λ is l n. let own : bstring_bytes c.name ≡ name = (bytes_decides (bstring_bytes c.name) name).0 is in
             rw (n, own) (twice (same_name name first) _ _ _)
         | false ↦ λ is l n. let rest = set_first name cs d child first path (omega (arith, l)) (rw one-add at n) in
-            rw (one-add, rest) (crossed (same_name (bstring_bytes c.name) first) (same_name name first) _ _ _ (apart_names (bstring_bytes c.name) name first is))
+            rw (one-add, rest) (crossed (same_name (bstring_bytes c.name) first) (same_name name first) _ _ _
+            (apart_names (bstring_bytes c.name) name first is))
       ] refl low named
 
-  pub set_becomes_by : (name : List ℕ) (cs l : List Child) (i : ℕ) (child next : Child) → l ≡ cs → Some i ≡ position (called name) l → child ≡ get_or cs i child → bstring_bytes next.name ≡ bstring_bytes child.name
+  pub set_becomes_by : (name : List ℕ) (cs l : List Child) (i : ℕ) (child next : Child) → l ≡ cs → Some i ≡ position (called name) l
+      → child ≡ get_or cs i child
+      → bstring_bytes next.name ≡ bstring_bytes child.name
       → BecomesBy side name (at_side side next.open) (parts cs) (parts (set cs i next))
   set_becomes_by name cs l i child next same found_at is named =
       let at : Some i ≡ position (called name) cs = subst (λ (m : List Child). Some i ≡ position (called name) m) same found_at in
       let place : ℕ = position_or_len (called name) cs in
       let chose = chosen (nat_lt place (length cs)) place i at in
       record {
-        says = λ first path. subst (λ k. part_at side first (parts (set cs k next)) path ≡ cond (same_name name first) (at_side side next.open path) (part_at side first (parts cs) path)) chose.1
-            (set_first name cs child next first path (ltb-true _ _ chose.0) (named ∙ ap (λ (c : Child). bstring_bytes c.name) (is ∙ ap (λ k. get_or cs k child) (sym chose.1))));
+        says = λ first path. subst (λ k. part_at side first (parts (set cs k next)) path ≡ cond (same_name name first) (at_side side next.open path)
+            (part_at side first (parts cs) path)) chose.1
+            (set_first name cs child next first path (ltb-true _ _ chose.0)
+            (named ∙ ap (λ (c : Child). bstring_bytes c.name) (is ∙ ap (λ k. get_or cs k child) (sym chose.1))));
       }
 
-  others_first : (name : List ℕ) (ps : List Part) (first : List ℕ) (path : Path) → part_at side first (other_parts name ps) path ≡ cond (same_name name first) None (part_at side first ps path)
+  others_first : (name : List ℕ) (ps : List Part) (first : List ℕ) (path : Path) → part_at side first (other_parts name ps) path ≡ cond
+      (same_name name first) None (part_at side first ps path)
   others_first name [] first path = either (same_name name first)
     where
       either : (b : Bool) → ◌≡◌ {A = Option (List EntryView)} None (cond b None None)
       either true = refl
       either false = refl
   others_first name (p ∷ ps) first path =
-      elim (same_name p.0 name) as (λ b. same_name p.0 name ≡ b → part_at side first (cond (not b) (p ∷ other_parts name ps) (other_parts name ps)) path ≡ cond (same_name name first) None (cond (same_name p.0 first) (at_side side p.1 path) (part_at side first ps path))) [
-        | true ↦ λ is. let own : p.0 ≡ name = (bytes_decides p.0 name).0 is in rw own (others_first name ps first path ∙ twice (same_name name first) _ _ _)
-        | false ↦ λ is. rw (others_first name ps first path) (crossed (same_name p.0 first) (same_name name first) _ _ _ (apart_names p.0 name first is))
+      elim (same_name p.0 name) as
+      (λ b. same_name p.0 name ≡ b → part_at side first (cond (not b) (p ∷ other_parts name ps) (other_parts name ps)) path ≡ cond
+      (same_name name first) None (cond (same_name p.0 first) (at_side side p.1 path) (part_at side first ps path))) [
+        | true ↦ λ is. let own : p.0 ≡ name =
+            (bytes_decides p.0 name).0 is in rw own (others_first name ps first path ∙ twice (same_name name first) _ _ _)
+        | false ↦ λ is. rw (others_first name ps first path)
+            (crossed (same_name p.0 first) (same_name name first) _ _ _ (apart_names p.0 name first is))
       ] refl
 
   pub others_becomes_by : (name : List ℕ) (ps : List Part) → BecomesBy side name (λ _. None) ps (other_parts name ps)
   others_becomes_by name ps = record { says = λ first path. others_first name ps first path }
 
-  with_first : (name : List ℕ) (ds : Opened) (ps : List Part) → AllByRecursion (λ p. p.0 ≢ name) ps → (first : List ℕ) (path : Path) → part_at side first (with_part (name, ds) ps) path ≡ cond (same_name name first) (at_side side ds path) (part_at side first ps path)
+  with_first : (name : List ℕ) (ds : Opened) (ps : List Part) → AllByRecursion (λ p. p.0 ≢ name) ps → (first : List ℕ) (path : Path)
+      → part_at side first (with_part (name, ds) ps) path ≡ cond (same_name name first) (at_side side ds path) (part_at side first ps path)
   with_first name ds [] others first path = refl
   with_first name ds (p ∷ ps) others first path =
-      elim (is_part_before p (name, ds)) as (λ b. part_at side first (cond b (p ∷ with_part (name, ds) ps) ((name, ds) ∷ p ∷ ps)) path ≡ cond (same_name name first) (at_side side ds path) (cond (same_name p.0 first) (at_side side p.1 path) (part_at side first ps path))) [
-        | true ↦ rw (with_first name ds ps others.1 first path) (crossed (same_name p.0 first) (same_name name first) _ _ _ (apart_names p.0 name first (name_other p.0 name others.0)))
+      elim (is_part_before p (name, ds)) as (λ b. part_at side first (cond b (p ∷ with_part (name, ds) ps) ((name, ds) ∷ p ∷ ps)) path ≡ cond
+      (same_name name first) (at_side side ds path) (cond (same_name p.0 first) (at_side side p.1 path) (part_at side first ps path))) [
+        | true ↦ rw (with_first name ds ps others.1 first path)
+            (crossed (same_name p.0 first) (same_name name first) _ _ _ (apart_names p.0 name first (name_other p.0 name others.0)))
         | false ↦ refl
       ]
 
-  pub with_becomes_by : (name : List ℕ) (ds : Opened) (ps : List Part) → AllByRecursion (λ p. p.0 ≢ name) ps → BecomesBy side name (at_side side ds) ps (with_part (name, ds) ps)
+  pub with_becomes_by : (name : List ℕ) (ds : Opened) (ps : List Part) → AllByRecursion (λ p. p.0 ≢ name) ps
+      → BecomesBy side name (at_side side ds) ps (with_part (name, ds) ps)
   with_becomes_by name ds ps others = record { says = with_first name ds ps others }
 
--- of the entries
+-- for the entries of the open directories
 abbrev pub Becomes : List ℕ → Dirs → List Part → List Part → Type 0
 Becomes = BecomesBy entries_side
 
 pub at_root : (es base : List EntryView) (ps : List Part) → dirs_of (opened es base ps) [] ≡ Some es
 at_root es base ps = refl
 
--- at and below a name: what is open in its directory
-pub at_name : (es base : List EntryView) (ps : List Part) (name : List ℕ) (path : Path) → EachLater (λ x y. x.0 ≢ y.0) ps → dirs_of (opened es base ps) (name ∷ path) ≡ in_part name ps path
+-- what is open at and below a name is what is open in its directory
+pub at_name : (es base : List EntryView) (ps : List Part) (name : List ℕ) (path : Path) → EachLater (λ x y. x.0 ≢ y.0) ps
+    → dirs_of (opened es base ps) (name ∷ path) ≡ in_part name ps path
 at_name = at_name_by entries_side
 
--- the child at the place that the search gave
-pub found : (name : List ℕ) (cs l : List Child) (i : ℕ) (child : Child) → l ≡ cs → Some i ≡ position (called name) l → child ≡ get_or cs i child → (path : Path) → in_part name (parts cs) path ≡ dirs_of child.open path
+-- the child at the position that the search returned is that of the name
+pub found : (name : List ℕ) (cs l : List Child) (i : ℕ) (child : Child) → l ≡ cs → Some i ≡ position (called name) l → child ≡ get_or cs i child
+    → (path : Path)
+    → in_part name (parts cs) path ≡ dirs_of child.open path
 found = found_by entries_side
 
 pub not_found : (name : List ℕ) (cs l : List Child) → l ≡ cs → None ≡ position (called name) l → (path : Path) → in_part name (parts cs) path ≡ None
 not_found = not_found_by entries_side
 
--- the directories of a level, by its list
-pub level_at : (ds : Opened) (es : List EntryView) {base : List EntryView} (ps : List Part) → opened es base ps ≡ ds → EachLater (λ x y. x.0 ≢ y.0) ps → (name : List ℕ) (path : Path) → dirs_of ds (name ∷ path) ≡ in_part name ps path
+-- the open directories of a level, by its list of parts
+pub level_at : (ds : Opened) (es : List EntryView) {base : List EntryView} (ps : List Part) → opened es base ps ≡ ds → EachLater (λ x y. x.0 ≢ y.0) ps
+    → (name : List ℕ) (path : Path) → dirs_of ds (name ∷ path) ≡ in_part name ps path
 level_at ds es {base} ps is = level_at_by entries_side ds es base ps is
 
 pub level_root : (ds : Opened) (es : List EntryView) {base : List EntryView} (ps : List Part) → opened es base ps ≡ ds → dirs_of ds [] ≡ Some es
 level_root ds es ps is = subst (λ (d : Opened). dirs_of d [] ≡ Some es) is refl
 
--- its bases
-pub based_at : (ds : Opened) (es : List EntryView) {base : List EntryView} (ps : List Part) → opened es base ps ≡ ds → EachLater (λ x y. x.0 ≢ y.0) ps → (name : List ℕ) (path : Path) → bases_of ds (name ∷ path) ≡ bases_in name ps path
+-- the bases of a level, by its list of parts
+pub based_at : (ds : Opened) (es : List EntryView) {base : List EntryView} (ps : List Part) → opened es base ps ≡ ds → EachLater (λ x y. x.0 ≢ y.0) ps
+    → (name : List ℕ) (path : Path) → bases_of ds (name ∷ path) ≡ bases_in name ps path
 based_at ds es {base} ps is = level_at_by base_side ds es base ps is
 
 pub based_root : (ds : Opened) (es : List EntryView) {base : List EntryView} (ps : List Part) → opened es base ps ≡ ds → bases_of ds [] ≡ Some base
 based_root ds es {base} ps is = subst (λ (d : Opened). bases_of d [] ≡ Some base) is refl
 
-pub set_becomes : (name : List ℕ) (cs l : List Child) (i : ℕ) (child next : Child) → l ≡ cs → Some i ≡ position (called name) l → child ≡ get_or cs i child → bstring_bytes next.name ≡ bstring_bytes child.name
+pub set_becomes : (name : List ℕ) (cs l : List Child) (i : ℕ) (child next : Child) → l ≡ cs → Some i ≡ position (called name) l
+    → child ≡ get_or cs i child
+    → bstring_bytes next.name ≡ bstring_bytes child.name
     → Becomes name (dirs_of next.open) (parts cs) (parts (set cs i next))
 set_becomes = set_becomes_by entries_side
 
 pub others_becomes : (name : List ℕ) (ps : List Part) → Becomes name (λ _. None) ps (other_parts name ps)
 others_becomes = others_becomes_by entries_side
 
-pub with_becomes : (name : List ℕ) (ds : Opened) (ps : List Part) → AllByRecursion (λ p. p.0 ≢ name) ps → Becomes name (dirs_of ds) ps (with_part (name, ds) ps)
+pub with_becomes : (name : List ℕ) (ds : Opened) (ps : List Part) → AllByRecursion (λ p. p.0 ≢ name) ps
+    → Becomes name (dirs_of ds) ps (with_part (name, ds) ps)
 with_becomes = with_becomes_by entries_side
 
--- a level stays one where a child with the same name is set
-all_set : (P : List ℕ → Type 0) (cs : List Child) (i : ℕ) (next : Child) → AllByRecursion (λ p. P p.0) (parts cs) → bstring_bytes next.name ≡ bstring_bytes (get_or cs i next).name → AllByRecursion (λ p. P p.0) (parts (set cs i next))
+-- a level remains one after a child is replaced by one of the same name
+all_set : (P : List ℕ → Type 0) (cs : List Child) (i : ℕ) (next : Child) → AllByRecursion (λ p. P p.0) (parts cs)
+    → bstring_bytes next.name ≡ bstring_bytes (get_or cs i next).name → AllByRecursion (λ p. P p.0) (parts (set cs i next))
 all_set P [] i next h named = h
 all_set P (c ∷ cs) zero next h named = (subst P (sym named) h.0, h.1)
 all_set P (c ∷ cs) (suc i) next h named = (h.0, all_set P cs i next h.1 named)
 
-later_set : (R : List ℕ → List ℕ → Type 0) (cs : List Child) (i : ℕ) (next : Child) → EachLater (λ x y. R x.0 y.0) (parts cs) → bstring_bytes next.name ≡ bstring_bytes (get_or cs i next).name → EachLater (λ x y. R x.0 y.0) (parts (set cs i next))
+later_set : (R : List ℕ → List ℕ → Type 0) (cs : List Child) (i : ℕ) (next : Child) → EachLater (λ x y. R x.0 y.0) (parts cs)
+    → bstring_bytes next.name ≡ bstring_bytes (get_or cs i next).name → EachLater (λ x y. R x.0 y.0) (parts (set cs i next))
 later_set R [] i next h named = h
 later_set R (c ∷ cs) zero next h named = (subst (λ n. AllByRecursion (λ p. R n p.0) (parts cs)) (sym named) h.0, h.1)
 later_set R (c ∷ cs) (suc i) next h named = (all_set (R (bstring_bytes c.name)) cs i next h.0 named, later_set R cs i next h.1 named)
 
-pub level_set : (es : List EntryView) (cs : List Child) (i : ℕ) (child next : Child) → child ≡ get_or cs i child → bstring_bytes next.name ≡ bstring_bytes child.name → IsLevel es (parts cs) → IsLevel es (parts (set cs i next))
+pub level_set : (es : List EntryView) (cs : List Child) (i : ℕ) (child next : Child) → child ≡ get_or cs i child
+    → bstring_bytes next.name ≡ bstring_bytes child.name → IsLevel es (parts cs) → IsLevel es (parts (set cs i next))
 level_set es cs i child next is named level =
     let own : bstring_bytes next.name ≡ bstring_bytes (get_or cs i next).name = own_name cs i child next is named in
     record {
@@ -232,22 +277,25 @@ level_set es cs i child next is named level =
       above = all_set (λ n. has_tree n es ≡ true) cs i next level.above own;
     }
   where
-    own_name : (cs : List Child) (i : ℕ) (child next : Child) → child ≡ get_or cs i child → bstring_bytes next.name ≡ bstring_bytes child.name → bstring_bytes next.name ≡ bstring_bytes (get_or cs i next).name
+    own_name : (cs : List Child) (i : ℕ) (child next : Child) → child ≡ get_or cs i child → bstring_bytes next.name ≡ bstring_bytes child.name
+        → bstring_bytes next.name ≡ bstring_bytes (get_or cs i next).name
     own_name [] i child next is named = refl
     own_name (c ∷ cs) zero child next is named = named ∙ ap (λ (d : Child). bstring_bytes d.name) is
     own_name (c ∷ cs) (suc i) child next is named = own_name cs i child next is named
 
--- the same child set: nothing changes
+-- a child that is replaced by an equal one changes nothing
 pub set_same : (cs : List Child) (i : ℕ) (child next : Child) → child ≡ get_or cs i child → part next ≡ part child → parts (set cs i next) ≡ parts cs
 set_same [] i child next is same = refl
 set_same (c ∷ cs) zero child next is same = ap (λ p. p ∷ parts cs) (same ∙ ap part is)
 set_same (c ∷ cs) (suc i) child next is same = ap (λ ps. part c ∷ ps) (set_same cs i child next is same)
 
--- the children of other names
+-- the children of other names are the parts of other names
 pub filter_parts : (name : List ℕ) (cs : List Child) → parts (filter (λ c. not (called name c)) cs) ≡ other_parts name (parts cs)
 filter_parts name [] = refl
 filter_parts name (c ∷ cs) =
-    elim (called name c) as (λ b. parts (cond (not b) (c ∷ filter (λ d. not (called name d)) cs) (filter (λ d. not (called name d)) cs)) ≡ cond (not b) (part c ∷ other_parts name (parts cs)) (other_parts name (parts cs))) [
+    elim (called name c) as (λ b. parts (cond (not b) (c ∷ filter (λ d. not (called name d)) cs) (filter (λ d. not (called name d)) cs)) ≡ cond
+    (not b)
+    (part c ∷ other_parts name (parts cs)) (other_parts name (parts cs))) [
       | true ↦ filter_parts name cs
       | false ↦ ap (λ ps. part c ∷ ps) (filter_parts name cs)
     ]
@@ -256,23 +304,31 @@ once : (name : List ℕ) (cs : List Child) → EachLater (λ x y. x.0 ≢ y.0) (
 once name [] h = tt
 once name (c ∷ cs) h = (all_differ cs h.0, once name cs h.1)
   where
-    all_differ : (ds : List Child) → AllByRecursion (λ p. bstring_bytes c.name ≢ p.0) (parts ds) → AllByRecursion (λ d. called name c ≡ true → called name d ≡ false) ds
+    all_differ : (ds : List Child) → AllByRecursion (λ p. bstring_bytes c.name ≢ p.0) (parts ds)
+        → AllByRecursion (λ d. called name c ≡ true → called name d ≡ false) ds
     all_differ [] k = tt
-    all_differ (d ∷ ds) k = ((λ is. name_other (bstring_bytes d.name) name (λ q. k.0 ((bytes_decides (bstring_bytes c.name) name).0 is ∙ sym q))), all_differ ds k.1)
+    all_differ (d ∷ ds) k = (
+      (λ is. name_other (bstring_bytes d.name) name (λ q. k.0 ((bytes_decides (bstring_bytes c.name) name).0 is ∙ sym q))),
+      all_differ ds k.1,
+    )
 
-pub others_removed : (name : List ℕ) (cs l : List Child) (i : ℕ) → l ≡ cs → Some i ≡ position (called name) l → EachLater (λ x y. x.0 ≢ y.0) (parts cs) → parts (remove cs i) ≡ other_parts name (parts cs)
+pub others_removed : (name : List ℕ) (cs l : List Child) (i : ℕ) → l ≡ cs → Some i ≡ position (called name) l
+    → EachLater (λ x y. x.0 ≢ y.0) (parts cs)
+    → parts (remove cs i) ≡ other_parts name (parts cs)
 others_removed name cs l i same found_at apart =
     let at : Some i ≡ position (called name) cs = subst (λ (m : List Child). Some i ≡ position (called name) m) same found_at in
     let place : ℕ = position_or_len (called name) cs in
     let chose = chosen (nat_lt place (length cs)) place i at in
-    ap (λ k. parts (remove cs k)) (sym chose.1) ∙ ap parts (first_removed (called name) cs (once name cs apart) (ltb-true _ _ chose.0)) ∙ filter_parts name cs
+    ap (λ k. parts (remove cs k)) (sym chose.1) ∙ ap parts (first_removed (called name) cs (once name cs apart) (ltb-true _ _ chose.0))
+    ∙ filter_parts name cs
 
 pub others_none : (name : List ℕ) (cs l : List Child) → l ≡ cs → None ≡ position (called name) l → parts cs ≡ other_parts name (parts cs)
 others_none name cs l same found_at =
     let at : None ≡ position (called name) cs = subst (λ (m : List Child). None ≡ position (called name) m) same found_at in
-    sym (ap parts (none_passes (called name) cs (ltb-false _ _ (unchosen (nat_lt (position_or_len (called name) cs) (length cs)) _ at)))) ∙ filter_parts name cs
+    sym (ap parts (none_passes (called name) cs (ltb-false _ _ (unchosen (nat_lt (position_or_len (called name) cs) (length cs)) _ at))))
+    ∙ filter_parts name cs
 
--- a directory is added
+-- if the search finds no child, no directory has the name
 pub none_named : (name : List ℕ) (cs l : List Child) → l ≡ cs → None ≡ position (called name) l → AllByRecursion (λ p. p.0 ≢ name) (parts cs)
 none_named name cs l same found_at =
     let at : None ≡ position (called name) cs = subst (λ (m : List Child). None ≡ position (called name) m) same found_at in
@@ -280,22 +336,26 @@ none_named name cs l same found_at =
   where
     each : (ds : List Child) → length ds ≤ position_or_len (called name) ds → AllByRecursion (λ p. p.0 ≢ name) (parts ds)
     each [] high = tt
-    each (d ∷ ds) high = elim (called name d) as (λ b. called name d ≡ b → length (d ∷ ds) ≤ cond (not b) (1 + position_or_len (called name) ds) 0 → (bstring_bytes d.name ≢ name) × AllByRecursion (λ p. p.0 ≢ name) (parts ds)) [
-      | true ↦ λ is h. absurd (omega (arith, h))
-      | false ↦ λ is h. ((λ q. true≢false (sym ((bytes_decides (bstring_bytes d.name) name).1 q) ∙ is)), each ds (omega (arith, h)))
-    ] refl high
+    each (d ∷ ds) high = elim (called name d) as (λ b. called name d ≡ b → length (d ∷ ds) ≤ cond (not b) (1 + position_or_len (called name) ds) 0
+        → (bstring_bytes d.name ≢ name) × AllByRecursion (λ p. p.0 ≢ name) (parts ds)) [
+          | true ↦ λ is h. absurd (omega (arith, h))
+          | false ↦ λ is h. ((λ q. true≢false (sym ((bytes_decides (bstring_bytes d.name) name).1 q) ∙ is)), each ds (omega (arith, h)))
+        ] refl high
 
-others_above : (name : List ℕ) (next es : List EntryView) (ps : List Part) → ((n : List ℕ) → n ≢ name → has_tree n es ≡ true → has_tree n next ≡ true) → AllByRecursion (λ p. has_tree p.0 es ≡ true) ps → AllByRecursion (λ p. has_tree p.0 next ≡ true) (other_parts name ps)
+others_above : (name : List ℕ) (next es : List EntryView) (ps : List Part) → ((n : List ℕ) → n ≢ name → has_tree n es ≡ true → has_tree n next ≡ true)
+    → AllByRecursion (λ p. has_tree p.0 es ≡ true) ps → AllByRecursion (λ p. has_tree p.0 next ≡ true) (other_parts name ps)
 others_above name next es [] keeps h = tt
 others_above name next es (p ∷ ps) keeps h =
-    elim (same_name p.0 name) as (λ b. same_name p.0 name ≡ b → AllByRecursion (λ q. has_tree q.0 next ≡ true) (cond (not b) (p ∷ other_parts name ps) (other_parts name ps))) [
+    elim (same_name p.0 name) as
+    (λ b. same_name p.0 name ≡ b → AllByRecursion (λ q. has_tree q.0 next ≡ true) (cond (not b) (p ∷ other_parts name ps) (other_parts name ps))) [
       | true ↦ λ is. others_above name next es ps keeps h.1
       | false ↦ λ is. (keeps p.0 (λ q. true≢false (sym ((bytes_decides p.0 name).1 q) ∙ is)) h.0, others_above name next es ps keeps h.1)
     ] refl
 
--- levels after an edit
-pub level_put : (x : EntryView) (es : List EntryView) (ps : List Part) → IsEntryName x.name → IsLevel es ps → IsLevel (with_entry x es) (other_parts x.name ps)
-level_put x es ps is_name level = record {
+-- a level remains one after an edit of its entries
+pub level_inserted : (x : EntryView) (es : List EntryView) (ps : List Part) → IsEntryName x.name → IsLevel es ps
+    → IsLevel (with_entry x es) (other_parts x.name ps)
+level_inserted x es ps is_name level = record {
   formed = well_formed_with x es level.formed is_name;
   ordered = later_kept (λ p q. slice_cmp nat_cmp (part_key p) (part_key q) ≡ Less) (λ p. not (same_name p.0 x.name)) ps level.ordered;
   above = others_above x.name (with_entry x es) es ps (λ n differ h. tree_still n x es differ h) level.above;
@@ -305,33 +365,40 @@ pub level_taken : (name : List ℕ) (es : List EntryView) (ps : List Part) → I
 level_taken name es ps level = record {
   formed = well_formed_without name es level.formed;
   ordered = later_kept (λ p q. slice_cmp nat_cmp (part_key p) (part_key q) ≡ Less) (λ p. not (same_name p.0 name)) ps level.ordered;
-  above = others_above name (without name es) es ps (λ n differ h. tree_left n name es differ h) level.above;
+  above = others_above name (without name es) es ps (λ n differ h. tree_remaining n name es differ h) level.above;
 }
 
-pub level_added : (name : List ℕ) (null : ObjectId) (ds : Opened) (es : List EntryView) (ps : List Part) → IsEntryName name → AllByRecursion (λ p. p.0 ≢ name) ps → IsLevel es ps → IsLevel (with_directory name null es) (with_part (name, ds) ps)
+pub level_added : (name : List ℕ) (null : ObjectId) (ds : Opened) (es : List EntryView) (ps : List Part) → IsEntryName name
+    → AllByRecursion (λ p. p.0 ≢ name) ps → IsLevel es ps → IsLevel (with_directory name null es) (with_part (name, ds) ps)
 level_added name null ds es ps is_name others level = record {
   formed = formed_directory name null es level.formed is_name;
   ordered = ordered_with (name, ds) ps others level.ordered;
-  above = all_with (λ (p : Part). has_tree p.0 (with_directory name null es) ≡ true) (name, ds) ps (tree_there name null es) (all_weaker (λ (p : Part). has_tree p.0 es ≡ true) (λ (p : Part). has_tree p.0 (with_directory name null es) ≡ true) (λ p h. tree_beside p.0 name null es h) ps level.above);
+  above = all_with (λ (p : Part). has_tree p.0 (with_directory name null es) ≡ true) (name, ds) ps (tree_there name null es)
+      (all_weaker (λ (p : Part). has_tree p.0 es ≡ true) (λ (p : Part). has_tree p.0 (with_directory name null es) ≡ true)
+      (λ p h. tree_next_to p.0 name null es h) ps level.above);
 }
 
--- the directory of a name that is open has a tree's entry
-above_first : (es : List EntryView) (name : List ℕ) (cs : List Child) → position_or_len (called name) cs < length cs → AllByRecursion (λ p. has_tree p.0 es ≡ true) (parts cs) → has_tree name es ≡ true
+-- the open directory of a name has an entry of tree mode
+above_first : (es : List EntryView) (name : List ℕ) (cs : List Child) → position_or_len (called name) cs < length cs
+    → AllByRecursion (λ p. has_tree p.0 es ≡ true) (parts cs) → has_tree name es ≡ true
 above_first es name [] low above = absurd (omega (arith, low))
 above_first es name (c ∷ cs) low above =
-    elim (called name c) as (λ b. called name c ≡ b → cond (not b) (1 + position_or_len (called name) cs) 0 < length (c ∷ cs) → has_tree name es ≡ true) [
+    elim (called name c) as (λ b. called name c ≡ b → cond (not b) (1 + position_or_len (called name) cs) 0 < length (c ∷ cs)
+    → has_tree name es ≡ true) [
       | true ↦ λ is l. subst (λ n. has_tree n es ≡ true) ((bytes_decides (bstring_bytes c.name) name).0 is) above.0
       | false ↦ λ is l. above_first es name cs (omega (arith, l)) above.1
     ] refl low
 
-pub child_above : (es : List EntryView) (name : List ℕ) (cs l : List Child) (i : ℕ) → l ≡ cs → Some i ≡ position (called name) l → AllByRecursion (λ p. has_tree p.0 es ≡ true) (parts cs) → has_tree name es ≡ true
+pub child_above : (es : List EntryView) (name : List ℕ) (cs l : List Child) (i : ℕ) → l ≡ cs → Some i ≡ position (called name) l
+    → AllByRecursion (λ p. has_tree p.0 es ≡ true) (parts cs) → has_tree name es ≡ true
 child_above es name cs l i same found_at above =
     let at : Some i ≡ position (called name) cs = subst (λ (m : List Child). Some i ≡ position (called name) m) same found_at in
     let place : ℕ = position_or_len (called name) cs in
     above_first es name cs (ltb-true _ _ (chosen (nat_lt place (length cs)) place i at).0) above
 
--- a directory is added that has a tree's entry
-pub level_with : (name : List ℕ) (ds : Opened) (es : List EntryView) (ps : List Part) → has_tree name es ≡ true → AllByRecursion (λ p. p.0 ≢ name) ps → IsLevel es ps → IsLevel es (with_part (name, ds) ps)
+-- a level remains one with a directory more, if the directory has an entry of tree mode
+pub level_with : (name : List ℕ) (ds : Opened) (es : List EntryView) (ps : List Part) → has_tree name es ≡ true → AllByRecursion (λ p. p.0 ≢ name) ps
+    → IsLevel es ps → IsLevel es (with_part (name, ds) ps)
 level_with name ds es ps tree others level = record {
   formed = level.formed;
   ordered = ordered_with (name, ds) ps others level.ordered;

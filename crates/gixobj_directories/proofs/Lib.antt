@@ -1,7 +1,7 @@
 pub mod Alongside
 pub mod BaseSteps
 pub mod Deciding
-pub mod Handing
+pub mod Emitting
 pub mod Levels
 pub mod LookedUp
 pub mod NamedTrees
@@ -9,4 +9,4 @@ pub mod OpeningSteps
 pub mod Ordered
 pub mod Steps
 pub mod StorablePairs
-pub mod WholeTrees
+pub mod LeafTrees

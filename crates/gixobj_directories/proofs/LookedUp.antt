@@ -1,64 +1,97 @@
--- An entry at the end of a path through directories is a file.
+-- The entry at the end of a path through directories is a file.
 use Rattle.std.proofs.Common.{◌≡◌, ◌++◌, ◌∷◌, ◌∙◌, ℕ, List, [], ap, arith, inl, inr, length, length-append, refl, subst, sym, true, false, None, Some}
 use Rattle.std.specs.Prelude.{All, Bool, IsFalse, MatchOption, Option, if◌then◌else◌}
 use Rattle.std.proofs.lemmas.List.Elements.{All-head, All-tail}
 use Rattle.gixobj_object.specs.Lookups.{HasFirstNamed, IsPath, Name}
 use Rattle.gixobj_object.specs.Stores.{Objects, StoredObject}
 use Rattle.gixobj_fields.specs.Runs as runs
-use Rattle.gixobj_fields.specs.Runs.{complete, tells_end, tells_piece}
-use Rattle.gixobj_files.specs.Files.{Below, Files, Has, Table, Trees, is_null, stands_for}
+use Rattle.gixobj_fields.specs.Runs.{complete, yields_end, yields_piece}
+use Rattle.gixobj_files.specs.Files.{Below, Files, Has, Table, Trees, is_null, resolves_to}
 use Rattle.gixobj_files.specs.Tables.{AgreesWithStore}
 use Rattle.gixobj_hash.specs.Hash.{id_bytes}
 use Rattle.gixobj_hash.specs.declared.hash.kind.Kind.{Kind}
 use Rattle.gixobj_hash.specs.declared.hash.object_id.ObjectId.{ObjectId}
-use Rattle.gixobj_tree.proofs.EntryRuns.{told}
+use Rattle.gixobj_tree.proofs.EntryRuns.{test_iff}
 use Rattle.gixobj_tree.proofs.OneEntry.{one_entry}
-use Rattle.gixobj_tree.specs.TreeReading.{BeginsWithEntry, HasEntry, IsTreeText, TellsEntries}
+use Rattle.gixobj_tree.specs.TreeDecoding.{BeginsWithEntry, HasEntry, DecodesToTree, YieldsEntries}
 use Rattle.gixobj_tree.specs.Entries.{EntryView}
 use Rattle.gixobj_directories.specs.LookedUp.{IsDirectoryIn, IsFileIn, IsLookedUp}
 use Rattle.gixobj_directories.specs.Openings.{AreTreesOf}
 
--- no entry comes of nothing
+-- no entry begins with no bytes
 nothing : (kind : Kind) (e : EntryView) (rest : List ℕ) → BeginsWithEntry kind [] e rest → ⊥
-nothing kind e rest (text, joined, is) = omega (arith, ap length joined, length-append text rest, ap length is.joined, length-append is.digits (32 ∷ (e.name ++ 0 ∷ [])), length-append is.digits (32 ∷ (e.name ++ 0 ∷ id_bytes e.id)))
+nothing kind e rest (content, joined, is) =
+    omega (
+      arith,
+      ap length joined,
+      length-append content rest,
+      ap length is.joined,
+      length-append is.digits (32 ∷ (e.name ++ 0 ∷ [])),
+      length-append is.digits
+          (32 ∷ (e.name ++ 0 ∷ id_bytes e.id)),
+    )
 
--- an entry that comes past others is one of those that are told
-passed_has : (kind : Kind) (text here rest : List ℕ) (entries passed : List EntryView) (e : EntryView) → TellsEntries kind text entries complete → runs.Passes (HasEntry kind) tt text passed tt here → BeginsWithEntry kind here e rest → Has entries e
-passed_has kind text here rest entries [] e (tells_end _) (_, same) has = absurd (nothing kind e rest (subst (λ (at : List ℕ). BeginsWithEntry kind at e rest) (sym same) has))
-passed_has kind text here rest entries [] e (tells_piece _ _ _ behind x more _ first on) (_, same) has =
-    inl (one_entry kind text x e behind rest first (subst (λ (at : List ℕ). BeginsWithEntry kind at e rest) (sym same) has)).0
-passed_has kind text here rest entries (p ∷ passed) e (tells_end _) (_, after, first, on) has = absurd (nothing kind p after first)
-passed_has kind text here rest entries (p ∷ passed) e (tells_piece _ _ _ behind x more _ first on) (_, after, other, way) has =
-    let same = (one_entry kind text p x after behind other first).1 in
-    inr (passed_has kind behind here rest more passed e on (subst (λ (at : List ℕ). runs.Passes (HasEntry kind) tt at passed tt here) same way) has)
+-- an entry that comes after others is one of those that the iterator yields
+passed_has : (kind : Kind) (content here rest : List ℕ) (entries passed : List EntryView) (e : EntryView) → YieldsEntries kind content entries complete
+    → runs.Passes (HasEntry kind) tt content passed tt here → BeginsWithEntry kind here e rest → Has entries e
+passed_has kind content here rest entries [] e (yields_end _) (_, same) has =
+    absurd (nothing kind e rest (subst (λ (at : List ℕ). BeginsWithEntry kind at e rest) (sym same) has))
+passed_has kind content here rest entries [] e (yields_piece _ _ _ following x more _ first on) (_, same) has =
+    inl (one_entry kind content x e following rest first (subst (λ (at : List ℕ). BeginsWithEntry kind at e rest) (sym same) has)).0
+passed_has kind content here rest entries (p ∷ passed) e (yields_end _) (_, after, first, on) has = absurd (nothing kind p after first)
+passed_has kind content here rest entries (p ∷ passed) e (yields_piece _ _ _ following x more _ first on) (_, after, other, way) has =
+    let same = (one_entry kind content p x after following other first).1 in
+    inr (passed_has kind following here rest more passed e on (subst (λ (at : List ℕ). runs.Passes (HasEntry kind) tt at passed tt here) same way) has)
 
-first_has : (kind : Kind) (text : List ℕ) (entries : List EntryView) (name : Name) (e : EntryView) → IsTreeText kind text entries → HasFirstNamed kind text name e → Has entries e × (e.name ≡ name)
-first_has kind text entries name e is ((_, _, here, rest, (passed, on, none), has), said) = (passed_has kind text here rest entries passed e (told kind text entries is) on has, said)
+first_has : (kind : Kind) (content : List ℕ) (entries : List EntryView) (name : Name) (e : EntryView) → DecodesToTree kind content entries
+    → HasFirstNamed kind content name e → Has entries e × (e.name ≡ name)
+first_has kind content entries name e is ((_, _, here, rest, (passed, on, none), has), said) =
+    (passed_has kind content here rest entries passed e (test_iff kind content entries is) on has, said)
 
 module _ (objects : Objects) (trees : Trees) (fits : AreTreesOf objects trees) (T : Table) (agrees : AgreesWithStore T trees) where
   filled : (id : ObjectId) → (is_null id ≡ true → ⊥) → IsFalse (is_null id)
   filled id some = elim (is_null id) as (λ b. is_null id ≡ b → IsFalse b) [ true ↦ λ null. absurd (some null) | false ↦ λ _. refl ] refl
 
-  below_there : (n : ℕ) (more : List Name) (b e : EntryView) → (is : IsDirectoryIn objects b) → Files T n is.entries more e.mode e.id → Below T (Files T n) b.mode b.id more e.mode e.id
+  below_there : (n : ℕ) (more : List Name) (b e : EntryView) → (is : IsDirectoryIn objects b) → Files T n is.entries more e.mode e.id
+      → Below T (Files T n) b.mode b.id more e.mode e.id
   below_there n more b e is file =
-      let tree : stands_for T b.mode b.id ≡ T.tree_at b.id = ap (λ (t : Bool). if t then T.tree_at b.id else None) is.tree in
-      let there : T.tree_at b.id ≡ Some is.entries = agrees b.id is.entries is.sought ((fits b.id is.entries).1 is.named) in
-      (filled b.id (λ null. is.sought (inl null)), subst (λ (it : Option (List EntryView)). MatchOption it ((more ≡ []) × (e.mode ≡ b.mode) × (e.id ≡ b.id)) (λ entries. Files T n entries more e.mode e.id)) (sym (tree ∙ there)) file)
+      let tree : resolves_to T b.mode b.id ≡ T.tree_at b.id = ap (λ (t : Bool). if t then T.tree_at b.id else None) is.tree in
+      let there : T.tree_at b.id ≡ Some is.entries = agrees b.id is.entries is.searched ((fits b.id is.entries).1 is.named) in (
+        filled b.id (λ null. is.searched (inl null)),
+        subst (λ (it : Option (List EntryView)). MatchOption it ((more ≡ []) × (e.mode ≡ b.mode) × (e.id ≡ b.id))
+            (λ entries. Files T n entries more e.mode e.id)) (sym (tree ∙ there)) file,
+      )
 
-  file_there : (first : StoredObject) (root : List EntryView) (names : List Name) (before : List EntryView) (e : EntryView) → IsTreeText first.object_hash first.bytes root
+  file_there : (first : StoredObject) (root : List EntryView) (names : List Name) (before : List EntryView) (e : EntryView)
+      → DecodesToTree first.object_hash first.bytes root
       → IsPath objects (Some first) names (before ++ e ∷ []) → All (IsDirectoryIn objects) before → IsFileIn T e → Files T (length names) root names e.mode e.id
   file_there first root [] [] e is path dirs file = absurd path
   file_there first root [] (b ∷ before) e is path dirs file = absurd path
   file_there first root (name ∷ []) [] e is path dirs file =
-      let (has, said) = first_has first.object_hash first.bytes root name e is path.0.1 in
-      (e, has, said, (file.0, subst (λ (it : Option (List EntryView)). MatchOption it ((◌≡◌ {A = List Name} [] []) × (e.mode ≡ e.mode) × (e.id ≡ e.id)) (λ entries. Files T 0 entries [] e.mode e.id)) (sym file.1) (refl, refl, refl)))
+      let (has, said) = first_has first.object_hash first.bytes root name e is path.0.1 in (
+        e,
+        has,
+        said,
+        (
+          file.0,
+          subst (λ (it : Option (List EntryView)). MatchOption it ((◌≡◌ {A = List Name} [] []) × (e.mode ≡ e.mode) × (e.id ≡ e.id))
+              (λ entries. Files T 0 entries [] e.mode e.id)) (sym file.1) (refl, refl, refl),
+        ),
+      )
   file_there first root (name ∷ other ∷ more) [] e is path dirs file = absurd path.1
   file_there first root (name ∷ more) (b ∷ before) e is path dirs file =
       let (has, said) = first_has first.object_hash first.bytes root name b is path.0.1 in
       let directory = All-head (IsDirectoryIn objects) b before dirs in
-      let ((kept, names, kind, text), well) = directory.named in
-      let on : IsPath objects (Some kept) more (before ++ e ∷ []) = subst (λ (it : Option StoredObject). IsPath objects it more (before ++ e ∷ [])) names path.1 in
-      (b, has, said, below_there (length more) more b e directory (file_there kept directory.entries more before e text on (All-tail (IsDirectoryIn objects) b before dirs) file))
+      let ((kept, names, kind, content), well) = directory.named in
+      let on : IsPath objects (Some kept) more (before ++ e ∷ []) =
+      subst (λ (it : Option StoredObject). IsPath objects it more (before ++ e ∷ [])) names path.1 in (
+        b,
+        has,
+        said,
+        below_there (length more) more b e directory
+            (file_there kept directory.entries more before e content on (All-tail (IsDirectoryIn objects) b before dirs) file),
+      )
 
-  pub file_looked_up : (kind : Kind) (text : List ℕ) (root : List EntryView) (names : List Name) (e : EntryView) → IsTreeText kind text root → IsLookedUp objects kind text names e → IsFileIn T e → Files T (length names) root names e.mode e.id
-  file_looked_up kind text root names e is (before, path, dirs) file = file_there _ root names before e is path dirs file
+  pub file_looked_up : (kind : Kind) (content : List ℕ) (root : List EntryView) (names : List Name) (e : EntryView) → DecodesToTree kind content root
+      → IsLookedUp objects kind content names e → IsFileIn T e → Files T (length names) root names e.mode e.id
+  file_looked_up kind content root names e is (before, path, dirs) file = file_there _ root names before e is path dirs file

@@ -7,14 +7,15 @@ use Rattle.gixobj_hash.specs.declared.kind.Kind.{Kind}
 use Rattle.gixobj_hash.specs.declared.kind.Kind.TheVariants.{Blob, Commit, Tag, Tree}
 use Rattle.gixobj_tree.proofs.Deciding.{tree_or_none}
 use Rattle.gixobj_tree.proofs.EntryRuns.{one_tree}
-use Rattle.gixobj_tree.specs.TreeReading.{IsTreeText}
+use Rattle.gixobj_tree.specs.TreeDecoding.{DecodesToTree}
 use Rattle.gixobj_tree.specs.Entries.{EntryView, IsWellFormed}
 use Rattle.gixobj_directories.proofs.Deciding.{formed_or_not}
 use Rattle.gixobj_directories.specs.Openings.{AreTreesOf, NamesTree}
 
 -- the well-formed tree that the id names, or none
 abbrev IsTreeAt : Objects → ObjectId → Option (List EntryView) → Type 0
-IsTreeAt objects id found = (entries : List EntryView) → (found ≡ Some entries → NamesTree objects id entries) × (NamesTree objects id entries → found ≡ Some entries)
+IsTreeAt objects id found = (entries : List EntryView) → (found ≡ Some entries → NamesTree objects id entries)
+    × (NamesTree objects id entries → found ≡ Some entries)
 
 abbrev TreeAt : Objects → ObjectId → Type 0
 TreeAt objects id = (found : Option (List EntryView)) × IsTreeAt objects id found
@@ -22,7 +23,7 @@ TreeAt objects id = (found : Option (List EntryView)) × IsTreeAt objects id fou
 no_tree_at : (objects : Objects) (id : ObjectId) → ((entries : List EntryView) → NamesTree objects id entries → ⊥) → TreeAt objects id
 no_tree_at objects id none = (None, λ entries. (λ is. cc is, λ names. absurd (none entries names)))
 
--- of an object that the id names
+-- the tree of an object that the id names
 module _ (objects : Objects) (id : ObjectId) (kept : StoredObject) (named_so : named objects id ≡ Some kept) where
   same_object : (other : StoredObject) → named objects id ≡ Some other → other ≡ kept
   same_object other is = cc (is, named_so)
@@ -31,32 +32,33 @@ module _ (objects : Objects) (id : ObjectId) (kept : StoredObject) (named_so : n
   no_other_kind kind is differs entries names =
       differs (sym is ∙ sym (ap (λ (it : StoredObject). it.kind) (same_object names.0.0 names.0.1)) ∙ names.0.2)
 
-  text_there : (entries : List EntryView) → NamesTree objects id entries → IsTreeText kept.object_hash kept.bytes entries
-  text_there entries names =
-      let P : StoredObject → Type 0 = λ it. IsTreeText it.object_hash it.bytes entries in
+  bytes_there : (entries : List EntryView) → NamesTree objects id entries → DecodesToTree kept.object_hash kept.bytes entries
+  bytes_there entries names =
+      let P : StoredObject → Type 0 = λ it. DecodesToTree it.object_hash it.bytes entries in
       subst P (same_object names.0.0 names.0.1) names.0.3
 
-  formed_at : kept.kind ≡ Tree → (entries : List EntryView) → IsTreeText kept.object_hash kept.bytes entries → IsWellFormed entries → TreeAt objects id
-  formed_at kind entries text formed = (
+  formed_at : kept.kind ≡ Tree → (entries : List EntryView) → DecodesToTree kept.object_hash kept.bytes entries → IsWellFormed entries → TreeAt objects id
+  formed_at kind entries content formed = (
     Some entries,
     λ others. (
-      λ is. (let same : entries ≡ others = cc is in subst (NamesTree objects id) same ((kept, named_so, kind, text), formed)),
-      λ names. ap Some (one_tree kept.object_hash kept.bytes entries others text (text_there others names)),
+      λ is. (let same : entries ≡ others = cc is in subst (NamesTree objects id) same ((kept, named_so, kind, content), formed)),
+      λ names. ap Some (one_tree kept.object_hash kept.bytes entries others content (bytes_there others names)),
     ),
   )
 
-  malformed_at : (entries : List EntryView) → IsTreeText kept.object_hash kept.bytes entries → (IsWellFormed entries → ⊥) → TreeAt objects id
-  malformed_at entries text malformed =
-      no_tree_at objects id (λ others names. malformed (subst IsWellFormed (one_tree kept.object_hash kept.bytes others entries (text_there others names) text) names.1))
+  malformed_at : (entries : List EntryView) → DecodesToTree kept.object_hash kept.bytes entries → (IsWellFormed entries → ⊥) → TreeAt objects id
+  malformed_at entries content malformed =
+      no_tree_at objects id (λ others names. malformed
+      (subst IsWellFormed (one_tree kept.object_hash kept.bytes others entries (bytes_there others names) content) names.1))
 
-  text_at : kept.kind ≡ Tree → TreeAt objects id
-  text_at kind =
+  bytes_at : kept.kind ≡ Tree → TreeAt objects id
+  bytes_at kind =
       ⊎_elim (λ is. ⊎_elim (formed_at kind is.0 is.1) (malformed_at is.0 is.1) (formed_or_not is.0))
-      (λ none. no_tree_at objects id (λ entries names. none entries (text_there entries names)))
+      (λ none. no_tree_at objects id (λ entries names. none entries (bytes_there entries names)))
       (tree_or_none kept.object_hash kept.bytes)
 
   kind_at : (kind : Kind) → kept.kind ≡ kind → TreeAt objects id
-  kind_at Tree is = text_at is
+  kind_at Tree is = bytes_at is
   kind_at Blob is = no_tree_at objects id (no_other_kind Blob is (λ same. cc same))
   kind_at Commit is = no_tree_at objects id (no_other_kind Commit is (λ same. cc same))
   kind_at Tag is = no_tree_at objects id (no_other_kind Tag is (λ same. cc same))

@@ -1,4 +1,5 @@
--- One step of opening the directories on a path.
+-- One step of the opening of the directories on a path: for `open_along` and the other calls that take a path, and for
+-- the editor's openings.
 use Rattle.std.proofs.Common.{◌≡◌, ◌≢◌, inl, inr, ◌∙◌, ◌≤◌, ◌+◌, ℕ, min, true, false, cond, List, [], ◌∷◌, ◌++◌, Option, Some, None, get_or, length, refl, sym, ap, subst, arith}
 use Rattle.std.specs.Prelude.{IfNone, set}
 use Rattle.std.specs.Option.{option_copied}
@@ -12,17 +13,17 @@ use Rattle.gixobj_hash.specs.declared.hash.object_id.ObjectId.{ObjectId}
 use Rattle.bstr.specs.declared.bstring.BString.{BString}
 use Rattle.gixobj_directories.specs.Calls.{names_of}
 use Rattle.gixobj_files.specs.Editing.{same_name}
-use Rattle.gixobj_files.specs.Edits.{Finds, IsEntryOf, Opens, counted, down, found, greatest_count, only, stops, with_dir}
+use Rattle.gixobj_files.specs.Edits.{Finds, IsEntryOf, Opens, counted, down, found, max_count, only, stops, with_dir}
 use Rattle.gixobj_files.specs.Files.{Has, Path, Trees}
 use Rattle.gixobj_directories.specs.Nested.{IsLevel, Opened, Part, dirs_of, in_part, opened, parts, with_part}
-use Rattle.gixobj_files.specs.Halting.{Halts, at_once, in_vain}
-use Rattle.gixobj_files.specs.Halting as halting
+use Rattle.gixobj_files.specs.OpeningStops.{StopsOpening, at_once, without_answer}
+use Rattle.gixobj_files.specs.OpeningStops as halting
 use Rattle.gixobj_files.specs.Opening.{Dirs, HasAt, IsOpened, in_dir}
-use Rattle.gixobj_files.specs.Tables.{IsUnaskedId}
+use Rattle.gixobj_files.specs.Tables.{IsNeverLookedUp}
 use Rattle.gixobj_directories.specs.Openings.{EndsBefore}
 use Rattle.gixobj_directories.specs.declared.open.Child.{Child}
-use Rattle.gixobj_directories.specs.declared.opening.Unasked.{Unasked}
-use Rattle.gixobj_directories.specs.declared.opening.Unasked.TheVariants as unasked
+use Rattle.gixobj_directories.specs.declared.opening.Vacant.{Vacant}
+use Rattle.gixobj_directories.specs.declared.opening.Vacant.TheVariants as vacant
 use Rattle.gixobj_files.proofs.UnopenedCounts.{IsIdle}
 use Rattle.gixobj_files.proofs.StillOpenedOpenings.{opened_in_dir, opened_only, opened_with_dir}
 use Rattle.gixobj_files.proofs.HasTrees.{has_tree_of, of_has_tree}
@@ -31,11 +32,14 @@ use Rattle.gixobj_directories.proofs.Levels as levels
 use Rattle.gixobj_directories.proofs.Steps.{replaced}
 use Rattle.gixobj_directories.proofs.Ordered.{level_apart}
 
--- the first entry of a name is the only one
-pub first_entry : (name : List ℕ) (es : List EntryView) (e : EntryView) → find (λ x. same_name x.name name) es ≡ Some e → EachLater (λ x y. x.name ≢ y.name) es → IsEntryOf name (Some es) e
+-- the first entry of a name is the only one of it
+pub first_entry : (name : List ℕ) (es : List EntryView) (e : EntryView) → find (λ x. same_name x.name name) es ≡ Some e
+    → EachLater (λ x y. x.name ≢ y.name) es
+    → IsEntryOf name (Some es) e
 first_entry name [] e is apart = absurd (cc is)
 first_entry name (x ∷ xs) e is apart =
-    elim (same_name x.name name) as (λ b. same_name x.name name ≡ b → cond b (Some x) (find (λ y. same_name y.name name) xs) ≡ Some e → IsEntryOf name (Some (x ∷ xs)) e) [
+    elim (same_name x.name name) as (λ b. same_name x.name name ≡ b → cond b (Some x) (find (λ y. same_name y.name name) xs) ≡ Some e
+    → IsEntryOf name (Some (x ∷ xs)) e) [
       | true ↦ λ called_so k. let same : x ≡ e = cc k in let named : x.name ≡ name = (bytes_decides x.name name).0 called_so in
           (inl same, ap (λ (y : EntryView). y.name) (sym same) ∙ named, λ other h n. only_first other h n same named)
       | false ↦ λ other_name k. let rest = first_entry name xs e k apart.1 in
@@ -52,7 +56,9 @@ first_entry name (x ∷ xs) e is apart =
     only_first other (inr k) n is_e named = absurd (differs xs other apart.0 k (named ∙ sym n))
 
     later : (other : EntryView) → Has (x ∷ xs) other → other.name ≡ name → same_name x.name name ≡ false → IsEntryOf name (Some xs) e → other ≡ e
-    later other (inl same) n apart_so rest = absurd (let yes : same_name x.name name ≡ true = (bytes_decides x.name name).1 (ap (λ (z : EntryView). z.name) same ∙ n) in let bad : true ≡ false = sym yes ∙ apart_so in cc bad)
+    later other (inl same) n apart_so rest =
+        absurd (let yes : same_name x.name name ≡ true = (bytes_decides x.name name).1 (ap (λ (z : EntryView). z.name) same ∙ n) in let bad : true
+        ≡ false = sym yes ∙ apart_so in cc bad)
     later other (inr k) n apart_so rest = rest.2 other k n
 
 pub no_entry : (name : List ℕ) (es : List EntryView) → find (λ x. same_name x.name name) es ≡ None → (e : EntryView) → Has es e → e.name ≢ name
@@ -64,18 +70,20 @@ no_entry name (x ∷ xs) is e h =
     ] refl is
   where
     here : Has (x ∷ xs) e → same_name x.name name ≡ false → (Has xs e → e.name ≢ name) → e.name ≢ name
-    here (inl same) apart_so k = λ q. let yes : same_name x.name name ≡ true = (bytes_decides x.name name).1 (ap (λ (z : EntryView). z.name) same ∙ q) in let bad : true ≡ false = sym yes ∙ apart_so in cc bad
+    here (inl same) apart_so k = λ q. let yes : same_name x.name name ≡ true =
+        (bytes_decides x.name name).1 (ap (λ (z : EntryView). z.name) same ∙ q) in let bad : true ≡ false = sym yes ∙ apart_so in cc bad
     here (inr l) apart_so k = k l
 
-pub counted_more : (n : ℕ) (first asked : List ObjectId) → counted (counted n first) asked ≡ counted n (first ++ asked)
-counted_more n [] asked = refl
-counted_more n (id ∷ first) asked = counted_more (min (n + 1) greatest_count) first asked
+pub counted_more : (n : ℕ) (first requested : List ObjectId) → counted (counted n first) requested ≡ counted n (first ++ requested)
+counted_more n [] requested = refl
+counted_more n (id ∷ first) requested = counted_more (min (n + 1) max_count) first requested
 
-pub finds_one : (trees : Trees) (id : ObjectId) (entries : List EntryView) (asked : List ObjectId) → Finds trees id entries asked → length asked ≤ 1
-finds_one trees id entries asked (formed, inl h) = subst (λ (l : List ObjectId). length l ≤ 1) (sym h.2) (omega arith)
-finds_one trees id entries asked (formed, inr h) = subst (λ (l : List ObjectId). length l ≤ 1) (sym h.2) (omega arith)
+pub finds_one : (trees : Trees) (id : ObjectId) (entries : List EntryView) (requested : List ObjectId) → Finds trees id entries requested
+    → length requested ≤ 1
+finds_one trees id entries requested (formed, inl h) = subst (λ (l : List ObjectId). length l ≤ 1) (sym h.2) (omega arith)
+finds_one trees id entries requested (formed, inr h) = subst (λ (l : List ObjectId). length l ≤ 1) (sym h.2) (omega arith)
 
--- nothing but a directory's own list is open
+-- in a directory without open ones its own list alone is open
 pub only_is : (es : List EntryView) → dirs_of (opened es [] []) ≡ only es
 only_is es = λ i at. here at i
   where
@@ -83,45 +91,65 @@ only_is es = λ i at. here at i
     here [] = refl
     here (name ∷ path) = refl
 
--- what goes on in the directory of a name goes on in the one above it
+-- a relation in the directory of a name holds in the directory above it
 abbrev pub GoesDown : (Path → Dirs → Dirs → List ObjectId → Type 0) → Type 0
 GoesDown R =
-    (name : List ℕ) (rest : Path) (dirs inner : Dirs) (e : EntryView) (entries : List EntryView) (asked : List ObjectId) → HasAt (dirs []) e → e.name ≡ name → dirs (name ∷ []) ≡ Some entries
-    → R rest (in_dir name dirs) inner asked → R (name ∷ rest) dirs (with_dir name inner dirs) asked
+    (name : List ℕ) (rest : Path) (dirs inner : Dirs) (e : EntryView) (entries : List EntryView) (requested : List ObjectId) → HasAt (dirs []) e
+    → e.name ≡ name
+    → dirs (name ∷ []) ≡ Some entries
+    → R rest (in_dir name dirs) inner requested → R (name ∷ rest) dirs (with_dir name inner dirs) requested
 
--- and what goes on in a directory that is opened with a list that fits its entry, goes on in the one above it
+-- a relation in a directory that is opened with a fitting list holds in the directory above it
 abbrev pub GoesIn : (EntryView → List EntryView → List ObjectId → Type 0) → (Path → Dirs → Dirs → List ObjectId → Type 0) → Type 0
 GoesIn Fits R =
-    (name : List ℕ) (rest : Path) (dirs inner : Dirs) (e : EntryView) (entries : List EntryView) (first asked : List ObjectId) → IsEntryOf name (dirs []) e → is_tree_mode e.mode ≡ true → ((path : Path) → dirs (name ∷ path) ≡ None)
-    → Fits e entries first → R rest (only entries) inner asked → R (name ∷ rest) dirs (with_dir name inner dirs) (first ++ asked)
+    (name : List ℕ) (rest : Path) (dirs inner : Dirs) (e : EntryView) (entries : List EntryView) (first requested : List ObjectId)
+    → IsEntryOf name (dirs []) e
+    → is_tree_mode e.mode ≡ true → ((path : Path) → dirs (name ∷ path) ≡ None)
+    → Fits e entries first → R rest (only entries) inner requested → R (name ∷ rest) dirs (with_dir name inner dirs) (first ++ requested)
 
-pub stop_step : {Ends : EntryView → Type 0} (trees : Trees) (es : List EntryView) (ps : List Part) → IsLevel es ps → (name : List ℕ) (rest : Path) → ((path : Path) → in_part name ps path ≡ None) → ((e : EntryView) → Has es e → e.name ≡ name → Ends e)
+pub stop_step : {Ends : EntryView → Type 0} (trees : Trees) (es : List EntryView) (ps : List Part) → IsLevel es ps → (name : List ℕ) (rest : Path)
+    → ((path : Path) → in_part name ps path ≡ None) → ((e : EntryView) → Has es e → e.name ≡ name → Ends e)
     → Opens Ends trees (name ∷ rest) (dirs_of (opened es [] ps)) (dirs_of (opened es [] ps)) []
-stop_step trees es ps level name rest none other = stops name rest (dirs_of (opened es [] ps)) other (λ path. at_name es [] ps name path (level_apart level) ∙ none path)
+stop_step trees es ps level name rest none other = stops name rest (dirs_of (opened es [] ps)) other
+    (λ path. at_name es [] ps name path (level_apart level) ∙ none path)
 
-module _ (Fits : EntryView → List EntryView → List ObjectId → Type 0) (R : Path → Dirs → Dirs → List ObjectId → Type 0) (goes_down : GoesDown R) (goes_in : GoesIn Fits R) (es : List EntryView) where
-  pub down_step : (cs l : List Child) → IsLevel es (parts cs) → (name : List ℕ) (rest : Path) (i : ℕ) (child next : Child) → l ≡ cs → Some i ≡ position (called name) l → child ≡ get_or cs i child → bstring_bytes next.name ≡ bstring_bytes child.name
-      → (entries : List EntryView) → dirs_of child.open [] ≡ Some entries → (asked : List ObjectId) → R rest (dirs_of child.open) (dirs_of next.open) asked
-      → R (name ∷ rest) (dirs_of (opened es [] (parts cs))) (dirs_of (opened es [] (parts (set cs i next)))) asked
-  down_step cs l level name rest i child next same at is named entries root asked opens =
+module _ (Fits : EntryView → List EntryView → List ObjectId → Type 0) (R : Path → Dirs → Dirs → List ObjectId → Type 0) (goes_down : GoesDown R)
+    (goes_in : GoesIn Fits R) (es : List EntryView) where
+  pub down_step : (cs l : List Child) → IsLevel es (parts cs) → (name : List ℕ) (rest : Path) (i : ℕ) (child next : Child) → l ≡ cs
+      → Some i ≡ position (called name) l → child ≡ get_or cs i child → bstring_bytes next.name ≡ bstring_bytes child.name
+      → (entries : List EntryView) → dirs_of child.open [] ≡ Some entries → (requested : List ObjectId)
+      → R rest (dirs_of child.open) (dirs_of next.open) requested
+      → R (name ∷ rest) (dirs_of (opened es [] (parts cs))) (dirs_of (opened es [] (parts (set cs i next)))) requested
+  down_step cs l level name rest i child next same at is named entries root requested opens =
       let old : Dirs = dirs_of (opened es [] (parts cs)) in
       let e = has_tree_of name es (child_above es name cs l i same at level.above) in
-      let inside : in_dir name old ≡ dirs_of child.open = λ j path. (at_name es [] (parts cs) name path (level_apart level) ∙ levels.found name cs l i child same at is path) j in
-      let new_is : dirs_of (opened es [] (parts (set cs i next))) ≡ with_dir name (dirs_of next.open) old = λ j path. replaced (opened es [] (parts cs)) es es (parts cs) (parts (set cs i next)) refl (level_apart level) (level_apart (level_set es cs i child next is named level)) name (dirs_of next.open) (set_becomes name cs l i child next same at is named) refl path j in
-      subst (λ (d : Dirs). R (name ∷ rest) old d asked) (sym new_is)
-      (goes_down name rest old (dirs_of next.open) e.0 entries asked e.1 e.2 (ap (λ (d : Dirs). d []) inside ∙ root) (subst (λ (d : Dirs). R rest d (dirs_of next.open) asked) (sym inside) opens))
+      let inside : in_dir name old ≡ dirs_of child.open =
+      λ j path. (at_name es [] (parts cs) name path (level_apart level) ∙ levels.found name cs l i child same at is path) j in
+      let new_is : dirs_of (opened es [] (parts (set cs i next))) ≡ with_dir name (dirs_of next.open) old =
+      λ j path. replaced (opened es [] (parts cs)) es es
+      (parts cs) (parts (set cs i next)) refl (level_apart level) (level_apart (level_set es cs i child next is named level)) name (dirs_of next.open)
+      (set_becomes name cs l i child next same at is named) refl path j in
+      subst (λ (d : Dirs). R (name ∷ rest) old d requested) (sym new_is)
+      (goes_down name rest old (dirs_of next.open) e.0 entries requested e.1 e.2 (ap (λ (d : Dirs). d []) inside ∙ root)
+      (subst (λ (d : Dirs). R rest d (dirs_of next.open) requested) (sym inside) opens))
 
-  pub found_step : (ps : List Part) → IsLevel es ps → (name : List ℕ) (rest : Path) → AllByRecursion (λ p. p.0 ≢ name) ps → ((path : Path) → in_part name ps path ≡ None) → (e : EntryView) → IsEntryOf name (Some es) e → is_tree_mode e.mode ≡ true
-      → (entries : List EntryView) (first asked : List ObjectId) → Fits e entries first → (inner : Opened) → R rest (dirs_of (opened entries [] [])) (dirs_of inner) asked
-      → R (name ∷ rest) (dirs_of (opened es [] ps)) (dirs_of (opened es [] (with_part (name, inner) ps))) (first ++ asked)
-  found_step ps level name rest others none e entry tree entries first asked finds inner opens =
+  pub found_step : (ps : List Part) → IsLevel es ps → (name : List ℕ) (rest : Path) → AllByRecursion (λ p. p.0 ≢ name) ps
+      → ((path : Path) → in_part name ps path ≡ None) → (e : EntryView) → IsEntryOf name (Some es) e → is_tree_mode e.mode ≡ true
+      → (entries : List EntryView) (first requested : List ObjectId) → Fits e entries first → (inner : Opened)
+      → R rest (dirs_of (opened entries [] [])) (dirs_of inner) requested
+      → R (name ∷ rest) (dirs_of (opened es [] ps)) (dirs_of (opened es [] (with_part (name, inner) ps))) (first ++ requested)
+  found_step ps level name rest others none e entry tree entries first requested finds inner opens =
       let old : Dirs = dirs_of (opened es [] ps) in
       let more = level_with name inner es ps (of_has_tree name es e entry.0 entry.1 tree) others level in
-      let new_is : dirs_of (opened es [] (with_part (name, inner) ps)) ≡ with_dir name (dirs_of inner) old = λ j path. replaced (opened es [] ps) es es ps (with_part (name, inner) ps) refl (level_apart level) (level_apart more) name (dirs_of inner) (with_becomes name inner ps others) refl path j in
-      subst (λ (d : Dirs). R (name ∷ rest) old d (first ++ asked)) (sym new_is)
-      (goes_in name rest old (dirs_of inner) e entries first asked entry tree (λ path. at_name es [] ps name path (level_apart level) ∙ none path) finds (subst (λ (d : Dirs). R rest d (dirs_of inner) asked) (only_is entries) opens))
+      let new_is : dirs_of (opened es [] (with_part (name, inner) ps)) ≡ with_dir name (dirs_of inner) old =
+      λ j path. replaced (opened es [] ps) es es ps
+      (with_part (name, inner) ps) refl (level_apart level) (level_apart more) name (dirs_of inner) (with_becomes name inner ps others) refl path j in
+      subst (λ (d : Dirs). R (name ∷ rest) old d (first ++ requested)) (sym new_is)
+      (goes_in name rest old (dirs_of inner) e entries first requested entry tree (λ path. at_name es [] ps name path (level_apart level) ∙ none path)
+      finds
+      (subst (λ (d : Dirs). R rest d (dirs_of inner) requested) (only_is entries) opens))
 
--- an option that was copied
+-- an option that is copied is the option of the copy
 pub copied_some : {X : Type 0} (r : Option (Bor X)) (o : Option X) (x : Bor X) → option_copied r ≡ o → r ≡ Some x → o ≡ Some x.now
 copied_some r o x is some = sym is ∙ ap option_copied some
 
@@ -131,92 +159,126 @@ copied_none r o is none = sym is ∙ ap option_copied none
 pub none_weaker : {X : Type 0} (r : Option X) (P : Type 0) → r ≡ None → P → IfNone r P
 none_weaker r P is p = subst (λ (o : Option _). IfNone o P) (sym is) p
 
-pub stop_in : {Ends : EntryView → Type 0} (trees : Trees) (es : List EntryView) (ds : Opened) (path : Path) (name : List ℕ) (rest : Path) → path ≡ name ∷ rest → (ps : List Part) {base : List EntryView} → opened es base ps ≡ ds → IsLevel es ps → ((at : Path) → in_part name ps at ≡ None)
+pub stop_in : {Ends : EntryView → Type 0} (trees : Trees) (es : List EntryView) (ds : Opened) (path : Path) (name : List ℕ) (rest : Path)
+    → path ≡ name ∷ rest
+    → (ps : List Part) {base : List EntryView} → opened es base ps ≡ ds → IsLevel es ps → ((at : Path) → in_part name ps at ≡ None)
     → ((e : EntryView) → Has es e → e.name ≡ name → Ends e) → Opens Ends trees path (dirs_of ds) (dirs_of ds) []
 stop_in {Ends = Ends} trees es ds path name rest path_is ps view level none other =
-    subst (λ p. Opens Ends trees p (dirs_of ds) (dirs_of ds) []) (sym path_is) (subst (λ (d : Opened). Opens Ends trees (name ∷ rest) (dirs_of d) (dirs_of d) []) view (stop_step trees es ps level name rest none other))
+    subst (λ p. Opens Ends trees p (dirs_of ds) (dirs_of ds) []) (sym path_is)
+    (subst (λ (d : Opened). Opens Ends trees (name ∷ rest) (dirs_of d) (dirs_of d) []) view (stop_step trees es ps level name rest none other))
 
--- the same, for a level seen whole and a path that is known by parts
-module _ (Fits : EntryView → List EntryView → List ObjectId → Type 0) (R : Path → Dirs → Dirs → List ObjectId → Type 0) (goes_down : GoesDown R) (goes_in : GoesIn Fits R) (es : List EntryView) (ds : Opened) (path : Path) (name : List ℕ) (rest : Path) (path_is : path ≡ name ∷ rest) where
-  pub down_in : (cs l : List Child) {base : List EntryView} → opened es base (parts cs) ≡ ds → IsLevel es (parts cs) → (i : ℕ) (child next : Child) → l ≡ cs → Some i ≡ position (called name) l → child ≡ get_or cs i child → bstring_bytes next.name ≡ bstring_bytes child.name
-      → (entries : List EntryView) → dirs_of child.open [] ≡ Some entries → (asked : List ObjectId) → R rest (dirs_of child.open) (dirs_of next.open) asked
-      → R path (dirs_of ds) (dirs_of (opened es [] (parts (set cs i next)))) asked
-  down_in cs l view level i child next same at is named entries root asked opens =
-      subst (λ p. R p (dirs_of ds) (dirs_of (opened es [] (parts (set cs i next)))) asked) (sym path_is)
-      (subst (λ (d : Opened). R (name ∷ rest) (dirs_of d) (dirs_of (opened es [] (parts (set cs i next)))) asked) view (down_step Fits R goes_down goes_in es cs l level name rest i child next same at is named entries root asked opens))
+-- the steps for an entire level, and a path that is known by its parts
+module _ (Fits : EntryView → List EntryView → List ObjectId → Type 0) (R : Path → Dirs → Dirs → List ObjectId → Type 0) (goes_down : GoesDown R)
+    (goes_in : GoesIn Fits R) (es : List EntryView) (ds : Opened) (path : Path) (name : List ℕ) (rest : Path) (path_is : path ≡ name ∷ rest) where
+  pub down_in : (cs l : List Child) {base : List EntryView} → opened es base (parts cs) ≡ ds → IsLevel es (parts cs) → (i : ℕ) (child next : Child)
+      → l ≡ cs
+      → Some i ≡ position (called name) l → child ≡ get_or cs i child → bstring_bytes next.name ≡ bstring_bytes child.name
+      → (entries : List EntryView) → dirs_of child.open [] ≡ Some entries → (requested : List ObjectId)
+      → R rest (dirs_of child.open) (dirs_of next.open) requested
+      → R path (dirs_of ds) (dirs_of (opened es [] (parts (set cs i next)))) requested
+  down_in cs l view level i child next same at is named entries root requested opens =
+      subst (λ p. R p (dirs_of ds) (dirs_of (opened es [] (parts (set cs i next)))) requested) (sym path_is)
+      (subst (λ (d : Opened). R (name ∷ rest) (dirs_of d) (dirs_of (opened es [] (parts (set cs i next)))) requested) view
+      (down_step Fits R goes_down goes_in es cs l level name rest i child next same at is named entries root requested opens))
 
-  pub found_in : (cs : List Child) {base : List EntryView} → opened es base (parts cs) ≡ ds → IsLevel es (parts cs) → AllByRecursion (λ p. p.0 ≢ name) (parts cs) → ((at : Path) → in_part name (parts cs) at ≡ None) → (e : EntryView) → IsEntryOf name (Some es) e → is_tree_mode e.mode ≡ true
-      → (entries : List EntryView) (first asked : List ObjectId) → Fits e entries first → (inner : Opened) (new : List Child) → parts new ≡ with_part (name, inner) (parts cs) → R rest (dirs_of (opened entries [] [])) (dirs_of inner) asked
-      → R path (dirs_of ds) (dirs_of (opened es [] (parts new))) (first ++ asked)
-  found_in cs view level others none e entry tree entries first asked finds inner new is opens =
-      subst (λ p. R p (dirs_of ds) (dirs_of (opened es [] (parts new))) (first ++ asked)) (sym path_is)
-      (subst (λ (ps : List Part). R (name ∷ rest) (dirs_of ds) (dirs_of (opened es [] ps)) (first ++ asked)) (sym is)
-      (subst (λ (d : Opened). R (name ∷ rest) (dirs_of d) (dirs_of (opened es [] (with_part (name, inner) (parts cs)))) (first ++ asked)) view
-      (found_step Fits R goes_down goes_in es (parts cs) level name rest others none e entry tree entries first asked finds inner opens)))
+  pub found_in : (cs : List Child) {base : List EntryView} → opened es base (parts cs) ≡ ds → IsLevel es (parts cs)
+      → AllByRecursion (λ p. p.0 ≢ name) (parts cs) → ((at : Path) → in_part name (parts cs) at ≡ None) → (e : EntryView) → IsEntryOf name (Some es) e
+      → is_tree_mode e.mode ≡ true
+      → (entries : List EntryView) (first requested : List ObjectId) → Fits e entries first → (inner : Opened) (new : List Child)
+      → parts new ≡ with_part (name, inner) (parts cs) → R rest (dirs_of (opened entries [] [])) (dirs_of inner) requested
+      → R path (dirs_of ds) (dirs_of (opened es [] (parts new))) (first ++ requested)
+  found_in cs view level others none e entry tree entries first requested finds inner new is opens =
+      subst (λ p. R p (dirs_of ds) (dirs_of (opened es [] (parts new))) (first ++ requested)) (sym path_is)
+      (subst (λ (ps : List Part). R (name ∷ rest) (dirs_of ds) (dirs_of (opened es [] ps)) (first ++ requested)) (sym is)
+      (subst (λ (d : Opened). R (name ∷ rest) (dirs_of d) (dirs_of (opened es [] (with_part (name, inner) (parts cs)))) (first ++ requested)) view
+      (found_step Fits R goes_down goes_in es (parts cs) level name rest others none e entry tree entries first requested finds inner opens)))
 
-pub level_new : (name : List ℕ) (es : List EntryView) (cs : List Child) → IsLevel es (parts cs) → AllByRecursion (λ p. p.0 ≢ name) (parts cs) → (e : EntryView) → IsEntryOf name (Some es) e → is_tree_mode e.mode ≡ true → (inner : Opened) (new : List Child) → parts new ≡ with_part (name, inner) (parts cs)
+pub level_new : (name : List ℕ) (es : List EntryView) (cs : List Child) → IsLevel es (parts cs) → AllByRecursion (λ p. p.0 ≢ name) (parts cs)
+    → (e : EntryView)
+    → IsEntryOf name (Some es) e → is_tree_mode e.mode ≡ true → (inner : Opened) (new : List Child) → parts new ≡ with_part (name, inner) (parts cs)
     → IsLevel es (parts new)
-level_new name es cs level others e entry tree inner new is = subst (IsLevel es) (sym is) (level_with name inner es (parts cs) (of_has_tree name es e entry.0 entry.1 tree) others level)
+level_new name es cs level others e entry tree inner new is =
+    subst (IsLevel es) (sym is) (level_with name inner es (parts cs) (of_has_tree name es e entry.0 entry.1 tree) others level)
 
 pub names_none : (path : List BString) → length path ≡ 0 → names_of path ≡ []
 names_none [] h = refl
 names_none (name ∷ rest) h = absurd (omega (arith, h))
 
--- what an entry's directory is opened with
+-- the list that an entry's directory is opened with
 abbrev pub OpensAs : (EntryView → Type 0) → Trees → EntryView → List EntryView → List ObjectId → Type 0
 OpensAs Ends trees e entries first = (Ends e → ⊥) × Finds trees e.id entries first
 
--- an opening ends at most before entries that the store isn't asked for
-pub ends_idle : (it : Unasked) → IsIdle (EndsBefore it)
-ends_idle unasked.Opened e other = inl other
-ends_idle unasked.Left e idle = idle
+-- an opening ends at most before entries that aren't looked up
+pub ends_idle : (it : Vacant) → IsIdle (EndsBefore it)
+ends_idle vacant.Opened e other = inl other
+ends_idle vacant.Unopened e idle = idle
 
--- openings and halts go on alike
+-- openings, and openings that stop, hold in the directory above
 pub opens_down : (Ends : EntryView → Type 0) (trees : Trees) → GoesDown (Opens Ends trees)
-opens_down Ends trees name rest dirs inner e entries asked has named is opens = down name rest dirs inner e entries asked has named is opens
+opens_down Ends trees name rest dirs inner e entries requested has named is opens = down name rest dirs inner e entries requested has named is opens
 
 pub opens_in : (Ends : EntryView → Type 0) (trees : Trees) → GoesIn (OpensAs Ends trees) (Opens Ends trees)
-opens_in Ends trees name rest dirs inner e entries first asked entry tree none finds opens = found name rest dirs inner e entries first asked entry tree finds.0 none finds.1 opens
+opens_in Ends trees name rest dirs inner e entries first requested entry tree none finds opens =
+    found name rest dirs inner e entries first requested entry tree finds.0 none finds.1 opens
 
 abbrev pub HaltsAt : (EntryView → Type 0) → Trees → Option ObjectId → Path → Dirs → Dirs → List ObjectId → Type 0
-HaltsAt Ends trees vain path old new asked = Halts Ends trees path old new asked vain
+HaltsAt Ends trees vain path old new requested = StopsOpening Ends trees path old new requested vain
 
 pub halts_down : (Ends : EntryView → Type 0) (trees : Trees) (vain : Option ObjectId) → GoesDown (HaltsAt Ends trees vain)
-halts_down Ends trees vain name rest dirs inner e entries asked has named is halts = halting.down name rest dirs inner e entries asked vain has named is halts
+halts_down Ends trees vain name rest dirs inner e entries requested has named is halts =
+    halting.down name rest dirs inner e entries requested vain has named is halts
 
 pub halts_in : (Ends : EntryView → Type 0) (trees : Trees) (vain : Option ObjectId) → GoesIn (OpensAs Ends trees) (HaltsAt Ends trees vain)
-halts_in Ends trees vain name rest dirs inner e entries first asked entry tree none finds halts = halting.found name rest dirs inner e entries first asked vain entry tree finds.0 none finds.1 halts
+halts_in Ends trees vain name rest dirs inner e entries first requested entry tree none finds halts =
+    halting.found name rest dirs inner e entries first requested vain entry tree finds.0 none finds.1 halts
 
--- nothing was opened: a halt at a level that stays as it is
-pub halted_here : (Ends : EntryView → Type 0) (trees : Trees) (path : Path) (name : List ℕ) (rest : Path) (es : List EntryView) (ds : Opened) (cs new : List Child) → path ≡ name ∷ rest → {base : List EntryView} → opened es base (parts cs) ≡ ds → new ≡ cs → (asked : List ObjectId) (vain : Option ObjectId)
-    → Halts Ends trees (name ∷ rest) (dirs_of (opened es [] (parts cs))) (dirs_of (opened es [] (parts cs))) asked vain → Halts Ends trees path (dirs_of ds) (dirs_of (opened es [] (parts new))) asked vain
-halted_here Ends trees path name rest es ds cs new path_is {base} view same asked vain halts =
-    subst (λ p. Halts Ends trees p (dirs_of ds) (dirs_of (opened es [] (parts new))) asked vain) (sym path_is)
-    (subst (λ (d : Opened). Halts Ends trees (name ∷ rest) (dirs_of ds) (dirs_of d) asked vain) (sym (ap (λ (l : List Child). opened es base (parts l)) same ∙ view))
-    (subst (λ (d : Opened). Halts Ends trees (name ∷ rest) (dirs_of d) (dirs_of d) asked vain) view halts))
+-- an opening that stops at a level leaves the level unchanged
+pub halted_here : (Ends : EntryView → Type 0) (trees : Trees) (path : Path) (name : List ℕ) (rest : Path) (es : List EntryView) (ds : Opened)
+    (cs new : List Child) → path ≡ name ∷ rest → {base : List EntryView} → opened es base (parts cs) ≡ ds → new ≡ cs
+    → (requested : List ObjectId) (vain : Option ObjectId)
+    → StopsOpening Ends trees (name ∷ rest) (dirs_of (opened es [] (parts cs))) (dirs_of (opened es [] (parts cs))) requested vain
+    → StopsOpening Ends trees path (dirs_of ds) (dirs_of (opened es [] (parts new))) requested vain
+halted_here Ends trees path name rest es ds cs new path_is {base} view same requested vain halts =
+    subst (λ p. StopsOpening Ends trees p (dirs_of ds) (dirs_of (opened es [] (parts new))) requested vain) (sym path_is)
+    (subst (λ (d : Opened). StopsOpening Ends trees (name ∷ rest) (dirs_of ds) (dirs_of d) requested vain)
+    (sym (ap (λ (l : List Child). opened es base (parts l)) same ∙ view))
+    (subst (λ (d : Opened). StopsOpening Ends trees (name ∷ rest) (dirs_of d) (dirs_of d) requested vain) view halts))
 
--- since there was no memory
-pub no_memory : (Ends : EntryView → Type 0) (trees : Trees) (name : List ℕ) (rest : Path) (es : List EntryView) (cs : List Child) → IsLevel es (parts cs) → ((at : Path) → in_part name (parts cs) at ≡ None) → (e : EntryView) → IsEntryOf name (Some es) e → is_tree_mode e.mode ≡ true → (Ends e → ⊥)
-    → Halts Ends trees (name ∷ rest) (dirs_of (opened es [] (parts cs))) (dirs_of (opened es [] (parts cs))) [] None
-no_memory Ends trees name rest es cs level none e entry tree free = at_once name rest (dirs_of (opened es [] (parts cs))) e entry tree free (λ at. at_name es [] (parts cs) name at (level_apart level) ∙ none at)
+-- an opening stops at a directory if memory runs out
+pub no_memory : (Ends : EntryView → Type 0) (trees : Trees) (name : List ℕ) (rest : Path) (es : List EntryView) (cs : List Child)
+    → IsLevel es (parts cs)
+    → ((at : Path) → in_part name (parts cs) at ≡ None) → (e : EntryView) → IsEntryOf name (Some es) e → is_tree_mode e.mode ≡ true → (Ends e → ⊥)
+    → StopsOpening Ends trees (name ∷ rest) (dirs_of (opened es [] (parts cs))) (dirs_of (opened es [] (parts cs))) [] None
+no_memory Ends trees name rest es cs level none e entry tree free = at_once name rest (dirs_of (opened es [] (parts cs))) e entry tree free
+    (λ at. at_name es [] (parts cs) name at (level_apart level) ∙ none at)
 
--- since the directory of the name wasn't found
-pub none_found : (Ends : EntryView → Type 0) (trees : Trees) (name : List ℕ) (rest : Path) (es : List EntryView) (cs : List Child) → IsLevel es (parts cs) → ((at : Path) → in_part name (parts cs) at ≡ None) → (e : EntryView) → IsEntryOf name (Some es) e → is_tree_mode e.mode ≡ true → (Ends e → ⊥)
-    → (IsUnaskedId e.id → ⊥) → Halts Ends trees (name ∷ rest) (dirs_of (opened es [] (parts cs))) (dirs_of (opened es [] (parts cs))) (e.id ∷ []) (Some e.id)
-none_found Ends trees name rest es cs level none e entry tree free filled = in_vain name rest (dirs_of (opened es [] (parts cs))) e entry tree free (λ at. at_name es [] (parts cs) name at (level_apart level) ∙ none at) filled
+-- an opening stops at a directory whose tree isn't found
+pub none_found : (Ends : EntryView → Type 0) (trees : Trees) (name : List ℕ) (rest : Path) (es : List EntryView) (cs : List Child)
+    → IsLevel es (parts cs)
+    → ((at : Path) → in_part name (parts cs) at ≡ None) → (e : EntryView) → IsEntryOf name (Some es) e → is_tree_mode e.mode ≡ true → (Ends e → ⊥)
+    → (IsNeverLookedUp e.id → ⊥) → StopsOpening Ends trees (name ∷ rest) (dirs_of (opened es [] (parts cs))) (dirs_of (opened es [] (parts cs)))
+    (e.id ∷ [])
+    (Some e.id)
+none_found Ends trees name rest es cs level none e entry tree free filled =
+    without_answer name rest (dirs_of (opened es [] (parts cs))) e entry tree free
+    (λ at. at_name es [] (parts cs) name at (level_apart level) ∙ none at) filled
 
--- and so does what open directories are
+-- the invariant of open directories holds in the directory above
 abbrev pub StaysOpened : Path → Dirs → Dirs → List ObjectId → Type 0
-StaysOpened path old new asked = IsOpened old → IsOpened new
+StaysOpened path old new requested = IsOpened old → IsOpened new
 
 abbrev pub IsFormedList : EntryView → List EntryView → List ObjectId → Type 0
 IsFormedList e entries first = IsWellFormed entries
 
 pub stays_down : GoesDown StaysOpened
-stays_down name rest dirs inner e entries asked has named is below = λ all. opened_with_dir name inner dirs (below (opened_in_dir name dirs entries is all)) all (all.above [] name entries is)
+stays_down name rest dirs inner e entries requested has named is below =
+    λ all. opened_with_dir name inner dirs (below (opened_in_dir name dirs entries is all)) all (all.above [] name entries is)
 
 pub stays_in : GoesIn IsFormedList StaysOpened
-stays_in name rest dirs inner e entries first asked entry tree none formed below = λ all. opened_with_dir name inner dirs (below (opened_only entries formed)) all (e, entry.0, entry.1, tree)
+stays_in name rest dirs inner e entries first requested entry tree none formed below =
+    λ all. opened_with_dir name inner dirs (below (opened_only entries formed)) all (e, entry.0, entry.1, tree)
 
-pub still_opened : (es : List EntryView) (ds : Opened) (cs new : List Child) {base : List EntryView} → opened es base (parts cs) ≡ ds → new ≡ cs → IsOpened (dirs_of ds) → IsOpened (dirs_of (opened es [] (parts new)))
-still_opened es ds cs new {base} view same all = subst (λ (d : Opened). IsOpened (dirs_of d)) (sym (ap (λ (l : List Child). opened es base (parts l)) same ∙ view)) all
+pub still_opened : (es : List EntryView) (ds : Opened) (cs new : List Child) {base : List EntryView} → opened es base (parts cs) ≡ ds → new ≡ cs
+    → IsOpened (dirs_of ds) → IsOpened (dirs_of (opened es [] (parts new)))
+still_opened es ds cs new {base} view same all =
+    subst (λ (d : Opened). IsOpened (dirs_of d)) (sym (ap (λ (l : List Child). opened es base (parts l)) same ∙ view)) all

@@ -1,4 +1,4 @@
--- Open directories in the order of their entries.
+-- Open directories in the order of their entries: for the searches among them and for `Levels`.
 use Rattle.std.proofs.Common.{◌≡◌, ◌≢◌, ◌∙◌, ◌+◌, ℕ, Bool, true, false, cond, List, [], ◌∷◌, MatchResult, Less, Equal, Greater, Ordering, Result, Ok, Err, get_or, length, refl, sym, ap, one-add}
 use mathlib.Core.Bool.{true≢false}
 use Rattle.std.specs.Cmp.Lexicographic.{bytes_decides, slice_cmp}
@@ -16,7 +16,7 @@ use Rattle.gixobj_tree.proofs.WellFormed.{same_key, tied}
 use Rattle.gixobj_tree.specs.Entries.{EachLater, EntryView, key_of}
 use Rattle.gixobj_directories.specs.declared.open.Child.{Child}
 use Rattle.gixobj_directories.specs.Nested.{AreOrdered, IsLevel, Part, is_child_before, is_part_before, part, part_key, parts, with_part}
-use Rattle.gixobj_files.proofs.Halves.{Ascends, compared, first, halved_key, halved_none, halved_place, later_at, lt_is, position_at, position_none}
+use Rattle.gixobj_files.proofs.BinarySearch.{Ascends, compared, first, halved_key, halved_none, halved_place, later_at, lt_is, position_at, position_none}
 
 abbrev pub Before : Part → Part → Type 0
 Before p q = slice_cmp nat_cmp (part_key p) (part_key q) ≡ Less
@@ -28,7 +28,7 @@ same_part p q tie = append_cancel_right p.0 q.0 (47 ∷ []) (same_key (part_key 
 pub differ : (p q : Part) → Before p q → p.0 ≢ q.0
 differ p q before same = true≢false (ap is_lt (sym before ∙ tied (part_key p) (part_key q) (ap (λ (n : List ℕ). key_of n true) same)))
 
--- of two names, where the first doesn't come before the second
+-- of two different names, if the second doesn't come before the first, the first comes before the second
 later : (p q : Part) → is_part_before q p ≡ false → q.0 ≢ p.0 → Before p q
 later p q fails other =
     elim (slice_cmp nat_cmp (part_key q) (part_key p)) as (λ o. slice_cmp nat_cmp (part_key q) (part_key p) ≡ o → is_lt o ≡ false → Before p q) [
@@ -37,7 +37,7 @@ later p q fails other =
       | Greater ↦ λ is f. nat_list_cmp_total.antisymm (part_key p) (part_key q) ∙ ap ordering_reverse is
     ] refl fails
 
--- no two of them have one name
+-- no two of them have the same name
 pub apart_of : (ps : List Part) → AreOrdered ps → EachLater (λ x y. x.0 ≢ y.0) ps
 apart_of [] up = tt
 apart_of (p ∷ ps) up = (all_weaker (Before p) (λ q. p.0 ≢ q.0) (λ q before. differ p q before) ps up.0, apart_of ps up.1)
@@ -45,29 +45,42 @@ apart_of (p ∷ ps) up = (all_weaker (Before p) (λ q. p.0 ≢ q.0) (λ q before
 pub level_apart : {es : List EntryView} {ps : List Part} → IsLevel es ps → EachLater (λ x y. x.0 ≢ y.0) ps
 level_apart {es} {ps} level = apart_of ps level.ordered
 
--- with one more
+-- a property of all directories holds with one more
 pub all_with : (P : Part → Type 0) (p : Part) (ps : List Part) → P p → AllByRecursion P ps → AllByRecursion P (with_part p ps)
 all_with P p [] here h = (here, tt)
-all_with P p (q ∷ qs) here h = elim (is_part_before q p) as (λ b. AllByRecursion P (cond b (q ∷ with_part p qs) (p ∷ q ∷ qs))) [ true ↦ (h.0, all_with P p qs here h.1) | false ↦ (here, h) ]
+all_with P p (q ∷ qs) here h = elim (is_part_before q p) as (λ b. AllByRecursion P (cond b (q ∷ with_part p qs) (p ∷ q ∷ qs)))
+    [ true ↦ (h.0, all_with P p qs here h.1) | false ↦ (here, h) ]
 
 pub ordered_with : (p : Part) (ps : List Part) → AllByRecursion (λ q. q.0 ≢ p.0) ps → AreOrdered ps → AreOrdered (with_part p ps)
 ordered_with p [] others up = (tt, tt)
 ordered_with p (q ∷ qs) others up =
     elim (is_part_before q p) as (λ b. is_part_before q p ≡ b → AreOrdered (cond b (q ∷ with_part p qs) (p ∷ q ∷ qs))) [
       | true ↦ λ is. (all_with (Before q) p qs (lt_is (slice_cmp nat_cmp (part_key q) (part_key p)) is) up.0, ordered_with p qs others.1 up.1)
-      | false ↦ λ is. let here = later p q is others.0 in ((here, all_weaker (Before q) (Before p) (λ r before. nat_list_cmp_total.trans (part_key p) (part_key q) (part_key r) here before) qs up.0), up)
+      | false ↦ λ is. let here =
+          later p q is others.0 in (
+            (
+              here,
+              all_weaker (Before q) (Before p) (λ r before. nat_list_cmp_total.trans (part_key p) (part_key q) (part_key r) here before) qs
+                  up.0,
+            ),
+            up,
+          )
     ] refl
 
--- a child at the place where the first comes later
-pub inserted : (cs : List Child) (child : Child) → parts (insert cs (prefix_len (is_child_before (bstring_bytes child.name)) cs) child) ≡ with_part (part child) (parts cs)
+-- a child that is inserted at the position of its key
+pub inserted : (cs : List Child) (child : Child) → parts (insert cs (prefix_len (is_child_before (bstring_bytes child.name)) cs) child) ≡ with_part
+    (part child)
+    (parts cs)
 inserted [] child = refl
 inserted (c ∷ cs) child =
-    elim (is_part_before (part c) (part child)) as (λ b. parts (insert (c ∷ cs) (cond b (1 + prefix_len (is_child_before (bstring_bytes child.name)) cs) 0) child) ≡ cond b (part c ∷ with_part (part child) (parts cs)) (part child ∷ part c ∷ parts cs)) [
+    elim (is_part_before (part c) (part child)) as
+    (λ b. parts (insert (c ∷ cs) (cond b (1 + prefix_len (is_child_before (bstring_bytes child.name)) cs) 0) child) ≡ cond b
+    (part c ∷ with_part (part child) (parts cs)) (part child ∷ part c ∷ parts cs)) [
       | true ↦ rw one-add (ap (λ ps. part c ∷ ps) (inserted cs child))
       | false ↦ refl
     ]
 
--- what a search by halves finds among them
+-- what a binary search finds among them
 abbrev pub child_key : Child → List ℕ
 child_key c = key_of (bstring_bytes c.name) true
 
@@ -75,7 +88,8 @@ pub ascends_of : (cs : List Child) → AreOrdered (parts cs) → Ascends child_k
 ascends_of [] up = tt
 ascends_of (c ∷ cs) up = (each cs up.0, ascends_of cs up.1)
   where
-    each : (ds : List Child) → AllByRecursion (Before (part c)) (parts ds) → AllByRecursion (λ d. slice_cmp nat_cmp (child_key c) (child_key d) ≡ Less) ds
+    each : (ds : List Child) → AllByRecursion (Before (part c)) (parts ds)
+        → AllByRecursion (λ d. slice_cmp nat_cmp (child_key c) (child_key d) ≡ Less) ds
     each [] h = tt
     each (d ∷ ds) h = (h.0, each ds h.1)
 
@@ -86,7 +100,7 @@ module _ (cs : List Child) (up : AreOrdered (parts cs)) (name : List ℕ) where
   abbrev pub by_key : Child → Ordering
   by_key = compared child_key (key_of name true)
 
-  -- by its key
+  -- a child has a name if it has the key of the name
   keyed : (c : Child) → is_called c ≡ true → child_key c ≡ key_of name true
   keyed c is = ap (λ (n : List ℕ). key_of n true) ((bytes_decides (bstring_bytes c.name) name).0 is)
 
@@ -94,10 +108,16 @@ module _ (cs : List Child) (up : AreOrdered (parts cs)) (name : List ℕ) where
   child_found (Ok i) range is =
       let d = first cs i range in
       let here : child_key (get_or cs i d) ≡ key_of name true = halved_key child_key cs (key_of name true) i d is in
-      sym (position_at is_called cs i d range ((bytes_decides (bstring_bytes (get_or cs i d).name) name).1 (append_cancel_right (bstring_bytes (get_or cs i d).name) name (47 ∷ []) here))
+      sym (position_at is_called cs i d range
+      ((bytes_decides (bstring_bytes (get_or cs i d).name) name).1 (append_cancel_right (bstring_bytes (get_or cs i d).name) name (47 ∷ []) here))
       (λ k low. false_from_ne_true (is_called (get_or cs k d)) (λ named. true≢false (ap is_lt
-      (sym (later_at (λ x y. slice_cmp nat_cmp (child_key x) (child_key y) ≡ Less) cs (ascends_of cs up) k i d low range) ∙ tied (child_key (get_or cs k d)) (child_key (get_or cs i d)) (keyed (get_or cs k d) named ∙ sym here))))))
-  child_found (Err i) range is = sym (position_none is_called cs (λ k d low. false_from_ne_true (is_called (get_or cs k d)) (λ named. halved_none child_key cs (ascends_of cs up) (key_of name true) i is k d low (keyed (get_or cs k d) named))))
+      (sym (later_at (λ x y. slice_cmp nat_cmp (child_key x) (child_key y) ≡ Less) cs (ascends_of cs up) k i d low range)
+      ∙ tied (child_key (get_or cs k d))
+      (child_key (get_or cs i d)) (keyed (get_or cs k d) named ∙ sym here))))))
+  child_found (Err i) range is =
+      sym (position_none is_called cs
+      (λ k d low. false_from_ne_true (is_called (get_or cs k d)) (λ named. halved_none child_key cs (ascends_of cs up) (key_of name true) i is k d low
+      (keyed (get_or cs k d) named))))
 
   pub child_before : (r : Result ℕ ℕ) → IsSearchInRange r (length cs) → IsBinarySearchResult by_key cs r
       → MatchResult r (λ i. i ≡ prefix_len (is_child_before name) cs) (λ i. i ≡ prefix_len (is_child_before name) cs)

@@ -1,28 +1,33 @@
--- Where each open directory is well-formed, each tree that is handed out may be stored.
+-- If each open directory is well-formed, each emitted tree may be stored.
 use Rattle.std.proofs.Common.{ℕ, List, [], ◌∷◌}
 use Rattle.std.specs.List.{AllByRecursion}
 use Rattle.gixobj_tree.specs.Entries.{EntryView, Pair}
-use Rattle.gixobj_files.specs.HandingOut.{Leaves, Walks, emptied, end, leaves, shut, unchanged, written}
+use Rattle.gixobj_files.specs.Emission.{EmitsBelow, Walks, emptied, end, leaves, unopened, unchanged, written}
 use Rattle.gixobj_files.specs.Opening.{Dirs, in_dir}
 use Rattle.gixobj_files.proofs.StillOpened.{AreFormed}
 use Rattle.gixobj_files.proofs.Sublists.{all_append}
 use Rattle.gixobj_directories.specs.Calls.{IsStorable}
-use Rattle.gixobj_directories.proofs.Handing.{walk_storable}
+use Rattle.gixobj_directories.proofs.Emitting.{walk_storable}
 
 abbrev pub AreStorable : List Pair → Type 0
 AreStorable pairs = AllByRecursion (λ pair. IsStorable pair.1) pairs
 
 mutual
-  pub leaves_storable : (dirs bases : Dirs) (ps : List Pair) (own : List EntryView) (n : ℕ) → Leaves dirs bases ps own n → AreFormed dirs → AreStorable ps × IsStorable own
-  leaves_storable dirs bases ps own n (leaves d b es ps' own' m is walk) formed = (walk_pairs dirs bases es ps own n walk formed, walk_storable dirs bases es ps own n walk (formed [] es is))
+  pub leaves_storable : (dirs bases : Dirs) (ps : List Pair) (own : List EntryView) (n : ℕ) → EmitsBelow dirs bases ps own n → AreFormed dirs → AreStorable ps
+      × IsStorable own
+  leaves_storable dirs bases ps own n (leaves d b es ps' own' m is walk) formed =
+      (walk_pairs dirs bases es ps own n walk formed, walk_storable dirs bases es ps own n walk (formed [] es is))
 
-  walk_pairs : (dirs bases : Dirs) (es : List EntryView) (ps : List Pair) (own : List EntryView) (n : ℕ) → Walks dirs bases es ps own n → AreFormed dirs → AreStorable ps
+  walk_pairs : (dirs bases : Dirs) (es : List EntryView) (ps : List Pair) (own : List EntryView) (n : ℕ) → Walks dirs bases es ps own n → AreFormed dirs
+      → AreStorable ps
   walk_pairs dirs bases es ps own n (end d b) formed = tt
-  walk_pairs dirs bases es ps own n (shut d b e rest below os m none walk) formed = walk_pairs d b rest below os m walk formed
+  walk_pairs dirs bases es ps own n (unopened d b e rest below os m none walk) formed = walk_pairs d b rest below os m walk formed
   walk_pairs dirs bases es ps own n (emptied d b e rest inner below os i m found walk) formed =
-      all_append (λ pair. IsStorable pair.1) inner below (leaves_storable (in_dir e.name d) (in_dir e.name b) inner [] i found (λ path. formed (e.name ∷ path))).0 (walk_pairs d b rest below os m walk formed)
+      all_append (λ pair. IsStorable pair.1) inner below
+      (leaves_storable (in_dir e.name d) (in_dir e.name b) inner [] i found (λ path. formed (e.name ∷ path))).0 (walk_pairs d b rest below os m walk formed)
   walk_pairs dirs bases es ps own n (unchanged d b e first rest more_own inner below os i m found same walk) formed =
-      all_append (λ pair. IsStorable pair.1) inner below (leaves_storable (in_dir e.name d) (in_dir e.name b) inner (first ∷ more_own) i found (λ path. formed (e.name ∷ path))).0 (walk_pairs d b rest below os m walk formed)
+      all_append (λ pair. IsStorable pair.1) inner below (leaves_storable (in_dir e.name d) (in_dir e.name b) inner (first ∷ more_own) i found
+      (λ path. formed (e.name ∷ path))).0 (walk_pairs d b rest below os m walk formed)
   walk_pairs dirs bases es ps own n (written d b e first rest more_own inner below os i m id found changed walk) formed =
       let lower = leaves_storable (in_dir e.name d) (in_dir e.name b) inner (first ∷ more_own) i found (λ path. formed (e.name ∷ path)) in
       all_append (λ pair. IsStorable pair.1) inner ((id, first ∷ more_own) ∷ below) lower.0 (lower.1, walk_pairs d b rest below os m walk formed)

@@ -1,7 +1,7 @@
 pub mod Calls
-pub mod Falls
-pub mod Handing
+pub mod Decreases
+pub mod Emitting
 pub mod LookedUp
 pub mod Nested
 pub mod Openings
-pub mod Wholes
+pub mod LeafTrees

@@ -17,24 +17,28 @@ use Rattle.gixobj_directories.specs.declared.open.Child.{Child}
 abbrev pub Level : Type 0
 Level = List EntryView × List EntryView
 
+-- the open directories, each with its path
 abbrev pub Opened : Type 0
 Opened = List (Path × Level)
 
--- the same, with a name in front of each path
+-- the open directories with a name before each path
 abbrev pub under : List ℕ → Opened → Opened
 under name [] = []
 under name (d ∷ ds) = (name ∷ d.0, d.1) ∷ under name ds
 
--- a directory's name, and what is open in it
+-- the name of a directory, and what is open in it
 abbrev pub Part : Type 0
 Part = List ℕ × Opened
 
+-- the name of a child, and what is open in it
 abbrev pub part : Child → Part
 part child = (bstring_bytes child.name, child.open)
 
+-- the names of children, and what is open in each
 abbrev pub parts : List Child → List Part
 parts children = map part children
 
+-- what is open below a directory, in the directories in it
 abbrev pub below : List Part → Opened
 below [] = []
 below (p ∷ ps) = under p.0 p.1 ++ below ps
@@ -43,24 +47,28 @@ below (p ∷ ps) = under p.0 p.1 ++ below ps
 abbrev pub opened : List EntryView → List EntryView → List Part → Opened
 opened entries base ps = ([], (entries, base)) ∷ below ps
 
--- one of the lists of each open directory
+-- one list of each open directory, by the path
 abbrev pub side_list : (Level → List EntryView) → Opened → List (Path × List EntryView)
 side_list side [] = []
 side_list side (d ∷ ds) = (d.0, side d.1) ∷ side_list side ds
 
+-- one list of each open directory, as a function of the path
 abbrev pub at_side : (Level → List EntryView) → Opened → Dirs
 at_side side ds = λ path. find (slice_cmp (slice_cmp nat_cmp)) path (side_list side ds)
 
--- the entries of each open directory, and its base
+-- the entries of an open directory
 abbrev pub entries_side : Level → List EntryView
 entries_side level = level.0
 
+-- the base of an open directory
 abbrev pub base_side : Level → List EntryView
 base_side level = level.1
 
+-- the entries of each open directory, as a function of the path
 abbrev pub dirs_of : Opened → Dirs
 dirs_of ds = at_side entries_side ds
 
+-- the base of each open directory, as a function of the path
 abbrev pub bases_of : Opened → Dirs
 bases_of ds = at_side base_side ds
 
@@ -68,36 +76,40 @@ bases_of ds = at_side base_side ds
 abbrev pub part_key : Part → List ℕ
 part_key p = key_of p.0 true
 
--- the directory's entry comes before the other's
+-- the entry of the first directory comes before that of the second
 abbrev pub is_part_before : Part → Part → Bool
 is_part_before p q = is_lt (slice_cmp nat_cmp (part_key p) (part_key q))
 
--- its entry comes before that of the directory of a name
+-- the entry of the child comes before that of the directory of a name
 abbrev pub is_child_before : List ℕ → Child → Bool
 is_child_before name c = is_lt (slice_cmp nat_cmp (key_of (bstring_bytes c.name) true) (key_of name true))
 
--- directories in the order of their entries
+-- the directories are in the order of their entries
 abbrev pub AreOrdered : List Part → Type 0
 AreOrdered ps = EachLater (λ p q. slice_cmp nat_cmp (part_key p) (part_key q) ≡ Less) ps
 
--- one level: its tree is well-formed, and the open directories in it stand in the order of their entries, each with the name of a tree's entry
+-- the invariant of one level; its tree is well-formed, and the open directories in it are in the order of their
+-- entries, each with the name of an entry of tree mode
 pub record IsLevel (entries : List EntryView) (ps : List Part) : Type 0 where
   pub formed : IsWellFormed entries
   pub ordered : AreOrdered ps
   pub above : AllByRecursion (λ p. has_tree p.0 entries ≡ true) ps
 
+-- a name before each path leaves the number of open directories unchanged
 pub length-under : (name : List ℕ) (ds : Opened) → length (under name ds) ≡ length ds
 length-under name [] = omega arith
 length-under name (d ∷ ds) = omega (arith, length-under name ds)
 
--- what is open in the directory of a name
+-- one list of what is open in the directory of a name
 abbrev pub part_at : (Level → List EntryView) → List ℕ → List Part → Dirs
 part_at side name [] path = None
 part_at side name (p ∷ ps) path = if same_name p.0 name then at_side side p.1 path else part_at side name ps path
 
+-- the entries of what is open in the directory of a name
 abbrev pub in_part : List ℕ → List Part → Dirs
 in_part name ps = part_at entries_side name ps
 
+-- the bases of what is open in the directory of a name
 abbrev pub bases_in : List ℕ → List Part → Dirs
 bases_in name ps = part_at base_side name ps
 
@@ -105,7 +117,7 @@ bases_in name ps = part_at base_side name ps
 abbrev pub other_parts : List ℕ → List Part → List Part
 other_parts name ps = filter (λ p. not (same_name p.0 name)) ps
 
--- with one directory more, before the first whose entry comes later
+-- the directories with one more, before the first whose entry comes later
 abbrev pub with_part : Part → List Part → List Part
 with_part p [] = p ∷ []
 with_part p (q ∷ qs) = if is_part_before q p then q ∷ with_part p qs else p ∷ q ∷ qs

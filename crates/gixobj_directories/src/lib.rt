@@ -1,9 +1,9 @@
-//! Open directories, each with the open directories in it: looked at, edited by paths, copied and written.
+//! Open directories, each with the open directories in it: lookups, edits by paths, copies and writes.
 #![tactic(auto)]
 
-pub mod assure;
+pub mod ensure_directory;
 pub mod laws;
+mod leaf_trees;
 pub mod open;
 pub mod opening;
-mod wholes;
 pub mod write;

@@ -1,4 +1,4 @@
-//! Open directories, each with the open directories in it.
+//! An open directory: its entries, its base, and the open directories in it.
 ghost use Rattle.std.specs.Prelude.{◌≡◌, ◌<◌, true, false, IfNone, IfSome, Some, [], ◌++◌, IfOk, List, MatchResult, None, OnErr, OnOk, vec_capacity, vec_len};
 ghost use Rattle.std.specs.List.{AllByRecursion, find, position, prefix_len};
 ghost use Rattle.std.specs.Option.{option_copied};
@@ -7,7 +7,7 @@ ghost use Rattle.std.specs.Cmp.Lexicographic.{slice_cmp};
 ghost use Rattle.std.specs.Ordering.{nat_cmp};
 ghost use Rattle.bstr.specs.Owned.{bstring_bytes};
 ghost use Rattle.gixobj_hash.specs.Bytes.{slash};
-ghost use Rattle.gixobj_hash.specs.Texts.{IsFree};
+ghost use Rattle.gixobj_hash.specs.ByteStrings.{IsByteFree};
 ghost use Rattle.gixobj_tree.specs.Entries.{EntryView, IsEntryName, IsWellFormed, key_of};
 ghost use Rattle.gixobj_mode.specs.Mode.{is_tree_mode, mode_bits};
 ghost use Rattle.gixobj_files.specs.Editing.{has_tree, same_name, with_entry, without};
@@ -18,8 +18,8 @@ ghost use Rattle.gixobj_directories.specs.Nested.{AreOrdered, bases_of, dirs_of,
 ghost use Rattle.gixobj_files.specs.Bases.{edited_bases};
 
 use bstr::BString;
-use gixobj_files::entries::{copies, put};
-use gixobj_files::places::{first_look, place_by_key, place_of, take_named};
+use gixobj_files::entries::{copies, insert_entry};
+use gixobj_files::places::{first_look, place_by_key, place_of, remove_named};
 use gixobj_hash::hash::ObjectId;
 use gixobj_tree::Tree;
 use gixobj_tree::tree::order::key_order;
@@ -28,12 +28,14 @@ use std::alloc::{AllocError, Global};
 use std::cmp::Ordering;
 use std::marker::Model;
 
-/// An open directory: its tree, the tree that it was opened with, and the open directories in it.
+/// An open directory: its tree, its base, and the open directories in it. [`Open::new`] makes one.
 ///
-/// In contracts it is the list of the open paths, each with the entries of its directory and its base, the
-/// entries that it was opened with; its own path, without names, is the first. Its tree is well-formed, and
-/// the open directories in it stand in the order of their entries, each with the name of a tree's entry. A path
-/// is a list of names.
+/// The base is the tree that it was opened with. In contracts the directory is the list of the open paths,
+/// each with the entries of its directory and its base. Its own path, without names, is the first. A path is
+/// a list of names.
+///
+/// Its tree is well-formed. The open directories in it are in the order of their entries, each with the name
+/// of an entry of tree mode.
 #[cycle(open)]
 #[derive(Drop)]
 pub struct Open {
@@ -42,7 +44,7 @@ pub struct Open {
     pub(crate) children: Vec<Child>,
 }
 
-/// An open directory in another, and its name.
+/// An open directory in another, with its name.
 #[cycle(open)]
 #[derive(Drop)]
 pub(crate) struct Child {
@@ -65,12 +67,12 @@ impl Model for Open {
     ghost size = { length };
 
     ghost use Rattle.std.proofs.Common.{arith};
-    ghost use Rattle.gixobj_directories.specs.Falls.{most_le-below};
+    ghost use Rattle.gixobj_directories.specs.Decreases.{most_le-below};
 
     ghost size_decreases = { λ a h. omega (arith, most_le-below a.children.items) };
 }
 
-/// The place of a directory among those that are open.
+/// Returns the position of the open directory of a name, if there is one.
 pub(crate) fn child_at(children: &[Child], name: &BString) -> Option<usize>
     requires { AreOrdered (parts children.now) }
     ensures { result ≡ position (λ c. same_name (bstring_bytes c.name) (bstring_bytes name.now))
@@ -79,12 +81,12 @@ pub(crate) fn child_at(children: &[Child], name: &BString) -> Option<usize>
     child_place(children, name).ok()
 }
 
-/// The place of the directory of a name, or else that where it would stand: sought by halves.
+/// Searches for the open directory of a name: `Ok` with its position, or `Err` with that to insert it at.
 fn child_place(children: &[Child], name: &BString) -> Result<usize, usize>
     requires { AreOrdered (parts children.now) }
     ensures found { result_ok result ≡ position
         (λ c. same_name (bstring_bytes c.name) (bstring_bytes name.now)) children.now }
-    ensures place { MatchResult result (λ i. i
+    ensures position { MatchResult result (λ i. i
         ≡ prefix_len (is_child_before (bstring_bytes name.now)) children.now)
         (λ i. i ≡ prefix_len (is_child_before (bstring_bytes name.now)) children.now) }
 {
@@ -103,7 +105,7 @@ fn child_place(children: &[Child], name: &BString) -> Result<usize, usize>
 }
 
 impl Child {
-    /// The order of its entry and that of a directory of this name.
+    /// Compares its entry with that of a directory of this name.
     fn order(&self, name: &BString) -> Ordering
         ensures { result ≡ slice_cmp nat_cmp (key_of (bstring_bytes self.now.name) true)
             (key_of (bstring_bytes name.now) true) }
@@ -111,7 +113,7 @@ impl Child {
         key_order(self.name.as_bytes(), true, name.as_bytes(), true)
     }
 
-    /// Whether it has this name.
+    /// Returns `true` if it has this name.
     pub(crate) fn is_named(&self, name: &BString) -> bool
         ensures { result ≡ same_name (bstring_bytes self.now.name) (bstring_bytes name.now) }
     {
@@ -120,10 +122,10 @@ impl Child {
 }
 
 impl Open {
-    /// A directory of this tree, with nothing open in it, and the empty base.
+    /// Makes a directory of this tree, with an empty base and no open directory in it.
     ///
-    /// The tree must be well-formed, as [`Tree::is_well_formed`] tells. It takes no memory: `alloc` is only
-    /// kept with the directories that are opened in it.
+    /// The tree must be well-formed ([`Tree::is_well_formed`]). Allocates nothing: `alloc` is kept for the
+    /// directories that are opened in it.
     pub fn new(alloc: Global, tree: Tree) -> Open
         requires { IsWellFormed tree }
         ensures { result ≡ opened tree [] [] }
@@ -131,7 +133,7 @@ impl Open {
         Open::with_base(alloc, tree, Tree::empty(alloc))
     }
 
-    /// As [`Open::new`], with a base.
+    /// Makes a directory of this tree and base, with no open directory in it.
     pub(crate) fn with_base(alloc: Global, tree: Tree, base: Tree) -> Open
         requires { IsWellFormed tree }
         ensures { result ≡ opened tree base [] }
@@ -143,9 +145,9 @@ impl Open {
         }
     }
 
-    /// The tree of the directory at a path, where that is open. Without names that is the directory's own.
+    /// Returns the tree of the directory at a path, if that directory is open.
     ///
-    /// It takes no memory.
+    /// A path without names is the directory itself. Allocates nothing.
     pub fn tree(&self, path: &[BString]) -> Option<&Tree>
         ensures { option_copied result ≡ dirs_of self.now (names_of path.now) }
     {
@@ -159,9 +161,9 @@ impl Open {
         child.open.tree(rest)
     }
 
-    /// The open directory at a path; without names that is this one.
+    /// Returns the open directory at a path, if there is one.
     ///
-    /// It takes no memory.
+    /// A path without names is the directory itself. Allocates nothing.
     pub fn directory(&self, path: &[BString]) -> Option<&Open>
         ensures found { IfSome result (λ it. (at : Path)
             → dirs_of it.now at ≡ dirs_of self.now (names_of path.now ++ at)) }
@@ -181,9 +183,9 @@ impl Open {
         child.open.directory(rest)
     }
 
-    /// The entry at a path, where the directory above it is open and has one. Without names there is none.
+    /// Returns the entry at a path, if the directory of the entry is open and has it.
     ///
-    /// It takes no memory, and looks no directory up.
+    /// A path without names has no entry. Allocates nothing, and looks no directory up.
     pub fn get(&self, path: &[BString]) -> Option<&Entry>
         ensures { option_copied result ≡ entry_at (names_of path.now) (dirs_of self.now) }
     {
@@ -200,15 +202,19 @@ impl Open {
         child.open.get(rest)
     }
 
-    /// Puts an entry at a path, in place of any entry that is there. What is open at or below the path is
-    /// shut. Without names nothing changes.
+    /// Inserts an entry at a path, in place of any entry that is there.
     ///
-    /// Each strict beginning of the path is an open directory then. One that isn't open is opened as empty: an
-    /// entry of a tree's mode that is there stays, and else one with the id `null` is put in, in place of any
-    /// entry of that name.
+    /// Directories that were open at or below the path are closed. A path without names changes nothing.
     ///
-    /// It fails only where memory runs out, and then nothing has changed.
-    pub fn put(
+    /// Each parent directory of the path is open then. One that isn't open is opened as empty. Its entry is
+    /// unchanged if it is of tree mode. Otherwise an entry of kind tree with the id `null` is inserted, in
+    /// place of any entry of that name. Allocates the name of the entry, and those directories with their
+    /// entries.
+    ///
+    /// # Errors
+    ///
+    /// [`AllocError`] if memory runs out. Nothing is changed then.
+    pub fn insert_entry(
         &mut self,
         alloc: Global,
         path: &[BString],
@@ -237,19 +243,19 @@ impl Open {
             Ok(place) => place,
             Err(place) => {
                 let mut inner = Open::new(alloc, Tree::empty(alloc));
-                inner.put(alloc, rest, mode, id, null)?;
+                inner.insert_entry(alloc, rest, mode, id, null)?;
                 add_directory(&mut self.tree, &mut self.children, name, null, inner, place)?;
                 return Ok(());
             }
         };
         let child = &mut self.children[place];
-        child.open.put(alloc, rest, mode, id, null)
+        child.open.insert_entry(alloc, rest, mode, id, null)
     }
 
-    /// Takes out the entry at a path, where the directory above it is open, and shuts what is open at or
-    /// below the path. Without names, or where that directory isn't open, nothing changes.
+    /// Removes the entry at a path, if the directory of the entry is open.
     ///
-    /// It takes no memory.
+    /// Directories that were open at or below the path are closed. Nothing changes if the path has no names
+    /// or that directory isn't open. Allocates nothing.
     pub fn take(&mut self, path: &[BString])
         ensures dirs { (at : Path) → dirs_of self.new at
             ≡ removed_dirs (names_of path.now) (dirs_of self.old) at }
@@ -271,11 +277,15 @@ impl Open {
     }
 }
 
-/// Copying
+/// Copies of open directories.
 impl Open {
-    /// A copy of the directory and of all that is open in it.
+    /// Copies the directory and all that is open in it.
     ///
-    /// It fails only where memory runs out.
+    /// Allocates the trees, the bases and the names of the copy.
+    ///
+    /// # Errors
+    ///
+    /// [`AllocError`] if memory runs out, and only then.
     pub fn copy(&self, alloc: Global) -> Result<Open, AllocError>
         ensures { IfOk result (λ it. it ≡ self.now) }
     {
@@ -295,7 +305,7 @@ impl Open {
     }
 }
 
-/// A copy of the tree, with names of its own.
+/// Copies a tree, with names of its own.
 pub(crate) fn copy_tree(alloc: Global, tree: &Tree) -> Result<Tree, AllocError>
     ensures { IfOk result (λ it. it ≡ tree.now) }
 {
@@ -303,7 +313,7 @@ pub(crate) fn copy_tree(alloc: Global, tree: &Tree) -> Result<Tree, AllocError>
     Ok(Tree { entries })
 }
 
-/// Puts an entry in, in place of any entry of its name.
+/// Inserts an entry, in place of any entry of its name.
 fn set_entry(
     tree: &mut Tree,
     name: &BString,
@@ -324,28 +334,28 @@ fn set_entry(
         filename,
         oid: id,
     };
-    put(&mut tree.entries, entry);
+    insert_entry(&mut tree.entries, entry);
     Ok(())
 }
 
-/// Takes the entry of a name out, if there is one.
+/// Removes the entry of a name, if there is one.
 fn take_entry(tree: &mut Tree, name: &BString)
     requires { IsWellFormed tree.old }
     ensures { tree.new ≡ without (bstring_bytes name.now) tree.old }
 {
-    take_named(&mut tree.entries, name.as_bytes());
+    remove_named(&mut tree.entries, name.as_bytes());
 }
 
-/// Whether there is a tree's entry of this name.
+/// Returns `true` if there is an entry of tree mode with this name.
 fn has_tree_named(tree: &Tree, name: &BString) -> bool
     requires well_formed { IsWellFormed tree.now }
-    requires name { IsFree slash (bstring_bytes name.now) }
+    requires name { IsByteFree slash (bstring_bytes name.now) }
     ensures { result ≡ has_tree (bstring_bytes name.now) tree.now }
 {
     place_by_key(&tree.entries, name.as_bytes(), true).is_ok()
 }
 
-/// Puts a tree's entry with the null id in, unless there is a tree's entry of that name.
+/// Inserts an entry of kind tree with the null id, unless there is an entry of tree mode with that name.
 fn make_directory(tree: &mut Tree, name: &BString, null: ObjectId) -> Result<(), AllocError>
     requires well_formed { IsWellFormed tree.old }
     requires name { IsEntryName (bstring_bytes name.now) }
@@ -358,7 +368,7 @@ fn make_directory(tree: &mut Tree, name: &BString, null: ObjectId) -> Result<(),
     set_entry(tree, name, EntryKind::Tree.into(), null)
 }
 
-/// Adds an open directory at its place, with an entry for it.
+/// Inserts an open directory at its position, and ensures that it has an entry.
 pub(crate) fn add_directory(
     tree: &mut Tree,
     children: &mut Vec<Child>,
@@ -370,7 +380,7 @@ pub(crate) fn add_directory(
     requires well_formed { IsWellFormed tree.old }
     requires name { IsEntryName (bstring_bytes name.now) }
     requires ordered { AreOrdered (parts children.old.items) }
-    requires place { place ≡ prefix_len (is_child_before (bstring_bytes name.now))
+    requires position { place ≡ prefix_len (is_child_before (bstring_bytes name.now))
         children.old.items }
     ensures ok { OnOk result ((tree.new ≡ with_directory (bstring_bytes name.now) null tree.old)
         × (parts children.new.items ≡ with_part (bstring_bytes name.now, inner)
@@ -385,7 +395,7 @@ pub(crate) fn add_directory(
     Ok(())
 }
 
-/// Shuts the directory of a name.
+/// Closes the directory of a name.
 fn drop_child(children: &mut Vec<Child>, name: &BString)
     requires { AreOrdered (parts children.old.items) }
     ensures { parts children.new.items ≡ other_parts (bstring_bytes name.now)
@@ -396,7 +406,7 @@ fn drop_child(children: &mut Vec<Child>, name: &BString)
     }
 }
 
-/// Room for one directory more, and a copy of its name.
+/// Reserves capacity for one directory more, and copies its name.
 pub(crate) fn room_for(
     alloc: Global,
     children: &mut Vec<Child>,
@@ -411,9 +421,9 @@ pub(crate) fn room_for(
     Ok(copied)
 }
 
-/// Puts a directory in at its place, where there is room.
-pub(crate) fn put_child(children: &mut Vec<Child>, name: BString, inner: Open)
-    requires room { vec_len children.old < vec_capacity children.old }
+/// Inserts a directory at its position. There must be capacity.
+pub(crate) fn store_child(children: &mut Vec<Child>, name: BString, inner: Open)
+    requires has_capacity { vec_len children.old < vec_capacity children.old }
     requires ordered { AreOrdered (parts children.old.items) }
     ensures { parts children.new.items ≡ with_part (bstring_bytes name, inner)
         (parts children.old.items) }
@@ -422,18 +432,18 @@ pub(crate) fn put_child(children: &mut Vec<Child>, name: BString, inner: Open)
     insert_child(children, place, name, inner);
 }
 
-/// As [`put_child`], at the place that is known.
+/// Inserts a directory at a known position. There must be capacity.
 fn insert_child(children: &mut Vec<Child>, place: usize, name: BString, inner: Open)
-    requires room { vec_len children.old < vec_capacity children.old }
+    requires has_capacity { vec_len children.old < vec_capacity children.old }
     requires ordered { AreOrdered (parts children.old.items) }
-    requires place { place ≡ prefix_len (is_child_before (bstring_bytes name)) children.old.items }
+    requires position { place ≡ prefix_len (is_child_before (bstring_bytes name)) children.old.items }
     ensures { parts children.new.items ≡ with_part (bstring_bytes name, inner)
         (parts children.old.items) }
 {
     let _ = children.insert(place, Child { name, open: inner });
 }
 
-/// How many of the first directories come before that of a name.
+/// Returns the number of directories that come before that of a name.
 pub(crate) fn place_for(children: &[Child], name: &BString) -> usize
     requires { AreOrdered (parts children.now) }
     ensures { result ≡ prefix_len (is_child_before (bstring_bytes name.now)) children.now }
@@ -444,7 +454,7 @@ pub(crate) fn place_for(children: &[Child], name: &BString) -> usize
     }
 }
 
-/// The id of the entry of a name, where that is of a tree's mode.
+/// Returns the id of the entry of a name, if it is of tree mode.
 pub(crate) fn tree_id(tree: &Tree, name: &BString) -> Option<ObjectId>
     requires { IsWellFormed tree.now }
     ensures some { IfSome result (λ id. (e : EntryView)
@@ -461,7 +471,7 @@ pub(crate) fn tree_id(tree: &Tree, name: &BString) -> Option<ObjectId>
     }
 }
 
-/// The entry of a name.
+/// Returns the entry of a name, if there is one.
 fn find_entry<'a>(tree: &'a Tree, name: &BString) -> Option<&'a Entry>
     requires { IsWellFormed tree.now }
     ensures { option_copied result ≡ find (λ e. same_name e.name (bstring_bytes name.now))

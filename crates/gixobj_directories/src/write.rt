@@ -1,4 +1,4 @@
-//! Open directories handed out, those in a directory before the directory itself.
+//! Writes of open directories: those in a directory are emitted before the directory itself.
 ghost use Rattle.std.specs.Prelude.{◌≡◌, ◌≢◌, ◌↔◌, ◌+◌, ◌++◌, ◌∷◌, [], ℕ, All, IsFalse, IsTrue, Some, IfErr, IfOk, List, None, Ok, OnErr, OnOk, ◌==◌, ◌<◌, length, vec_capacity, vec_len};
 ghost use Rattle.std.specs.Fn.{CalledAt};
 ghost use Rattle.std.specs.List.{FoldsTo};
@@ -7,21 +7,21 @@ ghost use Rattle.gixobj_tree.specs.Entries.{EntryView, IsWellFormed, Pair};
 ghost use Rattle.gixobj_files.specs.Bases.{edited_bases};
 ghost use Rattle.gixobj_files.specs.Edits.{only, raised, with_path};
 ghost use Rattle.gixobj_files.specs.Files.{Path, is_null};
-ghost use Rattle.gixobj_files.specs.HandingOut.{HandsOutSome, Leaves, Saves};
+ghost use Rattle.gixobj_files.specs.Emission.{EmitsSome, EmitsBelow, Saves};
 ghost use Rattle.gixobj_files.specs.Opening.{in_path};
 ghost use Rattle.gixobj_directories.specs.Calls.{IsCallableOnTrees, IsStorable, names_of, answered, denied};
-ghost use Rattle.gixobj_directories.specs.Handing.{Stopped, Visits, pairs_behind_next, child_side, kept_with, next_child};
+ghost use Rattle.gixobj_directories.specs.Emitting.{Stopped, Visits, pairs_after_next, child_side, kept_with, next_child};
 ghost use Rattle.gixobj_directories.specs.Nested.{base_side, bases_of, dirs_of, entries_side, opened};
-ghost use Rattle.gixobj_files.specs.OwnTrees.{IsBeside, so_far};
-ghost use Rattle.gixobj_files.specs.Sifted.{IsSifted};
-ghost use Rattle.gixobj_directories.specs.Wholes.{Adds, child_wholes, inside_of, wholes};
+ghost use Rattle.gixobj_files.specs.WrittenTrees.{SharesBase, so_far};
+ghost use Rattle.gixobj_files.specs.FilteredTrees.{IsFilteredTree};
+ghost use Rattle.gixobj_directories.specs.LeafTrees.{Adds, child_leaf_trees, inside_of, leaf_trees};
 
+use crate::leaf_trees::{fill, take_leaf_trees};
 use crate::open::{Child, Open, child_at};
-use crate::wholes::{fill, take_wholes};
 use bstr::BString;
 use gixobj_files::entries::copies;
-use gixobj_files::own_tree::OwnTree;
-use gixobj_files::sifted::become_tree;
+use gixobj_files::filtered::become_tree;
+use gixobj_files::written_tree::OwnTree;
 use gixobj_hash::hash::ObjectId;
 use gixobj_tree::Tree;
 use gixobj_tree::tree::Entry;
@@ -29,27 +29,30 @@ use std::alloc::{AllocError, AllocFailed, Global};
 use std::fmt::Display;
 use std::mem;
 
-/// What a write handed out: the changed trees, and that of the directory that was written.
+/// What a write emitted: the changed trees, and that of the written directory. [`write_all`] and [`write_at`]
+/// return it.
 #[derive(Debug, Drop)]
 pub struct Written {
-    /// The id of the directory that was written.
+    /// The id of the written directory.
     pub id: ObjectId,
-    /// Each tree with its id, in the order handed out; the directory's own is the last.
+    /// Each emitted tree with its id, in the order of the calls of `out`. The written directory's own is the
+    /// last.
     pub trees: Vec<(ObjectId, Tree)>,
-    /// How many open directories below it have entries and weren't handed out, since their trees
-    /// are those that they were opened with. Their entries keep their ids. It stays at the
-    /// greatest `usize`.
+    /// The number of open directories below the written one that have entries and weren't emitted.
+    ///
+    /// Their written trees are their bases, and their entries keep their ids. The number saturates at the
+    /// maximum of `usize`.
     pub saved: usize,
 }
 
-/// Why a write stopped. What is open is as it was.
+/// The error of [`write_all`] and [`write_at`]. The open directories are unchanged.
 #[derive(Debug, Drop, thiserror::Error)]
 #[error_bound(E: Display)]
 pub enum WriteError<E> {
-    /// A tree was refused.
+    /// `out` rejected a tree, with this error.
     #[error("a tree was refused: {0}")]
     Out(E),
-    /// There was no memory.
+    /// Memory ran out.
     #[error("out of memory")]
     OutOfMemory,
 }
@@ -74,8 +77,8 @@ impl<E, T: Drop> From<AllocFailed<T>> for WriteError<E> {
     }
 }
 
-/// Hands out what is open in a directory, and answers its own tree, which is made beside a base. The trees that
-/// go out as they stand stay where they are, and the pairs have empty ones for them.
+/// Emits what is open in a directory, and returns its written tree, built next to a base. Leaf trees aren't
+/// moved: the pairs have empty trees for them.
 #[cycle(walk)]
 fn leaves<E, F: FnMut(&Tree) -> Result<ObjectId, E>>(
     alloc: Global,
@@ -86,43 +89,43 @@ fn leaves<E, F: FnMut(&Tree) -> Result<ObjectId, E>>(
     saved: &mut usize,
 ) -> Result<OwnTree, WriteError<E>>
     requires callable { IsCallableOnTrees F.pre (answered F.FnMut) out.old }
-    ensures beside { IfOk result (IsBeside base.now) }
+    ensures shares_base { IfOk result (SharesBase base.now) }
     ensures ok { IfOk result (λ own. (below : List Pair) × (count : ℕ)
-        × Leaves (dirs_of node.now) (bases_of node.now) below (so_far base.now own) count
+        × EmitsBelow (dirs_of node.now) (bases_of node.now) below (so_far base.now own) count
         × (saved.new ≡ raised saved.old count)
-        × Adds pairs.old.items pairs.new.items (wholes (inside_of node.now)) below
+        × Adds pairs.old.items pairs.new.items (leaf_trees (inside_of node.now)) below
         × FoldsTo (answered F.FnMut) out.old below out.new) }
     ensures storable { IfOk result (λ own. IsStorable (so_far base.now own)) }
-    ensures stopped { IfErr result (Stopped (answered F.FnMut) (denied F.FnMut)
+    ensures error { IfErr result (Stopped (answered F.FnMut) (denied F.FnMut)
         (λ ps. (own : List EntryView) × (count : ℕ)
-        × Leaves (dirs_of node.now) (bases_of node.now) ps own count) out.old out.new) }
+        × EmitsBelow (dirs_of node.now) (bases_of node.now) ps own count) out.old out.new) }
 {
     let mut own = OwnTree::new();
-    let mut left: &[Child] = &node.children;
+    let mut remaining: &[Child] = &node.children;
     for entry in entries_of(&node.tree) {
-        let (child, behind) = next_of(left, entry);
-        left = behind;
+        let (child, tail) = next_of(remaining, entry);
+        remaining = tail;
         let id = visit(alloc, entry, child, out, pairs, saved)?;
         keep_entry(alloc, &mut own, base, entry, id, node.tree.entries.len())?;
     }
     Ok(own)
 }
 
-/// The next of the open directories, where it is the entry's, and those behind it.
+/// Returns the next open directory if it is the entry's, and those after it.
 ///
-/// They stand in the order of their entries, so none is sought.
-fn next_of<'a>(left: &'a [Child], entry: &Entry) -> (Option<&'a Child>, &'a [Child])
-    ensures next { option_copied result.0 ≡ next_child entry.now.name left.now }
-    ensures behind { result.1.now ≡ pairs_behind_next entry.now.name left.now }
+/// The open directories are in the order of their entries, so there is no search.
+fn next_of<'a>(remaining: &'a [Child], entry: &Entry) -> (Option<&'a Child>, &'a [Child])
+    ensures next { option_copied result.0 ≡ next_child entry.now.name remaining.now }
+    ensures following { result.1.now ≡ pairs_after_next entry.now.name remaining.now }
 {
-    match left.split_first() {
-        Some((child, behind)) if child.is_named(&entry.filename) => (Some(child), behind),
-        _ => (None, left),
+    match remaining.split_first() {
+        Some((child, tail)) if child.is_named(&entry.filename) => (Some(child), tail),
+        _ => (None, remaining),
     }
 }
 
-/// Hands out what is open at and below an entry, whose directory may be an open one, and answers the id
-/// that the entry gets. There is none where the directory's own tree is empty.
+/// Emits what is open at and below an entry, and returns the id that the entry gets. There is none if the
+/// written tree of its directory is empty.
 #[cycle(walk)]
 fn visit<E, F: FnMut(&Tree) -> Result<ObjectId, E>>(
     alloc: Global,
@@ -137,9 +140,9 @@ fn visit<E, F: FnMut(&Tree) -> Result<ObjectId, E>>(
         × Visits (child_side entries_side (option_copied child.entry))
         (child_side base_side (option_copied child.entry)) entry.now inner (kept_with entry.now id)
         count × (saved.new ≡ raised saved.old count)
-        × Adds pairs.old.items pairs.new.items (child_wholes (option_copied child.entry)) inner
+        × Adds pairs.old.items pairs.new.items (child_leaf_trees (option_copied child.entry)) inner
         × FoldsTo (answered F.FnMut) out.old inner out.new) }
-    ensures stopped { IfErr result (Stopped (answered F.FnMut) (denied F.FnMut)
+    ensures error { IfErr result (Stopped (answered F.FnMut) (denied F.FnMut)
         (λ inner. (kept : List EntryView) × (count : ℕ)
         × Visits (child_side entries_side (option_copied child.entry))
         (child_side base_side (option_copied child.entry)) entry.now inner kept count) out.old
@@ -148,9 +151,9 @@ fn visit<E, F: FnMut(&Tree) -> Result<ObjectId, E>>(
     let Some(child) = child else {
         return Ok(Some(entry.oid));
     };
-    if let Some(tree) = child.open.whole() {
-        let given = hand_whole(alloc, tree, out, pairs)?;
-        return Ok(Some(given));
+    if let Some(tree) = child.open.leaf_tree() {
+        let passed = emit_leaf_tree(alloc, tree, out, pairs)?;
+        return Ok(Some(passed));
     }
     let base = base_of(&child.open);
     let own = leaves(alloc, &child.open, base, out, pairs, saved)?;
@@ -163,12 +166,12 @@ fn visit<E, F: FnMut(&Tree) -> Result<ObjectId, E>>(
         return Ok(Some(unchanged));
     }
     let tree = own.into_tree(alloc, base)?;
-    let id = hand(tree, out, pairs)?;
+    let id = emit_tree(tree, out, pairs)?;
     Ok(Some(id))
 }
 
-/// As [`leaves`], with a copy of the directory's own tree, and whether that is the tree that it has: one that goes
-/// out as it stands is copied at once.
+/// Emits what is open in a directory, and returns a copy of its written tree, and whether that is its present
+/// tree. A leaf tree is copied at once.
 fn leaves_copied<E, F: FnMut(&Tree) -> Result<ObjectId, E>>(
     alloc: Global,
     node: &Open,
@@ -178,17 +181,17 @@ fn leaves_copied<E, F: FnMut(&Tree) -> Result<ObjectId, E>>(
 ) -> Result<(Tree, bool), WriteError<E>>
     requires callable { IsCallableOnTrees F.pre (answered F.FnMut) out.old }
     ensures ok { IfOk result (λ it. (below : List Pair) × (count : ℕ)
-        × Leaves (dirs_of node.now) (bases_of node.now) below it.0 count
+        × EmitsBelow (dirs_of node.now) (bases_of node.now) below it.0 count
         × (saved.new ≡ raised saved.old count)
-        × Adds pairs.old.items pairs.new.items (wholes (inside_of node.now)) below
+        × Adds pairs.old.items pairs.new.items (leaf_trees (inside_of node.now)) below
         × FoldsTo (answered F.FnMut) out.old below out.new) }
     ensures storable { IfOk result (λ it. IsStorable it.0) }
-    ensures stands { IfOk result (λ it. IsTrue it.1 → dirs_of node.now [] ≡ Some it.0) }
-    ensures stopped { IfErr result (Stopped (answered F.FnMut) (denied F.FnMut)
+    ensures is_at { IfOk result (λ it. IsTrue it.1 → dirs_of node.now [] ≡ Some it.0) }
+    ensures error { IfErr result (Stopped (answered F.FnMut) (denied F.FnMut)
         (λ ps. (own : List EntryView) × (count : ℕ)
-        × Leaves (dirs_of node.now) (bases_of node.now) ps own count) out.old out.new) }
+        × EmitsBelow (dirs_of node.now) (bases_of node.now) ps own count) out.old out.new) }
 {
-    if let Some(tree) = node.whole() {
+    if let Some(tree) = node.leaf_tree() {
         let entries = copies(alloc, &tree.entries)?;
         return Ok((Tree { entries }, true));
     }
@@ -198,29 +201,29 @@ fn leaves_copied<E, F: FnMut(&Tree) -> Result<ObjectId, E>>(
     Ok((tree, false))
 }
 
-/// The entries of the tree.
+/// Returns the entries of the tree.
 fn entries_of(tree: &Tree) -> &[Entry]
     ensures { result.now ≡ tree.now }
 {
     &tree.entries
 }
 
-/// The entries that the directory was opened with.
+/// Returns the entries that the directory was opened with.
 pub(crate) fn base_of(node: &Open) -> &[Entry]
     ensures { bases_of node.now [] ≡ Some result.now }
 {
     entries_of(&node.base)
 }
 
-/// One more, up to the greatest number.
+/// Adds one to the number, which saturates.
 fn count(saved: &mut usize)
     ensures { saved.new ≡ raised saved.old 1 }
 {
     *saved = saved.saturating_add(1);
 }
 
-/// Hands a tree out, and adds it to the pairs with the id that it got.
-fn hand<E, F: FnMut(&Tree) -> Result<ObjectId, E>>(
+/// Emits a tree, and appends it with its id to the pairs.
+fn emit_tree<E, F: FnMut(&Tree) -> Result<ObjectId, E>>(
     tree: Tree,
     out: &mut F,
     pairs: &mut Vec<(ObjectId, Tree)>,
@@ -229,7 +232,7 @@ fn hand<E, F: FnMut(&Tree) -> Result<ObjectId, E>>(
     requires storable { IsStorable tree }
     ensures ok { IfOk result (λ id. (pairs.new.items ≡ pairs.old.items ++ (id, tree) ∷ [])
         × CalledAt F.FnMut out.old tree (Ok id) out.new) }
-    ensures stopped { IfErr result (Stopped (answered F.FnMut) (denied F.FnMut)
+    ensures error { IfErr result (Stopped (answered F.FnMut) (denied F.FnMut)
         (λ ps. (id : ObjectId) × (ps ≡ (id, tree) ∷ [])) out.old out.new) }
 {
     let id = ask(&tree, out, pairs)?;
@@ -237,8 +240,8 @@ fn hand<E, F: FnMut(&Tree) -> Result<ObjectId, E>>(
     Ok(id)
 }
 
-/// Hands out a tree that stays where it is, and adds an empty one in its place to the pairs.
-fn hand_whole<E, F: FnMut(&Tree) -> Result<ObjectId, E>>(
+/// Emits a tree without moving it, and appends its id to the pairs, with an empty tree.
+fn emit_leaf_tree<E, F: FnMut(&Tree) -> Result<ObjectId, E>>(
     alloc: Global,
     tree: &Tree,
     out: &mut F,
@@ -248,7 +251,7 @@ fn hand_whole<E, F: FnMut(&Tree) -> Result<ObjectId, E>>(
     requires storable { IsStorable tree.now }
     ensures ok { IfOk result (λ id. (pairs.new.items ≡ pairs.old.items ++ (id, []) ∷ [])
         × CalledAt F.FnMut out.old tree.now (Ok id) out.new) }
-    ensures stopped { IfErr result (Stopped (answered F.FnMut) (denied F.FnMut)
+    ensures error { IfErr result (Stopped (answered F.FnMut) (denied F.FnMut)
         (λ ps. (id : ObjectId) × (ps ≡ (id, tree.now) ∷ [])) out.old out.new) }
 {
     let id = ask(tree, out, pairs)?;
@@ -256,7 +259,7 @@ fn hand_whole<E, F: FnMut(&Tree) -> Result<ObjectId, E>>(
     Ok(id)
 }
 
-/// Hands a tree out, and answers the id that it got. There is room for its pair then.
+/// Emits a tree, and returns its id. The pairs have capacity for one more then.
 fn ask<E, F: FnMut(&Tree) -> Result<ObjectId, E>>(
     tree: &Tree,
     out: &mut F,
@@ -265,9 +268,9 @@ fn ask<E, F: FnMut(&Tree) -> Result<ObjectId, E>>(
     requires callable { IsCallableOnTrees F.pre (answered F.FnMut) out.old }
     requires storable { IsStorable tree.now }
     ensures ok { IfOk result (λ id. CalledAt F.FnMut out.old tree.now (Ok id) out.new) }
-    ensures room { OnOk result (vec_len pairs.new < vec_capacity pairs.new) }
+    ensures has_capacity { OnOk result (vec_len pairs.new < vec_capacity pairs.new) }
     ensures items { pairs.new.items ≡ pairs.old.items }
-    ensures stopped { IfErr result (Stopped (answered F.FnMut) (denied F.FnMut)
+    ensures error { IfErr result (Stopped (answered F.FnMut) (denied F.FnMut)
         (λ ps. (id : ObjectId) × (ps ≡ (id, tree.now) ∷ [])) out.old out.new) }
 {
     pairs.reserve(1)?;
@@ -277,7 +280,8 @@ fn ask<E, F: FnMut(&Tree) -> Result<ObjectId, E>>(
     }
 }
 
-/// Adds the entry with the id that it gets, unless there is none or it is null. So many entries may come in all.
+/// Appends the entry with the id that it gets, unless that is missing or null. `room` is the maximum of
+/// entries.
 fn keep_entry(
     alloc: Global,
     own: &mut OwnTree,
@@ -286,10 +290,10 @@ fn keep_entry(
     id: Option<ObjectId>,
     room: usize,
 ) -> Result<(), AllocError>
-    requires { IsBeside base.now own.old }
+    requires { SharesBase base.now own.old }
     ensures entries { OnOk result (so_far base.now own.new
         ≡ so_far base.now own.old ++ kept_with entry.now id) }
-    ensures beside { OnOk result (IsBeside base.now own.new) }
+    ensures shares_base { OnOk result (SharesBase base.now own.new) }
     ensures off { OnErr result ((rest : List EntryView)
         → (so_far base.now own.old ++ kept_with entry.now id) ++ rest ≢ base.now) }
 {
@@ -302,24 +306,28 @@ fn keep_entry(
     own.push(alloc, base, entry, id, room)
 }
 
-/// Hands out the changed directories that are open in this one, each behind those in it, and then
-/// its own tree, also where that is empty or as it was. It keeps that tree, with nothing open in
-/// it. What the directory was opened with stays.
+/// Writes a directory: emits the changed directories that are open in it, and then its own written tree.
 ///
-/// A directory is changed where its tree isn't the one that it was opened with. In what is handed
-/// out the entry of a changed one has the id that `out` answered for it. That of an unchanged one
-/// keeps its id, and is counted in [`Written::saved`]. One whose tree is empty is left out and not
-/// counted, and entries with null ids are left out. `out` may be called on every well-formed tree
-/// without null ids, whatever it was called on before.
+/// Each directory is emitted after those in it. The directory's written tree is emitted even if it is empty
+/// or unchanged. The directory keeps it, with no directory open in it, and its base is unchanged.
 ///
-/// A tree of a directory below it in which nothing is open, and no id null, goes out as it stands,
-/// and is taken out of what is open when all are answered. So it takes memory for the other trees
-/// that go out, its own among them, for the list of all and for one of those, and for nothing else.
-/// Its own tree it keeps without a second copy.
+/// A directory is changed if its written tree isn't its base. Its entry gets the id that `out` returns for
+/// it. An unchanged directory keeps its id, and is counted in [`Written::saved`]. A directory whose written
+/// tree is empty is left out and not counted, and entries with null ids are left out.
 ///
-/// `Out` with its refusal where `out` refused a tree, and then it is asked for no other;
-/// `OutOfMemory` where memory ran out. A refusal leaves what is open as it was; `out` may have
-/// been called by then.
+/// `out` must be callable on every well-formed tree without null ids, whatever it was called on before.
+///
+/// A directory below this one, in which no directory is open and no id is null, is emitted without a copy.
+/// Its tree is moved after the last call of `out`. Allocates the other emitted trees, including that of this
+/// directory, the list of all and a list of the moved ones; nothing else. The directory keeps its written
+/// tree without a second copy.
+///
+/// # Errors
+///
+/// The open directories are unchanged. `out` may have been called by then.
+///
+/// - [`WriteError::Out`] if `out` rejects a tree, with its error. It isn't called again.
+/// - [`WriteError::OutOfMemory`] if memory runs out.
 pub fn write_all<E, F: FnMut(&Tree) -> Result<ObjectId, E>>(
     alloc: Global,
     node: &mut Open,
@@ -334,38 +342,46 @@ pub fn write_all<E, F: FnMut(&Tree) -> Result<ObjectId, E>>(
     ensures bases { OnOk result ((at : Path)
         → bases_of node.new at ≡ edited_bases (dirs_of node.old) (dirs_of node.new)
         (bases_of node.old) at) }
-    ensures stopped { IfErr result (Stopped (answered F.FnMut) (denied F.FnMut)
-        (HandsOutSome (dirs_of node.old) (bases_of node.old)) out.old out.new) }
+    ensures error { IfErr result (Stopped (answered F.FnMut) (denied F.FnMut)
+        (EmitsSome (dirs_of node.old) (bases_of node.old)) out.old out.new) }
     ensures unchanged { OnErr result (node.new ≡ node.old) }
 {
     let mut trees = Vec::new(alloc);
     let mut saved = 0;
-    let (own, stands) = leaves_copied(alloc, node, out, &mut trees, &mut saved)?;
-    let mut wholes = Vec::with_capacity(alloc, trees.len())?;
+    let (own, placed) = leaves_copied(alloc, node, out, &mut trees, &mut saved)?;
+    let mut complete_trees = Vec::with_capacity(alloc, trees.len())?;
     let id = ask(&own, out, &mut trees)?;
-    become_own(&mut node.tree, &own, stands);
+    become_own(&mut node.tree, &own, placed);
     let children = mem::replace(&mut node.children, Vec::new(alloc));
-    take_wholes(children, &mut wholes);
-    fill(&mut trees, wholes);
+    take_leaf_trees(children, &mut complete_trees);
+    fill(&mut trees, complete_trees);
     let _ = trees.push((id, own));
     Ok(Written { id, trees, saved })
 }
 
-/// Makes a directory's tree its own tree, which it already is where that stands.
-fn become_own(tree: &mut Tree, own: &Tree, stands: bool)
+/// Makes a directory's tree its written tree, which it already is if `placed`.
+fn become_own(tree: &mut Tree, own: &Tree, placed: bool)
     requires well_formed { IsWellFormed tree.old }
-    requires sifted { IsSifted own.now tree.old }
+    requires filtered { IsFilteredTree own.now tree.old }
     requires filled { All (λ e. IsFalse (is_null e.id)) own.now }
-    requires stands { IsTrue stands → own.now ≡ tree.old }
+    requires is_at { IsTrue placed → own.now ≡ tree.old }
     ensures { tree.new ≡ own.now }
 {
-    if !stands {
+    if !placed {
         become_tree(tree, own);
     }
 }
 
-/// As [`write_all`], of the directory at a path, which must be open. All else stays open as it
-/// was, and so does what each directory was opened with.
+/// Writes the directory at a path, which must be open, by the rules of [`write_all`].
+///
+/// Directories outside of it are open as before, and the base of each open directory is unchanged.
+///
+/// # Errors
+///
+/// The open directories are unchanged. `out` may have been called by then.
+///
+/// - [`WriteError::Out`] if `out` rejects a tree, with its error. It isn't called again.
+/// - [`WriteError::OutOfMemory`] if memory runs out.
 pub fn write_at<E, F: FnMut(&Tree) -> Result<ObjectId, E>>(
     alloc: Global,
     node: &mut Open,
@@ -384,8 +400,8 @@ pub fn write_at<E, F: FnMut(&Tree) -> Result<ObjectId, E>>(
     ensures bases { OnOk result ((at : Path)
         → bases_of node.new at ≡ edited_bases (dirs_of node.old) (dirs_of node.new)
         (bases_of node.old) at) }
-    ensures stopped { IfErr result (Stopped (answered F.FnMut) (denied F.FnMut)
-        (HandsOutSome (in_path (names_of path.now) (dirs_of node.old))
+    ensures error { IfErr result (Stopped (answered F.FnMut) (denied F.FnMut)
+        (EmitsSome (in_path (names_of path.now) (dirs_of node.old))
         (in_path (names_of path.now) (bases_of node.old))) out.old out.new) }
     ensures unchanged { OnErr result (node.new ≡ node.old) }
 {

@@ -6,13 +6,13 @@ use Rattle.gixobj_object.specs.Stores.{Objects, StoredObject, named}
 use Rattle.gixobj_directories.specs.Openings.{AreTreesOf, NamesTree}
 use Rattle.gixobj_files.proofs.ListedTables.{fitting_table}
 use Rattle.gixobj_files.specs.Files.{Table, Trees}
-use Rattle.gixobj_files.specs.Tables.{AgreesWithPairs, FitsBeside, IsUnaskedId}
+use Rattle.gixobj_files.specs.Tables.{AgreesWithPairs, IsConsistentWith, IsNeverLookedUp}
 use Rattle.gixobj_hash.specs.declared.hash.object_id.ObjectId.{ObjectId}
 use Rattle.gixobj_find.specs.Keeping.{tree_object, with_tree, with_trees}
-use Rattle.gixobj_tree.specs.TreeReading.{IsTreeText}
+use Rattle.gixobj_tree.specs.TreeDecoding.{DecodesToTree}
 use Rattle.gixobj_tree.specs.Entries.{EntryView, Pair}
-use Rattle.gixobj_editor.specs.Commands.{pairs_handed_out, pairs_kept}
-use Rattle.gixobj_editor.specs.RunTables.{AgreesWithObjects, AgreesWithRun, ReadsAsItself}
+use Rattle.gixobj_editor.specs.Commands.{emitted_pairs, pairs_kept}
+use Rattle.gixobj_editor.specs.RunTables.{AgreesWithObjects, AgreesWithRun, DecodesToItself}
 use Rattle.gixobj_editor.specs.declared.reply.Reply.{Reply}
 use Rattle.gixobj_editor.proofs.KeptPairs.{kept_have}
 use Rattle.gixobj_hash.proofs.SameIds.{same_ids}
@@ -21,8 +21,8 @@ module _ (T : Table) where
   abbrev Has : Pair → Type 0
   Has pair = T.tree_at pair.0 ≡ Some pair.1
 
-  -- a table that agrees with a store, and has a tree, agrees with the store in which the tree is kept
-  module _ (objects : Objects) (pair : Pair) (agrees : AgreesWithObjects T objects) (has : Has pair) (reads : ReadsAsItself pair) where
+  -- a table that agrees with a store and has a tree agrees with the store that keeps the tree
+  module _ (objects : Objects) (pair : Pair) (agrees : AgreesWithObjects T objects) (has : Has pair) (reads : DecodesToItself pair) where
     abbrev kept_as : StoredObject
     kept_as = tree_object pair.0 pair.1
 
@@ -30,31 +30,37 @@ module _ (T : Table) where
     at_tree it entries is names =
         let found : named (with_tree pair objects) it ≡ Some kept_as = ap (named (with_tree pair objects)) is ∙ there objects pair.0 kept_as in
         let same : names.0.0 ≡ kept_as = cc (found, names.0.1) in
-        let text = subst (λ (o : StoredObject). IsTreeText o.object_hash o.bytes entries) same names.0.3 in
-        ap T.tree_at is ∙ has ∙ ap Some (sym (reads entries text names.1))
+        let content = subst (λ (o : StoredObject). DecodesToTree o.object_hash o.bytes entries) same names.0.3 in
+        ap T.tree_at is ∙ has ∙ ap Some (sym (reads entries content names.1))
 
-    at_other : (it : ObjectId) (entries : List EntryView) → (IsUnaskedId it → ⊥) → it ≢ pair.0 → NamesTree (with_tree pair objects) it entries → T.tree_at it ≡ Some entries
-    at_other it entries sought other names =
-        agrees it entries sought ((names.0.0, sym (elsewhere objects pair.0 it kept_as other) ∙ names.0.1, names.0.2, names.0.3), names.1)
+    at_other : (it : ObjectId) (entries : List EntryView) → (IsNeverLookedUp it → ⊥) → it ≢ pair.0 → NamesTree (with_tree pair objects) it entries
+        → T.tree_at it ≡ Some entries
+    at_other it entries searched other names =
+        agrees it entries searched ((names.0.0, sym (elsewhere objects pair.0 it kept_as other) ∙ names.0.1, names.0.2, names.0.3), names.1)
 
     agrees_with_tree : AgreesWithObjects T (with_tree pair objects)
-    agrees_with_tree it entries sought names = ⊎_elim (λ is. at_tree it entries is names) (λ other. at_other it entries sought other names) (same_ids it pair.0)
+    agrees_with_tree it entries searched names = ⊎_elim (λ is. at_tree it entries is names) (λ other. at_other it entries searched other names)
+        (same_ids it pair.0)
 
-  agrees_with_trees : (pairs : List Pair) (objects : Objects) → AgreesWithObjects T objects → AgreesWithPairs T pairs → All ReadsAsItself pairs → AgreesWithObjects T (with_trees pairs objects)
+  agrees_with_trees : (pairs : List Pair) (objects : Objects) → AgreesWithObjects T objects → AgreesWithPairs T pairs → All DecodesToItself pairs
+      → AgreesWithObjects T (with_trees pairs objects)
   agrees_with_trees [] objects agrees has reads = agrees
   agrees_with_trees (pair ∷ pairs) objects agrees has reads =
-      agrees_with_trees pairs (with_tree pair objects) (agrees_with_tree objects pair agrees (All-head Has pair pairs has) (All-head ReadsAsItself pair pairs reads))
-      (All-tail Has pair pairs has) (All-tail ReadsAsItself pair pairs reads)
+      agrees_with_trees pairs (with_tree pair objects)
+      (agrees_with_tree objects pair agrees (All-head Has pair pairs has) (All-head DecodesToItself pair pairs reads))
+      (All-tail Has pair pairs has) (All-tail DecodesToItself pair pairs reads)
 
-pub run_table : {E : Type 0} (replies : List (Reply E)) (objects : Objects) (trees : Trees) → AreTreesOf objects trees → FitsBeside (pairs_handed_out replies) trees → All ReadsAsItself (pairs_kept replies)
+pub run_table : {E : Type 0} (replies : List (Reply E)) (objects : Objects) (trees : Trees) → AreTreesOf objects trees
+    → IsConsistentWith (emitted_pairs replies) trees → All DecodesToItself (pairs_kept replies)
     → (T : Table) × AgreesWithRun T objects replies
 run_table replies objects trees are fits reads =
-    let it = fitting_table (pairs_handed_out replies) trees fits in
-    let agrees : AgreesWithObjects it.0 objects = λ id entries sought names. it.1 id entries sought ((are id entries).1 names) in
+    let it = fitting_table (emitted_pairs replies) trees fits in
+    let agrees : AgreesWithObjects it.0 objects = λ id entries searched names. it.1 id entries searched ((are id entries).1 names) in
     let has = kept_have (Has it.0) replies it.2 in (
       it.0,
       record {
         writes = it.2;
-        stores = λ count. agrees_with_trees it.0 (take count (pairs_kept replies)) objects agrees (All-take (Has it.0) count (pairs_kept replies) has) (All-take ReadsAsItself count (pairs_kept replies) reads);
+        stores = λ count. agrees_with_trees it.0 (take count (pairs_kept replies)) objects agrees (All-take (Has it.0) count (pairs_kept replies) has)
+            (All-take DecodesToItself count (pairs_kept replies) reads);
       },
     )

@@ -1,4 +1,4 @@
--- What a run's writes handed out is what its closure answered.
+-- The emitted pairs of a run's writes are what its closure returned.
 use Rattle.std.proofs.Common.{All, List, [], ◌∷◌, Ok}
 use Rattle.std.proofs.lemmas.List.Elements.{All-append, All-cons, All-nil}
 use Rattle.std.specs.List.{FoldsTo, flat_map}
@@ -12,28 +12,29 @@ use Rattle.gixobj_editor.specs.Cursors.{prefix_of}
 use Rattle.gixobj_files.specs.Files.{Path}
 use Rattle.gixobj_files.specs.State.{State}
 use Rattle.gixobj_tree.specs.Entries.{Pair}
-use Rattle.gixobj_editor.specs.Commands.{Place, at_cursor, at_root, pairs_handed_out, pairs_of, pairs_of_edit}
-use Rattle.gixobj_editor.specs.Replies.{Answers, AreEditReplies, GivesTreeId, IsEditReply, IsReply, IsReplyAt, IsRun, IsWrittenAt}
+use Rattle.gixobj_editor.specs.Commands.{Place, at_cursor, at_root, emitted_pairs, pairs_of, pairs_of_edit}
+use Rattle.gixobj_editor.specs.Replies.{Answers, AreEditReplies, ReturnsTreeId, IsEditReply, IsReply, IsReplyAt, IsRun, IsWrittenAt}
 use Rattle.gixobj_editor.specs.declared.reply.EditReply.{EditReply}
 use Rattle.gixobj_editor.specs.declared.reply.EditReply.TheVariants as edit_reply
 use Rattle.gixobj_editor.specs.declared.reply.Reply.{Reply}
 use Rattle.gixobj_editor.specs.declared.reply.Reply.TheVariants as reply
-use Rattle.gixobj_object.specs.Stores.{Meaning}
+use Rattle.gixobj_object.specs.Stores.{StoreModel}
 
-module _ {S E : Type 0} (means : Meaning S) (answers : Answers E) where
-  -- the id is the closure's answer to the tree
+module _ {S E : Type 0} (means : StoreModel S) (answers : Answers E) where
+  -- the id is the closure's result for the tree
   abbrev pub IsAnswered : Pair → Type 0
   IsAnswered pair = answers pair.1 (Ok pair.0)
 
-  called : (asked : Unit {0}) (pairs : List Pair) (answered : Unit {0}) → FoldsTo (GivesTreeId answers) asked pairs answered → All IsAnswered pairs
-  called asked [] answered is = All-nil IsAnswered
-  called asked (pair ∷ pairs) answered (next, one, rest) = All-cons IsAnswered pair pairs one (called next pairs answered rest)
+  called : (requested : Unit {0}) (pairs : List Pair) (answered : Unit {0}) → FoldsTo (ReturnsTreeId answers) requested pairs answered → All IsAnswered pairs
+  called requested [] answered is = All-nil IsAnswered
+  called requested (pair ∷ pairs) answered (next, one, rest) = All-cons IsAnswered pair pairs one (called next pairs answered rest)
 
   written : (place : Place) (it : Written) (old new : State S) → IsWrittenAt answers place it old new → All IsAnswered it.trees.items
   written at_root it old new is = called tt it.trees.items tt is.called
   written (at_cursor prefix) it old new is = called tt it.trees.items tt is.called
 
-  edit_answered : (place : Place) (old new : State S) (it : Edit) (its_reply : EditReply E) → IsEditReply means answers place old it its_reply new → All IsAnswered (pairs_of_edit its_reply)
+  edit_answered : (place : Place) (old new : State S) (it : Edit) (its_reply : EditReply E) → IsEditReply means answers place old it its_reply new
+      → All IsAnswered (pairs_of_edit its_reply)
   edit_answered place old new edit.Write (edit_reply.Written it) is = written place it old is.between is.written
   edit_answered place old new edit.Write (edit_reply.NotKept it count error) is = written place it old is.between is.written
   edit_answered place old new it edit_reply.Done is = All-nil IsAnswered
@@ -41,15 +42,18 @@ module _ {S E : Type 0} (means : Meaning S) (answers : Answers E) where
   edit_answered place old new it (edit_reply.WriteRefused error) is = All-nil IsAnswered
   edit_answered place old new it its_reply is = absurd is
 
-  edits_answered : (place : Place) (old new : State S) (edits : List Edit) (replies : List (EditReply E)) → AreEditReplies means answers place old edits replies new → All IsAnswered (flat_map pairs_of_edit replies)
+  edits_answered : (place : Place) (old new : State S) (edits : List Edit) (replies : List (EditReply E))
+      → AreEditReplies means answers place old edits replies new → All IsAnswered (flat_map pairs_of_edit replies)
   edits_answered place old new [] [] is = All-nil IsAnswered
   edits_answered place old new (it ∷ edits) (its_reply ∷ replies) (between, first, rest) =
-      All-append IsAnswered (pairs_of_edit its_reply) (flat_map pairs_of_edit replies) (edit_answered place old between it its_reply first) (edits_answered place between new edits replies rest)
+      All-append IsAnswered (pairs_of_edit its_reply) (flat_map pairs_of_edit replies) (edit_answered place old between it its_reply first)
+      (edits_answered place between new edits replies rest)
   edits_answered place old new [] (its_reply ∷ replies) is = absurd is
   edits_answered place old new (it ∷ edits) [] is = absurd is
 
-  at_answered : (prefix : Path) (old new : State S) (edits : List Edit) (its_reply : Reply E) → IsReplyAt means answers prefix old edits its_reply new → All IsAnswered (pairs_of its_reply)
-  at_answered prefix old new edits (reply.At replies) (between, assured, rest) = edits_answered (at_cursor prefix) between new edits replies.items rest
+  at_answered : (prefix : Path) (old new : State S) (edits : List Edit) (its_reply : Reply E) → IsReplyAt means answers prefix old edits its_reply new
+      → All IsAnswered (pairs_of its_reply)
+  at_answered prefix old new edits (reply.At replies) (between, ensured, rest) = edits_answered (at_cursor prefix) between new edits replies.items rest
   at_answered prefix old new edits (reply.AtRefused error) is = All-nil IsAnswered
   at_answered prefix old new edits its_reply is = absurd is
 
@@ -60,9 +64,11 @@ module _ {S E : Type 0} (means : Meaning S) (answers : Answers E) where
   command_answered old new (command.SetRoot entries) reply.RootRefused is = All-nil IsAnswered
   command_answered old new it its_reply is = absurd is
 
-  pub run_answered : (old new : State S) (commands : List Command) (replies : List (Reply E)) → IsRun means answers old commands replies new → All IsAnswered (pairs_handed_out replies)
+  pub run_answered : (old new : State S) (commands : List Command) (replies : List (Reply E)) → IsRun means answers old commands replies new
+      → All IsAnswered (emitted_pairs replies)
   run_answered old new [] [] is = All-nil IsAnswered
   run_answered old new (it ∷ commands) (its_reply ∷ replies) (between, first, rest) =
-      All-append IsAnswered (pairs_of its_reply) (pairs_handed_out replies) (command_answered old between it its_reply first) (run_answered between new commands replies rest)
+      All-append IsAnswered (pairs_of its_reply) (emitted_pairs replies) (command_answered old between it its_reply first)
+      (run_answered between new commands replies rest)
   run_answered old new [] (its_reply ∷ replies) is = absurd is
   run_answered old new (it ∷ commands) [] is = absurd is

@@ -1,4 +1,5 @@
--- The directory at a cursor's prefix stays open.
+-- After each edit by a cursor the directory at its prefix is still open; the proofs of the cursor's `try_` edits use
+-- it.
 use Rattle.std.proofs.Common.{◌≡◌, ◌≢◌, ◌∙◌, ℕ, List, [], ◌∷◌, ◌++◌, Some, None, Result, Ok, Err, ap, arith, refl, subst, sym}
 use Rattle.std.specs.Prelude.{OnErr, OnOk}
 use Rattle.gixobj_object.specs.Stores.{Objects}
@@ -17,10 +18,10 @@ use Rattle.gixobj_tree.specs.Entries.{EntryView}
 use Rattle.gixobj_editor.specs.Cursors.{from_root}
 use Rattle.gixobj_editor.specs.Removals.{IsRemoved}
 use Rattle.gixobj_files.specs.Bases.{opened_bases}
-use Rattle.gixobj_directories.specs.declared.opening.Unasked.TheVariants as unasked
-use Rattle.gixobj_editor.specs.Upserts.{IsRefused, IsUpserted, directory_of}
+use Rattle.gixobj_directories.specs.declared.opening.Vacant.TheVariants as vacant
+use Rattle.gixobj_editor.specs.Upserts.{IsEditFailure, IsUpserted, directory_of}
 
--- what keeps each open directory keeps this one
+-- if each open directory is still open, this one is
 kept_open : (old new : Dirs) (at : Path) → ((entries : List EntryView) → old at ≡ Some entries → new at ≡ Some entries) → old at ≢ None → new at ≢ None
 kept_open old new at keeps there none =
     elim (old at) as (λ o. old at ≡ o → ⊥) [
@@ -28,52 +29,65 @@ kept_open old new at keeps there none =
       | Some entries ↦ λ is. let bad : Some entries ≡ None = sym (keeps entries is) ∙ none in cc bad
     ] refl
 
-opened_still : {Ends : EntryView → Type 0} (trees : Trees) (path : Path) (old new : Dirs) (asked : List ObjectId) → Opens Ends trees path old new asked → (at : Path) → old at ≢ None → new at ≢ None
-opened_still trees path old new asked opens at there = kept_open old new at (opening_keeps trees path old new asked opens at) there
+opened_still : {Ends : EntryView → Type 0} (trees : Trees) (path : Path) (old new : Dirs) (queries : List ObjectId) → Opens Ends trees path old new queries
+    → (at : Path) → old at ≢ None → new at ≢ None
+opened_still trees path old new queries opens at there = kept_open old new at (opening_keeps trees path old new queries opens at) there
 
 -- the directory at the prefix is open
 abbrev pub IsAtPrefix : {S : Type 0} → State S → Type 0
 IsAtPrefix state = open_dirs state state.prefix ≢ None
 
--- an edit leaves the prefix, and the directory there open
+-- after an edit the prefix is unchanged, and the directory there is open
 abbrev pub Stays : {S : Type 0} → State S → State S → Type 0
 Stays old new = (new.prefix ≡ old.prefix) × (IsAtPrefix old → IsAtPrefix new)
 
 stays : {S : Type 0} (old new : State S) → new.prefix ≡ old.prefix → (open_dirs old old.prefix ≢ None → open_dirs new old.prefix ≢ None) → Stays old new
 stays old new same kept = (same, λ there. subst (λ (p : Path). open_dirs new p ≢ None) (sym same) (kept there))
 
-upserted_open : {S : Type 0} (trees : Trees) (old new : State S) (prefix path : Path) (mode : ℕ) (id : ObjectId) → IsUpserted trees old (from_root prefix path) mode id new → open_dirs old prefix ≢ None → open_dirs new prefix ≢ None
-upserted_open trees old new prefix [] mode id h there = λ none. opened_still trees [] (open_dirs old) h.opened h.asked h.opens prefix there (sym (h.dirs prefix) ∙ none)
-upserted_open trees old new prefix (name ∷ path) mode id h there = λ none. upserted_stays prefix name path mode id (null_id old.object_hash) h.opened (sym (h.dirs prefix) ∙ none)
+upserted_open : {S : Type 0} (trees : Trees) (old new : State S) (prefix path : Path) (mode : ℕ) (id : ObjectId)
+    → IsUpserted trees old (from_root prefix path) mode id new → open_dirs old prefix ≢ None → open_dirs new prefix ≢ None
+upserted_open trees old new prefix [] mode id h there = λ none. opened_still trees [] (open_dirs old) h.opened h.requested h.opens prefix there
+    (sym (h.dirs prefix) ∙ none)
+upserted_open trees old new prefix (name ∷ path) mode id h there = λ none. upserted_stays prefix name path mode id (null_id old.object_hash) h.opened
+    (sym (h.dirs prefix) ∙ none)
 
-removed_open : {S : Type 0} {Ends : EntryView → Type 0} (trees : Trees) (old new : State S) (prefix path : Path) → IsRemoved Ends trees old (from_root prefix path) new → open_dirs old prefix ≢ None → open_dirs new prefix ≢ None
-removed_open trees old new prefix [] h there = λ none. opened_still trees [] (open_dirs old) h.opened h.asked h.opens prefix there (sym (h.dirs prefix) ∙ none)
+removed_open : {S : Type 0} {Ends : EntryView → Type 0} (trees : Trees) (old new : State S) (prefix path : Path)
+    → IsRemoved Ends trees old (from_root prefix path) new → open_dirs old prefix ≢ None → open_dirs new prefix ≢ None
+removed_open trees old new prefix [] h there = λ none. opened_still trees [] (open_dirs old) h.opened h.requested h.opens prefix there
+    (sym (h.dirs prefix) ∙ none)
 removed_open trees old new prefix (name ∷ path) h there =
-    λ none. removed_stays prefix name path h.opened (opened_still trees (directory_of (prefix ++ name ∷ path)) (open_dirs old) h.opened h.asked h.opens prefix there) (sym (h.dirs prefix) ∙ none)
+    λ none. removed_stays prefix name path h.opened
+    (opened_still trees (directory_of (prefix ++ name ∷ path)) (open_dirs old) h.opened h.requested h.opens prefix there) (sym (h.dirs prefix) ∙ none)
 
-pub upserted_keeps : {S : Type 0} (trees : Trees) (old new : State S) (path : Path) (mode : ℕ) (id : ObjectId) → IsUpserted trees old (from_root old.prefix path) mode id new → Stays old new
+pub upserted_keeps : {S : Type 0} (trees : Trees) (old new : State S) (path : Path) (mode : ℕ) (id : ObjectId)
+    → IsUpserted trees old (from_root old.prefix path) mode id new → Stays old new
 upserted_keeps {S} trees old new path mode id h = stays old new (ap (λ (o : State S). o.prefix) h.rest) (upserted_open trees old new old.prefix path mode id h)
 
-pub removed_keeps : {S : Type 0} {Ends : EntryView → Type 0} (trees : Trees) (old new : State S) (path : Path) → IsRemoved Ends trees old (from_root old.prefix path) new → Stays old new
+pub removed_keeps : {S : Type 0} {Ends : EntryView → Type 0} (trees : Trees) (old new : State S) (path : Path)
+    → IsRemoved Ends trees old (from_root old.prefix path) new → Stays old new
 removed_keeps {S} trees old new path h = stays old new (ap (λ (o : State S). o.prefix) h.rest) (removed_open trees old new old.prefix path h)
 
-pub refused_keeps : {S : Type 0} (trees : Trees) (old new : State S) (path : Path) → IsRefused trees old path new → Stays old new
-refused_keeps {S} trees old new path h = stays old new (ap (λ (o : State S). o.prefix) h.rest) (kept_open (open_dirs old) (open_dirs new) old.prefix (h.stays old.prefix))
+pub rejected_keeps : {S : Type 0} (trees : Trees) (old new : State S) (path : Path) → IsEditFailure trees old path new → Stays old new
+rejected_keeps {S} trees old new path h = stays old new (ap (λ (o : State S). o.prefix) h.rest)
+    (kept_open (open_dirs old) (open_dirs new) old.prefix (h.stays old.prefix))
 
--- an edit of the editor, accepted or refused
-pub either_way : {W X : Type 0} (result : Result W X) (objects : Objects) (Known : Type 0) (Accepted Refused : Trees → Type 0) → OnOk result ((trees : Trees) → AreTreesOf objects trees → Accepted trees)
-    → OnErr result ((trees : Trees) → AreTreesOf objects trees → Refused trees) → ((trees : Trees) → Accepted trees → Known) → ((trees : Trees) → Refused trees → Known) → Known
-either_way (Ok it) objects Known Accepted Refused ok err accepted refused = let named = trees_of objects in accepted named.0 (ok named.0 named.1)
-either_way (Err error) objects Known Accepted Refused ok err accepted refused = let named = trees_of objects in refused named.0 (err named.0 named.1)
+-- an edit of the editor, accepted or failed
+pub either_way : {W X : Type 0} (result : Result W X) (objects : Objects) (Known : Type 0) (Accepted Refused : Trees → Type 0)
+    → OnOk result ((trees : Trees) → AreTreesOf objects trees → Accepted trees)
+    → OnErr result ((trees : Trees) → AreTreesOf objects trees → Refused trees) → ((trees : Trees) → Accepted trees → Known)
+    → ((trees : Trees) → Refused trees → Known) → Known
+either_way (Ok it) objects Known Accepted Refused ok err accepted rejected = let named = trees_of objects in accepted named.0 (ok named.0 named.1)
+either_way (Err error) objects Known Accepted Refused ok err accepted rejected = let named = trees_of objects in rejected named.0 (err named.0 named.1)
 
--- nothing was done
-pub nothing_done : {S : Type 0} (trees : Trees) (old : State S) (path : Path) → IsOpened (open_dirs old) → ((at : Path) → open_bases old at ≡ opened_bases (open_dirs old) (open_dirs old) (open_bases old) at) → IsRefused trees old path old
+-- an edit that does nothing
+pub nothing_done : {S : Type 0} (trees : Trees) (old : State S) (path : Path) → IsOpened (open_dirs old)
+    → ((at : Path) → open_bases old at ≡ opened_bases (open_dirs old) (open_dirs old) (open_bases old) at) → IsEditFailure trees old path old
 nothing_done trees old path all idle = record {
-  unasked = unasked.Opened;
-  front = [];
+  not_looked_up = vacant.Opened;
+  prefix = [];
   more = path;
   on_the_way = refl;
-  asked = [];
+  requested = [];
   opens = arrived (open_dirs old);
   bases = idle;
   stays = λ at entries is. is;

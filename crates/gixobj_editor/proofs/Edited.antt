@@ -1,4 +1,4 @@
--- An editor after an edit, from what became of its open directories.
+-- The record of an edit follows from its effect on the open directories; the proofs of the editor's calls use it.
 use Rattle.std.proofs.Common.{◌≡◌, ◌≢◌, ◌∙◌, ◌≤◌, inl, inr, ℕ, Bool, true, List, [], ◌∷◌, ◌++◌, Option, Some, None, Result, Ok, Err, length, refl, sym, ap, subst}
 use Rattle.std.proofs.lemmas.Cmp.{lists_total, nat_list_cmp_total}
 use Rattle.std.proofs.lemmas.List.Elements.{All-nil, recursion_from_All}
@@ -12,28 +12,28 @@ use Rattle.gixobj_hash.specs.declared.hash.object_id.ObjectId.{ObjectId}
 use Rattle.gixobj_object.specs.Stores.{Objects}
 use Rattle.gixobj_files.specs.Edits.{IsNoTree, Opens, arrived, counted, upserted_dirs, raised}
 use Rattle.gixobj_files.specs.Files.{Path, SameFiles, Trees, Upserted}
-use Rattle.gixobj_files.specs.Halting.{Halts, IsNextUnopened, IsUnopenedAbove}
+use Rattle.gixobj_files.specs.OpeningStops.{StopsOpening, IsNextUnopened, IsUnopenedAbove}
 use Rattle.gixobj_files.specs.Opening.{Dirs, IsOpened, OpenFiles}
 use Rattle.gixobj_files.specs.State.{DirMap, EditorFiles, State, open_bases, open_dirs}
-use Rattle.gixobj_files.specs.Unopened.{is_unopened, told_entry, unopened_count}
+use Rattle.gixobj_files.specs.Unopened.{is_unopened, looked_up_entry, unopened_count}
 use Rattle.gixobj_files.proofs.EditedFiles.{same_refl, same_trans, same_upserted}
 use Rattle.gixobj_files.proofs.Halted.{halted_at, opens_known}
 use Rattle.gixobj_files.proofs.OpeningFiles.{opens_files, opens_ready}
 use Rattle.gixobj_files.proofs.StillOpened.{opened_upserted}
 use Rattle.gixobj_files.proofs.StillOpenedOpenings.{opened_opening, opening_keeps}
-use Rattle.gixobj_files.proofs.UnopenedCounts.{IsIdle, asked_count}
+use Rattle.gixobj_files.proofs.UnopenedCounts.{IsIdle, requested_count}
 use Rattle.gixobj_files.proofs.UpsertedFiles.{IsReady, upserted_files}
 use Rattle.gixobj_directories.specs.Calls.{AreNames}
 use Rattle.gixobj_directories.specs.Nested.{Opened, base_side, bases_of, dirs_of, entries_side, side_list}
-use Rattle.gixobj_directories.specs.Openings.{EndsBefore, RefusesAt}
+use Rattle.gixobj_directories.specs.Openings.{EndsBefore, IsOpenErrorAt}
 use Rattle.gixobj_directories.proofs.BaseSteps.{editing as when_edited, no_base, opening as when_opened, unmoved}
-use Rattle.gixobj_directories.specs.declared.opening.Unasked.{Unasked}
-use Rattle.gixobj_directories.specs.declared.opening.Unasked.TheVariants as unasked
+use Rattle.gixobj_directories.specs.declared.opening.Vacant.{Vacant}
+use Rattle.gixobj_directories.specs.declared.opening.Vacant.TheVariants as vacant
 use Rattle.gixobj_files.specs.Bases.{AreOpenedOn, base_edited, base_opened, edited_bases, opened_bases}
 use Rattle.gixobj_files.proofs.Calls.{opened_based, upserted_based}
 use Rattle.gixobj_directories.specs.declared.opening.Error as directory
 use Rattle.gixobj_directories.specs.declared.opening.Error.TheVariants as opening
-use Rattle.gixobj_editor.specs.Upserts.{IsOpenedInPart, IsRefused, IsUpserted, RefusesEntryName, RefusesNames, RefusesUpsert, directory_of, edit_refusal}
+use Rattle.gixobj_editor.specs.Upserts.{IsOpenedInPart, IsEditFailure, IsUpserted, IsEntryNameError, IsFirstNameError, IsUpsertError, directory_of, edit_error}
 use Rattle.gixobj_editor.specs.declared.editor.error.Error.{Error}
 use Rattle.gixobj_editor.specs.declared.editor.error.Error.TheVariants as error
 use Rattle.gixobj_editor.proofs.InPart.{halted_in_part, none_in_part, opened_in_part}
@@ -49,7 +49,7 @@ map_dirs ds = λ at. map.get (map_of ds) at
 pub dirs_at : (ds : Opened) (at : Path) → map_dirs ds at ≡ dirs_of ds at
 dirs_at ds at = map.get-from_entries (lists_total nat_list_cmp_total) (side_list entries_side ds) at
 
--- and their bases
+-- the bases of an editor's open directories
 abbrev pub base_map : Opened → DirMap
 base_map ds = map.from_entries (side_list base_side ds)
 
@@ -71,39 +71,57 @@ EditedSo mid ds' = (at : Path) → bases_of ds' at ≡ edited_bases (dirs_of mid
 
 pub opened_map : (ds mid : Opened) → OpenedSo ds mid → (at : Path) → bases_of mid at ≡ opened_bases (map_dirs ds) (dirs_of mid) (map_bases ds) at
 opened_map ds mid first at =
-    first at ∙ ap (λ o. base_opened o (dirs_of mid at) (bases_of ds at)) (sym (dirs_at ds at)) ∙ ap (λ b. base_opened (map_dirs ds at) (dirs_of mid at) b) (sym (bases_at ds at))
+    first at ∙ ap (λ o. base_opened o (dirs_of mid at) (bases_of ds at)) (sym (dirs_at ds at))
+    ∙ ap (λ b. base_opened (map_dirs ds at) (dirs_of mid at) b)
+    (sym (bases_at ds at))
 
-pub edited_map : (ds mid ds' : Opened) → OpenedSo ds mid → EditedSo mid ds' → (at : Path) → map_bases ds' at ≡ edited_bases (dirs_of mid) (map_dirs ds') (opened_bases (map_dirs ds) (dirs_of mid) (map_bases ds)) at
+pub edited_map : (ds mid ds' : Opened) → OpenedSo ds mid → EditedSo mid ds' → (at : Path) → map_bases ds' at ≡ edited_bases (dirs_of mid)
+    (map_dirs ds')
+    (opened_bases (map_dirs ds) (dirs_of mid) (map_bases ds)) at
 edited_map ds mid ds' first then at =
     bases_at ds' at ∙ then at ∙ ap (λ b. base_edited (dirs_of mid at) (dirs_of ds' at) b) (opened_map ds mid first at)
     ∙ ap (λ o. base_edited (dirs_of mid at) o (opened_bases (map_dirs ds) (dirs_of mid) (map_bases ds) at)) (sym (dirs_at ds' at))
 
-pub only_opened_map : (ds ds' : Opened) → OpenedSo ds ds' → (at : Path) → map_bases ds' at ≡ opened_bases (map_dirs ds) (map_dirs ds') (map_bases ds) at
-only_opened_map ds ds' first at = bases_at ds' at ∙ opened_map ds ds' first at ∙ ap (λ o. base_opened (map_dirs ds at) o (map_bases ds at)) (sym (dirs_at ds' at))
+pub only_opened_map : (ds ds' : Opened) → OpenedSo ds ds' → (at : Path) → map_bases ds' at ≡ opened_bases (map_dirs ds) (map_dirs ds')
+    (map_bases ds) at
+only_opened_map ds ds' first at = bases_at ds' at ∙ opened_map ds ds' first at ∙ ap (λ o. base_opened (map_dirs ds at) o (map_bases ds at))
+    (sym (dirs_at ds' at))
 
-pub only_edited_map : (ds ds' : Opened) → EditedSo ds ds' → (at : Path) → map_bases ds' at ≡ edited_bases (map_dirs ds) (map_dirs ds') (map_bases ds) at
+pub only_edited_map : (ds ds' : Opened) → EditedSo ds ds' → (at : Path) → map_bases ds' at ≡ edited_bases (map_dirs ds) (map_dirs ds')
+    (map_bases ds) at
 only_edited_map ds ds' then at =
-    bases_at ds' at ∙ then at ∙ ap (λ o. base_edited o (dirs_of ds' at) (bases_of ds at)) (sym (dirs_at ds at)) ∙ ap (λ o. base_edited (map_dirs ds at) o (bases_of ds at)) (sym (dirs_at ds' at)) ∙ ap (λ b. base_edited (map_dirs ds at) (map_dirs ds' at) b) (sym (bases_at ds at))
+    bases_at ds' at ∙ then at ∙ ap (λ o. base_edited o (dirs_of ds' at) (bases_of ds at)) (sym (dirs_at ds at))
+    ∙ ap (λ o. base_edited (map_dirs ds at) o (bases_of ds at)) (sym (dirs_at ds' at)) ∙ ap (λ b. base_edited (map_dirs ds at) (map_dirs ds' at) b)
+    (sym (bases_at ds at))
 
--- an editor that stays as it is
-idle_map : (ds : Opened) (at : Path) → map_bases ds at ≡ edited_bases (map_dirs ds) (map_dirs ds) (opened_bases (map_dirs ds) (map_dirs ds) (map_bases ds)) at
+-- the bases of an unchanged editor, as after an opening and an edit that change nothing
+idle_map : (ds : Opened) (at : Path) → map_bases ds at ≡ edited_bases (map_dirs ds) (map_dirs ds)
+    (opened_bases (map_dirs ds) (map_dirs ds) (map_bases ds)) at
 idle_map ds at =
-    let none : map_dirs ds at ≡ None → map_bases ds at ≡ None = λ shut. bases_at ds at ∙ no_base ds at (sym (dirs_at ds at) ∙ shut) in
+    let none : map_dirs ds at ≡ None → map_bases ds at ≡ None = λ closed. bases_at ds at ∙ no_base ds at (sym (dirs_at ds at) ∙ closed) in
     let same = when_opened.same (map_dirs ds at) (map_bases ds at) none in
-    same ∙ when_edited.same (map_dirs ds at) (base_opened (map_dirs ds at) (map_dirs ds at) (map_bases ds at)) (λ shut. sym same ∙ none shut)
+    same ∙ when_edited.same (map_dirs ds at) (base_opened (map_dirs ds at) (map_dirs ds at) (map_bases ds at)) (λ closed. sym same ∙ none closed)
 
-pub idle_at : {S : Type 0} (store : S) (hash : Kind) (prefix : Path) (ds : Opened) (n : ℕ) (old : State S) → record { dirs = map_of ds; bases = base_map ds; store = store; lookups = n; object_hash = hash; prefix = prefix } ≡ old
-    → (at : Path) → open_bases old at ≡ edited_bases (open_dirs old) (open_dirs old) (opened_bases (open_dirs old) (open_dirs old) (open_bases old)) at
-idle_at {S} store hash prefix ds n old view at = subst (λ (o : State S). open_bases o at ≡ edited_bases (open_dirs o) (open_dirs o) (opened_bases (open_dirs o) (open_dirs o) (open_bases o)) at) view (idle_map ds at)
+pub idle_at : {S : Type 0} (store : S) (hash : Kind) (prefix : Path) (ds : Opened) (n : ℕ) (old : State S)
+    → record { dirs = map_of ds; bases = base_map ds; store = store; lookups = n; object_hash = hash; prefix = prefix } ≡ old
+    → (at : Path) → open_bases old at ≡ edited_bases (open_dirs old) (open_dirs old) (opened_bases (open_dirs old) (open_dirs old) (open_bases old))
+    at
+idle_at {S} store hash prefix ds n old view at =
+    subst (λ (o : State S). open_bases o at ≡ edited_bases (open_dirs o) (open_dirs o) (opened_bases (open_dirs o) (open_dirs o) (open_bases o)) at)
+    view
+    (idle_map ds at)
 
 unopened_map : (ds : Opened) (at : Path) → map_bases ds at ≡ opened_bases (map_dirs ds) (map_dirs ds) (map_bases ds) at
-unopened_map ds at = when_opened.same (map_dirs ds at) (map_bases ds at) (λ shut. bases_at ds at ∙ no_base ds at (sym (dirs_at ds at) ∙ shut))
+unopened_map ds at = when_opened.same (map_dirs ds at) (map_bases ds at) (λ closed. bases_at ds at ∙ no_base ds at (sym (dirs_at ds at) ∙ closed))
 
-pub unopened_at : {S : Type 0} (store : S) (hash : Kind) (prefix : Path) (ds : Opened) (n : ℕ) (old : State S) → record { dirs = map_of ds; bases = base_map ds; store = store; lookups = n; object_hash = hash; prefix = prefix } ≡ old
+pub unopened_at : {S : Type 0} (store : S) (hash : Kind) (prefix : Path) (ds : Opened) (n : ℕ) (old : State S)
+    → record { dirs = map_of ds; bases = base_map ds; store = store; lookups = n; object_hash = hash; prefix = prefix } ≡ old
     → (at : Path) → open_bases old at ≡ opened_bases (open_dirs old) (open_dirs old) (open_bases old) at
-unopened_at {S} store hash prefix ds n old view at = subst (λ (o : State S). open_bases o at ≡ opened_bases (open_dirs o) (open_dirs o) (open_bases o) at) view (unopened_map ds at)
+unopened_at {S} store hash prefix ds n old view at =
+    subst (λ (o : State S). open_bases o at ≡ opened_bases (open_dirs o) (open_dirs o) (open_bases o) at) view
+    (unopened_map ds at)
 
--- nothing was opened, and nothing edited
+-- an editor in which nothing is opened and nothing edited
 pub none_opened : (ds : Opened) → OpenedSo ds ds
 none_opened ds = unmoved base_opened when_opened ds
 
@@ -116,24 +134,29 @@ same_dirs ds = λ i at. dirs_at ds at i
 pub as_map : (ds : Opened) → IsOpened (dirs_of ds) → IsOpened (map_dirs ds)
 as_map ds all = subst (λ (d : Dirs). IsOpened d) (sym (same_dirs ds)) all
 
--- what the open directories and their bases are
+-- the invariant of open directories and their bases
 abbrev pub OpenedOn : Opened → Type 0
 OpenedOn ds = AreOpenedOn (dirs_of ds) (bases_of ds)
 
 pub on_map : (ds : Opened) → OpenedOn ds → AreOpenedOn (map_dirs ds) (map_bases ds)
-on_map ds on = subst (λ (b : Dirs). AreOpenedOn (map_dirs ds) b) (sym (same_bases ds)) (subst (λ (d : Dirs). AreOpenedOn d (bases_of ds)) (sym (same_dirs ds)) on)
+on_map ds on = subst (λ (b : Dirs). AreOpenedOn (map_dirs ds) b) (sym (same_bases ds))
+    (subst (λ (d : Dirs). AreOpenedOn d (bases_of ds)) (sym (same_dirs ds)) on)
 
-pub opened_as : {S : Type 0} (store : S) (hash : Kind) (prefix : Path) (ds : Opened) (n : ℕ) (old : State S) → record { dirs = map_of ds; bases = base_map ds; store = store; lookups = n; object_hash = hash; prefix = prefix } ≡ old → IsOpened (dirs_of ds) → IsOpened (open_dirs old)
+pub opened_as : {S : Type 0} (store : S) (hash : Kind) (prefix : Path) (ds : Opened) (n : ℕ) (old : State S)
+    → record { dirs = map_of ds; bases = base_map ds; store = store; lookups = n; object_hash = hash; prefix = prefix } ≡ old → IsOpened (dirs_of ds)
+    → IsOpened (open_dirs old)
 opened_as {S} store hash prefix ds n old view all = subst (λ (o : State S). IsOpened (open_dirs o)) view (as_map ds all)
 
-pub still_put : (path : Path) (mode : ℕ) (id null : ObjectId) (mid ds : Opened) → AllByRecursion IsEntryName path → IsOpened (dirs_of mid) → ((at : Path) → dirs_of ds at ≡ upserted_dirs path mode id null (dirs_of mid) at) → IsOpened (dirs_of ds)
-still_put path mode id null mid ds names all put = subst (λ (d : Dirs). IsOpened d) (sym (λ i at. put at i)) (opened_upserted path mode id null (dirs_of mid) names all)
+pub still_inserted : (path : Path) (mode : ℕ) (id null : ObjectId) (mid ds : Opened) → AllByRecursion IsEntryName path → IsOpened (dirs_of mid)
+    → ((at : Path) → dirs_of ds at ≡ upserted_dirs path mode id null (dirs_of mid) at) → IsOpened (dirs_of ds)
+still_inserted path mode id null mid ds names all insert_entry = subst (λ (d : Dirs). IsOpened d) (sym (λ i at. insert_entry at i))
+    (opened_upserted path mode id null (dirs_of mid) names all)
 
--- an upsert's opening ends before entries that are no trees' alone
+-- the opening of an upsert ends only before an entry that isn't a tree, which isn't looked up
 pub at_files : IsIdle IsNoTree
 at_files e other = inl other
 
--- nothing is above the root
+-- no directory is above the root
 pub none_above : (trees : Trees) (dirs : Dirs) (it : ObjectId) → IsUnopenedAbove trees dirs [] it → ⊥
 none_above trees dirs it h = longer h.place (h.above.2) (h.above.3) (h.above.5)
   where
@@ -141,23 +164,28 @@ none_above trees dirs it h = longer h.place (h.above.2) (h.above.3) (h.above.5)
     longer [] next rest is = cc is
     longer (name ∷ place) next rest is = cc is
 
-pub known_above : {Ends : EntryView → Type 0} → IsIdle Ends → (trees : Trees) (path front : Path) (last : List ℕ) → path ≡ front ++ last ∷ [] → (old new : Dirs) (asked : List ObjectId) → Opens Ends trees front old new asked → (it : ObjectId) → IsUnopenedAbove trees old path it
+pub known_above : {Ends : EntryView → Type 0} → IsIdle Ends → (trees : Trees) (path head : Path) (last : List ℕ) → path ≡ head ++ last ∷ []
+    → (old new : Dirs) (queries : List ObjectId) → Opens Ends trees head old new queries → (it : ObjectId) → IsUnopenedAbove trees old path it
     → (entries : List EntryView) × (trees it ≡ Some entries)
-known_above idle trees path front last is old new asked opens it h =
+known_above idle trees path head last is old new queries opens it h =
     let at = h.above in
-    let begins = strictly_above front last h.place at.2 at.3 (sym is ∙ at.5) in
-    let found = opens_known trees idle front old new asked opens at.0 at.1 begins.0 (begins.1 ∙ ap (λ p. p ++ begins.0) at.4) (subst (λ p. is_unopened trees old p ≡ true) at.4 h.unopened) h.entry (subst (λ p. told_entry trees p old ≡ Some h.entry) at.4 h.told) in
+    let begins = strictly_above head last h.place at.2 at.3 (sym is ∙ at.5) in
+    let found = opens_known trees idle head old new queries opens at.0 at.1 begins.0 (begins.1 ∙ ap (λ p. p ++ begins.0) at.4)
+    (subst (λ p. is_unopened trees old p ≡ true) at.4 h.unopened) h.entry (subst (λ p. looked_up_entry trees p old ≡ Some h.entry) at.4 h.yielded) in
     (found.0, ap trees (sym h.named) ∙ found.1)
 
--- without names nothing is put in
-pub nothing_upserted : {S : Type 0} (trees : Trees) (old : State S) (path : Path) → path ≡ [] → (mode : ℕ) (id : ObjectId) → IsOpened (open_dirs old) → ((at : Path) → open_bases old at ≡ edited_bases (open_dirs old) (open_dirs old) (opened_bases (open_dirs old) (open_dirs old) (open_bases old)) at) → IsUpserted trees old path mode id old
+-- an upsert at an empty path changes nothing
+pub nothing_upserted : {S : Type 0} (trees : Trees) (old : State S) (path : Path) → path ≡ [] → (mode : ℕ) (id : ObjectId) → IsOpened (open_dirs old)
+    → ((at : Path) → open_bases old at ≡ edited_bases (open_dirs old) (open_dirs old) (opened_bases (open_dirs old) (open_dirs old) (open_bases old))
+    at)
+    → IsUpserted trees old path mode id old
 nothing_upserted {S} trees old path none mode id all idle = subst (λ p. IsUpserted trees old p mode id old) (sym none) nothing
   where
     nothing : IsUpserted trees old [] mode id old
     nothing = record {
       names = All-nil IsEntryName;
       opened = open_dirs old;
-      asked = [];
+      requested = [];
       opens = arrived (open_dirs old);
       dirs = λ at. refl;
       bases = idle;
@@ -169,19 +197,22 @@ nothing_upserted {S} trees old path none mode id all idle = subst (λ p. IsUpser
       has_bases = λ T agrees has. has;
     }
 
--- a name was refused
-pub no_other : (path : Path) (refusal : Error) → ((name : List ℕ) → RefusesEntryName name refusal → ⊥) → RefusesNames path refusal → ⊥
-no_other [] refusal never h = h
-no_other (name ∷ path) refusal never (inl h) = never name h
-no_other (name ∷ path) refusal never (inr h) = no_other path refusal never h.1
+-- an invalid name has no other error
+pub no_other : (path : Path) (failure : Error) → ((name : List ℕ) → IsEntryNameError name failure → ⊥) → IsFirstNameError path failure → ⊥
+no_other [] failure never h = h
+no_other (name ∷ path) failure never (inl h) = never name h
+no_other (name ∷ path) failure never (inr h) = no_other path failure never h.1
 
-pub name_refused : (objects : Objects) (may_fail : ObjectId → Bool) (trees : Trees) (dirs : Dirs) (path : Path) (refusal : Error) → RefusesNames path refusal → RefusesUpsert objects may_fail trees dirs path refusal
-name_refused objects may_fail trees dirs path error.EmptyPathComponent h = h
-name_refused objects may_fail trees dirs path error.SlashInPathComponent h = h
-name_refused objects may_fail trees dirs path (error.FindExistingObject cause) h = absurd (no_other path (error.FindExistingObject cause) (λ name k. k) h)
-name_refused objects may_fail trees dirs path (error.CannotRemoveNonLeaf at) h = absurd (no_other path (error.CannotRemoveNonLeaf at) (λ name k. k) h)
-name_refused objects may_fail trees dirs path error.MalformedTree h = absurd (no_other path error.MalformedTree (λ name k. k) h)
-name_refused objects may_fail trees dirs path error.OutOfMemory h = absurd (no_other path error.OutOfMemory (λ name k. k) h)
+pub name_rejected : (objects : Objects) (may_fail : ObjectId → Bool) (trees : Trees) (dirs : Dirs) (path : Path) (failure : Error)
+    → IsFirstNameError path failure → IsUpsertError objects may_fail trees dirs path failure
+name_rejected objects may_fail trees dirs path error.EmptyPathComponent h = h
+name_rejected objects may_fail trees dirs path error.SlashInPathComponent h = h
+name_rejected objects may_fail trees dirs path (error.FindExistingObject cause) h =
+    absurd (no_other path (error.FindExistingObject cause) (λ name k. k) h)
+name_rejected objects may_fail trees dirs path (error.CannotRemoveNonLeaf at) h =
+    absurd (no_other path (error.CannotRemoveNonLeaf at) (λ name k. k) h)
+name_rejected objects may_fail trees dirs path error.MalformedTree h = absurd (no_other path error.MalformedTree (λ name k. k) h)
+name_rejected objects may_fail trees dirs path error.OutOfMemory h = absurd (no_other path error.OutOfMemory (λ name k. k) h)
 
 -- an editor of these parts
 abbrev pub state_of : {S : Type 0} → S → Kind → Path → Opened → ℕ → State S
@@ -191,102 +222,138 @@ module _ {S : Type 0} (store : S) (hash : Kind) (prefix : Path) (trees : Trees) 
   abbrev made : Opened → ℕ → State S
   made ds n = state_of store hash prefix ds n
 
-  -- an entry was put in
-  put_in : (ds mid ds' : Opened) (n m : ℕ) (path front : Path) (last : List ℕ) (mode : ℕ) (id : ObjectId) (asked : List ObjectId) → path ≡ front ++ last ∷ [] → AreNames path → Opens IsNoTree trees front (dirs_of ds) (dirs_of mid) asked
-      → ((at : Path) → dirs_of ds' at ≡ upserted_dirs path mode id (null_id hash) (dirs_of mid) at) → m ≡ counted n asked → OpenedOn ds → OpenedSo ds mid → EditedSo mid ds' → IsUpserted trees (made ds n) path mode id (made ds' m)
-  put_in ds mid ds' n m path front last mode id asked is names opens put count was first then =
+  -- an inserted entry
+  inserted_in : (ds mid ds' : Opened) (n m : ℕ) (path head : Path) (last : List ℕ) (mode : ℕ) (id : ObjectId) (queries : List ObjectId)
+      → path ≡ head ++ last ∷ [] → AreNames path → Opens IsNoTree trees head (dirs_of ds) (dirs_of mid) queries
+      → ((at : Path) → dirs_of ds' at ≡ upserted_dirs path mode id (null_id hash) (dirs_of mid) at) → m ≡ counted n queries → OpenedOn ds
+      → OpenedSo ds mid
+      → EditedSo mid ds' → IsUpserted trees (made ds n) path mode id (made ds' m)
+  inserted_in ds mid ds' n m path head last mode id queries is names opens insert_entry count was first then =
       let old_is = same_dirs ds in
-      let opened : Opens IsNoTree trees front (map_dirs ds) (dirs_of mid) asked = subst (λ (d : Dirs). Opens IsNoTree trees front d (dirs_of mid) asked) (sym old_is) opens in
-      let new_is : map_dirs ds' ≡ upserted_dirs path mode id (null_id hash) (dirs_of mid) = λ i at. (dirs_at ds' at ∙ put at) i in
-      let ready : IsReady path (dirs_of mid) = subst (λ p. IsReady p (dirs_of mid)) (sym is) (opens_ready trees front last (map_dirs ds) (dirs_of mid) asked opened) in
+      let opened : Opens IsNoTree trees head (map_dirs ds) (dirs_of mid) queries =
+      subst (λ (d : Dirs). Opens IsNoTree trees head d (dirs_of mid) queries)
+      (sym old_is) opens in
+      let new_is : map_dirs ds' ≡ upserted_dirs path mode id (null_id hash) (dirs_of mid) = λ i at. (dirs_at ds' at ∙ insert_entry at) i in
+      let ready : IsReady path (dirs_of mid) = subst (λ p. IsReady p (dirs_of mid)) (sym is)
+      (opens_ready trees head last (map_dirs ds) (dirs_of mid) queries opened) in
       record {
         names = names;
         opened = dirs_of mid;
-        asked = asked;
-        opens = subst (λ p. Opens IsNoTree trees p (map_dirs ds) (dirs_of mid) asked) (sym (ap directory_of is ∙ directory_is front last)) opened;
-        dirs = λ at. dirs_at ds' at ∙ put at;
+        requested = queries;
+        opens = subst (λ p. Opens IsNoTree trees p (map_dirs ds) (dirs_of mid) queries) (sym (ap directory_of is ∙ directory_is head last)) opened;
+        dirs = λ at. dirs_at ds' at ∙ insert_entry at;
         bases = edited_map ds mid ds' first then;
-        lookups = count ∙ ap (raised n) (asked_count trees at_files front last (map_dirs ds) (dirs_of mid) asked opened ∙ ap (unopened_count trees (map_dirs ds)) (sym is));
+        lookups = count ∙ ap (raised n) (requested_count trees at_files head last (map_dirs ds) (dirs_of mid) queries opened
+            ∙ ap (unopened_count trees (map_dirs ds)) (sym is));
         rest = refl;
-        is_opened = as_map ds' (still_put path mode id (null_id hash) mid ds' (recursion_from_All IsEntryName path names) (opened_opening trees front (dirs_of ds) (dirs_of mid) asked opens was.opened) put);
-        known = known_above at_files trees path front last is (map_dirs ds) (dirs_of mid) asked opened;
+        is_opened = as_map ds' (still_inserted path mode id (null_id hash) mid ds' (recursion_from_All IsEntryName path names)
+            (opened_opening trees head (dirs_of ds) (dirs_of mid) queries opens was.opened) insert_entry);
+        known = known_above at_files trees path head last is (map_dirs ds) (dirs_of mid) queries opened;
         files = λ T k agrees. subst (λ (d : Dirs). SameFiles (OpenFiles T k d) (Upserted T k path mode id (OpenFiles T k (map_dirs ds)))) (sym new_is)
-            (same_trans _ _ _ (upserted_files T k path mode id (null_id hash) (dirs_of mid) ready) (same_upserted T k path mode id (OpenFiles T k (dirs_of mid)) (OpenFiles T k (map_dirs ds)) (opens_files T trees agrees front (map_dirs ds) (dirs_of mid) asked opened k)));
-        has_bases = λ T agrees has. upserted_based T trees hash (map_dirs ds) (map_bases ds) (map_dirs ds') (map_bases ds') (on_map ds was) agrees has front last mode id (dirs_of mid) asked opened
-            (λ at. dirs_at ds' at ∙ put at ∙ ap (λ p. upserted_dirs p mode id (null_id hash) (dirs_of mid) at) is) (edited_map ds mid ds' first then);
+            (same_trans _ _ _ (upserted_files T k path mode id (null_id hash) (dirs_of mid) ready)
+            (same_upserted T k path mode id (OpenFiles T k (dirs_of mid)) (OpenFiles T k (map_dirs ds))
+            (opens_files T trees agrees head (map_dirs ds) (dirs_of mid) queries opened k)));
+        has_bases = λ T agrees has. upserted_based T trees hash (map_dirs ds) (map_bases ds) (map_dirs ds') (map_bases ds')
+            (on_map ds was) agrees has head last mode id (dirs_of mid) queries opened
+            (λ at. dirs_at ds' at ∙ insert_entry at ∙ ap (λ p. upserted_dirs p mode id (null_id hash) (dirs_of mid) at) is)
+            (edited_map ds mid ds' first then);
       }
 
-  pub upserted_at : (ds mid ds' : Opened) (n m : ℕ) (old : State S) → made ds n ≡ old → (path front : Path) (last : List ℕ) (mode : ℕ) (id : ObjectId) (asked : List ObjectId) → path ≡ front ++ last ∷ [] → AreNames path → Opens IsNoTree trees front (dirs_of ds) (dirs_of mid) asked
-      → ((at : Path) → dirs_of ds' at ≡ upserted_dirs path mode id (null_id hash) (dirs_of mid) at) → m ≡ counted n asked → OpenedOn ds → OpenedSo ds mid → EditedSo mid ds' → IsUpserted trees old path mode id (made ds' m)
-  upserted_at ds mid ds' n m old view path front last mode id asked is names opens put count was first then =
-      subst (λ (o : State S). IsUpserted trees o path mode id (made ds' m)) view (put_in ds mid ds' n m path front last mode id asked is names opens put count was first then)
+  pub upserted_at : (ds mid ds' : Opened) (n m : ℕ) (old : State S) → made ds n ≡ old → (path head : Path) (last : List ℕ) (mode : ℕ) (id : ObjectId)
+      (queries : List ObjectId) → path ≡ head ++ last ∷ [] → AreNames path → Opens IsNoTree trees head (dirs_of ds) (dirs_of mid) queries
+      → ((at : Path) → dirs_of ds' at ≡ upserted_dirs path mode id (null_id hash) (dirs_of mid) at) → m ≡ counted n queries → OpenedOn ds
+      → OpenedSo ds mid
+      → EditedSo mid ds' → IsUpserted trees old path mode id (made ds' m)
+  upserted_at ds mid ds' n m old view path head last mode id queries is names opens insert_entry count was first then =
+      subst (λ (o : State S). IsUpserted trees o path mode id (made ds' m)) view
+      (inserted_in ds mid ds' n m path head last mode id queries is names opens insert_entry count was first then)
 
-  -- nothing but directories was opened
-  pub stay : (it : Unasked) (ds ds' : Opened) (n m : ℕ) (path : Path) → IsOpenedInPart (EndsBefore it) trees path (dirs_of ds) (dirs_of ds') n m → OpenedOn ds → OpenedSo ds ds' → IsRefused trees (made ds n) path (made ds' m)
+  -- directories are opened, and nothing else changes
+  pub stay : (it : Vacant) (ds ds' : Opened) (n m : ℕ) (path : Path) → IsOpenedInPart (EndsBefore it) trees path (dirs_of ds) (dirs_of ds') n m
+      → OpenedOn ds
+      → OpenedSo ds ds' → IsEditFailure trees (made ds n) path (made ds' m)
   stay it ds ds' n m path so was first =
-      let opened : Opens (EndsBefore it) trees so.front (map_dirs ds) (map_dirs ds') so.asked =
-      subst (λ (d : Dirs). Opens (EndsBefore it) trees so.front d (map_dirs ds') so.asked) (sym (same_dirs ds)) (subst (λ (d : Dirs). Opens (EndsBefore it) trees so.front (dirs_of ds) d so.asked) (sym (same_dirs ds')) so.opens) in
+      let opened : Opens (EndsBefore it) trees so.prefix (map_dirs ds) (map_dirs ds') so.requested =
+      subst (λ (d : Dirs). Opens (EndsBefore it) trees so.prefix d (map_dirs ds') so.requested) (sym (same_dirs ds))
+      (subst (λ (d : Dirs). Opens (EndsBefore it) trees so.prefix (dirs_of ds) d so.requested) (sym (same_dirs ds')) so.opens) in
       record {
-        unasked = it;
-        front = so.front;
+        not_looked_up = it;
+        prefix = so.prefix;
         more = so.more;
         on_the_way = so.on_the_way;
-        asked = so.asked;
+        requested = so.requested;
         opens = opened;
         bases = only_opened_map ds ds' first;
-        stays = opening_keeps trees so.front (map_dirs ds) (map_dirs ds') so.asked opened;
+        stays = opening_keeps trees so.prefix (map_dirs ds) (map_dirs ds') so.requested opened;
         vain = so.vain;
         one = so.one;
-        next = λ it is. subst (λ (d : Dirs). IsNextUnopened trees d so.front so.more it) (sym (same_dirs ds)) (so.next it is);
+        next = λ it is. subst (λ (d : Dirs). IsNextUnopened trees d so.prefix so.more it) (sym (same_dirs ds)) (so.next it is);
         lookups = so.lookups;
-        few = subst (λ (d : Dirs). length (so.asked ++ so.vain) ≤ unopened_count trees d path) (sym (same_dirs ds)) so.few;
+        few = subst (λ (d : Dirs). length (so.requested ++ so.vain) ≤ unopened_count trees d path) (sym (same_dirs ds)) so.few;
         rest = refl;
-        is_opened = as_map ds' (opened_opening trees so.front (dirs_of ds) (dirs_of ds') so.asked so.opens was.opened);
-        files = λ T k agrees. opens_files T trees agrees so.front (map_dirs ds) (map_dirs ds') so.asked opened k;
-        has_bases = λ T agrees has. opened_based T trees hash (map_dirs ds) (map_bases ds) (map_dirs ds') (map_bases ds') (on_map ds was) agrees has so.front so.asked opened (only_opened_map ds ds' first);
+        is_opened = as_map ds' (opened_opening trees so.prefix (dirs_of ds) (dirs_of ds') so.requested so.opens was.opened);
+        files = λ T k agrees. opens_files T trees agrees so.prefix (map_dirs ds) (map_dirs ds') so.requested opened k;
+        has_bases = λ T agrees has. opened_based T trees hash (map_dirs ds) (map_bases ds) (map_dirs ds') (map_bases ds')
+            (on_map ds was) agrees has so.prefix so.requested opened (only_opened_map ds ds' first);
       }
 
-  pub stay_at : (it : Unasked) (ds ds' : Opened) (n m : ℕ) (old : State S) → made ds n ≡ old → (path : Path) → IsOpenedInPart (EndsBefore it) trees path (dirs_of ds) (dirs_of ds') n m → OpenedOn ds → OpenedSo ds ds' → IsRefused trees old path (made ds' m)
-  stay_at it ds ds' n m old view path so was first = subst (λ (o : State S). IsRefused trees o path (made ds' m)) view (stay it ds ds' n m path so was first)
+  pub stay_at : (it : Vacant) (ds ds' : Opened) (n m : ℕ) (old : State S) → made ds n ≡ old → (path : Path)
+      → IsOpenedInPart (EndsBefore it) trees path (dirs_of ds) (dirs_of ds') n m → OpenedOn ds → OpenedSo ds ds'
+      → IsEditFailure trees old path (made ds' m)
+  stay_at it ds ds' n m old view path so was first = subst (λ (o : State S). IsEditFailure trees o path (made ds' m)) view
+      (stay it ds ds' n m path so was first)
 
-  pub unchanged_at : (ds : Opened) (n : ℕ) (old : State S) → made ds n ≡ old → (path : Path) → OpenedOn ds → IsRefused trees old path old
-  unchanged_at ds n old view path was = subst (λ (o : State S). IsRefused trees o path o) view (stay unasked.Opened ds ds n n path (none_in_part trees path (dirs_of ds) n) was (none_opened ds))
+  pub unchanged_at : (ds : Opened) (n : ℕ) (old : State S) → made ds n ≡ old → (path : Path) → OpenedOn ds → IsEditFailure trees old path old
+  unchanged_at ds n old view path was = subst (λ (o : State S). IsEditFailure trees o path o) view
+      (stay vacant.Opened ds ds n n path (none_in_part trees path (dirs_of ds) n) was (none_opened ds))
 
-  pub halted_so : (ds ds' : Opened) (n m : ℕ) (old : State S) → made ds n ≡ old → (path front : Path) (last : List ℕ) → path ≡ front ++ last ∷ [] → (asked : List ObjectId) (vain : Option ObjectId) → Halts IsNoTree trees front (dirs_of ds) (dirs_of ds') asked vain → m ≡ counted n asked
-      → OpenedOn ds → OpenedSo ds ds' → IsRefused trees old path (made ds' m)
-  halted_so ds ds' n m old view path front last is asked vain halts count =
-      stay_at unasked.Opened ds ds' n m old view path (halted_in_part trees path front last [] is (dirs_of ds) (dirs_of ds') asked vain halts n m count)
+  pub halted_so : (ds ds' : Opened) (n m : ℕ) (old : State S) → made ds n ≡ old → (path head : Path) (last : List ℕ) → path ≡ head ++ last ∷ []
+      → (queries : List ObjectId) (vain : Option ObjectId) → StopsOpening IsNoTree trees head (dirs_of ds) (dirs_of ds') queries vain
+      → m ≡ counted n queries
+      → OpenedOn ds → OpenedSo ds ds' → IsEditFailure trees old path (made ds' m)
+  halted_so ds ds' n m old view path head last is queries vain halts count =
+      stay_at vacant.Opened ds ds' n m old view path
+      (halted_in_part trees path head last [] is (dirs_of ds) (dirs_of ds') queries vain halts n m count)
 
-  pub opened_so : (it : Unasked) (ds ds' : Opened) (n m : ℕ) (old : State S) → made ds n ≡ old → (path front : Path) (last : List ℕ) → path ≡ front ++ last ∷ [] → (asked : List ObjectId) → Opens (EndsBefore it) trees front (dirs_of ds) (dirs_of ds') asked → m ≡ counted n asked
-      → OpenedOn ds → OpenedSo ds ds' → IsRefused trees old path (made ds' m)
-  opened_so it ds ds' n m old view path front last is asked opens count =
-      stay_at it ds ds' n m old view path (opened_in_part trees path front last [] is (dirs_of ds) (dirs_of ds') asked opens n m count)
+  pub opened_so : (it : Vacant) (ds ds' : Opened) (n m : ℕ) (old : State S) → made ds n ≡ old → (path head : Path) (last : List ℕ)
+      → path ≡ head ++ last ∷ []
+      → (queries : List ObjectId) → Opens (EndsBefore it) trees head (dirs_of ds) (dirs_of ds') queries → m ≡ counted n queries
+      → OpenedOn ds → OpenedSo ds ds' → IsEditFailure trees old path (made ds' m)
+  opened_so it ds ds' n m old view path head last is queries opens count =
+      stay_at it ds ds' n m old view path (opened_in_part trees path head last [] is (dirs_of ds) (dirs_of ds') queries opens n m count)
 
-  -- why the opening halted
-  some_name : (front : Path) (last : List ℕ) → front ++ last ∷ [] ≢ []
+  -- the error of an opening that halts
+  some_name : (head : Path) (last : List ℕ) → head ++ last ∷ [] ≢ []
   some_name [] last = λ is. cc is
-  some_name (name ∷ front) last = λ is. cc is
+  some_name (name ∷ head) last = λ is. cc is
 
-  pub some_path : (path front : Path) (last : List ℕ) → path ≡ front ++ last ∷ [] → path ≢ []
-  some_path path front last is = λ none. some_name front last (sym is ∙ none)
+  pub some_path : (path head : Path) (last : List ℕ) → path ≡ head ++ last ∷ [] → path ≢ []
+  some_path path head last is = λ none. some_name head last (sym is ∙ none)
 
-  pub refuses : (objects : Objects) (may_fail : ObjectId → Bool) (ds ds' : Opened) (n : ℕ) (old : State S) → made ds n ≡ old → (path front : Path) (last : List ℕ) → path ≡ front ++ last ∷ [] → AreNames path → (asked : List ObjectId) (vain : Option ObjectId)
-      → Halts IsNoTree trees front (dirs_of ds) (dirs_of ds') asked vain → (cause : directory.Error) → RefusesAt objects may_fail vain cause → RefusesUpsert objects may_fail trees (open_dirs old) path (edit_refusal cause)
-  refuses objects may_fail ds ds' n old view path front last is names asked vain halts cause at =
-      subst (λ (o : State S). RefusesUpsert objects may_fail trees (open_dirs o) path (edit_refusal cause)) view
-      (subst (λ (d : Dirs). RefusesUpsert objects may_fail trees d path (edit_refusal cause)) (sym (same_dirs ds)) (by_cause cause vain halts at))
+  pub fails : (objects : Objects) (may_fail : ObjectId → Bool) (ds ds' : Opened) (n : ℕ) (old : State S) → made ds n ≡ old
+      → (path head : Path) (last : List ℕ) → path ≡ head ++ last ∷ [] → AreNames path → (queries : List ObjectId) (vain : Option ObjectId)
+      → StopsOpening IsNoTree trees head (dirs_of ds) (dirs_of ds') queries vain → (cause : directory.Error)
+      → IsOpenErrorAt objects may_fail vain cause
+      → IsUpsertError objects may_fail trees (open_dirs old) path (edit_error cause)
+  fails objects may_fail ds ds' n old view path head last is names queries vain halts cause at =
+      subst (λ (o : State S). IsUpsertError objects may_fail trees (open_dirs o) path (edit_error cause)) view
+      (subst (λ (d : Dirs). IsUpsertError objects may_fail trees d path (edit_error cause)) (sym (same_dirs ds)) (by_cause cause vain halts at))
     where
-      above : (v : Option ObjectId) → Halts IsNoTree trees front (dirs_of ds) (dirs_of ds') asked v → (it : ObjectId) → v ≡ Some it → IsUnopenedAbove trees (dirs_of ds) path it
-      above v h it some = subst (λ p. IsUnopenedAbove trees (dirs_of ds) p it) (sym is) (halted_at trees front last [] (dirs_of ds) (dirs_of ds') asked v h it some).0
+      above : (v : Option ObjectId) → StopsOpening IsNoTree trees head (dirs_of ds) (dirs_of ds') queries v → (it : ObjectId) → v ≡ Some it
+          → IsUnopenedAbove trees (dirs_of ds) path it
+      above v h it some = subst (λ p. IsUnopenedAbove trees (dirs_of ds) p it) (sym is)
+          (halted_at trees head last [] (dirs_of ds) (dirs_of ds') queries v h it some).0
 
-      by_cause : (why : directory.Error) (v : Option ObjectId) → Halts IsNoTree trees front (dirs_of ds) (dirs_of ds') asked v → RefusesAt objects may_fail v why → RefusesUpsert objects may_fail trees (dirs_of ds) path (edit_refusal why)
-      by_cause opening.OutOfMemory v h r = (names, some_path path front last is)
+      by_cause : (why : directory.Error) (v : Option ObjectId) → StopsOpening IsNoTree trees head (dirs_of ds) (dirs_of ds') queries v
+          → IsOpenErrorAt objects may_fail v why → IsUpsertError objects may_fail trees (dirs_of ds) path (edit_error why)
+      by_cause opening.OutOfMemory v h r = (names, some_path path head last is)
       by_cause opening.MalformedTree None h r = absurd (cc r)
       by_cause opening.MalformedTree (Some it) h r = (names, (it, above (Some it) h it refl, r))
       by_cause (opening.FindExistingObject why) None h r = absurd (cc r)
       by_cause (opening.FindExistingObject why) (Some it) h r = (names, (it, above (Some it) h it refl, r))
 
--- what two clauses say of a result that came through
-pub both_hold : {X E : Type 0} (r : Result X E) (P : X → Type 0) (Q : Type 0) (R : X → Type 0) → IfOk r P → OnOk r Q → ((x : X) → P x → Q → R x) → IfOk r R
+-- two clauses of a successful result hold together
+pub both_hold : {X E : Type 0} (r : Result X E) (P : X → Type 0) (Q : Type 0) (R : X → Type 0) → IfOk r P → OnOk r Q → ((x : X) → P x → Q → R x)
+    → IfOk r R
 both_hold (Ok x) P Q R h k f = f x h k
 both_hold (Err error) P Q R h k f = tt

@@ -1,4 +1,4 @@
--- The entry at a path from a directory, by its path from the root.
+-- The entry at a path from a directory is that at the path from the root.
 use Rattle.std.proofs.Common.{◌≡◌, ◌∙◌, [], ◌∷◌, ◌++◌, None, refl, sym, ap}
 use Rattle.gixobj_directories.proofs.Steps.{entry_none}
 use Rattle.gixobj_files.specs.Edits.{entry_at}
@@ -7,7 +7,8 @@ use Rattle.gixobj_files.specs.Opening.{Dirs, in_path}
 use Rattle.gixobj_files.proofs.PrefixStays.{entry_below}
 use Rattle.gixobj_editor.specs.Cursors.{from_root}
 
-pub found_below : (prefix path : Path) (dirs inner : Dirs) → ((at : Path) → inner at ≡ dirs (prefix ++ at)) → entry_at path inner ≡ entry_at (from_root prefix path) dirs
+pub found_below : (prefix path : Path) (dirs inner : Dirs) → ((at : Path) → inner at ≡ dirs (prefix ++ at))
+    → entry_at path inner ≡ entry_at (from_root prefix path) dirs
 found_below prefix [] dirs inner is = refl
 found_below prefix (name ∷ path) dirs inner is =
     let same : inner ≡ in_path prefix dirs = λ i at. is at i in

@@ -1,18 +1,19 @@
--- Stores in which trees are kept, and tables that agree with them.
+-- Stores that keep trees, and tables that agree with them.
 use Rattle.std.proofs.Common.{◌≡◌, ◌+◌, ℕ, zero, suc, List, [], ◌∷◌, ◌++◌, Some, ap, length, refl, subst, sym, take, ◌∙◌}
 use Rattle.std.proofs.Math.Seq.{take-append-add}
 use Rattle.gixobj_object.specs.Stores.{Objects}
 use Rattle.gixobj_files.specs.Files.{Table}
 use Rattle.gixobj_tree.specs.Entries.{Pair}
 use Rattle.gixobj_files.specs.Tables.{AgreesWithPairs}
-use Rattle.gixobj_find.proofs.Trees.{kept_on}
+use Rattle.gixobj_find.proofs.Trees.{stored_on}
 use Rattle.gixobj_find.specs.Keeping.{with_trees}
 use Rattle.gixobj_editor.specs.RunTables.{AgreesWithObjects}
 use Rattle.gixobj_editor.proofs.KeptPairs.{all_first, all_then}
 
--- the store after these trees, and after those more
-pub then_kept : (first then : List Pair) (old between new : Objects) → between ≡ with_trees first old → new ≡ with_trees then between → new ≡ with_trees (first ++ then) old
-then_kept first then old between new before after = after ∙ ap (with_trees then) before ∙ sym (kept_on first then old)
+-- keeping two lists of trees, one after the other, is keeping their concatenation
+pub then_stored : (first then : List Pair) (old between new : Objects) → between ≡ with_trees first old → new ≡ with_trees then between
+    → new ≡ with_trees (first ++ then) old
+then_stored first then old between new before after = after ∙ ap (with_trees then) before ∙ sym (stored_on first then old)
 
 pub agrees_first : (T : Table) (first then : List Pair) → AgreesWithPairs T (first ++ then) → AgreesWithPairs T first
 agrees_first T = all_first (λ pair. T.tree_at pair.0 ≡ Some pair.1)
@@ -20,7 +21,7 @@ agrees_first T = all_first (λ pair. T.tree_at pair.0 ≡ Some pair.1)
 pub agrees_then : (T : Table) (first then : List Pair) → AgreesWithPairs T (first ++ then) → AgreesWithPairs T then
 agrees_then T = all_then (λ pair. T.tree_at pair.0 ≡ Some pair.1)
 
--- some number of first ones of the whole are these first ones of its front
+-- each prefix of a prefix is a prefix of the entire list
 take_within : (xs ys : List Pair) (count : ℕ) → (some : ℕ) × (take some (xs ++ ys) ≡ take count xs)
 take_within [] ys zero = (zero, refl)
 take_within [] ys (suc count) = (zero, refl)
@@ -36,8 +37,9 @@ throughout_first T first then objects agrees count =
     let some = take_within first then count in
     subst (λ (pairs : List Pair). AgreesWithObjects T (with_trees pairs objects)) some.1 (agrees some.0)
 
-pub throughout_then : (T : Table) (first then : List Pair) (old new : Objects) → new ≡ with_trees first old → AgreesThroughout T (first ++ then) old → AgreesThroughout T then new
+pub throughout_then : (T : Table) (first then : List Pair) (old new : Objects) → new ≡ with_trees first old → AgreesThroughout T (first ++ then) old
+    → AgreesThroughout T then new
 throughout_then T first then old new kept agrees count =
     subst (λ (objects : Objects). AgreesWithObjects T (with_trees (take count then) objects)) (sym kept)
-    (subst (AgreesWithObjects T) (kept_on first (take count then) old)
+    (subst (AgreesWithObjects T) (stored_on first (take count then) old)
     (subst (λ (pairs : List Pair). AgreesWithObjects T (with_trees pairs old)) (take-append-add first then count) (agrees (length first + count))))

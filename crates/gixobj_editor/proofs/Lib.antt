@@ -1,6 +1,6 @@
 mod Agreeing
 pub mod Answered
-mod AssuredAt
+mod EnsuredAt
 mod Calling
 mod CursorStays
 mod Edited
@@ -19,6 +19,6 @@ mod Removing
 mod Replied
 mod RootAlone
 mod StillOn
-pub mod Told
+pub mod Reported
 mod WrittenBelow
 mod WrittenOut

@@ -1,25 +1,26 @@
--- What the successful writes of a run name.
+-- The tree that a write of the root names has the files that the accepted commands before it make; the proof of `run`
+-- uses it for `headline`.
 use Rattle.std.proofs.Common.{◌≡◌, ◌∙◌, ⊎_elim, ℕ, zero, suc, List, [], ◌∷◌, ◌++◌, Some, ap, append_assoc, refl, subst, sym, take}
 use Rattle.std.specs.List.{flat_map}
 use Rattle.gixobj_editor.specs.declared.command.Command.{Command}
 use Rattle.gixobj_editor.specs.declared.command.Command.TheVariants as command
 use Rattle.gixobj_editor.specs.declared.command.Edit.{Edit}
 use Rattle.gixobj_editor.specs.declared.command.Edit.TheVariants as edit
-use Rattle.gixobj_object.specs.Stores.{Meaning, Objects}
+use Rattle.gixobj_object.specs.Stores.{StoreModel, Objects}
 use Rattle.gixobj_directories.proofs.NamedTrees.{trees_of}
 use Rattle.gixobj_directories.specs.Calls.{names_of}
 use Rattle.gixobj_directories.specs.Openings.{AreTreesOf, OfTrees}
 use Rattle.gixobj_directories.specs.declared.write.Written.{Written}
-use Rattle.gixobj_editor.specs.Cursors.{IsAssured, prefix_of}
+use Rattle.gixobj_editor.specs.Cursors.{IsEnsured, prefix_of}
 use Rattle.gixobj_files.proofs.EditedFiles.{same_refl}
 use Rattle.gixobj_files.specs.Bases.{HasBases}
 use Rattle.gixobj_files.specs.Files.{NamedFiles, Path, SameFiles, Table, Trees}
-use Rattle.gixobj_files.specs.History.{History, assure}
+use Rattle.gixobj_files.specs.History.{History, ensure}
 use Rattle.gixobj_files.specs.State.{EditorFiles, State, open_bases, open_dirs}
 use Rattle.gixobj_tree.specs.Entries.{Pair}
 use Rattle.gixobj_files.specs.Tables.{AgreesWithPairs, AgreesWithStore}
 use Rattle.gixobj_find.specs.Keeping.{with_trees}
-use Rattle.gixobj_editor.specs.Commands.{Place, accepted_steps, at_cursor, at_root, kept_of, kept_of_edit, pairs_handed_out, pairs_kept, pairs_of, pairs_of_edit, pairs_of_write, steps_at, steps_of, steps_of_edit, steps_of_edits, written_at, written_by}
+use Rattle.gixobj_editor.specs.Commands.{Place, accepted_steps, at_cursor, at_root, kept_of, kept_of_edit, emitted_pairs, pairs_kept, pairs_of, pairs_of_edit, pairs_of_write, steps_at, steps_of, steps_of_edit, steps_of_edits, written_at, written_by}
 use Rattle.gixobj_editor.specs.Replies.{Answers, AreEditReplies, IsEditReply, IsReply, IsReplyAt, IsRun, IsWriteKept, IsWrittenAt}
 use Rattle.gixobj_editor.specs.RunTables.{AgreesWithObjects, AgreesWithRun}
 use Rattle.gixobj_editor.specs.declared.reply.EditReply.{EditReply}
@@ -27,13 +28,13 @@ use Rattle.gixobj_editor.specs.declared.reply.EditReply.TheVariants as edit_repl
 use Rattle.gixobj_editor.specs.declared.reply.Reply.{Reply}
 use Rattle.gixobj_editor.specs.declared.reply.Reply.TheVariants as reply
 use Rattle.gixobj_files.proofs.Histories.{then_steps}
-use Rattle.gixobj_editor.proofs.Keeping.{AgreesThroughout, agrees_first, agrees_then, then_kept, throughout_first, throughout_then}
+use Rattle.gixobj_editor.proofs.Keeping.{AgreesThroughout, agrees_first, agrees_then, then_stored, throughout_first, throughout_then}
 
--- what is said of a store's trees is said of some
+-- a store has trees, so that what holds for its trees holds for some
 of_some : (objects : Objects) (P : Trees → Type 0) → OfTrees objects P → (trees : Trees) × AreTreesOf objects trees × P trees
 of_some objects P says = let it = trees_of objects in (it.0, it.1, says it.0 it.1)
 
--- the pairs of a write are those that its reply says
+-- the pairs of a write are those of its reply
 pairs_are : {E : Type 0} (its_reply : Reply E) (written : Written) → written_by its_reply ≡ Some written → pairs_of its_reply ≡ written.trees.items
 pairs_are (reply.Edit it) written is = ap pairs_of_write is
 pairs_are (reply.At replies) written is = absurd (cc is)
@@ -41,62 +42,78 @@ pairs_are (reply.AtRefused error) written is = absurd (cc is)
 pairs_are reply.RootSet written is = absurd (cc is)
 pairs_are reply.RootRefused written is = absurd (cc is)
 
--- what all give is what the first ones give, and more
+-- what a list yields begins with what its prefix yields
 fronted : {A B : Type 0} (f : A → List B) (k : ℕ) (xs : List A) → (rest : List B) × (flat_map f xs ≡ flat_map f (take k xs) ++ rest)
 fronted f zero xs = (flat_map f xs, refl)
 fronted f (suc k) [] = ([], refl)
-fronted f (suc k) (x ∷ xs) = let more = fronted f k xs in (more.0, ap (λ l. f x ++ l) more.1 ∙ sym (append_assoc (f x) (flat_map f (take k xs)) more.0))
+fronted f (suc k) (x ∷ xs) = let more =
+    fronted f k xs in (more.0, ap (λ l. f x ++ l) more.1 ∙ sym (append_assoc (f x) (flat_map f (take k xs)) more.0))
 
--- a table that agrees with a run agrees with its first replies, and with the pairs of each of its writes
-pub agrees_front : {E : Type 0} (T : Table) (objects : Objects) (k : ℕ) (replies : List (Reply E)) → AgreesWithRun T objects replies → AgreesWithRun T objects (take k replies)
-agrees_front T objects k replies agrees =
-    let handed = fronted pairs_of k replies in
+-- a table that agrees with a run agrees with each prefix of its replies, and with the pairs of each of its writes
+pub agrees_prefix : {E : Type 0} (T : Table) (objects : Objects) (k : ℕ) (replies : List (Reply E)) → AgreesWithRun T objects replies
+    → AgreesWithRun T objects (take k replies)
+agrees_prefix T objects k replies agrees =
+    let passed = fronted pairs_of k replies in
     let kept = fronted kept_of k replies in
     record {
-      writes = agrees_first T (pairs_handed_out (take k replies)) handed.0 (subst (λ (ps : List Pair). AgreesWithPairs T ps) handed.1 agrees.writes);
-      stores = throughout_first T (pairs_kept (take k replies)) kept.0 objects (subst (λ (ps : List Pair). AgreesThroughout T ps objects) kept.1 agrees.stores);
+      writes = agrees_first T (emitted_pairs (take k replies)) passed.0 (subst (λ (ps : List Pair). AgreesWithPairs T ps) passed.1 agrees.writes);
+      stores = throughout_first T (pairs_kept (take k replies)) kept.0 objects
+          (subst (λ (ps : List Pair). AgreesThroughout T ps objects) kept.1 agrees.stores);
     }
 
-pub agrees_written : {E : Type 0} (T : Table) (replies : List (Reply E)) → AgreesWithPairs T (pairs_handed_out replies) → (k : ℕ) (written : Written) → written_at replies k ≡ Some written → AgreesWithPairs T written.trees.items
+pub agrees_written : {E : Type 0} (T : Table) (replies : List (Reply E)) → AgreesWithPairs T (emitted_pairs replies) → (k : ℕ) (written : Written)
+    → written_at replies k ≡ Some written → AgreesWithPairs T written.trees.items
 agrees_written T [] agrees k written is = absurd (cc is)
-agrees_written T (r ∷ replies) agrees zero written is = subst (λ (ps : List Pair). AgreesWithPairs T ps) (pairs_are r written is) (agrees_first T (pairs_of r) (pairs_handed_out replies) agrees)
-agrees_written T (r ∷ replies) agrees (suc k) written is = agrees_written T replies (agrees_then T (pairs_of r) (pairs_handed_out replies) agrees) k written is
+agrees_written T (r ∷ replies) agrees zero written is = subst (λ (ps : List Pair). AgreesWithPairs T ps) (pairs_are r written is)
+    (agrees_first T (pairs_of r) (emitted_pairs replies) agrees)
+agrees_written T (r ∷ replies) agrees (suc k) written is =
+    agrees_written T replies (agrees_then T (pairs_of r) (emitted_pairs replies) agrees) k written is
 
-module _ {S E : Type 0} (means : Meaning S) (answers : Answers E) where
+module _ {S E : Type 0} (means : StoreModel S) (answers : Answers E) where
   pub edit_keeps : (place : Place) (old new : State S) (it : Edit) (its_reply : EditReply E) → IsEditReply means answers place old it its_reply new
       → means.objects new.store ≡ with_trees (kept_of_edit its_reply) (means.objects old.store)
-  edit_keeps place old new (edit.Upsert path kind id) edit_reply.Done h = let it = of_some _ _ h in ap (λ (s : State S). means.objects s.store) it.2.rest
-  edit_keeps place old new (edit.Upsert path kind id) (edit_reply.Refused error) h = let it = of_some _ _ h.0.left in ap (λ (s : State S). means.objects s.store) it.2.rest
+  edit_keeps place old new (edit.Upsert path kind id) edit_reply.Done h = let it =
+      of_some _ _ h in ap (λ (s : State S). means.objects s.store) it.2.rest
+  edit_keeps place old new (edit.Upsert path kind id) (edit_reply.Refused error) h = let it =
+      of_some _ _ h.0.remaining in ap (λ (s : State S). means.objects s.store) it.2.rest
   edit_keeps place old new (edit.Remove path) edit_reply.Done h = let it = of_some _ _ h in ap (λ (s : State S). means.objects s.store) it.2.rest
-  edit_keeps place old new (edit.Remove path) (edit_reply.Refused error) h = let it = of_some _ _ h.left in ap (λ (s : State S). means.objects s.store) it.2.rest
-  edit_keeps place old new (edit.RemoveLeaf path) edit_reply.Done h = let it = of_some _ _ h in ap (λ (s : State S). means.objects s.store) it.2.removed.rest
-  edit_keeps place old new (edit.RemoveLeaf path) (edit_reply.Refused error) h = let it = of_some _ _ h.left in ap (λ (s : State S). means.objects s.store) it.2.rest
-  edit_keeps place old new edit.Write (edit_reply.Written written) h = h.kept.0
-  edit_keeps place old new edit.Write (edit_reply.NotKept written count error) h = h.kept.kept
+  edit_keeps place old new (edit.Remove path) (edit_reply.Refused error) h = let it =
+      of_some _ _ h.remaining in ap (λ (s : State S). means.objects s.store) it.2.rest
+  edit_keeps place old new (edit.RemoveLeaf path) edit_reply.Done h = let it =
+      of_some _ _ h in ap (λ (s : State S). means.objects s.store) it.2.removed.rest
+  edit_keeps place old new (edit.RemoveLeaf path) (edit_reply.Refused error) h = let it =
+      of_some _ _ h.remaining in ap (λ (s : State S). means.objects s.store) it.2.rest
+  edit_keeps place old new edit.Write (edit_reply.Written written) h = h.stored.0
+  edit_keeps place old new edit.Write (edit_reply.NotKept written count error) h = h.stored.stored
   edit_keeps place old new edit.Write (edit_reply.WriteRefused error) h = ap (λ (s : State S). means.objects s.store) h.unchanged
   edit_keeps place old new it its_reply h = absurd h
 
-  edits_keep : (place : Place) (old new : State S) (edits : List Edit) (replies : List (EditReply E)) → AreEditReplies means answers place old edits replies new
+  edits_keep : (place : Place) (old new : State S) (edits : List Edit) (replies : List (EditReply E))
+      → AreEditReplies means answers place old edits replies new
       → means.objects new.store ≡ with_trees (flat_map kept_of_edit replies) (means.objects old.store)
   edits_keep place old new [] [] h = ap (λ (s : State S). means.objects s.store) h
   edits_keep place old new (it ∷ edits) (r ∷ replies) (between, first, rest) =
-      then_kept (kept_of_edit r) (flat_map kept_of_edit replies) (means.objects old.store) (means.objects between.store) (means.objects new.store) (edit_keeps place old between it r first)
+      then_stored (kept_of_edit r) (flat_map kept_of_edit replies) (means.objects old.store) (means.objects between.store) (means.objects new.store)
+      (edit_keeps place old between it r first)
       (edits_keep place between new edits replies rest)
   edits_keep place old new [] (r ∷ replies) h = absurd h
   edits_keep place old new (it ∷ edits) [] h = absurd h
 
-  pub assured_keeps : (prefix : Path) (old new : State S) → OfTrees (means.objects old.store) (λ trees. IsAssured trees old prefix new) → means.objects new.store ≡ means.objects old.store
-  assured_keeps prefix old new h = let it = of_some _ _ h in ap (λ (s : State S). means.objects s.store) it.2.rest
+  pub ensured_keeps : (prefix : Path) (old new : State S) → OfTrees (means.objects old.store) (λ trees. IsEnsured trees old prefix new)
+      → means.objects new.store ≡ means.objects old.store
+  ensured_keeps prefix old new h = let it = of_some _ _ h in ap (λ (s : State S). means.objects s.store) it.2.rest
 
   at_keeps : (prefix : Path) (old new : State S) (edits : List Edit) (its_reply : Reply E) → IsReplyAt means answers prefix old edits its_reply new
       → means.objects new.store ≡ with_trees (kept_of its_reply) (means.objects old.store)
-  at_keeps prefix old new edits (reply.At replies) (between, assured, rest) =
-      then_kept [] (flat_map kept_of_edit replies.items) (means.objects old.store) (means.objects between.store) (means.objects new.store) (assured_keeps prefix old between assured)
+  at_keeps prefix old new edits (reply.At replies) (between, ensured, rest) =
+      then_stored [] (flat_map kept_of_edit replies.items) (means.objects old.store) (means.objects between.store) (means.objects new.store)
+      (ensured_keeps prefix old between ensured)
       (edits_keep (at_cursor prefix) between new edits replies.items rest)
-  at_keeps prefix old new edits (reply.AtRefused error) h = ⊎_elim (λ wanting. ap (λ (s : State S). means.objects s.store) wanting.1) (λ refused. let it = of_some _ _ refused.0.left in ap (λ (s : State S). means.objects s.store) it.2.rest) h
+  at_keeps prefix old new edits (reply.AtRefused error) h = ⊎_elim (λ wanting. ap (λ (s : State S). means.objects s.store) wanting.1)
+      (λ rejected. let it = of_some _ _ rejected.0.remaining in ap (λ (s : State S). means.objects s.store) it.2.rest) h
   at_keeps prefix old new edits its_reply h = absurd h
 
-  -- the store goes on by what the reply says is kept
+  -- the store changes by the trees that the reply reports as kept
   pub command_keeps : (old new : State S) (it : Command) (its_reply : Reply E) → IsReply means answers old it its_reply new
       → means.objects new.store ≡ with_trees (kept_of its_reply) (means.objects old.store)
   command_keeps old new (command.Edit it) (reply.Edit its_reply) h = edit_keeps at_root old new it its_reply h
@@ -106,67 +123,91 @@ module _ {S E : Type 0} (means : Meaning S) (answers : Answers E) where
   command_keeps old new it its_reply h = absurd h
 
   module _ (T : Table) (n : ℕ) where
-    -- what holds in the store's trees with which the table agrees
-    agreed : (old : State S) (P : Trees → Type 0) → AgreesWithObjects T (means.objects old.store) → OfTrees (means.objects old.store) P → (trees : Trees) × AgreesWithStore T trees × P trees
-    agreed old P agrees says = let it = of_some (means.objects old.store) P says in (it.0, (λ id entries other is. agrees id entries other ((it.1 id entries).0 is)), it.2)
+    -- what holds for the store's trees holds for some trees with which the table agrees
+    agreed : (old : State S) (P : Trees → Type 0) → AgreesWithObjects T (means.objects old.store) → OfTrees (means.objects old.store) P
+        → (trees : Trees)
+        × AgreesWithStore T trees × P trees
+    agreed old P agrees says = let it =
+        of_some (means.objects old.store) P says in (it.0, (λ id entries other is. agrees id entries other ((it.1 id entries).0 is)), it.2)
 
     unchanged : (old new : State S) → new ≡ old → SameFiles (EditorFiles T n new) (EditorFiles T n old)
     unchanged old new same = subst (λ (s : State S). SameFiles (EditorFiles T n s) (EditorFiles T n old)) (sym same) (same_refl (EditorFiles T n old))
 
-    written_files : (place : Place) (old new : State S) (it : Written) → IsWrittenAt answers place it old new → AgreesWithPairs T it.trees.items → HasBases T (open_dirs old) (open_bases old) → SameFiles (EditorFiles T n new) (EditorFiles T n old)
+    written_files : (place : Place) (old new : State S) (it : Written) → IsWrittenAt answers place it old new → AgreesWithPairs T it.trees.items
+        → HasBases T (open_dirs old) (open_bases old) → SameFiles (EditorFiles T n new) (EditorFiles T n old)
     written_files at_root old new it h agrees has = h.same_files T n agrees has
     written_files (at_cursor prefix) old new it h agrees has = h.same_files T n agrees has
 
-    write_files : (place : Place) (old new : State S) (it : Written) (Keeps : Objects → Objects → Type 0) → IsWriteKept means (IsWrittenAt answers place it old) Keeps old new → AgreesWithPairs T it.trees.items → HasBases T (open_dirs old) (open_bases old)
+    write_files : (place : Place) (old new : State S) (it : Written) (Keeps : Objects → Objects → Type 0)
+        → IsWriteKept means (IsWrittenAt answers place it old) Keeps old new → AgreesWithPairs T it.trees.items
+        → HasBases T (open_dirs old) (open_bases old)
         → SameFiles (EditorFiles T n new) (EditorFiles T n old)
-    write_files place old new it Keeps h agrees has = subst (λ (s : State S). SameFiles (EditorFiles T n s) (EditorFiles T n old)) (sym h.rest) (written_files place old h.between it h.written agrees has)
+    write_files place old new it Keeps h agrees has = subst (λ (s : State S). SameFiles (EditorFiles T n s) (EditorFiles T n old)) (sym h.rest)
+        (written_files place old h.between it h.written agrees has)
 
-    -- the bases go on as they are named by their ids
+    -- the table has the bases after each command
     unmoved : (old new : State S) → new ≡ old → HasBases T (open_dirs old) (open_bases old) → HasBases T (open_dirs new) (open_bases new)
     unmoved old new same has = subst (λ (s : State S). HasBases T (open_dirs s) (open_bases s)) (sym same) has
 
-    written_based : (place : Place) (old new : State S) (it : Written) → IsWrittenAt answers place it old new → HasBases T (open_dirs old) (open_bases old) → HasBases T (open_dirs new) (open_bases new)
+    written_based : (place : Place) (old new : State S) (it : Written) → IsWrittenAt answers place it old new
+        → HasBases T (open_dirs old) (open_bases old)
+        → HasBases T (open_dirs new) (open_bases new)
     written_based at_root old new it h has = h.has_bases T
     written_based (at_cursor prefix) old new it h has = h.has_bases T has
 
-    write_based : (place : Place) (old new : State S) (it : Written) (Keeps : Objects → Objects → Type 0) → IsWriteKept means (IsWrittenAt answers place it old) Keeps old new → HasBases T (open_dirs old) (open_bases old) → HasBases T (open_dirs new) (open_bases new)
-    write_based place old new it Keeps h has = subst (λ (s : State S). HasBases T (open_dirs s) (open_bases s)) (sym h.rest) (written_based place old h.between it h.written has)
+    write_based : (place : Place) (old new : State S) (it : Written) (Keeps : Objects → Objects → Type 0)
+        → IsWriteKept means (IsWrittenAt answers place it old) Keeps old new → HasBases T (open_dirs old) (open_bases old)
+        → HasBases T (open_dirs new) (open_bases new)
+    write_based place old new it Keeps h has = subst (λ (s : State S). HasBases T (open_dirs s) (open_bases s)) (sym h.rest)
+        (written_based place old h.between it h.written has)
 
     edit_based : (place : Place) (old new : State S) (it : Edit) (its_reply : EditReply E) → IsEditReply means answers place old it its_reply new
         → AgreesWithObjects T (means.objects old.store) → HasBases T (open_dirs old) (open_bases old) → HasBases T (open_dirs new) (open_bases new)
     edit_based place old new (edit.Upsert path kind id) edit_reply.Done h agrees has = let it = agreed old _ agrees h in it.2.has_bases T it.1 has
-    edit_based place old new (edit.Upsert path kind id) (edit_reply.Refused error) h agrees has = let it = agreed old _ agrees h.0.left in it.2.has_bases T it.1 has
+    edit_based place old new (edit.Upsert path kind id) (edit_reply.Refused error) h agrees has = let it =
+        agreed old _ agrees h.0.remaining in it.2.has_bases T it.1 has
     edit_based place old new (edit.Remove path) edit_reply.Done h agrees has = let it = agreed old _ agrees h in it.2.has_bases T it.1 has
-    edit_based place old new (edit.Remove path) (edit_reply.Refused error) h agrees has = let it = agreed old _ agrees h.left in it.2.has_bases T it.1 has
+    edit_based place old new (edit.Remove path) (edit_reply.Refused error) h agrees has = let it =
+        agreed old _ agrees h.remaining in it.2.has_bases T it.1 has
     edit_based place old new (edit.RemoveLeaf path) edit_reply.Done h agrees has = let it = agreed old _ agrees h in it.2.removed.has_bases T it.1 has
-    edit_based place old new (edit.RemoveLeaf path) (edit_reply.Refused error) h agrees has = let it = agreed old _ agrees h.left in it.2.has_bases T it.1 has
+    edit_based place old new (edit.RemoveLeaf path) (edit_reply.Refused error) h agrees has = let it =
+        agreed old _ agrees h.remaining in it.2.has_bases T it.1 has
     edit_based place old new edit.Write (edit_reply.Written written) h agrees has = write_based place old new written _ h has
     edit_based place old new edit.Write (edit_reply.NotKept written count error) h agrees has = write_based place old new written _ h has
     edit_based place old new edit.Write (edit_reply.WriteRefused error) h agrees has = unmoved old new h.unchanged has
     edit_based place old new it its_reply h agrees has = absurd h
 
-    edits_based : (place : Place) (old new : State S) (edits : List Edit) (replies : List (EditReply E)) → AreEditReplies means answers place old edits replies new
-        → AgreesThroughout T (flat_map kept_of_edit replies) (means.objects old.store) → HasBases T (open_dirs old) (open_bases old) → HasBases T (open_dirs new) (open_bases new)
+    edits_based : (place : Place) (old new : State S) (edits : List Edit) (replies : List (EditReply E))
+        → AreEditReplies means answers place old edits replies new
+        → AgreesThroughout T (flat_map kept_of_edit replies) (means.objects old.store) → HasBases T (open_dirs old) (open_bases old)
+        → HasBases T (open_dirs new) (open_bases new)
     edits_based place old new [] [] h agrees has = unmoved old new h has
     edits_based place old new (it ∷ edits) (r ∷ replies) (between, first, rest) agrees has =
-        edits_based place between new edits replies rest (throughout_then T (kept_of_edit r) (flat_map kept_of_edit replies) (means.objects old.store) (means.objects between.store) (edit_keeps place old between it r first) agrees)
+        edits_based place between new edits replies rest (throughout_then T (kept_of_edit r) (flat_map kept_of_edit replies) (means.objects old.store)
+        (means.objects between.store) (edit_keeps place old between it r first) agrees)
         (edit_based place old between it r first (agrees zero) has)
     edits_based place old new [] (r ∷ replies) h agrees has = absurd h
     edits_based place old new (it ∷ edits) [] h agrees has = absurd h
 
     at_based : (prefix : Path) (old new : State S) (edits : List Edit) (its_reply : Reply E) → IsReplyAt means answers prefix old edits its_reply new
-        → AgreesThroughout T (kept_of its_reply) (means.objects old.store) → HasBases T (open_dirs old) (open_bases old) → HasBases T (open_dirs new) (open_bases new)
-    at_based prefix old new edits (reply.At replies) (between, assured, rest) agrees has =
-        let it = agreed old _ (agrees zero) assured in
-        edits_based (at_cursor prefix) between new edits replies.items rest (throughout_then T [] (flat_map kept_of_edit replies.items) (means.objects old.store) (means.objects between.store) (assured_keeps prefix old between assured) agrees) (it.2.has_bases T it.1 has)
+        → AgreesThroughout T (kept_of its_reply) (means.objects old.store) → HasBases T (open_dirs old) (open_bases old)
+        → HasBases T (open_dirs new) (open_bases new)
+    at_based prefix old new edits (reply.At replies) (between, ensured, rest) agrees has =
+        let it = agreed old _ (agrees zero) ensured in
+        edits_based (at_cursor prefix) between new edits replies.items rest
+        (throughout_then T [] (flat_map kept_of_edit replies.items) (means.objects old.store) (means.objects between.store)
+        (ensured_keeps prefix old between ensured) agrees) (it.2.has_bases T it.1 has)
     at_based prefix old new edits (reply.AtRefused error) h agrees has =
-        ⊎_elim (λ wanting. unmoved old new wanting.1 has) (λ refused. let it = agreed old _ (agrees zero) refused.0.left in it.2.has_bases T it.1 has) h
+        ⊎_elim (λ wanting. unmoved old new wanting.1 has)
+        (λ rejected. let it = agreed old _ (agrees zero) rejected.0.remaining in it.2.has_bases T it.1 has) h
     at_based prefix old new edits its_reply h agrees has = absurd h
 
     command_based : (old new : State S) (it : Command) (its_reply : Reply E) → IsReply means answers old it its_reply new
-        → AgreesThroughout T (kept_of its_reply) (means.objects old.store) → HasBases T (open_dirs old) (open_bases old) → HasBases T (open_dirs new) (open_bases new)
+        → AgreesThroughout T (kept_of its_reply) (means.objects old.store) → HasBases T (open_dirs old) (open_bases old)
+        → HasBases T (open_dirs new) (open_bases new)
     command_based old new (command.Edit it) (reply.Edit its_reply) h agrees has = edit_based at_root old new it its_reply h (agrees zero) has
-    command_based old new (command.At prefix edits) its_reply h agrees has = at_based (prefix_of (names_of prefix.items)) old new edits.items its_reply h agrees has
+    command_based old new (command.At prefix edits) its_reply h agrees has =
+        at_based (prefix_of (names_of prefix.items)) old new edits.items its_reply h agrees has
     command_based old new (command.SetRoot entries) reply.RootSet h agrees has = h.has_bases T
     command_based old new (command.SetRoot entries) reply.RootRefused h agrees has = unmoved old new h.1 has
     command_based old new it its_reply h agrees has = absurd h
@@ -175,57 +216,76 @@ module _ {S E : Type 0} (means : Meaning S) (answers : Answers E) where
         → AgreesWithObjects T (means.objects old.store) → AgreesWithPairs T (pairs_of_edit its_reply) → HasBases T (open_dirs old) (open_bases old)
         → SameFiles (EditorFiles T n new) (History T n (steps_of_edit place it its_reply) (EditorFiles T n old))
     edit_files place old new (edit.Upsert path kind id) edit_reply.Done h agrees pairs has = let it = agreed old _ agrees h in it.2.files T n it.1
-    edit_files place old new (edit.Upsert path kind id) (edit_reply.Refused error) h agrees pairs has = let it = agreed old _ agrees h.0.left in it.2.files T n it.1
+    edit_files place old new (edit.Upsert path kind id) (edit_reply.Refused error) h agrees pairs has = let it =
+        agreed old _ agrees h.0.remaining in it.2.files T n it.1
     edit_files place old new (edit.Remove path) edit_reply.Done h agrees pairs has = let it = agreed old _ agrees h in it.2.files T n it.1
-    edit_files place old new (edit.Remove path) (edit_reply.Refused error) h agrees pairs has = let it = agreed old _ agrees h.left in it.2.files T n it.1
+    edit_files place old new (edit.Remove path) (edit_reply.Refused error) h agrees pairs has = let it =
+        agreed old _ agrees h.remaining in it.2.files T n it.1
     edit_files place old new (edit.RemoveLeaf path) edit_reply.Done h agrees pairs has = let it = agreed old _ agrees h in it.2.removed.files T n it.1
-    edit_files place old new (edit.RemoveLeaf path) (edit_reply.Refused error) h agrees pairs has = let it = agreed old _ agrees h.left in it.2.files T n it.1
+    edit_files place old new (edit.RemoveLeaf path) (edit_reply.Refused error) h agrees pairs has = let it =
+        agreed old _ agrees h.remaining in it.2.files T n it.1
     edit_files place old new edit.Write (edit_reply.Written written) h agrees pairs has = write_files place old new written _ h pairs has
     edit_files place old new edit.Write (edit_reply.NotKept written count error) h agrees pairs has = write_files place old new written _ h pairs has
     edit_files place old new edit.Write (edit_reply.WriteRefused error) h agrees pairs has = unchanged old new h.unchanged
     edit_files place old new it its_reply h agrees pairs has = absurd h
 
-    edits_files : (place : Place) (old new : State S) (edits : List Edit) (replies : List (EditReply E)) → AreEditReplies means answers place old edits replies new
-        → AgreesThroughout T (flat_map kept_of_edit replies) (means.objects old.store) → AgreesWithPairs T (flat_map pairs_of_edit replies) → HasBases T (open_dirs old) (open_bases old)
+    edits_files : (place : Place) (old new : State S) (edits : List Edit) (replies : List (EditReply E))
+        → AreEditReplies means answers place old edits replies new
+        → AgreesThroughout T (flat_map kept_of_edit replies) (means.objects old.store) → AgreesWithPairs T (flat_map pairs_of_edit replies)
+        → HasBases T (open_dirs old) (open_bases old)
         → SameFiles (EditorFiles T n new) (History T n (steps_of_edits place edits replies) (EditorFiles T n old))
     edits_files place old new [] [] h agrees pairs has = unchanged old new h
     edits_files place old new (it ∷ edits) (r ∷ replies) (between, first, rest) agrees pairs has =
         let kept = edit_keeps place old between it r first in
-        then_steps T n (steps_of_edit place it r) (steps_of_edits place edits replies) (EditorFiles T n old) (EditorFiles T n between) (EditorFiles T n new)
+        then_steps T n (steps_of_edit place it r) (steps_of_edits place edits replies) (EditorFiles T n old) (EditorFiles T n between)
+        (EditorFiles T n new)
         (edit_files place old between it r first (agrees zero) (agrees_first T (pairs_of_edit r) (flat_map pairs_of_edit replies) pairs) has)
-        (edits_files place between new edits replies rest (throughout_then T (kept_of_edit r) (flat_map kept_of_edit replies) (means.objects old.store) (means.objects between.store) kept agrees)
+        (edits_files place between new edits replies rest
+        (throughout_then T (kept_of_edit r) (flat_map kept_of_edit replies) (means.objects old.store)
+        (means.objects between.store) kept agrees)
         (agrees_then T (pairs_of_edit r) (flat_map pairs_of_edit replies) pairs) (edit_based place old between it r first (agrees zero) has))
     edits_files place old new [] (r ∷ replies) h agrees pairs has = absurd h
     edits_files place old new (it ∷ edits) [] h agrees pairs has = absurd h
 
     at_files : (prefix : Path) (old new : State S) (edits : List Edit) (its_reply : Reply E) → IsReplyAt means answers prefix old edits its_reply new
-        → AgreesThroughout T (kept_of its_reply) (means.objects old.store) → AgreesWithPairs T (pairs_of its_reply) → HasBases T (open_dirs old) (open_bases old)
+        → AgreesThroughout T (kept_of its_reply) (means.objects old.store) → AgreesWithPairs T (pairs_of its_reply)
+        → HasBases T (open_dirs old) (open_bases old)
         → SameFiles (EditorFiles T n new) (History T n (steps_at prefix edits its_reply) (EditorFiles T n old))
-    at_files prefix old new edits (reply.At replies) (between, assured, rest) agrees pairs has =
-        let it = agreed old _ (agrees zero) assured in
-        then_steps T n (assure prefix ∷ []) (steps_of_edits (at_cursor prefix) edits replies.items) (EditorFiles T n old) (EditorFiles T n between) (EditorFiles T n new)
+    at_files prefix old new edits (reply.At replies) (between, ensured, rest) agrees pairs has =
+        let it = agreed old _ (agrees zero) ensured in
+        then_steps T n (ensure prefix ∷ []) (steps_of_edits (at_cursor prefix) edits replies.items) (EditorFiles T n old) (EditorFiles T n between)
+        (EditorFiles T n new)
         (it.2.files T n it.1)
         (edits_files (at_cursor prefix) between new edits replies.items rest
-        (throughout_then T [] (flat_map kept_of_edit replies.items) (means.objects old.store) (means.objects between.store) (assured_keeps prefix old between assured) agrees) pairs (it.2.has_bases T it.1 has))
+        (throughout_then T [] (flat_map kept_of_edit replies.items) (means.objects old.store) (means.objects between.store)
+        (ensured_keeps prefix old between ensured) agrees) pairs (it.2.has_bases T it.1 has))
     at_files prefix old new edits (reply.AtRefused error) h agrees pairs has =
-        ⊎_elim (λ wanting. unchanged old new wanting.1) (λ refused. let it = agreed old _ (agrees zero) refused.0.left in it.2.files T n it.1) h
+        ⊎_elim (λ wanting. unchanged old new wanting.1) (λ rejected. let it = agreed old _ (agrees zero) rejected.0.remaining in it.2.files T n it.1)
+        h
     at_files prefix old new edits its_reply h agrees pairs has = absurd h
 
-    -- a command makes what its steps say of the files before it
+    -- a command makes of the files before it what its steps say
     command_files : (old new : State S) (it : Command) (its_reply : Reply E) → IsReply means answers old it its_reply new
-        → AgreesThroughout T (kept_of its_reply) (means.objects old.store) → AgreesWithPairs T (pairs_of its_reply) → HasBases T (open_dirs old) (open_bases old)
+        → AgreesThroughout T (kept_of its_reply) (means.objects old.store) → AgreesWithPairs T (pairs_of its_reply)
+        → HasBases T (open_dirs old) (open_bases old)
         → SameFiles (EditorFiles T n new) (History T n (steps_of it its_reply) (EditorFiles T n old))
-    command_files old new (command.Edit it) (reply.Edit its_reply) h agrees pairs has = edit_files at_root old new it its_reply h (agrees zero) pairs has
-    command_files old new (command.At prefix edits) its_reply h agrees pairs has = at_files (prefix_of (names_of prefix.items)) old new edits.items its_reply h agrees pairs has
+    command_files old new (command.Edit it) (reply.Edit its_reply) h agrees pairs has =
+        edit_files at_root old new it its_reply h (agrees zero) pairs has
+    command_files old new (command.At prefix edits) its_reply h agrees pairs has =
+        at_files (prefix_of (names_of prefix.items)) old new edits.items its_reply h agrees pairs has
     command_files old new (command.SetRoot entries) reply.RootSet h agrees pairs has = h.files T n
     command_files old new (command.SetRoot entries) reply.RootRefused h agrees pairs has = unchanged old new h.1
     command_files old new it its_reply h agrees pairs has = absurd h
 
-    named : (old : State S) (w written : Written) → Some w ≡ Some written → SameFiles (NamedFiles T n w.id) (EditorFiles T n old) → SameFiles (NamedFiles T n written.id) (EditorFiles T n old)
-    named old w written is h = let same : w ≡ written = cc is in subst (λ (it : Written). SameFiles (NamedFiles T n it.id) (EditorFiles T n old)) same h
+    named : (old : State S) (w written : Written) → Some w ≡ Some written → SameFiles (NamedFiles T n w.id) (EditorFiles T n old)
+        → SameFiles (NamedFiles T n written.id) (EditorFiles T n old)
+    named old w written is h = let same : w ≡ written = cc is in subst (λ (it : Written). SameFiles (NamedFiles T n it.id) (EditorFiles T n old)) same
+        h
 
-    edit_names : (old new : State S) (it : Edit) (its_reply : EditReply E) (written : Written) → IsEditReply means answers at_root old it its_reply new
-        → written_by (reply.Edit its_reply) ≡ Some written → AgreesWithPairs T (pairs_of_edit its_reply) → HasBases T (open_dirs old) (open_bases old) → SameFiles (NamedFiles T n written.id) (EditorFiles T n old)
+    edit_names : (old new : State S) (it : Edit) (its_reply : EditReply E) (written : Written)
+        → IsEditReply means answers at_root old it its_reply new
+        → written_by (reply.Edit its_reply) ≡ Some written → AgreesWithPairs T (pairs_of_edit its_reply) → HasBases T (open_dirs old) (open_bases old)
+        → SameFiles (NamedFiles T n written.id) (EditorFiles T n old)
     edit_names old new edit.Write (edit_reply.Written w) written h is pairs has = named old w written is (h.written.files T n pairs has)
     edit_names old new edit.Write (edit_reply.NotKept w count error) written h is pairs has = named old w written is (h.written.files T n pairs has)
     edit_names old new it edit_reply.Done written h is pairs has = absurd (cc is)
@@ -235,7 +295,8 @@ module _ {S E : Type 0} (means : Meaning S) (answers : Answers E) where
 
     -- a successful write of the root names the files before it
     write_names : (old new : State S) (it : Command) (its_reply : Reply E) (written : Written) → IsReply means answers old it its_reply new
-        → written_by its_reply ≡ Some written → AgreesWithPairs T (pairs_of its_reply) → HasBases T (open_dirs old) (open_bases old) → SameFiles (NamedFiles T n written.id) (EditorFiles T n old)
+        → written_by its_reply ≡ Some written → AgreesWithPairs T (pairs_of its_reply) → HasBases T (open_dirs old) (open_bases old)
+        → SameFiles (NamedFiles T n written.id) (EditorFiles T n old)
     write_names old new (command.Edit it) (reply.Edit its_reply) written h is pairs has = edit_names old new it its_reply written h is pairs has
     write_names old new it (reply.At replies) written h is pairs has = absurd (cc is)
     write_names old new it (reply.AtRefused error) written h is pairs has = absurd (cc is)
@@ -243,15 +304,17 @@ module _ {S E : Type 0} (means : Meaning S) (answers : Answers E) where
     write_names old new it reply.RootRefused written h is pairs has = absurd (cc is)
     write_names old new it its_reply written h is pairs has = absurd h
 
-    pub agrees_later : (first : Reply E) (replies : List (Reply E)) (old between : Objects) → between ≡ with_trees (kept_of first) old → AgreesWithRun T old (first ∷ replies) → AgreesWithRun T between replies
+    pub agrees_later : (first : Reply E) (replies : List (Reply E)) (old between : Objects) → between ≡ with_trees (kept_of first) old
+        → AgreesWithRun T old (first ∷ replies) → AgreesWithRun T between replies
     agrees_later first replies old between kept agrees = record {
-      writes = agrees_then T (pairs_of first) (pairs_handed_out replies) agrees.writes;
+      writes = agrees_then T (pairs_of first) (emitted_pairs replies) agrees.writes;
       stores = throughout_then T (kept_of first) (pairs_kept replies) old between kept agrees.stores;
     }
 
-    -- and so it names what the accepted commands before it make of the files at the start
+    -- a successful write of the root names what the accepted commands before it make of the files at the start
     pub names_history : (start last : State S) (commands : List Command) (replies : List (Reply E)) → IsRun means answers start commands replies last
-        → (k : ℕ) (written : Written) → written_at replies k ≡ Some written → AgreesWithRun T (means.objects start.store) (take k replies) → AgreesWithPairs T written.trees.items → HasBases T (open_dirs start) (open_bases start)
+        → (k : ℕ) (written : Written) → written_at replies k ≡ Some written → AgreesWithRun T (means.objects start.store) (take k replies)
+        → AgreesWithPairs T written.trees.items → HasBases T (open_dirs start) (open_bases start)
         → SameFiles (NamedFiles T n written.id) (History T n (accepted_steps (take k commands) (take k replies)) (EditorFiles T n start))
     names_history start last [] [] run k written is agrees pairs has = absurd (cc is)
     names_history start last [] (r ∷ replies) run k written is agrees pairs has = absurd run
@@ -260,6 +323,9 @@ module _ {S E : Type 0} (means : Meaning S) (answers : Answers E) where
         write_names start between c r written first is (subst (λ (ps : List Pair). AgreesWithPairs T ps) (sym (pairs_are r written is)) pairs) has
     names_history start last (c ∷ commands) (r ∷ replies) (between, first, run) (suc k) written is agrees pairs has =
         let stores = throughout_first T (kept_of r) (pairs_kept (take k replies)) (means.objects start.store) agrees.stores in
-        then_steps T n (steps_of c r) (accepted_steps (take k commands) (take k replies)) (EditorFiles T n start) (EditorFiles T n between) (NamedFiles T n written.id)
-        (command_files start between c r first stores (agrees_first T (pairs_of r) (pairs_handed_out (take k replies)) agrees.writes) has)
-        (names_history between last commands replies run k written is (agrees_later r (take k replies) (means.objects start.store) (means.objects between.store) (command_keeps start between c r first) agrees) pairs (command_based start between c r first stores has))
+        then_steps T n (steps_of c r) (accepted_steps (take k commands) (take k replies)) (EditorFiles T n start) (EditorFiles T n between)
+        (NamedFiles T n written.id)
+        (command_files start between c r first stores (agrees_first T (pairs_of r) (emitted_pairs (take k replies)) agrees.writes) has)
+        (names_history between last commands replies run k written is
+        (agrees_later r (take k replies) (means.objects start.store) (means.objects between.store)
+        (command_keeps start between c r first) agrees) pairs (command_based start between c r first stores has))

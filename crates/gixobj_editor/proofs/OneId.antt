@@ -1,4 +1,4 @@
--- Two writes of a run that puts in no tree, and starts with nothing, name one id exactly where their files are equal.
+-- Two writes of a plain run name one id if and only if their files are equal; the proof of `run` uses it for `one_id`.
 use Rattle.std.proofs.Common.{◌≡◌, ◌∙◌, ⊎_elim, ℕ, zero, suc, List, [], ◌∷◌, ◌++◌, Contains, Some, refl, sym, ap, subst, take}
 use Rattle.std.specs.FinMap as map
 use Rattle.std.specs.List.{AllByRecursion, flat_map}
@@ -8,17 +8,17 @@ use Rattle.gixobj_editor.specs.declared.command.Command.{Command}
 use Rattle.gixobj_editor.specs.declared.command.Command.TheVariants as command
 use Rattle.gixobj_editor.specs.declared.command.Edit.{Edit}
 use Rattle.gixobj_editor.specs.declared.command.Edit.TheVariants as edit
-use Rattle.gixobj_object.specs.Stores.{Meaning, Objects}
+use Rattle.gixobj_object.specs.Stores.{StoreModel, Objects}
 use Rattle.gixobj_directories.proofs.NamedTrees.{trees_of}
 use Rattle.gixobj_directories.specs.Calls.{names_of}
 use Rattle.gixobj_directories.specs.declared.write.Written.{Written}
 use Rattle.gixobj_editor.specs.Cursors.{prefix_of}
 use Rattle.gixobj_files.proofs.Calls.{root_based}
-use Rattle.gixobj_files.proofs.EditedFiles.{root_open, root_shut}
+use Rattle.gixobj_files.proofs.EditedFiles.{root_open, root_unopened}
 use Rattle.gixobj_files.proofs.Everywhere.{Everywhere}
 use Rattle.gixobj_files.proofs.Formed.{opened_root}
 use Rattle.gixobj_files.proofs.PlainHistories.{IsUpTo}
-use Rattle.gixobj_files.proofs.Plain.{HasBuilt, Plain, all_joined, all_left, all_right}
+use Rattle.gixobj_files.proofs.Plain.{HasBuilt, Plain, all_joined, all_remaining, all_right}
 use Rattle.gixobj_files.specs.Bases.{HasBases}
 use Rattle.gixobj_files.specs.Files.{NamedFiles, Path, Table, Trees}
 use Rattle.gixobj_files.specs.Opening.{Dirs, HasAt, IsOpened}
@@ -26,102 +26,144 @@ use Rattle.gixobj_files.specs.State.{DirMap, State, open_bases, open_dirs, root_
 use Rattle.gixobj_files.specs.Tables.{AgreesWithPairs, AgreesWithStore}
 use Rattle.gixobj_tree.specs.Entries.{EntryView, Pair}
 use Rattle.gixobj_editor.proofs.Keeping.{AgreesThroughout, throughout_first, throughout_then}
-use Rattle.gixobj_editor.proofs.Named.{agrees_front, agrees_later, agrees_written, assured_keeps, command_keeps, edit_keeps, names_history}
-use Rattle.gixobj_editor.proofs.Told.{no_tree_mode, plain_before, told_by_trees, up_to_like}
-use Rattle.gixobj_editor.proofs.Plainly.{AreBuilt, IsPlainState, Within, plain_assured, plain_below, plain_refused, plain_removed, plain_root, plain_upserted}
-use Rattle.gixobj_editor.specs.Commands.{Place, at_cursor, at_root, kept_of, kept_of_edit, pairs_handed_out, pairs_kept, pairs_of, pairs_of_edit, written_at, written_by}
-use Rattle.gixobj_editor.specs.OneId.{IdsTellFiles, IsPlainRun, NamesNoTree, PutsNoTree, files_before}
-use Rattle.gixobj_editor.specs.Replies.{Answers, AreEditReplies, GivesTreeId, IsEditReply, IsReply, IsReplyAt, IsRun, IsWriteKept, IsWrittenAt}
+use Rattle.gixobj_editor.proofs.Named.{agrees_prefix, agrees_later, agrees_written, ensured_keeps, command_keeps, edit_keeps, names_history}
+use Rattle.gixobj_editor.proofs.Reported.{no_tree_mode, plain_before, known_by_trees, up_to_like}
+use Rattle.gixobj_editor.proofs.Plainly.{AreBuilt, IsPlainState, Within, plain_ensured, plain_below, plain_failed, plain_removed, plain_root, plain_upserted}
+use Rattle.gixobj_editor.specs.Commands.{Place, at_cursor, at_root, kept_of, kept_of_edit, emitted_pairs, pairs_kept, pairs_of, pairs_of_edit, written_at, written_by}
+use Rattle.gixobj_editor.specs.OneId.{IdsDetermineFiles, IsPlainRun, NamesNoTree, InsertsNoTree, files_before}
+use Rattle.gixobj_editor.specs.Replies.{Answers, AreEditReplies, ReturnsTreeId, IsEditReply, IsReply, IsReplyAt, IsRun, IsWriteKept, IsWrittenAt}
 use Rattle.gixobj_editor.specs.RunTables.{AgreesWithObjects, AgreesWithRun}
 use Rattle.gixobj_editor.specs.declared.reply.EditReply.{EditReply}
 use Rattle.gixobj_editor.specs.declared.reply.EditReply.TheVariants as edit_reply
 use Rattle.gixobj_editor.specs.declared.reply.Reply.{Reply}
 use Rattle.gixobj_editor.specs.declared.reply.Reply.TheVariants as reply
 
-module _ {S E : Type 0} (means : Meaning S) (answers : Answers E) (T : Table) (pairs : List Pair) (known : AgreesWithPairs T pairs) where
+module _ {S E : Type 0} (means : StoreModel S) (answers : Answers E) (T : Table) (pairs : List Pair) (known : AgreesWithPairs T pairs) where
   abbrev Holds : State S → Type 0
   Holds state = IsPlainState T pairs known state
 
-  -- what holds in the store's trees with which the table agrees
-  agreed : (old : State S) (P : Trees → Type 0) → AgreesWithObjects T (means.objects old.store) → OfTrees (means.objects old.store) P → (trees : Trees) × AgreesWithStore T trees × P trees
-  agreed old P agrees says = let it = trees_of (means.objects old.store) in (it.0, (λ id entries other is. agrees id entries other ((it.1 id entries).0 is)), says it.0 it.1)
+  -- what holds for the store's trees holds for some trees with which the table agrees
+  agreed : (old : State S) (P : Trees → Type 0) → AgreesWithObjects T (means.objects old.store) → OfTrees (means.objects old.store) P
+      → (trees : Trees)
+      × AgreesWithStore T trees × P trees
+  agreed old P agrees says = let it =
+      trees_of (means.objects old.store) in (it.0, (λ id entries other is. agrees id entries other ((it.1 id entries).0 is)), says it.0 it.1)
 
   same_state : (old new : State S) → new ≡ old → Holds old → Holds new
   same_state old new same holds = subst (λ (s : State S). Holds s) (sym same) holds
 
-  written_plain : (place : Place) (old new : State S) (it : Written) → IsWrittenAt answers place it old new → Holds old → Within T pairs known it.trees.items → Holds new × AreBuilt T pairs known it.trees.items
-  written_plain at_root old new it h holds within = plain_root T pairs known (GivesTreeId answers) tt tt old new it holds h within
-  written_plain (at_cursor prefix) old new it h holds within = plain_below T pairs known (GivesTreeId answers) tt tt old new prefix it holds h within
+  written_plain : (place : Place) (old new : State S) (it : Written) → IsWrittenAt answers place it old new → Holds old
+      → Within T pairs known it.trees.items
+      → Holds new × AreBuilt T pairs known it.trees.items
+  written_plain at_root old new it h holds within = plain_root T pairs known (ReturnsTreeId answers) tt tt old new it holds h within
+  written_plain (at_cursor prefix) old new it h holds within =
+      plain_below T pairs known (ReturnsTreeId answers) tt tt old new prefix it holds h within
 
-  write_plain : (place : Place) (old new : State S) (it : Written) (Keeps : Objects → Objects → Type 0) → IsWriteKept means (IsWrittenAt answers place it old) Keeps old new → Holds old → Within T pairs known it.trees.items → Holds new × AreBuilt T pairs known it.trees.items
-  write_plain place old new it Keeps h holds within = let so = written_plain place old h.between it h.written holds within in (subst (λ (s : State S). Holds s) (sym h.rest) so.0, so.1)
+  write_plain : (place : Place) (old new : State S) (it : Written) (Keeps : Objects → Objects → Type 0)
+      → IsWriteKept means (IsWrittenAt answers place it old) Keeps old new → Holds old → Within T pairs known it.trees.items → Holds new
+      × AreBuilt T pairs known it.trees.items
+  write_plain place old new it Keeps h holds within = let so = written_plain place old h.between it h.written holds within in
+      (subst (λ (s : State S). Holds s) (sym h.rest) so.0, so.1)
 
-  edit_plain : (place : Place) (old new : State S) (it : Edit) (its_reply : EditReply E) → PutsNoTree it → IsEditReply means answers place old it its_reply new → AgreesWithObjects T (means.objects old.store) → Holds old → Within T pairs known (pairs_of_edit its_reply)
+  edit_plain : (place : Place) (old new : State S) (it : Edit) (its_reply : EditReply E) → InsertsNoTree it
+      → IsEditReply means answers place old it its_reply new → AgreesWithObjects T (means.objects old.store) → Holds old
+      → Within T pairs known (pairs_of_edit its_reply)
       → Holds new × AreBuilt T pairs known (pairs_of_edit its_reply)
-  edit_plain place old new (edit.Upsert path k id) edit_reply.Done other h agrees holds within = let it = agreed old _ agrees h in (plain_upserted T pairs known it.0 it.1 old new holds _ _ _ (no_tree_mode k other) it.2, tt)
-  edit_plain place old new (edit.Upsert path k id) (edit_reply.Refused error) other h agrees holds within = let it = agreed old _ agrees h.0.left in (plain_refused T pairs known it.0 it.1 old new holds _ it.2, tt)
-  edit_plain place old new (edit.Remove path) edit_reply.Done other h agrees holds within = let it = agreed old _ agrees h in (plain_removed T pairs known it.0 it.1 old new holds _ it.2, tt)
-  edit_plain place old new (edit.Remove path) (edit_reply.Refused error) other h agrees holds within = let it = agreed old _ agrees h.left in (plain_refused T pairs known it.0 it.1 old new holds _ it.2, tt)
-  edit_plain place old new (edit.RemoveLeaf path) edit_reply.Done other h agrees holds within = let it = agreed old _ agrees h in (plain_removed T pairs known it.0 it.1 old new holds _ it.2.removed, tt)
-  edit_plain place old new (edit.RemoveLeaf path) (edit_reply.Refused error) other h agrees holds within = let it = agreed old _ agrees h.left in (plain_refused T pairs known it.0 it.1 old new holds _ it.2, tt)
+  edit_plain place old new (edit.Upsert path k id) edit_reply.Done other h agrees holds within = let it =
+      agreed old _ agrees h in (plain_upserted T pairs known it.0 it.1 old new holds _ _ _ (no_tree_mode k other) it.2, tt)
+  edit_plain place old new (edit.Upsert path k id) (edit_reply.Refused error) other h agrees holds within = let it =
+      agreed old _ agrees h.0.remaining in (plain_failed T pairs known it.0 it.1 old new holds _ it.2, tt)
+  edit_plain place old new (edit.Remove path) edit_reply.Done other h agrees holds within = let it =
+      agreed old _ agrees h in (plain_removed T pairs known it.0 it.1 old new holds _ it.2, tt)
+  edit_plain place old new (edit.Remove path) (edit_reply.Refused error) other h agrees holds within = let it =
+      agreed old _ agrees h.remaining in (plain_failed T pairs known it.0 it.1 old new holds _ it.2, tt)
+  edit_plain place old new (edit.RemoveLeaf path) edit_reply.Done other h agrees holds within = let it =
+      agreed old _ agrees h in (plain_removed T pairs known it.0 it.1 old new holds _ it.2.removed, tt)
+  edit_plain place old new (edit.RemoveLeaf path) (edit_reply.Refused error) other h agrees holds within = let it =
+      agreed old _ agrees h.remaining in (plain_failed T pairs known it.0 it.1 old new holds _ it.2, tt)
   edit_plain place old new edit.Write (edit_reply.Written written) other h agrees holds within = write_plain place old new written _ h holds within
-  edit_plain place old new edit.Write (edit_reply.NotKept written count error) other h agrees holds within = write_plain place old new written _ h holds within
+  edit_plain place old new edit.Write (edit_reply.NotKept written count error) other h agrees holds within =
+      write_plain place old new written _ h holds within
   edit_plain place old new edit.Write (edit_reply.WriteRefused error) other h agrees holds within = (same_state old new h.unchanged holds, tt)
   edit_plain place old new it its_reply other h agrees holds within = absurd h
 
-  edits_plain : (place : Place) (old new : State S) (edits : List Edit) (replies : List (EditReply E)) → AllByRecursion PutsNoTree edits → AreEditReplies means answers place old edits replies new → AgreesThroughout T (flat_map kept_of_edit replies) (means.objects old.store) → Holds old
+  edits_plain : (place : Place) (old new : State S) (edits : List Edit) (replies : List (EditReply E)) → AllByRecursion InsertsNoTree edits
+      → AreEditReplies means answers place old edits replies new → AgreesThroughout T (flat_map kept_of_edit replies) (means.objects old.store)
+      → Holds old
       → Within T pairs known (flat_map pairs_of_edit replies) → Holds new × AreBuilt T pairs known (flat_map pairs_of_edit replies)
   edits_plain place old new [] [] other h agrees holds within = (same_state old new h holds, tt)
   edits_plain place old new (it ∷ edits) (r ∷ replies) other (between, first, rest) agrees holds within =
-      let one = edit_plain place old between it r other.0 first (agrees zero) holds (all_left (λ pair. Contains pairs pair) (pairs_of_edit r) (flat_map pairs_of_edit replies) within) in
-      let more = edits_plain place between new edits replies other.1 rest (throughout_then T (kept_of_edit r) (flat_map kept_of_edit replies) (means.objects old.store) (means.objects between.store) (edit_keeps means answers place old between it r first) agrees) one.0
+      let one = edit_plain place old between it r other.0 first (agrees zero) holds
+      (all_remaining (λ pair. Contains pairs pair) (pairs_of_edit r) (flat_map pairs_of_edit replies) within) in
+      let more = edits_plain place between new edits replies other.1 rest
+      (throughout_then T (kept_of_edit r) (flat_map kept_of_edit replies) (means.objects old.store) (means.objects between.store)
+      (edit_keeps means answers place old between it r first) agrees) one.0
       (all_right (λ pair. Contains pairs pair) (pairs_of_edit r) (flat_map pairs_of_edit replies) within) in
       (more.0, all_joined (HasBuilt pairs) (pairs_of_edit r) (flat_map pairs_of_edit replies) one.1 more.1)
   edits_plain place old new [] (r ∷ replies) other h agrees holds within = absurd h
   edits_plain place old new (it ∷ edits) [] other h agrees holds within = absurd h
 
-  at_plain : (prefix : Path) (old new : State S) (edits : List Edit) (its_reply : Reply E) → AllByRecursion PutsNoTree edits → IsReplyAt means answers prefix old edits its_reply new → AgreesThroughout T (kept_of its_reply) (means.objects old.store) → Holds old
+  at_plain : (prefix : Path) (old new : State S) (edits : List Edit) (its_reply : Reply E) → AllByRecursion InsertsNoTree edits
+      → IsReplyAt means answers prefix old edits its_reply new → AgreesThroughout T (kept_of its_reply) (means.objects old.store) → Holds old
       → Within T pairs known (pairs_of its_reply) → Holds new × AreBuilt T pairs known (pairs_of its_reply)
-  at_plain prefix old new edits (reply.At replies) other (between, assured, rest) agrees holds within =
-      let it = agreed old _ (agrees zero) assured in
+  at_plain prefix old new edits (reply.At replies) other (between, ensured, rest) agrees holds within =
+      let it = agreed old _ (agrees zero) ensured in
       edits_plain (at_cursor prefix) between new edits replies.items other rest
-      (throughout_then T [] (flat_map kept_of_edit replies.items) (means.objects old.store) (means.objects between.store) (assured_keeps means answers prefix old between assured) agrees)
-      (plain_assured T pairs known it.0 it.1 old between holds prefix it.2) within
-  at_plain prefix old new edits (reply.AtRefused error) other h agrees holds within =
-      (⊎_elim (λ wanting. same_state old new wanting.1 holds) (λ refused. let it = agreed old _ (agrees zero) refused.0.left in plain_refused T pairs known it.0 it.1 old new holds _ it.2) h, tt)
+      (throughout_then T [] (flat_map kept_of_edit replies.items) (means.objects old.store) (means.objects between.store)
+      (ensured_keeps means answers prefix old between ensured) agrees)
+      (plain_ensured T pairs known it.0 it.1 old between holds prefix it.2) within
+  at_plain prefix old new edits (reply.AtRefused error) other h agrees holds within = (
+    ⊎_elim (λ wanting. same_state old new wanting.1 holds)
+        (λ rejected. let it = agreed old _ (agrees zero) rejected.0.remaining in plain_failed T pairs known it.0 it.1 old new holds _ it.2) h,
+    tt,
+  )
   at_plain prefix old new edits its_reply other h agrees holds within = absurd h
 
-  -- nothing is in an empty root
+  -- an empty root has no entries
   nothing_in : (bases : Dirs) → Everywhere (Plain pairs) (λ path. map.get (root_alone []) path) bases
   nothing_in bases [] e h = absurd (subst (λ o. HasAt o e) (root_open []) h)
-  nothing_in bases (name ∷ path) e h = absurd (subst (λ o. HasAt o e) (root_shut [] name path) h)
+  nothing_in bases (name ∷ path) e h = absurd (subst (λ o. HasAt o e) (root_unopened [] name path) h)
 
   empty_plain : (state : State S) → state.dirs ≡ root_alone [] → Holds state
   empty_plain state is =
-      let opened : IsOpened (λ path. map.get (root_alone []) path) = opened_root [] (record { names = tt; apart = tt; ascending = tt }) in
-      (subst (λ (m : DirMap). IsOpened (λ path. map.get m path)) (sym is) opened, subst (λ (m : DirMap). Everywhere (Plain pairs) (λ path. map.get m path) (open_bases state)) (sym is) (nothing_in (open_bases state)))
+      let opened : IsOpened (λ path. map.get (root_alone []) path) = opened_root [] (record { names = tt; apart = tt; ascending = tt }) in (
+        subst (λ (m : DirMap). IsOpened (λ path. map.get m path)) (sym is) opened,
+        subst
+            (λ (m : DirMap). Everywhere (Plain pairs) (λ path. map.get m path) (open_bases state)) (sym is) (nothing_in (open_bases state)),
+      )
 
-  command_plain : (old new : State S) (it : Command) (its_reply : Reply E) → NamesNoTree it → IsReply means answers old it its_reply new → AgreesThroughout T (kept_of its_reply) (means.objects old.store) → Holds old → Within T pairs known (pairs_of its_reply)
+  command_plain : (old new : State S) (it : Command) (its_reply : Reply E) → NamesNoTree it → IsReply means answers old it its_reply new
+      → AgreesThroughout T (kept_of its_reply) (means.objects old.store) → Holds old → Within T pairs known (pairs_of its_reply)
       → Holds new × AreBuilt T pairs known (pairs_of its_reply)
-  command_plain old new (command.Edit it) (reply.Edit its_reply) other h agrees holds within = edit_plain at_root old new it its_reply other h (agrees zero) holds within
-  command_plain old new (command.At prefix edits) its_reply other h agrees holds within = at_plain (prefix_of (names_of prefix.items)) old new edits.items its_reply (recursion_from_All PutsNoTree edits.items other) h agrees holds within
-  command_plain old new (command.SetRoot entries) reply.RootSet other h agrees holds within = (empty_plain new (ap (λ (s : State S). s.dirs) h.state ∙ ap (λ (l : List EntryView). root_alone l) other), tt)
+  command_plain old new (command.Edit it) (reply.Edit its_reply) other h agrees holds within = edit_plain at_root old new it its_reply other h
+      (agrees zero) holds within
+  command_plain old new (command.At prefix edits) its_reply other h agrees holds within =
+      at_plain (prefix_of (names_of prefix.items)) old new edits.items its_reply (recursion_from_All InsertsNoTree edits.items other) h agrees holds
+      within
+  command_plain old new (command.SetRoot entries) reply.RootSet other h agrees holds within =
+      (empty_plain new (ap (λ (s : State S). s.dirs) h.state ∙ ap (λ (l : List EntryView). root_alone l) other), tt)
   command_plain old new (command.SetRoot entries) reply.RootRefused other h agrees holds within = (same_state old new h.1 holds, tt)
   command_plain old new it its_reply other h agrees holds within = absurd h
 
-  run_plain : (old new : State S) (commands : List Command) (replies : List (Reply E)) → AllByRecursion NamesNoTree commands → IsRun means answers old commands replies new → AgreesWithRun T (means.objects old.store) replies → Holds old → Within T pairs known (pairs_handed_out replies)
-      → AreBuilt T pairs known (pairs_handed_out replies)
+  run_plain : (old new : State S) (commands : List Command) (replies : List (Reply E)) → AllByRecursion NamesNoTree commands
+      → IsRun means answers old commands replies new → AgreesWithRun T (means.objects old.store) replies → Holds old
+      → Within T pairs known (emitted_pairs replies)
+      → AreBuilt T pairs known (emitted_pairs replies)
   run_plain old new [] [] other run agrees holds within = tt
   run_plain old new (c ∷ commands) (r ∷ replies) other (between, first, run) agrees holds within =
-      let one = command_plain old between c r other.0 first (throughout_first T (kept_of r) (pairs_kept replies) (means.objects old.store) agrees.stores) holds (all_left (λ pair. Contains pairs pair) (pairs_of r) (pairs_handed_out replies) within) in
-      all_joined (HasBuilt pairs) (pairs_of r) (pairs_handed_out replies) one.1
-      (run_plain between new commands replies other.1 run (agrees_later means answers T zero r replies (means.objects old.store) (means.objects between.store) (command_keeps means answers old between c r first) agrees) one.0
-      (all_right (λ pair. Contains pairs pair) (pairs_of r) (pairs_handed_out replies) within))
+      let one = command_plain old between c r other.0 first
+      (throughout_first T (kept_of r) (pairs_kept replies) (means.objects old.store) agrees.stores) holds
+      (all_remaining (λ pair. Contains pairs pair) (pairs_of r) (emitted_pairs replies) within) in
+      all_joined (HasBuilt pairs) (pairs_of r) (emitted_pairs replies) one.1
+      (run_plain between new commands replies other.1 run
+      (agrees_later means answers T zero r replies (means.objects old.store) (means.objects between.store)
+      (command_keeps means answers old between c r first) agrees) one.0
+      (all_right (λ pair. Contains pairs pair) (pairs_of r) (emitted_pairs replies) within))
   run_plain old new [] (r ∷ replies) other run agrees holds within = absurd run
   run_plain old new (c ∷ commands) [] other run agrees holds within = absurd run
 
-module _ {S E : Type 0} (means : Meaning S) (answers : Answers E) where
-  -- a successful write's own pair is the last one that it handed out
+module _ {S E : Type 0} (means : StoreModel S) (answers : Answers E) where
+  -- the own pair of a successful write is its last emitted pair
   abbrev OwnPair : List Pair → Written → Type 0
   OwnPair ps written = (own : List EntryView) × Contains ps (written.id, own)
 
@@ -131,15 +173,19 @@ module _ {S E : Type 0} (means : Meaning S) (answers : Answers E) where
   own_as : (w written : Written) (ps : List Pair) → Some w ≡ Some written → OwnPair ps w → OwnPair ps written
   own_as w written ps is own = let same : w ≡ written = cc is in subst (λ (it : Written). OwnPair ps it) same own
 
-  edit_own : (old new : State S) (it : Edit) (its_reply : EditReply E) (written : Written) → IsEditReply means answers at_root old it its_reply new → written_by (reply.Edit its_reply) ≡ Some written → OwnPair (pairs_of_edit its_reply) written
-  edit_own old new edit.Write (edit_reply.Written w) written h is = own_as w written w.trees.items is (own_last w.trees.items h.written.below w h.written.own h.written.last)
-  edit_own old new edit.Write (edit_reply.NotKept w count error) written h is = own_as w written w.trees.items is (own_last w.trees.items h.written.below w h.written.own h.written.last)
+  edit_own : (old new : State S) (it : Edit) (its_reply : EditReply E) (written : Written) → IsEditReply means answers at_root old it its_reply new
+      → written_by (reply.Edit its_reply) ≡ Some written → OwnPair (pairs_of_edit its_reply) written
+  edit_own old new edit.Write (edit_reply.Written w) written h is =
+      own_as w written w.trees.items is (own_last w.trees.items h.written.below w h.written.own h.written.last)
+  edit_own old new edit.Write (edit_reply.NotKept w count error) written h is =
+      own_as w written w.trees.items is (own_last w.trees.items h.written.below w h.written.own h.written.last)
   edit_own old new it edit_reply.Done written h is = absurd (cc is)
   edit_own old new it (edit_reply.Refused error) written h is = absurd (cc is)
   edit_own old new it (edit_reply.WriteRefused error) written h is = absurd (cc is)
   edit_own old new it its_reply written h is = absurd h
 
-  reply_own : (old new : State S) (it : Command) (its_reply : Reply E) (written : Written) → IsReply means answers old it its_reply new → written_by its_reply ≡ Some written → OwnPair (pairs_of its_reply) written
+  reply_own : (old new : State S) (it : Command) (its_reply : Reply E) (written : Written) → IsReply means answers old it its_reply new
+      → written_by its_reply ≡ Some written → OwnPair (pairs_of its_reply) written
   reply_own old new (command.Edit it) (reply.Edit its_reply) written h is = edit_own old new it its_reply written h is
   reply_own old new it (reply.At replies) written h is = absurd (cc is)
   reply_own old new it (reply.AtRefused error) written h is = absurd (cc is)
@@ -147,39 +193,56 @@ module _ {S E : Type 0} (means : Meaning S) (answers : Answers E) where
   reply_own old new it reply.RootRefused written h is = absurd (cc is)
   reply_own old new it its_reply written h is = absurd h
 
-  run_own : (old new : State S) (commands : List Command) (replies : List (Reply E)) → IsRun means answers old commands replies new → (k : ℕ) (written : Written) → written_at replies k ≡ Some written → OwnPair (pairs_handed_out replies) written
+  run_own : (old new : State S) (commands : List Command) (replies : List (Reply E)) → IsRun means answers old commands replies new
+      → (k : ℕ) (written : Written) → written_at replies k ≡ Some written → OwnPair (emitted_pairs replies) written
   run_own old new [] [] run k written is = absurd (cc is)
   run_own old new [] (r ∷ replies) run k written is = absurd run
   run_own old new (c ∷ commands) [] run k written is = absurd run
-  run_own old new (c ∷ commands) (r ∷ replies) (between, first, run) zero written is = let own = reply_own old between c r written first is in (own.0, Contains-append_left (pairs_of r) (pairs_handed_out replies) (written.id, own.0) own.1)
-  run_own old new (c ∷ commands) (r ∷ replies) (between, first, run) (suc k) written is = let own = run_own between new commands replies run k written is in (own.0, Contains-append_right (pairs_of r) (pairs_handed_out replies) (written.id, own.0) own.1)
+  run_own old new (c ∷ commands) (r ∷ replies) (between, first, run) zero written is = let own = reply_own old between c r written first is in
+      (own.0, Contains-append_left (pairs_of r) (emitted_pairs replies) (written.id, own.0) own.1)
+  run_own old new (c ∷ commands) (r ∷ replies) (between, first, run) (suc k) written is = let own =
+      run_own between new commands replies run k written is in
+      (own.0, Contains-append_right (pairs_of r) (emitted_pairs replies) (written.id, own.0) own.1)
 
-  -- the first commands of a run are a run
-  run_front : (m : ℕ) (old new : State S) (commands : List Command) (replies : List (Reply E)) → IsRun means answers old commands replies new → (last : State S) × IsRun means answers old (take m commands) (take m replies) last
-  run_front zero old new commands replies run = (old, refl)
-  run_front (suc m) old new [] [] run = (old, refl)
-  run_front (suc m) old new (c ∷ commands) (r ∷ replies) (between, first, run) = let more = run_front m between new commands replies run in (more.0, (between, first, more.1))
-  run_front (suc m) old new [] (r ∷ replies) run = absurd run
-  run_front (suc m) old new (c ∷ commands) [] run = absurd run
+  -- a prefix of a run is a run
+  run_prefix : (m : ℕ) (old new : State S) (commands : List Command) (replies : List (Reply E)) → IsRun means answers old commands replies new
+      → (last : State S) × IsRun means answers old (take m commands) (take m replies) last
+  run_prefix zero old new commands replies run = (old, refl)
+  run_prefix (suc m) old new [] [] run = (old, refl)
+  run_prefix (suc m) old new (c ∷ commands) (r ∷ replies) (between, first, run) = let more = run_prefix m between new commands replies run in
+      (more.0, (between, first, more.1))
+  run_prefix (suc m) old new [] (r ∷ replies) run = absurd run
+  run_prefix (suc m) old new (c ∷ commands) [] run = absurd run
 
-  -- it is so of a run as a whole
-  told_by_all : (T : Table) (start last : State S) (commands : List Command) (replies : List (Reply E)) → IsRun means answers start commands replies last → IsPlainRun T (means.objects start.store) start commands replies → IdsTellFiles commands replies
-  told_by_all T start last commands replies run plain k l first second at_k at_l =
-      let pairs : List Pair = pairs_handed_out replies in
+  -- in a complete run ids determine files
+  known_by_all : (T : Table) (start last : State S) (commands : List Command) (replies : List (Reply E))
+      → IsRun means answers start commands replies last
+      → IsPlainRun T (means.objects start.store) start commands replies → IdsDetermineFiles commands replies
+  known_by_all T start last commands replies run plain k l first second at_k at_l =
+      let pairs : List Pair = emitted_pairs replies in
       let known : AgreesWithPairs T pairs = plain.agrees.writes in
       let no_tree = recursion_from_All NamesNoTree commands plain.no_tree in
-      let has : HasBases T (open_dirs start) (open_bases start) = subst (λ (m : DirMap). HasBases T (open_dirs start) (λ path. map.get m path)) (sym plain.bases) (root_based T (open_dirs start)) in
-      let built = run_plain means answers T pairs known start last commands replies no_tree run plain.agrees (empty_plain means answers T pairs known start plain.dirs)
+      let has : HasBases T (open_dirs start) (open_bases start) = subst (λ (m : DirMap). HasBases T (open_dirs start) (λ path. map.get m path))
+      (sym plain.bases) (root_based T (open_dirs start)) in
+      let built = run_plain means answers T pairs known start last commands replies no_tree run plain.agrees
+      (empty_plain means answers T pairs known start plain.dirs)
       (recursion_from_All (λ pair. Contains pairs pair) pairs (All-contains_itself pairs)) in
-      let names : (j : ℕ) (written : Written) → written_at replies j ≡ Some written → (n : ℕ) → IsUpTo n (NamedFiles T n written.id) (files_before j commands replies) = λ j written at_j n.
+      let names : (j : ℕ) (written : Written) → written_at replies j ≡ Some written → (n : ℕ)
+      → IsUpTo n (NamedFiles T n written.id) (files_before j commands replies) = λ j written at_j n.
       up_to_like n (NamedFiles T n written.id) _ (files_before j commands replies)
-      (names_history means answers T n start last commands replies run j written at_j (agrees_front T (means.objects start.store) j replies plain.agrees) (agrees_written T replies known j written at_j) has)
+      (names_history means answers T n start last commands replies run j written at_j
+      (agrees_prefix T (means.objects start.store) j replies plain.agrees)
+      (agrees_written T replies known j written at_j) has)
       (plain_before T n start j commands replies plain.dirs no_tree) in
       let mine = run_own start last commands replies run k first at_k in
       let its = run_own start last commands replies run l second at_l in
-      told_by_trees T pairs known plain.one_id built first.id second.id mine.0 its.0 mine.1 its.1 (files_before k commands replies) (files_before l commands replies) (names k first at_k) (names l second at_l)
+      known_by_trees T pairs known plain.one_id built first.id second.id mine.0 its.0 mine.1 its.1 (files_before k commands replies)
+      (files_before l commands replies) (names k first at_k) (names l second at_l)
 
-  -- and so it is of its first commands
-  pub ids_tell_files : (T : Table) (start last : State S) (commands : List Command) (replies : List (Reply E)) → IsRun means answers start commands replies last → (m : ℕ) → IsPlainRun T (means.objects start.store) start (take m commands) (take m replies)
-      → IdsTellFiles (take m commands) (take m replies)
-  ids_tell_files T start last commands replies run m plain = let front = run_front m start last commands replies run in told_by_all T start front.0 (take m commands) (take m replies) front.1 plain
+  -- in each prefix of a run ids determine files
+  pub ids_determine_files : (T : Table) (start last : State S) (commands : List Command) (replies : List (Reply E))
+      → IsRun means answers start commands replies last → (m : ℕ) → IsPlainRun T (means.objects start.store) start (take m commands) (take m replies)
+      → IdsDetermineFiles (take m commands) (take m replies)
+  ids_determine_files T start last commands replies run m plain = let head =
+      run_prefix m start last commands replies run in known_by_all T start head.0
+      (take m commands) (take m replies) head.1 plain

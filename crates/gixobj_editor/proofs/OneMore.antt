@@ -1,4 +1,4 @@
--- A run, one command more; edits, one more.
+-- Runs and lists of edits that are longer by one.
 use Rattle.std.proofs.Common.{◌≡◌, ◌∷◌, [], ◌++◌, List, append_assoc, append-nil, arith, refl, length}
 use Rattle.gixobj_editor.specs.declared.command.Command.{Command}
 use Rattle.gixobj_editor.specs.declared.command.Edit.{Edit}
@@ -7,33 +7,38 @@ use Rattle.gixobj_editor.specs.Commands.{Place}
 use Rattle.gixobj_editor.specs.Replies.{Answers, AreEditReplies, IsEditReply, IsReply, IsRun}
 use Rattle.gixobj_editor.specs.declared.reply.EditReply.{EditReply}
 use Rattle.gixobj_editor.specs.declared.reply.Reply.{Reply}
-use Rattle.gixobj_object.specs.Stores.{Meaning}
+use Rattle.gixobj_object.specs.Stores.{StoreModel}
 
-none_left : {X : Type 0} (xs : List X) → length xs ≡ 0 → xs ≡ []
-none_left [] e = refl
-none_left (x ∷ xs) e = absurd (omega arith)
+none_remaining : {X : Type 0} (xs : List X) → length xs ≡ 0 → xs ≡ []
+none_remaining [] e = refl
+none_remaining (x ∷ xs) e = absurd (omega arith)
 
-module _ {S E : Type 0} (means : Meaning S) (answers : Answers E) where
-  -- whatever completes the rest completes the whole
-  pub one_more : (old between first new : State S) (command : Command) (all rest commands : List Command) (reply : Reply E) (told told' replies : List (Reply E)) → IsReply means answers old command reply between
-      → rest ≡ command ∷ commands → told' ≡ told ++ reply ∷ []
-      → ((rs : List (Reply E)) (s : State S) → IsRun means answers old rest rs s → IsRun means answers first all (told ++ rs) s)
-      → IsRun means answers between commands replies new → IsRun means answers first all (told' ++ replies) new
-  one_more old between first new command all rest commands reply told told' replies one is pushed whole later =
-      rw (pushed, append_assoc) (whole (reply ∷ replies) new (rw is (between, one, later)))
+module _ {S E : Type 0} (means : StoreModel S) (answers : Answers E) where
+  -- if each completion of the rest completes all commands, then so does each completion after one more command
+  pub one_more : (old between first new : State S) (command : Command) (all rest commands : List Command) (reply : Reply E)
+      (seen seen' replies : List (Reply E)) → IsReply means answers old command reply between
+      → rest ≡ command ∷ commands → seen' ≡ seen ++ reply ∷ []
+      → ((rs : List (Reply E)) (s : State S) → IsRun means answers old rest rs s → IsRun means answers first all (seen ++ rs) s)
+      → IsRun means answers between commands replies new → IsRun means answers first all (seen' ++ replies) new
+  one_more old between first new command all rest commands reply seen seen' replies one is pushed entire later =
+      rw (pushed, append_assoc) (entire (reply ∷ replies) new (rw is (between, one, later)))
 
-  pub no_more : (old first : State S) (all rest : List Command) (told : List (Reply E)) → length rest ≡ 0
-      → ((rs : List (Reply E)) (s : State S) → IsRun means answers old rest rs s → IsRun means answers first all (told ++ rs) s) → IsRun means answers first all told old
-  no_more old first all rest told none whole = rw append-nil at (whole [] old (rw (none_left rest none) refl))
+  pub no_more : (old first : State S) (all rest : List Command) (seen : List (Reply E)) → length rest ≡ 0
+      → ((rs : List (Reply E)) (s : State S) → IsRun means answers old rest rs s → IsRun means answers first all (seen ++ rs) s)
+      → IsRun means answers first all seen old
+  no_more old first all rest seen none entire = rw append-nil at (entire [] old (rw (none_remaining rest none) refl))
 
-  pub one_more_edit : (place : Place) (old between first new : State S) (edit : Edit) (all rest edits : List Edit) (reply : EditReply E) (told told' replies : List (EditReply E))
-      → IsEditReply means answers place old edit reply between → rest ≡ edit ∷ edits → told' ≡ told ++ reply ∷ []
-      → ((rs : List (EditReply E)) (s : State S) → AreEditReplies means answers place old rest rs s → AreEditReplies means answers place first all (told ++ rs) s)
-      → AreEditReplies means answers place between edits replies new → AreEditReplies means answers place first all (told' ++ replies) new
-  one_more_edit place old between first new edit all rest edits reply told told' replies one is pushed whole later =
-      rw (pushed, append_assoc) (whole (reply ∷ replies) new (rw is (between, one, later)))
+  pub one_more_edit : (place : Place) (old between first new : State S) (edit : Edit) (all rest edits : List Edit) (reply : EditReply E)
+      (seen seen' replies : List (EditReply E))
+      → IsEditReply means answers place old edit reply between → rest ≡ edit ∷ edits → seen' ≡ seen ++ reply ∷ []
+      → ((rs : List (EditReply E)) (s : State S) → AreEditReplies means answers place old rest rs s → AreEditReplies means answers place first all
+      (seen ++ rs) s)
+      → AreEditReplies means answers place between edits replies new → AreEditReplies means answers place first all (seen' ++ replies) new
+  one_more_edit place old between first new edit all rest edits reply seen seen' replies one is pushed entire later =
+      rw (pushed, append_assoc) (entire (reply ∷ replies) new (rw is (between, one, later)))
 
-  pub no_more_edits : (place : Place) (old first : State S) (all rest : List Edit) (told : List (EditReply E)) → length rest ≡ 0
-      → ((rs : List (EditReply E)) (s : State S) → AreEditReplies means answers place old rest rs s → AreEditReplies means answers place first all (told ++ rs) s)
-      → AreEditReplies means answers place first all told old
-  no_more_edits place old first all rest told none whole = rw append-nil at (whole [] old (rw (none_left rest none) refl))
+  pub no_more_edits : (place : Place) (old first : State S) (all rest : List Edit) (seen : List (EditReply E)) → length rest ≡ 0
+      → ((rs : List (EditReply E)) (s : State S) → AreEditReplies means answers place old rest rs s → AreEditReplies means answers place first all
+      (seen ++ rs) s)
+      → AreEditReplies means answers place first all seen old
+  no_more_edits place old first all rest seen none entire = rw append-nil at (entire [] old (rw (none_remaining rest none) refl))

@@ -7,12 +7,12 @@ use Rattle.gixobj_directories.specs.Calls.{names_of}
 use Rattle.gixobj_files.specs.Files.{Path}
 use Rattle.gixobj_editor.specs.Upserts.{directory_of}
 
-pub directory_is : (front : Path) (last : List ℕ) → directory_of (front ++ last ∷ []) ≡ front
+pub directory_is : (prefix : Path) (last : List ℕ) → directory_of (prefix ++ last ∷ []) ≡ prefix
 directory_is [] last = refl
 directory_is (name ∷ []) last = refl
 directory_is (name ∷ next ∷ rest) last = ap (λ p. name ∷ p) (directory_is (next ∷ rest) last)
 
--- which begins the path
+-- the directory of a path is a prefix of the path
 pub directory_begins : (path : Path) → (more : Path) × (path ≡ directory_of path ++ more)
 directory_begins [] = ([], refl)
 directory_begins (name ∷ []) = (name ∷ [], refl)
@@ -27,29 +27,31 @@ first_of x y xs ys is = cc is
 others_of : (x y : List ℕ) (xs ys : Path) → x ∷ xs ≡ y ∷ ys → xs ≡ ys
 others_of x y xs ys is = cc is
 
--- two cuts of one path: the second is within the first part, or at the same place, or behind it
-pub cuts : (front : Path) (last : List ℕ) (behind place : Path) (next : List ℕ) (rest : Path) → front ++ last ∷ behind ≡ place ++ next ∷ rest
-    → ((more : Path) × (front ≡ place ++ next ∷ more)) ⊎ ((front ≡ place) × (last ≡ next) × (behind ≡ rest)) ⊎ ((more : Path) × (place ≡ front ++ last ∷ more))
-cuts [] last behind [] next rest is = inr (inl (refl, cc is, cc is))
-cuts [] last behind (p ∷ place) next rest is = inr (inr (place, ap (λ x. x ∷ place) (first_of p last (place ++ next ∷ rest) behind (sym is))))
-cuts (f ∷ front) last behind [] next rest is = inl (front, ap (λ x. x ∷ front) (first_of f next (front ++ last ∷ behind) rest is))
-cuts (f ∷ front) last behind (p ∷ place) next rest is =
-    let same = first_of f p (front ++ last ∷ behind) (place ++ next ∷ rest) is in
-    elim (cuts front last behind place next rest (others_of f p (front ++ last ∷ behind) (place ++ next ∷ rest) is)) [
-      | inl within ↦ inl (within.0, ap (λ x. x ∷ front) same ∙ ap (λ q. p ∷ q) within.1)
-      | inr (inl at) ↦ inr (inl (ap (λ x. x ∷ front) same ∙ ap (λ q. p ∷ q) at.0, at.1, at.2))
-      | inr (inr behind_it) ↦ inr (inr (behind_it.0, ap (λ x. x ∷ place) (sym same) ∙ ap (λ q. f ∷ q) behind_it.1))
+-- of two splits of one path, the second is within the first part, at the same position, or after it
+pub cuts : (prefix : Path) (last : List ℕ) (after place : Path) (next : List ℕ) (rest : Path) → prefix ++ last ∷ after ≡ place ++ next ∷ rest
+    → ((more : Path) × (prefix ≡ place ++ next ∷ more)) ⊎ ((prefix ≡ place) × (last ≡ next) × (after ≡ rest))
+    ⊎ ((more : Path) × (place ≡ prefix ++ last ∷ more))
+cuts [] last after [] next rest is = inr (inl (refl, cc is, cc is))
+cuts [] last after (p ∷ place) next rest is = inr (inr (place, ap (λ x. x ∷ place) (first_of p last (place ++ next ∷ rest) after (sym is))))
+cuts (f ∷ prefix) last after [] next rest is = inl (prefix, ap (λ x. x ∷ prefix) (first_of f next (prefix ++ last ∷ after) rest is))
+cuts (f ∷ prefix) last after (p ∷ place) next rest is =
+    let same = first_of f p (prefix ++ last ∷ after) (place ++ next ∷ rest) is in
+    elim (cuts prefix last after place next rest (others_of f p (prefix ++ last ∷ after) (place ++ next ∷ rest) is)) [
+      | inl within ↦ inl (within.0, ap (λ x. x ∷ prefix) same ∙ ap (λ q. p ∷ q) within.1)
+      | inr (inl at) ↦ inr (inl (ap (λ x. x ∷ prefix) same ∙ ap (λ q. p ∷ q) at.0, at.1, at.2))
+      | inr (inr after_it) ↦ inr (inr (after_it.0, ap (λ x. x ∷ place) (sym same) ∙ ap (λ q. f ∷ q) after_it.1))
     ]
 
--- what is above a path begins the path of its directory
-pub strictly_above : (front : Path) (last : List ℕ) (place : Path) (next : List ℕ) (rest : Path) → front ++ last ∷ [] ≡ place ++ next ∷ rest → (more : Path) × (front ≡ place ++ more)
-strictly_above front last place next rest is =
-    elim (cuts front last [] place next rest is) [
+-- what is above a path is a prefix of the path's directory
+pub strictly_above : (prefix : Path) (last : List ℕ) (place : Path) (next : List ℕ) (rest : Path) → prefix ++ last ∷ [] ≡ place ++ next ∷ rest → (more : Path)
+    × (prefix ≡ place ++ more)
+strictly_above prefix last place next rest is =
+    elim (cuts prefix last [] place next rest is) [
       | inl within ↦ (next ∷ within.0, within.1)
       | inr (inl at) ↦ ([], at.0 ∙ sym (append-nil place))
-      | inr (inr behind_it) ↦ absurd (
-          let total : length (front ++ last ∷ []) ≡ length (place ++ next ∷ rest) = ap length is in
-          let longer : length place ≡ length (front ++ last ∷ behind_it.0) = ap length behind_it.1 in
-          omega (arith, total, longer, length-append front (last ∷ []), length-append place (next ∷ rest), length-append front (last ∷ behind_it.0))
+      | inr (inr after_it) ↦ absurd (
+          let total : length (prefix ++ last ∷ []) ≡ length (place ++ next ∷ rest) = ap length is in
+          let longer : length place ≡ length (prefix ++ last ∷ after_it.0) = ap length after_it.1 in
+          omega (arith, total, longer, length-append prefix (last ∷ []), length-append place (next ∷ rest), length-append prefix (last ∷ after_it.0))
           )
     ]

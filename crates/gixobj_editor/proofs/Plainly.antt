@@ -1,4 +1,4 @@
--- In a run that puts in no tree, and starts with nothing, each tree that goes out is built up from what went out.
+-- In a plain run each emitted tree is built up from emitted pairs; the proof of `OneId` uses it.
 use mathlib.Core.Bool.{true≢false}
 use Rattle.std.proofs.Common.{append-nil, ◌≡◌, ◌≢◌, ◌∙◌, inl, inr, ℕ, false, List, [], ◌∷◌, ◌++◌, Contains, Some, None, refl, sym, ap, subst}
 use Rattle.std.specs.FinMap as map
@@ -7,23 +7,23 @@ use Rattle.std.specs.List.{AllByRecursion}
 use Rattle.std.proofs.lemmas.List.Elements.{recursion_from_All}
 use Rattle.gixobj_directories.specs.Calls.{IsStorable}
 use Rattle.gixobj_directories.specs.declared.write.Written.{Written}
-use Rattle.gixobj_editor.specs.Cursors.{IsAssured, IsWrittenBelow}
+use Rattle.gixobj_editor.specs.Cursors.{IsEnsured, IsWrittenBelow}
 use Rattle.gixobj_editor.specs.Removals.{IsRemoved}
-use Rattle.gixobj_editor.specs.Upserts.{IsRefused, IsUpserted, directory_of}
+use Rattle.gixobj_editor.specs.Upserts.{IsEditFailure, IsUpserted, directory_of}
 use Rattle.gixobj_editor.specs.Writes.{IsWrittenEditor}
-use Rattle.gixobj_files.proofs.AssuredFiles.{opens_along}
+use Rattle.gixobj_files.proofs.EnsuredFiles.{opens_along}
 use Rattle.gixobj_files.proofs.Canonical.{IsClean}
-use Rattle.gixobj_files.proofs.EditedFiles.{root_open, root_shut}
+use Rattle.gixobj_files.proofs.EditedFiles.{root_open, root_unopened}
 use Rattle.gixobj_files.proofs.Lasting.{everywhere_at}
-use Rattle.gixobj_files.proofs.Everywhere.{Everywhere, everywhere_assured, everywhere_opened, everywhere_removed, everywhere_upserted, everywhere_written}
+use Rattle.gixobj_files.proofs.Everywhere.{Everywhere, everywhere_ensured, everywhere_opened, everywhere_removed, everywhere_upserted, everywhere_written}
 use Rattle.gixobj_files.proofs.OpeningFiles.{opens_ready}
-use Rattle.gixobj_files.proofs.Plain.{GoesOut, HasBuilt, Plain, all_joined, all_left, all_right, built_of, closed, leaves_plain, plain_lasts}
+use Rattle.gixobj_files.proofs.Plain.{IsEmitted, HasBuilt, Plain, all_joined, all_remaining, all_right, built_of, closed, leaves_plain, plain_lasts}
 use Rattle.gixobj_files.proofs.StillOpenedOpenings.{opened_only, opened_opening}
 use Rattle.gixobj_files.proofs.UpsertedFiles.{IsReady}
 use Rattle.gixobj_files.specs.Bases.{edited_bases, opened_bases}
-use Rattle.gixobj_files.specs.Edits.{IsNoTree, Opens, assured_dirs, only, removed_dirs, upserted_dirs, with_path}
+use Rattle.gixobj_files.specs.Edits.{IsNoTree, Opens, ensured_dirs, only, removed_dirs, upserted_dirs, with_path}
 use Rattle.gixobj_files.specs.Files.{Has, Path, Table, Trees, is_null}
-use Rattle.gixobj_files.specs.HandingOut.{Leaves, leaves}
+use Rattle.gixobj_files.specs.Emission.{EmitsBelow, leaves}
 use Rattle.gixobj_files.specs.Opening.{Dirs, IsOpened, in_path}
 use Rattle.gixobj_files.specs.State.{DirMap, State, open_bases, open_dirs, root_alone}
 use Rattle.gixobj_files.specs.Tables.{AgreesWithPairs, AgreesWithStore}
@@ -38,123 +38,165 @@ abbrev no_trees : Trees
 no_trees = λ id. None
 
 clean_of : (entries : List EntryView) → IsStorable entries → IsClean entries
-clean_of entries storable = record { formed = storable.well_formed; filled = each entries (recursion_from_All (λ (e : EntryView). IsFalse (is_null e.id)) entries storable.no_nulls) }
+clean_of entries storable =
+    record { formed = storable.well_formed; filled = each entries (recursion_from_All (λ (e : EntryView). IsFalse (is_null e.id)) entries storable.no_nulls) }
   where
     each : (es : List EntryView) → AllByRecursion (λ e. IsFalse (is_null e.id)) es → (e : EntryView) → Has es e → is_null e.id ≡ false
     each [] all e h = absurd h
     each (x ∷ es) all e (inl same) = subst (λ (y : EntryView). is_null y.id ≡ false) same all.0
     each (x ∷ es) all e (inr h) = each es all.1 e h
 
--- the tree of the last pair
-last_own : (front back : List Pair) (x y : ObjectId) (own other : List EntryView) → front ++ (x, own) ∷ [] ≡ back ++ (y, other) ∷ [] → own ≡ other
+-- the last trees of two equal lists of pairs are equal
+last_own : (head back : List Pair) (x y : ObjectId) (own other : List EntryView) → head ++ (x, own) ∷ [] ≡ back ++ (y, other) ∷ [] → own ≡ other
 last_own [] [] x y own other is = let same : ◌≡◌ {A = Pair} (x, own) (y, other) = cc is in ap (λ (p : Pair). p.1) same
 last_own [] (b ∷ []) x y own other is = absurd (cc is)
 last_own [] (b ∷ c ∷ back) x y own other is = absurd (cc is)
 last_own (a ∷ []) [] x y own other is = absurd (cc is)
-last_own (a ∷ c ∷ front) [] x y own other is = absurd (cc is)
-last_own (a ∷ front) (b ∷ back) x y own other is = last_own front back x y own other (cc is)
+last_own (a ∷ c ∷ head) [] x y own other is = absurd (cc is)
+last_own (a ∷ head) (b ∷ back) x y own other is = last_own head back x y own other (cc is)
 
--- the directory that hands out is open
-open_there : (prefix : Path) (dirs bases : Dirs) (below : List Pair) (own : List EntryView) (saved : ℕ) → Leaves (in_path prefix dirs) (in_path prefix bases) below own saved → dirs prefix ≢ None
-open_there prefix dirs bases below own saved (leaves d b entries ps os n is walk) none = let bad : Some entries ≡ None = sym is ∙ ap dirs (append-nil prefix) ∙ none in cc bad
+-- a directory that emits is open
+open_there : (prefix : Path) (dirs bases : Dirs) (below : List Pair) (own : List EntryView) (saved : ℕ)
+    → EmitsBelow (in_path prefix dirs) (in_path prefix bases) below own saved → dirs prefix ≢ None
+open_there prefix dirs bases below own saved (leaves d b entries ps os n is walk) none = let bad : Some entries ≡ None = sym is ∙ ap dirs (append-nil prefix)
+    ∙ none in cc bad
 
 alone_at : (es : List EntryView) (at : Path) → map.get (root_alone es) at ≡ only es at
 alone_at es [] = root_open es
-alone_at es (name ∷ path) = root_shut es name path
+alone_at es (name ∷ path) = root_unopened es name path
 
 module _ (T : Table) (pairs : List Pair) (known : AgreesWithPairs T pairs) where
   abbrev pub IsPlainState : {S : Type 0} → State S → Type 0
   IsPlainState state = IsOpened (open_dirs state) × Everywhere (Plain pairs) (open_dirs state) (open_bases state)
 
-  -- what is said at each path is said of the whole
-  carried : (dirs bases new left : Dirs) → ((at : Path) → new at ≡ dirs at) → ((at : Path) → left at ≡ bases at) → Everywhere (Plain pairs) dirs bases → Everywhere (Plain pairs) new left
-  carried dirs bases new left same same_bases all = subst (λ (b : Dirs). Everywhere (Plain pairs) new b) (sym (λ i at. same_bases at i)) (subst (λ (d : Dirs). Everywhere (Plain pairs) d bases) (sym (λ i at. same at i)) all)
+  -- what holds at each path holds for equal directories
+  carried : (dirs bases new remaining : Dirs) → ((at : Path) → new at ≡ dirs at) → ((at : Path) → remaining at ≡ bases at) → Everywhere (Plain pairs) dirs bases
+      → Everywhere (Plain pairs) new remaining
+  carried dirs bases new remaining same same_bases all = subst (λ (b : Dirs). Everywhere (Plain pairs) new b) (sym (λ i at. same_bases at i))
+      (subst (λ (d : Dirs). Everywhere (Plain pairs) d bases) (sym (λ i at. same at i)) all)
 
-  edited : (old bases opened made new left : Dirs) → ((at : Path) → new at ≡ made at) → ((at : Path) → left at ≡ edited_bases opened new (opened_bases old opened bases) at)
-      → Everywhere (Plain pairs) made (edited_bases opened made (opened_bases old opened bases)) → Everywhere (Plain pairs) new left
-  edited old bases opened made new left dirs_are bases_are lasts =
-      carried made (edited_bases opened made (opened_bases old opened bases)) new left dirs_are (subst (λ (d : Dirs). (at : Path) → left at ≡ edited_bases opened d (opened_bases old opened bases) at) (λ i at. dirs_are at i) bases_are) lasts
+  edited : (old bases opened made new remaining : Dirs) → ((at : Path) → new at ≡ made at)
+      → ((at : Path) → remaining at ≡ edited_bases opened new (opened_bases old opened bases) at)
+      → Everywhere (Plain pairs) made (edited_bases opened made (opened_bases old opened bases)) → Everywhere (Plain pairs) new remaining
+  edited old bases opened made new remaining dirs_are bases_are lasts =
+      carried made (edited_bases opened made (opened_bases old opened bases)) new remaining dirs_are
+      (subst (λ (d : Dirs). (at : Path) → remaining at ≡ edited_bases opened d (opened_bases old opened bases) at) (λ i at. dirs_are at i) bases_are) lasts
 
-  ready : (trees : Trees) (path : Path) (old opened : Dirs) (asked : List ObjectId) → Opens IsNoTree trees (directory_of path) old opened asked → IsReady path opened
-  ready trees path old opened asked opens = elim (path_ends path) [
+  ready : (trees : Trees) (path : Path) (old opened : Dirs) (queries : List ObjectId) → Opens IsNoTree trees (directory_of path) old opened queries
+      → IsReady path opened
+  ready trees path old opened queries opens = elim (path_ends path) [
     | inl none ↦ subst (λ p. IsReady p opened) (sym none) tt
-    | inr ends ↦ subst (λ p. IsReady p opened) (sym ends.2) (opens_ready trees ends.0 ends.1 old opened asked (subst (λ p. Opens IsNoTree trees p old opened asked) (ap directory_of ends.2 ∙ directory_is ends.0 ends.1) opens))
+    | inr ends ↦ subst (λ p. IsReady p opened) (sym ends.2)
+        (opens_ready trees ends.0 ends.1 old opened queries
+        (subst (λ p. Opens IsNoTree trees p old opened queries) (ap directory_of ends.2 ∙ directory_is ends.0 ends.1) opens))
   ]
 
   module _ {S : Type 0} (trees : Trees) (agrees : AgreesWithStore T trees) (old new : State S) (holds : IsPlainState old) where
     pub plain_upserted : (path : Path) (mode : ℕ) (id : ObjectId) → is_tree_mode mode ≡ false → IsUpserted trees old path mode id new → IsPlainState new
     plain_upserted path mode id other h = (
       h.is_opened,
-      edited (open_dirs old) (open_bases old) h.opened (upserted_dirs path mode id (null_id old.object_hash) h.opened) (open_dirs new) (open_bases new) h.dirs h.bases
-          (everywhere_upserted (Plain pairs) trees (null_id old.object_hash) (plain_lasts T pairs known trees (null_id old.object_hash) agrees) path mode id h.opened (opened_bases (open_dirs old) h.opened (open_bases old))
-          (λ name. record { mode = λ t. absurd (true≢false (sym t ∙ other)); its_pair = λ t. absurd (true≢false (sym t ∙ other)); based = λ list is. absurd (cc is) }) (ready trees path (open_dirs old) h.opened h.asked h.opens)
-          ((opened_opening trees (directory_of path) (open_dirs old) h.opened h.asked h.opens holds.0).above)
-          (everywhere_opened (Plain pairs) trees (null_id old.object_hash) (plain_lasts T pairs known trees (null_id old.object_hash) agrees) (directory_of path) (open_dirs old) h.opened h.asked h.opens (open_bases old) holds.1)),
+      edited (open_dirs old) (open_bases old) h.opened (upserted_dirs path mode id (null_id old.object_hash) h.opened) (open_dirs new)
+          (open_bases new) h.dirs h.bases
+          (everywhere_upserted (Plain pairs) trees (null_id old.object_hash) (plain_lasts T pairs known trees (null_id old.object_hash) agrees) path mode id
+          h.opened (opened_bases (open_dirs old) h.opened (open_bases old))
+          (λ name. record {
+            mode = λ t. absurd (true≢false (sym t ∙ other));
+            its_pair = λ t. absurd (true≢false (sym t ∙ other));
+            based = λ list is. absurd
+                (cc is);
+          }) (ready trees path (open_dirs old) h.opened h.requested h.opens)
+          ((opened_opening trees (directory_of path) (open_dirs old) h.opened h.requested h.opens holds.0).above)
+          (everywhere_opened (Plain pairs) trees (null_id old.object_hash) (plain_lasts T pairs known trees (null_id old.object_hash) agrees)
+          (directory_of path) (open_dirs old) h.opened h.requested h.opens (open_bases old) holds.1)),
     )
 
     pub plain_removed : {Ends : EntryView → Type 0} (path : Path) → IsRemoved Ends trees old path new → IsPlainState new
     plain_removed path h = (
       h.is_opened,
       edited (open_dirs old) (open_bases old) h.opened (removed_dirs path h.opened) (open_dirs new) (open_bases new) h.dirs h.bases
-          (everywhere_removed (Plain pairs) trees (null_id old.object_hash) (plain_lasts T pairs known trees (null_id old.object_hash) agrees) path h.opened (opened_bases (open_dirs old) h.opened (open_bases old))
-          (everywhere_opened (Plain pairs) trees (null_id old.object_hash) (plain_lasts T pairs known trees (null_id old.object_hash) agrees) (directory_of path) (open_dirs old) h.opened h.asked h.opens (open_bases old) holds.1)),
+          (everywhere_removed (Plain pairs) trees (null_id old.object_hash) (plain_lasts T pairs known trees (null_id old.object_hash) agrees) path h.opened
+          (opened_bases (open_dirs old) h.opened (open_bases old))
+          (everywhere_opened (Plain pairs) trees (null_id old.object_hash) (plain_lasts T pairs known trees (null_id old.object_hash) agrees)
+          (directory_of path) (open_dirs old) h.opened h.requested h.opens (open_bases old) holds.1)),
     )
 
-    pub plain_assured : (path : Path) → IsAssured trees old path new → IsPlainState new
-    plain_assured path h = (
+    pub plain_ensured : (path : Path) → IsEnsured trees old path new → IsPlainState new
+    plain_ensured path h = (
       h.is_opened,
-      edited (open_dirs old) (open_bases old) h.opened (assured_dirs path (null_id old.object_hash) h.opened) (open_dirs new) (open_bases new) h.dirs h.bases
-          (everywhere_assured (Plain pairs) trees (null_id old.object_hash) (plain_lasts T pairs known trees (null_id old.object_hash) agrees) path h.opened (opened_bases (open_dirs old) h.opened (open_bases old))
-          (opens_along trees path (open_dirs old) h.opened h.asked h.opens) ((opened_opening trees path (open_dirs old) h.opened h.asked h.opens holds.0).above)
-          (everywhere_opened (Plain pairs) trees (null_id old.object_hash) (plain_lasts T pairs known trees (null_id old.object_hash) agrees) path (open_dirs old) h.opened h.asked h.opens (open_bases old) holds.1)),
+      edited (open_dirs old) (open_bases old) h.opened (ensured_dirs path (null_id old.object_hash) h.opened) (open_dirs new) (open_bases new) h.dirs h.bases
+          (everywhere_ensured (Plain pairs) trees (null_id old.object_hash) (plain_lasts T pairs known trees (null_id old.object_hash) agrees) path h.opened
+          (opened_bases (open_dirs old) h.opened (open_bases old))
+          (opens_along trees path (open_dirs old) h.opened h.requested h.opens)
+          ((opened_opening trees path (open_dirs old) h.opened h.requested h.opens holds.0).above)
+          (everywhere_opened (Plain pairs) trees (null_id old.object_hash) (plain_lasts T pairs known trees (null_id old.object_hash) agrees) path
+          (open_dirs old) h.opened h.requested h.opens (open_bases old) holds.1)),
     )
 
-    pub plain_refused : (path : Path) → IsRefused trees old path new → IsPlainState new
-    plain_refused path h = (
+    pub plain_failed : (path : Path) → IsEditFailure trees old path new → IsPlainState new
+    plain_failed path h = (
       h.is_opened,
       carried (open_dirs new) (opened_bases (open_dirs old) (open_dirs new) (open_bases old)) (open_dirs new) (open_bases new) (λ at. refl) h.bases
-          (everywhere_opened (Plain pairs) trees (null_id old.object_hash) (plain_lasts T pairs known trees (null_id old.object_hash) agrees) h.front (open_dirs old) (open_dirs new) h.asked h.opens (open_bases old) holds.1),
+          (everywhere_opened (Plain pairs) trees (null_id old.object_hash) (plain_lasts T pairs known trees (null_id old.object_hash) agrees) h.prefix
+          (open_dirs old) (open_dirs new) h.requested h.opens (open_bases old) holds.1),
     )
 
-  -- what went out is of the pairs, and what is built up from them
+  -- the emitted pairs are of these pairs, and the trees of the open directories are built up from them
   abbrev pub Within : List Pair → Type 0
   Within ps = AllByRecursion (λ pair. Contains pairs pair) ps
 
   abbrev pub AreBuilt : List Pair → Type 0
   AreBuilt ps = AllByRecursion (HasBuilt pairs) ps
 
-  goes_out : (ps : List Pair) → Within ps → AllByRecursion (λ pair. IsStorable pair.1) ps → AllByRecursion (GoesOut pairs) ps
+  goes_out : (ps : List Pair) → Within ps → AllByRecursion (λ pair. IsStorable pair.1) ps → AllByRecursion (IsEmitted pairs) ps
   goes_out [] within storable = tt
   goes_out (pair ∷ ps) within storable = ((within.0, clean_of pair.1 storable.0), goes_out ps within.1 storable.1)
 
-  went : {S : Type 0} (old new : State S) (prefix : Path) (below : List Pair) (id : ObjectId) (own : List EntryView) (saved : ℕ) → IsPlainState old → Leaves (in_path prefix (open_dirs old)) (in_path prefix (open_bases old)) below own saved
+  went : {S : Type 0} (old new : State S) (prefix : Path) (below : List Pair) (id : ObjectId) (own : List EntryView) (saved : ℕ) → IsPlainState old
+      → EmitsBelow (in_path prefix (open_dirs old)) (in_path prefix (open_bases old)) below own saved
       → Within (below ++ (id, own) ∷ []) → AllByRecursion (λ pair. IsStorable pair.1) (below ++ (id, own) ∷ [])
-      → ((at : Path) → open_dirs new at ≡ with_path prefix (only own) (open_dirs old) at) → ((at : Path) → open_bases new at ≡ edited_bases (open_dirs old) (open_dirs new) (open_bases old) at)
+      → ((at : Path) → open_dirs new at ≡ with_path prefix (only own) (open_dirs old) at)
+      → ((at : Path) → open_bases new at ≡ edited_bases (open_dirs old) (open_dirs new) (open_bases old) at)
       → Everywhere (Plain pairs) (open_dirs new) (open_bases new) × AreBuilt (below ++ (id, own) ∷ [])
   went old new prefix below id own saved holds going within storable dirs_are bases_are =
       let out = goes_out (below ++ (id, own) ∷ []) within storable in
-      let mine = all_right (GoesOut pairs) below ((id, own) ∷ []) out in
-      let it = leaves_plain pairs (in_path prefix (open_dirs old)) (in_path prefix (open_bases old)) below own saved going (everywhere_at (Plain pairs) prefix (open_dirs old) (open_bases old) holds.1) (all_left (GoesOut pairs) below ((id, own) ∷ []) out) in
+      let mine = all_right (IsEmitted pairs) below ((id, own) ∷ []) out in
+      let it = leaves_plain pairs (in_path prefix (open_dirs old)) (in_path prefix (open_bases old)) below own saved going
+      (everywhere_at (Plain pairs) prefix (open_dirs old) (open_bases old) holds.1) (all_remaining (IsEmitted pairs) below ((id, own) ∷ []) out) in
       let made : Dirs = with_path prefix (only own) (open_dirs old) in (
         carried made (edited_bases (open_dirs old) made (open_bases old)) (open_dirs new) (open_bases new) dirs_are
             (subst (λ (d : Dirs). (at : Path) → open_bases new at ≡ edited_bases (open_dirs old) d (open_bases old) at) (λ i at. dirs_are at i) bases_are)
-            (everywhere_written (Plain pairs) no_trees (null_id old.object_hash) (plain_lasts T pairs known no_trees (null_id old.object_hash) (λ it entries sought is. absurd (cc is))) prefix own (open_dirs old) (open_bases old) (open_there prefix (open_dirs old) (open_bases old) below own saved going) (closed pairs own it.0) holds.1),
+            (everywhere_written (Plain pairs) no_trees (null_id old.object_hash)
+            (plain_lasts T pairs known no_trees (null_id old.object_hash) (λ it entries searched is. absurd (cc is))) prefix own (open_dirs old)
+            (open_bases old) (open_there prefix (open_dirs old) (open_bases old) below own saved going) (closed pairs own it.0) holds.1),
         all_joined (HasBuilt pairs) below ((id, own) ∷ []) it.1 (built_of pairs own (mine.0.1) it.0, tt),
       )
 
-  pub plain_below : {S F : Type 0} (gave : F → Pair → F → Type 0) (asked answered : F) (old new : State S) (prefix : Path) (it : Written) → IsPlainState old → IsWrittenBelow gave asked old prefix it new answered → Within it.trees.items → IsPlainState new × AreBuilt it.trees.items
-  plain_below gave asked answered old new prefix it holds h within =
-      let out = h.handed_out in
+  pub plain_below : {S F : Type 0} (gave : F → Pair → F → Type 0) (queries answered : F) (old new : State S) (prefix : Path) (it : Written) → IsPlainState old
+      → IsWrittenBelow gave queries old prefix it new answered → Within it.trees.items → IsPlainState new × AreBuilt it.trees.items
+  plain_below gave queries answered old new prefix it holds h within =
+      let out = h.emitted in
       let own : h.own ≡ out.2 = last_own h.below (out.0) it.id (out.1) h.own (out.2) (sym h.last ∙ out.4) in
-      let left = went old new prefix out.0 out.1 out.2 out.3.0 holds out.3.1 (subst Within out.4 within) (subst (λ (l : List Pair). AllByRecursion (λ pair. IsStorable pair.1) l) out.4 (recursion_from_All (λ (pair : Pair). IsStorable pair.1) it.trees.items h.storable))
+      let remaining = went old new prefix out.0 out.1 out.2 out.3.0 holds out.3.1 (subst Within out.4 within)
+      (subst (λ (l : List Pair). AllByRecursion (λ pair. IsStorable pair.1) l) out.4
+      (recursion_from_All (λ (pair : Pair). IsStorable pair.1) it.trees.items h.storable))
       (subst (λ (l : List EntryView). (at : Path) → open_dirs new at ≡ with_path prefix (only l) (open_dirs old) at) own h.dirs) h.bases in
-      ((h.is_opened, left.0), subst AreBuilt (sym out.4) left.1)
+      ((h.is_opened, remaining.0), subst AreBuilt (sym out.4) remaining.1)
 
-  pub plain_root : {S F : Type 0} (gave : F → Pair → F → Type 0) (asked answered : F) (old new : State S) (it : Written) → IsPlainState old → IsWrittenEditor gave asked old it new answered → Within it.trees.items → IsPlainState new × AreBuilt it.trees.items
-  plain_root gave asked answered old new it holds h within =
-      let out = h.handed_out in
+  pub plain_root : {S F : Type 0} (gave : F → Pair → F → Type 0) (queries answered : F) (old new : State S) (it : Written) → IsPlainState old
+      → IsWrittenEditor gave queries old it new answered → Within it.trees.items → IsPlainState new × AreBuilt it.trees.items
+  plain_root gave queries answered old new it holds h within =
+      let out = h.emitted in
       let own : h.own ≡ out.2 = last_own h.below (out.0) it.id (out.1) h.own (out.2) (sym h.last ∙ out.4) in
-      let storable = subst (λ (l : List Pair). AllByRecursion (λ pair. IsStorable pair.1) l) out.4 (recursion_from_All (λ (pair : Pair). IsStorable pair.1) it.trees.items h.storable) in
-      let alone : (at : Path) → open_dirs new at ≡ only out.2 at = λ at. ap (λ (m : DirMap). map.get m at) h.dirs ∙ alone_at h.own at ∙ ap (λ (l : List EntryView). only l at) own in
-      let left = went old new [] out.0 out.1 out.2 out.3.0 holds out.3.1 (subst Within out.4 within) storable alone h.bases in
-      ((subst (λ (d : Dirs). IsOpened d) (sym (λ i at. alone at i)) (opened_only out.2 (all_right (λ (pair : Pair). IsStorable pair.1) out.0 ((out.1, out.2) ∷ []) storable).0.well_formed), left.0), subst AreBuilt (sym out.4) left.1)
+      let storable = subst (λ (l : List Pair). AllByRecursion (λ pair. IsStorable pair.1) l) out.4
+      (recursion_from_All (λ (pair : Pair). IsStorable pair.1) it.trees.items h.storable) in
+      let alone : (at : Path) → open_dirs new at ≡ only out.2 at = λ at. ap (λ (m : DirMap). map.get m at) h.dirs ∙ alone_at h.own at
+      ∙ ap (λ (l : List EntryView). only l at) own in
+      let remaining = went old new [] out.0 out.1 out.2 out.3.0 holds out.3.1 (subst Within out.4 within) storable alone h.bases in (
+        (
+          subst (λ (d : Dirs). IsOpened d) (sym (λ i at. alone at i))
+              (opened_only out.2 (all_right (λ (pair : Pair). IsStorable pair.1) out.0 ((out.1, out.2) ∷ []) storable).0.well_formed),
+          remaining.0,
+        ),
+        subst AreBuilt
+            (sym out.4) remaining.1,
+      )

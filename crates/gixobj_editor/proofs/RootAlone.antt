@@ -12,9 +12,11 @@ use Rattle.gixobj_files.specs.Bases.{HasBases}
 use Rattle.gixobj_files.proofs.Calls.{root_based}
 
 pub alone_opened : (ds : Opened) (root : List EntryView) → ds ≡ opened root [] [] → IsWellFormed root → IsOpened (dirs_of ds)
-alone_opened ds root is formed = subst (λ (d : Opened). IsOpened (dirs_of d)) (sym is) (subst (λ (d : Dirs). IsOpened d) (sym (only_is root)) (opened_only root formed))
+alone_opened ds root is formed = subst (λ (d : Opened). IsOpened (dirs_of d)) (sym is)
+    (subst (λ (d : Dirs). IsOpened d) (sym (only_is root)) (opened_only root formed))
 
-pub alone_files : (ds : Opened) (root : List EntryView) → ds ≡ opened root [] [] → (T : Table) (n : ℕ) → SameFiles (OpenFiles T n (map_dirs ds)) (Files T n root)
+pub alone_files : (ds : Opened) (root : List EntryView) → ds ≡ opened root [] [] → (T : Table) (n : ℕ)
+    → SameFiles (OpenFiles T n (map_dirs ds)) (Files T n root)
 alone_files ds root is T n = subst (λ (d : Opened). SameFiles (OpenFiles T n (map_dirs d)) (Files T n root)) (sym is) (root_files T n root)
 
 pub alone_based : (ds : Opened) (root : List EntryView) → ds ≡ opened root [] [] → (T : Table) → HasBases T (map_dirs ds) (map_bases ds)

@@ -1,4 +1,4 @@
--- What open directories and their bases are in every editor, they are after each call.
+-- The invariant of open directories and their bases holds after each call; the proofs of the editor's calls use it.
 use Rattle.std.proofs.Common.{◌≡◌, ◌≢◌, ◌∙◌, ℕ, List, [], ◌∷◌, ◌++◌, Option, None, Result, Ok, Err, refl, sym, ap, subst}
 use Rattle.std.specs.Prelude.{IfOk, OnErr}
 use Rattle.std.proofs.lemmas.List.Elements.{recursion_from_All}
@@ -12,16 +12,16 @@ use Rattle.gixobj_directories.specs.Nested.{Opened, bases_of, dirs_of, opened}
 use Rattle.gixobj_directories.proofs.BaseSteps.{no_base}
 use Rattle.gixobj_directories.proofs.OpeningSteps.{only_is}
 use Rattle.gixobj_files.specs.Bases.{base_edited, edited_bases, opened_bases}
-use Rattle.gixobj_files.specs.Edits.{IsNoTree, Opens, assured_dirs, only, removed_dirs, upserted_dirs, with_path}
+use Rattle.gixobj_files.specs.Edits.{IsNoTree, Opens, ensured_dirs, only, removed_dirs, upserted_dirs, with_path}
 use Rattle.gixobj_files.specs.Files.{Path, Trees}
-use Rattle.gixobj_files.specs.Halting.{Halts}
+use Rattle.gixobj_files.specs.OpeningStops.{StopsOpening}
 use Rattle.gixobj_files.specs.Opening.{Dirs}
-use Rattle.gixobj_files.proofs.Calls.{assured_null_based, none_null_based, opened_null_based, removed_null_based, upserted_null_based, written_null_based}
+use Rattle.gixobj_files.proofs.Calls.{ensured_null_based, none_null_based, opened_null_based, removed_null_based, upserted_null_based, written_null_based}
 use Rattle.gixobj_files.proofs.Halted.{halts_opens}
 use Rattle.gixobj_files.proofs.StillOpenedOpenings.{opened_opening}
 use Rattle.gixobj_editor.specs.Upserts.{IsOpenedInPart}
-use Rattle.gixobj_editor.proofs.AssuredAt.{still_assured}
-use Rattle.gixobj_editor.proofs.Edited.{EditedSo, OpenedOn, OpenedSo, still_put}
+use Rattle.gixobj_editor.proofs.EnsuredAt.{still_ensured}
+use Rattle.gixobj_editor.proofs.Edited.{EditedSo, OpenedOn, OpenedSo, still_inserted}
 use Rattle.gixobj_editor.proofs.RemovedAt.{still_taken}
 use Rattle.gixobj_editor.proofs.RootAlone.{alone_opened}
 use Rattle.gixobj_editor.proofs.WrittenBelow.{still_written}
@@ -31,7 +31,7 @@ both_so : (ds mid ds' : Opened) → OpenedSo ds mid → EditedSo mid ds' → (at
     → bases_of ds' at ≡ edited_bases (dirs_of mid) (dirs_of ds') (opened_bases (dirs_of ds) (dirs_of mid) (bases_of ds)) at
 both_so ds mid ds' first then at = then at ∙ ap (λ b. base_edited (dirs_of mid at) (dirs_of ds' at) b) (first at)
 
--- where the root alone is open
+-- the root alone is open
 no_bases : (root base : List EntryView) (name : List ℕ) (path : Path) → bases_of (opened root base []) (name ∷ path) ≡ None
 no_bases root base name path = no_base (opened root base []) (name ∷ path) (ap (λ (d : Dirs). d (name ∷ path)) (only_is root))
 
@@ -43,57 +43,66 @@ root_on ds root base is formed =
     })
 
 module _ (trees : Trees) (ds mid : Opened) (first : OpenedSo ds mid) (was : OpenedOn ds) where
-  -- directories were opened
-  pub opened_on : {Ends : EntryView → Type 0} (path : Path) (asked : List ObjectId) → Opens Ends trees path (dirs_of ds) (dirs_of mid) asked → OpenedOn mid
-  opened_on path asked opens = record {
-    opened = opened_opening trees path (dirs_of ds) (dirs_of mid) asked opens was.opened;
-    null_based = opened_null_based trees hash.Sha1 (dirs_of ds) (bases_of ds) (dirs_of mid) (bases_of mid) was path asked opens first;
+  -- the invariant after directories were opened
+  pub opened_on : {Ends : EntryView → Type 0} (path : Path) (queries : List ObjectId) → Opens Ends trees path (dirs_of ds) (dirs_of mid) queries → OpenedOn mid
+  opened_on path queries opens = record {
+    opened = opened_opening trees path (dirs_of ds) (dirs_of mid) queries opens was.opened;
+    null_based = opened_null_based trees hash.Sha1 (dirs_of ds) (bases_of ds) (dirs_of mid) (bases_of mid) was path queries opens first;
   }
 
   pub in_part_on : {Ends : EntryView → Type 0} (path : Path) (n m : ℕ) → IsOpenedInPart Ends trees path (dirs_of ds) (dirs_of mid) n m → OpenedOn mid
-  in_part_on path n m so = opened_on so.front so.asked so.opens
+  in_part_on path n m so = opened_on so.prefix so.requested so.opens
 
-  pub halted_on : {Ends : EntryView → Type 0} (path : Path) (asked : List ObjectId) (vain : Option ObjectId) → Halts Ends trees path (dirs_of ds) (dirs_of mid) asked vain → OpenedOn mid
-  halted_on path asked vain halts = let came = halts_opens trees path (dirs_of ds) (dirs_of mid) asked vain halts in opened_on came.0 came.2 came.5
+  pub halted_on : {Ends : EntryView → Type 0} (path : Path) (queries : List ObjectId) (vain : Option ObjectId)
+      → StopsOpening Ends trees path (dirs_of ds) (dirs_of mid) queries vain → OpenedOn mid
+  halted_on path queries vain halts = let came = halts_opens trees path (dirs_of ds) (dirs_of mid) queries vain halts in opened_on came.0 came.2 came.5
 
-  -- and then edited
+  -- the invariant after directories were opened and edited
   module _ (ds' : Opened) (then : EditedSo mid ds') where
-    pub put_on : (kind : Kind) (path front : Path) (last : List ℕ) → path ≡ front ++ last ∷ [] → AreNames path → (mode : ℕ) (id : ObjectId) (asked : List ObjectId)
-        → Opens IsNoTree trees front (dirs_of ds) (dirs_of mid) asked → ((at : Path) → dirs_of ds' at ≡ upserted_dirs path mode id (null_id kind) (dirs_of mid) at) → OpenedOn ds'
-    put_on kind path front last is names mode id asked opens put = record {
-      opened = still_put path mode id (null_id kind) mid ds' (recursion_from_All IsEntryName path names) (opened_on front asked opens).opened put;
-      null_based = upserted_null_based trees kind (dirs_of ds) (bases_of ds) (dirs_of ds') (bases_of ds') was front last mode id (dirs_of mid) asked opens
-          (λ at. put at ∙ ap (λ p. upserted_dirs p mode id (null_id kind) (dirs_of mid) at) is) (both_so ds mid ds' first then);
+    pub inserted_on : (kind : Kind) (path head : Path) (last : List ℕ) → path ≡ head ++ last ∷ [] → AreNames path
+        → (mode : ℕ) (id : ObjectId) (queries : List ObjectId)
+        → Opens IsNoTree trees head (dirs_of ds) (dirs_of mid) queries
+        → ((at : Path) → dirs_of ds' at ≡ upserted_dirs path mode id (null_id kind) (dirs_of mid) at) → OpenedOn ds'
+    inserted_on kind path head last is names mode id queries opens insert_entry = record {
+      opened = still_inserted path mode id (null_id kind) mid ds' (recursion_from_All IsEntryName path names)
+          (opened_on head queries opens).opened insert_entry;
+      null_based = upserted_null_based trees kind (dirs_of ds) (bases_of ds) (dirs_of ds') (bases_of ds') was head last mode id (dirs_of mid) queries opens
+          (λ at. insert_entry at ∙ ap (λ p. upserted_dirs p mode id (null_id kind) (dirs_of mid) at) is) (both_so ds mid ds' first then);
     }
 
-    pub assured_on : (kind : Kind) (path : Path) → AreNames path → (asked : List ObjectId) → Opens IsNoTree trees path (dirs_of ds) (dirs_of mid) asked
-        → ((at : Path) → dirs_of ds' at ≡ assured_dirs path (null_id kind) (dirs_of mid) at) → OpenedOn ds'
-    assured_on kind path names asked opens assured = record {
-      opened = still_assured path (null_id kind) mid ds' (recursion_from_All IsEntryName path names) (opened_on path asked opens).opened assured;
-      null_based = assured_null_based trees kind (dirs_of ds) (bases_of ds) (dirs_of ds') (bases_of ds') was path (dirs_of mid) asked opens assured (both_so ds mid ds' first then);
+    pub ensured_on : (kind : Kind) (path : Path) → AreNames path → (queries : List ObjectId) → Opens IsNoTree trees path (dirs_of ds) (dirs_of mid) queries
+        → ((at : Path) → dirs_of ds' at ≡ ensured_dirs path (null_id kind) (dirs_of mid) at) → OpenedOn ds'
+    ensured_on kind path names queries opens ensured = record {
+      opened = still_ensured path (null_id kind) mid ds' (recursion_from_All IsEntryName path names) (opened_on path queries opens).opened ensured;
+      null_based = ensured_null_based trees kind (dirs_of ds) (bases_of ds) (dirs_of ds') (bases_of ds') was path (dirs_of mid) queries opens ensured
+          (both_so ds mid ds' first then);
     }
 
-    pub taken_on : {Ends : EntryView → Type 0} (front path : Path) (asked : List ObjectId) → Opens Ends trees front (dirs_of ds) (dirs_of mid) asked
+    pub taken_on : {Ends : EntryView → Type 0} (head path : Path) (queries : List ObjectId) → Opens Ends trees head (dirs_of ds) (dirs_of mid) queries
         → ((at : Path) → dirs_of ds' at ≡ removed_dirs path (dirs_of mid) at) → OpenedOn ds'
-    taken_on front path asked opens taken = record {
-      opened = still_taken path mid ds' (opened_on front asked opens).opened taken;
-      null_based = removed_null_based trees hash.Sha1 (dirs_of ds) (bases_of ds) (dirs_of ds') (bases_of ds') was front path (dirs_of mid) asked opens taken (both_so ds mid ds' first then);
+    taken_on head path queries opens taken = record {
+      opened = still_taken path mid ds' (opened_on head queries opens).opened taken;
+      null_based = removed_null_based trees hash.Sha1 (dirs_of ds) (bases_of ds) (dirs_of ds') (bases_of ds') was head path (dirs_of mid) queries opens taken
+          (both_so ds mid ds' first then);
     }
 
--- after a write
-pub written_on : {W X : Type 0} (result : Result W X) (ds ds' : Opened) → IfOk result (λ _. (own : List EntryView) × IsStorable own × ((base : List EntryView) × (ds' ≡ opened own base [])))
+-- the invariant after a write
+pub written_on : {W X : Type 0} (result : Result W X) (ds ds' : Opened)
+    → IfOk result (λ _. (own : List EntryView) × IsStorable own × ((base : List EntryView) × (ds' ≡ opened own base [])))
     → OnErr result (ds' ≡ ds) → OpenedOn ds → OpenedOn ds'
-written_on (Ok it) ds ds' (own, storable, left) unchanged was = root_on ds' own left.0 left.1 storable.well_formed
+written_on (Ok it) ds ds' (own, storable, remaining) unchanged was = root_on ds' own remaining.0 remaining.1 storable.well_formed
 written_on (Err error) ds ds' ok unchanged was = subst OpenedOn (sym unchanged) was
 
--- a directory at a prefix was written
+-- the invariant after a write of a directory at a prefix
 abbrev pub IsWrittenSo : Path → Opened → Opened → Type 0
-IsWrittenSo prefix ds ds' = (own : List EntryView) × IsStorable own × ((at : Path) → dirs_of ds' at ≡ with_path prefix (only own) (dirs_of ds) at) × EditedSo ds ds'
+IsWrittenSo prefix ds ds' = (own : List EntryView) × IsStorable own × ((at : Path) → dirs_of ds' at ≡ with_path prefix (only own) (dirs_of ds) at)
+    × EditedSo ds ds'
 
-pub written_below_on : {W X : Type 0} (result : Result W X) (prefix : Path) (ds ds' : Opened) → IfOk result (λ _. IsWrittenSo prefix ds ds') → OnErr result (ds' ≡ ds) → dirs_of ds prefix ≢ None
+pub written_below_on : {W X : Type 0} (result : Result W X) (prefix : Path) (ds ds' : Opened) → IfOk result (λ _. IsWrittenSo prefix ds ds')
+    → OnErr result (ds' ≡ ds) → dirs_of ds prefix ≢ None
     → OpenedOn ds → OpenedOn ds'
-written_below_on (Ok it) prefix ds ds' (own, storable, left, edited) unchanged there was = record {
-  opened = still_written prefix own ds ds' was.opened there storable left;
-  null_based = written_null_based (dirs_of ds) (bases_of ds) (dirs_of ds') (bases_of ds') was prefix own there left edited;
+written_below_on (Ok it) prefix ds ds' (own, storable, remaining, edited) unchanged there was = record {
+  opened = still_written prefix own ds ds' was.opened there storable remaining;
+  null_based = written_null_based (dirs_of ds) (bases_of ds) (dirs_of ds') (bases_of ds') was prefix own there remaining edited;
 }
 written_below_on (Err error) prefix ds ds' ok unchanged there was = subst OpenedOn (sym unchanged) was

@@ -1,4 +1,5 @@
--- An editor after a write of the directory at a prefix, from what went out of its open directories.
+-- The record of a write of the directory at a prefix follows from its emitted trees; the proof of `write_below` uses
+-- it.
 use Rattle.std.proofs.Common.{All, ◌≡◌, ◌≢◌, ◌∙◌, ℕ, List, [], ◌∷◌, ◌++◌, None, Some, Result, Ok, Err, refl, sym, ap, subst, append-nil}
 use Rattle.std.specs.Prelude.{IfOk, OnErr}
 use Rattle.std.specs.List.{FoldsTo}
@@ -8,7 +9,7 @@ use Rattle.gixobj_directories.specs.Nested.{Opened, bases_of, dirs_of}
 use Rattle.gixobj_directories.proofs.StorablePairs.{leaves_storable}
 use Rattle.gixobj_files.specs.Edits.{only, with_path}
 use Rattle.gixobj_files.specs.Files.{Path, SameFiles}
-use Rattle.gixobj_files.specs.HandingOut.{Leaves, Saves}
+use Rattle.gixobj_files.specs.Emission.{EmitsBelow, Saves}
 use Rattle.gixobj_files.specs.Opening.{Dirs, IsOpened, OpenFiles, in_path}
 use Rattle.gixobj_files.specs.State.{State, open_dirs}
 use Rattle.gixobj_files.specs.Tables.{AgreesWithPairs}
@@ -24,52 +25,76 @@ use Rattle.gixobj_files.proofs.Calls.{written_based}
 use Rattle.gixobj_editor.proofs.WrittenOut.{each_storable}
 
 -- the directory at the prefix is open among the owned ones too
-pub open_owned : {S : Type 0} (store : S) (hash : Kind) (prefix : Path) (ds : Opened) (n : ℕ) (old : State S) → state_of store hash prefix ds n ≡ old → open_dirs old old.prefix ≢ None → dirs_of ds prefix ≢ None
-open_owned {S} store hash prefix ds n old view there = subst (λ (d : Dirs). d prefix ≢ None) (same_dirs ds) (subst (λ (o : State S). open_dirs o o.prefix ≢ None) (sym view) there)
+pub open_owned : {S : Type 0} (store : S) (hash : Kind) (prefix : Path) (ds : Opened) (n : ℕ) (old : State S) → state_of store hash prefix ds n ≡ old
+    → open_dirs old old.prefix ≢ None → dirs_of ds prefix ≢ None
+open_owned {S} store hash prefix ds n old view there = subst (λ (d : Dirs). d prefix ≢ None) (same_dirs ds)
+    (subst (λ (o : State S). open_dirs o o.prefix ≢ None) (sym view) there)
 
--- the prefix stays
-pub written_prefix : {W X S : Type 0} (result : Result W X) (old new : State S) → IfOk result (λ _. new ≡ record old { dirs = new.dirs; bases = new.bases }) → OnErr result (new ≡ old) → new.prefix ≡ old.prefix
+-- the prefix is unchanged
+pub written_prefix : {W X S : Type 0} (result : Result W X) (old new : State S) → IfOk result (λ _. new ≡ record old { dirs = new.dirs; bases = new.bases })
+    → OnErr result (new ≡ old) → new.prefix ≡ old.prefix
 written_prefix {S = S} (Ok it) old new rest unchanged = ap (λ (o : State S). o.prefix) rest
 written_prefix {S = S} (Err error) old new rest unchanged = ap (λ (o : State S). o.prefix) unchanged
 
--- the directory there stays open, and has the tree that was handed out last
-pub written_open : {W X S : Type 0} (result : Result W X) (old new : State S) → IfOk result (λ _. (own : List EntryView) × ((at : Path) → open_dirs new at ≡ with_path old.prefix (only own) (open_dirs old) at)) → OnErr result (new ≡ old) → new.prefix ≡ old.prefix → open_dirs old old.prefix ≢ None → open_dirs new new.prefix ≢ None
-written_open (Ok it) old new (own, left) unchanged same there =
-    λ none. let found : Some own ≡ None = sym (sym (ap (with_path old.prefix (only own) (open_dirs old)) (append-nil old.prefix)) ∙ at_prefix old.prefix (only own) (open_dirs old) []) ∙ sym (left old.prefix) ∙ subst (λ (p : Path). open_dirs new p ≡ None) same none in cc found
+-- the directory at the prefix is still open, with the last emitted tree
+pub written_open : {W X S : Type 0} (result : Result W X) (old new : State S)
+    → IfOk result (λ _. (own : List EntryView) × ((at : Path) → open_dirs new at ≡ with_path old.prefix (only own) (open_dirs old) at))
+    → OnErr result (new ≡ old) → new.prefix ≡ old.prefix → open_dirs old old.prefix ≢ None → open_dirs new new.prefix ≢ None
+written_open (Ok it) old new (own, remaining) unchanged same there =
+    λ none. let found : Some own ≡ None =
+    sym (sym (ap (with_path old.prefix (only own) (open_dirs old)) (append-nil old.prefix)) ∙ at_prefix old.prefix (only own) (open_dirs old) [])
+    ∙ sym (remaining old.prefix) ∙ subst (λ (p : Path). open_dirs new p ≡ None) same none in cc found
 written_open {S = S} (Err error) old new ok unchanged same there = subst (λ (o : State S). open_dirs o o.prefix ≢ None) (sym unchanged) there
 
-pub still_written : (prefix : Path) (own : List EntryView) (ds ds' : Opened) → IsOpened (dirs_of ds) → dirs_of ds prefix ≢ None → IsStorable own → ((at : Path) → dirs_of ds' at ≡ with_path prefix (only own) (dirs_of ds) at) → IsOpened (dirs_of ds')
-still_written prefix own ds ds' all there storable left = subst (λ (d : Dirs). IsOpened d) (sym (λ i at. left at i)) (opened_replaced prefix own (dirs_of ds) all there storable.well_formed)
+pub still_written : (prefix : Path) (own : List EntryView) (ds ds' : Opened) → IsOpened (dirs_of ds) → dirs_of ds prefix ≢ None → IsStorable own
+    → ((at : Path) → dirs_of ds' at ≡ with_path prefix (only own) (dirs_of ds) at) → IsOpened (dirs_of ds')
+still_written prefix own ds ds' all there storable remaining = subst (λ (d : Dirs). IsOpened d) (sym (λ i at. remaining at i))
+    (opened_replaced prefix own (dirs_of ds) all there storable.well_formed)
 
 module _ {S F : Type 0} (store : S) (hash : Kind) (prefix : Path) (gave : F → Pair → F → Type 0) where
-  went_out : (ds ds' : Opened) (n : ℕ) → OpenedOn ds → dirs_of ds prefix ≢ None → (it : Written) (below : List Pair) (own : List EntryView) (asked answered : F) → Saves (in_path prefix (dirs_of ds)) (in_path prefix (bases_of ds)) below own it.saved
-      → it.trees.items ≡ below ++ (it.id, own) ∷ [] → FoldsTo gave asked (below ++ (it.id, own) ∷ []) answered → IsStorable own → ((at : Path) → dirs_of ds' at ≡ with_path prefix (only own) (dirs_of ds) at) → EditedSo ds ds'
-      → IsWrittenBelow gave asked (state_of store hash prefix ds n) prefix it (state_of store hash prefix ds' n) answered
-  went_out ds ds' n was there it below own asked answered going is called storable left edited =
+  went_out : (ds ds' : Opened) (n : ℕ) → OpenedOn ds → dirs_of ds prefix ≢ None → (it : Written) (below : List Pair) (own : List EntryView)
+      (requested answered : F) → Saves (in_path prefix (dirs_of ds)) (in_path prefix (bases_of ds)) below own it.saved
+      → it.trees.items ≡ below ++ (it.id, own) ∷ [] → FoldsTo gave requested (below ++ (it.id, own) ∷ []) answered → IsStorable own
+      → ((at : Path) → dirs_of ds' at ≡ with_path prefix (only own) (dirs_of ds) at) → EditedSo ds ds'
+      → IsWrittenBelow gave requested (state_of store hash prefix ds n) prefix it (state_of store hash prefix ds' n) answered
+  went_out ds ds' n was there it below own requested answered going is called storable remaining edited =
       let old_is = same_dirs ds in
       let open_there : map_dirs ds prefix ≢ None = subst (λ (d : Dirs). d prefix ≢ None) (sym old_is) there in
       let on = on_map ds was in
-      let leaving : Leaves (in_path prefix (map_dirs ds)) (in_path prefix (map_bases ds)) below own going.0 =
-      subst (λ (b : Dirs). Leaves (in_path prefix (map_dirs ds)) (in_path prefix b) below own going.0) (sym (same_bases ds)) (subst (λ (d : Dirs). Leaves (in_path prefix d) (in_path prefix (bases_of ds)) below own going.0) (sym old_is) going.1) in
-      let new_is : map_dirs ds' ≡ with_path prefix (only own) (map_dirs ds) = same_dirs ds' ∙ (λ i at. left at i) ∙ (λ i. with_path prefix (only own) (sym old_is i)) in
+      let leaving : EmitsBelow (in_path prefix (map_dirs ds)) (in_path prefix (map_bases ds)) below own going.0 =
+      subst (λ (b : Dirs). EmitsBelow (in_path prefix (map_dirs ds)) (in_path prefix b) below own going.0) (sym (same_bases ds))
+      (subst (λ (d : Dirs). EmitsBelow (in_path prefix d) (in_path prefix (bases_of ds)) below own going.0) (sym old_is) going.1) in
+      let new_is : map_dirs ds' ≡ with_path prefix (only own) (map_dirs ds) = same_dirs ds' ∙ (λ i at. remaining at i)
+      ∙ (λ i. with_path prefix (only own) (sym old_is i)) in
       record {
-        handed_out = (below, it.id, own, (going.0, leaving, going.2), is);
-        called = subst (λ (ps : List Pair). FoldsTo gave asked ps answered) (sym is) called;
-        storable = subst (λ (ps : List Pair). All (λ pair. IsStorable pair.1) ps) (sym is) (All-from_recursion (λ (p : Pair). IsStorable p.1) (below ++ (it.id, own) ∷ []) (each_storable below (it.id, own) (leaves_storable (in_path prefix (map_dirs ds)) (in_path prefix (map_bases ds)) below own going.0 leaving (λ at. on.opened.well_formed (prefix ++ at))).0 storable));
+        emitted = (below, it.id, own, (going.0, leaving, going.2), is);
+        called = subst (λ (ps : List Pair). FoldsTo gave requested ps answered) (sym is) called;
+        storable = subst (λ (ps : List Pair). All (λ pair. IsStorable pair.1) ps) (sym is)
+            (All-from_recursion (λ (p : Pair). IsStorable p.1) (below ++ (it.id, own) ∷ [])
+            (each_storable below (it.id, own) (leaves_storable (in_path prefix (map_dirs ds)) (in_path prefix (map_bases ds)) below own going.0 leaving
+            (λ at. on.opened.well_formed (prefix ++ at))).0 storable));
         below = below;
         own = own;
         last = is;
         dirs = λ at i. new_is i at;
         bases = only_edited_map ds ds' edited;
         rest = refl;
-        is_opened = as_map ds' (still_written prefix own ds ds' was.opened there storable left);
-        files = λ T k agrees has. written_below_files T k prefix (map_dirs ds) (map_bases ds) below own going.0 it.id on.opened (based_of T (map_dirs ds) (map_bases ds) on.null_based has) open_there leaving (subst (λ (ps : List Pair). AgreesWithPairs T ps) is agrees);
-        same_files = λ T k agrees has. subst (λ (d : Dirs). SameFiles (OpenFiles T k d) (OpenFiles T k (map_dirs ds))) (sym new_is) (written_same_files T k prefix (map_dirs ds) (map_bases ds) below own going.0 it.id on.opened (based_of T (map_dirs ds) (map_bases ds) on.null_based has) open_there leaving (subst (λ (ps : List Pair). AgreesWithPairs T ps) is agrees));
-        has_bases = written_based (map_dirs ds) (map_bases ds) (map_dirs ds') (map_bases ds') on prefix own open_there (λ at i. new_is i at) (only_edited_map ds ds' edited);
+        is_opened = as_map ds' (still_written prefix own ds ds' was.opened there storable remaining);
+        files = λ T k agrees has. written_below_files T k prefix (map_dirs ds) (map_bases ds) below own going.0 it.id on.opened
+            (based_of T (map_dirs ds) (map_bases ds) on.null_based has) open_there leaving (subst (λ (ps : List Pair). AgreesWithPairs T ps) is agrees);
+        same_files = λ T k agrees has. subst (λ (d : Dirs). SameFiles (OpenFiles T k d) (OpenFiles T k (map_dirs ds))) (sym new_is)
+            (written_same_files T k prefix (map_dirs ds) (map_bases ds) below own going.0 it.id on.opened
+            (based_of T (map_dirs ds) (map_bases ds) on.null_based has) open_there leaving (subst (λ (ps : List Pair). AgreesWithPairs T ps) is agrees));
+        has_bases = written_based (map_dirs ds) (map_bases ds) (map_dirs ds') (map_bases ds') on prefix own open_there (λ at i. new_is i at)
+            (only_edited_map ds ds' edited);
       }
 
-  pub written_at : (ds ds' : Opened) (n : ℕ) (old : State S) → state_of store hash prefix ds n ≡ old → OpenedOn ds → dirs_of ds prefix ≢ None → (it : Written) (below : List Pair) (own : List EntryView) (asked answered : F)
-      → Saves (in_path prefix (dirs_of ds)) (in_path prefix (bases_of ds)) below own it.saved → it.trees.items ≡ below ++ (it.id, own) ∷ [] → FoldsTo gave asked (below ++ (it.id, own) ∷ []) answered → IsStorable own
-      → ((at : Path) → dirs_of ds' at ≡ with_path prefix (only own) (dirs_of ds) at) → EditedSo ds ds' → IsWrittenBelow gave asked old old.prefix it (state_of store hash prefix ds' n) answered
-  written_at ds ds' n old view was there it below own asked answered going is called storable left edited =
-      subst (λ (o : State S). IsWrittenBelow gave asked o o.prefix it (state_of store hash prefix ds' n) answered) view (went_out ds ds' n was there it below own asked answered going is called storable left edited)
+  pub written_at : (ds ds' : Opened) (n : ℕ) (old : State S) → state_of store hash prefix ds n ≡ old → OpenedOn ds → dirs_of ds prefix ≢ None
+      → (it : Written) (below : List Pair) (own : List EntryView) (requested answered : F)
+      → Saves (in_path prefix (dirs_of ds)) (in_path prefix (bases_of ds)) below own it.saved → it.trees.items ≡ below ++ (it.id, own) ∷ []
+      → FoldsTo gave requested (below ++ (it.id, own) ∷ []) answered → IsStorable own
+      → ((at : Path) → dirs_of ds' at ≡ with_path prefix (only own) (dirs_of ds) at) → EditedSo ds ds' → IsWrittenBelow gave requested old old.prefix it
+      (state_of store hash prefix ds' n) answered
+  written_at ds ds' n old view was there it below own requested answered going is called storable remaining edited =
+      subst (λ (o : State S). IsWrittenBelow gave requested o o.prefix it (state_of store hash prefix ds' n) answered) view
+      (went_out ds ds' n was there it below own requested answered going is called storable remaining edited)

@@ -1,4 +1,4 @@
--- An editor after a write, from what went out of its open directories.
+-- The record of a write of the root follows from its emitted trees.
 use Rattle.std.proofs.Common.{All, ◌≡◌, ◌∙◌, ℕ, List, [], ◌∷◌, ◌++◌, Option, Some, refl, sym, ap, subst}
 use Rattle.std.specs.Prelude.{MatchOption}
 use Rattle.std.specs.List.{AllByRecursion, FoldsTo}
@@ -6,12 +6,12 @@ use Rattle.std.proofs.lemmas.List.Elements.{All-from_recursion, recursion_from_A
 use Rattle.gixobj_tree.specs.Entries.{EntryView, Pair}
 use Rattle.gixobj_hash.specs.declared.hash.kind.Kind.{Kind}
 use Rattle.gixobj_files.specs.Files.{Files, Path, SameFiles, Table}
-use Rattle.gixobj_files.specs.HandingOut.{Leaves, Saves}
+use Rattle.gixobj_files.specs.Emission.{EmitsBelow, Saves}
 use Rattle.gixobj_files.specs.Opening.{Dirs, OpenFiles}
 use Rattle.gixobj_files.specs.State.{State}
 use Rattle.gixobj_files.specs.Tables.{AgreesWithPairs}
 use Rattle.gixobj_files.proofs.EditedFiles.{root_files, same_trans}
-use Rattle.gixobj_files.proofs.WrittenFiles.{known_left, known_right, leaves_files, opened_trees}
+use Rattle.gixobj_files.proofs.WrittenFiles.{known_remaining, known_right, leaves_files, opened_trees}
 use Rattle.gixobj_directories.specs.Calls.{IsStorable}
 use Rattle.gixobj_directories.specs.Nested.{Opened, bases_of, dirs_of, opened}
 use Rattle.gixobj_directories.proofs.OpeningSteps.{only_is}
@@ -24,41 +24,55 @@ use Rattle.gixobj_files.specs.Edits.{only}
 use Rattle.gixobj_files.proofs.Based.{based_of}
 use Rattle.gixobj_files.proofs.Calls.{none_based}
 
--- each pair may be handed out
-pub each_storable : (front : List Pair) (pair : Pair) → AllByRecursion (λ p. IsStorable p.1) front → IsStorable pair.1 → AllByRecursion (λ p. IsStorable p.1) (front ++ pair ∷ [])
+-- each pair may be emitted
+pub each_storable : (head : List Pair) (pair : Pair) → AllByRecursion (λ p. IsStorable p.1) head → IsStorable pair.1
+    → AllByRecursion (λ p. IsStorable p.1) (head ++ pair ∷ [])
 each_storable [] pair h k = (k, tt)
-each_storable (first ∷ front) pair h k = (h.0, each_storable front pair h.1 k)
+each_storable (first ∷ head) pair h k = (h.0, each_storable head pair h.1 k)
 
 module _ {S F : Type 0} (store : S) (hash : Kind) (prefix : Path) (gave : F → Pair → F → Type 0) where
-  went_out : (ds : Opened) (n : ℕ) → OpenedOn ds → (it : Written) (below : List Pair) (own base : List EntryView) (asked answered : F) → Saves (dirs_of ds) (bases_of ds) below own it.saved → it.trees.items ≡ below ++ (it.id, own) ∷ []
-      → FoldsTo gave asked (below ++ (it.id, own) ∷ []) answered → IsStorable own → EditedSo ds (opened own base []) → IsWrittenEditor gave asked (state_of store hash prefix ds n) it (state_of store hash prefix (opened own base []) n) answered
-  went_out ds n was it below own base asked answered going is called storable left =
-      let there : Leaves (map_dirs ds) (map_bases ds) below own going.0 = subst (λ (b : Dirs). Leaves (map_dirs ds) b below own going.0) (sym (same_bases ds)) (subst (λ (d : Dirs). Leaves d (bases_of ds) below own going.0) (sym (same_dirs ds)) going.1) in
+  went_out : (ds : Opened) (n : ℕ) → OpenedOn ds → (it : Written) (below : List Pair) (own base : List EntryView) (requested answered : F)
+      → Saves (dirs_of ds) (bases_of ds) below own it.saved → it.trees.items ≡ below ++ (it.id, own) ∷ []
+      → FoldsTo gave requested (below ++ (it.id, own) ∷ []) answered → IsStorable own → EditedSo ds (opened own base [])
+      → IsWrittenEditor gave requested (state_of store hash prefix ds n) it (state_of store hash prefix (opened own base []) n) answered
+  went_out ds n was it below own base requested answered going is called storable remaining =
+      let there : EmitsBelow (map_dirs ds) (map_bases ds) below own going.0 = subst (λ (b : Dirs). EmitsBelow (map_dirs ds) b below own going.0)
+      (sym (same_bases ds)) (subst (λ (d : Dirs). EmitsBelow d (bases_of ds) below own going.0) (sym (same_dirs ds)) going.1) in
       let on = on_map ds was in
       let known : (T : Table) → AgreesWithPairs T it.trees.items → AllByRecursion (λ p. T.tree_at p.0 ≡ Some p.1) (below ++ (it.id, own) ∷ []) =
-      λ T agrees. recursion_from_All (λ (p : Pair). T.tree_at p.0 ≡ Some p.1) (below ++ (it.id, own) ∷ []) (subst (λ (ps : List Pair). AgreesWithPairs T ps) is agrees) in
-      let files : (T : Table) (k : ℕ) → AgreesWithPairs T it.trees.items → HasBases T (map_dirs ds) (map_bases ds) → SameFiles (Files T k own) (OpenFiles T k (map_dirs ds)) =
-      λ T k agrees has. leaves_files T (map_dirs ds) (map_bases ds) below own going.0 there (opened_trees (map_dirs ds) on.opened) (based_of T (map_dirs ds) (map_bases ds) on.null_based has) (known_left T below ((it.id, own) ∷ []) (known T agrees)) k in
-      let new_is : (at : Path) → map_dirs (opened own base []) at ≡ only own at = λ at. dirs_at (opened own base []) at ∙ ap (λ (d : Dirs). d at) (only_is own) in
+      λ T agrees. recursion_from_All (λ (p : Pair). T.tree_at p.0 ≡ Some p.1) (below ++ (it.id, own) ∷ [])
+      (subst (λ (ps : List Pair). AgreesWithPairs T ps) is agrees) in
+      let files : (T : Table) (k : ℕ) → AgreesWithPairs T it.trees.items → HasBases T (map_dirs ds) (map_bases ds)
+      → SameFiles (Files T k own) (OpenFiles T k (map_dirs ds)) =
+      λ T k agrees has. leaves_files T (map_dirs ds) (map_bases ds) below own going.0 there (opened_trees (map_dirs ds) on.opened)
+      (based_of T (map_dirs ds) (map_bases ds) on.null_based has) (known_remaining T below ((it.id, own) ∷ []) (known T agrees)) k in
+      let new_is : (at : Path) → map_dirs (opened own base []) at ≡ only own at = λ at. dirs_at (opened own base []) at ∙ ap (λ (d : Dirs). d at)
+      (only_is own) in
       record {
-        handed_out = (below, it.id, own, (going.0, there, going.2), is);
-        called = subst (λ (ps : List Pair). FoldsTo gave asked ps answered) (sym is) called;
-        storable = subst (λ (ps : List Pair). All (λ pair. IsStorable pair.1) ps) (sym is) (All-from_recursion (λ (p : Pair). IsStorable p.1) (below ++ (it.id, own) ∷ []) (each_storable below (it.id, own) (leaves_storable (map_dirs ds) (map_bases ds) below own going.0 there on.opened.well_formed).0 storable));
+        emitted = (below, it.id, own, (going.0, there, going.2), is);
+        called = subst (λ (ps : List Pair). FoldsTo gave requested ps answered) (sym is) called;
+        storable = subst (λ (ps : List Pair). All (λ pair. IsStorable pair.1) ps) (sym is)
+            (All-from_recursion (λ (p : Pair). IsStorable p.1) (below ++ (it.id, own) ∷ [])
+            (each_storable below (it.id, own) (leaves_storable (map_dirs ds) (map_bases ds) below own going.0 there on.opened.well_formed).0 storable));
         below = below;
         own = own;
         last = is;
         dirs = refl;
-        bases = only_edited_map ds (opened own base []) left;
+        bases = only_edited_map ds (opened own base []) remaining;
         rest = refl;
-        files = λ T k agrees has. subst (λ (o : Option (List EntryView)). SameFiles (λ path mode it. MatchOption o ⊥ (λ es. Files T k es path mode it)) (OpenFiles T k (map_dirs ds))) (sym ((known_right T below ((it.id, own) ∷ []) (known T agrees)).0)) (files T k agrees has);
+        files = λ T k agrees has. subst (λ (o : Option (List EntryView)). SameFiles (λ path mode it. MatchOption o ⊥ (λ es. Files T k es path mode it))
+            (OpenFiles T k (map_dirs ds))) (sym ((known_right T below ((it.id, own) ∷ []) (known T agrees)).0)) (files T k agrees has);
         same_files = λ T k agrees has. same_trans _ _ _ (root_files T k own) (files T k agrees has);
         has_bases = λ T. none_based T (map_dirs (opened own base [])) (map_bases (opened own base []))
-            (λ name path. only_edited_map ds (opened own base []) left (name ∷ path) ∙ ap (λ (o : Option (List EntryView)). base_edited (map_dirs ds (name ∷ path)) o (map_bases ds (name ∷ path))) (new_is (name ∷ path)));
+            (λ name path. only_edited_map ds (opened own base []) remaining (name ∷ path)
+            ∙ ap (λ (o : Option (List EntryView)). base_edited (map_dirs ds (name ∷ path)) o (map_bases ds (name ∷ path))) (new_is (name ∷ path)));
       }
 
-  pub written_at : (ds ds' : Opened) (n : ℕ) (old : State S) → state_of store hash prefix ds n ≡ old → OpenedOn ds → (it : Written) (below : List Pair) (own base : List EntryView) (asked answered : F) → Saves (dirs_of ds) (bases_of ds) below own it.saved
-      → it.trees.items ≡ below ++ (it.id, own) ∷ [] → FoldsTo gave asked (below ++ (it.id, own) ∷ []) answered → IsStorable own → ds' ≡ opened own base [] → EditedSo ds ds' → IsWrittenEditor gave asked old it (state_of store hash prefix ds' n) answered
-  written_at ds ds' n old view was it below own base asked answered going is called storable left edited =
-      subst (λ (o : State S). IsWrittenEditor gave asked o it (state_of store hash prefix ds' n) answered) view
-      (subst (λ (d : Opened). IsWrittenEditor gave asked (state_of store hash prefix ds n) it (state_of store hash prefix d n) answered) (sym left)
-      (went_out ds n was it below own base asked answered going is called storable (subst (λ (d : Opened). EditedSo ds d) left edited)))
+  pub written_at : (ds ds' : Opened) (n : ℕ) (old : State S) → state_of store hash prefix ds n ≡ old → OpenedOn ds
+      → (it : Written) (below : List Pair) (own base : List EntryView) (requested answered : F) → Saves (dirs_of ds) (bases_of ds) below own it.saved
+      → it.trees.items ≡ below ++ (it.id, own) ∷ [] → FoldsTo gave requested (below ++ (it.id, own) ∷ []) answered → IsStorable own → ds' ≡ opened own base []
+      → EditedSo ds ds' → IsWrittenEditor gave requested old it (state_of store hash prefix ds' n) answered
+  written_at ds ds' n old view was it below own base requested answered going is called storable remaining edited =
+      subst (λ (o : State S). IsWrittenEditor gave requested o it (state_of store hash prefix ds' n) answered) view
+      (subst (λ (d : Opened). IsWrittenEditor gave requested (state_of store hash prefix ds n) it (state_of store hash prefix d n) answered) (sym remaining)
+      (went_out ds n was it below own base requested answered going is called storable (subst (λ (d : Opened). EditedSo ds d) remaining edited)))

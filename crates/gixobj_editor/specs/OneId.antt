@@ -1,4 +1,4 @@
--- Runs whose trees come from their writes alone, and what the ids of their roots tell.
+-- Plain runs, whose trees come from their writes alone, and what the ids of their roots say of the files.
 use Rattle.std.specs.Prelude.{◌≡◌, ◌≢◌, ◌↔◌, ℕ, List, [], All, Some, ⊤, take}
 use Rattle.gixobj_editor.specs.declared.command.Command.{Command}
 use Rattle.gixobj_editor.specs.declared.command.Command.TheVariants as command
@@ -11,36 +11,37 @@ use Rattle.gixobj_files.specs.PlainHistory.{NoFiles, PlainHistory}
 use Rattle.gixobj_files.specs.State.{State, root_alone}
 use Rattle.gixobj_files.specs.Tables.{HasOneId}
 use Rattle.gixobj_mode.specs.declared.entry_kind.EntryKind.TheVariants.{Tree}
-use Rattle.gixobj_editor.specs.Commands.{accepted_steps, pairs_handed_out, written_at}
+use Rattle.gixobj_editor.specs.Commands.{accepted_steps, emitted_pairs, written_at}
 use Rattle.gixobj_editor.specs.RunTables.{AgreesWithRun}
 use Rattle.gixobj_editor.specs.declared.reply.Reply.{Reply}
 
--- the edit puts in no tree
-abbrev pub PutsNoTree : Edit → Type 0
-PutsNoTree (edit.Upsert path kind id) = kind ≢ Tree
-PutsNoTree it = ⊤
+-- the edit inserts no tree
+abbrev pub InsertsNoTree : Edit → Type 0
+InsertsNoTree (edit.Upsert path kind id) = kind ≢ Tree
+InsertsNoTree it = ⊤
 
--- the command puts in no tree, and sets no root but the empty one
+-- the command inserts no tree, and sets no root but the empty one
 abbrev pub NamesNoTree : Command → Type 0
-NamesNoTree (command.Edit it) = PutsNoTree it
-NamesNoTree (command.At prefix edits) = All PutsNoTree edits.items
+NamesNoTree (command.Edit it) = InsertsNoTree it
+NamesNoTree (command.At prefix edits) = All InsertsNoTree edits.items
 NamesNoTree (command.SetRoot entries) = entries ≡ []
 
--- a run on a new editor with the empty root, that puts in no tree and sets no root but the empty one, and in which no tree got two ids;
--- the table agrees with it
-pub record IsPlainRun {S E : Type 0} (T : Table) (objects : Objects) (editor : State S) (commands : List Command) (replies : List (Reply E)) : Type 0 where
+-- a plain run: it is on a new editor with the empty root, inserts no tree, and sets no root but the empty one. No tree
+-- has two ids in it, and the table agrees with it
+pub record IsPlainRun {S E : Type 0} (T : Table) (objects : Objects) (editor : State S) (commands : List Command)
+    (replies : List (Reply E)) : Type 0 where
   pub agrees : AgreesWithRun T objects replies
   pub dirs : editor.dirs ≡ root_alone []
   pub bases : editor.bases ≡ root_alone []
   pub no_tree : All NamesNoTree commands
-  pub one_id : HasOneId (pairs_handed_out replies)
+  pub one_id : HasOneId (emitted_pairs replies)
 
--- the files that the accepted commands before command number k make of none, where no tree is put in
+-- the files that the accepted commands before command number k make of none, if no tree is inserted
 abbrev pub files_before : {E : Type 0} → ℕ → List Command → List (Reply E) → FileSet
 files_before k commands replies = PlainHistory (accepted_steps (take k commands) (take k replies)) NoFiles
 
--- two writes of the root name one id exactly where their files are equal, to every depth
-abbrev pub IdsTellFiles : {E : Type 0} → List Command → List (Reply E) → Type 0
-IdsTellFiles commands replies =
+-- two writes of the root name one id if and only if their files are equal, at every depth
+abbrev pub IdsDetermineFiles : {E : Type 0} → List Command → List (Reply E) → Type 0
+IdsDetermineFiles commands replies =
     (k l : ℕ) (first second : Written) → written_at replies k ≡ Some first → written_at replies l ≡ Some second
     → (first.id ≡ second.id) ↔ SameFiles (files_before k commands replies) (files_before l commands replies)

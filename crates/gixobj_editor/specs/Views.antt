@@ -1,4 +1,4 @@
--- Commands as contracts see them: a path is its names.
+-- Views of commands, in which a path is the list of its names.
 use Rattle.std.specs.Prelude.{ℕ, List, map}
 use Rattle.bstr.specs.Owned.{bstring_bytes}
 use Rattle.bstr.specs.declared.bstring.BString.{BString}
@@ -17,7 +17,7 @@ pub data EditView : Type 0 where
   remove_leaf : List (List ℕ) → EditView
   write : EditView
 
--- a command: an edit from the root, edits from the directory at a prefix, or a new root of these entries
+-- a command: an edit from the root, edits from the directory at a prefix, or a new root with these entries
 pub data CommandView : Type 0 where
   one_edit : EditView → CommandView
   edits_at : List (List ℕ) → List EditView → CommandView
@@ -27,12 +27,14 @@ pub data CommandView : Type 0 where
 abbrev pub path_names : List BString → List (List ℕ)
 path_names path = map bstring_bytes path
 
+-- the view of an edit
 abbrev pub edit_view : Edit → EditView
 edit_view (edit.Upsert path kind id) = upsert (path_names path.items) kind id
 edit_view (edit.Remove path) = remove (path_names path.items)
 edit_view (edit.RemoveLeaf path) = remove_leaf (path_names path.items)
 edit_view edit.Write = write
 
+-- the view of a command
 abbrev pub command_view : Command → CommandView
 command_view (command.Edit it) = one_edit (edit_view it)
 command_view (command.At prefix edits) = edits_at (path_names prefix.items) (map edit_view edits.items)

@@ -1,20 +1,22 @@
--- What a write of an editor promises.
+-- The effect of a write of an editor's root.
 use Rattle.std.specs.Prelude.{◌≡◌, ◌++◌, ℕ, List, [], ◌∷◌, All}
 use Rattle.std.specs.List.{FoldsTo}
 use Rattle.gixobj_directories.specs.Calls.{IsStorable}
 use Rattle.gixobj_directories.specs.declared.write.Written.{Written}
 use Rattle.gixobj_files.specs.Bases.{HasBases, edited_bases}
 use Rattle.gixobj_files.specs.Files.{NamedFiles, Path, SameFiles, Table}
-use Rattle.gixobj_files.specs.HandingOut.{HandsOut}
+use Rattle.gixobj_files.specs.Emission.{Emits}
 use Rattle.gixobj_files.specs.State.{EditorFiles, State, open_bases, open_dirs, root_alone}
 use Rattle.gixobj_files.specs.Tables.{AgreesWithPairs}
 use Rattle.gixobj_tree.specs.Entries.{EntryView, Pair}
 
--- a write that came through: its pairs went out, the root's own last, and the closure was called on these trees alone, in this order;
--- the root alone is open, with the tree handed out last; the tree that is named has the editor's files, which stay
-pub record IsWrittenEditor {S F : Type 0} (gave : F → Pair → F → Type 0) (asked : F) (old : State S) (it : Written) (new : State S) (answered : F) : Type 0 where
-  pub handed_out : HandsOut (open_dirs old) (open_bases old) it.saved it.trees.items
-  pub called : FoldsTo gave asked it.trees.items answered
+-- the effect of a successful write. The emitted pairs end with the root's own, and the closure was called on these
+-- trees alone, in this order. Then the root alone is open, with the last emitted tree. The named tree has the editor's
+-- files, which are unchanged
+pub record IsWrittenEditor {S F : Type 0} (gave : F → Pair → F → Type 0) (requested : F) (old : State S) (it : Written)
+    (new : State S) (answered : F) : Type 0 where
+  pub emitted : Emits (open_dirs old) (open_bases old) it.saved it.trees.items
+  pub called : FoldsTo gave requested it.trees.items answered
   pub storable : All (λ pair. IsStorable pair.1) it.trees.items
   pub below : List Pair
   pub own : List EntryView
@@ -22,6 +24,8 @@ pub record IsWrittenEditor {S F : Type 0} (gave : F → Pair → F → Type 0) (
   pub dirs : new.dirs ≡ root_alone own
   pub bases : (at : Path) → open_bases new at ≡ edited_bases (open_dirs old) (open_dirs new) (open_bases old) at
   pub rest : new ≡ record old { dirs = new.dirs; bases = new.bases }
-  pub files : (T : Table) (n : ℕ) → AgreesWithPairs T it.trees.items → HasBases T (open_dirs old) (open_bases old) → SameFiles (NamedFiles T n it.id) (EditorFiles T n old)
-  pub same_files : (T : Table) (n : ℕ) → AgreesWithPairs T it.trees.items → HasBases T (open_dirs old) (open_bases old) → SameFiles (EditorFiles T n new) (EditorFiles T n old)
+  pub files : (T : Table) (n : ℕ) → AgreesWithPairs T it.trees.items → HasBases T (open_dirs old) (open_bases old)
+      → SameFiles (NamedFiles T n it.id) (EditorFiles T n old)
+  pub same_files : (T : Table) (n : ℕ) → AgreesWithPairs T it.trees.items → HasBases T (open_dirs old) (open_bases old)
+      → SameFiles (EditorFiles T n new) (EditorFiles T n old)
   pub has_bases : (T : Table) → HasBases T (open_dirs new) (open_bases new)

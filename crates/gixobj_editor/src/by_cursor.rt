@@ -5,7 +5,7 @@ ghost use Rattle.gixobj_directories.specs.Calls.{names_of};
 ghost use Rattle.gixobj_editor.specs.Cursors.{prefix_of};
 ghost use Rattle.gixobj_editor.specs.Commands.{at_cursor};
 ghost use Rattle.gixobj_editor.specs.Replies.{AreEditReplies, IsCallable, IsEditReply, IsReplyAt};
-ghost use Rattle.gixobj_object.specs.Stores.{meaning};
+ghost use Rattle.gixobj_object.specs.Stores.{store_model};
 
 use crate::Edit;
 use crate::editor::{Cursor, Editor, Error};
@@ -17,7 +17,7 @@ use gixobj_hash::hash::ObjectId;
 use gixobj_tree::Tree;
 use std::alloc::Global;
 
-/// Does edits at paths from one directory.
+/// Makes a cursor at the directory and does the edits by it.
 pub(crate) fn do_edits_at<S: Keep, E: Drop, F: Fn(&Tree) -> Result<ObjectId, E>>(
     alloc: Global,
     editor: &mut Editor<S>,
@@ -26,7 +26,7 @@ pub(crate) fn do_edits_at<S: Keep, E: Drop, F: Fn(&Tree) -> Result<ObjectId, E>>
     out: &F,
 ) -> Reply<E>
     requires callable { IsCallable F.pre out.now }
-    ensures replied { IsReplyAt (meaning S.objects S.may_fail) (FnReturnsAt F.Fn out.now)
+    ensures replied { IsReplyAt (store_model S.objects S.may_fail) (FnReturnsAt F.Fn out.now)
         (prefix_of (names_of prefix.now)) editor.old edits.items result editor.new }
 {
     match Vec::with_capacity(alloc, edits.len()) {
@@ -35,7 +35,7 @@ pub(crate) fn do_edits_at<S: Keep, E: Drop, F: Fn(&Tree) -> Result<ObjectId, E>>
     }
 }
 
-/// Does edits at paths from one directory; there is room for their replies.
+/// Makes a cursor and does the edits by it; the list of replies has the capacity for them.
 fn do_edits_in<S: Keep, E: Drop, F: Fn(&Tree) -> Result<ObjectId, E>>(
     editor: &mut Editor<S>,
     prefix: &[BString],
@@ -45,8 +45,8 @@ fn do_edits_in<S: Keep, E: Drop, F: Fn(&Tree) -> Result<ObjectId, E>>(
 ) -> Reply<E>
     requires callable { IsCallable F.pre out.now }
     requires empty { replies.items ≡ [] }
-    requires room { length edits.items ≤ vec_capacity replies }
-    ensures replied { IsReplyAt (meaning S.objects S.may_fail) (FnReturnsAt F.Fn out.now)
+    requires has_capacity { length edits.items ≤ vec_capacity replies }
+    ensures replied { IsReplyAt (store_model S.objects S.may_fail) (FnReturnsAt F.Fn out.now)
         (prefix_of (names_of prefix.now)) editor.old edits.items result editor.new }
 {
     match editor.cursor_at(prefix) {
@@ -55,7 +55,7 @@ fn do_edits_in<S: Keep, E: Drop, F: Fn(&Tree) -> Result<ObjectId, E>>(
     }
 }
 
-/// Does the edits in order. There is room for their replies.
+/// Does the edits in order; the list of replies has the capacity for them.
 fn do_edits<S: Keep, E: Drop, F: Fn(&Tree) -> Result<ObjectId, E>>(
     cursor: &mut Cursor<'_, S>,
     edits: Vec<Edit>,
@@ -64,9 +64,9 @@ fn do_edits<S: Keep, E: Drop, F: Fn(&Tree) -> Result<ObjectId, E>>(
 ) -> Vec<EditReply<E>>
     requires callable { IsCallable F.pre out.now }
     requires empty { replies.items ≡ [] }
-    requires room { length edits.items ≤ vec_capacity replies }
+    requires has_capacity { length edits.items ≤ vec_capacity replies }
     ensures same_reference { cursor.new.editor.ghost_name ≡ cursor.old.editor.ghost_name }
-    ensures replied { AreEditReplies (meaning S.objects S.may_fail) (FnReturnsAt F.Fn out.now)
+    ensures replied { AreEditReplies (store_model S.objects S.may_fail) (FnReturnsAt F.Fn out.now)
         (at_cursor cursor.old.editor.now.prefix) cursor.old.editor.now edits.items result.items
         cursor.new.editor.now }
 {
@@ -87,7 +87,7 @@ fn do_edit_by<S: Keep, E, F: Fn(&Tree) -> Result<ObjectId, E>>(
     requires callable { IsCallable F.pre out.now }
     ensures same_reference { cursor.new.editor.ghost_name ≡ cursor.old.editor.ghost_name }
     ensures prefix { cursor.new.editor.now.prefix ≡ cursor.old.editor.now.prefix }
-    ensures replied { IsEditReply (meaning S.objects S.may_fail) (FnReturnsAt F.Fn out.now)
+    ensures replied { IsEditReply (store_model S.objects S.may_fail) (FnReturnsAt F.Fn out.now)
         (at_cursor cursor.old.editor.now.prefix) cursor.old.editor.now edit result
         cursor.new.editor.now }
 {
@@ -99,7 +99,7 @@ fn do_edit_by<S: Keep, E, F: Fn(&Tree) -> Result<ObjectId, E>>(
     }
 }
 
-/// Writes the directory of the cursor, and has what was handed out kept by the store.
+/// Writes the directory of the cursor, and has the store keep the emitted trees.
 fn do_write_by<S: Keep, E, F: Fn(&Tree) -> Result<ObjectId, E>>(
     cursor: &mut Cursor<'_, S>,
     out: &F,
@@ -107,7 +107,7 @@ fn do_write_by<S: Keep, E, F: Fn(&Tree) -> Result<ObjectId, E>>(
     requires callable { IsCallable F.pre out.now }
     ensures same_reference { cursor.new.editor.ghost_name ≡ cursor.old.editor.ghost_name }
     ensures prefix { cursor.new.editor.now.prefix ≡ cursor.old.editor.now.prefix }
-    ensures replied { IsEditReply (meaning S.objects S.may_fail) (FnReturnsAt F.Fn out.now)
+    ensures replied { IsEditReply (store_model S.objects S.may_fail) (FnReturnsAt F.Fn out.now)
         (at_cursor cursor.old.editor.now.prefix) cursor.old.editor.now Edit.Write result
         cursor.new.editor.now }
 {

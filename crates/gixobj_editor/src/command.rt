@@ -1,47 +1,48 @@
-//! What a run is asked for.
+//! Commands of a run, which are edits, writes and new roots.
 use bstr::BString;
 use gixobj_hash::hash::ObjectId;
 use gixobj_tree::Tree;
 use gixobj_tree::tree::EntryKind;
 
-/// An edit, or a write. A path is a list of names.
+/// An edit, or a write, of a [`Command`]. A path is a list of names.
 #[derive(Debug, Drop)]
 pub enum Edit {
-    /// An entry of this kind and id is put at the path, in place of any that is there.
+    /// Inserts an entry of this kind and id at the path, or replaces the entry that is there.
     Upsert {
         /// The path of the entry.
         path: Vec<BString>,
         /// The kind of the entry.
         kind: EntryKind,
-        /// The id of the entry. A null one is a placeholder, which is never written.
+        /// The id of the entry. A null id makes the entry a placeholder, which a write leaves out.
         id: ObjectId,
     },
-    /// What is at the path is taken out.
+    /// Removes the entry at the path and everything below it.
     Remove {
-        /// The path of what goes.
+        /// The path of the removed entry.
         path: Vec<BString>,
     },
-    /// What is at the path is taken out, unless it is a directory.
+    /// Removes the entry at the path unless it is a directory.
     RemoveLeaf {
-        /// The path of what goes.
+        /// The path of the removed entry.
         path: Vec<BString>,
     },
-    /// What is open is handed out, and then kept by the store.
+    /// Writes the changed open directories, and has the store keep the emitted trees.
     Write,
 }
 
-/// A command of a run.
+/// A command of [`run`](crate::run).
 #[derive(Debug, Drop)]
 pub enum Command {
     /// An edit at a path from the root, or a write of the root.
     Edit(Edit),
-    /// Edits at paths from one directory, and writes of that one. It is made where there is none.
+    /// Edits at paths from one directory, and writes of that directory, which is made if it is missing.
     At {
-        /// The path of the directory from the root; no names, or a single empty one, for the root itself.
+        /// The path of the directory from the root. An empty path and a single empty name mean the root.
         prefix: Vec<BString>,
         /// The edits, in order.
         edits: Vec<Edit>,
     },
-    /// The editor begins anew with this root.
+    /// Replaces the root of the editor by this tree, as [`Editor::set_root`](crate::editor::Editor::set_root)
+    /// does.
     SetRoot(Tree),
 }

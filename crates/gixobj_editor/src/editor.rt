@@ -1,11 +1,10 @@
-//! An editor of nested trees (gitdatamodel, "trees").
+//! Edits of nested trees by paths, and writes of the changed trees (gitdatamodel, "trees").
 //!
-//! It edits a tree and the trees below it by paths, and hands out what is to be stored. A directory is opened, that is
-//! looked up in the store, only where an edit needs it.
+//! A directory is opened, that is looked up in the store, only if an edit needs it.
 ghost use Rattle.std.specs.Prelude.{◌≡◌, [], IfErr, IfOk, IsOk, OnErr, OnOk, ℕ};
 ghost use Rattle.std.specs.Borrow.{Lends, sem};
 ghost use Rattle.std.specs.Option.{option_copied};
-ghost use Rattle.gixobj_object.specs.Stores.{meaning};
+ghost use Rattle.gixobj_object.specs.Stores.{store_model};
 ghost use Rattle.gixobj_tree.specs.Entries.{IsWellFormed};
 ghost use Rattle.gixobj_mode.specs.Mode.{mode_of_kind};
 ghost use Rattle.gixobj_files.specs.Edits.{IsNoTree, entry_at};
@@ -13,13 +12,13 @@ ghost use Rattle.gixobj_files.specs.Files.{Files, SameFiles, Table};
 ghost use Rattle.gixobj_files.specs.Opening.{IsOpened};
 ghost use Rattle.gixobj_files.specs.Bases.{HasBases};
 ghost use Rattle.gixobj_files.specs.State.{EditorFiles, open_bases, open_dirs, root_alone, with_store};
-ghost use Rattle.gixobj_files.specs.HandingOut.{HandsOutSome};
+ghost use Rattle.gixobj_files.specs.Emission.{EmitsSome};
 ghost use Rattle.gixobj_directories.specs.Calls.{IsCallableOnTrees, answered, denied, names_of};
-ghost use Rattle.gixobj_directories.specs.Handing.{Stopped};
+ghost use Rattle.gixobj_directories.specs.Emitting.{Stopped};
 ghost use Rattle.gixobj_editor.specs.Writes.{IsWrittenEditor};
 ghost use Rattle.gixobj_directories.specs.Openings.{OfTrees};
-ghost use Rattle.gixobj_editor.specs.Upserts.{IsForAName, IsRefused, IsUpserted, RefusedIn, RefusesUpsert};
-ghost use Rattle.gixobj_editor.specs.Removals.{IsLeafRemoved, IsRemoved, RefusesLeafRemoval, RefusesRemoval};
+ghost use Rattle.gixobj_editor.specs.Upserts.{IsForAName, IsEditFailure, IsUpserted, IsErrorIn, IsUpsertError};
+ghost use Rattle.gixobj_editor.specs.Removals.{IsLeafRemoved, IsRemoved, IsLeafRemovalError, IsRemovalError};
 ghost use Rattle.gixobj_editor.specs.contracts.editor.Editor.{the_row};
 
 mod cursor;
@@ -31,7 +30,7 @@ use bstr::BString;
 pub use cursor::Cursor;
 pub use error::Error;
 use gixobj_directories::open::Open;
-use gixobj_directories::opening::Unasked;
+use gixobj_directories::opening::Vacant;
 use gixobj_directories::write::write_all;
 pub use gixobj_directories::write::{WriteError, Written};
 use gixobj_hash::OutOfMemory;
@@ -43,11 +42,11 @@ use names::{check_names, copy_names};
 use removal::{check_leaf, open_for_removal};
 use std::marker::Model;
 
-/// An editor of a tree, over a store of objects.
+/// An editor of a tree and of the trees below it, over an object store. [`Editor::new`] makes one.
 ///
-/// In contracts it is the list of each open directory, by its path, and the list that the directory was opened with,
-/// its base; with the store, the number of lookups, the kind of the ids, and the path at which the newest cursor was
-/// made. An entry with a null id is a placeholder, which is never written.
+/// In contracts it has the entries of each open directory and its base, the entries that it was opened with,
+/// both by the directory's path. It also has the store, the number of lookups, the kind of the ids, and the
+/// path of the newest cursor. An entry with a null id is a placeholder, which a write leaves out.
 #[derive(Drop)]
 pub struct Editor<S> {
     root: Open,
@@ -83,9 +82,21 @@ impl<S> Model for Editor<S> {
 
 /// Lifecycle
 impl<S> Editor<S> {
-    /// An editor of this tree, over a store of objects, with ids of this kind of digest. The root must be
-    /// well-formed, as [`Tree::is_well_formed`] tells. A directory that an edit makes has the null id of this kind
-    /// until a write; ids of the other kind are taken as they are. It takes no memory.
+    /// Makes an editor of this tree over an object store, with ids of this hash kind.
+    ///
+    /// The root must be well-formed, as [`Tree::is_well_formed`] reports. A directory that an edit makes has
+    /// the null id of `object_hash` until a write. Ids of the other kind are accepted unchanged. Allocates
+    /// nothing.
+    ///
+    /// # Examples
+    ///
+    /// ```rust
+    /// match root {
+    ///     Ok(root) if root.is_well_formed() => Ok(Editor::new(root, store, id.kind())),
+    ///     Ok(_) => Err(Error::MalformedTree),
+    ///     Err(_) => Err(Error::OutOfMemory),
+    /// }
+    /// ```
     pub fn new(root: Tree, store: S, object_hash: hash::Kind) -> Editor<S>
         requires { IsWellFormed root }
         ensures dirs { result.dirs ≡ root_alone root }
@@ -108,10 +119,11 @@ impl<S> Editor<S> {
         }
     }
 
-    /// Begins anew with this root, which must be well-formed, as [`Tree::is_well_formed`] tells:
-    /// it alone is open, and what was edited before counts no more, nor what directories were
-    /// opened with. The next write hands the root out, also where nothing is edited in it. The
-    /// store, the kind of the ids and the number of lookups stay. It takes no memory.
+    /// Replaces the root by this tree, which must be well-formed, as [`Tree::is_well_formed`] reports.
+    ///
+    /// Only the root is open then, without earlier edits and bases. The next write emits it even if nothing
+    /// is edited in it. The store, the kind of the ids and the number of lookups are unchanged. Allocates
+    /// nothing.
     pub fn set_root(&mut self, root: Tree) -> &mut Editor<S>
         requires { IsWellFormed root }
         ensures same_reference { result.ghost_name ≡ self.entry.ghost_name }
@@ -131,7 +143,7 @@ impl<S> Editor<S> {
 
 /// Access
 impl<S> Editor<S> {
-    /// The store, to keep in it what a write handed out. Nothing else of the editor changes.
+    /// Returns the store, for example to keep emitted trees in it. The rest of the editor is unchanged.
     pub fn store_mut(&mut self) -> &mut S
         ensures* writes_back { sem 𝓛 (Lends (the_row S.row) S.row self.entry result
             (with_store self.old)) }
@@ -140,8 +152,8 @@ impl<S> Editor<S> {
         &mut self.store
     }
 
-    /// How many trees were looked up in the store since the editor was made, failed lookups too. The
-    /// count stays at the greatest `u64`.
+    /// The number of trees looked up in the store since the editor was made, failed lookups included. It
+    /// saturates at `u64::MAX`.
     pub fn lookups(&self) -> u64
         ensures { result ≡ self.now.lookups }
     {
@@ -151,9 +163,23 @@ impl<S> Editor<S> {
 
 /// Editing
 impl<S: Find> Editor<S> {
-    /// Puts in or replaces an entry, as [`Editor::try_upsert`], and lends the editor back, so that
-    /// calls chain. A refusal leaves what that call's does. A caller's proof knows nothing of the
-    /// editor behind it: who proves something calls that one.
+    /// Inserts or replaces an entry like [`Editor::try_upsert`], and returns the editor, so that calls chain.
+    ///
+    /// A caller's proof knows nothing of the editor after the call: callers with proofs use
+    /// [`Editor::try_upsert`].
+    ///
+    /// # Errors
+    ///
+    /// Those of [`Editor::try_upsert`], with the same effect on the editor.
+    ///
+    /// # Examples
+    ///
+    /// ```rust
+    /// let path = vec![in alloc; BString::from_slice(alloc, b"hello.txt")?]?;
+    /// let blob = ObjectId::from_hex(BLOB).ok_or("an id")?;
+    /// let mut editor = Editor::new(Tree::empty(alloc), Never, HashKind::Sha1);
+    /// editor.upsert(&path, EntryKind::Blob, blob)?;
+    /// ```
     pub fn upsert(
         &mut self,
         path: &[BString],
@@ -165,58 +191,74 @@ impl<S: Find> Editor<S> {
             OfTrees (S.objects self.old.store)
             (λ trees. IsUpserted trees self.old (names_of path.now) (mode_of_kind kind) id
             it.now)) }
-        ensures refusal { IfErr result (RefusedIn (meaning S.objects S.may_fail) self.old
-            RefusesUpsert (names_of path.now)) }
+        ensures error { IfErr result (IsErrorIn (store_model S.objects S.may_fail) self.old
+            IsUpsertError (names_of path.now)) }
     {
         self.try_upsert(path, kind, id)?;
         Ok(self)
     }
 
-    /// Takes out an entry, as [`Editor::try_remove`], and lends the editor back, so that calls
-    /// chain. A refusal leaves what that call's does. A caller's proof knows nothing of the editor
-    /// behind it: who proves something calls that one.
+    /// Removes an entry like [`Editor::try_remove`], and returns the editor, so that calls chain.
+    ///
+    /// A caller's proof knows nothing of the editor after the call: callers with proofs use
+    /// [`Editor::try_remove`].
+    ///
+    /// # Errors
+    ///
+    /// Those of [`Editor::try_remove`], with the same effect on the editor.
     pub fn remove(&mut self, path: &[BString]) -> Result<&mut Editor<S>, Error>
         ensures same_reference { IfOk result (λ it. it.ghost_name ≡ self.entry.ghost_name) }
         ensures removed { IfOk result (λ it.
             OfTrees (S.objects self.old.store)
             (λ trees. IsRemoved IsNoTree trees self.old (names_of path.now) it.now)) }
-        ensures refusal { IfErr result (RefusedIn (meaning S.objects S.may_fail) self.old
-            (RefusesRemoval IsNoTree) (names_of path.now)) }
+        ensures error { IfErr result (IsErrorIn (store_model S.objects S.may_fail) self.old
+            (IsRemovalError IsNoTree) (names_of path.now)) }
     {
         self.try_remove(path)?;
         Ok(self)
     }
 
-    /// Takes out what is no directory, as [`Editor::try_remove_leaf`], and lends the editor back,
-    /// so that calls chain. A refusal leaves what that call's does. A caller's proof knows nothing of
-    /// the editor behind it: who proves something calls that one.
+    /// Removes an entry like [`Editor::try_remove_leaf`], and returns the editor, so that calls chain.
+    ///
+    /// A caller's proof knows nothing of the editor after the call: callers with proofs use
+    /// [`Editor::try_remove_leaf`].
+    ///
+    /// # Errors
+    ///
+    /// Those of [`Editor::try_remove_leaf`], with the same effect on the editor.
     pub fn remove_leaf(&mut self, path: &[BString]) -> Result<&mut Editor<S>, Error>
         ensures same_reference { IfOk result (λ it. it.ghost_name ≡ self.entry.ghost_name) }
         ensures removed { IfOk result (λ it.
             OfTrees (S.objects self.old.store)
             (λ trees. IsLeafRemoved trees self.old (names_of path.now) it.now)) }
-        ensures refusal { IfErr result (RefusedIn (meaning S.objects S.may_fail) self.old
-            RefusesLeafRemoval (names_of path.now)) }
+        ensures error { IfErr result (IsErrorIn (store_model S.objects S.may_fail) self.old
+            IsLeafRemovalError (names_of path.now)) }
     {
         self.try_remove_leaf(path)?;
         Ok(self)
     }
 
-    /// Puts an entry of this kind and id at the path, in place of any entry of its name and of all
-    /// that is below it. Each strict beginning of the path becomes a directory: one that isn't
-    /// open is looked up, one that is missing is made, and an entry that is no tree is replaced. A
-    /// directory at the path itself is open no more. Without names nothing changes (git-update-index,
-    /// `--cacheinfo`).
+    /// Inserts an entry of this kind and id at the path (git-update-index, `--cacheinfo`).
     ///
-    /// A name is bytes without `/`. One with a zero byte is accepted, and a write of its tree is refused.
+    /// It replaces any entry of that name and everything below it. Each parent directory on the path becomes
+    /// an open directory: one that isn't open is looked up, a missing one is made, and an entry that isn't a
+    /// tree is replaced. A directory at the path itself is no longer open. An empty path changes nothing.
     ///
-    /// What a directory is opened with is kept beside it, to tell at a write whether it was
-    /// changed: that takes memory for a copy.
+    /// A name is bytes without `/`. A name with a zero byte is accepted, but its tree can't be encoded.
     ///
-    /// `EmptyPathComponent` or `SlashInPathComponent` for the first name that no entry may have;
-    /// else `FindExistingObject` or `MalformedTree` for the first directory that the store doesn't have as a
-    /// well-formed tree, or whose lookup fails; `OutOfMemory` where memory ran out, only where the path has names. A
-    /// refusal leaves the files as they were; what was opened on the way stays open.
+    /// Allocates for each directory that it opens, twice for one that is looked up, and for the inserted
+    /// entries. The second copy is the base, by which a write detects a change.
+    ///
+    /// # Errors
+    ///
+    /// - [`Error::EmptyPathComponent`] if the first invalid name is empty, before any lookup;
+    /// - [`Error::SlashInPathComponent`] if the first invalid name contains a `/`, before any lookup;
+    /// - [`Error::FindExistingObject`] with the lookup's error, for the first directory that isn't found as a
+    ///   tree;
+    /// - [`Error::MalformedTree`] for the first directory whose tree isn't well-formed;
+    /// - [`Error::OutOfMemory`] if allocation fails, only for a path with names.
+    ///
+    /// The files are unchanged after an error; directories that were opened on the way are still open.
     pub fn try_upsert(
         &mut self,
         path: &[BString],
@@ -226,11 +268,11 @@ impl<S: Find> Editor<S> {
         ensures upserted { OnOk result (OfTrees (S.objects self.old.store)
             (λ trees. IsUpserted trees self.old (names_of path.now) (mode_of_kind kind) id
             self.new)) }
-        ensures refused { OnErr result (OfTrees (S.objects self.old.store)
-            (λ trees. IsRefused trees self.old (names_of path.now) self.new)) }
-        ensures refusal { IfErr result (RefusedIn (meaning S.objects S.may_fail) self.old
-            RefusesUpsert (names_of path.now)) }
-        ensures unasked { IfErr result (λ error. IsForAName error → self.new ≡ self.old) }
+        ensures after_error { OnErr result (OfTrees (S.objects self.old.store)
+            (λ trees. IsEditFailure trees self.old (names_of path.now) self.new)) }
+        ensures error { IfErr result (IsErrorIn (store_model S.objects S.may_fail) self.old
+            IsUpsertError (names_of path.now)) }
+        ensures not_looked_up { IfErr result (λ error. IsForAName error → self.new ≡ self.old) }
     {
         let alloc = *self.prefix.allocator();
         check_names(path)?;
@@ -241,38 +283,52 @@ impl<S: Find> Editor<S> {
         self.root.open_along(
             alloc,
             directory,
-            Unasked::Opened,
+            Vacant::Opened,
             &self.store,
             &mut self.lookups,
         )?;
-        self.root.put(alloc, path, kind.into(), id, null)?;
+        self.root.insert_entry(alloc, path, kind.into(), id, null)?;
         Ok(())
     }
 
-    /// Takes out the entry at the path and all that is below it. The directories above are looked
-    /// up where they aren't open; where one is missing, or isn't a directory, there is nothing to
-    /// remove, and the names behind it aren't judged. Without names nothing changes (git-update-index,
-    /// `--force-remove`).
+    /// Removes the entry at the path and everything below it (git-update-index, `--force-remove`).
     ///
-    /// `EmptyPathComponent` or `SlashInPathComponent` for a name that no entry may have, and
-    /// `FindExistingObject` or `MalformedTree` for a directory that the store doesn't have as a
-    /// well-formed tree, or whose lookup fails, whichever comes first on the way from the root;
-    /// `OutOfMemory` where memory ran out, which is taken only where a directory is opened. A
-    /// refusal leaves the files as they were; what was opened on the way stays open.
+    /// The directories above it are looked up unless they are open. If one is missing or isn't a directory,
+    /// there is nothing to remove, and the names after it aren't validated. An empty path changes nothing.
+    /// Allocates only for directories that it opens.
+    ///
+    /// # Errors
+    ///
+    /// The first of these on the way from the root:
+    ///
+    /// - [`Error::EmptyPathComponent`] if a name is empty;
+    /// - [`Error::SlashInPathComponent`] if a name contains a `/`;
+    /// - [`Error::FindExistingObject`] with the lookup's error, if a directory isn't found as a tree;
+    /// - [`Error::MalformedTree`] if a directory's tree isn't well-formed;
+    /// - [`Error::OutOfMemory`] if allocation fails.
+    ///
+    /// The files are unchanged after an error; directories that were opened on the way are still open.
+    ///
+    /// # Examples
+    ///
+    /// ```rust
+    /// editor.try_upsert(first, EntryKind::Blob, id)?;
+    /// editor.try_remove(second)?;
+    /// ```
     pub fn try_remove(&mut self, path: &[BString]) -> Result<(), Error>
         ensures removed { OnOk result (OfTrees (S.objects self.old.store)
             (λ trees. IsRemoved IsNoTree trees self.old (names_of path.now) self.new)) }
-        ensures refused { OnErr result (OfTrees (S.objects self.old.store)
-            (λ trees. IsRefused trees self.old (names_of path.now) self.new)) }
-        ensures refusal { IfErr result (RefusedIn (meaning S.objects S.may_fail) self.old
-            (RefusesRemoval IsNoTree) (names_of path.now)) }
+        ensures after_error { OnErr result (OfTrees (S.objects self.old.store)
+            (λ trees. IsEditFailure trees self.old (names_of path.now) self.new)) }
+        ensures error { IfErr result (IsErrorIn (store_model S.objects S.may_fail) self.old
+            (IsRemovalError IsNoTree) (names_of path.now)) }
     {
         let alloc = *self.prefix.allocator();
         open_for_removal(
             alloc,
             &mut self.root,
             path,
-            Unasked::Opened,
+            Vacant::Opened,
             &self.store,
             &mut self.lookups,
         )?;
@@ -280,25 +336,31 @@ impl<S: Find> Editor<S> {
         Ok(())
     }
 
-    /// As [`Editor::try_remove`], but a directory at the path isn't taken out. A directory above
-    /// it of the null id, or of the empty tree's, isn't opened: there is nothing to remove in it.
+    /// Removes the entry at the path like [`Editor::try_remove`], unless it is a directory.
     ///
-    /// `CannotRemoveNonLeaf` where a directory is at the path, beside what refuses a removal;
-    /// `OutOfMemory` also where there was no memory for its path.
+    /// A directory above it with the null id or the empty tree's id isn't opened, since it has nothing to
+    /// remove.
+    ///
+    /// # Errors
+    ///
+    /// Those of [`Editor::try_remove`], and
+    ///
+    /// - [`Error::CannotRemoveNonLeaf`] with the path from the root, if a directory is at the path;
+    /// - [`Error::OutOfMemory`] also if the allocation of that path fails.
     pub fn try_remove_leaf(&mut self, path: &[BString]) -> Result<(), Error>
         ensures removed { OnOk result (OfTrees (S.objects self.old.store)
             (λ trees. IsLeafRemoved trees self.old (names_of path.now) self.new)) }
-        ensures refused { OnErr result (OfTrees (S.objects self.old.store)
-            (λ trees. IsRefused trees self.old (names_of path.now) self.new)) }
-        ensures refusal { IfErr result (RefusedIn (meaning S.objects S.may_fail) self.old
-            RefusesLeafRemoval (names_of path.now)) }
+        ensures after_error { OnErr result (OfTrees (S.objects self.old.store)
+            (λ trees. IsEditFailure trees self.old (names_of path.now) self.new)) }
+        ensures error { IfErr result (IsErrorIn (store_model S.objects S.may_fail) self.old
+            IsLeafRemovalError (names_of path.now)) }
     {
         let alloc = *self.prefix.allocator();
         open_for_removal(
             alloc,
             &mut self.root,
             path,
-            Unasked::Left,
+            Vacant::Unopened,
             &self.store,
             &mut self.lookups,
         )?;
@@ -310,8 +372,10 @@ impl<S: Find> Editor<S> {
 
 /// Lookup
 impl<S> Editor<S> {
-    /// The entry at the path, by open directories alone, or none. The id of an open directory may
-    /// be out of date. It looks nothing up, takes no memory, and always succeeds.
+    /// Returns the entry at the path, or `None`, by open directories alone.
+    ///
+    /// The id of an open directory may be out of date. The call looks nothing up, allocates nothing, and
+    /// always returns `Ok`.
     pub fn get(&self, path: &[BString]) -> Result<Option<&Entry>, OutOfMemory>
         ensures succeeds { IsOk result }
         ensures found { IfOk result (λ entry. option_copied entry
@@ -323,11 +387,15 @@ impl<S> Editor<S> {
 
 /// Copying
 impl<S: Clone> Editor<S> {
-    /// A copy: with the same open directories, what each was opened with, and the number of lookups, over a clone of
-    /// the store, which must equal it. So both hand out the same trees in the next write.
+    /// Copies the editor, with a clone of its store, which must equal the store.
     ///
-    /// It takes memory for each open directory, for its entries and those that it was opened with,
-    /// and for the names of the newest cursor's path. `OutOfMemory` where memory ran out.
+    /// The copy has the same open directories with their bases, and the same number of lookups. Both editors
+    /// emit the same trees in the next write. Allocates for each open directory, its entries and its base,
+    /// and for the names of the newest cursor's path.
+    ///
+    /// # Errors
+    ///
+    /// [`OutOfMemory`] if allocation fails, in the store's clone too.
     pub fn clone(&self) -> Result<Editor<S>, OutOfMemory>
         requires { (copied : S) → S.is_clone self.now.store copied → copied ≡ self.now.store }
         ensures { IfOk result (λ it. it ≡ self.now) }
@@ -348,8 +416,22 @@ impl<S: Clone> Editor<S> {
 
 /// Writing
 impl<S> Editor<S> {
-    /// Like gix-object's `Editor::write` as documented: writes all changed trees, and only changed trees, to `out`;
-    /// the root comes last, changed or not. As [`Editor::try_write`], with a closure of its own.
+    /// Emits the changed open directories to `out`, and last the root, as gix-object documents its
+    /// `Editor::write`.
+    ///
+    /// It is [`Editor::try_write`] with an owned closure.
+    ///
+    /// # Errors
+    ///
+    /// Those of [`Editor::try_write`].
+    ///
+    /// # Examples
+    ///
+    /// ```rust
+    /// let out = |tree: &Tree| tree.compute_id(alloc, HashKind::Sha1);
+    /// let Written { id, trees, .. } = editor.write(out)?;
+    /// Ok((id, trees.len()))
+    /// ```
     pub fn write<E, F: FnMut(&Tree) -> Result<ObjectId, E> + Drop>(
         &mut self,
         out: F,
@@ -357,29 +439,34 @@ impl<S> Editor<S> {
         requires { IsCallableOnTrees F.pre (answered F.FnMut) out }
         ensures written { IfOk result (λ it. (last : F)
             × IsWrittenEditor (answered F.FnMut) out self.old it self.new last) }
-        ensures stopped { IfErr result (λ error. (last : F)
+        ensures error { IfErr result (λ error. (last : F)
             × Stopped (answered F.FnMut) (denied F.FnMut)
-            (HandsOutSome (open_dirs self.old) (open_bases self.old)) out last error) }
+            (EmitsSome (open_dirs self.old) (open_bases self.old)) out last error) }
         ensures unchanged { OnErr result (self.new ≡ self.old) }
     {
         let mut out = out;
         self.try_write(&mut out)
     }
 
-    /// Hands out the open directories that were changed, each behind those in it and in the order
-    /// of their entries, and last the root, also where it is empty or as it was. Then the root
-    /// alone is open, with the tree that was handed out for it (git-write-tree).
+    /// Emits the changed open directories to `out`, and last the root, changed or not (git-write-tree).
     ///
-    /// A directory was changed where its tree isn't the one that it was opened with. Any other that has entries keeps
-    /// its id, and [`Written::saved`] counts it. One that is then empty is left out, and so are entries with null
-    /// ids. The answer of `out` to a tree is its id in the tree above; a null one leaves it out.
+    /// Directories come in the order of their entries, each after those in it. Then only the root is open,
+    /// with the emitted tree.
     ///
-    /// It takes memory for the root's tree, for the trees that go out of directories in which
-    /// another is open or an id is null, and for the list of all that go out. The others go out as
-    /// they stand, with no copy. It looks nothing up.
+    /// A directory is changed if its tree differs from its base, the tree that it was opened with. An
+    /// unchanged one that has entries keeps its id, and [`Written::saved`] counts it. A directory that is
+    /// empty then is left out, as are entries with null ids. The id that `out` returns for a tree becomes its
+    /// id in the tree above; a null id leaves it out.
     ///
-    /// `Out` where `out` refused a tree, `OutOfMemory` where memory ran out; the editor is as
-    /// it was, and what `out` was asked so far stands.
+    /// Allocates the root's tree, the list of emitted trees, and each emitted tree whose directory has an
+    /// open directory or a null id in it. The other trees are emitted without a copy. It looks nothing up.
+    ///
+    /// # Errors
+    ///
+    /// - [`WriteError::Out`] with the error that `out` returns for a tree;
+    /// - [`WriteError::OutOfMemory`] if allocation fails.
+    ///
+    /// The editor is unchanged after an error; earlier calls of `out` aren't undone.
     pub fn try_write<E, F: FnMut(&Tree) -> Result<ObjectId, E>>(
         &mut self,
         out: &mut F,
@@ -387,8 +474,8 @@ impl<S> Editor<S> {
         requires { IsCallableOnTrees F.pre (answered F.FnMut) out.old }
         ensures written { IfOk result (λ it.
             IsWrittenEditor (answered F.FnMut) out.old self.old it self.new out.new) }
-        ensures stopped { IfErr result (Stopped (answered F.FnMut) (denied F.FnMut)
-            (HandsOutSome (open_dirs self.old) (open_bases self.old)) out.old out.new) }
+        ensures error { IfErr result (Stopped (answered F.FnMut) (denied F.FnMut)
+            (EmitsSome (open_dirs self.old) (open_bases self.old)) out.old out.new) }
         ensures unchanged { OnErr result (self.new ≡ self.old) }
     {
         let alloc = *self.prefix.allocator();

@@ -3,7 +3,7 @@ ghost use Rattle.std.specs.Prelude.{◌≡◌, ◌+◌, ◌≤◌, ◌<◌, ◌+
 ghost use Rattle.std.specs.Fn.{FnReturnsAt};
 ghost use Rattle.gixobj_editor.specs.Commands.{at_root};
 ghost use Rattle.gixobj_editor.specs.Replies.{IsCallable, IsEditReply, reply_to};
-ghost use Rattle.gixobj_object.specs.Stores.{meaning};
+ghost use Rattle.gixobj_object.specs.Stores.{store_model};
 
 use crate::Edit;
 use crate::editor::{Editor, Error};
@@ -12,14 +12,14 @@ use gixobj_find::{Keep, keep_all};
 use gixobj_hash::hash::ObjectId;
 use gixobj_tree::Tree;
 
-/// Does one edit, or a write.
+/// Does one edit, or a write, at paths from the root.
 pub(crate) fn do_edit<S: Keep, E, F: Fn(&Tree) -> Result<ObjectId, E>>(
     editor: &mut Editor<S>,
     edit: Edit,
     out: &F,
 ) -> EditReply<E>
     requires callable { IsCallable F.pre out.now }
-    ensures replied { IsEditReply (meaning S.objects S.may_fail) (FnReturnsAt F.Fn out.now) at_root
+    ensures replied { IsEditReply (store_model S.objects S.may_fail) (FnReturnsAt F.Fn out.now) at_root
         editor.old edit result editor.new }
 {
     match edit {
@@ -30,13 +30,13 @@ pub(crate) fn do_edit<S: Keep, E, F: Fn(&Tree) -> Result<ObjectId, E>>(
     }
 }
 
-/// Writes, and has what was handed out kept by the store.
+/// Writes, and has the store keep the emitted trees.
 fn do_write<S: Keep, E, F: Fn(&Tree) -> Result<ObjectId, E>>(
     editor: &mut Editor<S>,
     out: &F,
 ) -> EditReply<E>
     requires callable { IsCallable F.pre out.now }
-    ensures replied { IsEditReply (meaning S.objects S.may_fail) (FnReturnsAt F.Fn out.now) at_root
+    ensures replied { IsEditReply (store_model S.objects S.may_fail) (FnReturnsAt F.Fn out.now) at_root
         editor.old Edit.Write result editor.new }
 {
     let written = match editor.write(out) {
@@ -49,7 +49,7 @@ fn do_write<S: Keep, E, F: Fn(&Tree) -> Result<ObjectId, E>>(
     }
 }
 
-/// The reply to an edit that came through or was refused.
+/// Returns the reply to an accepted or a failed edit.
 pub(crate) fn reply_to_edit<E>(done: Result<(), Error>) -> EditReply<E>
     ensures reply { result ≡ reply_to done }
 {
@@ -59,7 +59,7 @@ pub(crate) fn reply_to_edit<E>(done: Result<(), Error>) -> EditReply<E>
     }
 }
 
-/// Adds an item for which there is room.
+/// Appends an item to a list that has the capacity for it. Allocates nothing.
 pub fn push_reserved<T: Drop>(list: &mut Vec<T>, item: T)
     requires { vec_len list.old < vec_capacity list.old }
     ensures items { list.new.items ≡ list.old.items ++ item ∷ [] }

@@ -1,32 +1,39 @@
-//! Laws of the definitions. Each function does nothing: its contract is the law.
+//! Laws of the definitions, on tables that agree with runs and trees that decode to themselves. The contract
+//! of each function is a law.
 ghost use Rattle.std.specs.Prelude.{All};
 ghost use Rattle.gixobj_object.specs.Stores.{Objects};
 ghost use Rattle.gixobj_directories.specs.Openings.{AreTreesOf};
 ghost use Rattle.gixobj_files.specs.Files.{Table, Trees};
 ghost use Rattle.gixobj_tree.specs.Entries.{Pair};
-ghost use Rattle.gixobj_files.specs.Tables.{FitsBeside};
+ghost use Rattle.gixobj_files.specs.Tables.{IsConsistentWith};
 ghost use Rattle.gixobj_hash.specs.Hash.{id_kind};
-ghost use Rattle.gixobj_editor.specs.Commands.{pairs_handed_out, pairs_kept};
-ghost use Rattle.gixobj_editor.specs.RunTables.{AgreesWithRun, ReadsAsItself};
-ghost use Rattle.gixobj_tree.specs.Rewriting.{ReadsBack};
+ghost use Rattle.gixobj_editor.specs.Commands.{emitted_pairs, pairs_kept};
+ghost use Rattle.gixobj_editor.specs.RunTables.{AgreesWithRun, DecodesToItself};
+ghost use Rattle.gixobj_tree.specs.Rewriting.{RoundTrips};
 
 use crate::reply::Reply;
-use gixobj_tree::laws::{tree_has_one_reading, tree_reads_back};
+use gixobj_tree::laws::{tree_decodes_uniquely, tree_round_trips};
 
-/// Some table agrees with a run, as long as no id of what its writes handed out stands for two
-/// trees, and the written text of each tree that was kept reads as no other well-formed tree.
-pub fn fitting_runs_have_a_table<E>(replies: &[Reply<E>])
+/// Some table agrees with a run if the emitted pairs are consistent with the store's trees and each kept tree
+/// decodes to itself.
+///
+/// Consistent pairs name no tree by a null id, only the empty tree by its id, and no two trees by one id. The
+/// trees of the store count too. A tree decodes to itself if its encoding decodes to no other well-formed
+/// tree.
+pub fn consistent_run_has_table<E>(replies: &[Reply<E>])
     ensures { (objects : Objects) (trees : Trees) → AreTreesOf objects trees
-        → FitsBeside (pairs_handed_out replies.now) trees
-        → All ReadsAsItself (pairs_kept replies.now) → (T : Table)
+        → IsConsistentWith (emitted_pairs replies.now) trees
+        → All DecodesToItself (pairs_kept replies.now) → (T : Table)
         × AgreesWithRun T objects replies.now }
 {}
 
-/// The written text of a tree reads as no other tree, where no name has a zero byte, all ids are
-/// of the kind of the tree's own, and no mode is 0 or in 0o140001 to 0o147777.
-pub fn trees_read_as_themselves()
-    ensures { (pair : Pair) → All (ReadsBack (id_kind pair.0)) pair.1 → ReadsAsItself pair }
+/// The encoding of a tree decodes to no other well-formed tree if each entry round-trips.
+///
+/// An entry round-trips if its name has no zero byte and its id is of the kind of the tree's id. Its mode
+/// must have at most 16 bits, and be neither 0 nor in 0o140001 to 0o147777.
+pub fn encodable_tree_decodes_to_itself()
+    ensures { (pair : Pair) → All (RoundTrips (id_kind pair.0)) pair.1 → DecodesToItself pair }
 {
-    tree_reads_back();
-    tree_has_one_reading();
+    tree_round_trips();
+    tree_decodes_uniquely();
 }

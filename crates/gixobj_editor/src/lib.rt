@@ -1,5 +1,6 @@
-//! An editor of nested trees over a store of objects; and runs: lists of edits, writes and new roots, done on an editor
-//! over a store that keeps what is written.
+//! An editor of nested trees over an object store, and runs of edits, writes and new roots on it.
+//!
+//! The store of a run keeps the written trees.
 #![tactic(auto)]
 
 mod by_cursor;

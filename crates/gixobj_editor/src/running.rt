@@ -1,4 +1,4 @@
-//! Runs, command by command.
+//! Runs of commands on an editor, and the theorem of the files that a written tree has.
 ghost use Rattle.std.specs.Prelude.{◌≡◌, [], ℕ, IfOk, OnErr, Some, take};
 ghost use Rattle.std.specs.Fn.{FnReturnsAt};
 ghost use Rattle.gixobj_files.specs.Bases.{HasBases};
@@ -7,10 +7,10 @@ ghost use Rattle.gixobj_files.specs.History.{History};
 ghost use Rattle.gixobj_files.specs.State.{EditorFiles, open_bases, open_dirs};
 ghost use Rattle.gixobj_files.specs.Tables.{AgreesWithPairs};
 ghost use Rattle.gixobj_editor.specs.Commands.{accepted_steps, written_at};
-ghost use Rattle.gixobj_editor.specs.OneId.{IdsTellFiles, IsPlainRun};
+ghost use Rattle.gixobj_editor.specs.OneId.{IdsDetermineFiles, IsPlainRun};
 ghost use Rattle.gixobj_editor.specs.Replies.{IsCallable, IsReply, IsRun};
 ghost use Rattle.gixobj_editor.specs.RunTables.{AgreesWithRun};
-ghost use Rattle.gixobj_object.specs.Stores.{meaning};
+ghost use Rattle.gixobj_object.specs.Stores.{store_model};
 
 use crate::Command;
 use crate::by_cursor::do_edits_at;
@@ -23,20 +23,37 @@ use gixobj_hash::hash::ObjectId;
 use gixobj_tree::Tree;
 use std::alloc::Global;
 
-/// Does the commands in order, on an editor over a store that keeps trees. Each gets a reply, and
-/// a refused one ends nothing.
+/// Does the commands in order, on an editor over a store that keeps trees.
 ///
-/// After each write that comes through, the changed trees that it handed out are kept by the store
-/// in this order, up to the first that it doesn't keep. `OutOfMemory` where there was no memory
-/// for the replies: then nothing was done.
+/// Each command gets a reply; a failed one doesn't end the run. After each successful write the store keeps
+/// the emitted trees in their order, up to the first that it doesn't keep. Allocates the replies; edits and
+/// writes allocate as the calls of [`Editor`].
 ///
-/// Whatever trees other ids name, each write of the root names a tree with exactly the files, to
-/// every depth, that the accepted commands before it make of the editor's files at the start, or
-/// of those of the last root that was set. It asks nothing of what comes behind that write.
+/// A tree whose id a write of the root returns has, at every depth, exactly the files that the accepted
+/// commands before that write make. They start with the files of the last root: the last one that was set, or
+/// else the editor's files at the start. This holds for every table of trees that agrees with the editor's
+/// bases and with the run up to that write. It assumes nothing of later commands.
 ///
-/// On a new editor of the empty root, where no other tree is put in or set, two writes of the root
-/// name one id exactly where their files are equal to every depth, as long as no id stands for two
-/// trees and no tree got two ids.
+/// Let the editor be new with the empty root, and let no command insert a tree or set another root. Then two
+/// writes of the root return one id if and only if their files are equal at every depth. This assumes that no
+/// id names two trees, and that no tree got two ids.
+///
+/// # Errors
+///
+/// [`OutOfMemory`] if the allocation of the replies fails: nothing was done then.
+///
+/// # Examples
+///
+/// ```rust
+/// let mut commands: Vec<Command> = edits.into_iter().map(Command::Edit).collect(alloc)?;
+/// commands.push(Command::Edit(Edit::Write))?;
+/// run(
+///     alloc,
+///     editor,
+///     commands,
+///     |tree: &Tree| tree.compute_id(alloc, HashKind::Sha1),
+/// )
+/// ```
 pub fn run<S: Keep, E: Drop, F: Fn(&Tree) -> Result<ObjectId, E> + Drop>(
     alloc: Global,
     editor: &mut Editor<S>,
@@ -45,7 +62,7 @@ pub fn run<S: Keep, E: Drop, F: Fn(&Tree) -> Result<ObjectId, E> + Drop>(
 ) -> Result<Vec<Reply<E>>, OutOfMemory>
     requires callable { IsCallable F.pre out }
     ensures replies { IfOk result (λ replies.
-        IsRun (meaning S.objects S.may_fail) (FnReturnsAt F.Fn out) editor.old commands.items
+        IsRun (store_model S.objects S.may_fail) (FnReturnsAt F.Fn out) editor.old commands.items
         replies.items editor.new) }
     ensures headline { IfOk result (λ replies. (T : Table) (n k : ℕ) (written : Written)
         → written_at replies.items k ≡ Some written
@@ -57,8 +74,8 @@ pub fn run<S: Keep, E: Drop, F: Fn(&Tree) -> Result<ObjectId, E> + Drop>(
         (EditorFiles T n editor.old))) }
     ensures one_id { IfOk result (λ replies. (T : Table) (m : ℕ)
         → IsPlainRun T (S.objects editor.old.store) editor.old (take m commands.items)
-        (take m replies.items) → IdsTellFiles (take m commands.items) (take m replies.items)) }
-    ensures nothing_done { OnErr result (editor.new ≡ editor.old) }
+        (take m replies.items) → IdsDetermineFiles (take m commands.items) (take m replies.items)) }
+    ensures no_effect { OnErr result (editor.new ≡ editor.old) }
 {
     let mut replies = Vec::with_capacity(alloc, commands.len())?;
     for command in commands {
@@ -68,7 +85,7 @@ pub fn run<S: Keep, E: Drop, F: Fn(&Tree) -> Result<ObjectId, E> + Drop>(
     Ok(replies)
 }
 
-/// Does one command.
+/// Does one command, and returns its reply.
 fn do_command<S: Keep, E: Drop, F: Fn(&Tree) -> Result<ObjectId, E>>(
     alloc: Global,
     editor: &mut Editor<S>,
@@ -76,7 +93,7 @@ fn do_command<S: Keep, E: Drop, F: Fn(&Tree) -> Result<ObjectId, E>>(
     out: &F,
 ) -> Reply<E>
     requires callable { IsCallable F.pre out.now }
-    ensures replied { IsReply (meaning S.objects S.may_fail) (FnReturnsAt F.Fn out.now) editor.old
+    ensures replied { IsReply (store_model S.objects S.may_fail) (FnReturnsAt F.Fn out.now) editor.old
         command result editor.new }
 {
     match command {

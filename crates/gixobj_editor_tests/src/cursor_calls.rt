@@ -1,4 +1,4 @@
-//! The calls of a cursor that lend it back, and its store. Ids are those that `git mktree --missing` answers.
+//! Calls of a cursor that return the cursor, and its store. Ids are those that `git mktree --missing` prints.
 
 use crate::samples::{
     FILE, cursor_of, empty_editor, path_of, stored_b, stored_file, upserted_by, writes,
@@ -10,8 +10,8 @@ use gixobj_editor::editor::{Cursor, Editor, Error};
 use gixobj_find::Memory;
 use std::alloc::Global;
 
-/// Puts a file in at two paths, one behind the other.
-fn put_both<'c, 'e>(
+/// Inserts the file at two paths, one after the other.
+fn insert_both<'c, 'e>(
     cursor: &'c mut Cursor<'e, Memory>,
     first: &[BString],
     second: &[BString],
@@ -21,8 +21,8 @@ fn put_both<'c, 'e>(
         .upsert(second, EntryKind::Blob, FILE)
 }
 
-/// Takes what is at a path out, and then a leaf.
-fn take_both<'c, 'e>(
+/// Removes the entry at a path, then a leaf.
+fn remove_both<'c, 'e>(
     cursor: &'c mut Cursor<'e, Memory>,
     first: &[BString],
     leaf: &[BString],
@@ -30,19 +30,19 @@ fn take_both<'c, 'e>(
     cursor.remove(first)?.remove_leaf(leaf)
 }
 
-/// Edits one behind the other, which leave the second file alone of three.
+/// Makes chained edits after which only the second of three files remains.
 fn edit_all(
     cursor: &mut Cursor<'_, Memory>,
     first: &[BString],
     second: &[BString],
     third: &[BString],
 ) -> Result<(), Error> {
-    take_both(put_both(cursor, second, third)?, first, third)?;
+    remove_both(insert_both(cursor, second, third)?, first, third)?;
     Ok(())
 }
 
-/// Whether edits one behind the other are done, which leave the file `c` alone. The cursor has let go of the path that
-/// it was made at.
+/// Makes chained edits after which only the file `c` remains; returns whether they succeed. The cursor holds
+/// no borrow of the path that it was made at.
 fn is_edited(alloc: Global, editor: &mut Editor<Memory>) -> bool {
     let Some(mut cursor) = cursor_of(alloc, editor, b"a") else {
         return false;
@@ -57,13 +57,14 @@ fn is_edited(alloc: Global, editor: &mut Editor<Memory>) -> bool {
     }
 }
 
-/// The tree of the file `c`, and the root that has it at `a`.
+/// The ids of the tree of the file `c`, and of the root with this tree at `a`.
 const C_AND_ROOT: &[&[u8]] = &[
     b"6d2d932c1fe444535ef3f0316634b59cfde9c945",
     b"f80f23b9ec7e1c6321e5ec3c2551a24e9c7afab2",
 ];
 
-/// Whether that is so of an editor of the stored file `a/b`, and is written.
+/// Returns whether the edits of an editor with the stored file `a/b` succeed, and a write emits
+/// [`C_AND_ROOT`].
 fn is_edited_and_written(alloc: Global) -> bool {
     match stored_file(alloc, &[b"a", b"b"]) {
         Some(mut editor) => {
@@ -74,40 +75,42 @@ fn is_edited_and_written(alloc: Global) -> bool {
 }
 
 #[test]
-fn edits_one_behind_the_other(rt: HostRuntime) {
+fn makes_chained_edits(rt: HostRuntime) {
     assert!(rt; is_edited_and_written(rt.alloc()));
 }
 
-/// The tree of the files `b` and `c`, and the root with this tree at `a`.
+/// The ids of the tree of the files `b` and `c`, and of the root with this tree at `a`.
 const BOTH: &[&[u8]] = &[
     b"902b8b41da66fef3bfdbf578a9b45304b9114c0e",
     b"d79ed5c1e2ff97a59beb0fc1a1b79b68aa0be74a",
 ];
 
-/// These ids.
+/// Returns [`BOTH`].
 fn both() -> &'static [&'static [u8]] {
     BOTH
 }
 
-/// Whether a cursor puts the directory `a` of this id in.
-fn is_put(alloc: Global, cursor: &mut Cursor<'_, Memory>, id: ObjectId) -> bool {
+/// Inserts the directory `a` of this id by a cursor, and returns whether that succeeds.
+fn is_inserted(alloc: Global, cursor: &mut Cursor<'_, Memory>, id: ObjectId) -> bool {
     match path_of(alloc, b"a") {
         Ok(directory) => cursor.try_upsert(&directory, EntryKind::Tree, id).is_ok(),
         Err(_) => false,
     }
 }
 
-/// Whether the directory `a` of a file `b` is put into the store, by a cursor, and the file `a/c` into it.
+/// Stores a directory of the file `b`, and inserts it at `a` and the file `a/c`, all by a cursor. Returns
+/// whether that succeeds.
 fn is_stored(alloc: Global, editor: &mut Editor<Memory>) -> bool {
     let mut cursor = editor.to_cursor();
     match stored_b(alloc, cursor.store_mut()) {
-        Some(id) => is_put(alloc, &mut cursor, id) && upserted_by(alloc, &mut cursor, b"a c") == 0,
+        Some(id) => is_inserted(alloc, &mut cursor, id)
+            && upserted_by(alloc, &mut cursor, b"a c") == 0,
         None => false,
     }
 }
 
 #[test]
-fn a_directory_stored_by_a_cursor(rt: HostRuntime) {
+fn edits_in_directory_stored_by_cursor(rt: HostRuntime) {
     let mut editor = empty_editor(rt.alloc());
     assert!(rt; is_stored(rt.alloc(), &mut editor));
     assert!(rt; editor.lookups() == 1);

@@ -1,13 +1,13 @@
-//! Refused writes by cursors, and writes behind them. Ids are those that `git mktree --missing` answers.
+//! Writes by cursors that fail, and later writes. Ids are those that `git mktree --missing` prints.
 
-use crate::samples::{cursor_of, empty_editor, hands_out, upserted, upserted_by, writes};
+use crate::samples::{cursor_of, emits, empty_editor, upserted, upserted_by, writes};
 use gixobj_base::Tree;
 use gixobj_base::hash::Kind as HashKind;
 use gixobj_editor::editor::{Cursor, Editor, WriteError};
 use gixobj_find::Memory;
 use std::alloc::Global;
 
-/// Whether a write by a cursor stops at its call of this number, with the refusal of the closure.
+/// Returns whether a write by a cursor fails with the closure's error in the call of this number.
 fn stops_at(alloc: Global, cursor: &mut Cursor<'_, Memory>, number: u8) -> bool {
     let mut calls = 0u8;
     let out = |tree: &Tree| {
@@ -24,21 +24,22 @@ fn stops_at(alloc: Global, cursor: &mut Cursor<'_, Memory>, number: u8) -> bool 
     stopped && calls == number
 }
 
-/// Whether the files `a/x`, `b/y` and `c/d/z` are put in.
-fn are_put(alloc: Global, editor: &mut Editor<Memory>) -> bool {
+/// Inserts the files `a/x`, `b/y` and `c/d/z`, and returns whether that succeeds.
+fn are_inserted(alloc: Global, editor: &mut Editor<Memory>) -> bool {
     upserted(alloc, editor, b"a x") == 0
         && upserted(alloc, editor, b"b y") == 0
         && upserted(alloc, editor, b"c d z") == 0
 }
 
-/// The tree of the directory `c/d` of these files.
+/// The id of the tree of the directory `c/d` with the file `z`.
 const D: &[u8] = b"454696ff9405b4937895f817649e1c760a885202";
 
-/// The tree of the directory `c`.
+/// The id of the tree of the directory `c`.
 const C: &[u8] = b"3906cb5db1f32691b79896648a123b2f66f57291";
 
-/// The ids of the trees that stand below a directory and its own, where the files are these three.
-const HANDED_OUT: &[(&[u8], &[&[u8]])] = &[
+/// Directories of the files `a/x`, `b/y` and `c/d/z`, with the ids of the trees below them and of their own
+/// trees.
+const EMITTED: &[(&[u8], &[&[u8]])] = &[
     (b"c", &[D, C]),
     (
         b".",
@@ -52,38 +53,41 @@ const HANDED_OUT: &[(&[u8], &[&[u8]])] = &[
     ),
 ];
 
-/// These directories.
-fn handed_out() -> &'static [(&'static [u8], &'static [&'static [u8]])] {
-    HANDED_OUT
+/// Returns [`EMITTED`].
+fn emitted() -> &'static [(&'static [u8], &'static [&'static [u8]])] {
+    EMITTED
 }
 
-/// Whether a write by a cursor that stops at its call of this number has lost nothing: the next one hands out trees of
-/// all these ids, and the one behind it the last alone.
-fn goes_on(alloc: Global, cursor: &mut Cursor<'_, Memory>, number: u8, ids: &[&[u8]]) -> bool {
+/// Returns whether a write by a cursor that fails in the call of this number loses nothing. The next write
+/// emits trees of all these ids, and the one after it only the last.
+fn loses_nothing(
+    alloc: Global,
+    cursor: &mut Cursor<'_, Memory>,
+    number: u8,
+    ids: &[&[u8]],
+) -> bool {
     let last = ids.get(ids.len().saturating_sub(1)..).unwrap_or(&[]);
-    stops_at(alloc, cursor, number)
-        && hands_out(alloc, cursor, ids)
-        && hands_out(alloc, cursor, last)
+    stops_at(alloc, cursor, number) && emits(alloc, cursor, ids) && emits(alloc, cursor, last)
 }
 
-/// Whether that is so of a cursor at a directory.
-fn stops_and_goes_on(alloc: Global, directory: &[u8], number: u8, ids: &[&[u8]]) -> bool {
+/// Returns whether a write by a cursor at a directory that fails in one call loses nothing.
+fn loses_nothing_in(alloc: Global, directory: &[u8], number: u8, ids: &[&[u8]]) -> bool {
     let mut editor = empty_editor(alloc);
-    if !are_put(alloc, &mut editor) {
+    if !are_inserted(alloc, &mut editor) {
         return false;
     }
     match cursor_of(alloc, &mut editor, directory) {
-        Some(mut cursor) => goes_on(alloc, &mut cursor, number, ids),
+        Some(mut cursor) => loses_nothing(alloc, &mut cursor, number, ids),
         None => false,
     }
 }
 
-/// Whether that is so at each call of a write.
-fn stops_anywhere(alloc: Global, directory: &[u8], ids: &[&[u8]]) -> bool {
+/// Returns whether a write that fails in any one of its calls loses nothing.
+fn loses_nothing_at_each_tree(alloc: Global, directory: &[u8], ids: &[&[u8]]) -> bool {
     let mut number = 0u8;
     for _ in ids {
         number = number.wrapping_add(1);
-        if !stops_and_goes_on(alloc, directory, number, ids) {
+        if !loses_nothing_in(alloc, directory, number, ids) {
             return false;
         }
     }
@@ -92,12 +96,13 @@ fn stops_anywhere(alloc: Global, directory: &[u8], ids: &[&[u8]]) -> bool {
 
 #[test]
 fn failed_out_at_each_tree(rt: HostRuntime) {
-    for (directory, ids) in handed_out() {
-        assert!(rt; stops_anywhere(rt.alloc(), directory, ids));
+    for (directory, ids) in emitted() {
+        assert!(rt; loses_nothing_at_each_tree(rt.alloc(), directory, ids));
     }
 }
 
-/// Whether a cursor at the directory `a` puts the files `b/c` and `d` in, and a write by it stops at its second tree.
+/// Inserts the files `b/c` and `d` by a cursor at the directory `a`; returns whether a write by it stops at
+/// its second tree.
 fn stops_in_a(alloc: Global, editor: &mut Editor<Memory>) -> bool {
     match cursor_of(alloc, editor, b"a") {
         Some(mut cursor) => {
@@ -109,7 +114,8 @@ fn stops_in_a(alloc: Global, editor: &mut Editor<Memory>) -> bool {
     }
 }
 
-/// The trees of the directories `a/b` and `a` with these files, and of the root that has the file `q` too.
+/// The ids of the trees of the directories `a/b` and `a` with the files `b/c` and `d`, and of the root that
+/// also has the file `q`.
 const BELOW_AND_ROOT: &[&[u8]] = &[
     b"6d2d932c1fe444535ef3f0316634b59cfde9c945",
     b"cd6ccc3dd14a018ceba3ecf6f471bc693c0f31d3",

@@ -1,8 +1,8 @@
-//! Whole runs of the program over memory. Ids are those that `git mktree --missing` answers.
+//! Runs of the entire program over memory. Ids are those that `git mktree --missing` prints.
 
-mod growths;
+mod allocation_failures;
 
-use crate::streams::{Told, answers, fails_at_reader, status_of};
+use crate::streams::{Expected, answers, fails_at_reader, status_of};
 use gixobj_base_tests::limited::{Limited, Stepping};
 use std::alloc::Global;
 
@@ -31,7 +31,7 @@ wrote 4b825dc642cb6eb9a060e54bf8d69288fbee4904 1
 lookups 0
 ";
 
-/// Edits before and after writes: what a write handed out is looked up again.
+/// Edits before and after writes: an emitted directory is looked up again.
 const WRITES: &str = "upsert blob fa49b077972391ad58037050f2a75f74e3671e92 new.txt
 upsert blob 1f7a7a472abf3dd9643fd615f6da379c4acb3e3a test.txt
 at bak upsert blob 83baae61804e65cc73a7201a7252750c76066a30 test.txt
@@ -64,18 +64,19 @@ lookups 0
 
 const USAGE: &str = "usage: gixobj show|tree|edit [sha256]\n";
 
-/// Whether the program tells this of an input, and nothing on standard error.
-fn tells(alloc: Global, line: &str, input: &str, told: &str) -> bool {
-    let told = Told {
+/// Returns whether the program writes this to standard output for an input, and nothing to standard error.
+fn prints(alloc: Global, line: &str, input: &str, output: &str) -> bool {
+    let expected = Expected {
         status: 0,
-        output: told.as_bytes(),
+        output: output.as_bytes(),
         errors: b"",
     };
-    answers(alloc, line, input.as_bytes(), told)
+    answers(alloc, line, input.as_bytes(), expected)
 }
 
-/// Words, inputs, and what is told: three files, of which one is in a directory (`edit_nested`); a directory is no leaf, and
-/// is removed as a whole (`edit_leaf`); edits before and after writes; and others.
+/// Arguments, inputs and the expected standard output. The first script (`edit-nested`) inserts three files, one in a
+/// directory. The second (`edit-leaf`) fails to remove a directory as a leaf, and then removes it. The third
+/// edits before and after writes.
 fn inputs() -> &'static [(&'static str, &'static str, &'static str)] {
     &[
         ("edit", NESTED, NESTED_LINES),
@@ -92,13 +93,13 @@ fn inputs() -> &'static [(&'static str, &'static str, &'static str)] {
 }
 
 #[test]
-fn inputs_and_what_is_told(rt: HostRuntime) {
-    for (line, input, told) in inputs() {
-        assert!(rt; tells(rt.alloc(), line, input, told), "{line} {input}");
+fn prints_reports(rt: HostRuntime) {
+    for (line, input, output) in inputs() {
+        assert!(rt; prints(rt.alloc(), line, input, output), "{line} {input}");
     }
 }
 
-/// Words, inputs, and what comes of each: the status, and what is told on standard error.
+/// Arguments, inputs, the expected exit status and the expected line on standard error.
 const FAULTS: &[(&str, &str, u8, &str)] = &[
     ("edit", "write\nfoo", 1, "gixobj: line 2\n"),
     (
@@ -113,27 +114,28 @@ const FAULTS: &[(&str, &str, u8, &str)] = &[
     ("", "write\n", 2, USAGE),
 ];
 
-/// Whether the program ends with this status on an input, with nothing on standard output and this on standard error.
-fn refuses(alloc: Global, line: &str, input: &str, status: u8, errors: &str) -> bool {
-    let told = Told {
+/// Returns whether the program ends with this status, with nothing on standard output and this on standard
+/// error.
+fn rejects(alloc: Global, line: &str, input: &str, status: u8, errors: &str) -> bool {
+    let expected = Expected {
         status,
         output: b"",
         errors: errors.as_bytes(),
     };
-    answers(alloc, line, input.as_bytes(), told)
+    answers(alloc, line, input.as_bytes(), expected)
 }
 
 #[test]
-fn faults(rt: HostRuntime) {
+fn rejects_invalid_arguments_and_input(rt: HostRuntime) {
     for &(line, input, status, errors) in FAULTS {
         assert!(rt;
-            refuses(rt.alloc(), line, input, status, errors),
+            rejects(rt.alloc(), line, input, status, errors),
             "{line} {input}"
         );
     }
 }
 
-/// Whether a script that comes byte by byte and is cut off behind its end isn't run.
+/// Returns whether the program fails on a script whose reader yields single bytes and fails at the end.
 fn is_cut_off(alloc: Global) -> bool {
     let mut input = Stepping {
         rest: NESTED.as_bytes(),
@@ -143,14 +145,15 @@ fn is_cut_off(alloc: Global) -> bool {
     fails_at_reader(alloc, "edit", &mut input, b"gixobj: input failed\n")
 }
 
-/// A script that is cut off isn't run.
+/// A script whose reader fails at the end isn't run.
 #[test]
-fn input_that_fails(rt: HostRuntime) {
+fn runs_no_command_if_input_fails(rt: HostRuntime) {
     assert!(rt; is_cut_off(rt.alloc()));
 }
 
-/// Whether the output of a script fails where there is room for so much, which is this front of what is told.
-fn fails_at_output(alloc: Global, room: usize, front: &str) -> bool {
+/// Returns whether the output of a script fails in a writer that has room for `room` bytes, after it wrote
+/// `prefix`.
+fn fails_at_output(alloc: Global, room: usize, prefix: &str) -> bool {
     let mut narrow = Limited {
         held: Vec::new(alloc),
         room,
@@ -159,12 +162,12 @@ fn fails_at_output(alloc: Global, room: usize, front: &str) -> bool {
     let mut rest = NESTED.as_bytes();
     let status = status_of(alloc, "edit", &mut rest, &mut narrow, &mut errors);
     status == Ok(1)
-        && narrow.held.as_slice() == front.as_bytes()
+        && narrow.held.as_slice() == prefix.as_bytes()
         && errors.as_slice() == b"gixobj: output failed\n".as_slice()
 }
 
 #[test]
-fn output_that_fails(rt: HostRuntime) {
+fn fails_if_output_fails(rt: HostRuntime) {
     assert!(rt; fails_at_output(rt.alloc(), 0, ""));
     assert!(rt; fails_at_output(rt.alloc(), 5, "ok\nok"));
 }

@@ -1,6 +1,7 @@
-//! The entries that an editor and a cursor get, behind scripts; and names with a slash, which no script says.
+//! Entries that an editor and a cursor return after scripts; and names with a slash, which a script can't
+//! express.
 
-use crate::runs::samples::{editor_over, has_asked};
+use crate::runs::samples::{editor_over, has_lookups};
 use crate::samples::{
     FILE, cursor_of, empty_editor, is_run, number, path_of, upserted, upserted_by, writes,
 };
@@ -15,18 +16,18 @@ const OTHER: ObjectId = ObjectId::Sha1([2; 20]);
 
 const NULL: ObjectId = ObjectId::Sha1([0; 20]);
 
-/// What is got at a path.
+/// The expected result of `get` at a path.
 #[derive(Clone, Copy)]
 enum Got {
     Nothing,
-    /// The entry of a directory.
+    /// A directory of any id.
     Directory,
     /// An entry of this kind and id.
     Entry(EntryKind, ObjectId),
 }
 
-/// A script, and what is got behind it: by a cursor at a directory, if it has one, else by the editor. And how often the
-/// store was asked.
+/// A script, and the expected entries after it: by a cursor at a directory if the row has one, else by the
+/// editor. The row also has the number of lookups.
 struct Row {
     name: &'static str,
     script: &'static str,
@@ -138,12 +139,12 @@ upsert tree ba0ec9c341e1d7e56243006b86ff39209e431800 a
     },
 ];
 
-/// These rows.
+/// Returns [`ROWS`].
 fn rows() -> &'static [Row] {
     ROWS
 }
 
-/// Whether this is so of an entry.
+/// Returns whether an entry is the expected one.
 fn is_got(found: Option<&Entry>, wanted: Got) -> bool {
     match (found, wanted) {
         (None, Got::Nothing) => true,
@@ -153,7 +154,7 @@ fn is_got(found: Option<&Entry>, wanted: Got) -> bool {
     }
 }
 
-/// Whether an editor gets this at a path.
+/// Returns whether [`Editor::get`] returns the expected entry for a path.
 fn gets(alloc: Global, editor: &Editor<Failing>, path: &[u8], wanted: Got) -> bool {
     match path_of(alloc, path) {
         Ok(path) => match editor.get(&path) {
@@ -164,7 +165,7 @@ fn gets(alloc: Global, editor: &Editor<Failing>, path: &[u8], wanted: Got) -> bo
     }
 }
 
-/// The same by a cursor.
+/// Returns whether [`Cursor::get`] returns the expected entry for a path.
 fn gets_by(alloc: Global, cursor: &Cursor<'_, Failing>, path: &[u8], wanted: Got) -> bool {
     match path_of(alloc, path) {
         Ok(path) => match cursor.get(&path) {
@@ -175,7 +176,8 @@ fn gets_by(alloc: Global, cursor: &Cursor<'_, Failing>, path: &[u8], wanted: Got
     }
 }
 
-/// Whether this is got at a path, by a cursor at a directory, if there is one, else by the editor.
+/// Returns whether `get` returns the expected entry for a path, by a cursor if there is a directory, else by
+/// the editor.
 fn gets_at(
     alloc: Global,
     editor: &mut Editor<Failing>,
@@ -192,7 +194,7 @@ fn gets_at(
     }
 }
 
-/// Whether all of a row is got.
+/// Returns whether `get` returns all expected entries of a row.
 fn gets_all(alloc: Global, editor: &mut Editor<Failing>, row: &Row) -> bool {
     for (path, wanted) in row.gets {
         if !gets_at(alloc, editor, row.cursor, path, *wanted) {
@@ -202,40 +204,42 @@ fn gets_all(alloc: Global, editor: &mut Editor<Failing>, row: &Row) -> bool {
     true
 }
 
-/// Whether all of a row is got behind its script.
+/// Returns whether `get` returns all expected entries of a row after its script, with the expected number of
+/// lookups.
 fn is_all_got(alloc: Global, row: &Row) -> bool {
     let mut editor = editor_over(alloc, &[], &[]);
     is_run(alloc, &mut editor, row.script.as_bytes())
         && gets_all(alloc, &mut editor, row)
-        && has_asked(&mut editor, row.lookups)
+        && has_lookups(&mut editor, row.lookups)
 }
 
 #[test]
-fn entries_that_are_got(rt: HostRuntime) {
+fn returns_entries_after_scripts(rt: HostRuntime) {
     for row in rows() {
         assert!(rt; is_all_got(rt.alloc(), row), "{}", row.name);
     }
 }
 
-/// A thousand names `d`, with these bytes between them.
-fn thousand_names(alloc: Global, front: &[u8], between: &[u8]) -> Result<Vec<u8>, AllocError> {
-    let mut path = Vec::from_slice(alloc, front)?;
+/// Builds a path of a thousand names: the prefix ends with the first, each copy of `between` with a later
+/// one.
+fn thousand_names(alloc: Global, prefix: &[u8], between: &[u8]) -> Result<Vec<u8>, AllocError> {
+    let mut path = Vec::from_slice(alloc, prefix)?;
     for _ in 1..1000u16 {
         path.extend_from_slice(between)?;
     }
     Ok(path)
 }
 
-/// Whether a script puts the file in at the path of a thousand names.
-fn is_put_deep(alloc: Global, editor: &mut Editor<Failing>) -> bool {
-    let front = b"upsert blob 0101010101010101010101010101010101010101 d";
-    match thousand_names(alloc, front, b"/d") {
+/// Inserts the file by a script at a path of a thousand names, and returns whether the script is run.
+fn is_inserted_deep(alloc: Global, editor: &mut Editor<Failing>) -> bool {
+    let prefix = b"upsert blob 0101010101010101010101010101010101010101 d";
+    match thousand_names(alloc, prefix, b"/d") {
         Ok(script) => is_run(alloc, editor, script.as_slice()),
         Err(_) => false,
     }
 }
 
-/// Whether the file is got at this path.
+/// Returns whether `get` returns the file at the path of a thousand names.
 fn is_got_deep(alloc: Global, editor: &Editor<Failing>) -> bool {
     match thousand_names(alloc, b"d", b" d") {
         Ok(path) => gets(
@@ -249,66 +253,68 @@ fn is_got_deep(alloc: Global, editor: &Editor<Failing>) -> bool {
 }
 
 #[test]
-fn a_path_of_a_thousand_names(rt: HostRuntime) {
+fn inserts_at_path_of_thousand_names(rt: HostRuntime) {
     let mut editor = editor_over(rt.alloc(), &[], &[]);
-    assert!(rt; is_put_deep(rt.alloc(), &mut editor));
+    assert!(rt; is_inserted_deep(rt.alloc(), &mut editor));
     assert!(rt; is_got_deep(rt.alloc(), &editor));
 }
 
-/// The number of the refusal of a cursor at this path, or 0.
-fn cursor_made(alloc: Global, editor: &mut Editor<Failing>, path: &[u8]) -> Option<u8> {
+/// The number of the error of a cursor at this path, or 0 for none; `None` if the path isn't allocated.
+fn cursor_error(alloc: Global, editor: &mut Editor<Failing>, path: &[u8]) -> Option<u8> {
     match path_of(alloc, path) {
         Ok(path) => Some(number(&editor.cursor_at(&path))),
         Err(_) => None,
     }
 }
 
-/// The root gets the directory `a` alone, by an id that the store doesn't have.
+/// A script that inserts the directory `a` by an id that the store lacks.
 const UNKNOWN_TREE: &[u8] = b"upsert tree 0303030303030303030303030303030303030303 a";
 
 /// The names `a` and `b/c`.
 const WITH_A_SLASH: &[u8] = b"a b/c";
 
 #[test]
-fn names_with_a_slash(rt: HostRuntime) {
+fn rejects_names_with_slash(rt: HostRuntime) {
     let alloc = rt.alloc();
     let mut editor = editor_over(alloc, &[], &[]);
     assert!(rt; is_run(alloc, &mut editor, UNKNOWN_TREE));
     assert!(rt; upserted(alloc, &mut editor, b"a/b") == 2);
     assert!(rt; upserted(alloc, &mut editor, WITH_A_SLASH) == 2);
-    assert!(rt; cursor_made(alloc, &mut editor, WITH_A_SLASH) == Some(2));
-    assert!(rt; has_asked(&mut editor, 0));
+    assert!(rt; cursor_error(alloc, &mut editor, WITH_A_SLASH) == Some(2));
+    assert!(rt; has_lookups(&mut editor, 0));
 }
 
-/// Whether a cursor is refused the removal of the file `b/c`.
-fn is_refused_removal(alloc: Global, cursor: &mut Cursor<'_, Memory>) -> bool {
+/// Returns whether a cursor fails to remove the file `b/c` for the slash in its name.
+fn rejects_removal(alloc: Global, cursor: &mut Cursor<'_, Memory>) -> bool {
     match path_of(alloc, b"b/c") {
         Ok(path) => number(&cursor.try_remove_leaf(&path)) == 2,
         Err(_) => false,
     }
 }
 
-/// Whether a cursor at the directory `a` puts the file `b` in, and is refused the file `c/d` and the removal of `b/c`.
-fn is_refused_slashes(alloc: Global, editor: &mut Editor<Memory>) -> bool {
+/// Inserts the file `b` by a cursor at the directory `a`. Returns whether that succeeds, and the upsert of
+/// `c/d` and the removal of `b/c` fail.
+fn rejects_slashes(alloc: Global, editor: &mut Editor<Memory>) -> bool {
     match cursor_of(alloc, editor, b"a") {
         Some(mut cursor) => {
             upserted_by(alloc, &mut cursor, b"b") == 0
                 && upserted_by(alloc, &mut cursor, b"c/d") == 2
-                && is_refused_removal(alloc, &mut cursor)
+                && rejects_removal(alloc, &mut cursor)
         }
         None => false,
     }
 }
 
-/// The tree of the file `b` that `git mktree --missing` answers, and the root with this tree at `a`.
+/// The ids, as `git mktree --missing` prints them, of the tree of the file `b`, and of the root with this
+/// tree at `a`.
 const BELOW_AND_ROOT: &[&[u8]] = &[
     b"ba0ec9c341e1d7e56243006b86ff39209e431800",
     b"c046873eb0a8741fe7a4842297bb773a1fa3198b",
 ];
 
 #[test]
-fn names_with_a_slash_from_a_cursor(rt: HostRuntime) {
+fn cursor_rejects_names_with_slash(rt: HostRuntime) {
     let mut editor = empty_editor(rt.alloc());
-    assert!(rt; is_refused_slashes(rt.alloc(), &mut editor));
+    assert!(rt; rejects_slashes(rt.alloc(), &mut editor));
     assert!(rt; writes(rt.alloc(), &mut editor, BELOW_AND_ROOT));
 }

@@ -1,7 +1,9 @@
-//! Tests of the editor of nested trees and of its runs, of what a script doesn't say: stores, closures, readers and
-//! writers that refuse. And of the program: objects shown and listed, scripts run.
+//! Tests of the editor of nested trees and of its runs that scripts can't express: stores, closures, readers
+//! and writers that fail. Other tests run the program, which shows and lists objects and runs scripts.
 #![tactic(auto)]
 
+#[cfg(test)]
+mod allocation_failures;
 #[cfg(test)]
 mod cursor_calls;
 #[cfg(test)]
@@ -11,11 +13,9 @@ mod engine;
 #[cfg(test)]
 mod entries;
 #[cfg(test)]
-mod growths;
-#[cfg(test)]
-mod lending;
-#[cfg(test)]
 mod loose;
+#[cfg(test)]
+mod references;
 #[cfg(test)]
 mod runs;
 #[cfg(test)]

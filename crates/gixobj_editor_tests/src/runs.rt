@@ -1,11 +1,11 @@
-//! Tests of whole runs: scripts and lists of commands, over a store that counts what it is asked for, and refuses; and
-//! of what is told of them.
+//! Runs of scripts and of lists of commands over a store that counts its calls and fails in some, and their
+//! reports.
 
-mod growths;
+mod allocation_failures;
+mod entire_runs;
+mod error_halfway;
 mod many_edits;
-mod refused_halfway;
-mod refused_out;
+mod not_stored;
+mod replies;
 pub(crate) mod samples;
-mod told_answers;
-mod unkept;
-mod whole_runs;
+mod write_errors;

@@ -1,4 +1,4 @@
-//! What several tests call: paths, trees and editors, and answers told by a value.
+//! Functions that several tests call: paths, trees and editors, and results reduced to a value.
 
 use bstr::BString;
 use gixobj_base::hash::{Kind as HashKind, ObjectId};
@@ -8,33 +8,33 @@ use gixobj_editor::Reply;
 use gixobj_editor::editor::{Cursor, Editor, Error, WriteError, Written};
 use gixobj_find::{Keep, Memory};
 use gixobj_object::Find;
-use gixobj_script::{edit_on, told_lines};
+use gixobj_script::{edit_on, report_lines};
 use std::alloc::{AllocError, Global};
 
 pub(crate) const FILE: ObjectId = ObjectId::Sha1([1; 20]);
 
-/// The number that stands for a call that isn't made, since memory ran out for its path.
-const UNASKED: u8 = 9;
+/// The number for a call that isn't made, since the allocation of its path failed.
+const NOT_CALLED: u8 = 9;
 
-/// Puts a name behind a path.
+/// Appends a name to a path.
 fn push_name(alloc: Global, path: &mut Vec<BString>, name: &[u8]) -> Result<(), AllocError> {
     path.push(BString::from_slice(alloc, name)?)?;
     Ok(())
 }
 
-/// The names between spaces; `.` alone stands for none.
-pub(crate) fn path_of(alloc: Global, text: &[u8]) -> Result<Vec<BString>, AllocError> {
+/// Builds a path of the names between spaces; `.` alone is the empty path.
+pub(crate) fn path_of(alloc: Global, names: &[u8]) -> Result<Vec<BString>, AllocError> {
     let mut path = Vec::new(alloc);
-    if text == b".".as_slice() {
+    if names == b".".as_slice() {
         return Ok(path);
     }
-    for name in text.split(|byte| *byte == b' ') {
+    for name in names.split(|byte| *byte == b' ') {
         push_name(alloc, &mut path, name)?;
     }
     Ok(path)
 }
 
-/// Puts an entry behind those of a tree.
+/// Appends an entry to a tree.
 pub(crate) fn push_entry(
     alloc: Global,
     tree: &mut Tree,
@@ -52,7 +52,7 @@ pub(crate) fn push_entry(
     Ok(())
 }
 
-/// A tree of one entry.
+/// Builds a tree of one entry.
 pub(crate) fn tree_of(
     alloc: Global,
     kind: EntryKind,
@@ -64,22 +64,22 @@ pub(crate) fn tree_of(
     Ok(tree)
 }
 
-/// The bytes that are written of a tree.
-fn text_of(alloc: Global, tree: &Tree) -> Result<Vec<u8>, encode::Error> {
-    let mut text = Vec::new(alloc);
-    tree.write_to(alloc, &mut text)?;
-    Ok(text)
+/// Encodes a tree.
+fn bytes_of(alloc: Global, tree: &Tree) -> Result<Vec<u8>, encode::Error> {
+    let mut encoding = Vec::new(alloc);
+    tree.write_to(alloc, &mut encoding)?;
+    Ok(encoding)
 }
 
-/// The id by which a tree is put into a store; or nothing where that is refused.
+/// Stores a tree, and returns its id, or `None` if that fails.
 pub(crate) fn stored(alloc: Global, store: &mut Memory, tree: &Tree) -> Option<ObjectId> {
-    match text_of(alloc, tree) {
-        Ok(text) => store.insert(Kind::Tree, HashKind::Sha1, &text).ok(),
+    match bytes_of(alloc, tree) {
+        Ok(encoding) => store.insert(Kind::Tree, HashKind::Sha1, &encoding).ok(),
         Err(_) => None,
     }
 }
 
-/// The id by which a tree of the file `b` alone is put into a store.
+/// Stores a tree of only the file `b`, and returns its id.
 pub(crate) fn stored_b(alloc: Global, store: &mut Memory) -> Option<ObjectId> {
     match tree_of(alloc, EntryKind::Blob, b"b", FILE) {
         Ok(tree) => stored(alloc, store, &tree),
@@ -87,7 +87,7 @@ pub(crate) fn stored_b(alloc: Global, store: &mut Memory) -> Option<ObjectId> {
     }
 }
 
-/// An editor of this root, if it is well-formed.
+/// Returns an editor of this root, if it is well-formed.
 pub(crate) fn editor_of<S: Drop>(root: Tree, store: S) -> Option<Editor<S>> {
     if !root.is_well_formed() {
         return None;
@@ -95,7 +95,7 @@ pub(crate) fn editor_of<S: Drop>(root: Tree, store: S) -> Option<Editor<S>> {
     Some(Editor::new(root, store, HashKind::Sha1))
 }
 
-/// An editor of a root that has this directory alone.
+/// Returns an editor of a root that has only this directory.
 pub(crate) fn over_a_directory<S: Drop>(
     alloc: Global,
     name: &[u8],
@@ -112,7 +112,7 @@ pub(crate) fn empty_editor(alloc: Global) -> Editor<Memory> {
     Editor::new(Tree::empty(alloc), Memory::new(alloc), HashKind::Sha1)
 }
 
-/// A tree of nothing but one file at the path of these names, whose directories are stored, as it is itself.
+/// Stores each tree on the path of these names to one file, and returns the root.
 fn stored_path(alloc: Global, store: &mut Memory, names: &[&[u8]]) -> Option<Tree> {
     let (mut kind, mut id) = (EntryKind::Blob, FILE);
     let mut root = Tree::empty(alloc);
@@ -124,8 +124,8 @@ fn stored_path(alloc: Global, store: &mut Memory, names: &[&[u8]]) -> Option<Tre
     Some(root)
 }
 
-/// An editor of nothing but one file at the path of these names, whose directories below the root are stored; or
-/// nothing where memory ran out.
+/// Returns an editor of only one file at the path of these names, with stored directories; `None` if an
+/// allocation fails.
 pub(crate) fn stored_file(alloc: Global, names: &[&[u8]]) -> Option<Editor<Memory>> {
     let mut store = Memory::new(alloc);
     match stored_path(alloc, &mut store, names) {
@@ -134,9 +134,9 @@ pub(crate) fn stored_file(alloc: Global, names: &[&[u8]]) -> Option<Editor<Memor
     }
 }
 
-/// The number of a refusal.
-pub(crate) fn number_of(refusal: &Error) -> u8 {
-    match refusal {
+/// Returns the number of an error.
+pub(crate) fn number_of(error: &Error) -> u8 {
+    match error {
         Error::EmptyPathComponent => 1,
         Error::SlashInPathComponent => 2,
         Error::FindExistingObject(_) => 3,
@@ -146,28 +146,28 @@ pub(crate) fn number_of(refusal: &Error) -> u8 {
     }
 }
 
-/// The number of a refusal, and 0 for none.
+/// Returns the number of an error, or 0 for success.
 pub(crate) fn number<T>(answer: &Result<T, Error>) -> u8 {
     match answer {
         Ok(_) => 0,
-        Err(refusal) => number_of(refusal),
+        Err(error) => number_of(error),
     }
 }
 
-/// Puts the file in at a path.
-pub(crate) fn put<S: Find>(editor: &mut Editor<S>, path: &[BString]) -> Result<(), Error> {
+/// Inserts the file at a path.
+pub(crate) fn insert<S: Find>(editor: &mut Editor<S>, path: &[BString]) -> Result<(), Error> {
     editor.try_upsert(path, EntryKind::Blob, FILE)
 }
 
-/// The number of the refusal of an upsert of the file, or 0.
+/// Inserts the file at a path, and returns the number of the error or 0.
 pub(crate) fn upserted<S: Find>(alloc: Global, editor: &mut Editor<S>, path: &[u8]) -> u8 {
     match path_of(alloc, path) {
-        Ok(path) => number(&put(editor, &path)),
-        Err(_) => UNASKED,
+        Ok(path) => number(&insert(editor, &path)),
+        Err(_) => NOT_CALLED,
     }
 }
 
-/// A cursor at a directory; or nothing where it is refused.
+/// Returns a cursor at a directory, or `None` after an error.
 pub(crate) fn cursor_of<'a, S: Find>(
     alloc: Global,
     editor: &'a mut Editor<S>,
@@ -179,21 +179,24 @@ pub(crate) fn cursor_of<'a, S: Find>(
     }
 }
 
-/// Puts the file in at a path from a cursor.
-pub(crate) fn put_by<S: Find>(cursor: &mut Cursor<'_, S>, path: &[BString]) -> Result<(), Error> {
+/// Inserts the file at a path from a cursor.
+pub(crate) fn insert_by<S: Find>(
+    cursor: &mut Cursor<'_, S>,
+    path: &[BString],
+) -> Result<(), Error> {
     cursor.try_upsert(path, EntryKind::Blob, FILE)
 }
 
-/// The number of the refusal of an upsert of the file by a cursor, or 0.
+/// Inserts the file at a path from a cursor, and returns the number of the error or 0.
 pub(crate) fn upserted_by<S: Find>(alloc: Global, cursor: &mut Cursor<'_, S>, path: &[u8]) -> u8 {
     match path_of(alloc, path) {
-        Ok(path) => number(&put_by(cursor, &path)),
-        Err(_) => UNASKED,
+        Ok(path) => number(&insert_by(cursor, &path)),
+        Err(_) => NOT_CALLED,
     }
 }
 
-/// What is told of a script that is run on an editor; or nothing where it isn't run.
-pub(crate) fn told_of<S: Keep>(
+/// Runs a script on an editor, and returns its report, or `None` after an error.
+pub(crate) fn report_of<S: Keep>(
     alloc: Global,
     editor: &mut Editor<S>,
     script: &[u8],
@@ -202,21 +205,21 @@ pub(crate) fn told_of<S: Keep>(
     edit_on(alloc, editor, script, HashKind::Sha1, out).ok()
 }
 
-/// Whether a script is run on an editor.
+/// Runs a script on an editor, and returns whether it has a report.
 pub(crate) fn is_run<S: Keep>(alloc: Global, editor: &mut Editor<S>, script: &[u8]) -> bool {
-    told_of(alloc, editor, script).is_some()
+    report_of(alloc, editor, script).is_some()
 }
 
-/// Whether this tree went out with this id, which is that of its written bytes.
+/// Returns whether a tree was emitted with this id, and the id is that of its encoding.
 fn is_named(alloc: Global, pair: &(ObjectId, Tree), hex: &[u8]) -> bool {
     let (id, tree) = pair;
     match tree.compute_id(alloc, HashKind::Sha1) {
-        Ok(own) => own == *id && ObjectId::from_hex(hex) == Some(own),
+        Ok(computed) => computed == *id && ObjectId::from_hex(hex) == Some(computed),
         Err(_) => false,
     }
 }
 
-/// Whether each tree went out with the id that stands beside it.
+/// Returns whether each tree was emitted with the id at its position.
 fn are_named(alloc: Global, trees: &[(ObjectId, Tree)], ids: &[&[u8]]) -> bool {
     for (pair, hex) in trees.iter().zip(ids) {
         if !is_named(alloc, pair, hex) {
@@ -226,7 +229,7 @@ fn are_named(alloc: Global, trees: &[(ObjectId, Tree)], ids: &[&[u8]]) -> bool {
     true
 }
 
-/// Whether the last tree is the one that is named.
+/// Returns whether the last tree has the id of the write.
 fn is_last_named(written: &Written) -> bool {
     match written.trees.last() {
         Some((id, _)) => *id == written.id,
@@ -234,14 +237,14 @@ fn is_last_named(written: &Written) -> bool {
     }
 }
 
-/// Whether trees of these ids went out, in this order, the last one being the one that is named.
-pub(crate) fn went_out(alloc: Global, written: &Written, ids: &[&[u8]]) -> bool {
+/// Returns whether trees of these ids were emitted in this order, and the last has the id of the write.
+pub(crate) fn has_emitted(alloc: Global, written: &Written, ids: &[&[u8]]) -> bool {
     written.trees.len() == ids.len()
         && is_last_named(written)
         && are_named(alloc, written.trees.as_slice(), ids)
 }
 
-/// What a write hands out.
+/// Writes the editor.
 pub(crate) fn written<S>(
     alloc: Global,
     editor: &mut Editor<S>,
@@ -249,15 +252,15 @@ pub(crate) fn written<S>(
     editor.write(|tree: &Tree| tree.compute_id(alloc, HashKind::Sha1))
 }
 
-/// Whether a write hands out trees of these ids.
+/// Returns whether a write emits trees of these ids.
 pub(crate) fn writes<S>(alloc: Global, editor: &mut Editor<S>, ids: &[&[u8]]) -> bool {
     match written(alloc, editor) {
-        Ok(written) => went_out(alloc, &written, ids),
+        Ok(written) => has_emitted(alloc, &written, ids),
         Err(_) => false,
     }
 }
 
-/// What a write by a cursor hands out.
+/// Writes the directory of a cursor.
 pub(crate) fn written_by<S>(
     alloc: Global,
     cursor: &mut Cursor<'_, S>,
@@ -265,28 +268,28 @@ pub(crate) fn written_by<S>(
     cursor.write(|tree: &Tree| tree.compute_id(alloc, HashKind::Sha1))
 }
 
-/// Whether a write by a cursor hands out trees of these ids, in this order, the last one being its own.
-pub(crate) fn hands_out<S>(alloc: Global, cursor: &mut Cursor<'_, S>, ids: &[&[u8]]) -> bool {
+/// Returns whether a write by a cursor emits trees of these ids in this order, its own tree last.
+pub(crate) fn emits<S>(alloc: Global, cursor: &mut Cursor<'_, S>, ids: &[&[u8]]) -> bool {
     match written_by(alloc, cursor) {
-        Ok(written) => went_out(alloc, &written, ids),
+        Ok(written) => has_emitted(alloc, &written, ids),
         Err(_) => false,
     }
 }
 
-/// Whether so many trees went out, the last of this id.
-pub(crate) fn names(written: &Written, id: &str, count: usize) -> bool {
+/// Returns whether a write emitted `count` trees, the last of this id.
+pub(crate) fn has_id_and_count(written: &Written, id: &str, count: usize) -> bool {
     ObjectId::from_hex(id.as_bytes()) == Some(written.id) && written.trees.len() == count
 }
 
-/// Whether these lines are told of replies and this number of lookups.
-pub(crate) fn tells_replies(
+/// Returns whether the report of these replies and this number of lookups has these lines.
+pub(crate) fn reports_replies(
     alloc: Global,
     replies: &[Reply<encode::Error>],
     lookups: u64,
     lines: &str,
 ) -> bool {
-    match told_lines(alloc, replies, lookups) {
-        Ok(text) => text.as_slice() == lines.as_bytes(),
+    match report_lines(alloc, replies, lookups) {
+        Ok(report) => report.as_slice() == lines.as_bytes(),
         Err(_) => false,
     }
 }

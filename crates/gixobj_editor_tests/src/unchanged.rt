@@ -1,9 +1,9 @@
-//! Writes over directories that are as they were when they were opened: these keep the ids of their entries and aren't
-//! handed out. Ids are those that `git mktree --missing` answers.
+//! Writes over open directories that are unchanged since they were opened: these keep the ids of their
+//! entries and aren't emitted. Ids are those that `git mktree --missing` prints.
 
 use crate::samples::{
-    FILE, cursor_of, is_run, over_a_directory, push_entry, stored_file, tree_of, upserted,
-    went_out, written_by,
+    FILE, cursor_of, has_emitted, is_run, over_a_directory, push_entry, stored_file, tree_of,
+    upserted, written_by,
 };
 use gixobj_base::Tree;
 use gixobj_base::hash::{Kind as HashKind, ObjectId};
@@ -12,51 +12,52 @@ use gixobj_editor::editor::{Cursor, Editor, Written};
 use gixobj_find::{Keep, Memory};
 use std::alloc::{AllocError, Global};
 
-/// Whether trees of these ids went out, and so many directories are counted that didn't.
+/// Returns whether a write emitted trees of these ids, and counted `saved` unchanged directories.
 fn is_saved(alloc: Global, written: &Written, saved: usize, ids: &[&[u8]]) -> bool {
-    written.saved == saved && went_out(alloc, written, ids)
+    written.saved == saved && has_emitted(alloc, written, ids)
 }
 
-/// Whether a write hands out trees of these ids, asks for no other, and counts so many directories that it doesn't hand out.
+/// Returns whether a write calls the closure for trees of these ids only, emits them, and counts `saved`
+/// unchanged directories.
 pub(crate) fn saves<S>(alloc: Global, editor: &mut Editor<S>, saved: usize, ids: &[&[u8]]) -> bool {
     let mut calls = 0usize;
     let out = |tree: &Tree| {
         calls = calls.saturating_add(1);
         tree.compute_id(alloc, HashKind::Sha1)
     };
-    let is_told = match editor.write(out) {
+    let is_reported = match editor.write(out) {
         Ok(written) => is_saved(alloc, &written, saved, ids),
         Err(_) => false,
     };
-    is_told && calls == ids.len()
+    is_reported && calls == ids.len()
 }
 
-/// The tree of the file `c`.
+/// The id of the tree of the file `c`.
 const C: &[u8] = b"6d2d932c1fe444535ef3f0316634b59cfde9c945";
 
-/// The tree of the directory `a` of the file `b/c`, and the root that has it.
+/// The ids of the tree of the directory `a` with the file `b/c`, and of the root that has it.
 const A: &[u8] = b"708f683ce235f6e3b367a0d6fc2780c3ad22547e";
 
 const ROOT: &[u8] = b"0777f611c446507a3c6fa4a976a7a8d5f0eaed6d";
 
-/// The same with the file `d` in `a`.
+/// The ids of the tree of the directory `a` with the files `b/c` and `d`, and of the root that has it.
 const A_WITH_D: &[u8] = b"cd6ccc3dd14a018ceba3ecf6f471bc693c0f31d3";
 
 const ROOT_WITH_D: &[u8] = b"9e93a904d3f6460c336f65230b296e4a27948f8e";
 
-/// The tree of the files `b` and `c`, and the root that has it at `a`.
+/// The ids of the tree of the files `b` and `c`, and of the root that has it at `a`.
 const B_AND_C: &[u8] = b"902b8b41da66fef3bfdbf578a9b45304b9114c0e";
 
 const ROOT_OF_BOTH: &[u8] = b"d79ed5c1e2ff97a59beb0fc1a1b79b68aa0be74a";
 
-/// What a write hands out, and how many directories it counts that are unchanged.
+/// The trees that a write emits, and the number of unchanged directories that it counts.
 struct Saved {
     saved: usize,
     ids: &'static [&'static [u8]],
 }
 
-/// An editor of one stored file, and a script. Behind it a cursor at the directory `a` writes, where that is told, and then
-/// the editor.
+/// An editor of one stored file, and a script. After it a cursor at the directory `a` writes, if the row has
+/// such a write, and then the editor.
 struct Row {
     name: &'static str,
     stored: &'static [&'static [u8]],
@@ -130,7 +131,7 @@ remove a/b/c/d
             ],
         },
     },
-    // The directory of a cursor is compared with what it was opened with also behind a write by the cursor.
+    // The directory of a cursor is compared with its base also after a write by the cursor.
     Row {
         name: "a-cursors-write-and-then-the-root-1",
         stored: &[b"a", b"b", b"c"],
@@ -161,12 +162,13 @@ remove a/b/c/d
     },
 ];
 
-/// These rows.
+/// Returns [`ROWS`].
 fn rows() -> &'static [Row] {
     ROWS
 }
 
-/// Whether a write by a cursor hands out trees of these ids, and counts so many unchanged directories.
+/// Returns whether a write by a cursor emits the expected trees, and counts the expected unchanged
+/// directories.
 fn saves_by(alloc: Global, cursor: &mut Cursor<'_, Memory>, wanted: &Saved) -> bool {
     match written_by(alloc, cursor) {
         Ok(written) => is_saved(alloc, &written, wanted.saved, wanted.ids),
@@ -174,7 +176,7 @@ fn saves_by(alloc: Global, cursor: &mut Cursor<'_, Memory>, wanted: &Saved) -> b
     }
 }
 
-/// Whether that is so of a cursor at the directory `a`, where it is told.
+/// Returns whether a write by a cursor at the directory `a` is the expected one, if any is expected.
 fn saves_at_a(alloc: Global, editor: &mut Editor<Memory>, wanted: &Option<Saved>) -> bool {
     let Some(wanted) = wanted else {
         return true;
@@ -185,7 +187,8 @@ fn saves_at_a(alloc: Global, editor: &mut Editor<Memory>, wanted: &Option<Saved>
     }
 }
 
-/// Whether the script of a row is run on its editor, and the writes behind it are as it says.
+/// Runs the script of a row on its editor; returns whether the script is run, and the writes after it are the
+/// expected ones.
 fn are_written_of(alloc: Global, editor: &mut Editor<Memory>, row: &Row) -> bool {
     is_run(alloc, editor, row.script.as_bytes())
         && saves_at_a(alloc, editor, &row.by_a_cursor)
@@ -197,7 +200,7 @@ fn are_written_of(alloc: Global, editor: &mut Editor<Memory>, row: &Row) -> bool
         )
 }
 
-/// Whether the writes behind the script of a row are as it says.
+/// Returns whether the writes after the script of a row are the expected ones.
 fn are_written(alloc: Global, row: &Row) -> bool {
     match stored_file(alloc, row.stored) {
         Some(mut editor) => are_written_of(alloc, &mut editor, row),
@@ -206,13 +209,14 @@ fn are_written(alloc: Global, row: &Row) -> bool {
 }
 
 #[test]
-fn writes_and_what_they_save(rt: HostRuntime) {
+fn emits_no_unchanged_directory(rt: HostRuntime) {
     for row in rows() {
         assert!(rt; are_written(rt.alloc(), row), "{}", row.name);
     }
 }
 
-/// Whether a tree of two files went out by the id of the file `c` alone, and then the root as it was.
+/// Returns whether a write emitted a tree of two files by the id of the tree of the file `c`, then the
+/// unchanged root. It counts one unchanged directory.
 fn is_as_it_was(written: &Written) -> bool {
     let (inner, root) = (ObjectId::from_hex(C), ObjectId::from_hex(ROOT));
     match written.trees.as_slice() {
@@ -226,7 +230,8 @@ fn is_as_it_was(written: &Written) -> bool {
     }
 }
 
-/// Whether a write is so, where a tree of two entries gets the id of the file `c` alone.
+/// Returns whether a write is that of [`is_as_it_was`] if trees of two entries get the id of the tree of the
+/// file `c`.
 fn writes_by_an_old_id(alloc: Global, editor: &mut Editor<Memory>) -> bool {
     let Some(old) = ObjectId::from_hex(C) else {
         return false;
@@ -243,8 +248,9 @@ fn writes_by_an_old_id(alloc: Global, editor: &mut Editor<Memory>) -> bool {
     }
 }
 
-/// Whether the file `a/b/d` is put beside the stored file `c`, and a write is so behind it.
-fn is_put_and_written(alloc: Global) -> bool {
+/// Inserts the file `a/b/d` next to the stored file `c`; returns whether that and the write of
+/// [`writes_by_an_old_id`] succeed.
+fn is_inserted_and_written(alloc: Global) -> bool {
     match stored_file(alloc, &[b"a", b"b", b"c"]) {
         Some(mut editor) => {
             upserted(alloc, &mut editor, b"a b d") == 0 && writes_by_an_old_id(alloc, &mut editor)
@@ -253,16 +259,16 @@ fn is_put_and_written(alloc: Global) -> bool {
     }
 }
 
-/// A changed directory that gets the id that its entry had, in one that is unchanged by that.
+/// A changed directory gets the id that its entry had, so the directory above it is unchanged.
 #[test]
-fn a_changed_directory_in_an_unchanged_one(rt: HostRuntime) {
-    assert!(rt; is_put_and_written(rt.alloc()));
+fn parent_is_unchanged_if_directory_gets_previous_id(rt: HostRuntime) {
+    assert!(rt; is_inserted_and_written(rt.alloc()));
 }
 
-/// An id that isn't the digest of what a store has by it.
+/// An id that isn't the digest of the tree that a store has by it.
 const NO_DIGEST: ObjectId = ObjectId::Sha1([5; 20]);
 
-/// A tree of the file `b` and an entry `n` of the other id, if any.
+/// Builds a tree of the file `b`, and of an entry `n` of the other id if there is one.
 fn b_and_another(alloc: Global, other: Option<ObjectId>) -> Result<Tree, AllocError> {
     let mut tree = tree_of(alloc, EntryKind::Blob, b"b", FILE)?;
     if let Some(oid) = other {
@@ -271,7 +277,7 @@ fn b_and_another(alloc: Global, other: Option<ObjectId>) -> Result<Tree, AllocEr
     Ok(tree)
 }
 
-/// Whether a store keeps this tree by that id.
+/// Keeps the tree of [`b_and_another`] in a store by the id [`NO_DIGEST`], and returns whether that succeeds.
 fn is_kept(alloc: Global, store: &mut Memory, other: Option<ObjectId>) -> bool {
     match b_and_another(alloc, other) {
         Ok(tree) => store.keep(NO_DIGEST, &tree).is_ok(),
@@ -279,7 +285,8 @@ fn is_kept(alloc: Global, store: &mut Memory, other: Option<ObjectId>) -> bool {
     }
 }
 
-/// An editor whose root has the directory `a` alone, by that id, of the file `b` and an entry `n` of the other id, if any.
+/// Returns an editor whose root has only the directory `a`, by the id [`NO_DIGEST`] of the tree of
+/// [`b_and_another`].
 fn over_no_digest(alloc: Global, other: Option<ObjectId>) -> Option<Editor<Memory>> {
     let mut store = Memory::new(alloc);
     if !is_kept(alloc, &mut store, other) {
@@ -288,7 +295,8 @@ fn over_no_digest(alloc: Global, other: Option<ObjectId>) -> Option<Editor<Memor
     over_a_directory(alloc, b"a", NO_DIGEST, store)
 }
 
-/// Whether a write on it is so behind the file `a/b`, which is there already.
+/// Inserts the file `a/b`, which exists already; returns whether the write after it emits these trees and
+/// counts `saved` directories.
 fn saves_the_same(alloc: Global, other: Option<ObjectId>, saved: usize, ids: &[&[u8]]) -> bool {
     match over_no_digest(alloc, other) {
         Some(mut editor) => {
@@ -298,7 +306,8 @@ fn saves_the_same(alloc: Global, other: Option<ObjectId>, saved: usize, ids: &[&
     }
 }
 
-/// The root that has the directory by that id, and what goes out where its tree is another one.
+/// The id of the root that has the directory by [`NO_DIGEST`], and the ids of the trees that are emitted for
+/// a changed directory.
 const BY_NO_DIGEST: &[u8] = b"035bbd9cefbc1db75d8da45646228e21988488fe";
 
 const BY_DIGESTS: &[&[u8]] = &[
@@ -306,9 +315,10 @@ const BY_DIGESTS: &[&[u8]] = &[
     b"c046873eb0a8741fe7a4842297bb773a1fa3198b",
 ];
 
-/// The tree is compared, not its id; and an entry of the null id is never written, so a tree with one is another.
+/// A write compares trees, and not their ids. A tree with an entry of the null id is changed, since such an
+/// entry is never written.
 #[test]
-fn a_tree_by_another_id_than_its_digest(rt: HostRuntime) {
+fn compares_trees_and_not_ids(rt: HostRuntime) {
     let null = ObjectId::null(HashKind::Sha1);
     assert!(rt; saves_the_same(rt.alloc(), None, 1, &[BY_NO_DIGEST]));
     assert!(rt; saves_the_same(rt.alloc(), Some(null), 0, BY_DIGESTS));

@@ -1,4 +1,4 @@
--- How long a value is as it is written: its bytes, one more for each line but the first, and a newline at the end.
+-- The length of an encoded value: its bytes, one more for each line but the first, and a missing final newline.
 use Rattle.std.proofs.Common.{◌≡◌, ◌+◌, ◌-◌, ◌<◌, ◌≤◌, ℕ, Bool, true, false, cond, eqb, get_or, List, [], ◌∷◌, ◌++◌, length, length-append, arith, refl, take, sym, ap, ◌∙◌}
 use Rattle.std.specs.Prelude.{◌==◌, not, if◌then◌else◌}
 use mir.Val.{bool_byte}
@@ -6,24 +6,25 @@ use Rattle.std.specs.List.{flat_map}
 use Rattle.std.proofs.lemmas.List.{take_all, take_more}
 use Rattle.std.proofs.lemmas.List.Sums.{count_by-le-length, sum_by-append, sum_by-cons, sum_by_more}
 use Rattle.gixobj_fields.specs.FieldWriting.{folded, newlines, value_lines}
-use Rattle.gixobj_fields.specs.HeaderText.{following_text, line_text}
+use Rattle.gixobj_fields.specs.HeaderFormat.{encode_continuation, encode_line}
 
-pub newlines_within : (text : List ℕ) → newlines text ≤ length text
-newlines_within text = count_by-le-length (λ byte. byte == 10) text
+pub newlines_within : (content : List ℕ) → newlines content ≤ length content
+newlines_within content = count_by-le-length (λ byte. byte == 10) content
 
-pub newlines_cut : (front rest : List ℕ) → newlines (front ++ rest) ≡ newlines front + newlines rest
-newlines_cut front rest = sum_by-append (λ (byte : ℕ). cond (byte == 10) 1 0) front rest
+pub newlines_cut : (prefix rest : List ℕ) → newlines (prefix ++ rest) ≡ newlines prefix + newlines rest
+newlines_cut prefix rest = sum_by-append (λ (byte : ℕ). cond (byte == 10) 1 0) prefix rest
 
-pub newlines_more : (text : List ℕ) (i byte : ℕ) → i < length text → byte ≡ get_or text i byte → newlines (take (i + 1) text) ≡ newlines (take i text) + cond (byte == 10) 1 0
-newlines_more text i byte within is =
-    sum_by_more (λ (it : ℕ). cond (it == 10) 1 0) text i byte within ∙ ap (λ (it : ℕ). newlines (take i text) + cond (it == 10) 1 0) (sym is)
+pub newlines_more : (content : List ℕ) (i byte : ℕ) → i < length content → byte ≡ get_or content i byte
+    → newlines (take (i + 1) content) ≡ newlines (take i content) + cond (byte == 10) 1 0
+newlines_more content i byte within is =
+    sum_by_more (λ (it : ℕ). cond (it == 10) 1 0) content i byte within ∙ ap (λ (it : ℕ). newlines (take i content) + cond (it == 10) 1 0) (sym is)
 
 newlines_first : (byte : ℕ) (rest : List ℕ) → newlines (byte ∷ rest) ≡ cond (byte == 10) 1 0 + newlines rest
 newlines_first byte rest = sum_by-cons (λ (it : ℕ). cond (it == 10) 1 0) byte rest
 
--- how long these lines are as they are written
+-- the length of these lines, encoded
 abbrev written_len : List ℕ × List (List ℕ) → ℕ
-written_len lines = length (line_text lines.0 ++ flat_map following_text lines.1)
+written_len lines = length (encode_line lines.0 ++ flat_map encode_continuation lines.1)
 
 byte_first : (is_newline : Bool) (byte : ℕ) (lines : List ℕ × List (List ℕ))
     → written_len (if is_newline then ([], lines.0 ∷ lines.1) else (byte ∷ lines.0, lines.1)) ≡ 1 + cond is_newline 1 0 + written_len lines
@@ -39,17 +40,32 @@ folded_len [] last = byte_last (last == 10) last
 folded_len (byte ∷ []) last =
     omega (arith, byte_first (byte == 10) byte (value_lines (last ∷ [])), byte_last (last == 10) last, newlines_first byte [])
 folded_len (byte ∷ next ∷ rest) last =
-    omega (arith, byte_first (byte == 10) byte (value_lines (next ∷ rest ++ last ∷ [])), folded_len (next ∷ rest) last, newlines_first byte (next ∷ rest))
+    omega (
+      arith,
+      byte_first (byte == 10) byte (value_lines (next ∷ rest ++ last ∷ [])),
+      folded_len (next ∷ rest) last,
+      newlines_first byte
+          (next ∷ rest),
+    )
 
 flag_of_other : (is : Bool) → bool_byte (not is) ≡ cond is 0 1
 flag_of_other true = refl
 flag_of_other false = refl
 
--- the same of a value that has a last byte
-pub folded_len_cut : (value : List ℕ) → 1 ≤ length value
+-- the length of an encoded value by the newlines before its last byte, and by that byte
+pub folded_len_split : (value : List ℕ) → 1 ≤ length value
     → length (folded value) ≡ length value + (newlines (take (length value - 1) value) + bool_byte (not (eqb (get_or value (length value - 1) 0) 10)))
-folded_len_cut value some =
+folded_len_split value some =
     let before = take (length value - 1) value in
     let last = get_or value (length value - 1) 0 in
-    let cut : value ≡ before ++ last ∷ [] = sym (take_all (length value - 1 + 1) value (omega arith)) ∙ take_more value (length value - 1) 0 (omega arith) in
-    omega (arith, ap (λ (it : List ℕ). length (folded it)) cut, ap length cut, length-append before (last ∷ []), folded_len before last, flag_of_other (eqb last 10))
+    let cut : value ≡ before ++ last ∷ [] = sym (take_all (length value - 1 + 1) value (omega arith)) ∙ take_more value (length value - 1) 0
+    (omega arith) in
+    omega (
+      arith,
+      ap (λ (it : List ℕ). length (folded it)) cut,
+      ap length cut,
+      length-append before (last ∷ []),
+      folded_len before last,
+      flag_of_other
+          (eqb last 10),
+    )

@@ -1,4 +1,4 @@
--- Header fields, cut from the left: made of their parts, and read in one way.
+-- Header fields are made of their parts and decode uniquely; used by the proofs of `parse` and of commits and tags.
 use Rattle.std.proofs.Common.{◌≡◌, ◌≢◌, ◌+◌, ◌*◌, ◌<◌, ℕ, List, [], ◌∷◌, ◌++◌, All, drop-cons, get_or, suc, length, arith, inl, inr, refl, sym, ap, subst, ◌∙◌, append_assoc, length-append, Contains, lit<}
 use Rattle.std.proofs.Math.Seq.{get_or-append_seam, take-append_seam}
 use Rattle.std.proofs.lemmas.List.{append_cancel_left, append-nil, take-append-drop}
@@ -12,34 +12,36 @@ use Rattle.std.specs.Cmp.Lexicographic.{pointwise}
 use Rattle.std.specs.List.{AllPass, flat_map}
 use Rattle.std.specs.Prelude.{true, false, MatchOption, Option, nat_eq, take, drop}
 use Rattle.hex.specs.Hex.{is_hex_digit}
-use Rattle.gixobj_hash.proofs.Splits.{free_of_cut, one_cut}
-use Rattle.gixobj_fields.specs.HeaderText.{BeginsSeveralLines, EndsHeader, HasField, HasHeader, HasNoField, HasNoHeader, Header, IsHeaderName, field_text, following_text, line_text, value_of_lines}
-use Rattle.gixobj_fields.specs.HeaderReading.{HasNoId, HasNoKind, HasNoLines, IsUnfolded, RefusesHeaderField}
-use Rattle.gixobj_hash.specs.Texts.{IsFree, SplitsAt}
-use Rattle.gixobj_hash.specs.Hash.{IsHexOfAnId, hash_len}
-use Rattle.gixobj_hash.specs.Hash.Hex.{IsHexOf}
-use Rattle.gixobj_hash.specs.Kind.{IsNoKindWord, kind_word}
+use Rattle.gixobj_hash.proofs.Splits.{free_of_split, one_cut}
+use Rattle.gixobj_fields.specs.HeaderFormat.{BeginsSeveralLines, EndsHeader, HasField, HasHeader, HasNoField, HasNoHeader, Header, IsHeaderName, encode_field, encode_continuation, encode_line, value_of_lines}
+use Rattle.gixobj_fields.specs.HeaderReading.{HasNoId, HasNoKind, HasNoLines, IsUnfolded, IsHeaderFieldError}
+use Rattle.gixobj_hash.specs.ByteStrings.{IsByteFree, SplitsAt}
+use Rattle.gixobj_hash.specs.Hash.{IsIdHex, hash_len}
+use Rattle.gixobj_hash.specs.Hash.Hex.{IsIdHexOfKind}
+use Rattle.gixobj_hash.specs.Kind.{IsUnknownKindName, kind_name}
 use Rattle.gixobj_hash.specs.declared.decode.Error.{Error}
 use Rattle.gixobj_hash.specs.declared.decode.Error.TheVariants.{Malformed, OutOfMemory}
 use Rattle.gixobj_hash.specs.declared.hash.kind.Kind.{Kind}
 use Rattle.gixobj_hash.specs.declared.hash.kind.Kind.TheVariants as hash
 
--- ---- fronts
+-- ---- prefixes
 
-pub front_is : (input front : List ℕ) → (result : Option (Bor (List ℕ)))
-    → MatchOption result (pointwise nat_eq (take (length front) input) front ≡ false) (λ x. (pointwise nat_eq (take (length front) input) front ≡ true) × (x.now ≡ drop (length front) input) × (length x.now + length front ≡ length input))
-    → MatchOption result ((rest : List ℕ) → input ≢ front ++ rest) (λ x. input ≡ front ++ x.now)
-front_is input front result is = strip_prefix_is Decides-eqb input front result is
+pub prefix_is : (input prefix : List ℕ) → (result : Option (Bor (List ℕ)))
+    → MatchOption result (pointwise nat_eq (take (length prefix) input) prefix ≡ false)
+    (λ x. (pointwise nat_eq (take (length prefix) input) prefix ≡ true)
+    × (x.now ≡ drop (length prefix) input) × (length x.now + length prefix ≡ length input))
+    → MatchOption result ((rest : List ℕ) → input ≢ prefix ++ rest) (λ x. input ≡ prefix ++ x.now)
+prefix_is input prefix result is = strip_prefix_is Decides-eqb input prefix result is
 
 -- ---- a field of one line
 
-flat_field : (name value rest : List ℕ) → field_text name value ++ rest ≡ name ++ 32 ∷ (value ++ 10 ∷ rest)
+flat_field : (name value rest : List ℕ) → encode_field name value ++ rest ≡ name ++ 32 ∷ (value ++ 10 ∷ rest)
 flat_field name value rest = simp append_assoc
 
--- a front behind which no space stands is no name of a field
-pub no_space_behind : (input name behind : List ℕ) → input ≡ name ++ behind → EndsHeader behind → (rest : List ℕ) → input ≢ name ++ 32 ∷ rest
-no_space_behind input name behind joined ends rest same =
-    let e : behind ≡ 32 ∷ rest = append_cancel_left name behind (32 ∷ rest) (sym joined ∙ same) in
+-- a name that no space follows is not the name of a field
+pub no_space_after : (input name following : List ℕ) → input ≡ name ++ following → EndsHeader following → (rest : List ℕ) → input ≢ name ++ 32 ∷ rest
+no_space_after input name following joined ends rest same =
+    let e : following ≡ 32 ∷ rest = append_cancel_left name following (32 ∷ rest) (sym joined ∙ same) in
     let k : EndsHeader (32 ∷ rest) = subst EndsHeader e ends in k refl
 
 pub field_of_parts : (name input line value rest : List ℕ) → input ≡ name ++ 32 ∷ line → SplitsAt 10 line value rest → HasField name input value rest
@@ -49,234 +51,307 @@ field_of_parts name input line value rest joined split =
 pub no_field_without_name : (name input : List ℕ) → ((rest : List ℕ) → input ≢ name ++ 32 ∷ rest) → HasNoField name input
 no_field_without_name name input without value rest field = without (value ++ 10 ∷ rest) (field.joined ∙ flat_field name value rest)
 
--- what stands behind the name of a field
-behind_name : (name input line value rest : List ℕ) → input ≡ name ++ 32 ∷ line → HasField name input value rest → line ≡ value ++ 10 ∷ rest
-behind_name name input line value rest joined field =
-    let e : 32 ∷ line ≡ 32 ∷ (value ++ 10 ∷ rest) = append_cancel_left name (32 ∷ line) (32 ∷ (value ++ 10 ∷ rest)) (sym joined ∙ field.joined ∙ flat_field name value rest) in cc
+-- the bytes after the name of a field are its value, a newline and the rest
+name_after : (name input line value rest : List ℕ) → input ≡ name ++ 32 ∷ line → HasField name input value rest → line ≡ value ++ 10 ∷ rest
+name_after name input line value rest joined field =
+    let e : 32 ∷ line ≡ 32 ∷ (value ++ 10 ∷ rest) = append_cancel_left name (32 ∷ line) (32 ∷ (value ++ 10 ∷ rest))
+    (sym joined ∙ field.joined ∙ flat_field name value rest) in cc
 
-pub no_field_without_newline : (name input line : List ℕ) → input ≡ name ++ 32 ∷ line → IsFree 10 line → HasNoField name input
+pub no_field_without_newline : (name input line : List ℕ) → input ≡ name ++ 32 ∷ line → IsByteFree 10 line → HasNoField name input
 no_field_without_newline name input line joined free value rest field =
-    free_of_cut 10 value rest (subst (IsFree 10) (behind_name name input line value rest joined field) free)
+    free_of_split 10 value rest (subst (IsByteFree 10) (name_after name input line value rest joined field) free)
 
 pub one_field : (name input a x b y : List ℕ) → HasField name input a x → HasField name input b y → (a ≡ b) × (x ≡ y)
 one_field name input a x b y first second =
-    one_cut 10 a x b y first.one_line second.one_line (behind_name name input (a ++ 10 ∷ x) b y (first.joined ∙ flat_field name a x) second)
+    one_cut 10 a x b y first.one_line second.one_line (name_after name input (a ++ 10 ∷ x) b y (first.joined ∙ flat_field name a x) second)
 
--- a text of a field alone is that field
-pub field_alone : (name input value rest : List ℕ) → HasField name input value rest → HasField name (field_text name value) value []
-field_alone name input value rest has = record { joined = sym (append-nil (field_text name value)); one_line = has.one_line }
+-- a field at the beginning of an input is a field by itself
+pub field_alone : (name input value rest : List ℕ) → HasField name input value rest → HasField name (encode_field name value) value []
+field_alone name input value rest has = record { joined = sym (append-nil (encode_field name value)); one_line = has.one_line }
 
 pub first_bytes : (a b : ℕ) (x y : List ℕ) → a ∷ x ≡ b ∷ y → a ≡ b
 first_bytes a b x y same = cc same
 
--- the hex text of an id of some kind is that of an id
-pub of_an_id : (kind : Kind) (hex : List ℕ) → IsHexOf kind hex → IsHexOfAnId hex
+-- the hex of an id of some kind is the hex of an id
+pub of_an_id : (kind : Kind) (hex : List ℕ) → IsIdHexOfKind kind hex → IsIdHex hex
 of_an_id hash.Sha1 hex (is, digits) = (inl is, digits)
 of_an_id hash.Sha256 hex (is, digits) = (inr is, digits)
 
 hex_digit_is_no_newline : (byte : ℕ) → is_hex_digit byte ≡ true → byte ≢ 10
 hex_digit_is_no_newline byte digit same = true≢false (sym digit ∙ ap is_hex_digit same)
 
-pub digits_are_one_line : (text : List ℕ) → AllPass is_hex_digit text → IsFree 10 text
+pub digits_are_one_line : (bytes : List ℕ) → AllPass is_hex_digit bytes → IsByteFree 10 bytes
 digits_are_one_line [] digits = All-nil (λ it. it ≢ 10)
-digits_are_one_line (byte ∷ text) digits =
+digits_are_one_line (byte ∷ bytes) digits =
     let P : ℕ → Type 0 = λ it. is_hex_digit it ≡ true in
-    All-cons (λ it. it ≢ 10) byte text (hex_digit_is_no_newline byte (All-head P byte text digits)) (digits_are_one_line text (All-tail P byte text digits))
+    All-cons (λ it. it ≢ 10) byte bytes (hex_digit_is_no_newline byte (All-head P byte bytes digits))
+    (digits_are_one_line bytes (All-tail P byte bytes digits))
 
-pub no_kind_of_field : (name input value rest : List ℕ) → HasField name input value rest → IsNoKindWord value → HasNoKind name input
-no_kind_of_field name input value rest field bad kind behind second = bad kind (one_field name input value rest (kind_word kind) behind field second).0
+pub no_kind_of_field : (name input value rest : List ℕ) → HasField name input value rest → IsUnknownKindName value → HasNoKind name input
+no_kind_of_field name input value rest field bad kind following second =
+    bad kind (one_field name input value rest (kind_name kind) following field second).0
 
--- ---- the hex text of an id, whose newline stands where its length says
+-- ---- the hex of an id, whose length is the position of the newline
 
-pub no_id_without_newline : (name : List ℕ) (kind : Kind) (input line : List ℕ) (len : ℕ) → input ≡ name ++ 32 ∷ line → len ≡ 2 * hash_len kind → get_or line len 0 ≢ 10 → HasNoId name kind input
+pub no_id_without_newline : (name : List ℕ) (kind : Kind) (input line : List ℕ) (len : ℕ) → input ≡ name ++ 32 ∷ line → len ≡ 2 * hash_len kind
+    → get_or line len 0 ≢ 10 → HasNoId name kind input
 no_id_without_newline name kind input line len joined long other hex rest has =
-    let cut : line ≡ hex ++ 10 ∷ rest = behind_name name input line hex rest joined has.0 in
+    let cut : line ≡ hex ++ 10 ∷ rest = name_after name input line hex rest joined has.0 in
     let placed : len ≡ length hex = long ∙ sym has.1.0 in
     other (ap (λ (it : List ℕ). get_or it len 0) cut ∙ ap (λ (it : ℕ). get_or (hex ++ 10 ∷ rest) it 0) placed ∙ get_or-append_seam hex 10 rest 0)
 
-same_front : (a x b y : List ℕ) → a ++ x ≡ b ++ y → length a ≡ length b → a ≡ b
-same_front a x b y same long =
+same_prefix : (a x b y : List ℕ) → a ++ x ≡ b ++ y → length a ≡ length b → a ≡ b
+same_prefix a x b y same long =
     sym (take-append_seam a x) ∙ ap (take (length a)) same ∙ ap (λ (it : ℕ). take it (b ++ y)) long ∙ take-append_seam b y
 
-pub no_id_of_other_text : (name : List ℕ) (kind : Kind) (input line value rest : List ℕ) (len : ℕ) → input ≡ name ++ 32 ∷ line → len ≡ 2 * hash_len kind → line ≡ value ++ 10 ∷ rest → length value ≡ len
-    → (IsHexOf kind value → ⊥) → HasNoId name kind input
-no_id_of_other_text name kind input line value rest len joined long cut placed bad hex behind has =
-    let same : hex ≡ value = same_front hex (10 ∷ behind) value (10 ∷ rest) (sym (behind_name name input line hex behind joined has.0) ∙ cut) (has.1.0 ∙ sym (placed ∙ long)) in
-    bad (subst (IsHexOf kind) same has.1)
+pub no_id_of_other_bytes : (name : List ℕ) (kind : Kind) (input line value rest : List ℕ) (len : ℕ) → input ≡ name ++ 32 ∷ line
+    → len ≡ 2 * hash_len kind
+    → line ≡ value ++ 10 ∷ rest → length value ≡ len
+    → (IsIdHexOfKind kind value → ⊥) → HasNoId name kind input
+no_id_of_other_bytes name kind input line value rest len joined long cut placed bad hex following has =
+    let same : hex ≡ value = same_prefix hex (10 ∷ following) value (10 ∷ rest) (sym (name_after name input line hex following joined has.0) ∙ cut)
+    (has.1.0 ∙ sym (placed ∙ long)) in
+    bad (subst (IsIdHexOfKind kind) same has.1)
 
--- the byte at a place stands between what is before it and what is behind it
-pub cut_at_place : (text : List ℕ) (place byte : ℕ) → place < length text → byte ≡ get_or text place 0 → text ≡ take place text ++ byte ∷ drop (place + 1) text
-cut_at_place text place byte within is =
+-- a list splits before and after the byte at a position
+pub cut_at_place : (bytes : List ℕ) (place byte : ℕ) → place < length bytes → byte ≡ get_or bytes place 0
+    → bytes ≡ take place bytes ++ byte ∷ drop (place + 1) bytes
+cut_at_place bytes place byte within is =
     let next : suc place ≡ place + 1 = omega arith in
-    let behind : drop place text ≡ byte ∷ drop (place + 1) text = drop-cons text place 0 within ∙ ap (λ (it : ℕ). get_or text place 0 ∷ drop it text) next ∙ ap (λ (it : ℕ). it ∷ drop (place + 1) text) (sym is) in
-    sym (take-append-drop place text) ∙ ap (λ (it : List ℕ). take place text ++ it) behind
+    let following : drop place bytes ≡ byte ∷ drop (place + 1) bytes = drop-cons bytes place 0 within
+    ∙ ap (λ (it : ℕ). get_or bytes place 0 ∷ drop it bytes) next ∙ ap (λ (it : ℕ). it ∷ drop (place + 1) bytes) (sym is) in
+    sym (take-append-drop place bytes) ∙ ap (λ (it : List ℕ). take place bytes ++ it) following
 
--- ---- the lines that follow
+-- ---- continuation lines
 
-one_following : (line rest : List ℕ) (more : List (List ℕ)) → flat_map following_text (line ∷ more) ++ rest ≡ 32 ∷ (line ++ 10 ∷ (flat_map following_text more ++ rest))
+one_following : (line rest : List ℕ) (more : List (List ℕ))
+    → flat_map encode_continuation (line ∷ more) ++ rest ≡ 32 ∷ (line ++ 10 ∷ (flat_map encode_continuation more ++ rest))
 one_following line rest more = simp append_assoc
 
-not_space : (rest behind : List ℕ) → EndsHeader rest → rest ≡ 32 ∷ behind → ⊥
-not_space rest behind ends same = (let k : EndsHeader (32 ∷ behind) = subst EndsHeader same ends in k refl)
+not_space : (rest following : List ℕ) → EndsHeader rest → rest ≡ 32 ∷ following → ⊥
+not_space rest following ends same = (let k : EndsHeader (32 ∷ following) = subst EndsHeader same ends in k refl)
 
--- the lines that follow stand fast
-pub one_run : (a b : List (List ℕ)) (x y : List ℕ) → All (λ line. IsFree 10 line) a → All (λ line. IsFree 10 line) b → EndsHeader x → EndsHeader y
-    → flat_map following_text a ++ x ≡ flat_map following_text b ++ y → (a ≡ b) × (x ≡ y)
+-- continuation lines decode uniquely
+pub one_run : (a b : List (List ℕ)) (x y : List ℕ) → All (λ line. IsByteFree 10 line) a → All (λ line. IsByteFree 10 line) b → EndsHeader x
+    → EndsHeader y
+    → flat_map encode_continuation a ++ x ≡ flat_map encode_continuation b ++ y → (a ≡ b) × (x ≡ y)
 one_run [] [] x y free_a free_b ends_x ends_y same = (refl, same)
-one_run [] (line ∷ b) x y free_a free_b ends_x ends_y same = absurd (not_space x (line ++ 10 ∷ (flat_map following_text b ++ y)) ends_x (same ∙ one_following line y b))
-one_run (line ∷ a) [] x y free_a free_b ends_x ends_y same = absurd (not_space y (line ++ 10 ∷ (flat_map following_text a ++ x)) ends_y (sym same ∙ one_following line x a))
+one_run [] (line ∷ b) x y free_a free_b ends_x ends_y same =
+    absurd (not_space x (line ++ 10 ∷ (flat_map encode_continuation b ++ y)) ends_x (same ∙ one_following line y b))
+one_run (line ∷ a) [] x y free_a free_b ends_x ends_y same =
+    absurd (not_space y (line ++ 10 ∷ (flat_map encode_continuation a ++ x)) ends_y (sym same ∙ one_following line x a))
 one_run (line ∷ a) (other ∷ b) x y free_a free_b ends_x ends_y same =
-    let P : List ℕ → Type 0 = IsFree 10 in
-    let whole : 32 ∷ (line ++ 10 ∷ (flat_map following_text a ++ x)) ≡ 32 ∷ (other ++ 10 ∷ (flat_map following_text b ++ y)) = sym (one_following line x a) ∙ same ∙ one_following other y b in
-    let tails : line ++ 10 ∷ (flat_map following_text a ++ x) ≡ other ++ 10 ∷ (flat_map following_text b ++ y) = cc in
-    let cut = one_cut 10 line (flat_map following_text a ++ x) other (flat_map following_text b ++ y) (All-head P line a free_a) (All-head P other b free_b) tails in
+    let P : List ℕ → Type 0 = IsByteFree 10 in
+    let entire : 32 ∷ (line ++ 10 ∷ (flat_map encode_continuation a ++ x)) ≡ 32 ∷ (other ++ 10 ∷ (flat_map encode_continuation b ++ y)) =
+    sym (one_following line x a) ∙ same ∙ one_following other y b in
+    let tails : line ++ 10 ∷ (flat_map encode_continuation a ++ x) ≡ other ++ 10 ∷ (flat_map encode_continuation b ++ y) = cc in
+    let cut = one_cut 10 line (flat_map encode_continuation a ++ x) other (flat_map encode_continuation b ++ y) (All-head P line a free_a)
+    (All-head P other b free_b) tails in
     let rest = one_run a b x y (All-tail P line a free_a) (All-tail P other b free_b) ends_x ends_y cut.1 in
     (cc (cut.0, rest.0), rest.1)
 
--- a run of lines that goes on with a line that does not end
-pub no_run : (a b : List (List ℕ)) (behind y : List ℕ) → All (λ line. IsFree 10 line) a → All (λ line. IsFree 10 line) b → IsFree 10 behind → EndsHeader y
-    → flat_map following_text a ++ 32 ∷ behind ≡ flat_map following_text b ++ y → ⊥
-no_run [] [] behind y free_a free_b free ends same = not_space y behind ends (sym same)
-no_run [] (line ∷ b) behind y free_a free_b free ends same =
-    let whole : 32 ∷ behind ≡ 32 ∷ (line ++ 10 ∷ (flat_map following_text b ++ y)) = same ∙ one_following line y b in
-    let tails : behind ≡ line ++ 10 ∷ (flat_map following_text b ++ y) = cc in
-    free_of_cut 10 line (flat_map following_text b ++ y) (subst (IsFree 10) tails free)
-no_run (line ∷ a) [] behind y free_a free_b free ends same = not_space y (line ++ 10 ∷ (flat_map following_text a ++ 32 ∷ behind)) ends (sym same ∙ one_following line (32 ∷ behind) a)
-no_run (line ∷ a) (other ∷ b) behind y free_a free_b free ends same =
-    let P : List ℕ → Type 0 = IsFree 10 in
-    let whole : 32 ∷ (line ++ 10 ∷ (flat_map following_text a ++ 32 ∷ behind)) ≡ 32 ∷ (other ++ 10 ∷ (flat_map following_text b ++ y)) = sym (one_following line (32 ∷ behind) a) ∙ same ∙ one_following other y b in
-    let tails : line ++ 10 ∷ (flat_map following_text a ++ 32 ∷ behind) ≡ other ++ 10 ∷ (flat_map following_text b ++ y) = cc in
-    let cut = one_cut 10 line (flat_map following_text a ++ 32 ∷ behind) other (flat_map following_text b ++ y) (All-head P line a free_a) (All-head P other b free_b) tails in
-    no_run a b behind y (All-tail P line a free_a) (All-tail P other b free_b) free ends cut.1
+-- an incomplete continuation line makes the continuation lines invalid
+pub no_run : (a b : List (List ℕ)) (following y : List ℕ) → All (λ line. IsByteFree 10 line) a → All (λ line. IsByteFree 10 line) b
+    → IsByteFree 10 following
+    → EndsHeader y
+    → flat_map encode_continuation a ++ 32 ∷ following ≡ flat_map encode_continuation b ++ y → ⊥
+no_run [] [] following y free_a free_b free ends same = not_space y following ends (sym same)
+no_run [] (line ∷ b) following y free_a free_b free ends same =
+    let entire : 32 ∷ following ≡ 32 ∷ (line ++ 10 ∷ (flat_map encode_continuation b ++ y)) = same ∙ one_following line y b in
+    let tails : following ≡ line ++ 10 ∷ (flat_map encode_continuation b ++ y) = cc in
+    free_of_split 10 line (flat_map encode_continuation b ++ y) (subst (IsByteFree 10) tails free)
+no_run (line ∷ a) [] following y free_a free_b free ends same = not_space y (line ++ 10 ∷ (flat_map encode_continuation a ++ 32 ∷ following)) ends
+    (sym same ∙ one_following line (32 ∷ following) a)
+no_run (line ∷ a) (other ∷ b) following y free_a free_b free ends same =
+    let P : List ℕ → Type 0 = IsByteFree 10 in
+    let entire : 32 ∷ (line ++ 10 ∷ (flat_map encode_continuation a ++ 32 ∷ following)) ≡ 32 ∷ (other ++ 10 ∷ (flat_map encode_continuation b ++ y)) =
+    sym (one_following line (32 ∷ following) a) ∙ same ∙ one_following other y b in
+    let tails : line ++ 10 ∷ (flat_map encode_continuation a ++ 32 ∷ following) ≡ other ++ 10 ∷ (flat_map encode_continuation b ++ y) = cc in
+    let cut = one_cut 10 line (flat_map encode_continuation a ++ 32 ∷ following) other (flat_map encode_continuation b ++ y)
+    (All-head P line a free_a)
+    (All-head P other b free_b) tails in
+    no_run a b following y (All-tail P line a free_a) (All-tail P other b free_b) free ends cut.1
 
--- the lines that were read, and the value that they make
+-- the continuation lines that were decoded, and the value that they make
 pub record Unfolding (first input unfolded rest : List ℕ) : Type 0 where
   pub more : List (List ℕ)
-  pub joined : input ≡ flat_map following_text more ++ rest
-  pub each_one_line : All (λ line. IsFree 10 line) more
-  pub value : unfolded ≡ flat_map line_text (first ∷ more)
+  pub joined : input ≡ flat_map encode_continuation more ++ rest
+  pub each_one_line : All (λ line. IsByteFree 10 line) more
+  pub value : unfolded ≡ flat_map encode_line (first ∷ more)
 
 pub unfolding_starts : (first input : List ℕ) → Unfolding first input (first ++ 10 ∷ []) input
-unfolding_starts first input = record { more = []; joined = refl; each_one_line = All-nil (λ (line : List ℕ). IsFree 10 line); value = sym (append-nil (first ++ 10 ∷ [])) }
+unfolding_starts first input =
+    record { more = []; joined = refl; each_one_line = All-nil (λ (line : List ℕ). IsByteFree 10 line); value = sym (append-nil (first ++ 10 ∷ [])) }
 
-pub unfolding_more : (first input value rest behind line after : List ℕ) → Unfolding first input value rest → rest ≡ 32 ∷ behind → SplitsAt 10 behind line after
+pub unfolding_more : (first input value rest following line after : List ℕ) → Unfolding first input value rest → rest ≡ 32 ∷ following
+    → SplitsAt 10 following line after
     → Unfolding first input ((value ++ line) ++ 10 ∷ []) after
-unfolding_more first input value rest behind line after so_far space split =
-    let one : rest ≡ flat_map following_text (line ∷ []) ++ after = space ∙ ap (λ (it : List ℕ). 32 ∷ it) split.joined ∙ sym (one_following line after []) in
-    let regrouped : flat_map following_text so_far.more ++ (flat_map following_text (line ∷ []) ++ after) ≡ flat_map following_text (so_far.more ++ line ∷ []) ++ after =
-    sym (append_assoc (flat_map following_text so_far.more) (flat_map following_text (line ∷ [])) after) ∙ ap (λ (it : List ℕ). it ++ after) (sym (flat_map-append following_text so_far.more (line ∷ []))) in
-    let last : flat_map line_text (line ∷ []) ≡ line ++ 10 ∷ [] = append-nil (line ++ 10 ∷ []) in
+unfolding_more first input value rest following line after so_far space split =
+    let one : rest ≡ flat_map encode_continuation (line ∷ []) ++ after = space ∙ ap (λ (it : List ℕ). 32 ∷ it) split.joined
+    ∙ sym (one_following line after []) in
+    let regrouped : flat_map encode_continuation so_far.more ++ (flat_map encode_continuation (line ∷ []) ++ after) ≡ flat_map encode_continuation
+    (so_far.more ++ line ∷ []) ++ after =
+    sym (append_assoc (flat_map encode_continuation so_far.more) (flat_map encode_continuation (line ∷ [])) after) ∙ ap (λ (it : List ℕ). it ++ after)
+    (sym (flat_map-append encode_continuation so_far.more (line ∷ []))) in
+    let last : flat_map encode_line (line ∷ []) ≡ line ++ 10 ∷ [] = append-nil (line ++ 10 ∷ []) in
     record {
       more = so_far.more ++ line ∷ [];
-      joined = so_far.joined ∙ ap (λ (it : List ℕ). flat_map following_text so_far.more ++ it) one ∙ regrouped;
-      each_one_line = All-push (λ (it : List ℕ). IsFree 10 it) so_far.more line so_far.each_one_line split.first;
-      value = append_assoc value line (10 ∷ []) ∙ ap (λ (it : List ℕ). it ++ (line ++ 10 ∷ [])) so_far.value ∙ ap (λ (it : List ℕ). flat_map line_text (first ∷ so_far.more) ++ it) (sym last) ∙ sym (flat_map-append line_text (first ∷ so_far.more) (line ∷ []));
+      joined = so_far.joined ∙ ap (λ (it : List ℕ). flat_map encode_continuation so_far.more ++ it) one ∙ regrouped;
+      each_one_line = All-push (λ (it : List ℕ). IsByteFree 10 it) so_far.more line so_far.each_one_line split.first;
+      value = append_assoc value line (10 ∷ []) ∙ ap (λ (it : List ℕ). it ++ (line ++ 10 ∷ [])) so_far.value
+          ∙ ap (λ (it : List ℕ). flat_map encode_line (first ∷ so_far.more) ++ it) (sym last)
+          ∙ sym (flat_map-append encode_line (first ∷ so_far.more) (line ∷ []));
     }
 
-pub unfolding_step : (first input value rest behind line after grown unfolded : List ℕ) → Unfolding first input value rest → rest ≡ 32 ∷ behind → SplitsAt 10 behind line after
+pub unfolding_step : (first input value rest following line after grown unfolded : List ℕ) → Unfolding first input value rest → rest ≡ 32 ∷ following
+    → SplitsAt 10 following line after
     → grown ≡ value ++ line → unfolded ≡ grown ++ 10 ∷ [] → Unfolding first input unfolded after
-unfolding_step first input value rest behind line after grown unfolded so_far space split more last =
+unfolding_step first input value rest following line after grown unfolded so_far space split more last =
     let U : List ℕ → Type 0 = λ it. Unfolding first input it after in
-    subst U (sym (last ∙ ap (λ (it : List ℕ). it ++ 10 ∷ []) more)) (unfolding_more first input value rest behind line after so_far space split)
+    subst U (sym (last ∙ ap (λ (it : List ℕ). it ++ 10 ∷ []) more)) (unfolding_more first input value rest following line after so_far space split)
 
 pub unfolding_ends : (first input value rest : List ℕ) → Unfolding first input value rest → EndsHeader rest → IsUnfolded first input value rest
-unfolding_ends first input value rest so_far ends = (so_far.more, record { joined = so_far.joined; each_one_line = so_far.each_one_line; ends = ends }, so_far.value)
+unfolding_ends first input value rest so_far ends =
+    (so_far.more, record { joined = so_far.joined; each_one_line = so_far.each_one_line; ends = ends }, so_far.value)
 
-pub unfolding_cut : (first input value rest behind : List ℕ) → Unfolding first input value rest → rest ≡ 32 ∷ behind → IsFree 10 behind → HasNoLines input
-unfolding_cut first input value rest behind so_far space free more tail lines =
-    no_run so_far.more more behind tail so_far.each_one_line lines.each_one_line free lines.ends
-    (ap (λ (it : List ℕ). flat_map following_text so_far.more ++ it) (sym space) ∙ sym so_far.joined ∙ lines.joined)
+pub unfolding_split : (first input value rest following : List ℕ) → Unfolding first input value rest → rest ≡ 32 ∷ following → IsByteFree 10 following
+    → HasNoLines input
+unfolding_split first input value rest following so_far space free more tail lines =
+    no_run so_far.more more following tail so_far.each_one_line lines.each_one_line free lines.ends
+    (ap (λ (it : List ℕ). flat_map encode_continuation so_far.more ++ it) (sym space) ∙ sym so_far.joined ∙ lines.joined)
 
-pub unfolding_shorter : (rest behind line after : List ℕ) → rest ≡ 32 ∷ behind → SplitsAt 10 behind line after → length after < length rest
-unfolding_shorter rest behind line after space split = omega (arith, ap length space, ap length split.joined, length-append line (10 ∷ after))
+pub unfolding_shorter : (rest following line after : List ℕ) → rest ≡ 32 ∷ following → SplitsAt 10 following line after → length after < length rest
+unfolding_shorter rest following line after space split = omega (arith, ap length space, ap length split.joined, length-append line (10 ∷ after))
 
 -- ---- a header
 
-flat_header : (name first rest : List ℕ) (more : List (List ℕ)) → (name ++ 32 ∷ line_text first ++ flat_map following_text more) ++ rest ≡ name ++ 32 ∷ (first ++ 10 ∷ (flat_map following_text more ++ rest))
+flat_header : (name first rest : List ℕ) (more : List (List ℕ)) → (name ++ 32 ∷ encode_line first ++ flat_map encode_continuation more) ++ rest ≡ name
+    ++ 32
+    ∷ (first ++ 10 ∷ (flat_map encode_continuation more ++ rest))
 flat_header name first rest more = simp append_assoc
 
--- a header's parts as they are cut from the left
-pub record HeaderParts (input name behind first after : List ℕ) : Type 0 where
-  pub cut : SplitsAt 32 input name behind
-  pub named : (name ≢ []) × IsFree 10 name
-  pub line : SplitsAt 10 behind first after
+-- the parts of a header, split from left to right
+pub record HeaderParts (input name following first after : List ℕ) : Type 0 where
+  pub split_parts : SplitsAt 32 input name following
+  pub named : (name ≢ []) × IsByteFree 10 name
+  pub line : SplitsAt 10 following first after
 
-parts_joined : (input name behind first after rest : List ℕ) (more : List (List ℕ)) → HeaderParts input name behind first after → after ≡ flat_map following_text more ++ rest
-    → input ≡ (name ++ 32 ∷ line_text first ++ flat_map following_text more) ++ rest
-parts_joined input name behind first after rest more parts same =
-    parts.cut.joined ∙ ap (λ (it : List ℕ). name ++ 32 ∷ it) (parts.line.joined ∙ ap (λ (it : List ℕ). first ++ 10 ∷ it) same) ∙ sym (flat_header name first rest more)
+parts_joined : (input name following first after rest : List ℕ) (more : List (List ℕ)) → HeaderParts input name following first after
+    → after ≡ flat_map encode_continuation more ++ rest
+    → input ≡ (name ++ 32 ∷ encode_line first ++ flat_map encode_continuation more) ++ rest
+parts_joined input name following first after rest more parts same =
+    parts.split_parts.joined ∙ ap (λ (it : List ℕ). name ++ 32 ∷ it) (parts.line.joined ∙ ap (λ (it : List ℕ). first ++ 10 ∷ it) same)
+    ∙ sym (flat_header name first rest more)
 
-name_of_parts : (input name behind first after : List ℕ) → HeaderParts input name behind first after → IsHeaderName name
-name_of_parts input name behind first after parts = record { not_empty = parts.named.0; no_space = parts.cut.first; no_newline = parts.named.1 }
+name_of_parts : (input name following first after : List ℕ) → HeaderParts input name following first after → IsHeaderName name
+name_of_parts input name following first after parts =
+    record { not_empty = parts.named.0; no_space = parts.split_parts.first; no_newline = parts.named.1 }
 
-pub header_of_one_line : (input name behind first after : List ℕ) → SplitsAt 32 input name behind → (name ≢ []) × IsFree 10 name → SplitsAt 10 behind first after → EndsHeader after
+pub header_of_one_line : (input name following first after : List ℕ) → SplitsAt 32 input name following → (name ≢ []) × IsByteFree 10 name
+    → SplitsAt 10 following first after → EndsHeader after
     → HasHeader input (record { name = name; value = first }) after
-header_of_one_line input name behind first after cut named line ends =
-    let parts : HeaderParts input name behind first after = record { cut = cut; named = named; line = line } in
+header_of_one_line input name following first after cut named line ends =
+    let parts : HeaderParts input name following first after = record { split_parts = cut; named = named; line = line } in
     record {
-      text = name ++ 32 ∷ line_text first ++ flat_map following_text [];
-      joined = parts_joined input name behind first after after [] parts refl;
+      encoded = name ++ 32 ∷ encode_line first ++ flat_map encode_continuation [];
+      joined = parts_joined input name following first after after [] parts refl;
       ends = ends;
-      written = record { first = first; more = []; joined = refl; named = name_of_parts input name behind first after parts; one_line = line.first; each_one_line = All-nil (λ (it : List ℕ). IsFree 10 it); value = refl };
+      written = record {
+        first = first;
+        more = [];
+        joined = refl;
+        named = name_of_parts input name following first after parts;
+        one_line = line.first;
+        each_one_line = All-nil (λ (it : List ℕ). IsByteFree 10 it);
+        value = refl;
+      };
     }
 
-several : (first after rest value : List ℕ) (more : List (List ℕ)) → after ≡ flat_map following_text more ++ rest → EndsHeader rest → (EndsHeader after → ⊥)
-    → value ≡ flat_map line_text (first ∷ more) → value ≡ value_of_lines first more
+several : (first after rest value : List ℕ) (more : List (List ℕ)) → after ≡ flat_map encode_continuation more ++ rest → EndsHeader rest
+    → (EndsHeader after → ⊥)
+    → value ≡ flat_map encode_line (first ∷ more) → value ≡ value_of_lines first more
 several first after rest value [] same ends goes_on is = absurd (goes_on (subst EndsHeader (sym same) ends))
 several first after rest value (second ∷ more) same ends goes_on is = is
 
-pub header_of_lines : (input name behind first after value rest : List ℕ) → SplitsAt 32 input name behind → (name ≢ []) × IsFree 10 name → SplitsAt 10 behind first after
+pub header_of_lines : (input name following first after value rest : List ℕ) → SplitsAt 32 input name following → (name ≢ []) × IsByteFree 10 name
+    → SplitsAt 10 following first after
     → (EndsHeader after → ⊥) → IsUnfolded first after value rest → HasHeader input (record { name = name; value = value }) rest
-header_of_lines input name behind first after value rest cut named line goes_on (more, lines, is) =
-    let parts : HeaderParts input name behind first after = record { cut = cut; named = named; line = line } in
+header_of_lines input name following first after value rest cut named line goes_on (more, lines, is) =
+    let parts : HeaderParts input name following first after = record { split_parts = cut; named = named; line = line } in
     record {
-      text = name ++ 32 ∷ line_text first ++ flat_map following_text more;
-      joined = parts_joined input name behind first after rest more parts lines.joined;
+      encoded = name ++ 32 ∷ encode_line first ++ flat_map encode_continuation more;
+      joined = parts_joined input name following first after rest more parts lines.joined;
       ends = lines.ends;
-      written = record { first = first; more = more; joined = refl; named = name_of_parts input name behind first after parts; one_line = line.first; each_one_line = lines.each_one_line; value = several first after rest value more lines.joined lines.ends goes_on is };
+      written = record {
+        first = first;
+        more = more;
+        joined = refl;
+        named = name_of_parts input name following first after parts;
+        one_line = line.first;
+        each_one_line = lines.each_one_line;
+        value = several first after rest value more lines.joined lines.ends goes_on is;
+      };
     }
 
--- a header, flat
-flat_of : (input : List ℕ) (h : Header) (rest : List ℕ) (it : HasHeader input h rest) → input ≡ h.name ++ 32 ∷ (it.written.first ++ 10 ∷ (flat_map following_text it.written.more ++ rest))
-flat_of input h rest it = it.joined ∙ ap (λ (text : List ℕ). text ++ rest) it.written.joined ∙ flat_header h.name it.written.first rest it.written.more
+-- the input is the name, a space, the first line, the continuation lines and the rest
+flat_of : (input : List ℕ) (h : Header) (rest : List ℕ) (it : HasHeader input h rest)
+    → input ≡ h.name ++ 32 ∷ (it.written.first ++ 10 ∷ (flat_map encode_continuation it.written.more ++ rest))
+flat_of input h rest it = it.joined ∙ ap (λ (bytes : List ℕ). bytes ++ rest) it.written.joined
+    ∙ flat_header h.name it.written.first rest it.written.more
 
-pub no_header_without_space : (input : List ℕ) → IsFree 32 input → HasNoHeader input
-no_header_without_space input free h rest it = free_of_cut 32 h.name (it.written.first ++ 10 ∷ (flat_map following_text it.written.more ++ rest)) (subst (IsFree 32) (flat_of input h rest it) free)
+pub no_header_without_space : (input : List ℕ) → IsByteFree 32 input → HasNoHeader input
+no_header_without_space input free h rest it =
+    free_of_split 32 h.name (it.written.first ++ 10 ∷ (flat_map encode_continuation it.written.more ++ rest))
+    (subst (IsByteFree 32) (flat_of input h rest it) free)
 
--- what stands before and behind the first space of a header
-name_cut : (input name behind : List ℕ) (h : Header) (rest : List ℕ) → SplitsAt 32 input name behind → (it : HasHeader input h rest)
-    → (name ≡ h.name) × (behind ≡ it.written.first ++ 10 ∷ (flat_map following_text it.written.more ++ rest))
-name_cut input name behind h rest cut it =
-    one_cut 32 name behind h.name (it.written.first ++ 10 ∷ (flat_map following_text it.written.more ++ rest)) cut.first it.written.named.no_space (sym cut.joined ∙ flat_of input h rest it)
+-- the first space of a header splits its name from its lines
+name_cut : (input name following : List ℕ) (h : Header) (rest : List ℕ) → SplitsAt 32 input name following → (it : HasHeader input h rest)
+    → (name ≡ h.name) × (following ≡ it.written.first ++ 10 ∷ (flat_map encode_continuation it.written.more ++ rest))
+name_cut input name following h rest cut it =
+    one_cut 32 name following h.name (it.written.first ++ 10 ∷ (flat_map encode_continuation it.written.more ++ rest)) cut.first
+    it.written.named.no_space
+    (sym cut.joined ∙ flat_of input h rest it)
 
-pub no_header_of_no_name : (input name behind : List ℕ) → SplitsAt 32 input name behind → (IsHeaderName name → ⊥) → HasNoHeader input
-no_header_of_no_name input name behind cut bad h rest it = bad (subst IsHeaderName (sym (name_cut input name behind h rest cut it).0) it.written.named)
+pub no_header_of_no_name : (input name following : List ℕ) → SplitsAt 32 input name following → (IsHeaderName name → ⊥) → HasNoHeader input
+no_header_of_no_name input name following cut bad h rest it =
+    bad (subst IsHeaderName (sym (name_cut input name following h rest cut it).0) it.written.named)
 
-pub no_header_without_newline : (input name behind : List ℕ) → SplitsAt 32 input name behind → IsFree 10 behind → HasNoHeader input
-no_header_without_newline input name behind cut free h rest it =
-    free_of_cut 10 it.written.first (flat_map following_text it.written.more ++ rest) (subst (IsFree 10) (name_cut input name behind h rest cut it).1 free)
+pub no_header_without_newline : (input name following : List ℕ) → SplitsAt 32 input name following → IsByteFree 10 following → HasNoHeader input
+no_header_without_newline input name following cut free h rest it =
+    free_of_split 10 it.written.first (flat_map encode_continuation it.written.more ++ rest)
+    (subst (IsByteFree 10) (name_cut input name following h rest cut it).1 free)
 
--- the first line of a header, and what follows it
-line_cut : (input name behind first after : List ℕ) (h : Header) (rest : List ℕ) → SplitsAt 32 input name behind → SplitsAt 10 behind first after → (it : HasHeader input h rest)
-    → (first ≡ it.written.first) × (after ≡ flat_map following_text it.written.more ++ rest)
-line_cut input name behind first after h rest cut line it =
-    one_cut 10 first after it.written.first (flat_map following_text it.written.more ++ rest) line.first it.written.one_line (sym line.joined ∙ (name_cut input name behind h rest cut it).1)
+-- the first newline of a header's lines splits the first line from the continuation lines
+line_cut : (input name following first after : List ℕ) (h : Header) (rest : List ℕ) → SplitsAt 32 input name following
+    → SplitsAt 10 following first after
+    → (it : HasHeader input h rest)
+    → (first ≡ it.written.first) × (after ≡ flat_map encode_continuation it.written.more ++ rest)
+line_cut input name following first after h rest cut line it =
+    one_cut 10 first after it.written.first (flat_map encode_continuation it.written.more ++ rest) line.first it.written.one_line
+    (sym line.joined ∙ (name_cut input name following h rest cut it).1)
 
-pub no_header_without_lines : (input name behind first after : List ℕ) → SplitsAt 32 input name behind → SplitsAt 10 behind first after → HasNoLines after → HasNoHeader input
-no_header_without_lines input name behind first after cut line bad h rest it =
-    bad it.written.more rest (record { joined = (line_cut input name behind first after h rest cut line it).1; each_one_line = it.written.each_one_line; ends = it.ends })
+pub no_header_without_lines : (input name following first after : List ℕ) → SplitsAt 32 input name following → SplitsAt 10 following first after
+    → HasNoLines after → HasNoHeader input
+no_header_without_lines input name following first after cut line bad h rest it =
+    bad it.written.more rest (record {
+      joined = (line_cut input name following first after h rest cut line it).1;
+      each_one_line = it.written.each_one_line;
+      ends = it.ends;
+    })
 
 goes_with_space : (after : List ℕ) → (EndsHeader after → ⊥) → (rest : List ℕ) × (after ≡ 32 ∷ rest)
 goes_with_space [] goes_on = absurd (goes_on tt)
 goes_with_space (byte ∷ rest) goes_on = (rest, grind (arith, goes_on))
 
-pub begins_several : (input name behind first after tail : List ℕ) → SplitsAt 32 input name behind → (name ≢ []) × IsFree 10 name → SplitsAt 10 behind first after → after ≡ 32 ∷ tail → BeginsSeveralLines input
-begins_several input name behind first after tail cut named line space =
+pub begins_several : (input name following first after tail : List ℕ) → SplitsAt 32 input name following → (name ≢ []) × IsByteFree 10 name
+    → SplitsAt 10 following first after → after ≡ 32 ∷ tail → BeginsSeveralLines input
+begins_several input name following first after tail cut named line space =
     record {
       name = name;
       first = first;
       rest = tail;
-      joined = cut.joined ∙ ap (λ (it : List ℕ). name ++ 32 ∷ it) (line.joined ∙ ap (λ (it : List ℕ). first ++ 10 ∷ it) space) ∙ sym (flat_field name first (32 ∷ tail));
+      joined = cut.joined ∙ ap (λ (it : List ℕ). name ++ 32 ∷ it) (line.joined ∙ ap (λ (it : List ℕ). first ++ 10 ∷ it) space)
+          ∙ sym (flat_field name first (32 ∷ tail));
       named = record { not_empty = named.0; no_space = cut.first; no_newline = named.1 };
       one_line = line.first;
     }
@@ -287,24 +362,34 @@ header_from name value = record { name = name; value = value }
 same_header : (a b : Header) → a.name ≡ b.name → a.value ≡ b.value → a ≡ b
 same_header a b name value = ap (λ (it : List ℕ). header_from it a.value) name ∙ ap (header_from b.name) value
 
--- the lines are refused, and so is the header
-pub refuses_lines : (input name behind first after tail : List ℕ) (f e : Error) → f ≡ e → SplitsAt 32 input name behind → (name ≢ []) × IsFree 10 name → SplitsAt 10 behind first after → after ≡ 32 ∷ tail
-    → (e ≡ Malformed → HasNoLines after) → RefusesHeaderField input f
-refuses_lines input name behind first after tail f Malformed same cut named line space bad = rw same (no_header_without_lines input name behind first after cut line (bad refl))
-refuses_lines input name behind first after tail f OutOfMemory same cut named line space bad = rw same (begins_several input name behind first after tail cut named line space)
+-- an error of the continuation lines is an error of the header
+pub rejects_lines : (input name following first after tail : List ℕ) (f e : Error) → f ≡ e → SplitsAt 32 input name following → (name ≢ [])
+    × IsByteFree 10 name
+    → SplitsAt 10 following first after → after ≡ 32 ∷ tail
+    → (e ≡ Malformed → HasNoLines after) → IsHeaderFieldError input f
+rejects_lines input name following first after tail f Malformed same cut named line space bad =
+    rw same (no_header_without_lines input name following first after cut line (bad refl))
+rejects_lines input name following first after tail f OutOfMemory same cut named line space bad =
+    rw same (begins_several input name following first after tail cut named line space)
 
--- an input begins with one header at most
+-- an input begins with at most one header
 pub one_header : (input : List ℕ) (h k : Header) (x y : List ℕ) → HasHeader input h x → HasHeader input k y → (h ≡ k) × (x ≡ y)
 one_header input h k x y first second =
-    let cut : SplitsAt 32 input h.name (first.written.first ++ 10 ∷ (flat_map following_text first.written.more ++ x)) = record { joined = flat_of input h x first; first = first.written.named.no_space } in
-    let line : SplitsAt 10 (first.written.first ++ 10 ∷ (flat_map following_text first.written.more ++ x)) first.written.first (flat_map following_text first.written.more ++ x) = record { joined = refl; first = first.written.one_line } in
+    let cut : SplitsAt 32 input h.name (first.written.first ++ 10 ∷ (flat_map encode_continuation first.written.more ++ x)) =
+    record { joined = flat_of input h x first; first = first.written.named.no_space } in
+    let line : SplitsAt 10 (first.written.first ++ 10 ∷ (flat_map encode_continuation first.written.more ++ x)) first.written.first
+    (flat_map encode_continuation first.written.more ++ x) = record { joined = refl; first = first.written.one_line } in
     let names = name_cut input h.name _ k y cut second in
     let lines = line_cut input h.name _ first.written.first _ k y cut line second in
-    let run = one_run first.written.more second.written.more x y first.written.each_one_line second.written.each_one_line first.ends second.ends lines.1 in
-    (same_header h k names.0 (first.written.value ∙ ap (λ (it : List ℕ). value_of_lines it first.written.more) lines.0 ∙ ap (value_of_lines second.written.first) run.0 ∙ sym second.written.value), run.1)
+    let run = one_run first.written.more second.written.more x y first.written.each_one_line second.written.each_one_line first.ends second.ends
+    lines.1 in (
+      same_header h k names.0 (first.written.value ∙ ap (λ (it : List ℕ). value_of_lines it first.written.more) lines.0
+          ∙ ap (value_of_lines second.written.first) run.0 ∙ sym second.written.value),
+      run.1,
+    )
 
 -- the value of several lines has a newline
 pub lines_have_newlines : (first input value rest : List ℕ) → IsUnfolded first input value rest → Contains value 10
 lines_have_newlines first input value rest (more, lines, is) =
-    let here : Contains (line_text first) 10 = Contains-append_right first (10 ∷ []) 10 (0, lit< tt, refl) in
-    subst (λ (it : List ℕ). Contains it 10) (sym is) (Contains-append_left (line_text first) (flat_map line_text more) 10 here)
+    let here : Contains (encode_line first) 10 = Contains-append_right first (10 ∷ []) 10 (0, lit< tt, refl) in
+    subst (λ (it : List ℕ). Contains it 10) (sym is) (Contains-append_left (encode_line first) (flat_map encode_line more) 10 here)

@@ -1,11 +1,11 @@
 pub mod FieldWrites
 mod FoldedSizes
 pub mod HeaderFields
-pub mod HeadersBack
+pub mod HeadersRoundTrip
 pub mod Joins
-pub mod Puts
+pub mod Appends
 pub mod Readers
-pub mod Refusals
+pub mod Errors
 pub mod Runs
 pub mod Steps
 mod StreamReads

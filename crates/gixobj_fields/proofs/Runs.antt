@@ -1,85 +1,95 @@
--- Runs of a reader that tells piece by piece: passed, made whole, joined of their texts, and cut where a reader stands in them.
+-- Runs over pieces: consumed, completed, concatenated and split; used by the proofs of tokens and entries.
 use Rattle.std.proofs.Common.{◌≡◌, ℕ, List, [], ◌∷◌, ◌++◌, refl, sym, ap, subst, ◌∙◌}
 use Rattle.std.proofs.lemmas.List.Elements.{All-head, All-tail}
 use Rattle.std.specs.List.{AllZip, concat}
-use Rattle.gixobj_fields.specs.Runs.{Ending, HasNone, Passes, Tells, complete, tells_end, tells_error, tells_piece}
+use Rattle.gixobj_fields.specs.Runs.{Ending, HasNone, Passes, Yields, complete, yields_end, yields_error, yields_piece}
 
--- ---- a piece of a sort
+-- ---- pieces that satisfy a predicate
 
 module _ {P : Type 0} (Is : P → Type 0) where
-  -- a list with such a piece is not without one
-  pub one_here : (front : List P) (x : P) (more : List P) → Is x → HasNone Is (front ++ x ∷ more) → ⊥
+  -- a list with a piece that satisfies `Is` is not without one
+  pub one_here : (prefix : List P) (x : P) (more : List P) → Is x → HasNone Is (prefix ++ x ∷ more) → ⊥
   one_here [] x more is none = All-head (λ it. ¬ Is it) x more none is
-  one_here (a ∷ front) x more is none = one_here front x more is (All-tail (λ it. ¬ Is it) a (front ++ x ∷ more) none)
+  one_here (a ∷ prefix) x more is none = one_here prefix x more is (All-tail (λ it. ¬ Is it) a (prefix ++ x ∷ more) none)
 
 module _ {S P : Type 0} (Has : S → List ℕ → P → S → List ℕ → Type 0) where
-  -- ---- passing
+  -- ---- consumed pieces
 
-  pub passes_one : (before next behind : S) (input after rest : List ℕ) (pieces : List P) (piece : P) → Passes Has before input pieces next after → Has next after piece behind rest
-      → Passes Has before input (pieces ++ piece ∷ []) behind rest
-  passes_one before next behind input after rest [] piece (same_state, same_input) has = (behind, rest, rw (same_state, same_input) has, (refl, refl))
-  passes_one before next behind input after rest (first ∷ pieces) piece (middle, further, it, more) has = (middle, further, it, passes_one middle next behind further after rest pieces piece more has)
+  pub passes_one : (before next following : S) (input after rest : List ℕ) (pieces : List P) (piece : P) → Passes Has before input pieces next after
+      → Has next after piece following rest
+      → Passes Has before input (pieces ++ piece ∷ []) following rest
+  passes_one before next following input after rest [] piece (same_state, same_input) has = (following, rest, rw (same_state, same_input) has, (refl, refl))
+  passes_one before next following input after rest (first ∷ pieces) piece (middle, further, it, more) has =
+      (middle, further, it, passes_one middle next following further after rest pieces piece more has)
 
-  pub tells_passed : (before behind : S) (input rest : List ℕ) (pieces : List P) (ending : Ending) → Passes Has before input pieces behind rest → Tells Has behind rest [] ending → Tells Has before input pieces ending
-  tells_passed before behind input rest [] ending (same_state, same_input) tells = rw (same_state, same_input) tells
-  tells_passed before behind input rest (piece ∷ pieces) ending (middle, further, it, more) tells =
-      tells_piece before middle input further piece pieces ending it (tells_passed middle behind further rest pieces ending more tells)
+  pub yields_passed : (before following : S) (input rest : List ℕ) (pieces : List P) (ending : Ending) → Passes Has before input pieces following rest
+      → Yields Has following rest [] ending → Yields Has before input pieces ending
+  yields_passed before following input rest [] ending (same_state, same_input) yields = rw (same_state, same_input) yields
+  yields_passed before following input rest (piece ∷ pieces) ending (middle, further, it, more) yields =
+      yields_piece before middle input further piece pieces ending it (yields_passed middle following further rest pieces ending more yields)
 
-  -- ---- texts
+  -- ---- encodings
 
-  -- a whole run is the join of the texts of its pieces
-  pub texts_of_run : (IsText : P → List ℕ → Type 0) → ((before : S) (input : List ℕ) (piece : P) (behind : S) (rest : List ℕ) → Has before input piece behind rest → (text : List ℕ) × (input ≡ text ++ rest) × IsText piece text)
-      → (before : S) (input : List ℕ) (pieces : List P) → Tells Has before input pieces complete → (texts : List (List ℕ)) × (input ≡ concat texts) × AllZip IsText pieces texts
-  texts_of_run IsText text_of before input pieces (tells_end _) = ([], refl, tt)
-  texts_of_run IsText text_of before input pieces (tells_piece _ behind _ rest piece others _ it more) =
-      let (text, joined, is) = text_of before input piece behind rest it in
-      let (texts, others_joined, are) = texts_of_run IsText text_of behind rest others more in
-      (text ∷ texts, joined ∙ ap (λ (tail : List ℕ). text ++ tail) others_joined, (is, are))
+  -- the input of a complete run is the concatenated encodings of its pieces
+  pub run_encodings : (IsByteString : P → List ℕ → Type 0)
+      → ((before : S) (input : List ℕ) (piece : P) (following : S) (rest : List ℕ) → Has before input piece following rest → (content : List ℕ)
+      × (input ≡ content ++ rest) × IsByteString piece content)
+      → (before : S) (input : List ℕ) (pieces : List P) → Yields Has before input pieces complete → (encodings : List (List ℕ)) × (input ≡ concat encodings)
+      × AllZip IsByteString pieces encodings
+  run_encodings IsByteString bytes_of before input pieces (yields_end _) = ([], refl, tt)
+  run_encodings IsByteString bytes_of before input pieces (yields_piece _ following _ rest piece others _ it more) =
+      let (content, joined, is) = bytes_of before input piece following rest it in
+      let (encodings, others_joined, are) = run_encodings IsByteString bytes_of following rest others more in
+      (content ∷ encodings, joined ∙ ap (λ (tail : List ℕ). content ++ tail) others_joined, (is, are))
 
-  -- ---- where one piece at most comes, and none of no bytes, there is one run
+  -- ---- a run is unique if each piece decodes uniquely and has at least one byte
 
-  module _ (one : (before : S) (input : List ℕ) (a b : P) (s t : S) (x y : List ℕ) → Has before input a s x → Has before input b t y → (a ≡ b) × (s ≡ t) × (x ≡ y))
-      (some : (before : S) (input : List ℕ) (piece : P) (behind : S) (rest : List ℕ) → input ≡ [] → Has before input piece behind rest → ⊥) where
-    pub one_run : (before : S) (input : List ℕ) (a b : List P) (e f : Ending) → Tells Has before input a e → Tells Has before input b f → (a ≡ b) × (e ≡ f)
-    one_run before input a b e f (tells_end _) (tells_end _) = (refl, refl)
-    one_run before input a b e f (tells_end _) (tells_error _ _ filled none) = absurd (filled refl)
-    one_run before input a b e f (tells_end _) (tells_piece _ behind _ rest piece _ _ has told) = absurd (some before [] piece behind rest refl has)
-    one_run before input a b e f (tells_error _ _ filled none) (tells_end _) = absurd (filled refl)
-    one_run before input a b e f (tells_error _ _ filled none) (tells_error _ _ _ _) = (refl, refl)
-    one_run before input a b e f (tells_error _ _ filled none) (tells_piece _ behind _ rest piece _ _ has told) = absurd (none piece behind rest has)
-    one_run before input a b e f (tells_piece _ behind _ rest piece _ _ has told) (tells_end _) = absurd (some before [] piece behind rest refl has)
-    one_run before input a b e f (tells_piece _ behind _ rest piece _ _ has told) (tells_error _ _ filled none) = absurd (none piece behind rest has)
-    one_run before input a b e f (tells_piece _ behind _ rest piece pieces _ has told) (tells_piece _ behind' _ rest' piece' pieces' _ has' told') =
-        let same = one before input piece piece' behind behind' rest rest' has has' in
-        let at_state : Tells Has behind rest' pieces' f = subst (λ (s : S). Tells Has s rest' pieces' f) (sym same.1) told' in
-        let at_rest : Tells Has behind rest pieces' f = subst (λ (r : List ℕ). Tells Has behind r pieces' f) (sym same.2) at_state in
-        let more = one_run behind rest pieces pieces' e f told at_rest in
+  module _ (one : (before : S) (input : List ℕ) (a b : P) (s t : S) (x y : List ℕ) → Has before input a s x → Has before input b t y → (a ≡ b) × (s ≡ t)
+      × (x ≡ y))
+      (some : (before : S) (input : List ℕ) (piece : P) (following : S) (rest : List ℕ) → input ≡ [] → Has before input piece following rest → ⊥) where
+    pub one_run : (before : S) (input : List ℕ) (a b : List P) (e f : Ending) → Yields Has before input a e → Yields Has before input b f → (a ≡ b) × (e ≡ f)
+    one_run before input a b e f (yields_end _) (yields_end _) = (refl, refl)
+    one_run before input a b e f (yields_end _) (yields_error _ _ filled none) = absurd (filled refl)
+    one_run before input a b e f (yields_end _) (yields_piece _ following _ rest piece _ _ has seen) = absurd (some before [] piece following rest refl has)
+    one_run before input a b e f (yields_error _ _ filled none) (yields_end _) = absurd (filled refl)
+    one_run before input a b e f (yields_error _ _ filled none) (yields_error _ _ _ _) = (refl, refl)
+    one_run before input a b e f (yields_error _ _ filled none) (yields_piece _ following _ rest piece _ _ has seen) = absurd (none piece following rest has)
+    one_run before input a b e f (yields_piece _ following _ rest piece _ _ has seen) (yields_end _) = absurd (some before [] piece following rest refl has)
+    one_run before input a b e f (yields_piece _ following _ rest piece _ _ has seen) (yields_error _ _ filled none) = absurd (none piece following rest has)
+    one_run before input a b e f (yields_piece _ following _ rest piece pieces _ has seen) (yields_piece _ after' _ rest' piece' pieces' _ has' seen') =
+        let same = one before input piece piece' following after' rest rest' has has' in
+        let at_state : Yields Has following rest' pieces' f = subst (λ (s : S). Yields Has s rest' pieces' f) (sym same.1) seen' in
+        let at_rest : Yields Has following rest pieces' f = subst (λ (r : List ℕ). Yields Has following r pieces' f) (sym same.2) at_state in
+        let more = one_run following rest pieces pieces' e f seen at_rest in
         (cc (same.0, more.0), more.1)
 
-    -- the pieces are the front, and the others are told of the rest
-    pub record GoesOn (front all : List P) (behind : S) (rest : List ℕ) (ending : Ending) : Type 0 where
+    -- the pieces are the prefix and others, and the run over the rest yields the others
+    pub record GoesOn (prefix all : List P) (following : S) (rest : List ℕ) (ending : Ending) : Type 0 where
       pub others : List P
-      pub joined : all ≡ front ++ others
-      pub told : Tells Has behind rest others ending
+      pub joined : all ≡ prefix ++ others
+      pub yielded : Yields Has following rest others ending
 
-    -- a run behind its first piece
-    pub behind_first : (before behind : S) (input rest : List ℕ) (piece : P) (all : List P) (ending : Ending) → Has before input piece behind rest → Tells Has before input all ending
-        → GoesOn (piece ∷ []) all behind rest ending
-    behind_first before behind input rest piece all ending has (tells_end _) = absurd (some before [] piece behind rest refl has)
-    behind_first before behind input rest piece all ending has (tells_error _ _ filled none) = absurd (none piece behind rest has)
-    behind_first before behind input rest piece all ending has (tells_piece _ behind' _ rest' piece' others _ has' told) =
-        let same = one before input piece piece' behind behind' rest rest' has has' in
-        let at_state : Tells Has behind rest' others ending = subst (λ (s : S). Tells Has s rest' others ending) (sym same.1) told in
+    -- the run after its first piece yields the other pieces
+    pub after_first : (before following : S) (input rest : List ℕ) (piece : P) (all : List P) (ending : Ending) → Has before input piece following rest
+        → Yields Has before input all ending
+        → GoesOn (piece ∷ []) all following rest ending
+    after_first before following input rest piece all ending has (yields_end _) = absurd (some before [] piece following rest refl has)
+    after_first before following input rest piece all ending has (yields_error _ _ filled none) = absurd (none piece following rest has)
+    after_first before following input rest piece all ending has (yields_piece _ after' _ rest' piece' others _ has' yielded) =
+        let same = one before input piece piece' following after' rest rest' has has' in
+        let at_state : Yields Has following rest' others ending = subst (λ (s : S). Yields Has s rest' others ending) (sym same.1) yielded in
         record {
           others = others;
           joined = ap (λ (it : P). it ∷ others) (sym same.0);
-          told = subst (λ (r : List ℕ). Tells Has behind r others ending) (sym same.2) at_state;
+          yielded = subst (λ (r : List ℕ). Yields Has following r others ending) (sym same.2) at_state;
         }
 
-    -- a run behind pieces that were passed
-    pub behind_passed : (before behind : S) (input rest : List ℕ) (front all : List P) (ending : Ending) → Passes Has before input front behind rest → Tells Has before input all ending → GoesOn front all behind rest ending
-    behind_passed before behind input rest [] all ending (same_state, same_input) tells = record { others = all; joined = refl; told = rw (← same_state, ← same_input) tells }
-    behind_passed before behind input rest (piece ∷ front) all ending (next, after, has, more) tells =
-        let first = behind_first before next input after piece all ending has tells in
-        let further = behind_passed next behind after rest front first.others ending more first.told in
-        record { others = further.others; joined = first.joined ∙ ap (λ (it : List P). piece ∷ it) further.joined; told = further.told }
+    -- the run after consumed pieces yields the other pieces
+    pub after_passed : (before following : S) (input rest : List ℕ) (prefix all : List P) (ending : Ending) → Passes Has before input prefix following rest
+        → Yields Has before input all ending → GoesOn prefix all following rest ending
+    after_passed before following input rest [] all ending (same_state, same_input) yields =
+        record { others = all; joined = refl; yielded = rw (← same_state, ← same_input) yields }
+    after_passed before following input rest (piece ∷ prefix) all ending (next, after, has, more) yields =
+        let first = after_first before next input after piece all ending has yields in
+        let further = after_passed next following after rest prefix first.others ending more first.yielded in
+        record { others = further.others; joined = first.joined ∙ ap (λ (it : List P). piece ∷ it) further.joined; yielded = further.yielded }

@@ -1,64 +1,71 @@
--- Texts that are written, or counted, in several steps.
+-- Four parts that are written or counted in order; used by the proofs of commits.
 use Rattle.std.proofs.Common.{◌≡◌, ◌+◌, ◌<◌, ℕ, List, ◌++◌, arith, length, ap, length-append}
-use Rattle.gixobj_fields.proofs.Puts.{front_first, front_more, puts_more}
-use Rattle.gixobj_fields.specs.Streams.{Puts, PutsFront, SinkView}
+use Rattle.gixobj_fields.proofs.Appends.{prefix_first, prefix_more, more_appended}
+use Rattle.gixobj_fields.specs.Streams.{AppendsAll, AppendsPrefix, SinkView}
 
--- four parts, one after the other
+-- four parts, concatenated
 abbrev pub in_parts : List ℕ → List ℕ → List ℕ → List ℕ → List ℕ
 in_parts first second third fourth = ((first ++ second) ++ third) ++ fourth
 
--- the text is these four parts
-pub record IsInParts (text first second third fourth : List ℕ) : Type 0 where
-  pub joined : text ≡ in_parts first second third fourth
+-- the bytes are these four parts
+pub record IsInParts (bytes first second third fourth : List ℕ) : Type 0 where
+  pub joined : bytes ≡ in_parts first second third fourth
 
--- ---- a text of four parts p, q, r, s, put one after the other
+-- ---- four parts p, q, r, s, written in order
 
-front_as : (a b : SinkView) (x y : List ℕ) → y ≡ x → PutsFront a b x → PutsFront a b y
-front_as a b x y same part = rw same part
+prefix_as : (a b : SinkView) (x y : List ℕ) → y ≡ x → AppendsPrefix a b x → AppendsPrefix a b y
+prefix_as a b x y same part = rw same part
 
-pub first_front : (a b : SinkView) (text p q r s : List ℕ) → IsInParts text p q r s → PutsFront a b p → PutsFront a b text
-first_front a b text p q r s whole part =
-    front_as a b (in_parts p q r s) text whole.joined (front_first a b ((p ++ q) ++ r) s (front_first a b (p ++ q) r (front_first a b p q part)))
+pub first_prefix : (a b : SinkView) (bytes p q r s : List ℕ) → IsInParts bytes p q r s → AppendsPrefix a b p → AppendsPrefix a b bytes
+first_prefix a b bytes p q r s entire part =
+    prefix_as a b (in_parts p q r s) bytes entire.joined (prefix_first a b ((p ++ q) ++ r) s (prefix_first a b (p ++ q) r (prefix_first a b p q part)))
 
-pub second_front : (a b c : SinkView) (text p q r s : List ℕ) → IsInParts text p q r s → Puts a b p → PutsFront b c q → PutsFront a c text
-second_front a b c text p q r s whole one part =
-    front_as a c (in_parts p q r s) text whole.joined (front_first a c ((p ++ q) ++ r) s (front_first a c (p ++ q) r (front_more a b c p q one part)))
+pub second_prefix : (a b c : SinkView) (bytes p q r s : List ℕ) → IsInParts bytes p q r s → AppendsAll a b p → AppendsPrefix b c q → AppendsPrefix a c bytes
+second_prefix a b c bytes p q r s entire one part =
+    prefix_as a c (in_parts p q r s) bytes entire.joined (prefix_first a c ((p ++ q) ++ r) s (prefix_first a c (p ++ q) r (prefix_more a b c p q one part)))
 
-pub third_front : (a b c d : SinkView) (text p q r s : List ℕ) → IsInParts text p q r s → Puts a b p → Puts b c q → PutsFront c d r → PutsFront a d text
-third_front a b c d text p q r s whole one two part =
-    front_as a d (in_parts p q r s) text whole.joined (front_first a d ((p ++ q) ++ r) s (front_more a c d (p ++ q) r (puts_more a b c p q one two) part))
+pub third_prefix : (a b c d : SinkView) (bytes p q r s : List ℕ) → IsInParts bytes p q r s → AppendsAll a b p → AppendsAll b c q → AppendsPrefix c d r
+    → AppendsPrefix a d bytes
+third_prefix a b c d bytes p q r s entire one two part =
+    prefix_as a d (in_parts p q r s) bytes entire.joined
+    (prefix_first a d ((p ++ q) ++ r) s (prefix_more a c d (p ++ q) r (more_appended a b c p q one two) part))
 
-pub three_put : (a b c d : SinkView) (p q r : List ℕ) → Puts a b p → Puts b c q → Puts c d r → Puts a d ((p ++ q) ++ r)
-three_put a b c d p q r one two three = puts_more a c d (p ++ q) r (puts_more a b c p q one two) three
+pub three_appended : (a b c d : SinkView) (p q r : List ℕ) → AppendsAll a b p → AppendsAll b c q → AppendsAll c d r → AppendsAll a d ((p ++ q) ++ r)
+three_appended a b c d p q r one two three = more_appended a c d (p ++ q) r (more_appended a b c p q one two) three
 
-pub fourth_front : (a b c d e : SinkView) (text p q r s : List ℕ) → IsInParts text p q r s → Puts a b p → Puts b c q → Puts c d r → PutsFront d e s → PutsFront a e text
-fourth_front a b c d e text p q r s whole one two three part =
-    front_as a e (in_parts p q r s) text whole.joined (front_more a d e ((p ++ q) ++ r) s (three_put a b c d p q r one two three) part)
+pub fourth_prefix : (a b c d e : SinkView) (bytes p q r s : List ℕ) → IsInParts bytes p q r s → AppendsAll a b p → AppendsAll b c q → AppendsAll c d r
+    → AppendsPrefix d e s → AppendsPrefix a e bytes
+fourth_prefix a b c d e bytes p q r s entire one two three part =
+    prefix_as a e (in_parts p q r s) bytes entire.joined (prefix_more a d e ((p ++ q) ++ r) s (three_appended a b c d p q r one two three) part)
 
-pub all_put : (a b c d e : SinkView) (text p q r s : List ℕ) → IsInParts text p q r s → Puts a b p → Puts b c q → Puts c d r → Puts d e s → Puts a e text
-all_put a b c d e text p q r s whole one two three four = rw whole.joined (puts_more a d e ((p ++ q) ++ r) s (three_put a b c d p q r one two three) four)
+pub all_appended : (a b c d e : SinkView) (bytes p q r s : List ℕ) → IsInParts bytes p q r s → AppendsAll a b p → AppendsAll b c q → AppendsAll c d r
+    → AppendsAll d e s → AppendsAll a e bytes
+all_appended a b c d e bytes p q r s entire one two three four =
+    rw entire.joined (more_appended a d e ((p ++ q) ++ r) s (three_appended a b c d p q r one two three) four)
 
--- the same, counted
+-- ---- four parts p, q, r, s, counted in order
 
-len_in_parts : (text p q r s : List ℕ) → IsInParts text p q r s → length text ≡ ((length p + length q) + length r) + length s
-len_in_parts text p q r s whole =
-    omega (arith, ap length whole.joined, length-append ((p ++ q) ++ r) s, length-append (p ++ q) r, length-append p q)
+len_in_parts : (bytes p q r s : List ℕ) → IsInParts bytes p q r s → length bytes ≡ ((length p + length q) + length r) + length s
+len_in_parts bytes p q r s entire =
+    omega (arith, ap length entire.joined, length-append ((p ++ q) ++ r) s, length-append (p ++ q) r, length-append p q)
 
-pub first_too_long : (bound : ℕ) (text p q r s : List ℕ) → IsInParts text p q r s → (length p < bound → ⊥) → length text < bound → ⊥
-first_too_long bound text p q r s whole over short = over (omega (arith, short, len_in_parts text p q r s whole))
+pub first_too_long : (bound : ℕ) (bytes p q r s : List ℕ) → IsInParts bytes p q r s → (length p < bound → ⊥) → length bytes < bound → ⊥
+first_too_long bound bytes p q r s entire over short = over (omega (arith, short, len_in_parts bytes p q r s entire))
 
-pub second_too_long : (bound : ℕ) (text p q r s : List ℕ) (n : ℕ) → IsInParts text p q r s → n ≡ length p → (n + length q < bound → ⊥) → length text < bound → ⊥
-second_too_long bound text p q r s n whole one over short = over (omega (arith, short, one, len_in_parts text p q r s whole))
+pub second_too_long : (bound : ℕ) (bytes p q r s : List ℕ) (n : ℕ) → IsInParts bytes p q r s → n ≡ length p → (n + length q < bound → ⊥) → length bytes < bound
+    → ⊥
+second_too_long bound bytes p q r s n entire one over short = over (omega (arith, short, one, len_in_parts bytes p q r s entire))
 
-pub third_too_long : (bound : ℕ) (text p q r s : List ℕ) (n m : ℕ) → IsInParts text p q r s → n ≡ length p → m ≡ n + length q → (m + length r < bound → ⊥) → length text < bound → ⊥
-third_too_long bound text p q r s n m whole one two over short = over (omega (arith, short, one, two, len_in_parts text p q r s whole))
+pub third_too_long : (bound : ℕ) (bytes p q r s : List ℕ) (n m : ℕ) → IsInParts bytes p q r s → n ≡ length p → m ≡ n + length q → (m + length r < bound → ⊥)
+    → length bytes < bound → ⊥
+third_too_long bound bytes p q r s n m entire one two over short = over (omega (arith, short, one, two, len_in_parts bytes p q r s entire))
 
-pub fourth_too_long : (bound : ℕ) (text p q r s : List ℕ) (n m k : ℕ) → IsInParts text p q r s → n ≡ length p → m ≡ n + length q → k ≡ m + length r
-    → (k + length s < bound → ⊥) → length text < bound → ⊥
-fourth_too_long bound text p q r s n m k whole one two three over short = over (omega (arith, short, one, two, three, len_in_parts text p q r s whole))
+pub fourth_too_long : (bound : ℕ) (bytes p q r s : List ℕ) (n m k : ℕ) → IsInParts bytes p q r s → n ≡ length p → m ≡ n + length q → k ≡ m + length r
+    → (k + length s < bound → ⊥) → length bytes < bound → ⊥
+fourth_too_long bound bytes p q r s n m k entire one two three over short = over (omega (arith, short, one, two, three, len_in_parts bytes p q r s entire))
 
-pub all_counted : (bound : ℕ) (text p q r s : List ℕ) (n m k j : ℕ) → IsInParts text p q r s → n ≡ length p → m ≡ n + length q → k ≡ m + length r
-    → (k + length s < bound) × (j ≡ k + length s) → (length text < bound) × (j ≡ length text)
-all_counted bound text p q r s n m k j whole one two three four =
-    let len = len_in_parts text p q r s whole in
+pub all_counted : (bound : ℕ) (bytes p q r s : List ℕ) (n m k j : ℕ) → IsInParts bytes p q r s → n ≡ length p → m ≡ n + length q → k ≡ m + length r
+    → (k + length s < bound) × (j ≡ k + length s) → (length bytes < bound) × (j ≡ length bytes)
+all_counted bound bytes p q r s n m k j entire one two three four =
+    let len = len_in_parts bytes p q r s entire in
     (omega (arith, len, one, two, three, four.0), omega (arith, len, one, two, three, four.1))

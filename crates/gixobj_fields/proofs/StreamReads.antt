@@ -1,11 +1,11 @@
--- Content that is read and digested piece by piece.
+-- Content that is read, and digested or dropped, piece by piece; used by the proofs of `stream_hash`.
 use Rattle.std.proofs.Common.{◌≡◌, ◌+◌, ◌-◌, ◌<◌, ◌≤◌, ℕ, List, [], ◌++◌, Option, Some, Result, Ok, Err, append_assoc, ap, arith, drop, length, length-append, refl, rules, subst, sym, take}
 use Rattle.std.specs.Prelude.{◌↔◌, IfErr, IfOk, IsOk, OnOk}
 use Rattle.std.proofs.KnownBytes.{Consumes-kept, Consumes-nil, Consumes-trans}
 use Rattle.std.proofs.lemmas.List.{append-nil, drop_at, take-append-le, take_at}
 use Rattle.std.specs.Io.KnownBytes.{Consumes, IsAtEnd, Keeps}
 use Rattle.std.specs.declared.io.Error as io
-use Rattle.gixobj_hash.specs.Encode.{loose_header_text}
+use Rattle.gixobj_hash.specs.Encode.{encode_loose_header}
 use Rattle.gixobj_hash.specs.Hash.{digest_of, id_from, id_of}
 use Rattle.gixobj_hash.specs.Hash.Hasher.{HoldsMessage}
 use Rattle.gixobj_hash.specs.declared.hash.hasher.Hasher.{Hasher}
@@ -14,44 +14,46 @@ use Rattle.gixobj_hash.specs.declared.hash.object_id.ObjectId.{ObjectId}
 use Rattle.gixobj_hash.specs.declared.kind.Kind as object
 use Rattle.gixobj_fields.specs.declared.stream_hash.Error.{Error}
 use Rattle.gixobj_fields.specs.declared.stream_hash.Error.TheVariants.{Io, UnexpectedEof}
-use Rattle.gixobj_fields.specs.StreamHash.{AddsBytes, ReadsExactly, ReadsFront, ReadsObject, RefusesStream, SkipsExactly}
+use Rattle.gixobj_fields.specs.StreamHash.{AddsBytes, ReadsExactly, ReadsPrefix, ReadsObject, IsStreamError, SkipsExactly}
 
 -- ---- one piece
 
-nothing_read : (before after : Option (List ℕ)) (most : ℕ) → Keeps before after → 0 < most → ReadsFront before after most
+nothing_read : (before after : Option (List ℕ)) (most : ℕ) → Keeps before after → 0 < most → ReadsPrefix before after most
 nothing_read before after most kept some =
-    record { front = []; taken = Consumes-kept before before after [] (Consumes-nil before) kept; missing = some }
+    record { prefix = []; consumed = Consumes-kept before before after [] (Consumes-nil before) kept; missing = some }
 
--- a read that failed read nothing
+-- a failed read has read nothing
 pub failed_at_once : (may_fail : Type 0) (before after : Option (List ℕ)) (most : ℕ) (cause : io.Error) → may_fail → Keeps before after → 0 < most
-    → RefusesStream may_fail before after most (Io cause)
+    → IsStreamError may_fail before after most (Io cause)
 failed_at_once may_fail before after most cause may kept some = (may, nothing_read before after most kept some)
 
--- a read of nothing is one at the end
-pub ended_at_once : (may_fail : Type 0) (before after : Option (List ℕ)) (most count : ℕ) (piece : List ℕ) → count ≡ 0 → Consumes before after (take count piece) → IsAtEnd after → 0 < most
-    → RefusesStream may_fail before after most UnexpectedEof
+-- a read of no byte is a read at the end
+pub ended_at_once : (may_fail : Type 0) (before after : Option (List ℕ)) (most count : ℕ) (piece : List ℕ) → count ≡ 0
+    → Consumes before after (take count piece) → IsAtEnd after → 0 < most
+    → IsStreamError may_fail before after most UnexpectedEof
 ended_at_once may_fail before after most count piece none taken ended some =
-    (record { front = []; taken = subst (λ (n : ℕ). Consumes before after (take n piece)) none taken; missing = some }, ended)
+    (record { prefix = []; consumed = subst (λ (n : ℕ). Consumes before after (take n piece)) none taken; missing = some }, ended)
 
--- the front of what a buffer was given is the front of the buffer
-pub front_of_buffer : (before after : Option (List ℕ)) (count : ℕ) (piece rest : List ℕ) → count ≤ length piece → Consumes before after (take count piece)
+-- the bytes that were read into the beginning of a buffer are a prefix of the buffer
+pub prefix_of_buffer : (before after : Option (List ℕ)) (count : ℕ) (piece rest : List ℕ) → count ≤ length piece
+    → Consumes before after (take count piece)
     → Consumes before after (take count (piece ++ rest))
-front_of_buffer before after count piece rest fits taken = rw (take-append-le count piece rest fits) taken
+prefix_of_buffer before after count piece rest fits taken = rw (take-append-le count piece rest fits) taken
 
 -- ---- piece by piece
 
--- a front of the content is read and digested, and so many bytes are missing
+-- a prefix of the content was read and digested, and `missing` bytes remain
 pub record Digesting (first now : Hasher) (before here : Option (List ℕ)) (len missing : ℕ) : Type 0 where
-  pub front : List ℕ
-  pub taken : Consumes before here front
-  pub counted : length front + missing ≡ len
-  pub adds : AddsBytes first now front
+  pub prefix : List ℕ
+  pub consumed : Consumes before here prefix
+  pub counted : length prefix + missing ≡ len
+  pub adds : AddsBytes first now prefix
 
 pub nothing_digested : (first : Hasher) (before : Option (List ℕ)) (len : ℕ) → Digesting first first before before len len
 nothing_digested first before len =
     record {
-      front = [];
-      taken = Consumes-nil before;
+      prefix = [];
+      consumed = Consumes-nil before;
       counted = omega arith;
       adds = λ kind message holds. rw (append-nil message) holds;
     }
@@ -61,104 +63,120 @@ pub piece_digested : (first now next : Hasher) (before here after : Option (List
     → Digesting first next before after len (missing - count)
 piece_digested first now next before here after len missing count piece so_far taken adds counted fits =
     record {
-      front = so_far.front ++ piece;
-      taken = Consumes-trans before here after so_far.front piece so_far.taken taken;
-      counted = omega (arith, so_far.counted, counted, fits, length-append so_far.front piece);
-      adds = λ kind message holds. rw (← append_assoc message so_far.front piece) (adds kind (message ++ so_far.front) (so_far.adds kind message holds));
+      prefix = so_far.prefix ++ piece;
+      consumed = Consumes-trans before here after so_far.prefix piece so_far.consumed taken;
+      counted = omega (arith, so_far.counted, counted, fits, length-append so_far.prefix piece);
+      adds = λ kind message holds. rw (← append_assoc message so_far.prefix piece)
+          (adds kind (message ++ so_far.prefix) (so_far.adds kind message holds));
     }
 
 pub all_digested : (first now : Hasher) (before here : Option (List ℕ)) (len missing : ℕ) → Digesting first now before here len missing → missing ≤ 0
     → (content : List ℕ) × ReadsExactly before here len content × AddsBytes first now content
 all_digested first now before here len missing so_far none =
-    (so_far.front, record { taken = so_far.taken; counted = omega (arith, so_far.counted, none) }, so_far.adds)
+    (so_far.prefix, record { consumed = so_far.consumed; counted = omega (arith, so_far.counted, none) }, so_far.adds)
 
--- a front of what is missing, behind what was read, is a front of the whole
-front_behind : (first now : Hasher) (before here after : Option (List ℕ)) (len missing : ℕ) → Digesting first now before here len missing → ReadsFront here after missing
-    → ReadsFront before after len
-front_behind first now before here after len missing so_far part =
+-- the bytes that were read and a proper prefix of the missing bytes are a proper prefix of all
+prefix_after : (first now : Hasher) (before here after : Option (List ℕ)) (len missing : ℕ) → Digesting first now before here len missing
+    → ReadsPrefix here after missing
+    → ReadsPrefix before after len
+prefix_after first now before here after len missing so_far part =
     record {
-      front = so_far.front ++ part.front;
-      taken = Consumes-trans before here after so_far.front part.front so_far.taken part.taken;
-      missing = omega (arith, so_far.counted, part.missing, length-append so_far.front part.front);
+      prefix = so_far.prefix ++ part.prefix;
+      consumed = Consumes-trans before here after so_far.prefix part.prefix so_far.consumed part.consumed;
+      missing = omega (arith, so_far.counted, part.missing, length-append so_far.prefix part.prefix);
     }
 
--- a refusal of what is missing is one of the whole
-pub refused_behind : (may_fail may_fail' : Type 0) (first now : Hasher) (before here after : Option (List ℕ)) (len missing : ℕ) (error : Error)
-    → Digesting first now before here len missing → (may_fail' → may_fail) → RefusesStream may_fail' here after missing error → RefusesStream may_fail before after len error
-refused_behind may_fail may_fail' first now before here after len missing (Io cause) so_far lasting (may, part) =
-    (lasting may, front_behind first now before here after len missing so_far part)
-refused_behind may_fail may_fail' first now before here after len missing UnexpectedEof so_far lasting (part, ended) =
-    (front_behind first now before here after len missing so_far part, ended)
+-- an error of the missing bytes is an error of all
+pub rejected_after : (may_fail may_fail' : Type 0) (first now : Hasher) (before here after : Option (List ℕ)) (len missing : ℕ) (error : Error)
+    → Digesting first now before here len missing → (may_fail' → may_fail) → IsStreamError may_fail' here after missing error
+    → IsStreamError may_fail before after len error
+rejected_after may_fail may_fail' first now before here after len missing (Io cause) so_far lasting (may, part) =
+    (lasting may, prefix_after first now before here after len missing so_far part)
+rejected_after may_fail may_fail' first now before here after len missing UnexpectedEof so_far lasting (part, ended) =
+    (prefix_after first now before here after len missing so_far part, ended)
 
 -- the digest of the header and then of the content is the id
 pub id_of_content : (hash : Kind) (kind : object.Kind) (before after : Option (List ℕ)) (len : ℕ) (start end : Hasher) (id : ObjectId)
-    → HoldsMessage hash start (loose_header_text kind len) → (content : List ℕ) × ReadsExactly before after len content × AddsBytes start end content
-    → ((by : Kind) (message : List ℕ) → HoldsMessage by end message → id ≡ id_from by (digest_of by message)) → ReadsObject hash kind before after len id
+    → HoldsMessage hash start (encode_loose_header kind len) → (content : List ℕ) × ReadsExactly before after len content
+    × AddsBytes start end content
+    → ((by : Kind) (message : List ℕ) → HoldsMessage by end message → id ≡ id_from by (digest_of by message))
+    → ReadsObject hash kind before after len id
 id_of_content hash kind before after len start end id header (content, read, adds) digest =
-    (content, read, rw read.counted (digest hash (loose_header_text kind len ++ content) (adds hash (loose_header_text kind len) header)))
+    (content, read, rw read.counted (digest hash (encode_loose_header kind len ++ content) (adds hash (encode_loose_header kind len) header)))
 
 -- ---- bytes that are read and dropped
 
--- a front of the bytes was read, and these are missing
+-- a prefix of the bytes was read, and `missing` bytes remain
 pub record Skipping (before here : Option (List ℕ)) (len missing : ℕ) : Type 0 where
-  pub front : List ℕ
-  pub taken : Consumes before here front
-  pub counted : length front + missing ≡ len
+  pub prefix : List ℕ
+  pub consumed : Consumes before here prefix
+  pub counted : length prefix + missing ≡ len
 
 pub nothing_skipped : (before : Option (List ℕ)) (len : ℕ) → Skipping before before len len
-nothing_skipped before len = record { front = []; taken = Consumes-nil before; counted = omega arith }
+nothing_skipped before len = record { prefix = []; consumed = Consumes-nil before; counted = omega arith }
 
-pub piece_skipped : (before here after : Option (List ℕ)) (len missing count : ℕ) (piece : List ℕ) → Skipping before here len missing → Consumes here after piece → count ≡ length piece → count ≤ missing → Skipping before after len (missing - count)
+pub piece_skipped : (before here after : Option (List ℕ)) (len missing count : ℕ) (piece : List ℕ) → Skipping before here len missing
+    → Consumes here after piece → count ≡ length piece → count ≤ missing → Skipping before after len (missing - count)
 piece_skipped before here after len missing count piece so_far taken counted fits =
     record {
-      front = so_far.front ++ piece;
-      taken = Consumes-trans before here after so_far.front piece so_far.taken taken;
-      counted = omega (arith, so_far.counted, counted, fits, length-append so_far.front piece);
+      prefix = so_far.prefix ++ piece;
+      consumed = Consumes-trans before here after so_far.prefix piece so_far.consumed taken;
+      counted = omega (arith, so_far.counted, counted, fits, length-append so_far.prefix piece);
     }
 
 pub all_skipped : (before here : Option (List ℕ)) (len missing : ℕ) → Skipping before here len missing → missing ≤ 0 → SkipsExactly before here len
-all_skipped before here len missing so_far none = (so_far.front, record { taken = so_far.taken; counted = omega (arith, so_far.counted, none) })
+all_skipped before here len missing so_far none =
+    (so_far.prefix, record { consumed = so_far.consumed; counted = omega (arith, so_far.counted, none) })
 
-front_of_all : (before here after : Option (List ℕ)) (len missing : ℕ) → Skipping before here len missing → ReadsFront here after missing → ReadsFront before after len
-front_of_all before here after len missing so_far part =
+prefix_of_all : (before here after : Option (List ℕ)) (len missing : ℕ) → Skipping before here len missing → ReadsPrefix here after missing
+    → ReadsPrefix before after len
+prefix_of_all before here after len missing so_far part =
     record {
-      front = so_far.front ++ part.front;
-      taken = Consumes-trans before here after so_far.front part.front so_far.taken part.taken;
-      missing = omega (arith, so_far.counted, part.missing, length-append so_far.front part.front);
+      prefix = so_far.prefix ++ part.prefix;
+      consumed = Consumes-trans before here after so_far.prefix part.prefix so_far.consumed part.consumed;
+      missing = omega (arith, so_far.counted, part.missing, length-append so_far.prefix part.prefix);
     }
 
-pub refused_skipping : (may_fail may_fail' : Type 0) (before here after : Option (List ℕ)) (len missing : ℕ) (error : Error) → Skipping before here len missing → (may_fail' → may_fail) → RefusesStream may_fail' here after missing error
-    → RefusesStream may_fail before after len error
-refused_skipping may_fail may_fail' before here after len missing (Io cause) so_far lasting (may, part) = (lasting may, front_of_all before here after len missing so_far part)
-refused_skipping may_fail may_fail' before here after len missing UnexpectedEof so_far lasting (part, ended) = (front_of_all before here after len missing so_far part, ended)
+pub rejected_skipping : (may_fail may_fail' : Type 0) (before here after : Option (List ℕ)) (len missing : ℕ) (error : Error)
+    → Skipping before here len missing
+    → (may_fail' → may_fail) → IsStreamError may_fail' here after missing error
+    → IsStreamError may_fail before after len error
+rejected_skipping may_fail may_fail' before here after len missing (Io cause) so_far lasting (may, part) =
+    (lasting may, prefix_of_all before here after len missing so_far part)
+rejected_skipping may_fail may_fail' before here after len missing UnexpectedEof so_far lasting (part, ended) =
+    (prefix_of_all before here after len missing so_far part, ended)
 
 -- ---- a slice
 
 pub slice_accepts : (result : Result ObjectId Error) (hash : Kind) (kind : object.Kind) (all rest : List ℕ) (len : ℕ)
-    → IfOk result (ReadsObject hash kind (Some all) (Some rest) len) → IfErr result (RefusesStream ⊥ (Some all) (Some rest) len) → IsOk result ↔ (len ≤ length all)
-slice_accepts (Ok id) hash kind all rest len (content, read, is) refusal =
-    (λ _. omega (arith, read.counted, ap length read.taken, length-append content rest), λ _. search rules)
+    → IfOk result (ReadsObject hash kind (Some all) (Some rest) len) → IfErr result (IsStreamError ⊥ (Some all) (Some rest) len)
+    → IsOk result ↔ (len ≤ length all)
+slice_accepts (Ok id) hash kind all rest len (content, read, is) failure =
+    (λ _. omega (arith, read.counted, ap length read.consumed, length-append content rest), λ _. search rules)
 slice_accepts (Err (Io cause)) hash kind all rest len found (may, part) = absurd may
-slice_accepts (Err UnexpectedEof) hash kind all rest len found (part, ended) =
-    (λ ok. absurd (cc), λ enough. absurd (omega (arith, enough, part.missing, ap length part.taken, ap length ended, length-append part.front rest)))
+slice_accepts (Err UnexpectedEof) hash kind all rest len found (part, ended) = (
+  λ ok. absurd (cc),
+  λ enough. absurd
+      (omega (arith, enough, part.missing, ap length part.consumed, ap length ended, length-append part.prefix rest)),
+)
 
 pub slice_value : (result : Result ObjectId Error) (hash : Kind) (kind : object.Kind) (all rest : List ℕ) (len : ℕ)
     → IfOk result (ReadsObject hash kind (Some all) (Some rest) len) → IfOk result (λ id. id ≡ id_of hash kind (take len all))
 slice_value (Ok id) hash kind all rest len (content, read, is) =
-    let joined : all ≡ content ++ rest = read.taken in
-    let front : take len all ≡ content = rw joined (take_at content rest len read.counted) in
-    rw front is
+    let joined : all ≡ content ++ rest = read.consumed in
+    let head : take len all ≡ content = rw joined (take_at content rest len read.counted) in
+    rw head is
 slice_value (Err error) hash kind all rest len found = tt
 
 pub slice_rest : (result : Result ObjectId Error) (hash : Kind) (kind : object.Kind) (all rest : List ℕ) (len : ℕ)
     → IfOk result (ReadsObject hash kind (Some all) (Some rest) len) → OnOk result (rest ≡ drop len all)
 slice_rest (Ok id) hash kind all rest len (content, read, is) =
-    let joined : all ≡ content ++ rest = read.taken in
+    let joined : all ≡ content ++ rest = read.consumed in
     rw joined (sym (drop_at content rest len read.counted))
 slice_rest (Err error) hash kind all rest len found = tt
 
-pub slice_refusal : (result : Result ObjectId Error) (all rest : List ℕ) (len : ℕ)
-    → IfErr result (RefusesStream ⊥ (Some all) (Some rest) len) → IfErr result (λ error. (error ≡ UnexpectedEof) × (rest ≡ []))
-slice_refusal (Ok id) all rest len refusal = tt
-slice_refusal (Err (Io cause)) all rest len (may, part) = absurd may
-slice_refusal (Err UnexpectedEof) all rest len (part, ended) = (refl, ended)
+pub slice_error : (result : Result ObjectId Error) (all rest : List ℕ) (len : ℕ)
+    → IfErr result (IsStreamError ⊥ (Some all) (Some rest) len) → IfErr result (λ error. (error ≡ UnexpectedEof) × (rest ≡ []))
+slice_error (Ok id) all rest len failure = tt
+slice_error (Err (Io cause)) all rest len (may, part) = absurd may
+slice_error (Err UnexpectedEof) all rest len (part, ended) = (refl, ended)

@@ -1,38 +1,42 @@
--- Header fields as they are written, and what is refused of them (gitformat-signature, "Commit signatures").
+-- Encoding of header fields, and their rejected values (gitformat-signature, "Commit signatures").
 use Rattle.std.specs.Prelude.{◌≡◌, ◌⊎◌, ℕ, List, [], ◌∷◌, ◌++◌, ◌==◌, Contains, if◌then◌else◌}
 use Rattle.std.specs.List.{count_by, flat_map}
-use Rattle.gixobj_hash.specs.Texts.{IsFree}
-use Rattle.gixobj_fields.specs.HeaderText.{Header, following_text, line_text}
-use Rattle.gixobj_fields.specs.Writing.{Refused, empty_header, header_with_newline}
+use Rattle.gixobj_hash.specs.ByteStrings.{IsByteFree}
+use Rattle.gixobj_fields.specs.HeaderFormat.{Header, encode_continuation, encode_line}
+use Rattle.gixobj_fields.specs.Writing.{RejectedValue, empty_header, header_with_newline}
 use Rattle.gixobj_hash.specs.Bytes.{newline, space}
 
--- the lines of a value without their newlines, the first and those that follow it: a newline at the end ends the last
+-- the lines of a value without their newlines: the first line, and the lines after it; a final newline ends the last
+-- line
 abbrev pub value_lines : List ℕ → List ℕ × List (List ℕ)
 value_lines [] = ([], [])
 value_lines (byte ∷ []) = if byte == newline then ([], []) else (byte ∷ [], [])
 value_lines (byte ∷ next ∷ rest) =
-    if byte == newline then ([], (value_lines (next ∷ rest)).0 ∷ (value_lines (next ∷ rest)).1) else (byte ∷ (value_lines (next ∷ rest)).0, (value_lines (next ∷ rest)).1)
+    if byte == newline then ([], (value_lines (next ∷ rest)).0 ∷ (value_lines (next ∷ rest)).1) else
+    (byte ∷ (value_lines (next ∷ rest)).0, (value_lines (next ∷ rest)).1)
 
--- a header's value as it is written: its first line, and those that follow it
+-- the encoding of a header's value: its first line, and the other lines as continuation lines
 abbrev pub folded : List ℕ → List ℕ
-folded value = line_text (value_lines value).0 ++ flat_map following_text (value_lines value).1
+folded value = encode_line (value_lines value).0 ++ flat_map encode_continuation (value_lines value).1
 
--- a header as it is written
-abbrev pub header_text : Header → List ℕ
-header_text header = header.name ++ space ∷ folded header.value
+-- the encoding of a header: the name, a space, and the folded value
+abbrev pub encode_header : Header → List ℕ
+encode_header header = header.name ++ space ∷ folded header.value
 
--- a value of one line is refused that is empty or has a newline
-abbrev pub RefusesValue : List ℕ → Refused → Type 0
-RefusesValue value refused = ((value ≡ []) × (refused ≡ empty_header)) ⊎ (Contains value newline × (refused ≡ header_with_newline value))
+-- a value of one line is rejected if it is empty or has a newline
+abbrev pub IsValueError : List ℕ → RejectedValue → Type 0
+IsValueError value rejected = ((value ≡ []) × (rejected ≡ empty_header))
+    ⊎ (Contains value newline × (rejected ≡ header_with_newline value))
 
--- a field of one line is refused before any byte of it
-abbrev pub RefusesField : List ℕ → Refused → List ℕ → Type 0
-RefusesField value refused parts = RefusesValue value refused × (parts ≡ [])
+-- a single-line field is rejected before any byte of it
+abbrev pub IsFieldError : List ℕ → RejectedValue → List ℕ → Type 0
+IsFieldError value rejected parts = IsValueError value rejected × (parts ≡ [])
 
--- no byte of the value follows a newline
+-- the value is a last line: no byte follows a newline in it
 abbrev pub IsLastLine : List ℕ → Type 0
-IsLastLine value = IsFree newline value ⊎ ((line : List ℕ) × (value ≡ line ++ newline ∷ []) × IsFree newline line)
+IsLastLine value = IsByteFree newline value
+    ⊎ ((line : List ℕ) × (value ≡ line ++ newline ∷ []) × IsByteFree newline line)
 
--- how many newlines a text has
+-- the number of newlines
 abbrev pub newlines : List ℕ → ℕ
-newlines text = count_by (λ byte. byte == newline) text
+newlines bytes = count_by (λ byte. byte == newline) bytes

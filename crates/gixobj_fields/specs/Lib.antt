@@ -1,7 +1,7 @@
 pub mod FieldWriting
 pub mod HeaderReading
-pub mod HeaderText
-pub mod Readers
+pub mod HeaderFormat
+pub mod Iterators
 pub mod Runs
 pub mod StreamHash
 pub mod Streams
@@ -11,4 +11,4 @@ pub use Rattle.gixobj_hash.specs.Decode
 pub use Rattle.gixobj_hash.specs.Encode
 pub use Rattle.gixobj_hash.specs.Hash
 pub use Rattle.gixobj_hash.specs.Kind
-pub use Rattle.gixobj_hash.specs.Texts
+pub use Rattle.gixobj_hash.specs.ByteStrings

@@ -1,47 +1,52 @@
--- Readers that tell an object piece by piece: from a state over bytes a piece comes, and then another state over the rest.
+-- Runs of an iterator over the pieces of an object: each step decodes one piece, and leads to the next state
+-- and the rest.
 use Rattle.std.specs.Prelude.{◌≡◌, ◌≢◌, ℕ, List, [], ◌∷◌, All}
 use Rattle.gixobj_hash.specs.declared.decode.Error.{Error}
 use Rattle.gixobj_hash.specs.declared.decode.Error.TheVariants.{Malformed, OutOfMemory}
 
--- how a run ends: no bytes are left, or those that are begin with no piece
+-- the ending of a run: complete if no bytes remain, broken if the remaining bytes do not begin with a piece
 pub data Ending : Type 0 where
   complete : Ending
   broken : Ending
 
--- none of the pieces is such a one
+-- none of the pieces satisfies `Is`
 abbrev pub HasNone : {P : Type 0} → (P → Type 0) → List P → Type 0
 HasNone Is pieces = All (λ piece. ¬ Is piece) pieces
 
 module _ {S P : Type 0} (Has : S → List ℕ → P → S → List ℕ → Type 0) where
-  -- the input begins with no piece
+  -- the input does not begin with a piece
   abbrev pub HasNoPiece : S → List ℕ → Type 0
-  HasNoPiece before input = (piece : P) (behind : S) (rest : List ℕ) → ¬ Has before input piece behind rest
+  HasNoPiece before input = (piece : P) (following : S) (rest : List ℕ) → ¬ Has before input piece following rest
 
-  -- why no piece is read: there is none, or the one that comes wants memory
-  abbrev pub Refuses : (S → List ℕ → Type 0) → S → List ℕ → Error → Type 0
-  Refuses Wants before input Malformed = HasNoPiece before input
-  Refuses Wants before input OutOfMemory = Wants before input
+  -- Malformed: the input does not begin with a piece; OutOfMemory: the next piece allocates
+  abbrev pub IsPieceError : (S → List ℕ → Type 0) → S → List ℕ → Error → Type 0
+  IsPieceError Wants before input Malformed = HasNoPiece before input
+  IsPieceError Wants before input OutOfMemory = Wants before input
 
-  -- from this state over this input these pieces are told, and then the run ends so
-  pub data Tells : S → List ℕ → List P → Ending → Type 0 where
-    tells_end : (before : S) → Tells before [] [] complete
-    tells_error : (before : S) (input : List ℕ) → input ≢ [] → HasNoPiece before input → Tells before input [] broken
-    tells_piece : (before behind : S) (input rest : List ℕ) (piece : P) (pieces : List P) (ending : Ending)
-        → Has before input piece behind rest → Tells behind rest pieces ending → Tells before input (piece ∷ pieces) ending
+  -- the complete run from this state over this input yields these pieces, and has this ending
+  pub data Yields : S → List ℕ → List P → Ending → Type 0 where
+    yields_end : (before : S) → Yields before [] [] complete
+    yields_error : (before : S) (input : List ℕ) → input ≢ [] → HasNoPiece before input → Yields before input [] broken
+    yields_piece : (before following : S) (input rest : List ℕ) (piece : P) (pieces : List P) (ending : Ending)
+        → Has before input piece following rest → Yields following rest pieces ending
+        → Yields before input (piece ∷ pieces) ending
 
-  -- the input begins with these pieces, and goes on with the rest in the state behind them
+  -- the input begins with these pieces, and the rest follows in the state after them
   abbrev pub Passes : S → List ℕ → List P → S → List ℕ → Type 0
-  Passes before input [] behind rest = (before ≡ behind) × (input ≡ rest)
-  Passes before input (piece ∷ pieces) behind rest = (next : S) × (after : List ℕ) × Has before input piece next after × Passes next after pieces behind rest
+  Passes before input [] following rest = (before ≡ following) × (input ≡ rest)
+  Passes before input (piece ∷ pieces) following rest = (next : S) × (after : List ℕ)
+      × Has before input piece next after × Passes next after pieces following rest
 
-  -- past pieces that are none such
+  -- the input begins with pieces that do not satisfy `Is`, and the rest follows in the state after them
   abbrev pub PassesNone : (P → Type 0) → S → List ℕ → S → List ℕ → Type 0
-  PassesNone Is before input behind rest = (pieces : List P) × Passes before input pieces behind rest × HasNone Is pieces
+  PassesNone Is before input following rest = (pieces : List P) × Passes before input pieces following rest
+      × HasNone Is pieces
 
-  -- past pieces that are none such this one comes
+  -- the piece follows pieces that do not satisfy `Is`
   abbrev pub FindsFirst : (P → Type 0) → S → List ℕ → P → Type 0
-  FindsFirst Is start input piece = (before behind : S) × (here rest : List ℕ) × PassesNone Is start input before here × Has before here piece behind rest
+  FindsFirst Is start input piece = (before following : S) × (here rest : List ℕ)
+      × PassesNone Is start input before here × Has before here piece following rest
 
-  -- the whole run has no such piece, and ends so
-  abbrev pub LacksAll : (P → Type 0) → S → List ℕ → Ending → Type 0
-  LacksAll Is before input ending = (pieces : List P) × Tells before input pieces ending × HasNone Is pieces
+  -- the complete run yields no piece that satisfies `Is`, and has this ending
+  abbrev pub YieldsNone : (P → Type 0) → S → List ℕ → Ending → Type 0
+  YieldsNone Is before input ending = (pieces : List P) × Yields before input pieces ending × HasNone Is pieces

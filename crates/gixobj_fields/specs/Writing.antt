@@ -1,50 +1,55 @@
--- What writers of objects write, and what they refuse.
+-- Sizes, rejected values and errors of the writers of objects.
 use Rattle.std.specs.Option.{SomeIff}
 use Rattle.std.specs.Prelude.{◌⊎◌, ◌<◌, ◌+◌, ◌^◌, ℕ, List, Option, length}
 use Rattle.bstr.specs.Owned.{bstring_bytes}
-use Rattle.gixobj_fields.specs.Streams.{Puts, PutsFront, SinkView}
+use Rattle.gixobj_fields.specs.Streams.{AppendsAll, AppendsPrefix, SinkView}
 use Rattle.gixobj_fields.specs.declared.encode.Error.{Error}
 use Rattle.gixobj_fields.specs.declared.encode.Error.TheVariants as error
 use Rattle.gixobj_fields.specs.declared.encode.RefNameFault.{RefNameFault}
 
--- a value that is refused: of a header, a tag, a tree's entry or an actor
-pub data Refused : Type 0 where
-  header_with_newline : List ℕ → Refused
-  empty_header : Refused
-  name_with_dash : Refused
-  bad_name : RefNameFault → Refused
-  name_with_zero_byte : List ℕ → Refused
-  illegal_actor : Refused
+-- a rejected value: of a header, a tag, a tree's entry or an actor
+pub data RejectedValue : Type 0 where
+  header_with_newline : List ℕ → RejectedValue
+  empty_header : RejectedValue
+  name_with_dash : RejectedValue
+  bad_name : RefNameFault → RejectedValue
+  name_with_zero_byte : List ℕ → RejectedValue
+  illegal_actor : RejectedValue
 
--- the size of the text, or none past 64 bits
+-- the length of the bytes, or none if it exceeds 64 bits
 abbrev pub IsSize : Option ℕ → List ℕ → Type 0
-IsSize result text = SomeIff result (length text < 2 ^ 64) (length text)
+IsSize result bytes = SomeIff result (length bytes < 2 ^ 64) (length bytes)
 
--- the size with that of the text, or none past 64 bits
+-- the sum of a size and the length of the bytes, or none if it exceeds 64 bits
 abbrev pub AddsSize : Option ℕ → ℕ → List ℕ → Type 0
-AddsSize result size text = SomeIff result (size + length text < 2 ^ 64) (size + length text)
+AddsSize result size bytes = SomeIff result (size + length bytes < 2 ^ 64) (size + length bytes)
 
--- nothing is refused
-abbrev pub RefusesNothing : (Refused → List ℕ → Type 0) → Type 0
-RefusesNothing Refuses = (value : Refused) (parts : List ℕ) → ¬ Refuses value parts
+-- no value is rejected
+abbrev pub RejectsNothing : (RejectedValue → List ℕ → Type 0) → Type 0
+RejectsNothing Rejects = (value : RejectedValue) (parts : List ℕ) → ¬ Rejects value parts
 
--- this value is refused, and exactly the parts before it were put
-abbrev pub StopsAt : (Refused → List ℕ → Type 0) → SinkView → SinkView → Refused → Type 0
-StopsAt Refuses before after value = (parts : List ℕ) × Refuses value parts × Puts before after parts
+-- this value is rejected, and exactly the parts before it were appended
+abbrev pub StopsAt : (RejectedValue → List ℕ → Type 0) → SinkView → SinkView → RejectedValue → Type 0
+StopsAt Rejects before after value = (parts : List ℕ) × Rejects value parts × AppendsAll before after parts
 
--- what an error says of a writer of this text that refuses values so
-abbrev pub RefusesWriting : (Refused → List ℕ → Type 0) → SinkView → SinkView → List ℕ → Error → Type 0
-RefusesWriting Refuses before after text (error.Writer cause) = PutsFront before after text
-RefusesWriting Refuses before after text (error.NewlineInHeaderValue value) = StopsAt Refuses before after (header_with_newline (bstring_bytes value))
-RefusesWriting Refuses before after text error.EmptyValue = StopsAt Refuses before after empty_header
-RefusesWriting Refuses before after text error.StartsWithDash = StopsAt Refuses before after name_with_dash
-RefusesWriting Refuses before after text (error.InvalidRefName fault) = StopsAt Refuses before after (bad_name fault)
-RefusesWriting Refuses before after text (error.NullbyteInFilename name) = StopsAt Refuses before after (name_with_zero_byte (bstring_bytes name))
-RefusesWriting Refuses before after text error.IllegalActor = StopsAt Refuses before after illegal_actor
-RefusesWriting Refuses before after text error.OutOfMemory =
-    (value : List ℕ) × (StopsAt Refuses before after (header_with_newline value) ⊎ StopsAt Refuses before after (name_with_zero_byte value))
+-- the error of a writer of these bytes with these rejected values; Writer: the sink failed; OutOfMemory: the copy of
+-- a
+-- rejected value failed to allocate; any other: this value was rejected
+abbrev pub IsWritingError : (RejectedValue → List ℕ → Type 0) → SinkView → SinkView → List ℕ → Error → Type 0
+IsWritingError Rejects before after bytes (error.Writer cause) = AppendsPrefix before after bytes
+IsWritingError Rejects before after bytes (error.NewlineInHeaderValue value) =
+    StopsAt Rejects before after (header_with_newline (bstring_bytes value))
+IsWritingError Rejects before after bytes error.EmptyValue = StopsAt Rejects before after empty_header
+IsWritingError Rejects before after bytes error.StartsWithDash = StopsAt Rejects before after name_with_dash
+IsWritingError Rejects before after bytes (error.InvalidRefName fault) = StopsAt Rejects before after (bad_name fault)
+IsWritingError Rejects before after bytes (error.NullbyteInFilename name) =
+    StopsAt Rejects before after (name_with_zero_byte (bstring_bytes name))
+IsWritingError Rejects before after bytes error.IllegalActor = StopsAt Rejects before after illegal_actor
+IsWritingError Rejects before after bytes error.OutOfMemory =
+    (value : List ℕ) × (StopsAt Rejects before after (header_with_newline value)
+    ⊎ StopsAt Rejects before after (name_with_zero_byte value))
 
--- the error is the sink's, which took a front of the text, but not all
+-- the error is that of the sink, to which a proper prefix of the bytes was appended
 abbrev pub FailsAsSink : SinkView → SinkView → List ℕ → Error → Type 0
-FailsAsSink before after text (error.Writer cause) = PutsFront before after text
-FailsAsSink before after text other = ⊥
+FailsAsSink before after bytes (error.Writer cause) = AppendsPrefix before after bytes
+FailsAsSink before after bytes other = ⊥

@@ -1,34 +1,35 @@
-//! What is refused of objects that are written, and header fields, written (gitdatamodel, "commits";
+//! Encoding of header fields, and the errors of object writers (gitdatamodel, "commits";
 //! gitformat-signature, "Commit signatures").
 ghost use Rattle.std.specs.Prelude.{◌≡◌, ◌<◌, ◌≤◌, ◌+◌, ◌^◌, ◌++◌, ◌∷◌, [], length, IfErr, MatchOption, OnOk};
 ghost use Rattle.std.specs.Option.{SomeIff};
 ghost use Rattle.std.specs.Str.{str_to_ascii_lowercase};
-ghost use Rattle.gixobj_hash.specs.Hash.{hex_text};
-ghost use Rattle.gixobj_fields.specs.FieldWriting.{IsLastLine, RefusesField, folded, newlines};
-ghost use Rattle.gixobj_fields.specs.HeaderText.{field_text};
-ghost use Rattle.gixobj_fields.specs.Streams.{Puts, PutsOrFails};
-ghost use Rattle.gixobj_fields.specs.Writing.{AddsSize, RefusesNothing, RefusesWriting};
+ghost use Rattle.gixobj_hash.specs.Hash.{encode_id_hex};
+ghost use Rattle.gixobj_fields.specs.FieldWriting.{IsLastLine, IsFieldError, folded, newlines};
+ghost use Rattle.gixobj_fields.specs.HeaderFormat.{encode_field};
+ghost use Rattle.gixobj_fields.specs.Streams.{AppendsAll, AppendsOrFails};
+ghost use Rattle.gixobj_fields.specs.Writing.{AddsSize, RejectsNothing, IsWritingError};
 ghost use Rattle.gixobj_hash.specs.Bytes.{newline, space};
 
-use crate::streams::{Sink, put_both};
+use crate::streams::{Sink, write_both};
 use bstr::BString;
 use gixobj_hash::hash::ObjectId;
-use gixobj_hash::texts::{has_byte, split_at_byte};
+use gixobj_hash::split::{has_byte, split_at_byte};
 use std::alloc::{AllocError, Global};
 use std::io;
 
-/// The refusal of a writer of objects.
+/// The error of a writer of objects, such as [`WriteTo::write_to`](crate::WriteTo::write_to).
 ///
-/// Exactly the parts before the refused value have been written.
+/// At [`Error::Writer`] a proper prefix of the encoding has been written. At any other error exactly the
+/// parts before the rejected value have been written.
 #[derive(Debug, Drop, thiserror::Error)]
 pub enum Error {
-    /// The writer failed, after a front of the text, but not all of it.
+    /// The writer failed.
     #[error("the writer failed: {0}")]
     Writer(io::Error),
-    /// The value of a header that has one line has a newline.
+    /// The value of a single-line header has a newline.
     #[error("a header value with a newline: {value:?}")]
     NewlineInHeaderValue {
-        /// The value.
+        /// The rejected value.
         value: BString,
     },
     /// The value of a header is empty.
@@ -37,51 +38,51 @@ pub enum Error {
     /// The name of a tag begins with `-`.
     #[error("the name of a tag begins with `-`")]
     StartsWithDash,
-    /// The name of a tag can't be that of a reference.
+    /// The name of a tag is invalid as the name of a reference.
     #[error("the name of a tag: {0}")]
     InvalidRefName(RefNameFault),
-    /// The name of a tree's entry has a zero byte, which is what ends it.
+    /// The name of a tree's entry has a zero byte, which would end the name.
     #[error("a file name with a zero byte: {name:?}")]
     NullbyteInFilename {
-        /// The name.
+        /// The rejected name.
         name: BString,
     },
     /// The name or the email of an actor has a `<`, a `>` or a newline.
     #[error("a name or an email with `<`, `>` or a newline")]
     IllegalActor,
-    /// There was no memory to copy the refused value.
+    /// The allocation of a copy of the rejected value failed.
     #[error("out of memory")]
     OutOfMemory,
 }
 
-/// Why a name can't be that of a reference (`git-check-ref-format`).
+/// Why a name is invalid as the name of a reference (`git-check-ref-format`).
 #[derive(Clone, Copy, Debug, PartialEq, Eq, thiserror::Error)]
 pub enum RefNameFault {
-    /// It has no byte.
+    /// The name is empty.
     #[error("it is empty")]
     Empty,
-    /// A part of it, between slashes, begins with `.`.
+    /// A component, between slashes, begins with `.`.
     #[error("a part begins with `.`")]
     DotStart,
-    /// A part of it ends with `.lock`.
+    /// A component ends with `.lock`.
     #[error("a part ends with `.lock`")]
     LockSuffix,
-    /// It has `..`.
+    /// The name has two consecutive dots.
     #[error("it has `..`")]
     DoubleDot,
-    /// It has `@{`.
+    /// The name has the sequence `@{`.
     #[error("it has `@` before an opening brace")]
     AtBrace,
-    /// It has a backslash.
+    /// The name has a backslash.
     #[error("it has a backslash")]
     Backslash,
-    /// It has a byte below 32 or 127, a space, or one of `~^:?*[`.
+    /// The name has a byte below 32, byte 127, a space, or one of `~^:?*[`.
     #[error("it has a control character, a space or one of `~^:?*[`")]
     InvalidByte,
-    /// It begins or ends with `/`, or has two in a row.
+    /// The name begins or ends with `/`, or has consecutive slashes.
     #[error("a `/` is first, last or doubled")]
     BadSlash,
-    /// It ends with `.`.
+    /// The name ends with `.`.
     #[error("it ends with `.`")]
     DotEnd,
 }
@@ -106,27 +107,34 @@ impl From<AllocError> for Error {
     }
 }
 
-/// Puts a field of one line: the name, a space, the value and a newline (gitdatamodel, "commits").
+/// Appends a single-line field: the name, a space, the value and a newline (gitdatamodel, "commits").
 ///
-/// It looks at neither, so the caller has to know that they have no newline. The error is the sink's.
-/// It takes no memory.
+/// The caller ensures that neither the name nor the value has a newline. Only the sink may allocate.
+///
+/// # Errors
+///
+/// The error of the sink. A proper prefix of the field has then been written.
 #[inline(always)]
-#[tactic(auto, using(crate::proofs::Puts::front_of_byte, crate::proofs::Puts::puts_or_fails_behind_byte))]
+#[tactic(auto, using(crate::proofs::Appends::prefix_of_byte, crate::proofs::Appends::appends_or_fails_after_byte))]
 pub fn trusted_header_field<S: Sink>(name: &[u8], value: &[u8], sink: &mut S) -> io::Result<()>
-    ensures put { PutsOrFails result (S.view sink.old) (S.view sink.new)
-        (field_text name.now value.now) }
+    ensures appended { AppendsOrFails result (S.view sink.old) (S.view sink.new)
+        (encode_field name.now value.now) }
     ensures same_loan { S.loan sink.new ≡ S.loan sink.old }
 {
-    put_both(name, b" ", sink)?;
-    put_both(value, b"\n", sink)
+    write_both(name, b" ", sink)?;
+    write_both(value, b"\n", sink)
 }
 
-/// Puts the field of an id: its value is the id's 40 or 64 hex digits, in lower case (gitdatamodel,
-/// "commits"). The error is the sink's. It takes no memory.
+/// Appends the field of an id: its value is the 40 or 64 hex digits in lower case (gitdatamodel,
+/// "commits"). Only the sink may allocate.
+///
+/// # Errors
+///
+/// The error of the sink. A proper prefix of the field has then been written.
 #[inline(always)]
 pub fn trusted_header_id<S: Sink>(name: &[u8], id: &ObjectId, sink: &mut S) -> io::Result<()>
-    ensures put { PutsOrFails result (S.view sink.old) (S.view sink.new)
-        (field_text name.now (hex_text id.now)) }
+    ensures appended { AppendsOrFails result (S.view sink.old) (S.view sink.new)
+        (encode_field name.now (encode_id_hex id.now)) }
     ensures same_loan { S.loan sink.new ≡ S.loan sink.old }
 {
     let bytes = id.as_bytes();
@@ -136,13 +144,17 @@ pub fn trusted_header_id<S: Sink>(name: &[u8], id: &ObjectId, sink: &mut S) -> i
     trusted_header_field(name, digits, sink)
 }
 
-/// Puts the field of an id by its hex text, 64 digits at most: its value is the text in lower case
-/// (gitdatamodel, "commits"). The error is the sink's. It takes no memory.
+/// Appends the field of an id in hex, with at most 64 digits: its value is the digits in lower case
+/// (gitdatamodel, "commits"). Only the sink may allocate.
+///
+/// # Errors
+///
+/// The error of the sink. A proper prefix of the field has then been written.
 #[inline(always)]
 pub fn trusted_header_hex<S: Sink>(name: &[u8], hex: &[u8], sink: &mut S) -> io::Result<()>
     requires { length hex.now ≤ 64 }
-    ensures put { PutsOrFails result (S.view sink.old) (S.view sink.new)
-        (field_text name.now (str_to_ascii_lowercase hex.now)) }
+    ensures appended { AppendsOrFails result (S.view sink.old) (S.view sink.new)
+        (encode_field name.now (str_to_ascii_lowercase hex.now)) }
     ensures same_loan { S.loan sink.new ≡ S.loan sink.old }
 {
     match <[u8; 40]>::try_from(hex) {
@@ -150,41 +162,48 @@ pub fn trusted_header_hex<S: Sink>(name: &[u8], hex: &[u8], sink: &mut S) -> io:
             digits.make_ascii_lowercase();
             trusted_header_field(name, &digits, sink)
         }
-        Err(_) => put_lowered(name, hex, sink),
+        Err(_) => write_lower_case(name, hex, sink),
     }
 }
 
-/// Puts a field whose value is a text of at most 64 bytes in lower case.
-fn put_lowered<S: Sink>(name: &[u8], text: &[u8], sink: &mut S) -> io::Result<()>
-    requires { length text.now ≤ 64 }
-    ensures put { PutsOrFails result (S.view sink.old) (S.view sink.new)
-        (field_text name.now (str_to_ascii_lowercase text.now)) }
+/// Appends a field whose value is at most 64 bytes, converted to lower case.
+fn write_lower_case<S: Sink>(name: &[u8], content: &[u8], sink: &mut S) -> io::Result<()>
+    requires { length content.now ≤ 64 }
+    ensures appended { AppendsOrFails result (S.view sink.old) (S.view sink.new)
+        (encode_field name.now (str_to_ascii_lowercase content.now)) }
     ensures same_loan { S.loan sink.new ≡ S.loan sink.old }
 {
     let mut buffer = [0; MAX_HEX_LEN];
-    let lowered = &mut buffer[..text.len()];
-    lowered.copy_from_slice(text);
+    let lowered = &mut buffer[..content.len()];
+    lowered.copy_from_slice(content);
     lowered.make_ascii_lowercase();
     trusted_header_field(name, lowered, sink)
 }
 
-/// Puts a field of one line: the name, a space, the value and a newline (gitdatamodel, "commits").
+/// Appends a single-line field: the name, a space, the value and a newline (gitdatamodel, "commits").
 ///
-/// Before any byte is put, `EmptyValue` where the value is empty, and `NewlineInHeaderValue` with a copy
-/// of the value where it has a newline, or `OutOfMemory` where the copy finds no memory. `Writer` where
-/// the sink refused bytes. Nothing else takes memory.
-#[tactic(auto, using(crate::proofs::Puts::puts_nothing))]
+/// Only the sink and the copy of a rejected value allocate.
+///
+/// # Errors
+///
+/// - [`Error::EmptyValue`] if the value is empty.
+/// - [`Error::NewlineInHeaderValue`] with a copy of the value, if the value has a newline.
+/// - [`Error::OutOfMemory`] if the value has a newline, and the allocation of the copy failed.
+/// - [`Error::Writer`] if the sink failed. A proper prefix of the field has then been written.
+///
+/// At the first three errors nothing was written.
+#[tactic(auto, using(crate::proofs::Appends::nothing_appended))]
 pub fn header_field<S: Sink>(
     alloc: Global,
     name: &[u8],
     value: &[u8],
     sink: &mut S,
 ) -> Result<(), Error>
-    ensures written { OnOk result (Puts (S.view sink.old) (S.view sink.new)
-        (field_text name.now value.now)) }
-    ensures nothing_refused { OnOk result (RefusesNothing (RefusesField value.now)) }
-    ensures refusal { IfErr result (RefusesWriting (RefusesField value.now) (S.view sink.old)
-        (S.view sink.new) (field_text name.now value.now)) }
+    ensures written { OnOk result (AppendsAll (S.view sink.old) (S.view sink.new)
+        (encode_field name.now value.now)) }
+    ensures no_error { OnOk result (RejectsNothing (IsFieldError value.now)) }
+    ensures error { IfErr result (IsWritingError (IsFieldError value.now) (S.view sink.old)
+        (S.view sink.new) (encode_field name.now value.now)) }
     ensures same_loan { S.loan sink.new ≡ S.loan sink.old }
 {
     if value.is_empty() {
@@ -198,55 +217,58 @@ pub fn header_field<S: Sink>(
     Ok(())
 }
 
-/// Puts a header, whose value may have several lines: the name, a space, and the value with a space
-/// before each line but the first (gitformat-signature, "Commit signatures").
+/// Appends a header whose value may have several lines: the name, a space and the value. A space precedes
+/// each line of the value but the first (gitformat-signature, "Commit signatures").
 ///
-/// A newline is put at the end where the value has none there. The error is the sink's. It takes no
-/// memory.
-#[tactic(auto, using(crate::proofs::Puts::front_of_byte, crate::proofs::Puts::puts_or_fails_behind_byte))]
+/// A newline is added if the value does not end in one. Only the sink may allocate.
+///
+/// # Errors
+///
+/// The error of the sink. A proper prefix of the header has then been written.
+#[tactic(auto, using(crate::proofs::Appends::prefix_of_byte, crate::proofs::Appends::appends_or_fails_after_byte))]
 pub fn header_field_multi_line<S: Sink>(name: &[u8], value: &[u8], sink: &mut S) -> io::Result<()>
-    ensures put { PutsOrFails result (S.view sink.old) (S.view sink.new)
+    ensures appended { AppendsOrFails result (S.view sink.old) (S.view sink.new)
         (name.now ++ space ∷ folded value.now) }
     ensures same_loan { S.loan sink.new ≡ S.loan sink.old }
 {
-    put_both(name, b" ", sink)?;
-    put_folded(value, sink)
+    write_both(name, b" ", sink)?;
+    write_folded(value, sink)
 }
 
-/// Puts the lines of a value.
-#[tactic(auto, using(crate::proofs::FieldWrites::line_front, crate::proofs::Puts::puts_or_fails_more))]
-fn put_folded<S: Sink>(value: &[u8], sink: &mut S) -> io::Result<()>
-    ensures put { PutsOrFails result (S.view sink.old) (S.view sink.new) (folded value.now) }
+/// Appends the lines of a value.
+#[tactic(auto, using(crate::proofs::FieldWrites::line_prefix, crate::proofs::Appends::appends_or_fails_more))]
+fn write_folded<S: Sink>(value: &[u8], sink: &mut S) -> io::Result<()>
+    ensures appended { AppendsOrFails result (S.view sink.old) (S.view sink.new) (folded value.now) }
     ensures same_loan { S.loan sink.new ≡ S.loan sink.old }
 {
     let mut rest = value;
     while let Some((line, after)) = first_line(rest) {
-        put_line(line, sink)?;
+        write_line(line, sink)?;
         rest = after;
     }
-    put_last_line(rest, sink)
+    write_last_line(rest, sink)
 }
 
-/// Puts a line, and the space before the next.
-fn put_line<S: Sink>(line: &[u8], sink: &mut S) -> io::Result<()>
-    ensures put { PutsOrFails result (S.view sink.old) (S.view sink.new)
+/// Appends a line, and the space before the next line.
+fn write_line<S: Sink>(line: &[u8], sink: &mut S) -> io::Result<()>
+    ensures appended { AppendsOrFails result (S.view sink.old) (S.view sink.new)
         (line.now ++ newline ∷ space ∷ []) }
     ensures same_loan { S.loan sink.new ≡ S.loan sink.old }
 {
-    put_both(line, b"\n ", sink)
+    write_both(line, b"\n ", sink)
 }
 
-/// Puts the last line, with its newline.
-fn put_last_line<S: Sink>(line: &[u8], sink: &mut S) -> io::Result<()>
+/// Appends the last line with its newline.
+fn write_last_line<S: Sink>(line: &[u8], sink: &mut S) -> io::Result<()>
     requires { IsLastLine line.now }
-    ensures put { PutsOrFails result (S.view sink.old) (S.view sink.new) (folded line.now) }
+    ensures appended { AppendsOrFails result (S.view sink.old) (S.view sink.new) (folded line.now) }
     ensures same_loan { S.loan sink.new ≡ S.loan sink.old }
 {
     let end = missing_newline(line);
-    put_both(line, end, sink)
+    write_both(line, end, sink)
 }
 
-/// The newline, where the last line has none.
+/// Returns a newline if the last line has none.
 fn missing_newline(line: &[u8]) -> &[u8]
     requires { IsLastLine line.now }
     ensures { folded line.now ≡ line.now ++ result.now }
@@ -257,7 +279,7 @@ fn missing_newline(line: &[u8]) -> &[u8]
     if *last == b'\n' { b"" } else { b"\n" }
 }
 
-/// The first line and what follows it, or none where no byte follows the first newline.
+/// Splits after the first line, or returns `None` if no byte follows the first newline.
 #[tactic(auto, using(crate::proofs::FieldWrites::folded_cut, crate::proofs::FieldWrites::cut_shorter, crate::proofs::FieldWrites::last_line))]
 fn first_line(value: &[u8]) -> Option<(&[u8], &[u8])>
     ensures { MatchOption result (IsLastLine value.now)
@@ -272,36 +294,40 @@ fn first_line(value: &[u8]) -> Option<(&[u8], &[u8])>
     }
 }
 
-/// The size in bytes with that of what [`trusted_header_field`] puts, or none past 64 bits. It takes no
-/// memory.
+/// Adds the length of the output of [`trusted_header_field`] to a size in bytes.
+///
+/// Returns `None` if the sum exceeds 64 bits. Allocates nothing.
 #[inline(always)]
-pub fn size_with_field(size: u64, name: &[u8], value: &[u8]) -> Option<u64>
-    ensures { AddsSize result size (field_text name.now value.now) }
+pub fn size_plus_field(size: u64, name: &[u8], value: &[u8]) -> Option<u64>
+    ensures { AddsSize result size (encode_field name.now value.now) }
 {
     let with_name = size.checked_add(name.len() as u64)?.checked_add(2)?;
     with_name.checked_add(value.len() as u64)
 }
 
-/// The size in bytes with that of what [`trusted_header_hex`] puts, or none past 64 bits. It takes no
-/// memory.
+/// Adds the length of the output of [`trusted_header_hex`] to a size in bytes.
+///
+/// Returns `None` if the sum exceeds 64 bits. Allocates nothing.
 pub fn size_with_hex(size: u64, name: &[u8], hex: &[u8]) -> Option<u64>
-    ensures { AddsSize result size (field_text name.now (str_to_ascii_lowercase hex.now)) }
+    ensures { AddsSize result size (encode_field name.now (str_to_ascii_lowercase hex.now)) }
 {
-    size_with_field(size, name, hex)
+    size_plus_field(size, name, hex)
 }
 
-/// The size in bytes with that of what [`trusted_header_id`] puts, or none past 64 bits. It takes no
-/// memory.
+/// Adds the length of the output of [`trusted_header_id`] to a size in bytes.
+///
+/// Returns `None` if the sum exceeds 64 bits. Allocates nothing.
 #[tactic(auto, using(crate::proofs::FieldWrites::id_field_len))]
-pub fn size_with_id(size: u64, name: &[u8], id: &ObjectId) -> Option<u64>
-    ensures { AddsSize result size (field_text name.now (hex_text id.now)) }
+pub fn size_plus_id(size: u64, name: &[u8], id: &ObjectId) -> Option<u64>
+    ensures { AddsSize result size (encode_field name.now (encode_id_hex id.now)) }
 {
     let with_name = size.checked_add(name.len() as u64)?.checked_add(2)?;
     with_name.checked_add(2 * id.as_bytes().len() as u64)
 }
 
-/// The size in bytes with that of what [`header_field_multi_line`] puts, or none past 64 bits. It takes
-/// no memory.
+/// Adds the length of the output of [`header_field_multi_line`] to a size in bytes.
+///
+/// Returns `None` if the sum exceeds 64 bits. Allocates nothing.
 pub fn size_with_multi_line(size: u64, name: &[u8], value: &[u8]) -> Option<u64>
     ensures { AddsSize result size (name.now ++ space ∷ folded value.now) }
 {
@@ -309,7 +335,8 @@ pub fn size_with_multi_line(size: u64, name: &[u8], value: &[u8]) -> Option<u64>
     size_with_folded(with_name, value)
 }
 
-/// The size with that of the lines of a value, or none past 64 bits.
+/// Adds the length of the encoded lines of a value to a size, or returns `None` if the sum exceeds 64
+/// bits.
 #[inline(always)]
 fn size_with_folded(size: u64, value: &[u8]) -> Option<u64>
     ensures { AddsSize result size (folded value.now) }
@@ -318,8 +345,8 @@ fn size_with_folded(size: u64, value: &[u8]) -> Option<u64>
     size.checked_add(value.len() as u64)?.checked_add(more)
 }
 
-/// How many bytes more the lines of a value take: a space for each but the first, and a newline where
-/// none stands at the end.
+/// The number of bytes that the encoding adds to a value: a space for each line but the first, and a
+/// missing final newline.
 #[inline(always)]
 fn len_folded_in(value: &[u8]) -> u64
     ensures { length (folded value.now) ≡ length value.now + result }
@@ -330,25 +357,24 @@ fn len_folded_in(value: &[u8]) -> u64
     }
 }
 
-/// How many newlines the text has.
+/// Counts the newlines.
 #[inline(always)]
 #[tactic(auto, using(crate::proofs::FoldedSizes::newlines_cut, crate::proofs::FoldedSizes::newlines_within))]
-fn count_newlines(text: &[u8]) -> u64
-    ensures count { result ≡ newlines text.now }
-    ensures bound { result ≤ length text.now }
+fn count_newlines(content: &[u8]) -> u64
+    ensures count { result ≡ newlines content.now }
+    ensures bound { result ≤ length content.now }
 {
     let mut count = 0;
-    let mut rest = text;
+    let mut rest = content;
     while rest.len() > PART_LEN {
-        let (part, behind) = rest.split_at(PART_LEN);
+        let (part, following) = rest.split_at(PART_LEN);
         count += u64::from(count_in_part(part));
-        rest = behind;
+        rest = following;
     }
     count + u64::from(count_in_part(rest))
 }
 
-/// How many newlines a part of a text has. A byte counts them, so that many bytes are compared at a
-/// time.
+/// Counts the newlines of at most 128 bytes in a byte, so that many bytes are compared at a time.
 #[inline(always)]
 #[tactic(auto, using(crate::proofs::FoldedSizes::newlines_more, crate::proofs::FoldedSizes::newlines_within))]
 fn count_in_part(part: &[u8]) -> u8
@@ -362,8 +388,8 @@ fn count_in_part(part: &[u8]) -> u8
     count
 }
 
-/// How many bytes a part of a text has, whose newlines are counted in a byte.
+/// The number of bytes whose newlines are counted in one byte.
 const PART_LEN: usize = 128;
 
-/// How many hex digits an id has at most.
+/// The maximum number of hex digits of an id.
 const MAX_HEX_LEN: usize = 64;

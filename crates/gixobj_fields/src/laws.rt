@@ -1,15 +1,17 @@
-//! Laws of header fields and of writers. Each function does nothing: its contract is the law.
+//! Laws of header fields and of writers. The contract of each function is the law, and its body is empty.
 ghost use Rattle.std.specs.Prelude.{◌≡◌, ℕ, List};
-ghost use Rattle.gixobj_fields.specs.FieldWriting.{header_text};
+ghost use Rattle.gixobj_fields.specs.FieldWriting.{encode_header};
 ghost use Rattle.gixobj_fields.specs.Streams.{SinkView};
-ghost use Rattle.gixobj_fields.specs.Writing.{FailsAsSink, RefusesNothing, RefusesWriting};
+ghost use Rattle.gixobj_fields.specs.Writing.{FailsAsSink, RejectsNothing, IsWritingError};
 ghost use Rattle.gixobj_fields.specs.declared.encode.Error.{Error};
-ghost use Rattle.gixobj_fields.specs.HeaderText.{HasField, HasHeader, Header, IsHeaderText};
+ghost use Rattle.gixobj_fields.specs.HeaderFormat.{HasField, HasHeader, Header, DecodesToHeader};
 
 use crate::WriteTo;
 
-/// A text begins with one field of a name at most, and with one header at most.
-pub fn header_fields_have_one_reading()
+/// A header field decodes uniquely.
+///
+/// An input begins with at most one field of a name, and with at most one header.
+pub fn header_field_decodes_uniquely()
     ensures one_field { (name input value rest value' rest' : List ℕ)
         → HasField name input value rest → HasField name input value' rest' → (value ≡ value')
         × (rest ≡ rest') }
@@ -18,16 +20,17 @@ pub fn header_fields_have_one_reading()
         × (rest ≡ rest') }
 {}
 
-/// A header that was read, of one line or of several, is written as it was.
-pub fn header_reads_back()
-    ensures { (text : List ℕ) (header : Header) → IsHeaderText text header
-        → header_text header ≡ text }
+/// A decoded header of one line or of several re-encodes identically.
+pub fn header_round_trips()
+    ensures { (bytes : List ℕ) (header : Header) → DecodesToHeader bytes header
+        → encode_header header ≡ bytes }
 {}
 
-/// An object of which nothing is refused is not written only where the sink has no room for it, and
-/// then a front of its text, but not all, has been put.
-pub fn writers_fail_as_their_sinks<T: WriteTo>(object: &T)
-    ensures { (before after : SinkView) (error : Error) → RefusesNothing (T.refuses object.now)
-        → RefusesWriting (T.refuses object.now) before after (T.text object.now) error
-        → FailsAsSink before after (T.text object.now) error }
+/// A writer of an object without rejected values fails only as its sink does.
+///
+/// The sink then had no room for the encoding, and a proper prefix of it has been written.
+pub fn write_error_implies_sink_error<T: WriteTo>(object: &T)
+    ensures { (before after : SinkView) (error : Error) → RejectsNothing (T.rejects object.now)
+        → IsWritingError (T.rejects object.now) before after (T.encoding object.now) error
+        → FailsAsSink before after (T.encoding object.now) error }
 {}

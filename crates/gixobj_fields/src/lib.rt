@@ -1,5 +1,5 @@
-//! Header fields, read and written, the way in which objects are written, and ids of objects that a
-//! stream gives.
+//! Header fields, decoded and encoded, the trait of objects that can be written, and ids of objects whose
+//! content is streamed.
 #![tactic(auto)]
 
 pub mod encode;

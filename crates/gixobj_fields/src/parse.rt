@@ -1,11 +1,11 @@
-//! Header fields, read (gitdatamodel, "commits"; gitformat-signature, "Commit signatures").
+//! Decoding of header fields (gitdatamodel, "commits"; gitformat-signature, "Commit signatures").
 ghost use Rattle.std.specs.Prelude.{◌≡◌, ◌≢◌, ◌++◌, ◌∷◌, [], ℕ, List, IfErr, IfOk, IfSome, IfNone, MatchBool, MatchOption, length, slice_index};
 ghost use Rattle.bstr.specs.BStr.{bstr_bytes};
-ghost use Rattle.gixobj_fields.specs.HeaderReading.{BorrowsOneLine, HasId, HasNoId, HasNoKind, HasNoLines, IsUnfolded, RefusesHeaderField, header_of};
-ghost use Rattle.gixobj_fields.specs.HeaderText.{EndsHeader, HasField, HasHeader, HasNoField, IsHeaderName, LacksName};
-ghost use Rattle.gixobj_hash.specs.Texts.{IsFree};
+ghost use Rattle.gixobj_fields.specs.HeaderReading.{BorrowsOneLine, HasId, HasNoId, HasNoKind, HasNoLines, IsUnfolded, IsHeaderFieldError, header_of};
+ghost use Rattle.gixobj_fields.specs.HeaderFormat.{EndsHeader, HasField, HasHeader, HasNoField, IsHeaderName, HasOtherName};
+ghost use Rattle.gixobj_hash.specs.ByteStrings.{IsByteFree};
 ghost use Rattle.gixobj_hash.specs.declared.decode.Error.TheVariants.{Malformed};
-ghost use Rattle.gixobj_hash.specs.Kind.{kind_word};
+ghost use Rattle.gixobj_hash.specs.Kind.{kind_name};
 ghost use Rattle.gixobj_hash.specs.Bytes.{newline, space};
 
 use bstr::BStr;
@@ -13,12 +13,13 @@ use gixobj_hash::Kind as ObjectKind;
 use gixobj_hash::decode::Error;
 use gixobj_hash::hash::Kind;
 use gixobj_hash::parse::hex_hash;
-use gixobj_hash::texts::{has_byte, split_at_byte};
+use gixobj_hash::split::{has_byte, split_at_byte};
 use std::alloc::Global;
 use std::borrow::CowSlice;
 
-/// The value of the header field of this name, and what follows its line, or none where the input does
-/// not begin with the name, a space and a line that ends in a newline.
+/// Decodes the header field of this name, and returns its value and the rest of the input.
+///
+/// Returns `None` unless the input begins with the name, a space and a line that ends in a newline.
 #[inline(always)]
 #[tactic(auto, using(crate::proofs::HeaderFields::field_of_parts, crate::proofs::HeaderFields::no_field_without_name))]
 pub fn header_field<'a>(input: &'a [u8], name: &[u8]) -> Option<(&'a [u8], &'a [u8])>
@@ -34,8 +35,10 @@ pub fn header_field<'a>(input: &'a [u8], name: &[u8]) -> Option<(&'a [u8], &'a [
     Some((value, rest))
 }
 
-/// The hex text of an id of this kind that the header field of this name has, and what follows its
-/// line, or none where the input does not begin with such a field.
+/// Decodes the header field of this name whose value is an id in hex, and returns the hex digits and the
+/// rest.
+///
+/// Returns `None` unless the input begins with the field of an id of this kind.
 #[inline(always)]
 pub fn header_id<'a>(input: &'a [u8], name: &[u8], kind: Kind) -> Option<(BStr<'a>, &'a [u8])>
     ensures found { IfSome result (λ it. HasId name.now kind input.now (bstr_bytes it.0) it.1.now) }
@@ -53,51 +56,54 @@ pub fn header_id<'a>(input: &'a [u8], name: &[u8], kind: Kind) -> Option<(BStr<'
     Some((hex, rest))
 }
 
-/// What stands before and after the newline at this place, or none where none stands there.
+/// Splits at the newline at this position, or returns `None` if another byte or none is there.
 #[inline(always)]
 #[tactic(auto, using(crate::proofs::HeaderFields::cut_at_place))]
-fn split_at_newline(text: &[u8], place: usize) -> Option<(&[u8], &[u8])>
-    ensures cut { IfSome result (λ parts. text.now ≡ parts.0.now ++ newline ∷ parts.1.now) }
+fn split_at_newline(bytes: &[u8], place: usize) -> Option<(&[u8], &[u8])>
+    ensures split { IfSome result (λ parts. bytes.now ≡ parts.0.now ++ newline ∷ parts.1.now) }
     ensures placed { IfSome result (λ parts. length parts.0.now ≡ place) }
-    ensures none { IfNone result (slice_index text.now place ≢ newline) }
+    ensures none { IfNone result (slice_index bytes.now place ≢ newline) }
 {
-    match text.get(place) {
-        Some(b'\n') => Some((&text[..place], &text[place + 1..])),
+    match bytes.get(place) {
+        Some(b'\n') => Some((&bytes[..place], &bytes[place + 1..])),
         _ => None,
     }
 }
 
-/// The kind of objects whose word the header field of this name has, and what follows its line, or none
-/// where the input does not begin with such a field. It takes no memory.
+/// Decodes the header field of this name whose value names a kind of objects, and returns the kind and
+/// the rest.
+///
+/// Returns `None` unless the input begins with such a field. Allocates nothing.
 pub fn header_kind<'a>(input: &'a [u8], name: &[u8]) -> Option<(ObjectKind, &'a [u8])>
-    ensures found { IfSome result (λ it. HasField name.now input.now (kind_word it.0) it.1.now) }
+    ensures found { IfSome result (λ it. HasField name.now input.now (kind_name it.0) it.1.now) }
     ensures none { IfNone result (HasNoKind name.now input.now) }
 {
-    let Some((word, rest)) = header_field(input, name) else {
+    let Some((token, rest)) = header_field(input, name) else {
         return None;
     };
-    let Some(kind) = ObjectKind::of_word(word) else {
+    let Some(kind) = ObjectKind::from_name(token) else {
         return None;
     };
     Some((kind, rest))
 }
 
-/// What stands after the name and a space at the front of the input.
+/// Returns the bytes after the name and a space at the beginning of the input, or `None` without them.
 #[inline(always)]
 pub fn after_name<'a>(input: &'a [u8], name: &[u8]) -> Option<&'a [u8]>
     ensures found { IfSome result (λ rest. input.now ≡ name.now ++ space ∷ rest.now) }
-    ensures none { IfNone result (LacksName name.now input.now) }
+    ensures none { IfNone result (HasOtherName name.now input.now) }
 {
-    let Some(behind) = after_front(input, name) else {
+    let Some(following) = after_prefix(input, name) else {
         return None;
     };
-    let Some(rest) = after_space(behind) else {
+    let Some(rest) = after_space(following) else {
         return None;
     };
     Some(rest)
 }
 
-/// What stands behind a newline at the front of the input. It takes no memory.
+/// Returns the bytes after a newline at the beginning of the input, or `None` without one. Allocates
+/// nothing.
 #[inline(always)]
 pub fn after_newline(input: &[u8]) -> Option<&[u8]>
     ensures { MatchOption result ((rest : List ℕ) → input.now ≢ newline ∷ rest)
@@ -109,11 +115,16 @@ pub fn after_newline(input: &[u8]) -> Option<&[u8]>
     }
 }
 
-/// The header at the front of the input, of one line or of several, and what follows it.
+/// Decodes the header at the beginning of the input, and returns its name, its value and the rest.
 ///
-/// Its value is its one line without the newline, or all of its lines with their newlines, less the
-/// space before each but the first. One line is borrowed, several are owned. `Malformed` where the input begins with no header. A value of
-/// several lines takes memory, and `OutOfMemory` comes for no other.
+/// A value of one line is borrowed, without its newline. A value of several lines is owned, with their
+/// newlines and without the space before each line but the first. Only a value of several lines
+/// allocates.
+///
+/// # Errors
+///
+/// - [`Error::Malformed`] if the input does not begin with a header.
+/// - [`Error::OutOfMemory`] if the allocation of a value of several lines failed.
 #[tactic(auto, using(crate::proofs::HeaderFields::header_of_one_line, crate::proofs::HeaderFields::header_of_lines))]
 pub fn any_header_field(
     alloc: Global,
@@ -121,15 +132,15 @@ pub fn any_header_field(
 ) -> Result<((BStr<'_>, CowSlice<'_, u8>), &[u8]), Error>
     ensures found { IfOk result (λ it. HasHeader input.now (header_of it.0) it.1.now) }
     ensures borrowed { IfOk result (λ it. BorrowsOneLine it.0.1) }
-    ensures refusal { IfErr result (RefusesHeaderField input.now) }
+    ensures error { IfErr result (IsHeaderFieldError input.now) }
 {
-    let Some((name, behind)) = split_at_byte(input, b' ') else {
+    let Some((name, following)) = split_at_byte(input, b' ') else {
         return Err(Error::Malformed);
     };
     if !is_header_name(name) {
         return Err(Error::Malformed);
     }
-    let Some((first, after)) = split_at_byte(behind, b'\n') else {
+    let Some((first, after)) = split_at_byte(following, b'\n') else {
         return Err(Error::Malformed);
     };
     match after_space(after) {
@@ -141,17 +152,17 @@ pub fn any_header_field(
     }
 }
 
-/// The first line and the lines that follow it, with their newlines, and what stands behind them.
+/// Decodes continuation lines, and returns the first line and these with their newlines, and the rest.
 #[tactic(auto, using(crate::proofs::HeaderFields::unfolding_starts, crate::proofs::HeaderFields::unfolding_ends, crate::proofs::HeaderFields::unfolding_shorter))]
 fn unfolded<'a>(alloc: Global, first: &[u8], input: &'a [u8]) -> Result<(Vec<u8>, &'a [u8]), Error>
     ensures found { IfOk result (λ it. IsUnfolded first.now input.now it.0.items it.1.now) }
-    ensures refusal { IfErr result (λ e. e ≡ Malformed → HasNoLines input.now) }
+    ensures error { IfErr result (λ e. e ≡ Malformed → HasNoLines input.now) }
 {
     let mut value = Vec::from_slice(alloc, first)?;
     value.push(b'\n')?;
     let mut rest = input;
-    while let Some(behind) = after_space(rest) {
-        let Some((line, after)) = split_at_byte(behind, b'\n') else {
+    while let Some(following) = after_space(rest) {
+        let Some((line, after)) = split_at_byte(following, b'\n') else {
             return Err(Error::Malformed);
         };
         value.extend_from_slice(line)?;
@@ -161,17 +172,17 @@ fn unfolded<'a>(alloc: Global, first: &[u8], input: &'a [u8]) -> Result<(Vec<u8>
     Ok((value, rest))
 }
 
-/// What stands after this front.
+/// Returns the bytes after this prefix.
 #[inline(always)]
-#[tactic(auto, using(crate::proofs::HeaderFields::front_is))]
-fn after_front<'a>(input: &'a [u8], front: &[u8]) -> Option<&'a [u8]>
-    ensures { MatchOption result ((rest : List ℕ) → input.now ≢ front.now ++ rest)
-        (λ rest. input.now ≡ front.now ++ rest.now) }
+#[tactic(auto, using(crate::proofs::HeaderFields::prefix_is))]
+fn after_prefix<'a>(input: &'a [u8], prefix: &[u8]) -> Option<&'a [u8]>
+    ensures { MatchOption result ((rest : List ℕ) → input.now ≢ prefix.now ++ rest)
+        (λ rest. input.now ≡ prefix.now ++ rest.now) }
 {
-    input.strip_prefix(front)
+    input.strip_prefix(prefix)
 }
 
-/// What stands after one space at the front.
+/// Returns the bytes after one space at the beginning of the input, or `None` without one.
 #[inline(always)]
 pub fn after_space(input: &[u8]) -> Option<&[u8]>
     ensures { MatchOption result (EndsHeader input.now) (λ rest. input.now ≡ space ∷ rest.now) }
@@ -182,9 +193,9 @@ pub fn after_space(input: &[u8]) -> Option<&[u8]>
     }
 }
 
-/// Whether a text without space can be the name of a header.
+/// Whether bytes without a space are a valid name of a header.
 fn is_header_name(name: &[u8]) -> bool
-    ensures { MatchBool result ((name.now ≢ []) × IsFree newline name.now)
+    ensures { MatchBool result ((name.now ≢ []) × IsByteFree newline name.now)
         (¬ IsHeaderName name.now) }
 {
     !name.is_empty() && !has_byte(name, b'\n')

@@ -1,16 +1,18 @@
-//! Short texts, put together without memory, so that they are put at once.
+//! Short byte strings, assembled on the stack so that a sink gets them in one call.
 ghost use Rattle.std.specs.Prelude.{◌≡◌, ◌≤◌, ◌+◌, ◌++◌, [], length};
 
 use std::marker::Model;
 
-/// A text of at most 80 bytes: the end of an actor's line has fewer.
+/// A byte string of at most 80 bytes on the stack. The end of an actor's line is shorter.
+///
+/// [`ShortString::new`] makes one. No call allocates.
 #[derive(Drop)]
-pub struct ShortText {
+pub struct ShortString {
     bytes: [u8; 80],
     len: usize,
 }
 
-impl Model for ShortText {
+impl Model for ShortString {
     ghost use Rattle.std.specs.Prelude.{◌≤◌, ℕ, List, take};
 
     ghost Value = { List ℕ };
@@ -20,22 +22,22 @@ impl Model for ShortText {
     ghost invariant = { λ it. it.len ≤ 80 };
 }
 
-impl ShortText {
-    /// A text without bytes.
+impl ShortString {
+    /// Creates an empty string.
     #[inline(always)]
-    pub fn new() -> ShortText
+    pub fn new() -> ShortString
         ensures { result ≡ [] }
     {
-        ShortText {
+        ShortString {
             bytes: [0; 80],
             len: 0,
         }
     }
 
-    /// Puts more bytes at the end.
+    /// Appends bytes. The caller ensures that the result has at most 80 bytes.
     #[inline(always)]
     pub fn extend(&mut self, more: &[u8])
-        requires room { length self.old + length more.now ≤ 80 }
+        requires has_capacity { length self.old + length more.now ≤ 80 }
         ensures { self.new ≡ self.old ++ more.now }
     {
         let end = self.len + more.len();
@@ -43,7 +45,7 @@ impl ShortText {
         self.len = end;
     }
 
-    /// Its bytes.
+    /// Returns the bytes.
     #[inline(always)]
     pub fn as_bytes(&self) -> &[u8]
         ensures { result.now ≡ self.now }

@@ -1,9 +1,9 @@
-//! The ids of objects whose content comes from a stream (gitformat-loose, "Loose object format").
+//! Ids of objects whose content is streamed (gitformat-loose, "Loose object format").
 ghost use Rattle.std.specs.Prelude.{◌≡◌, ◌≤◌, ◌<◌, ◌↔◌, [], ℕ, List, IfErr, IfOk, IsOk, OnOk, ⊤, drop, length, take};
 ghost use Rattle.std.specs.Io.{ReadsAtMost};
 ghost use Rattle.std.specs.Io.KnownBytes.{Consumes};
 ghost use Rattle.gixobj_hash.specs.Hash.{id_of};
-ghost use Rattle.gixobj_fields.specs.StreamHash.{AddsBytes, ReadsExactly, ReadsObject, RefusesStream, SkipsExactly};
+ghost use Rattle.gixobj_fields.specs.StreamHash.{AddsBytes, ReadsExactly, ReadsObject, IsStreamError, SkipsExactly};
 ghost use Rattle.gixobj_fields.specs.declared.stream_hash.Error.TheVariants.{UnexpectedEof};
 
 use crate::streams::{FromRead, Source};
@@ -13,12 +13,12 @@ use gixobj_hash::{Kind, hash};
 use std::io;
 use std::io::Read;
 
-/// How many bytes are read at once.
+/// The maximum number of bytes of one read.
 const BUFFER_LEN: usize = 8192;
 
-/// Why a stream gives no id.
+/// The error of [`compute_stream_hash`] and of other calls that read a stream.
 ///
-/// A front of the content has been read, but not all of it.
+/// A proper prefix of the content has been read.
 #[derive(Debug, Drop, thiserror::Error)]
 pub enum Error {
     /// The stream failed.
@@ -39,12 +39,23 @@ impl From<io::Error> for Error {
     }
 }
 
-/// The id of an object of this kind whose content is the next `len` bytes of a reader: the digest of
-/// its loose header and its content.
+/// Computes the id of an object of this kind whose content is the next `len` bytes of a reader.
 ///
-/// Exactly these bytes are read, in pieces of at most 8192, which lie on the stack: it takes no memory.
-/// `UnexpectedEof` where the reader ends before them, and `Io` where it fails. A read that was
-/// interrupted is tried again.
+/// The id is the digest of the loose header and the content. Exactly `len` bytes are read, in pieces of
+/// at most 8192 bytes, into a buffer on the stack. An interrupted read is retried. Allocates nothing.
+///
+/// # Errors
+///
+/// - [`Error::Io`] if the reader fails.
+/// - [`Error::UnexpectedEof`] if the reader ends before `len` bytes.
+///
+/// # Examples
+///
+/// ```rust
+/// pub fn blob_id<R: Read>(stream: &mut R, size: u64) -> Result<ObjectId, stream_hash::Error> {
+///     compute_stream_hash(HashKind::Sha1, Kind::Blob, stream, size)
+/// }
+/// ```
 pub fn compute_stream_hash<R: Read>(
     hash: hash::Kind,
     kind: Kind,
@@ -53,16 +64,20 @@ pub fn compute_stream_hash<R: Read>(
 ) -> Result<ObjectId, Error>
     ensures found { IfOk result (ReadsObject hash kind (R.remaining stream.old)
         (R.remaining stream.new) len) }
-    ensures refusal { IfErr result (RefusesStream ⊤ (R.remaining stream.old)
+    ensures error { IfErr result (IsStreamError ⊤ (R.remaining stream.old)
         (R.remaining stream.new) len) }
 {
     compute_source_hash(hash, kind, &mut FromRead(stream), len)
 }
 
-/// As [`compute_stream_hash`], of the next `len` bytes of a slice, which goes on behind them.
+/// Computes the id of an object of this kind whose content is the next `len` bytes of a slice.
 ///
-/// `UnexpectedEof` exactly where the slice has fewer, and then it is at its end. It takes no memory.
-#[tactic(auto, using(crate::proofs::StreamReads::slice_accepts, crate::proofs::StreamReads::slice_value, crate::proofs::StreamReads::slice_rest, crate::proofs::StreamReads::slice_refusal))]
+/// The slice then begins after these bytes. Allocates nothing.
+///
+/// # Errors
+///
+/// [`Error::UnexpectedEof`] if and only if the slice has fewer bytes. The slice is then empty.
+#[tactic(auto, using(crate::proofs::StreamReads::slice_accepts, crate::proofs::StreamReads::slice_value, crate::proofs::StreamReads::slice_rest, crate::proofs::StreamReads::slice_error))]
 pub fn compute_slice_hash(
     hash: hash::Kind,
     kind: Kind,
@@ -72,15 +87,18 @@ pub fn compute_slice_hash(
     ensures accepts { IsOk result ↔ (len ≤ length input.old.now) }
     ensures value { IfOk result (λ id. id ≡ id_of hash kind (take len input.old.now)) }
     ensures rest { OnOk result (input.new.now ≡ drop len input.old.now) }
-    ensures refusal { IfErr result (λ error. (error ≡ UnexpectedEof) × (input.new.now ≡ [])) }
+    ensures error { IfErr result (λ error. (error ≡ UnexpectedEof) × (input.new.now ≡ [])) }
 {
     compute_source_hash(hash, kind, input, len)
 }
 
-/// As [`compute_stream_hash`], of the next `len` bytes of a source.
+/// Computes the id of an object of this kind whose content is the next `len` bytes of a source. Allocates
+/// nothing.
 ///
-/// `UnexpectedEof` where the source ends before them, and `Io` only where it may fail. It takes no
-/// memory.
+/// # Errors
+///
+/// - [`Error::Io`] if the source fails, only if it may fail.
+/// - [`Error::UnexpectedEof`] if the source ends before `len` bytes.
 #[tactic(auto, using(crate::proofs::StreamReads::id_of_content))]
 pub fn compute_source_hash<S: Source>(
     hash: hash::Kind,
@@ -90,9 +108,9 @@ pub fn compute_source_hash<S: Source>(
 ) -> Result<ObjectId, Error>
     ensures found { IfOk result (ReadsObject hash kind (S.rest source.old) (S.rest source.new)
         len) }
-    ensures refusal { IfErr result (RefusesStream (S.may_fail source.old) (S.rest source.old)
+    ensures error { IfErr result (IsStreamError (S.may_fail source.old) (S.rest source.old)
         (S.rest source.new) len) }
-    ensures lasting { S.may_fail source.new → S.may_fail source.old }
+    ensures stays_valid { S.may_fail source.new → S.may_fail source.old }
     ensures same_loan { S.loan source.new ≡ S.loan source.old }
 {
     let mut hasher = object_hasher(hash, kind, len);
@@ -100,24 +118,32 @@ pub fn compute_source_hash<S: Source>(
     Ok(hasher.finalize())
 }
 
-/// Reads exactly the next `len` bytes of a reader, and drops them.
+/// Reads exactly the next `len` bytes of a reader, and drops them. Allocates nothing.
 ///
-/// `UnexpectedEof` where the reader ends before them, and `Io` where it fails. It takes no memory.
+/// # Errors
+///
+/// - [`Error::Io`] if the reader fails.
+/// - [`Error::UnexpectedEof`] if the reader ends before `len` bytes.
 pub fn skip_stream<R: Read>(stream: &mut R, len: u64) -> Result<(), Error>
     ensures read { OnOk result (SkipsExactly (R.remaining stream.old) (R.remaining stream.new)
         len) }
-    ensures refusal { IfErr result (RefusesStream ⊤ (R.remaining stream.old)
+    ensures error { IfErr result (IsStreamError ⊤ (R.remaining stream.old)
         (R.remaining stream.new) len) }
 {
     skip_source(&mut FromRead(stream), len)
 }
 
-/// The same of a source, where `Io` comes only if the source may fail.
+/// Reads exactly the next `len` bytes of a source, and drops them. Allocates nothing.
+///
+/// # Errors
+///
+/// - [`Error::Io`] if the source fails, only if it may fail.
+/// - [`Error::UnexpectedEof`] if the source ends before `len` bytes.
 pub fn skip_source<S: Source>(source: &mut S, len: u64) -> Result<(), Error>
     ensures read { OnOk result (SkipsExactly (S.rest source.old) (S.rest source.new) len) }
-    ensures refusal { IfErr result (RefusesStream (S.may_fail source.old) (S.rest source.old)
+    ensures error { IfErr result (IsStreamError (S.may_fail source.old) (S.rest source.old)
         (S.rest source.new) len) }
-    ensures lasting { S.may_fail source.new → S.may_fail source.old }
+    ensures stays_valid { S.may_fail source.new → S.may_fail source.old }
     ensures same_loan { S.loan source.new ≡ S.loan source.old }
 {
     let mut buffer = [0; BUFFER_LEN];
@@ -129,14 +155,14 @@ pub fn skip_source<S: Source>(source: &mut S, len: u64) -> Result<(), Error>
     Ok(())
 }
 
-/// Adds the next `len` bytes of a source at the end of the message.
+/// Appends the next `len` bytes of a source to the message that is hashed.
 fn update_from<S: Source>(hasher: &mut Hasher, source: &mut S, len: u64) -> Result<(), Error>
     ensures read { OnOk result ((content : List ℕ)
         × ReadsExactly (S.rest source.old) (S.rest source.new) len content
         × AddsBytes hasher.old hasher.new content) }
-    ensures refusal { IfErr result (RefusesStream (S.may_fail source.old) (S.rest source.old)
+    ensures error { IfErr result (IsStreamError (S.may_fail source.old) (S.rest source.old)
         (S.rest source.new) len) }
-    ensures lasting { S.may_fail source.new → S.may_fail source.old }
+    ensures stays_valid { S.may_fail source.new → S.may_fail source.old }
     ensures same_loan { S.loan source.new ≡ S.loan source.old }
 {
     let mut buffer = [0; BUFFER_LEN];
@@ -149,19 +175,19 @@ fn update_from<S: Source>(hasher: &mut Hasher, source: &mut S, len: u64) -> Resu
     Ok(())
 }
 
-/// Reads some of the next `most` bytes of a source into the front of the buffer, and answers how many:
-/// one at least.
-#[tactic(auto, using(crate::proofs::StreamReads::failed_at_once, crate::proofs::StreamReads::ended_at_once, crate::proofs::StreamReads::front_of_buffer))]
+/// Reads some of the next `most` bytes of a source into the beginning of the buffer, and returns their
+/// number, which is at least 1.
+#[tactic(auto, using(crate::proofs::StreamReads::failed_at_once, crate::proofs::StreamReads::ended_at_once, crate::proofs::StreamReads::prefix_of_buffer))]
 fn read_piece<S: Source>(source: &mut S, buffer: &mut [u8], most: u64) -> Result<usize, Error>
     requires some { 0 < most }
-    requires room { 0 < length buffer.old }
+    requires has_capacity { 0 < length buffer.old }
     ensures count { IfOk result (λ count. (0 < count) × (count ≤ most)) }
     ensures bound { ReadsAtMost result buffer.new }
-    ensures taken { IfOk result (λ count.
+    ensures allocates { IfOk result (λ count.
         Consumes (S.rest source.old) (S.rest source.new) (take count buffer.new)) }
-    ensures refusal { IfErr result (RefusesStream (S.may_fail source.old) (S.rest source.old)
+    ensures error { IfErr result (IsStreamError (S.may_fail source.old) (S.rest source.old)
         (S.rest source.new) most) }
-    ensures lasting { S.may_fail source.new → S.may_fail source.old }
+    ensures stays_valid { S.may_fail source.new → S.may_fail source.old }
     ensures same_loan { S.loan source.new ≡ S.loan source.old }
 {
     let room = most.min(buffer.len() as u64) as usize;

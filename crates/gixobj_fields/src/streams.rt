@@ -1,40 +1,45 @@
-//! Readers and writers that say when they may fail.
+//! Sources and sinks of bytes, whose contracts say when a call may fail.
 //!
-//! std's `Read` and `Write` don't say it, so a contract over them has to leave every failure open.
-//! Over a [`Source`] and a [`Sink`] it says that a slice is always read, and that a `Vec` refuses
-//! bytes only where it has no room for them. [`FromRead`] and [`ToWrite`] make one of any reader or
-//! writer, which may then fail at every call.
+//! std's `Read` and `Write` leave every failure open, and so does a contract over them. A contract over a
+//! [`Source`] or a [`Sink`] says more. A read of a slice always succeeds. A `Vec` fails only if it has no
+//! room for the bytes. [`FromRead`] and [`ToWrite`] adapt any reader or writer, which may then fail at
+//! every call.
 ghost use Rattle.std.specs.Prelude.{◌≡◌, ◌++◌, ℕ, List, Option, Some, OnErr, ⊤};
 ghost use Rattle.std.specs.Io.{ReadsAtMost, WritesAtMost};
 ghost use Rattle.std.specs.Io.KnownBytes.{ReadConsumes, WriteAppends};
 ghost use Rattle.std.specs.List.{flat_map};
-ghost use Rattle.gixobj_fields.specs.Streams.{PutsOrFails, list_view, writer_view};
+ghost use Rattle.gixobj_fields.specs.Streams.{AppendsOrFails, list_view, writer_view};
 
 use std::io;
 use std::io::{ErrorKind, Read, Write};
 
-/// A reader that says when it may fail.
+/// A reader whose contract says whether a call may fail. [`FromRead`] makes one of any reader.
 pub trait Source {
-    /// The bytes that are left, where they are known.
+    /// The remaining bytes, if they are known.
     ghost rest: { Self → Option (List ℕ) };
 
     /// Whether a call may fail.
     ghost may_fail: { Self → Type 0 };
 
-    /// Which loan it holds, where it borrows what it reads: no call puts another in its place.
+    /// The loan of the input, if the source borrows one. Every call leaves it unchanged.
     ghost loan: { Self → ℕ };
 
-    /// Reads some of the bytes that are left into the front of the buffer, and answers how many.
-    /// None only at the end, or where the buffer has no room.
+    /// Reads some of the remaining bytes into the beginning of the buffer, and returns their number.
+    ///
+    /// The number is 0 only at the end of the input or for an empty buffer.
+    ///
+    /// # Errors
+    ///
+    /// The error of the reader, only if `may_fail` holds. Nothing has then been read.
     fn read_some(&mut self, buffer: &mut [u8]) -> io::Result<usize>
         ensures bound { ReadsAtMost result buffer.new }
         ensures bytes { ReadConsumes (rest self.old) (rest self.new) result buffer.new }
         ensures err { OnErr result (may_fail self.old) }
-        ensures lasting { may_fail self.new → may_fail self.old }
+        ensures stays_valid { may_fail self.new → may_fail self.old }
         ensures same_loan { loan self.new ≡ loan self.old };
 }
 
-/// A slice is always read.
+/// A slice is a source that never fails.
 impl Source for &[u8] {
     ghost rest = { λ s. Some s.now };
 
@@ -47,7 +52,7 @@ impl Source for &[u8] {
     }
 }
 
-/// Any reader as a source that may always fail. A read that was interrupted is tried again.
+/// Any reader as a source that may fail at every call. An interrupted read is retried.
 #[derive(Drop)]
 pub struct FromRead<'a, R>(pub &'a mut R);
 
@@ -69,37 +74,41 @@ impl<R: Read> Source for FromRead<'_, R> {
     }
 }
 
-/// A writer that says when it may refuse bytes.
+/// A writer whose contract says when a call may fail. [`ToWrite`] makes one of any writer.
 pub trait Sink {
     ghost use Rattle.gixobj_fields.specs.Streams.{SinkView};
 
-    /// The bytes that it holds, where they are known, and how many more it takes for sure.
+    /// The written bytes, if they are known, and how many more bytes are certain to be accepted.
     ghost view: { Self → SinkView };
 
-    /// Which loan it holds, where it borrows what it writes to: no call puts another in its place.
+    /// The loan of the output, if the sink borrows one. Every call leaves it unchanged.
     ghost loan: { Self → ℕ };
 
-    /// Puts all the bytes at the end. Where it has no room for them it may fail, and then a front of
-    /// them, but not all, has been put.
-    fn put(&mut self, bytes: &[u8]) -> io::Result<()>
-        ensures put { PutsOrFails result (view self.old) (view self.new) bytes.now }
+    /// Appends all the bytes.
+    ///
+    /// # Errors
+    ///
+    /// The error of the writer, only if the sink has no room for the bytes. A proper prefix of them has
+    /// then been written.
+    fn write_bytes(&mut self, bytes: &[u8]) -> io::Result<()>
+        ensures appended { AppendsOrFails result (view self.old) (view self.new) bytes.now }
         ensures same_loan { loan self.new ≡ loan self.old };
 }
 
-/// A `Vec` refuses bytes only where it would have to grow, and then takes none of them.
+/// An append to a `Vec` fails only if more capacity is needed. It then appends nothing.
 impl Sink for Vec<u8> {
     ghost view = { list_view };
 
     ghost loan = { λ _. 0 };
 
     #[inline(always)]
-    fn put(&mut self, bytes: &[u8]) -> io::Result<()> {
+    fn write_bytes(&mut self, bytes: &[u8]) -> io::Result<()> {
         self.extend_from_slice(bytes)?;
         Ok(())
     }
 }
 
-/// Any writer as a sink that may refuse everything. A write that was interrupted is tried again.
+/// Any writer as a sink that may fail at every call. An interrupted write is retried.
 #[derive(Drop)]
 pub struct ToWrite<'a, W>(pub &'a mut W);
 
@@ -109,7 +118,7 @@ impl<W: Write> Sink for ToWrite<'_, W> {
     ghost loan = { λ s. s.0.ghost_name };
 
     #[inline(always)]
-    fn put(&mut self, bytes: &[u8]) -> io::Result<()> {
+    fn write_bytes(&mut self, bytes: &[u8]) -> io::Result<()> {
         let mut rest = bytes;
         while !rest.is_empty() {
             let count = self.write_some(rest)?;
@@ -123,7 +132,7 @@ impl<W: Write> Sink for ToWrite<'_, W> {
 }
 
 impl<W: Write> ToWrite<'_, W> {
-    /// Writes some of the bytes, and answers how many.
+    /// Writes some of the bytes, and returns their number.
     #[inline(always)]
     fn write_some(&mut self, bytes: &[u8]) -> io::Result<usize>
         ensures bound { WritesAtMost result bytes.now }
@@ -141,28 +150,32 @@ impl<W: Write> ToWrite<'_, W> {
     }
 }
 
-/// Puts texts at the end of a sink, one after the other. Where it fails, there was no room for them all,
-/// and a front of them, but not all, has been put. It takes no memory.
+/// Appends byte strings to a sink in order. Only the sink may allocate.
+///
+/// # Errors
+///
+/// The error of the sink, only if it has no room for all the bytes. A proper prefix of them has then been
+/// written.
 #[inline(always)]
-pub fn put_parts<S: Sink>(parts: &[&[u8]], sink: &mut S) -> io::Result<()>
-    ensures put { PutsOrFails result (S.view sink.old) (S.view sink.new)
+pub fn write_parts<S: Sink>(parts: &[&[u8]], sink: &mut S) -> io::Result<()>
+    ensures appended { AppendsOrFails result (S.view sink.old) (S.view sink.new)
         (flat_map (λ part. part.now) parts.now) }
     ensures same_loan { S.loan sink.new ≡ S.loan sink.old }
 {
     for part in parts {
-        sink.put(part)?;
+        sink.write_bytes(part)?;
     }
     Ok(())
 }
 
-/// Puts a text and another behind it. Where it fails, there was no room for both, and a front of them,
-/// but not all, has been put. It takes no memory.
+/// Appends two byte strings. It fails only if the sink has no room for both, and a proper prefix of both
+/// is then written. Only the sink may allocate.
 #[inline(always)]
-#[tactic(auto, using(crate::proofs::Puts::front_first, crate::proofs::Puts::puts_or_fails_more))]
-pub(crate) fn put_both<S: Sink>(first: &[u8], second: &[u8], sink: &mut S) -> io::Result<()>
-    ensures put { PutsOrFails result (S.view sink.old) (S.view sink.new) (first.now ++ second.now) }
+#[tactic(auto, using(crate::proofs::Appends::prefix_first, crate::proofs::Appends::appends_or_fails_more))]
+pub(crate) fn write_both<S: Sink>(first: &[u8], second: &[u8], sink: &mut S) -> io::Result<()>
+    ensures appended { AppendsOrFails result (S.view sink.old) (S.view sink.new) (first.now ++ second.now) }
     ensures same_loan { S.loan sink.new ≡ S.loan sink.old }
 {
-    sink.put(first)?;
-    sink.put(second)
+    sink.write_bytes(first)?;
+    sink.write_bytes(second)
 }

@@ -1,10 +1,10 @@
-//! What objects can do.
+//! The trait of objects that can be encoded and written.
 ghost use Rattle.std.specs.Prelude.{◌≡◌, ◌↔◌, ◌<◌, ◌≤◌, ◌^◌, ◌++◌, List, length, vec_capacity, IfErr, IfSome, IsSome, OnOk};
 ghost use Rattle.std.specs.Io.KnownBytes.{Appends};
 ghost use Rattle.std.specs.Option.{SomeIff};
-ghost use Rattle.gixobj_hash.specs.Encode.{loose_header_text};
-ghost use Rattle.gixobj_fields.specs.Streams.{Puts, list_view, writer_view};
-ghost use Rattle.gixobj_fields.specs.Writing.{IsSize, RefusesNothing, RefusesWriting};
+ghost use Rattle.gixobj_hash.specs.Encode.{encode_loose_header};
+ghost use Rattle.gixobj_fields.specs.Streams.{AppendsAll, list_view, writer_view};
+ghost use Rattle.gixobj_fields.specs.Writing.{IsSize, RejectsNothing, IsWritingError};
 
 use crate::encode;
 use crate::streams::{Sink, ToWrite};
@@ -14,103 +14,144 @@ use smallvec::SmallVec;
 use std::alloc::Global;
 use std::io::Write;
 
-/// An object that can be written.
+/// An object that can be encoded and written.
 ///
-/// An implementation says what is written and what is refused, and writes it to a [`Sink`]; the other
-/// ways to write call that.
+/// An implementation defines the encoding and the rejected values, and writes to a [`Sink`]. The other
+/// calls write through [`WriteTo::write_into`].
 pub trait WriteTo {
     ghost use Rattle.std.specs.Prelude.{ℕ, List, ⊤};
-    ghost use Rattle.gixobj_fields.specs.Writing.{Refused};
+    ghost use Rattle.gixobj_fields.specs.Writing.{RejectedValue};
     ghost use Rattle.gixobj_hash.specs.declared.kind.Kind.{Kind};
 
-    /// What a value has to keep for its writers to be called: always true, but where fields that
-    /// anyone may set are read as ids.
+    /// The precondition of the calls that write. It is true by default. A type with public fields that
+    /// are decoded as ids restricts it.
     ghost can_write: { Self → Type 0 } = { λ _. ⊤ };
 
     /// The kind of the object.
     ghost object_kind: { Self → Kind };
 
-    /// The bytes of the object, refused values too.
-    ghost text: { Self → List ℕ };
+    /// The encoding of the object, with rejected values in it.
+    ghost encoding: { Self → List ℕ };
 
-    /// Whether this value is refused after exactly these parts of the text.
-    ghost refuses: { Self → Refused → List ℕ → Type 0 };
+    /// Whether this value is rejected, and these are the parts of the encoding before it.
+    ghost rejects: { Self → RejectedValue → List ℕ → Type 0 };
 
-    /// Puts the object at the end of a sink.
+    /// Appends the encoding of the object to a sink.
     ///
-    /// `Writer` where the sink refused bytes. Any other error says which value is refused, and then
-    /// exactly the parts before it have been put; `OutOfMemory` where it couldn't be copied.
+    /// # Errors
+    ///
+    /// - [`encode::Error::Writer`] if the sink failed. A proper prefix of the encoding has then been
+    ///   written.
+    /// - [`encode::Error::OutOfMemory`] if the allocation of a copy of a rejected value failed.
+    /// - Any other [`encode::Error`] if the object has the value that the error names.
+    ///
+    /// At the last two, exactly the parts before the rejected value have been written.
     fn write_into<S: Sink>(&self, alloc: Global, sink: &mut S) -> Result<(), encode::Error>
         requires { can_write self.now }
-        ensures written { OnOk result (Puts (S.view sink.old) (S.view sink.new) (text self.now)) }
-        ensures nothing_refused { OnOk result (RefusesNothing (refuses self.now)) }
-        ensures refusal { IfErr result (RefusesWriting (refuses self.now) (S.view sink.old)
-            (S.view sink.new) (text self.now)) }
+        ensures written { OnOk result (AppendsAll (S.view sink.old) (S.view sink.new) (encoding self.now)) }
+        ensures no_error { OnOk result (RejectsNothing (rejects self.now)) }
+        ensures error { IfErr result (IsWritingError (rejects self.now) (S.view sink.old)
+            (S.view sink.new) (encoding self.now)) }
         ensures same_loan { S.loan sink.new ≡ S.loan sink.old };
 
-    /// The kind of the object.
+    /// Returns the kind of the object.
     fn kind(&self) -> Kind
         ensures { result ≡ object_kind self.now };
 
-    /// How many bytes [`WriteTo::write_to`] writes, or none past 64 bits. It takes no memory.
+    /// Returns the length in bytes of the output of [`WriteTo::write_to`], or `None` if it exceeds 64
+    /// bits.
     ///
-    /// A value that can't be written has a size too, in which what is refused counts as it stands.
+    /// An object with a rejected value has a size too, which counts that value unchanged. Allocates
+    /// nothing.
     fn size(&self) -> Option<u64>
         requires { can_write self.now }
-        ensures { IsSize result (text self.now) };
+        ensures { IsSize result (encoding self.now) };
 
-    /// Writes the object.
+    /// Writes the encoding of the object to a writer.
     ///
-    /// `Writer` where the writer failed. Any other error says which value is refused, and then
-    /// exactly the parts before it have been written; `OutOfMemory` where it couldn't be copied.
+    /// # Errors
+    ///
+    /// - [`encode::Error::Writer`] if the writer failed. A proper prefix of the encoding has then been
+    ///   written.
+    /// - [`encode::Error::OutOfMemory`] if the allocation of a copy of a rejected value failed.
+    /// - Any other [`encode::Error`] if the object has the value that the error names.
+    ///
+    /// At the last two, exactly the parts before the rejected value have been written.
+    ///
+    /// # Examples
+    ///
+    /// ```rust
+    /// let mut content = Vec::new(alloc);
+    /// tree.write_to(alloc, &mut content)?;
+    /// Ok(content)
+    /// ```
     final fn write_to<W: Write>(&self, alloc: Global, out: &mut W) -> Result<(), encode::Error>
         requires { can_write self.now }
         ensures written { OnOk result (Appends (W.contents out.old) (W.contents out.new)
-            (text self.now)) }
-        ensures nothing_refused { OnOk result (RefusesNothing (refuses self.now)) }
-        ensures refusal { IfErr result (RefusesWriting (refuses self.now)
-            (writer_view (W.contents out.old)) (writer_view (W.contents out.new)) (text self.now)) }
+            (encoding self.now)) }
+        ensures no_error { OnOk result (RejectsNothing (rejects self.now)) }
+        ensures error { IfErr result (IsWritingError (rejects self.now)
+            (writer_view (W.contents out.old)) (writer_view (W.contents out.new)) (encoding self.now)) }
     {
         self.write_into(alloc, &mut ToWrite(out))
     }
 
-    /// Writes the object behind the bytes of a list, which grows where it has no room.
+    /// Appends the encoding of the object to a list. A list without capacity first reserves the entire
+    /// size.
     ///
-    /// As [`WriteTo::write_to`], and `Writer` only where the list had no room for the whole text.
-    #[tactic(auto, using(crate::proofs::Refusals::refuses_with_more_room))]
+    /// # Errors
+    ///
+    /// - [`encode::Error::Writer`] if the list has too little capacity and an allocation failed. A proper
+    ///   prefix of the encoding has then been appended.
+    /// - [`encode::Error::OutOfMemory`] if the allocation of a copy of a rejected value failed.
+    /// - Any other [`encode::Error`] if the object has the value that the error names.
+    ///
+    /// At the last two, exactly the parts before the rejected value have been appended.
+    ///
+    /// # Examples
+    ///
+    /// ```rust
+    /// pub fn written(alloc: Global, commit: &Commit) -> Result<(ObjectId, Vec<u8>), encode::Error> {
+    ///     let mut bytes = Vec::new(alloc);
+    ///     commit.write_to_vec(alloc, &mut bytes)?;
+    ///     Ok((compute_hash(HashKind::Sha1, Kind::Commit, &bytes), bytes))
+    /// }
+    /// ```
+    #[tactic(auto, using(crate::proofs::Errors::rejects_with_more_room))]
     final fn write_to_vec(&self, alloc: Global, out: &mut Vec<u8>) -> Result<(), encode::Error>
         requires { can_write self.now }
-        ensures written { OnOk result (out.new.items ≡ out.old.items ++ text self.now) }
-        ensures nothing_refused { OnOk result (RefusesNothing (refuses self.now)) }
-        ensures refusal { IfErr result (RefusesWriting (refuses self.now) (list_view out.old)
-            (list_view out.new) (text self.now)) }
+        ensures written { OnOk result (out.new.items ≡ out.old.items ++ encoding self.now) }
+        ensures no_error { OnOk result (RejectsNothing (rejects self.now)) }
+        ensures error { IfErr result (IsWritingError (rejects self.now) (list_view out.old)
+            (list_view out.new) (encoding self.now)) }
     {
         make_room(self, out);
         self.write_into(alloc, out)
     }
 
-    /// The loose header of the object, or none where its size is none. It takes no memory: `alloc` is
-    /// only kept with the list.
+    /// Returns the loose header of the object, or `None` if [`WriteTo::size`] is `None`.
+    ///
+    /// Allocates nothing: the list only keeps `alloc`.
     final fn loose_header(&self, alloc: Global) -> Option<SmallVec<u8, 28>>
         requires { can_write self.now }
-        ensures found { IsSome result ↔ (length (text self.now) < 2 ^ 64) }
+        ensures found { IsSome result ↔ (length (encoding self.now) < 2 ^ 64) }
         ensures inline { IfSome result (λ it. it.capacity ≡ 28) }
         ensures header { IfSome result (λ it. it.items
-            ≡ loose_header_text (object_kind self.now) (length (text self.now))) }
+            ≡ encode_loose_header (object_kind self.now) (length (encoding self.now))) }
     {
         Some(loose_header(alloc, self.kind(), self.size()?))
     }
 }
 
-/// A reference writes what it refers to.
+/// A reference writes its referent.
 impl<T: WriteTo> WriteTo for &T {
     ghost can_write = { λ it. T.can_write it.now };
 
     ghost object_kind = { λ it. T.object_kind it.now };
 
-    ghost text = { λ it. T.text it.now };
+    ghost encoding = { λ it. T.encoding it.now };
 
-    ghost refuses = { λ it. T.refuses it.now };
+    ghost rejects = { λ it. T.rejects it.now };
 
     fn write_into<S: Sink>(&self, alloc: Global, sink: &mut S) -> Result<(), encode::Error> {
         <T as WriteTo>::write_into(self, alloc, sink)
@@ -125,8 +166,8 @@ impl<T: WriteTo> WriteTo for &T {
     }
 }
 
-/// Asks for the memory of the whole text at once, for a list that has none yet. Where it is refused, the
-/// list grows as it is written to.
+/// Reserves the size of the encoding in a list without capacity. If this fails, the list grows as it is
+/// written to.
 fn make_room<T: WriteTo>(object: &T, list: &mut Vec<u8>)
     requires { T.can_write object.now }
     ensures items { list.new.items ≡ list.old.items }

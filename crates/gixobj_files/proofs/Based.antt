@@ -1,5 +1,5 @@
--- The base of each open directory is what the id of its entry stands for, in every table that has agreed with the store, and that of a
--- null id is empty.
+-- The base of each open directory is what its entry's id names, in every table that has agreed with the store. The base
+-- of a null id is empty.
 use Rattle.std.proofs.Common.{◌≡◌, inl, inr, true, false, List, [], refl, sym, subst, ◌∙◌, Some}
 use Rattle.gixobj_tree.specs.Entries.{EntryView}
 use Rattle.gixobj_hash.specs.declared.hash.object_id.ObjectId.{ObjectId}
@@ -7,42 +7,43 @@ use Rattle.gixobj_files.specs.Edits.{Finds}
 use Rattle.gixobj_files.specs.Files.{Table, Trees, is_null}
 use Rattle.gixobj_files.specs.Opening.{Dirs}
 use Rattle.gixobj_files.specs.Tables.{AgreesWithStore}
-use Rattle.gixobj_files.proofs.OpenedFiles.{Stands}
+use Rattle.gixobj_files.proofs.OpenedFiles.{IsAt}
 use Rattle.gixobj_files.proofs.Everywhere.{Everywhere, Lasts, OfEntry}
 use Rattle.gixobj_files.specs.Bases.{AreNullBased, HasBases}
-use Rattle.gixobj_files.proofs.OpeningFiles.{stands}
+use Rattle.gixobj_files.proofs.OpeningFiles.{agrees_at}
 
--- the base is what the id of the entry stands for
+-- the base, if there is one, is what the id of the entry names
 abbrev pub Based : Table → OfEntry
-Based T e here base = (list : List EntryView) → base ≡ Some list → Stands T e.id list
+Based T e here base = (list : List EntryView) → base ≡ Some list → IsAt T e.id list
 
 pub some_list : (x y : List EntryView) → Some x ≡ Some y → x ≡ y
 some_list x y e = cc e
 
 pub based_lasts : (T : Table) (trees : Trees) (null : ObjectId) → AgreesWithStore T trees → is_null null ≡ true → Lasts (Based T) trees null
 based_lasts T trees null agrees nothing = record {
-  shut = λ e base p list is. absurd (cc is);
+  not_open = λ e base p list is. absurd (cc is);
   still = λ e was now base p. p;
   made = λ name now list is. inl (nothing, sym (some_list [] list is));
-  opened = λ e base entries asked p tree finds. ((λ list is. subst (Stands T e.id) (some_list entries list is) (stands T trees agrees e.id entries asked finds)), λ x h list is. absurd (cc is));
+  opened = λ e base entries requested p tree finds.
+      ((λ list is. subst (IsAt T e.id) (some_list entries list is) (agrees_at T trees agrees e.id entries requested finds)), λ x h list is. absurd (cc is));
 }
 
--- the base of a directory with a null id is empty
+-- the base of a directory with the null id is empty
 abbrev pub NullBased : OfEntry
 NullBased e here base = (list : List EntryView) → base ≡ Some list → is_null e.id ≡ true → list ≡ []
 
-found_empty : (trees : Trees) (id : ObjectId) (entries : List EntryView) (asked : List ObjectId) → Finds trees id entries asked
+found_empty : (trees : Trees) (id : ObjectId) (entries : List EntryView) (requested : List ObjectId) → Finds trees id entries requested
     → is_null id ≡ true → entries ≡ []
-found_empty trees id entries asked (formed, inl (is, empty, none)) null = empty
-found_empty trees id entries asked (formed, inr (filled, is, asks)) null = absurd (filled (inl null))
+found_empty trees id entries requested (formed, inl (is, empty, none)) null = empty
+found_empty trees id entries requested (formed, inr (filled, is, requests)) null = absurd (filled (inl null))
 
 pub null_based_lasts : (trees : Trees) (null : ObjectId) → Lasts NullBased trees null
 null_based_lasts trees null = record {
-  shut = λ e base p list is. absurd (cc is);
+  not_open = λ e base p list is. absurd (cc is);
   still = λ e was now base p. p;
   made = λ name now list is nothing. sym (some_list [] list is);
-  opened = λ e base entries asked p tree finds. (
-    (λ list is nothing. sym (some_list entries list is) ∙ found_empty trees e.id entries asked finds nothing),
+  opened = λ e base entries requested p tree finds. (
+    (λ list is nothing. sym (some_list entries list is) ∙ found_empty trees e.id entries requested finds nothing),
     λ x h list is. absurd (cc is),
   );
 }
@@ -53,10 +54,10 @@ null_based_of dirs bases nulls path e h list is null = nulls path e list h is nu
 pub are_null_based : (dirs bases : Dirs) → Everywhere NullBased dirs bases → AreNullBased dirs bases
 are_null_based dirs bases all path e list h is null = all path e h list is null
 
--- the premise of a write, where a null id has an empty base
+-- the premise of a write holds at every entry, if the base of each null id is empty
 pub based_of : (T : Table) (dirs bases : Dirs) → AreNullBased dirs bases → HasBases T dirs bases → Everywhere (Based T) dirs bases
 based_of T dirs bases nulls has path e h list is =
-    elim (is_null e.id) as (λ b. is_null e.id ≡ b → Stands T e.id list) [
+    elim (is_null e.id) as (λ b. is_null e.id ≡ b → IsAt T e.id list) [
       | true ↦ λ null. inl (null, nulls path e list h is null)
       | false ↦ λ filled. inr (has path e list h is filled)
     ] refl
@@ -64,6 +65,6 @@ based_of T dirs bases nulls has path e h list is =
 pub has_bases : (T : Table) (dirs bases : Dirs) → Everywhere (Based T) dirs bases → HasBases T dirs bases
 has_bases T dirs bases all path e list h is filled = known (all path e h list is)
   where
-    known : Stands T e.id list → T.tree_at e.id ≡ Some list
+    known : IsAt T e.id list → T.tree_at e.id ≡ Some list
     known (inl none) = absurd (let bad : true ≡ false = sym none.0 ∙ filled in cc bad)
     known (inr is_there) = is_there

@@ -1,4 +1,4 @@
--- The open directories at and below a path, and what the files are where others take their place.
+-- The files of the open directories at and below a path, and of others that replace them: for cursors and `Everywhere`.
 use Rattle.std.proofs.Common.{◌≡◌, ◌≢◌, inl, inr, ℕ, ◌+◌, zero, suc, List, [], ◌∷◌, ◌++◌, append_assoc, append-nil, length, refl, sym, ap, subst, ◌∙◌, arith, Option, Some, None}
 use Rattle.std.specs.Prelude.{◌↔◌, IsTrue}
 use Rattle.gixobj_tree.specs.Entries.{EntryView, IsWellFormed}
@@ -8,11 +8,11 @@ use Rattle.gixobj_files.specs.Files.{Begins, Path, SameFiles, Table}
 use Rattle.gixobj_files.specs.Opening.{Dirs, HasAt, IsOpened, OpenFiles, in_dir, in_path}
 use Rattle.gixobj_files.proofs.EditedFiles.{same_refl}
 use Rattle.gixobj_files.proofs.OpenedFiles.{from_open, into_open, same_names}
-use Rattle.gixobj_files.proofs.OpeningFiles.{beside_is, inside_is, same_level}
+use Rattle.gixobj_files.proofs.OpeningFiles.{shares_base_is, inside_is, same_level}
 use Rattle.gixobj_files.proofs.StillOpenedOpenings.{opened_in_dir, opened_only, opened_with_dir}
 use Rattle.gixobj_files.proofs.UpsertedFiles.{begins_more}
 
--- an open directory has a list, and one that has an entry is open
+-- an open directory has a list, and a directory with an entry is open
 pub list_at : (here : Option (List EntryView)) → here ≢ None → (es : List EntryView) × (here ≡ Some es)
 list_at None some = absurd (some refl)
 list_at (Some es) some = (es, refl)
@@ -21,15 +21,16 @@ is_open : (here : Option (List EntryView)) (e : EntryView) → HasAt here e → 
 is_open None e has = absurd has
 is_open (Some es) e has = λ none. cc none
 
--- each beginning of an open path is open
-pub open_before : (dirs : Dirs) → IsOpened dirs → (front back : Path) → dirs (front ++ back) ≢ None → dirs front ≢ None
-open_before dirs all front [] there = subst (λ p. dirs p ≢ None) (append-nil front) there
-open_before dirs all front (name ∷ back) there =
-    let next = list_at (dirs (front ++ name ∷ [])) (open_before dirs all (front ++ name ∷ []) back (subst (λ p. dirs p ≢ None) (sym (append_assoc front (name ∷ []) back)) there)) in
-    let e = all.above front name next.0 next.1 in
-    is_open (dirs front) e.0 e.1
+-- each parent directory of an open path is open
+pub open_before : (dirs : Dirs) → IsOpened dirs → (head back : Path) → dirs (head ++ back) ≢ None → dirs head ≢ None
+open_before dirs all head [] there = subst (λ p. dirs p ≢ None) (append-nil head) there
+open_before dirs all head (name ∷ back) there =
+    let next = list_at (dirs (head ++ name ∷ []))
+    (open_before dirs all (head ++ name ∷ []) back (subst (λ p. dirs p ≢ None) (sym (append_assoc head (name ∷ []) back)) there)) in
+    let e = all.above head name next.0 next.1 in
+    is_open (dirs head) e.0 e.1
 
--- the directories at and below an open one are what open directories are
+-- the directories at and below an open one satisfy the invariant of open directories
 pub opened_in : (prefix : Path) (dirs : Dirs) → IsOpened dirs → dirs prefix ≢ None → IsOpened (in_path prefix dirs)
 opened_in prefix dirs all there = record {
   root = subst (λ p. dirs p ≢ None) (sym (append-nil prefix)) there;
@@ -37,16 +38,17 @@ opened_in prefix dirs all there = record {
   above = λ at name es is. all.above (prefix ++ at) name es (subst (λ p. dirs p ≡ Some es) (sym (append_assoc prefix at (name ∷ []))) is);
 }
 
--- the first directory on an open path has a list, and a tree's entry in the root
+-- the first directory on an open path has a list, and the root has an entry of tree mode for it
 abbrev IsOnTheWay : List ℕ → Dirs → Type 0
-IsOnTheWay name dirs = (es : List EntryView) × (dirs (name ∷ []) ≡ Some es) × ((e : EntryView) × HasAt (dirs []) e × (e.name ≡ name) × IsTrue (is_tree_mode e.mode))
+IsOnTheWay name dirs = (es : List EntryView) × (dirs (name ∷ []) ≡ Some es)
+    × ((e : EntryView) × HasAt (dirs []) e × (e.name ≡ name) × IsTrue (is_tree_mode e.mode))
 
 on_the_way : (name : List ℕ) (rest : Path) (dirs : Dirs) → IsOpened dirs → dirs (name ∷ rest) ≢ None → IsOnTheWay name dirs
 on_the_way name rest dirs all there =
     let next = list_at (dirs (name ∷ [])) (open_before dirs all (name ∷ []) rest there) in
     (next.0, next.1, all.above [] name next.0 next.1)
 
--- a path is as much deeper as it has names
+-- a path adds its number of names to the depth
 no_deeper : (n : ℕ) (path : Path) → path ≡ [] → n ≡ n + length path
 no_deeper n path is = rw is (omega arith)
 
@@ -54,7 +56,9 @@ one_deeper : (n : ℕ) (name : List ℕ) (rest : Path) → suc (n + length rest)
 one_deeper n name rest = omega arith
 
 -- the files of the directories at and below an open one are the files below its path
-pub files_below : (T : Table) (n : ℕ) (prefix : Path) (dirs : Dirs) → IsOpened dirs → dirs prefix ≢ None → SameFiles (OpenFiles T n (in_path prefix dirs)) (λ path. OpenFiles T (n + length prefix) dirs (prefix ++ path))
+pub files_below : (T : Table) (n : ℕ) (prefix : Path) (dirs : Dirs) → IsOpened dirs → dirs prefix ≢ None
+    → SameFiles (OpenFiles T n (in_path prefix dirs))
+    (λ path. OpenFiles T (n + length prefix) dirs (prefix ++ path))
 files_below T n [] dirs all there path mode id =
     subst (λ k. OpenFiles T n dirs path mode id ↔ OpenFiles T k dirs path mode id) (no_deeper n [] refl) (same_refl (OpenFiles T n dirs) path mode id)
 files_below T n (name ∷ rest) dirs all there path mode id =
@@ -66,13 +70,14 @@ files_below T n (name ∷ rest) dirs all there path mode id =
       λ h. step.1 (into_open T k dirs name down.0 down.1 (rest ++ path) mode id h),
     )
 
--- the root is open, whatever takes the place of a directory
+-- the root is open, whatever replaces a directory
 root_stays : (prefix : Path) (inner dirs : Dirs) → dirs [] ≢ None → inner [] ≢ None → with_path prefix inner dirs [] ≢ None
 root_stays [] inner dirs root full = full
 root_stays (name ∷ rest) inner dirs root full = root
 
--- directories with the files of those whose place they take change no file
-pub replaced_files : (T : Table) (prefix : Path) (inner dirs : Dirs) → IsOpened dirs → dirs prefix ≢ None → inner [] ≢ None → ((k : ℕ) → SameFiles (OpenFiles T k inner) (OpenFiles T k (in_path prefix dirs)))
+-- directories with the files of those that they replace change no file
+pub replaced_files : (T : Table) (prefix : Path) (inner dirs : Dirs) → IsOpened dirs → dirs prefix ≢ None → inner [] ≢ None
+    → ((k : ℕ) → SameFiles (OpenFiles T k inner) (OpenFiles T k (in_path prefix dirs)))
     → (n : ℕ) → SameFiles (OpenFiles T n (with_path prefix inner dirs)) (OpenFiles T n dirs)
 replaced_files T [] inner dirs all there full same n = same n
 replaced_files T (name ∷ rest) inner dirs all there full same zero = λ path mode id. ((λ h. absurd h), λ h. absurd h)
@@ -86,32 +91,40 @@ replaced_files T (name ∷ rest) inner dirs all there full same (suc k) =
     let is_new : new (name ∷ []) ≡ Some root.0 = ap (λ (d : Dirs). d []) inside ∙ root.1 in
     same_level T k name below dirs (λ path mode id.
     let step = replaced_files T rest inner (in_dir name dirs) lower there full same k path mode id in (
-      (λ h. from_open T k dirs name down.0 (down.2.0) (down.2.1) (down.2.2) down.1 path mode id (step.0 (subst (λ (d : Dirs). OpenFiles T k d path mode id) inside (into_open T k new name root.0 is_new path mode id h)))),
-      λ h. from_open T k new name root.0 (down.2.0) (down.2.1) (down.2.2) is_new path mode id (subst (λ (d : Dirs). OpenFiles T k d path mode id) (sym inside) (step.1 (into_open T k dirs name down.0 down.1 path mode id h))),
+      (λ h. from_open T k dirs name down.0 (down.2.0) (down.2.1) (down.2.2) down.1 path mode id
+          (step.0 (subst (λ (d : Dirs). OpenFiles T k d path mode id) inside (into_open T k new name root.0 is_new path mode id h)))),
+      λ h. from_open T k new name root.0 (down.2.0) (down.2.1) (down.2.2) is_new path mode id
+          (subst (λ (d : Dirs). OpenFiles T k d path mode id) (sym inside) (step.1 (into_open T k dirs name down.0 down.1 path mode id h))),
     ))
 
--- open directories in place of those at a path
-pub opened_with_path : (prefix : Path) (inner dirs : Dirs) → IsOpened dirs → dirs prefix ≢ None → IsOpened inner → IsOpened (with_path prefix inner dirs)
+-- open directories in place of those at a path satisfy the invariant of open directories
+pub opened_with_path : (prefix : Path) (inner dirs : Dirs) → IsOpened dirs → dirs prefix ≢ None → IsOpened inner
+    → IsOpened (with_path prefix inner dirs)
 opened_with_path [] inner dirs all there within = within
 opened_with_path (name ∷ rest) inner dirs all there within =
     let down = on_the_way name rest dirs all there in
-    opened_with_dir name (with_path rest inner (in_dir name dirs)) dirs (opened_with_path rest inner (in_dir name dirs) (opened_in_dir name dirs down.0 down.1 all) there within) all down.2
+    opened_with_dir name (with_path rest inner (in_dir name dirs)) dirs
+    (opened_with_path rest inner (in_dir name dirs) (opened_in_dir name dirs down.0 down.1 all) there within) all down.2
 
-pub opened_replaced : (prefix : Path) (own : List EntryView) (dirs : Dirs) → IsOpened dirs → dirs prefix ≢ None → IsWellFormed own → IsOpened (with_path prefix (only own) dirs)
+pub opened_replaced : (prefix : Path) (own : List EntryView) (dirs : Dirs) → IsOpened dirs → dirs prefix ≢ None → IsWellFormed own
+    → IsOpened (with_path prefix (only own) dirs)
 opened_replaced prefix own dirs all there formed = opened_with_path prefix (only own) dirs all there (opened_only own formed)
 
--- at and below the path are those that took the place, and elsewhere the old ones
+-- at and below the path the directories are the replacement, and elsewhere they are unchanged
 pub at_prefix : (prefix : Path) (inner dirs : Dirs) (at : Path) → with_path prefix inner dirs (prefix ++ at) ≡ inner at
 at_prefix [] inner dirs at = refl
-at_prefix (name ∷ rest) inner dirs at = ap (λ (d : Dirs). d (rest ++ at)) (inside_is name (with_path rest inner (in_dir name dirs)) dirs) ∙ at_prefix rest inner (in_dir name dirs) at
+at_prefix (name ∷ rest) inner dirs at = ap (λ (d : Dirs). d (rest ++ at)) (inside_is name (with_path rest inner (in_dir name dirs)) dirs)
+    ∙ at_prefix rest inner
+    (in_dir name dirs) at
 
-pub beside_prefix : (prefix : Path) (inner dirs : Dirs) (at : Path) → (Begins prefix at → ⊥) → with_path prefix inner dirs at ≡ dirs at
-beside_prefix [] inner dirs at beside = absurd (beside (at, refl))
-beside_prefix (name ∷ rest) inner dirs [] beside = refl
-beside_prefix (name ∷ rest) inner dirs (first ∷ at) beside =
+pub next_to_prefix : (prefix : Path) (inner dirs : Dirs) (at : Path) → (Begins prefix at → ⊥) → with_path prefix inner dirs at ≡ dirs at
+next_to_prefix [] inner dirs at next_to = absurd (next_to (at, refl))
+next_to_prefix (name ∷ rest) inner dirs [] next_to = refl
+next_to_prefix (name ∷ rest) inner dirs (first ∷ at) next_to =
     let below : Dirs = with_path rest inner (in_dir name dirs) in
     elim (same_names name first) [
       | inl same ↦ subst (λ f. with_path (name ∷ rest) inner dirs (f ∷ at) ≡ dirs (f ∷ at)) same
-          (ap (λ (d : Dirs). d at) (inside_is name below dirs) ∙ beside_prefix rest inner (in_dir name dirs) at (λ b. beside (subst (λ f. Begins (name ∷ rest) (f ∷ at)) same (begins_more name rest at b))))
-      | inr differ ↦ ap (λ (d : Dirs). d at) (beside_is name first below dirs differ)
+          (ap (λ (d : Dirs). d at) (inside_is name below dirs) ∙ next_to_prefix rest inner (in_dir name dirs) at
+          (λ b. next_to (subst (λ f. Begins (name ∷ rest) (f ∷ at)) same (begins_more name rest at b))))
+      | inr differ ↦ ap (λ (d : Dirs). d at) (shares_base_is name first below dirs differ)
     ]

@@ -1,4 +1,4 @@
--- The bases after each call, by what the call's clauses say at each path: the premise of a write, and that a null id has an empty base.
+-- The bases after each call agree with tables, and those of null ids are empty: for the editor's proofs of each call.
 use Rattle.std.proofs.Common.{◌≡◌, ◌≢◌, ◌∙◌, ℕ, true, List, [], ◌∷◌, ◌++◌, refl, sym, subst, Some, None}
 use Rattle.std.specs.FinMap as map
 use Rattle.gixobj_tree.specs.Entries.{EntryView}
@@ -6,26 +6,28 @@ use Rattle.gixobj_hash.specs.Hash.{null_id}
 use Rattle.gixobj_hash.specs.declared.hash.kind.Kind.{Kind}
 use Rattle.gixobj_hash.specs.declared.hash.kind.Kind.TheVariants as hash
 use Rattle.gixobj_hash.specs.declared.hash.object_id.ObjectId.{ObjectId}
-use Rattle.gixobj_files.specs.Edits.{IsNoTree, Opens, assured_dirs, only, removed_dirs, upserted_dirs, with_path}
+use Rattle.gixobj_files.specs.Edits.{IsNoTree, Opens, ensured_dirs, only, removed_dirs, upserted_dirs, with_path}
 use Rattle.gixobj_files.specs.Files.{Has, Path, Table, Trees, is_null}
 use Rattle.gixobj_files.specs.Opening.{Dirs, IsOpened}
 use Rattle.gixobj_files.specs.State.{root_alone}
 use Rattle.gixobj_files.specs.Tables.{AgreesWithStore}
 use Rattle.gixobj_files.proofs.Based.{Based, NullBased, are_null_based, based_lasts, based_of, has_bases, null_based_lasts, null_based_of}
-use Rattle.gixobj_files.proofs.EditedFiles.{root_shut}
+use Rattle.gixobj_files.proofs.EditedFiles.{root_unopened}
 use Rattle.gixobj_files.proofs.Everywhere.{Everywhere, Lasts, OfEntry, everywhere_opened}
-use Rattle.gixobj_files.proofs.Lasting.{lasts_assured, lasts_removed, lasts_upserted, lasts_written}
+use Rattle.gixobj_files.proofs.Lasting.{lasts_ensured, lasts_removed, lasts_upserted, lasts_written}
 use Rattle.gixobj_files.specs.Bases.{AreNullBased, AreOpenedOn, HasBases, edited_bases, opened_bases}
 
-pub null_stands_for_nothing : (kind : Kind) → is_null (null_id kind) ≡ true
-null_stands_for_nothing hash.Sha1 = refl
-null_stands_for_nothing hash.Sha256 = refl
+pub null_means_nothing : (kind : Kind) → is_null (null_id kind) ≡ true
+null_means_nothing hash.Sha1 = refl
+null_means_nothing hash.Sha256 = refl
 
--- the same at each path is the same
-carried : (P : OfEntry) (dirs bases new left : Dirs) → ((at : Path) → new at ≡ dirs at) → ((at : Path) → left at ≡ bases at) → Everywhere P dirs bases → Everywhere P new left
-carried P dirs bases new left same same_bases all = subst (λ (b : Dirs). Everywhere P new b) (sym (λ i at. same_bases at i)) (subst (λ (d : Dirs). Everywhere P d bases) (sym (λ i at. same at i)) all)
+-- a property of all entries depends on the directories and bases at each path alone
+carried : (P : OfEntry) (dirs bases new remaining : Dirs) → ((at : Path) → new at ≡ dirs at) → ((at : Path) → remaining at ≡ bases at) → Everywhere P dirs bases
+    → Everywhere P new remaining
+carried P dirs bases new remaining same same_bases all = subst (λ (b : Dirs). Everywhere P new b) (sym (λ i at. same_bases at i))
+    (subst (λ (d : Dirs). Everywhere P d bases) (sym (λ i at. same at i)) all)
 
--- where the root alone is open there is nothing to ask
+-- if the root alone is open, no base is below it
 no_base_below : (bases : Dirs) → ((name : List ℕ) (path : Path) → bases (name ∷ path) ≡ None) → (base : List EntryView) (path : Path) (name : List ℕ)
     → bases (path ++ name ∷ []) ≡ Some base → ⊥
 no_base_below bases none base [] name is = let bad : None ≡ Some base = sym (none name []) ∙ is in cc bad
@@ -38,124 +40,144 @@ pub none_null_based : (dirs bases : Dirs) → ((name : List ℕ) (path : Path) �
 none_null_based dirs bases none path e base has is null = absurd (no_base_below bases none base path e.name is)
 
 pub root_based : (T : Table) (dirs : Dirs) → HasBases T dirs (λ path. map.get (root_alone []) path)
-root_based T dirs = none_based T dirs (λ path. map.get (root_alone []) path) (λ name path. root_shut [] name path)
+root_based T dirs = none_based T dirs (λ path. map.get (root_alone []) path) (λ name path. root_unopened [] name path)
 
--- what lasts holds after each call
-module _ (P : OfEntry) (trees : Trees) (kind : Kind) (lasts : Lasts P trees (null_id kind)) (old bases new left : Dirs) (is_opened : IsOpened old) (all : Everywhere P old bases) where
-  -- after directories were opened, and then edited
+-- a property that lasts holds after each call
+module _ (P : OfEntry) (trees : Trees) (kind : Kind) (lasts : Lasts P trees (null_id kind)) (old bases new remaining : Dirs) (is_opened : IsOpened old)
+    (all : Everywhere P old bases) where
+  -- the bases after directories were opened, and then edited
   abbrev Left : Dirs → Type 0
-  Left opened = (at : Path) → left at ≡ edited_bases opened new (opened_bases old opened bases) at
+  Left opened = (at : Path) → remaining at ≡ edited_bases opened new (opened_bases old opened bases) at
 
   edited_so : (opened made : Dirs) → ((at : Path) → new at ≡ made at) → Left opened
-      → Everywhere P made (edited_bases opened made (opened_bases old opened bases)) → Everywhere P new left
+      → Everywhere P made (edited_bases opened made (opened_bases old opened bases)) → Everywhere P new remaining
   edited_so opened made dirs_are bases_are holds =
-      let left_is : (at : Path) → left at ≡ edited_bases opened made (opened_bases old opened bases) at =
-      subst (λ (d : Dirs). (at : Path) → left at ≡ edited_bases opened d (opened_bases old opened bases) at) (λ i at. dirs_are at i) bases_are in
-      carried P made (edited_bases opened made (opened_bases old opened bases)) new left dirs_are left_is holds
+      let remaining_is : (at : Path) → remaining at ≡ edited_bases opened made (opened_bases old opened bases) at =
+      subst (λ (d : Dirs). (at : Path) → remaining at ≡ edited_bases opened d (opened_bases old opened bases) at) (λ i at. dirs_are at i) bases_are in
+      carried P made (edited_bases opened made (opened_bases old opened bases)) new remaining dirs_are remaining_is holds
 
-  after_upsert : (front : Path) (last : List ℕ) (mode : ℕ) (id : ObjectId) (opened : Dirs) (asked : List ObjectId) → Opens IsNoTree trees front old opened asked
+  after_upsert : (head : Path) (last : List ℕ) (mode : ℕ) (id : ObjectId) (opened : Dirs) (requested : List ObjectId)
+      → Opens IsNoTree trees head old opened requested
       → ((name : List ℕ) → P (record { mode = mode; name = name; id = id }) None None)
-      → ((at : Path) → new at ≡ upserted_dirs (front ++ last ∷ []) mode id (null_id kind) opened at) → Left opened → Everywhere P new left
-  after_upsert front last mode id opened asked opens put dirs_are bases_are =
-      edited_so opened (upserted_dirs (front ++ last ∷ []) mode id (null_id kind) opened) dirs_are bases_are
-      (lasts_upserted P trees (null_id kind) lasts old bases is_opened all front last mode id opened asked opens put)
+      → ((at : Path) → new at ≡ upserted_dirs (head ++ last ∷ []) mode id (null_id kind) opened at) → Left opened → Everywhere P new remaining
+  after_upsert head last mode id opened requested opens insert_entry dirs_are bases_are =
+      edited_so opened (upserted_dirs (head ++ last ∷ []) mode id (null_id kind) opened) dirs_are bases_are
+      (lasts_upserted P trees (null_id kind) lasts old bases is_opened all head last mode id opened requested opens insert_entry)
 
-  after_assuring : (path : Path) (opened : Dirs) (asked : List ObjectId) → Opens IsNoTree trees path old opened asked
-      → ((at : Path) → new at ≡ assured_dirs path (null_id kind) opened at) → Left opened → Everywhere P new left
-  after_assuring path opened asked opens dirs_are bases_are =
-      edited_so opened (assured_dirs path (null_id kind) opened) dirs_are bases_are
-      (lasts_assured P trees (null_id kind) lasts old bases is_opened all path opened asked opens)
+  after_assuring : (path : Path) (opened : Dirs) (requested : List ObjectId) → Opens IsNoTree trees path old opened requested
+      → ((at : Path) → new at ≡ ensured_dirs path (null_id kind) opened at) → Left opened → Everywhere P new remaining
+  after_assuring path opened requested opens dirs_are bases_are =
+      edited_so opened (ensured_dirs path (null_id kind) opened) dirs_are bases_are
+      (lasts_ensured P trees (null_id kind) lasts old bases is_opened all path opened requested opens)
 
-  after_removal : {Ends : EntryView → Type 0} (front path : Path) (opened : Dirs) (asked : List ObjectId) → Opens Ends trees front old opened asked
-      → ((at : Path) → new at ≡ removed_dirs path opened at) → Left opened → Everywhere P new left
-  after_removal front path opened asked opens dirs_are bases_are =
+  after_removal : {Ends : EntryView → Type 0} (head path : Path) (opened : Dirs) (requested : List ObjectId) → Opens Ends trees head old opened requested
+      → ((at : Path) → new at ≡ removed_dirs path opened at) → Left opened → Everywhere P new remaining
+  after_removal head path opened requested opens dirs_are bases_are =
       edited_so opened (removed_dirs path opened) dirs_are bases_are
-      (lasts_removed P trees (null_id kind) lasts old bases is_opened all front path opened asked opens)
+      (lasts_removed P trees (null_id kind) lasts old bases is_opened all head path opened requested opens)
 
-  after_opening : {Ends : EntryView → Type 0} (path : Path) (asked : List ObjectId) → Opens Ends trees path old new asked
-      → ((at : Path) → left at ≡ opened_bases old new bases at) → Everywhere P new left
-  after_opening path asked opens bases_are =
-      carried P new (opened_bases old new bases) new left (λ at. refl) bases_are
-      (everywhere_opened P trees (null_id kind) lasts path old new asked opens bases all)
+  after_opening : {Ends : EntryView → Type 0} (path : Path) (requested : List ObjectId) → Opens Ends trees path old new requested
+      → ((at : Path) → remaining at ≡ opened_bases old new bases at) → Everywhere P new remaining
+  after_opening path requested opens bases_are =
+      carried P new (opened_bases old new bases) new remaining (λ at. refl) bases_are
+      (everywhere_opened P trees (null_id kind) lasts path old new requested opens bases all)
 
   after_write : (prefix : Path) (own : List EntryView) → old prefix ≢ None → ((e : EntryView) → Has own e → P e None None)
-      → ((at : Path) → new at ≡ with_path prefix (only own) old at) → ((at : Path) → left at ≡ edited_bases old new bases at) → Everywhere P new left
+      → ((at : Path) → new at ≡ with_path prefix (only own) old at) → ((at : Path) → remaining at ≡ edited_bases old new bases at) → Everywhere P new remaining
   after_write prefix own there each dirs_are bases_are =
       let made : Dirs = with_path prefix (only own) old in
-      let left_is : (at : Path) → left at ≡ edited_bases old made bases at = subst (λ (d : Dirs). (at : Path) → left at ≡ edited_bases old d bases at) (λ i at. dirs_are at i) bases_are in
-      carried P made (edited_bases old made bases) new left dirs_are left_is
+      let remaining_is : (at : Path) → remaining at ≡ edited_bases old made bases at =
+      subst (λ (d : Dirs). (at : Path) → remaining at ≡ edited_bases old d bases at) (λ i at. dirs_are at i) bases_are in
+      carried P made (edited_bases old made bases) new remaining dirs_are remaining_is
       (lasts_written P trees (null_id kind) lasts old bases is_opened all prefix own there each)
 
--- for every table that agrees with the store
-module _ (T : Table) (trees : Trees) (kind : Kind) (old bases new left : Dirs) (was : AreOpenedOn old bases) (agrees : AgreesWithStore T trees) (has : HasBases T old bases) where
+-- each base agrees with every table that agrees with the store
+module _ (T : Table) (trees : Trees) (kind : Kind) (old bases new remaining : Dirs) (was : AreOpenedOn old bases) (agrees : AgreesWithStore T trees)
+    (has : HasBases T old bases) where
   all : Everywhere (Based T) old bases
   all = based_of T old bases was.null_based has
 
   lasting : Lasts (Based T) trees (null_id kind)
-  lasting = based_lasts T trees (null_id kind) agrees (null_stands_for_nothing kind)
+  lasting = based_lasts T trees (null_id kind) agrees (null_means_nothing kind)
 
-  pub upserted_based : (front : Path) (last : List ℕ) (mode : ℕ) (id : ObjectId) (opened : Dirs) (asked : List ObjectId) → Opens IsNoTree trees front old opened asked
-      → ((at : Path) → new at ≡ upserted_dirs (front ++ last ∷ []) mode id (null_id kind) opened at)
-      → ((at : Path) → left at ≡ edited_bases opened new (opened_bases old opened bases) at) → HasBases T new left
-  upserted_based front last mode id opened asked opens dirs_are bases_are =
-      has_bases T new left (after_upsert (Based T) trees kind lasting old bases new left was.opened all front last mode id opened asked opens (λ name list is. absurd (cc is)) dirs_are bases_are)
+  pub upserted_based : (head : Path) (last : List ℕ) (mode : ℕ) (id : ObjectId) (opened : Dirs) (requested : List ObjectId)
+      → Opens IsNoTree trees head old opened requested
+      → ((at : Path) → new at ≡ upserted_dirs (head ++ last ∷ []) mode id (null_id kind) opened at)
+      → ((at : Path) → remaining at ≡ edited_bases opened new (opened_bases old opened bases) at) → HasBases T new remaining
+  upserted_based head last mode id opened requested opens dirs_are bases_are =
+      has_bases T new remaining (after_upsert (Based T) trees kind lasting old bases new remaining was.opened all head last mode id opened requested opens
+      (λ name list is. absurd (cc is)) dirs_are bases_are)
 
-  pub assured_based : (path : Path) (opened : Dirs) (asked : List ObjectId) → Opens IsNoTree trees path old opened asked
-      → ((at : Path) → new at ≡ assured_dirs path (null_id kind) opened at)
-      → ((at : Path) → left at ≡ edited_bases opened new (opened_bases old opened bases) at) → HasBases T new left
-  assured_based path opened asked opens dirs_are bases_are =
-      has_bases T new left (after_assuring (Based T) trees kind lasting old bases new left was.opened all path opened asked opens dirs_are bases_are)
+  pub ensured_based : (path : Path) (opened : Dirs) (requested : List ObjectId) → Opens IsNoTree trees path old opened requested
+      → ((at : Path) → new at ≡ ensured_dirs path (null_id kind) opened at)
+      → ((at : Path) → remaining at ≡ edited_bases opened new (opened_bases old opened bases) at) → HasBases T new remaining
+  ensured_based path opened requested opens dirs_are bases_are =
+      has_bases T new remaining
+      (after_assuring (Based T) trees kind lasting old bases new remaining was.opened all path opened requested opens dirs_are bases_are)
 
-  pub removed_based : {Ends : EntryView → Type 0} (front path : Path) (opened : Dirs) (asked : List ObjectId) → Opens Ends trees front old opened asked
+  pub removed_based : {Ends : EntryView → Type 0} (head path : Path) (opened : Dirs) (requested : List ObjectId) → Opens Ends trees head old opened requested
       → ((at : Path) → new at ≡ removed_dirs path opened at)
-      → ((at : Path) → left at ≡ edited_bases opened new (opened_bases old opened bases) at) → HasBases T new left
-  removed_based front path opened asked opens dirs_are bases_are =
-      has_bases T new left (after_removal (Based T) trees kind lasting old bases new left was.opened all front path opened asked opens dirs_are bases_are)
+      → ((at : Path) → remaining at ≡ edited_bases opened new (opened_bases old opened bases) at) → HasBases T new remaining
+  removed_based head path opened requested opens dirs_are bases_are =
+      has_bases T new remaining
+      (after_removal (Based T) trees kind lasting old bases new remaining was.opened all head path opened requested opens dirs_are bases_are)
 
-  pub opened_based : {Ends : EntryView → Type 0} (path : Path) (asked : List ObjectId) → Opens Ends trees path old new asked
-      → ((at : Path) → left at ≡ opened_bases old new bases at) → HasBases T new left
-  opened_based path asked opens bases_are =
-      has_bases T new left (after_opening (Based T) trees kind lasting old bases new left was.opened all path asked opens bases_are)
+  pub opened_based : {Ends : EntryView → Type 0} (path : Path) (requested : List ObjectId) → Opens Ends trees path old new requested
+      → ((at : Path) → remaining at ≡ opened_bases old new bases at) → HasBases T new remaining
+  opened_based path requested opens bases_are =
+      has_bases T new remaining (after_opening (Based T) trees kind lasting old bases new remaining was.opened all path requested opens bases_are)
 
--- and for no table: a null id still has an empty base
-module _ (trees : Trees) (kind : Kind) (old bases new left : Dirs) (was : AreOpenedOn old bases) where
+-- a null id has an empty base after each call, without a table
+module _ (trees : Trees) (kind : Kind) (old bases new remaining : Dirs) (was : AreOpenedOn old bases) where
   nulls : Everywhere NullBased old bases
   nulls = null_based_of old bases was.null_based
 
-  pub upserted_null_based : (front : Path) (last : List ℕ) (mode : ℕ) (id : ObjectId) (opened : Dirs) (asked : List ObjectId) → Opens IsNoTree trees front old opened asked
-      → ((at : Path) → new at ≡ upserted_dirs (front ++ last ∷ []) mode id (null_id kind) opened at)
-      → ((at : Path) → left at ≡ edited_bases opened new (opened_bases old opened bases) at) → AreNullBased new left
-  upserted_null_based front last mode id opened asked opens dirs_are bases_are =
-      are_null_based new left (after_upsert NullBased trees kind (null_based_lasts trees (null_id kind)) old bases new left was.opened nulls front last mode id opened asked opens (λ name list is. absurd (cc is)) dirs_are bases_are)
+  pub upserted_null_based : (head : Path) (last : List ℕ) (mode : ℕ) (id : ObjectId) (opened : Dirs) (requested : List ObjectId)
+      → Opens IsNoTree trees head old opened requested
+      → ((at : Path) → new at ≡ upserted_dirs (head ++ last ∷ []) mode id (null_id kind) opened at)
+      → ((at : Path) → remaining at ≡ edited_bases opened new (opened_bases old opened bases) at) → AreNullBased new remaining
+  upserted_null_based head last mode id opened requested opens dirs_are bases_are =
+      are_null_based new remaining
+      (after_upsert NullBased trees kind (null_based_lasts trees (null_id kind)) old bases new remaining was.opened nulls head last mode id opened requested
+      opens (λ name list is. absurd (cc is)) dirs_are bases_are)
 
-  pub assured_null_based : (path : Path) (opened : Dirs) (asked : List ObjectId) → Opens IsNoTree trees path old opened asked
-      → ((at : Path) → new at ≡ assured_dirs path (null_id kind) opened at)
-      → ((at : Path) → left at ≡ edited_bases opened new (opened_bases old opened bases) at) → AreNullBased new left
-  assured_null_based path opened asked opens dirs_are bases_are =
-      are_null_based new left (after_assuring NullBased trees kind (null_based_lasts trees (null_id kind)) old bases new left was.opened nulls path opened asked opens dirs_are bases_are)
+  pub ensured_null_based : (path : Path) (opened : Dirs) (requested : List ObjectId) → Opens IsNoTree trees path old opened requested
+      → ((at : Path) → new at ≡ ensured_dirs path (null_id kind) opened at)
+      → ((at : Path) → remaining at ≡ edited_bases opened new (opened_bases old opened bases) at) → AreNullBased new remaining
+  ensured_null_based path opened requested opens dirs_are bases_are =
+      are_null_based new remaining
+      (after_assuring NullBased trees kind (null_based_lasts trees (null_id kind)) old bases new remaining was.opened nulls path opened requested opens
+      dirs_are bases_are)
 
-  pub removed_null_based : {Ends : EntryView → Type 0} (front path : Path) (opened : Dirs) (asked : List ObjectId) → Opens Ends trees front old opened asked
+  pub removed_null_based : {Ends : EntryView → Type 0} (head path : Path) (opened : Dirs) (requested : List ObjectId)
+      → Opens Ends trees head old opened requested
       → ((at : Path) → new at ≡ removed_dirs path opened at)
-      → ((at : Path) → left at ≡ edited_bases opened new (opened_bases old opened bases) at) → AreNullBased new left
-  removed_null_based front path opened asked opens dirs_are bases_are =
-      are_null_based new left (after_removal NullBased trees kind (null_based_lasts trees (null_id kind)) old bases new left was.opened nulls front path opened asked opens dirs_are bases_are)
+      → ((at : Path) → remaining at ≡ edited_bases opened new (opened_bases old opened bases) at) → AreNullBased new remaining
+  removed_null_based head path opened requested opens dirs_are bases_are =
+      are_null_based new remaining
+      (after_removal NullBased trees kind (null_based_lasts trees (null_id kind)) old bases new remaining was.opened nulls head path opened requested opens
+      dirs_are bases_are)
 
-  pub opened_null_based : {Ends : EntryView → Type 0} (path : Path) (asked : List ObjectId) → Opens Ends trees path old new asked
-      → ((at : Path) → left at ≡ opened_bases old new bases at) → AreNullBased new left
-  opened_null_based path asked opens bases_are =
-      are_null_based new left (after_opening NullBased trees kind (null_based_lasts trees (null_id kind)) old bases new left was.opened nulls path asked opens bases_are)
+  pub opened_null_based : {Ends : EntryView → Type 0} (path : Path) (requested : List ObjectId) → Opens Ends trees path old new requested
+      → ((at : Path) → remaining at ≡ opened_bases old new bases at) → AreNullBased new remaining
+  opened_null_based path requested opens bases_are =
+      are_null_based new remaining
+      (after_opening NullBased trees kind (null_based_lasts trees (null_id kind)) old bases new remaining was.opened nulls path requested opens bases_are)
 
--- a write at a prefix; no store is asked
+-- a write at a prefix needs no store
 abbrev no_trees : Trees
 no_trees = λ id. None
 
-module _ (old bases new left : Dirs) (was : AreOpenedOn old bases) (prefix : Path) (own : List EntryView) (there : old prefix ≢ None)
-    (dirs_are : (at : Path) → new at ≡ with_path prefix (only own) old at) (bases_are : (at : Path) → left at ≡ edited_bases old new bases at) where
-  pub written_based : (T : Table) → HasBases T old bases → HasBases T new left
+module _ (old bases new remaining : Dirs) (was : AreOpenedOn old bases) (prefix : Path) (own : List EntryView) (there : old prefix ≢ None)
+    (dirs_are : (at : Path) → new at ≡ with_path prefix (only own) old at) (bases_are : (at : Path) → remaining at ≡ edited_bases old new bases at) where
+  pub written_based : (T : Table) → HasBases T old bases → HasBases T new remaining
   written_based T has =
-      let lasting : Lasts (Based T) no_trees (null_id hash.Sha1) = based_lasts T no_trees (null_id hash.Sha1) (λ id entries sought is. absurd (cc is)) refl in
-      has_bases T new left (after_write (Based T) no_trees hash.Sha1 lasting old bases new left was.opened (based_of T old bases was.null_based has) prefix own there (λ e h list is. absurd (cc is)) dirs_are bases_are)
+      let lasting : Lasts (Based T) no_trees (null_id hash.Sha1) = based_lasts T no_trees (null_id hash.Sha1) (λ id entries searched is. absurd (cc is)) refl in
+      has_bases T new remaining
+      (after_write (Based T) no_trees hash.Sha1 lasting old bases new remaining was.opened (based_of T old bases was.null_based has) prefix own there
+      (λ e h list is. absurd (cc is)) dirs_are bases_are)
 
-  pub written_null_based : AreNullBased new left
+  pub written_null_based : AreNullBased new remaining
   written_null_based =
-      are_null_based new left (after_write NullBased no_trees hash.Sha1 (null_based_lasts no_trees (null_id hash.Sha1)) old bases new left was.opened (null_based_of old bases was.null_based) prefix own there (λ e h list is. absurd (cc is)) dirs_are bases_are)
+      are_null_based new remaining (after_write NullBased no_trees hash.Sha1 (null_based_lasts no_trees (null_id hash.Sha1)) old bases new remaining was.opened
+      (null_based_of old bases was.null_based) prefix own there (λ e h list is. absurd (cc is)) dirs_are bases_are)

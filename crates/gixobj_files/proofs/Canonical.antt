@@ -1,4 +1,5 @@
--- A tree that is built up from pairs, of which no tree has two ids, is told from others of its kind by its files.
+-- Trees built from pairs are equal if their files are and no tree has two ids: for the editor's law of one id for equal
+-- files.
 use Rattle.std.proofs.Common.{◌≡◌, ◌≢◌, inl, inr, ⊎_elim, ℕ, zero, suc, Bool, true, false, cond, List, [], ◌∷◌, refl, sym, ap, subst, ◌∙◌, Some, None, Contains}
 use Rattle.std.specs.Prelude.{MatchOption}
 use Rattle.std.specs.List.{AllByRecursion}
@@ -9,10 +10,10 @@ use Rattle.gixobj_mode.specs.Mode.{is_tree_mode, tree_type}
 use Rattle.gixobj_hash.specs.declared.hash.object_id.ObjectId.{ObjectId}
 use Rattle.gixobj_files.specs.Files.{Below, Files, Has, Path, SameFiles, Table, is_null}
 use Rattle.gixobj_files.specs.Tables.{AgreesWithPairs, HasOneId}
-use Rattle.gixobj_files.proofs.OpenedFiles.{below_stands}
+use Rattle.gixobj_files.proofs.OpenedFiles.{below_is_at}
 use Rattle.gixobj_tree.proofs.WellFormed.{comes_trans}
 
--- an entry comes before those that come after it, and never before itself
+-- an entry comes before those after it, and never before itself
 later_has : (x : EntryView) (ys : List EntryView) (y : EntryView) → AllByRecursion (ComesBefore x) ys → Has ys y → ComesBefore x y
 later_has x [] y h k = absurd k
 later_has x (z ∷ zs) y h (inl same) = subst (ComesBefore x) same h.0
@@ -21,19 +22,22 @@ later_has x (z ∷ zs) y h (inr k) = later_has x zs y h.1 k
 never_before_itself : (x : EntryView) → ComesBefore x x → ⊥
 never_before_itself x h = let back = nat_list_cmp_total.antisymm (entry_key x) (entry_key x) in cc (h, back)
 
--- ascending lists of the same entries are one list
-same_lists : (xs ys : List EntryView) → EachLater ComesBefore xs → EachLater ComesBefore ys → ((e : EntryView) → Has xs e → Has ys e) → ((e : EntryView) → Has ys e → Has xs e) → xs ≡ ys
+-- ascending lists with the same entries are equal
+same_lists : (xs ys : List EntryView) → EachLater ComesBefore xs → EachLater ComesBefore ys → ((e : EntryView) → Has xs e → Has ys e)
+    → ((e : EntryView) → Has ys e → Has xs e) → xs ≡ ys
 same_lists [] [] a b f g = refl
 same_lists [] (y ∷ ys) a b f g = absurd (g y (inl refl))
 same_lists (x ∷ xs) [] a b f g = absurd (f x (inl refl))
 same_lists (x ∷ xs) (y ∷ ys) a b f g =
-    let head : x ≡ y = ⊎_elim (λ s. sym s) (λ k. ⊎_elim (λ s. s) (λ l. absurd (never_before_itself x (comes_trans x y x (later_has x xs y a.0 l) (later_has y ys x b.0 k)))) (g y (inl refl))) (f x (inl refl)) in
+    let head : x ≡ y = ⊎_elim (λ s. sym s)
+    (λ k. ⊎_elim (λ s. s) (λ l. absurd (never_before_itself x (comes_trans x y x (later_has x xs y a.0 l) (later_has y ys x b.0 k)))) (g y (inl refl)))
+    (f x (inl refl)) in
     let rest : xs ≡ ys = same_lists xs ys a.1 b.1
     (λ e h. ⊎_elim (λ s. absurd (never_before_itself x (subst (ComesBefore x) (sym s ∙ sym head) (later_has x xs e a.0 h)))) (λ k. k) (f e (inr h)))
     (λ e h. ⊎_elim (λ s. absurd (never_before_itself y (subst (ComesBefore y) (sym s ∙ head) (later_has y ys e b.0 h)))) (λ k. k) (g e (inr h))) in
     cc (head, rest)
 
--- two entries of one name are one
+-- entries of one name in a list are equal, since the names in it differ
 differs : (x : EntryView) (ys : List EntryView) (y : EntryView) → AllByRecursion (λ z. x.name ≢ z.name) ys → Has ys y → x.name ≢ y.name
 differs x [] y h k = absurd k
 differs x (z ∷ ys) y h (inl same) = λ q. h.0 (q ∙ ap (λ (w : EntryView). w.name) (sym same))
@@ -46,8 +50,9 @@ one_entry (e ∷ es) apart x y (inl s) (inr k) q = absurd (differs e es y apart.
 one_entry (e ∷ es) apart x y (inr h) (inl t) q = absurd (differs e es x apart.0 h (ap (λ (w : EntryView). w.name) t ∙ sym q))
 one_entry (e ∷ es) apart x y (inr h) (inr k) q = one_entry es apart.1 x y h k q
 
--- entries of one mode, one name and one id are one
-same_entry : (mode other : ℕ) (name its_name : List ℕ) (id its_id : ObjectId) → mode ≡ other → name ≡ its_name → id ≡ its_id → entry_of mode name id ≡ entry_of other its_name its_id
+-- entries with the same mode, name and id are equal
+same_entry : (mode other : ℕ) (name its_name : List ℕ) (id its_id : ObjectId) → mode ≡ other → name ≡ its_name → id ≡ its_id
+    → entry_of mode name id ≡ entry_of other its_name its_id
 same_entry mode other name its_name id its_id m n i = cc (m, n, i)
 
 pub named_alike : (x y : EntryView) → x.mode ≡ y.mode → x.name ≡ y.name → x.id ≡ y.id → x ≡ y
@@ -58,7 +63,7 @@ pub record IsClean (entries : List EntryView) : Type 0 where
   pub formed : IsWellFormed entries
   pub filled : (e : EntryView) → Has entries e → is_null e.id ≡ false
 
--- a tree whose trees' entries have the ids of pairs, the trees of which aren't empty and are such trees too
+-- a tree whose directories have the ids of pairs with trees that aren't empty and are built in turn
 pub data IsBuilt (pairs : List Pair) : List EntryView → Type 0 where
   built : (entries : List EntryView) → IsClean entries
       → ((e : EntryView) → Has entries e → is_tree_mode e.mode ≡ true → e.mode ≡ tree_type)
@@ -69,17 +74,23 @@ pub data IsBuilt (pairs : List Pair) : List EntryView → Type 0 where
       → IsBuilt pairs entries
 
 module _ (T : Table) where
-  -- the file that an entry is that is no tree's, and no other of its name
+  -- an entry that isn't of tree mode is a file, and the only one of its name
   own_file : (k : ℕ) (e : EntryView) → is_tree_mode e.mode ≡ false → is_null e.id ≡ false → Below T (Files T k) e.mode e.id [] e.mode e.id
-  own_file k e other filled =
-      (filled, subst (λ (b : Bool). MatchOption (cond b (T.tree_at e.id) None) ((◌≡◌ {A = Path} [] []) × (e.mode ≡ e.mode) × (e.id ≡ e.id)) (λ es. Files T k es [] e.mode e.id)) (sym other) (refl, refl, refl))
+  own_file k e other filled = (
+    filled,
+    subst (λ (b : Bool). MatchOption (cond b (T.tree_at e.id) None) ((◌≡◌ {A = Path} [] []) × (e.mode ≡ e.mode) × (e.id ≡ e.id))
+        (λ es. Files T k es [] e.mode e.id)) (sym other) (refl, refl, refl),
+  )
 
-  of_file : (k : ℕ) (e : EntryView) → is_tree_mode e.mode ≡ false → (mode : ℕ) (id : ObjectId) → Below T (Files T k) e.mode e.id [] mode id → (mode ≡ e.mode) × (id ≡ e.id)
+  of_file : (k : ℕ) (e : EntryView) → is_tree_mode e.mode ≡ false → (mode : ℕ) (id : ObjectId) → Below T (Files T k) e.mode e.id [] mode id → (mode ≡ e.mode)
+      × (id ≡ e.id)
   of_file k e other mode id h =
-      let it = subst (λ (b : Bool). MatchOption (cond b (T.tree_at e.id) None) ((◌≡◌ {A = Path} [] []) × (mode ≡ e.mode) × (id ≡ e.id)) (λ es. Files T k es [] mode id)) other h.1 in (it.1, it.2)
+      let it = subst (λ (b : Bool). MatchOption (cond b (T.tree_at e.id) None) ((◌≡◌ {A = Path} [] []) × (mode ≡ e.mode) × (id ≡ e.id))
+      (λ es. Files T k es [] mode id)) other h.1 in (it.1, it.2)
 
-  -- what is below an entry is what is at its name
-  at_entry : (xs : List EntryView) → IsClean xs → (e : EntryView) → Has xs e → (k : ℕ) (path : Path) (mode : ℕ) (id : ObjectId) → Files T (suc k) xs (e.name ∷ path) mode id → Below T (Files T k) e.mode e.id path mode id
+  -- the files at the name of an entry are the files at and below the entry
+  at_entry : (xs : List EntryView) → IsClean xs → (e : EntryView) → Has xs e → (k : ℕ) (path : Path) (mode : ℕ) (id : ObjectId)
+      → Files T (suc k) xs (e.name ∷ path) mode id → Below T (Files T k) e.mode e.id path mode id
   at_entry xs clean e h k path mode id f =
       subst (λ (x : EntryView). Below T (Files T k) x.mode x.id path mode id) (one_entry xs clean.formed.apart f.0 e f.1 h f.2) f.3
 
@@ -87,16 +98,18 @@ module _ (T : Table) (pairs : List Pair) (known : AgreesWithPairs T pairs) where
   its_tree : (id : ObjectId) (tree : List EntryView) → Contains pairs (id, tree) → T.tree_at id ≡ Some tree
   its_tree id tree has = All-contains (λ pair. T.tree_at pair.0 ≡ Some pair.1) pairs (id, tree) known has
 
-  -- the files of a tree's entry are those of its tree
-  into_tree : (xs : List EntryView) → IsClean xs → (e : EntryView) → Has xs e → is_tree_mode e.mode ≡ true → (tree : List EntryView) → Contains pairs (e.id, tree)
+  -- the files of an entry of tree mode are those of its tree
+  into_tree : (xs : List EntryView) → IsClean xs → (e : EntryView) → Has xs e → is_tree_mode e.mode ≡ true → (tree : List EntryView)
+      → Contains pairs (e.id, tree)
       → (k : ℕ) (path : Path) (mode : ℕ) (id : ObjectId) → Files T (suc k) xs (e.name ∷ path) mode id → Files T k tree path mode id
-  into_tree xs clean e h t tree has k path mode id f = (below_stands T k e.mode e.id tree t (inr (its_tree e.id tree has)) path mode id).0 (at_entry T xs clean e h k path mode id f)
+  into_tree xs clean e h t tree has k path mode id f = (below_is_at T k e.mode e.id tree t (inr (its_tree e.id tree has)) path mode id).0
+      (at_entry T xs clean e h k path mode id f)
 
   of_tree : (xs : List EntryView) (e : EntryView) → Has xs e → is_tree_mode e.mode ≡ true → (tree : List EntryView) → Contains pairs (e.id, tree)
       → (k : ℕ) (path : Path) (mode : ℕ) (id : ObjectId) → Files T k tree path mode id → Files T (suc k) xs (e.name ∷ path) mode id
-  of_tree xs e h t tree has k path mode id f = (e, h, refl, (below_stands T k e.mode e.id tree t (inr (its_tree e.id tree has)) path mode id).1 f)
+  of_tree xs e h t tree has k path mode id f = (e, h, refl, (below_is_at T k e.mode e.id tree t (inr (its_tree e.id tree has)) path mode id).1 f)
 
-  -- at or below each entry of such a tree there is a file
+  -- each entry of a built tree has a file at or below it
   abbrev HasFile : List EntryView → Type 0
   HasFile xs = (n : ℕ) × (path : Path) × (mode : ℕ) × (id : ObjectId) × Files T n xs path mode id
 
@@ -104,7 +117,8 @@ module _ (T : Table) (pairs : List Pair) (known : AgreesWithPairs T pairs) where
   HasFileAt xs name = (n : ℕ) × (path : Path) × (mode : ℕ) × (id : ObjectId) × Files T (suc n) xs (name ∷ path) mode id
 
   file_at : (xs : List EntryView) → IsClean xs → (e : EntryView) → Has xs e
-      → (tree : is_tree_mode e.mode ≡ true → List EntryView) → ((t : is_tree_mode e.mode ≡ true) → Contains pairs (e.id, tree t)) → ((t : is_tree_mode e.mode ≡ true) → HasFile (tree t)) → HasFileAt xs e.name
+      → (tree : is_tree_mode e.mode ≡ true → List EntryView) → ((t : is_tree_mode e.mode ≡ true) → Contains pairs (e.id, tree t))
+      → ((t : is_tree_mode e.mode ≡ true) → HasFile (tree t)) → HasFileAt xs e.name
   file_at xs clean e h tree named deep =
       elim (is_tree_mode e.mode) as (λ b. is_tree_mode e.mode ≡ b → HasFileAt xs e.name) [
         | true ↦ λ t. let f = deep t in (f.0, f.1, f.2, f.3, of_tree xs e h t (tree t) (named t) f.0 f.1 f.2 f.3 f.4)
@@ -114,13 +128,15 @@ module _ (T : Table) (pairs : List Pair) (known : AgreesWithPairs T pairs) where
   has_file : (xs : List EntryView) → IsBuilt pairs xs → xs ≢ [] → HasFile xs
   has_file [] (built l clean modes tree filled named deep) some = absurd (some refl)
   has_file (e ∷ es) (built l clean modes tree filled named deep) some =
-      let f = file_at (e ∷ es) clean e (inl refl) (tree e (inl refl)) (named e (inl refl)) (λ t. has_file (tree e (inl refl) t) (deep e (inl refl) t) (filled e (inl refl) t)) in
+      let f = file_at (e ∷ es) clean e (inl refl) (tree e (inl refl)) (named e (inl refl))
+      (λ t. has_file (tree e (inl refl) t) (deep e (inl refl) t) (filled e (inl refl) t)) in
       (suc f.0, e.name ∷ f.1, f.2, f.3, f.4)
 
   has_file_at : (xs : List EntryView) → IsBuilt pairs xs → (e : EntryView) → Has xs e → HasFileAt xs e.name
-  has_file_at xs (built l clean modes tree filled named deep) e h = file_at xs clean e h (tree e h) (named e h) (λ t. has_file (tree e h t) (deep e h t) (filled e h t))
+  has_file_at xs (built l clean modes tree filled named deep) e h =
+      file_at xs clean e h (tree e h) (named e h) (λ t. has_file (tree e h t) (deep e h t) (filled e h t))
 
-  -- entries of one name in trees of the same files are one, where their trees are one
+  -- entries of one name in trees with the same files are equal, if their trees are equal
   abbrev Same : List EntryView → List EntryView → Type 0
   Same xs ys = (n : ℕ) → SameFiles (Files T n xs) (Files T n ys)
 
@@ -134,27 +150,36 @@ module _ (T : Table) (pairs : List Pair) (known : AgreesWithPairs T pairs) where
         | true ↦ λ t. elim (is_tree_mode y.mode) as (λ b. is_tree_mode y.mode ≡ b → x ≡ y) [
           | true ↦ λ u.
               let trees : xt t ≡ yt u = deep t u (λ k path mode id. (
-                (λ f. into_tree ys cy y hy u (yt u) (ny u) k path mode id (subst (λ n. Files T (suc k) ys (n ∷ path) mode id) called ((same (suc k) (x.name ∷ path) mode id).0 (of_tree xs x hx t (xt t) (nx t) k path mode id f)))),
-                λ f. into_tree xs cx x hx t (xt t) (nx t) k path mode id (subst (λ n. Files T (suc k) xs (n ∷ path) mode id) (sym called) ((same (suc k) (y.name ∷ path) mode id).1 (of_tree ys y hy u (yt u) (ny u) k path mode id f))),
+                (λ f. into_tree ys cy y hy u (yt u) (ny u) k path mode id
+                    (subst (λ n. Files T (suc k) ys (n ∷ path) mode id) called
+                    ((same (suc k) (x.name ∷ path) mode id).0 (of_tree xs x hx t (xt t) (nx t) k path mode id f)))),
+                λ f. into_tree xs cx x hx t (xt t) (nx t) k path mode id
+                    (subst (λ n. Files T (suc k) xs (n ∷ path) mode id) (sym called)
+                    ((same (suc k) (y.name ∷ path) mode id).1 (of_tree ys y hy u (yt u) (ny u) k path mode id f))),
               )) in
               named_alike x y (mx t ∙ sym (my u)) called (one (xt t) x.id y.id (nx t) (subst (λ l. Contains pairs (y.id, l)) (sym trees) (ny u)))
-          | false ↦ λ u. absurd (into_tree xs cx x hx t (xt t) (nx t) zero [] y.mode y.id (subst (λ n. Files T (suc zero) xs (n ∷ []) y.mode y.id) (sym called) ((same (suc zero) (y.name ∷ []) y.mode y.id).1 (y, hy, refl, own_file T zero y u (cy.filled y hy)))))
+          | false ↦ λ u. absurd (into_tree xs cx x hx t (xt t) (nx t) zero [] y.mode y.id
+              (subst (λ n. Files T (suc zero) xs (n ∷ []) y.mode y.id) (sym called)
+              ((same (suc zero) (y.name ∷ []) y.mode y.id).1 (y, hy, refl, own_file T zero y u (cy.filled y hy)))))
         ] refl
         | false ↦ λ t.
-            let there : Files T (suc zero) ys (y.name ∷ []) x.mode x.id = subst (λ n. Files T (suc zero) ys (n ∷ []) x.mode x.id) called ((same (suc zero) (x.name ∷ []) x.mode x.id).0 (x, hx, refl, own_file T zero x t (cx.filled x hx))) in
+            let there : Files T (suc zero) ys (y.name ∷ []) x.mode x.id = subst (λ n. Files T (suc zero) ys (n ∷ []) x.mode x.id) called
+            ((same (suc zero) (x.name ∷ []) x.mode x.id).0 (x, hx, refl, own_file T zero x t (cx.filled x hx))) in
             elim (is_tree_mode y.mode) as (λ b. is_tree_mode y.mode ≡ b → x ≡ y) [
               | true ↦ λ u. absurd (into_tree ys cy y hy u (yt u) (ny u) zero [] x.mode x.id there)
               | false ↦ λ u. let is = of_file T zero y u x.mode x.id (at_entry T ys cy y hy zero [] x.mode x.id there) in named_alike x y is.0 called is.1
             ] refl
       ] refl
 
-  -- the trees are told by their files
+  -- built trees with the same files are equal
   pub same_trees : (one : HasOneId pairs) (xs : List EntryView) → IsBuilt pairs xs → (ys : List EntryView) → IsBuilt pairs ys → Same xs ys → xs ≡ ys
   same_trees one xs (built lx cx mx tx fx nx dx) ys (built ly cy my ty fy ny dy) same =
       let x_built : IsBuilt pairs xs = built xs cx mx tx fx nx dx in
       let y_built : IsBuilt pairs ys = built ys cy my ty fy ny dy in
       let meet : (x y : EntryView) → Has xs x → Has ys y → x.name ≡ y.name → x ≡ y =
-      λ x y hx hy called. both one xs ys cx cy same x y hx hy called (mx x hx) (my y hy) (tx x hx) (nx x hx) (ty y hy) (ny y hy) (λ t u. same_trees one (tx x hx t) (dx x hx t) (ty y hy u) (dy y hy u)) in
+      λ x y hx hy called. both one xs ys cx cy same x y hx hy called (mx x hx) (my y hy) (tx x hx) (nx x hx) (ty y hy) (ny y hy)
+      (λ t u. same_trees one (tx x hx t) (dx x hx t) (ty y hy u) (dy y hy u)) in
       same_lists xs ys cx.formed.ascending cy.formed.ascending
-      (λ x hx. let f = has_file_at xs x_built x hx in let g = (same (suc f.0) (x.name ∷ f.1) f.2 f.3).0 f.4 in subst (Has ys) (sym (meet x g.0 hx g.1 (sym g.2))) g.1)
+      (λ x hx. let f = has_file_at xs x_built x hx in let g = (same (suc f.0) (x.name ∷ f.1) f.2 f.3).0 f.4 in subst (Has ys)
+      (sym (meet x g.0 hx g.1 (sym g.2))) g.1)
       (λ y hy. let f = has_file_at ys y_built y hy in let g = (same (suc f.0) (y.name ∷ f.1) f.2 f.3).1 f.4 in subst (Has xs) (meet g.0 y g.1 hy g.2) g.1)

@@ -1,47 +1,63 @@
--- The files of the open directories where one of them is assured, and where the one at a path is written.
+-- The files of the open directories after one of them is ensured, and after the one at a path is written.
 use Rattle.std.proofs.Common.{◌≡◌, ◌≢◌, ℕ, ◌+◌, List, [], ◌∷◌, ◌++◌, length, refl, sym, subst, Option, Some, None}
 use Rattle.std.specs.Prelude.{MatchOption}
 use Rattle.std.proofs.lemmas.List.Elements.{recursion_from_All}
 use Rattle.gixobj_tree.specs.Entries.{EntryView, Pair}
 use Rattle.gixobj_hash.specs.declared.hash.object_id.ObjectId.{ObjectId}
-use Rattle.gixobj_files.specs.Edits.{IsNoTree, Opens, assured_dirs, only, with_path}
-use Rattle.gixobj_files.specs.Files.{Assured, Files, NamedFiles, Path, SameFiles, Table, Trees}
-use Rattle.gixobj_files.specs.HandingOut.{Leaves}
+use Rattle.gixobj_files.specs.Edits.{IsNoTree, Opens, ensured_dirs, only, with_path}
+use Rattle.gixobj_files.specs.Files.{Ensured, Files, NamedFiles, Path, SameFiles, Table, Trees}
+use Rattle.gixobj_files.specs.Emission.{EmitsBelow}
 use Rattle.gixobj_files.specs.Opening.{Dirs, IsOpened, OpenFiles, in_path}
 use Rattle.gixobj_files.specs.Tables.{AgreesWithPairs, AgreesWithStore}
-use Rattle.gixobj_files.proofs.AssuredFiles.{assured_files, opens_along}
+use Rattle.gixobj_files.proofs.EnsuredFiles.{ensured_files, opens_along}
 use Rattle.gixobj_files.proofs.Based.{Based}
 use Rattle.gixobj_files.proofs.Everywhere.{Everywhere}
 use Rattle.gixobj_files.proofs.Lasting.{everywhere_at}
 use Rattle.gixobj_files.proofs.BelowPrefix.{files_below, opened_in, replaced_files}
-use Rattle.gixobj_files.proofs.EditedFiles.{same_assured, same_trans}
+use Rattle.gixobj_files.proofs.EditedFiles.{same_ensured, same_trans}
 use Rattle.gixobj_files.proofs.OpenedFiles.{root_only}
 use Rattle.gixobj_files.proofs.OpeningFiles.{opens_files}
-use Rattle.gixobj_files.proofs.WrittenFiles.{known_left, known_right, leaves_files, opened_trees}
+use Rattle.gixobj_files.proofs.WrittenFiles.{known_remaining, known_right, leaves_files, opened_trees}
 
--- a directory that is assured where the ones on its path were opened
-pub assured_at_files : (T : Table) (trees : Trees) → AgreesWithStore T trees → (path : Path) (null : ObjectId) (old mid : Dirs) (asked : List ObjectId) → Opens IsNoTree trees path old mid asked
-    → (n : ℕ) → SameFiles (OpenFiles T n (assured_dirs path null mid)) (Assured path (OpenFiles T n old))
-assured_at_files T trees agrees path null old mid asked opens n =
-    same_trans _ _ _ (assured_files T n path null mid (opens_along trees path old mid asked opens)) (same_assured path (OpenFiles T n mid) (OpenFiles T n old) (opens_files T trees agrees path old mid asked opens n))
+-- a directory that is ensured after an opening of its path drops the files at the path, and those at the paths of
+-- parent directories
+pub ensured_at_files : (T : Table) (trees : Trees) → AgreesWithStore T trees → (path : Path) (null : ObjectId) (old mid : Dirs) (requested : List ObjectId)
+    → Opens IsNoTree trees path old mid requested
+    → (n : ℕ) → SameFiles (OpenFiles T n (ensured_dirs path null mid)) (Ensured path (OpenFiles T n old))
+ensured_at_files T trees agrees path null old mid requested opens n =
+    same_trans _ _ _ (ensured_files T n path null mid (opens_along trees path old mid requested opens))
+    (same_ensured path (OpenFiles T n mid) (OpenFiles T n old) (opens_files T trees agrees path old mid requested opens n))
 
--- the tree that went out of the directory at a path has the files of the directories at and below it
-own_files : (T : Table) (prefix : Path) (dirs bases : Dirs) (below : List Pair) (own : List EntryView) (saved : ℕ) (id : ObjectId) → IsOpened dirs → Everywhere (Based T) dirs bases → dirs prefix ≢ None → Leaves (in_path prefix dirs) (in_path prefix bases) below own saved → AgreesWithPairs T (below ++ (id, own) ∷ [])
+-- the written tree of the directory at a path has the files of the directories at and below it
+own_files : (T : Table) (prefix : Path) (dirs bases : Dirs) (below : List Pair) (own : List EntryView) (saved : ℕ) (id : ObjectId) → IsOpened dirs
+    → Everywhere (Based T) dirs bases → dirs prefix ≢ None → EmitsBelow (in_path prefix dirs) (in_path prefix bases) below own saved
+    → AgreesWithPairs T (below ++ (id, own) ∷ [])
     → (n : ℕ) → SameFiles (Files T n own) (OpenFiles T n (in_path prefix dirs))
 own_files T prefix dirs bases below own saved id all based there going agrees =
-    leaves_files T (in_path prefix dirs) (in_path prefix bases) below own saved going (opened_trees (in_path prefix dirs) (opened_in prefix dirs all there)) (everywhere_at (Based T) prefix dirs bases based) (known_left T below ((id, own) ∷ []) (recursion_from_All (λ (p : Pair). T.tree_at p.0 ≡ Some p.1) (below ++ (id, own) ∷ []) agrees))
+    leaves_files T (in_path prefix dirs) (in_path prefix bases) below own saved going (opened_trees (in_path prefix dirs) (opened_in prefix dirs all there))
+    (everywhere_at (Based T) prefix dirs bases based)
+    (known_remaining T below ((id, own) ∷ []) (recursion_from_All (λ (p : Pair). T.tree_at p.0 ≡ Some p.1) (below ++ (id, own) ∷ []) agrees))
 
--- its id names the files below the path
-pub written_below_files : (T : Table) (n : ℕ) (prefix : Path) (dirs bases : Dirs) (below : List Pair) (own : List EntryView) (saved : ℕ) (id : ObjectId) → IsOpened dirs → Everywhere (Based T) dirs bases → dirs prefix ≢ None → Leaves (in_path prefix dirs) (in_path prefix bases) below own saved → AgreesWithPairs T (below ++ (id, own) ∷ [])
+-- the id of a written directory names the files below its path
+pub written_below_files : (T : Table) (n : ℕ) (prefix : Path) (dirs bases : Dirs) (below : List Pair) (own : List EntryView) (saved : ℕ) (id : ObjectId)
+    → IsOpened dirs → Everywhere (Based T) dirs bases → dirs prefix ≢ None → EmitsBelow (in_path prefix dirs) (in_path prefix bases) below own saved
+    → AgreesWithPairs T (below ++ (id, own) ∷ [])
     → SameFiles (NamedFiles T n id) (λ path. OpenFiles T (n + length prefix) dirs (prefix ++ path))
 written_below_files T n prefix dirs bases below own saved id all based there going agrees =
     let inner : Dirs = in_path prefix dirs in
-    let named : T.tree_at id ≡ Some own = (known_right T below ((id, own) ∷ []) (recursion_from_All (λ (p : Pair). T.tree_at p.0 ≡ Some p.1) (below ++ (id, own) ∷ []) agrees)).0 in
-    let files : SameFiles (NamedFiles T n id) (OpenFiles T n inner) = subst (λ (o : Option (List EntryView)). SameFiles (λ path mode it. MatchOption o ⊥ (λ es. Files T n es path mode it)) (OpenFiles T n inner)) (sym named) (own_files T prefix dirs bases below own saved id all based there going agrees n) in
+    let named : T.tree_at id ≡ Some own =
+    (known_right T below ((id, own) ∷ []) (recursion_from_All (λ (p : Pair). T.tree_at p.0 ≡ Some p.1) (below ++ (id, own) ∷ []) agrees)).0 in
+    let files : SameFiles (NamedFiles T n id) (OpenFiles T n inner) =
+    subst (λ (o : Option (List EntryView)). SameFiles (λ path mode it. MatchOption o ⊥ (λ es. Files T n es path mode it)) (OpenFiles T n inner)) (sym named)
+    (own_files T prefix dirs bases below own saved id all based there going agrees n) in
     same_trans _ _ _ files (files_below T n prefix dirs all there)
 
--- and what it leaves of the open directories has the same files as before
-pub written_same_files : (T : Table) (n : ℕ) (prefix : Path) (dirs bases : Dirs) (below : List Pair) (own : List EntryView) (saved : ℕ) (id : ObjectId) → IsOpened dirs → Everywhere (Based T) dirs bases → dirs prefix ≢ None → Leaves (in_path prefix dirs) (in_path prefix bases) below own saved → AgreesWithPairs T (below ++ (id, own) ∷ [])
+-- a write leaves open directories with the same files
+pub written_same_files : (T : Table) (n : ℕ) (prefix : Path) (dirs bases : Dirs) (below : List Pair) (own : List EntryView) (saved : ℕ) (id : ObjectId)
+    → IsOpened dirs → Everywhere (Based T) dirs bases → dirs prefix ≢ None → EmitsBelow (in_path prefix dirs) (in_path prefix bases) below own saved
+    → AgreesWithPairs T (below ++ (id, own) ∷ [])
     → SameFiles (OpenFiles T n (with_path prefix (only own) dirs)) (OpenFiles T n dirs)
 written_same_files T n prefix dirs bases below own saved id all based there going agrees =
-    replaced_files T prefix (only own) dirs all there (λ none. cc none) (λ k. same_trans _ _ _ (root_only T k (only own) own refl (λ name. refl)) (own_files T prefix dirs bases below own saved id all based there going agrees k)) n
+    replaced_files T prefix (only own) dirs all there (λ none. cc none)
+    (λ k. same_trans _ _ _ (root_only T k (only own) own refl (λ name. refl))
+    (own_files T prefix dirs bases below own saved id all based there going agrees k)) n

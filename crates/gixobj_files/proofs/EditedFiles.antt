@@ -1,5 +1,5 @@
--- The files of edited entries: of an entry put in, of entries taken out, and of the entries that are kept; and those of a root
--- that is open alone.
+-- The files of edited entries: of an inserted entry, of removed and of kept ones, and of a root that is open alone. The
+-- proofs of each edit use it.
 use Rattle.std.proofs.Common.{◌≡◌, ◌≢◌, ◌⊎◌, inl, inr, ⊎_elim, ℕ, zero, suc, ◌-◌, Bool, true, false, not, cond, List, [], ◌∷◌, ◌++◌, length, refl, sym, ap, subst, ◌∙◌, arith, Some, None}
 use Rattle.std.specs.List.{filter}
 use Rattle.std.specs.Cmp.Lexicographic.{bytes_decides, lists_total, nat_list_cmp_total, slice_cmp}
@@ -7,13 +7,13 @@ use Rattle.std.specs.Ordering.{nat_cmp}
 use Rattle.std.specs.FinMap as map
 use Rattle.gixobj_tree.specs.Entries.{EntryView}
 use Rattle.gixobj_hash.specs.declared.hash.object_id.ObjectId.{ObjectId}
-use Rattle.gixobj_files.specs.Editing.{comes_before, kept, same_name, with_entry, without}
-use Rattle.gixobj_files.specs.Files.{Assured, Below, FileSet, Files, Has, Path, Removed, SameFiles, Table, Upserted, is_null}
+use Rattle.gixobj_files.specs.Editing.{comes_before, non_null_entries, same_name, with_entry, without}
+use Rattle.gixobj_files.specs.Files.{Ensured, Below, FileSet, Files, Has, Path, Removed, SameFiles, Table, Upserted, is_null}
 use Rattle.gixobj_files.specs.Opening.{OpenFiles}
 use Rattle.gixobj_files.specs.State.{root_alone}
 use Rattle.gixobj_files.proofs.OpenedFiles.{root_only}
 
--- what an appended list has
+-- the entries of an appended list are those of its parts
 pub Has-append : (xs ys : List EntryView) (e : EntryView) → Has (xs ++ ys) e → Has xs e ⊎ Has ys e
 Has-append [] ys e h = inr h
 Has-append (x ∷ xs) ys e (inl p) = inl (inl p)
@@ -28,7 +28,7 @@ pub Has-right : (xs ys : List EntryView) (e : EntryView) → Has ys e → Has (x
 Has-right [] ys e h = h
 Has-right (x ∷ xs) ys e h = inr (Has-right xs ys e h)
 
--- what a filter keeps
+-- a filter keeps the entries that pass
 Has-kept : (p : EntryView → Bool) (xs : List EntryView) (e : EntryView) → Has (filter p xs) e → Has xs e × (p e ≡ true)
 Has-kept p [] e h = absurd h
 Has-kept p (x ∷ xs) e h =
@@ -43,14 +43,15 @@ Has-keeps p (x ∷ xs) e (inl q) t = rw (subst (λ y. p y ≡ true) (sym q) t) (
 Has-keeps p (x ∷ xs) e (inr h) t =
     elim (p x) as (λ b. Has (cond b (x ∷ filter p xs) (filter p xs)) e) [ true ↦ inr (Has-keeps p xs e h t) | false ↦ Has-keeps p xs e h t ]
 
--- entries of other names
+-- the entries of other names are those whose names differ
 pub has_without : (name : List ℕ) (es : List EntryView) (e : EntryView) → Has (without name es) e → Has es e × (e.name ≢ name)
 has_without name es e h =
     let s = Has-kept (λ y. not (same_name y.name name)) es e h in
     (s.0, λ q. cc (ap not ((bytes_decides e.name name).1 q), s.1))
 
 pub has_other : (name : List ℕ) (es : List EntryView) (e : EntryView) → Has es e → e.name ≢ name → Has (without name es) e
-has_other name es e h n = Has-keeps (λ y. not (same_name y.name name)) es e h (apart (same_name e.name name) (λ t. n ((bytes_decides e.name name).0 t)))
+has_other name es e h n = Has-keeps (λ y. not (same_name y.name name)) es e h
+    (apart (same_name e.name name) (λ t. n ((bytes_decides e.name name).0 t)))
   where
     apart : (b : Bool) → b ≢ true → not b ≡ true
     apart true f = absurd (f refl)
@@ -60,30 +61,35 @@ either : (b : Bool) → (b ≡ true) ⊎ (not b ≡ true)
 either true = inl refl
 either false = inr refl
 
--- the entry that was put in, and those of other names
-pub has_put : (x : EntryView) (es : List EntryView) (e : EntryView) → Has (with_entry x es) e → (x ≡ e) ⊎ (Has es e × (e.name ≢ x.name))
-has_put x es e h =
+-- after an insertion the list has the inserted entry, and those of other names
+pub has_inserted : (x : EntryView) (es : List EntryView) (e : EntryView) → Has (with_entry x es) e → (x ≡ e) ⊎ (Has es e × (e.name ≢ x.name))
+has_inserted x es e h =
     let others : Has (without x.name es) e → Has es e × (e.name ≢ x.name) = has_without x.name es e in
     ⊎_elim (λ k. inr (others (Has-kept (λ y. comes_before y x) (without x.name es) e k).0))
     (⊎_elim inl (λ k. inr (others (Has-kept (λ y. not (comes_before y x)) (without x.name es) e k).0)))
     (Has-append (filter (λ y. comes_before y x) (without x.name es)) (x ∷ filter (λ y. not (comes_before y x)) (without x.name es)) e h)
 
 pub has_new : (x : EntryView) (es : List EntryView) → Has (with_entry x es) x
-has_new x es = Has-right (filter (λ y. comes_before y x) (without x.name es)) (x ∷ filter (λ y. not (comes_before y x)) (without x.name es)) x (inl refl)
+has_new x es = Has-right (filter (λ y. comes_before y x) (without x.name es)) (x ∷ filter (λ y. not (comes_before y x)) (without x.name es)) x
+    (inl refl)
 
 pub has_still : (x : EntryView) (es : List EntryView) (e : EntryView) → Has es e → e.name ≢ x.name → Has (with_entry x es) e
 has_still x es e h n =
-    let left = has_other x.name es e h n in
-    ⊎_elim (λ l. Has-left (filter (λ y. comes_before y x) (without x.name es)) _ e (Has-keeps (λ y. comes_before y x) (without x.name es) e left l))
-    (λ g. Has-right (filter (λ y. comes_before y x) (without x.name es)) _ e (inr (Has-keeps (λ y. not (comes_before y x)) (without x.name es) e left g))) (either (comes_before e x))
+    let remaining = has_other x.name es e h n in
+    ⊎_elim (λ l. Has-left (filter (λ y. comes_before y x) (without x.name es)) _ e
+    (Has-keeps (λ y. comes_before y x) (without x.name es) e remaining l))
+    (λ g. Has-right (filter (λ y. comes_before y x) (without x.name es)) _ e
+    (inr (Has-keeps (λ y. not (comes_before y x)) (without x.name es) e remaining g)))
+    (either (comes_before e x))
 
 pub one_less : (n : ℕ) (name : List ℕ) → suc n - length (name ∷ []) ≡ n
 one_less n name = omega arith
 
-pub files_put : (T : Table) (n : ℕ) (x : EntryView) (es : List EntryView) → SameFiles (Files T n (with_entry x es)) (Upserted T n (x.name ∷ []) x.mode x.id (Files T n es))
-files_put T zero x es path mode id = ((λ h. absurd h), ⊎_elim (λ h. absurd h.0) (λ h. absurd (omega (arith, h.0))))
-files_put T (suc n) x es [] mode id = ((λ h. absurd h), ⊎_elim (λ h. absurd h.0) (λ h. cc (h.2)))
-files_put T (suc n) x es (name ∷ path) mode id =
+pub files_inserted : (T : Table) (n : ℕ) (x : EntryView) (es : List EntryView)
+    → SameFiles (Files T n (with_entry x es)) (Upserted T n (x.name ∷ []) x.mode x.id (Files T n es))
+files_inserted T zero x es path mode id = ((λ h. absurd h), ⊎_elim (λ h. absurd h.0) (λ h. absurd (omega (arith, h.0))))
+files_inserted T (suc n) x es [] mode id = ((λ h. absurd h), ⊎_elim (λ h. absurd h.0) (λ h. cc (h.2)))
+files_inserted T (suc n) x es (name ∷ path) mode id =
     let depth : suc n - length (x.name ∷ []) ≡ n = one_less n x.name in
     let At : ℕ → Path → EntryView → Type 0 = λ k p e. Below T (Files T k) e.mode e.id p mode id in (
       (λ h. ⊎_elim
@@ -91,7 +97,7 @@ files_put T (suc n) x es (name ∷ path) mode id =
           let named : name ≡ x.name = sym h.2 ∙ ap (λ (e : EntryView). e.name) (sym new) in
           inr (omega arith, path, rw named refl, subst (λ k. At k path x) (sym depth) (subst (At n path) (sym new) h.3)))
           (λ old. inl ((h.0, old.0, h.2, h.3), (λ b. old.1 (cc (h.2, b.1))), (λ b. old.1 (cc (h.2, b.1)))))
-          (has_put x es h.0 h.1)),
+          (has_inserted x es h.0 h.1)),
       ⊎_elim
           (λ h.
           let other : (h.0.0).name ≢ x.name = λ q. h.1 (path, (let named : name ≡ x.name = sym (h.0.2) ∙ q in rw named refl)) in
@@ -101,7 +107,8 @@ files_put T (suc n) x es (name ∷ path) mode id =
           (x, has_new x es, cc (h.2), subst (λ p. At n p x) (sym rest) (subst (λ k. At k h.1 x) depth h.3))),
     )
 
-pub files_without : (T : Table) (n : ℕ) (name : List ℕ) (es : List EntryView) → SameFiles (Files T n (without name es)) (Removed (name ∷ []) (Files T n es))
+pub files_without : (T : Table) (n : ℕ) (name : List ℕ) (es : List EntryView)
+    → SameFiles (Files T n (without name es)) (Removed (name ∷ []) (Files T n es))
 files_without T zero name es path mode id = ((λ h. absurd h), λ h. absurd h.0)
 files_without T (suc n) name es [] mode id = ((λ h. absurd h), λ h. absurd h.0)
 files_without T (suc n) name es (first ∷ path) mode id = (
@@ -110,7 +117,7 @@ files_without T (suc n) name es (first ∷ path) mode id = (
       (h.0.0, has_other name es h.0.0 h.0.1 ne, h.0.2, h.0.3),
 )
 
-pub files_kept : (T : Table) (n : ℕ) (es : List EntryView) → SameFiles (Files T n (kept es)) (Files T n es)
+pub files_kept : (T : Table) (n : ℕ) (es : List EntryView) → SameFiles (Files T n (non_null_entries es)) (Files T n es)
 files_kept T zero es path mode id = ((λ h. absurd h), λ h. absurd h)
 files_kept T (suc n) es [] mode id = ((λ h. absurd h), λ h. absurd h)
 files_kept T (suc n) es (name ∷ path) mode id = (
@@ -118,7 +125,7 @@ files_kept T (suc n) es (name ∷ path) mode id = (
   λ h. (h.0, Has-keeps (λ e. not (is_null e.id)) es h.0 h.1 (ap not h.3.0), h.2, h.3),
 )
 
--- sets of the same files
+-- having the same files is an equivalence of sets of files
 pub same_refl : (A : FileSet) → SameFiles A A
 same_refl A path mode id = ((λ h. h), λ h. h)
 
@@ -126,9 +133,11 @@ pub same_sym : (A B : FileSet) → SameFiles A B → SameFiles B A
 same_sym A B same path mode id = ((same path mode id).1, (same path mode id).0)
 
 pub same_trans : (A B C : FileSet) → SameFiles A B → SameFiles B C → SameFiles A C
-same_trans A B C front back path mode id = ((λ h. (back path mode id).0 ((front path mode id).0 h)), λ h. (front path mode id).1 ((back path mode id).1 h))
+same_trans A B C prefix back path mode id =
+    ((λ h. (back path mode id).0 ((prefix path mode id).0 h)), λ h. (prefix path mode id).1 ((back path mode id).1 h))
 
-pub same_upserted : (T : Table) (n : ℕ) (path : Path) (mode : ℕ) (id : ObjectId) (A B : FileSet) → SameFiles A B → SameFiles (Upserted T n path mode id A) (Upserted T n path mode id B)
+pub same_upserted : (T : Table) (n : ℕ) (path : Path) (mode : ℕ) (id : ObjectId) (A B : FileSet) → SameFiles A B
+    → SameFiles (Upserted T n path mode id A) (Upserted T n path mode id B)
 same_upserted T n [] mode id A B same at mode' id' = same at mode' id'
 same_upserted T n (name ∷ path) mode id A B same at mode' id' =
     (⊎_elim (λ h. inl ((same at mode' id').0 h.0, h.1, h.2)) inr, ⊎_elim (λ h. inl ((same at mode' id').1 h.0, h.1, h.2)) inr)
@@ -137,16 +146,18 @@ pub same_removed : (path : Path) (A B : FileSet) → SameFiles A B → SameFiles
 same_removed [] A B same at mode id = same at mode id
 same_removed (name ∷ path) A B same at mode id = ((λ h. ((same at mode id).0 h.0, h.1)), λ h. ((same at mode id).1 h.0, h.1))
 
-pub same_assured : (path : Path) (A B : FileSet) → SameFiles A B → SameFiles (Assured path A) (Assured path B)
-same_assured [] A B same at mode id = same at mode id
-same_assured (name ∷ path) A B same at mode id = ((λ h. ((same at mode id).0 h.0, h.1)), λ h. ((same at mode id).1 h.0, h.1))
+pub same_ensured : (path : Path) (A B : FileSet) → SameFiles A B → SameFiles (Ensured path A) (Ensured path B)
+same_ensured [] A B same at mode id = same at mode id
+same_ensured (name ∷ path) A B same at mode id = ((λ h. ((same at mode id).0 h.0, h.1)), λ h. ((same at mode id).1 h.0, h.1))
 
--- the root alone is open
+-- if the root alone is open, it is the only directory
 pub root_open : (es : List EntryView) → map.get (root_alone es) [] ≡ Some es
 root_open es = map.get-insert (lists_total nat_list_cmp_total) map.empty [] es []
 
-pub root_shut : (es : List EntryView) (name : List ℕ) (path : Path) → map.get (root_alone es) (name ∷ path) ≡ None
-root_shut es name path = map.get-insert (lists_total nat_list_cmp_total) map.empty [] es (name ∷ path) ∙ map.get-empty (slice_cmp (slice_cmp nat_cmp)) (name ∷ path)
+pub root_unopened : (es : List EntryView) (name : List ℕ) (path : Path) → map.get (root_alone es) (name ∷ path) ≡ None
+root_unopened es name path = map.get-insert (lists_total nat_list_cmp_total) map.empty [] es (name ∷ path)
+    ∙ map.get-empty (slice_cmp (slice_cmp nat_cmp))
+    (name ∷ path)
 
 pub root_files : (T : Table) (n : ℕ) (es : List EntryView) → SameFiles (OpenFiles T n (λ path. map.get (root_alone es) path)) (Files T n es)
-root_files T n es = root_only T n (λ path. map.get (root_alone es) path) es (root_open es) (λ name. root_shut es name [])
+root_files T n es = root_only T n (λ path. map.get (root_alone es) path) es (root_open es) (λ name. root_unopened es name [])

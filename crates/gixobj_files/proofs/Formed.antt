@@ -1,4 +1,5 @@
--- Edits keep entries well-formed, and a root alone is an open directory.
+-- Edits keep entries well-formed, and a root alone satisfies the invariant of open directories: for the levels of open
+-- directories and `StillOpened`.
 use Rattle.std.proofs.Common.{◌≡◌, ◌≢◌, ◌∙◌, ℕ, Bool, true, not, cond, List, [], ◌∷◌, ◌++◌, Option, Some, None, refl, sym, ap, subst}
 use mathlib.Core.Bool.{true≢false}
 use Rattle.std.specs.Cmp.Lexicographic.{bytes_decides, slice_cmp}
@@ -7,7 +8,7 @@ use Rattle.std.specs.List.{AllByRecursion, filter}
 use Rattle.std.specs.Ordering.{is_eq, nat_cmp}
 use Rattle.std.proofs.lemmas.Cmp.{lists_total, nat_list_cmp_total}
 use Rattle.gixobj_tree.specs.Entries.{ComesBefore, EachLater, EntryView, IsEntryName, IsWellFormed}
-use Rattle.gixobj_files.specs.Editing.{comes_before, kept, same_name, with_entry, without}
+use Rattle.gixobj_files.specs.Editing.{comes_before, non_null_entries, same_name, with_entry, without}
 use Rattle.gixobj_files.specs.Files.{Path, is_null}
 use Rattle.gixobj_files.specs.Opening.{IsOpened}
 use Rattle.gixobj_files.specs.State.{root_alone}
@@ -15,7 +16,7 @@ use Rattle.gixobj_files.proofs.KeyOrder.{before_other, before_passing}
 use Rattle.gixobj_files.proofs.Sublists.{all_append, all_both, all_kept, all_pass, all_weaker, later_append, later_kept, later_parted}
 use Rattle.gixobj_tree.proofs.WellFormed.{comes_trans}
 
--- any sublist that a test keeps
+-- a filtered list is well-formed
 pub well_formed_filtered : (p : EntryView → Bool) (es : List EntryView) → IsWellFormed es → IsWellFormed (filter p es)
 well_formed_filtered p es formed = record {
   names = all_kept (λ e. IsEntryName e.name) p es formed.names;
@@ -26,10 +27,10 @@ well_formed_filtered p es formed = record {
 pub well_formed_without : (name : List ℕ) (es : List EntryView) → IsWellFormed es → IsWellFormed (without name es)
 well_formed_without name = well_formed_filtered (λ e. not (same_name e.name name))
 
-pub well_formed_kept : (es : List EntryView) → IsWellFormed es → IsWellFormed (kept es)
+pub well_formed_kept : (es : List EntryView) → IsWellFormed es → IsWellFormed (non_null_entries es)
 well_formed_kept = well_formed_filtered (λ e. not (is_null e.id))
 
--- an entry among well-formed ones of other names
+-- a list is well-formed with an entry at its position, among entries of other names
 module _ (x : EntryView) (es : List EntryView) (formed : IsWellFormed es) (name : IsEntryName x.name) (others : AllByRecursion (λ e. e.name ≢ x.name) es) where
   abbrev lower : List EntryView
   lower = filter (λ e. comes_before e x) es
@@ -38,10 +39,12 @@ module _ (x : EntryView) (es : List EntryView) (formed : IsWellFormed es) (name 
   upper = filter (λ e. not (comes_before e x)) es
 
   upper_differ : AllByRecursion (λ e. x.name ≢ e.name) upper
-  upper_differ = all_weaker (λ (e : EntryView). e.name ≢ x.name) (λ (e : EntryView). x.name ≢ e.name) (λ e differ same. differ (sym same)) upper (all_kept (λ (e : EntryView). e.name ≢ x.name) (λ e. not (comes_before e x)) es others)
+  upper_differ = all_weaker (λ (e : EntryView). e.name ≢ x.name) (λ (e : EntryView). x.name ≢ e.name) (λ e differ same. differ (sym same)) upper
+      (all_kept (λ (e : EntryView). e.name ≢ x.name) (λ e. not (comes_before e x)) es others)
 
   lower_below : AllByRecursion (λ e. ComesBefore e x) lower
-  lower_below = all_weaker (λ (e : EntryView). comes_before e x ≡ true) (λ (e : EntryView). ComesBefore e x) (λ e passes. before_passing e x passes) lower (all_pass (λ e. comes_before e x) es)
+  lower_below = all_weaker (λ (e : EntryView). comes_before e x ≡ true) (λ (e : EntryView). ComesBefore e x) (λ e passes. before_passing e x passes) lower
+      (all_pass (λ e. comes_before e x) es)
 
   upper_above : AllByRecursion (ComesBefore x) upper
   upper_above =
@@ -49,30 +52,33 @@ module _ (x : EntryView) (es : List EntryView) (formed : IsWellFormed es) (name 
       let upper_facts = all_kept (λ (e : EntryView). IsEntryName e.name × (e.name ≢ x.name)) (λ e. not (comes_before e x)) es facts in
       all_weaker (λ (e : EntryView). (IsEntryName e.name × (e.name ≢ x.name)) × (not (comes_before e x) ≡ true)) (ComesBefore x)
       (λ e h. before_other e x h.0.0.one_name name.one_name h.0.1 h.1) upper
-      (all_both (λ (e : EntryView). IsEntryName e.name × (e.name ≢ x.name)) (λ (e : EntryView). not (comes_before e x) ≡ true) upper upper_facts (all_pass (λ e. not (comes_before e x)) es))
+      (all_both (λ (e : EntryView). IsEntryName e.name × (e.name ≢ x.name)) (λ (e : EntryView). not (comes_before e x) ≡ true) upper upper_facts
+      (all_pass (λ e. not (comes_before e x)) es))
 
-  put_names : AllByRecursion (λ e. IsEntryName e.name) (lower ++ x ∷ upper)
-  put_names =
-      all_append (λ (e : EntryView). IsEntryName e.name) lower (x ∷ upper) (all_kept (λ (e : EntryView). IsEntryName e.name) (λ e. comes_before e x) es formed.names)
+  inserted_names : AllByRecursion (λ e. IsEntryName e.name) (lower ++ x ∷ upper)
+  inserted_names =
+      all_append (λ (e : EntryView). IsEntryName e.name) lower (x ∷ upper)
+      (all_kept (λ (e : EntryView). IsEntryName e.name) (λ e. comes_before e x) es formed.names)
       (name, all_kept (λ (e : EntryView). IsEntryName e.name) (λ e. not (comes_before e x)) es formed.names)
 
-  put_apart : EachLater (λ y z. y.name ≢ z.name) (lower ++ x ∷ upper)
-  put_apart =
+  inserted_apart : EachLater (λ y z. y.name ≢ z.name) (lower ++ x ∷ upper)
+  inserted_apart =
       let Apart : EntryView → EntryView → Type 0 = λ y z. y.name ≢ z.name in
       later_append Apart lower (x ∷ upper) (later_kept Apart (λ e. comes_before e x) es formed.apart)
       (upper_differ, later_kept Apart (λ e. not (comes_before e x)) es formed.apart)
-      (all_both (λ (e : EntryView). e.name ≢ x.name) (λ (e : EntryView). AllByRecursion (Apart e) upper) lower (all_kept (λ (e : EntryView). e.name ≢ x.name) (λ e. comes_before e x) es others)
+      (all_both (λ (e : EntryView). e.name ≢ x.name) (λ (e : EntryView). AllByRecursion (Apart e) upper) lower
+      (all_kept (λ (e : EntryView). e.name ≢ x.name) (λ e. comes_before e x) es others)
       (later_parted Apart (λ e. comes_before e x) es (λ y z differ same. differ (sym same)) formed.apart))
 
-  put_ascending : EachLater ComesBefore (lower ++ x ∷ upper)
-  put_ascending =
+  inserted_ascending : EachLater ComesBefore (lower ++ x ∷ upper)
+  inserted_ascending =
       later_append ComesBefore lower (x ∷ upper) (later_kept ComesBefore (λ e. comes_before e x) es formed.ascending)
       (upper_above, later_kept ComesBefore (λ e. not (comes_before e x)) es formed.ascending)
       (all_weaker (λ (e : EntryView). ComesBefore e x) (λ (e : EntryView). ComesBefore e x × AllByRecursion (ComesBefore e) upper)
       (λ e below. (below, all_weaker (ComesBefore x) (ComesBefore e) (λ z above. comes_trans e x z below above) upper upper_above)) lower lower_below)
 
-  put_formed : IsWellFormed (lower ++ x ∷ upper)
-  put_formed = record { names = put_names; apart = put_apart; ascending = put_ascending }
+  inserted_formed : IsWellFormed (lower ++ x ∷ upper)
+  inserted_formed = record { names = inserted_names; apart = inserted_apart; ascending = inserted_ascending }
 
 other_names : (name : List ℕ) (es : List EntryView) → AllByRecursion (λ e. e.name ≢ name) (without name es)
 other_names name es =
@@ -80,16 +86,17 @@ other_names name es =
     (λ e passes same. true≢false (sym passes ∙ ap not ((bytes_decides e.name name).1 same))) (without name es) (all_pass (λ e. not (same_name e.name name)) es)
 
 pub well_formed_with : (x : EntryView) (es : List EntryView) → IsWellFormed es → IsEntryName x.name → IsWellFormed (with_entry x es)
-well_formed_with x es formed name = put_formed x (without x.name es) (well_formed_without x.name es formed) name (other_names x.name es)
+well_formed_with x es formed name = inserted_formed x (without x.name es) (well_formed_without x.name es formed) name (other_names x.name es)
 
--- what is open where the root alone is
+-- the open directories if the root alone is open
 abbrev alone : Path → List EntryView → Option (List EntryView)
 alone path es = cond (is_eq (slice_cmp (slice_cmp nat_cmp) path [])) (Some es) None
 
 root_alone_at : (es : List EntryView) (path : Path) → map.get (root_alone es) path ≡ alone path es
 root_alone_at es path =
     map.get-insert (lists_total nat_list_cmp_total) map.empty [] es path
-    ∙ ap (λ (o : Option (List EntryView)). cond (is_eq (slice_cmp (slice_cmp nat_cmp) path [])) (Some es) o) (map.get-empty (slice_cmp (slice_cmp nat_cmp)) path)
+    ∙ ap (λ (o : Option (List EntryView)). cond (is_eq (slice_cmp (slice_cmp nat_cmp) path [])) (Some es) o)
+    (map.get-empty (slice_cmp (slice_cmp nat_cmp)) path)
 
 only_root : (path : Path) (es entries : List EntryView) → alone path es ≡ Some entries → (path ≡ []) × (es ≡ entries)
 only_root [] es entries e = (refl, cc e)
@@ -103,5 +110,6 @@ pub opened_root : (es : List EntryView) → IsWellFormed es → IsOpened (λ pat
 opened_root es formed = record {
   root = λ none. cc (sym (root_alone_at es []) ∙ none);
   well_formed = λ path entries opened. subst IsWellFormed (only_root path es entries (sym (root_alone_at es path) ∙ opened)).1 formed;
-  above = λ path name entries opened. absurd (not_empty path name (only_root (path ++ name ∷ []) es entries (sym (root_alone_at es (path ++ name ∷ [])) ∙ opened)).0);
+  above = λ path name entries opened. absurd
+      (not_empty path name (only_root (path ++ name ∷ []) es entries (sym (root_alone_at es (path ++ name ∷ [])) ∙ opened)).0);
 }

@@ -1,4 +1,4 @@
--- The trees' entries of a list, before and after an edit.
+-- The entries of tree mode in a list, before and after an edit.
 use mathlib.Core.Bool.{true≢false}
 use Rattle.std.proofs.Common.{◌≡◌, ◌≢◌, inl, inr, ℕ, Bool, true, false, cond, List, [], ◌∷◌, refl, sym, ap, ◌∙◌}
 use Rattle.std.specs.Prelude.{◌&&◌, ◌||◌}
@@ -15,11 +15,13 @@ use Rattle.gixobj_files.proofs.Formed.{well_formed_with}
 pub has_tree_of : (name : List ℕ) (es : List EntryView) → has_tree name es ≡ true → (e : EntryView) × Has es e × (e.name ≡ name) × (is_tree_mode e.mode ≡ true)
 has_tree_of name [] h = absurd (true≢false (sym h))
 has_tree_of name (e ∷ es) h =
-    elim (same_name e.name name) as (λ b. same_name e.name name ≡ b → ((b && is_tree_mode e.mode) || has_tree name es) ≡ true → (x : EntryView) × Has (e ∷ es) x × (x.name ≡ name) × (is_tree_mode x.mode ≡ true)) [
-      | true ↦ λ is k. elim (is_tree_mode e.mode) as (λ b. is_tree_mode e.mode ≡ b → (b || has_tree name es) ≡ true → (x : EntryView) × Has (e ∷ es) x × (x.name ≡ name) × (is_tree_mode x.mode ≡ true)) [
-        | true ↦ λ tree l. (e, inl refl, (bytes_decides e.name name).0 is, tree)
-        | false ↦ λ other l. let r = has_tree_of name es l in (r.0, inr r.1, r.2, r.3)
-      ] refl k
+    elim (same_name e.name name) as (λ b. same_name e.name name ≡ b → ((b && is_tree_mode e.mode) || has_tree name es) ≡ true → (x : EntryView) × Has (e ∷ es) x
+    × (x.name ≡ name) × (is_tree_mode x.mode ≡ true)) [
+      | true ↦ λ is k. elim (is_tree_mode e.mode) as (λ b. is_tree_mode e.mode ≡ b → (b || has_tree name es) ≡ true → (x : EntryView) × Has (e ∷ es) x
+          × (x.name ≡ name) × (is_tree_mode x.mode ≡ true)) [
+            | true ↦ λ tree l. (e, inl refl, (bytes_decides e.name name).0 is, tree)
+            | false ↦ λ other l. let r = has_tree_of name es l in (r.0, inr r.1, r.2, r.3)
+          ] refl k
       | false ↦ λ is k. let r = has_tree_of name es k in (r.0, inr r.1, r.2, r.3)
     ] refl h
 
@@ -40,12 +42,12 @@ tree_still name x es differ h =
     let e = has_tree_of name es h in
     of_has_tree name (with_entry x es) e.0 (has_still x es e.0 e.1 (λ q. differ (sym e.2 ∙ q))) e.2 e.3
 
-pub tree_left : (name gone : List ℕ) (es : List EntryView) → name ≢ gone → has_tree name es ≡ true → has_tree name (without gone es) ≡ true
-tree_left name gone es differ h =
+pub tree_remaining : (name gone : List ℕ) (es : List EntryView) → name ≢ gone → has_tree name es ≡ true → has_tree name (without gone es) ≡ true
+tree_remaining name gone es differ h =
     let e = has_tree_of name es h in
     of_has_tree name (without gone es) e.0 (has_other gone es e.0 e.1 (λ q. differ (sym e.2 ∙ q))) e.2 e.3
 
--- with a directory of this name
+-- a list with a directory of this name has an entry of tree mode for it
 pub tree_there : (name : List ℕ) (null : ObjectId) (es : List EntryView) → has_tree name (with_directory name null es) ≡ true
 tree_there name null es =
     let x : EntryView = record { mode = tree_type; name = name; id = null } in
@@ -54,8 +56,9 @@ tree_there name null es =
       | false ↦ λ is. of_has_tree name (with_entry x es) x (has_new x es) refl refl
     ] refl
 
-pub tree_beside : (other name : List ℕ) (null : ObjectId) (es : List EntryView) → has_tree other es ≡ true → has_tree other (with_directory name null es) ≡ true
-tree_beside other name null es h =
+pub tree_next_to : (other name : List ℕ) (null : ObjectId) (es : List EntryView) → has_tree other es ≡ true
+    → has_tree other (with_directory name null es) ≡ true
+tree_next_to other name null es h =
     let x : EntryView = record { mode = tree_type; name = name; id = null } in
     elim (has_tree name es) as (λ b. has_tree name es ≡ b → has_tree other (cond b es (with_entry x es)) ≡ true) [
       | true ↦ λ is. h
@@ -67,6 +70,6 @@ formed_directory name null es formed is_name =
     let x : EntryView = record { mode = tree_type; name = name; id = null } in
     elim (has_tree name es) as (λ b. IsWellFormed (cond b es (with_entry x es))) [ true ↦ formed | false ↦ well_formed_with x es formed is_name ]
 
--- a tree's entry that is there stays
+-- an entry of tree mode that is there is unchanged
 pub directory_same : (name : List ℕ) (null : ObjectId) (es : List EntryView) → has_tree name es ≡ true → with_directory name null es ≡ es
 directory_same name null es h = rw h refl

@@ -1,4 +1,4 @@
--- Places among entries: what the searches by halves for a name find in a well-formed tree.
+-- What the binary searches for a name find in a well-formed tree: for the functions of the module `places`.
 use Rattle.std.proofs.Common.{◌≡◌, ◌≢◌, ◌∙◌, ◌-◌, ◌<◌, ◌≤◌, ℕ, Bool, true, false, List, [], ◌∷◌, ◌++◌, Contains, HoldsAt, MatchResult, Some, None, Less, Equal, Greater, Ordering, Result, Ok, Err, get_or, length, refl, sym, ap, subst, arith}
 use mathlib.Core.Bool.{true≢false}
 use Rattle.std.specs.Prelude.{◌&&◌, IfErr, IfOk, is_ok}
@@ -16,41 +16,43 @@ use Rattle.std.proofs.lemmas.List.Folds.{list_any_at, list_any_none}
 use Rattle.std.proofs.lemmas.List.Quantifiers.{position-Some}
 use Rattle.std.proofs.lemmas.List.Sums.{prefix_len-le-length, prefix_len_passes, prefix_len_stops}
 use Rattle.gixobj_files.specs.Editing.{has_tree, same_name}
-use Rattle.gixobj_hash.specs.Texts.{IsFree}
+use Rattle.gixobj_hash.specs.ByteStrings.{IsByteFree}
 use Rattle.gixobj_tree.proofs.NameKeys.{by_keys}
 use Rattle.gixobj_tree.proofs.WellFormed.{found, same_key, slash_ends}
 use Rattle.gixobj_tree.specs.Entries.{EntryView, IsEntryName, IsWellFormed, entry_key, key_of, name_cmp}
 use Rattle.gixobj_mode.specs.Mode.{is_tree_mode}
 use Rattle.gixobj_tree.specs.WellFormed.{HasKey}
-use Rattle.gixobj_files.proofs.Halves.{IsNarrowed, compared, first, greater_from, halved_key, halved_place, is_before, later_at, less_to, lt_is, narrowed_none, position_at, position_none}
+use Rattle.gixobj_files.proofs.BinarySearch.{IsNarrowed, compared, first, greater_from, halved_key, halved_place, is_before, later_at, less_to, lt_is, narrowed_none, position_at, position_none}
 
 -- a key has one name and one kind
-same_parts : (xs : List ℕ) (t : Bool) (ys : List ℕ) (u : Bool) → IsFree 47 xs → IsFree 47 ys → key_of xs t ≡ key_of ys u → (xs ≡ ys) × (t ≡ u)
+same_parts : (xs : List ℕ) (t : Bool) (ys : List ℕ) (u : Bool) → IsByteFree 47 xs → IsByteFree 47 ys → key_of xs t ≡ key_of ys u → (xs ≡ ys) × (t ≡ u)
 same_parts xs true ys true a b e = (append_cancel_right xs ys (47 ∷ []) e, refl)
 same_parts xs false ys false a b e = (e, refl)
-same_parts xs true ys false a b e = absurd (slash_ends xs (subst (IsFree 47) (sym e) b))
-same_parts xs false ys true a b e = absurd (slash_ends ys (subst (IsFree 47) e a))
+same_parts xs true ys false a b e = absurd (slash_ends xs (subst (IsByteFree 47) (sym e) b))
+same_parts xs false ys true a b e = absurd (slash_ends ys (subst (IsByteFree 47) e a))
 
--- whether a tree's entry was found
-pub tree_told : (name : List ℕ) (es : List EntryView) (r : Result ℕ ℕ) → IfOk r (λ i. position (λ (e : EntryView). same_name e.name name) es ≡ Some i) → IfOk r (HoldsAt (λ (e : EntryView). is_tree_mode e.mode ≡ true) es)
+-- whether an entry of tree mode was found
+pub tree_looked_up : (name : List ℕ) (es : List EntryView) (r : Result ℕ ℕ)
+    → IfOk r (λ i. position (λ (e : EntryView). same_name e.name name) es ≡ Some i)
+    → IfOk r (HoldsAt (λ (e : EntryView). is_tree_mode e.mode ≡ true) es)
     → IfErr r (λ (i : ℕ). HasKey es (key_of name true) → ⊥) → is_ok r ≡ has_tree name es
-tree_told name [] (Ok i) place kind none = absurd (cc place)
-tree_told name (e ∷ es) (Ok i) place kind none =
+tree_looked_up name [] (Ok i) place kind none = absurd (cc place)
+tree_looked_up name (e ∷ es) (Ok i) place kind none =
     let there = position-Some (λ (x : EntryView). same_name x.name name) (e ∷ es) i e place in
     sym (list_any_at (λ (x : EntryView). same_name x.name name && is_tree_mode x.mode) (e ∷ es) i e there.0 (rw (there.1, kind e) refl))
-tree_told name es (Err i) place kind none =
+tree_looked_up name es (Err i) place kind none =
     let is_such : EntryView → Bool = λ x. same_name x.name name && is_tree_mode x.mode in
     sym (list_any_none is_such es (λ k d low. false_from_ne_true (is_such (get_or es k d)) (λ such.
     let parts = and_parts (same_name (get_or es k d).name name) (is_tree_mode (get_or es k d).mode) such in
     let named : (get_or es k d).name ≡ name = (bytes_decides (get_or es k d).name name).0 parts.0 in
     none (get_or es k d, Contains-get_or es k d low, ap (key_of (get_or es k d).name) parts.1 ∙ ap (λ (n : List ℕ). key_of n true) named))))
 
--- a file's key comes before a directory's of its name
+-- the key of a file is less than that of a directory of its name
 shorter : (name : List ℕ) → slice_cmp nat_cmp name (name ++ 47 ∷ []) ≡ Less
 shorter [] = refl
 shorter (x ∷ xs) = rw (sym (nat_cmp_is x x Equal refl)) (shorter xs)
 
--- what doesn't come before a directory of the name comes after a file of it
+-- a key that isn't less than that of a directory of the name is greater than that of a file of it
 above : (name key : List ℕ) → is_lt (slice_cmp nat_cmp key (name ++ 47 ∷ [])) ≡ false → slice_cmp nat_cmp key name ≡ Greater
 above name key fails =
     let long : List ℕ = name ++ 47 ∷ [] in
@@ -66,87 +68,113 @@ module _ (es : List EntryView) (formed : IsWellFormed es) (name : List ℕ) wher
   named : (e : EntryView) → e.name ≡ name → same_name e.name name ≡ true
   named e is = (bytes_decides e.name name).1 is
 
-  free_at : (i : ℕ) (d : EntryView) → i < length es → IsFree 47 (get_or es i d).name
+  free_at : (i : ℕ) (d : EntryView) → i < length es → IsByteFree 47 (get_or es i d).name
   free_at i d low = (All-from_recursion (λ (e : EntryView). IsEntryName e.name) es formed.names i d low).one_name
 
-  -- no entry's name has a slash
+  -- no entry of a well-formed tree has a name with a slash
   pub no_slash : Contains name 47 → position (λ (e : EntryView). same_name e.name name) es ≡ None
   no_slash has = position_none (λ (e : EntryView). same_name e.name name) es (λ k d low.
-      false_from_ne_true (same_name (get_or es k d).name name) (λ same. All-contains (λ b. b ≢ 47) name 47 (subst (IsFree 47) ((bytes_decides (get_or es k d).name name).0 same) (free_at k d low)) has refl))
+      false_from_ne_true (same_name (get_or es k d).name name)
+      (λ same. All-contains (λ b. b ≢ 47) name 47 (subst (IsByteFree 47) ((bytes_decides (get_or es k d).name name).0 same) (free_at k d low)) has
+      refl))
 
   only_place : (i : ℕ) (d : EntryView) → i < length es → (get_or es i d).name ≡ name → position (λ (e : EntryView). same_name e.name name) es ≡ Some i
   only_place i d low is = position_at (λ (e : EntryView). same_name e.name name) es i d low (named (get_or es i d) is)
-      (λ k l. false_from_ne_true (same_name (get_or es k d).name name) (λ same. later_at (λ (x y : EntryView). x.name ≢ y.name) es formed.apart k i d l low ((bytes_decides (get_or es k d).name name).0 same ∙ sym is)))
+      (λ k l. false_from_ne_true (same_name (get_or es k d).name name)
+      (λ same. later_at (λ (x y : EntryView). x.name ≢ y.name) es formed.apart k i d l low
+      ((bytes_decides (get_or es k d).name name).0 same ∙ sym is)))
 
-  -- of neither kind
+  -- if neither a file nor a directory has the name, no entry has it
   no_place : (HasKey es (key_of name false) → ⊥) → (HasKey es (key_of name true) → ⊥) → position (λ (e : EntryView). same_name e.name name) es ≡ None
-  no_place no_file no_tree = position_none (λ (e : EntryView). same_name e.name name) es (λ k d low. false_from_ne_true (same_name (get_or es k d).name name) (λ same. here (get_or es k d) (Contains-get_or es k d low) ((bytes_decides (get_or es k d).name name).0 same) _ refl))
+  no_place no_file no_tree = position_none (λ (e : EntryView). same_name e.name name) es
+      (λ k d low. false_from_ne_true (same_name (get_or es k d).name name)
+      (λ same. here (get_or es k d) (Contains-get_or es k d low) ((bytes_decides (get_or es k d).name name).0 same) _ refl))
     where
       here : (e : EntryView) → Contains es e → e.name ≡ name → (t : Bool) → is_tree_mode e.mode ≡ t → ⊥
       here e in_es is true kind = no_tree (e, in_es, ap (key_of e.name) kind ∙ ap (λ (n : List ℕ). key_of n true) is)
       here e in_es is false kind = no_file (e, in_es, ap (key_of e.name) kind ∙ is)
 
-  -- where the entry at a file's place comes after a directory of its name, no entry is one
+  -- if the entry at a file's position comes after a directory of its name, no entry has the name
   pub no_directory : (place : ℕ) → (HasKey es (key_of name false) → ⊥) → place ≡ prefix_len (is_before entry_key (key_of name false)) es
-      → (place < length es → HoldsAt (λ e. compared entry_key (key_of name true) e ≡ Greater) es place) → position (λ (e : EntryView). same_name e.name name) es ≡ None
+      → (place < length es → HoldsAt (λ e. compared entry_key (key_of name true) e ≡ Greater) es place)
+      → position (λ (e : EntryView). same_name e.name name) es ≡ None
   no_directory place no_file is next =
       let none : IsNarrowed entry_key es (key_of name true) place place = record {
-        front = λ k d l. nat_list_cmp_total.trans (entry_key (get_or es k d)) name (key_of name true)
-            (lt_is (compared entry_key name (get_or es k d)) (prefix_len_passes (is_before entry_key name) es k d (omega (arith, is, l)))) (shorter name);
-        back = λ k d from_place l. greater_from entry_key es formed.ascending (key_of name true) place (next (omega (arith, from_place, l))) k d from_place l;
+        prefix = λ k d l. nat_list_cmp_total.trans (entry_key (get_or es k d)) name (key_of name true)
+            (lt_is (compared entry_key name (get_or es k d)) (prefix_len_passes (is_before entry_key name) es k d (omega (arith, is, l))))
+            (shorter name);
+        back = λ k d from_place l. greater_from entry_key es formed.ascending (key_of name true) place
+            (next (omega (arith, from_place, l))) k d from_place l;
       } in
-      no_place no_file (found es (key_of name true) (Err place) false refl formed.ascending (omega (arith, is, prefix_len-le-length (is_before entry_key name) es)) (narrowed_none entry_key es (key_of name true) place none))
+      no_place no_file (found es (key_of name true) (Err place) false refl formed.ascending
+      (omega (arith, is, prefix_len-le-length (is_before entry_key name) es)) (narrowed_none entry_key es (key_of name true) place none))
 
-  -- where the entry in front of a directory's place comes before a file of its name, no entry is one
+  -- if the entry before a directory's position comes before a file of its name, no entry has the name
   pub no_file : (place : ℕ) → (HasKey es (key_of name true) → ⊥) → place ≡ prefix_len (is_before entry_key (key_of name true)) es
-      → (0 < place → HoldsAt (λ e. compared entry_key (key_of name false) e ≡ Less) es (place - 1)) → position (λ (e : EntryView). same_name e.name name) es ≡ None
-  no_file place no_tree is front =
+      → (0 < place → HoldsAt (λ e. compared entry_key (key_of name false) e ≡ Less) es (place - 1))
+      → position (λ (e : EntryView). same_name e.name name) es ≡ None
+  no_file place no_tree is head =
       let long : List ℕ = key_of name true in
       let short : place ≤ length es = omega (arith, is, prefix_len-le-length (is_before entry_key long) es) in
       let stops : place < length es → HoldsAt (λ e. compared entry_key name e ≡ Greater) es place = λ l d.
-      above name (entry_key (get_or es place d)) (subst (λ (i : ℕ). is_before entry_key long (get_or es i d) ≡ false) (sym is) (prefix_len_stops (is_before entry_key long) es d (omega (arith, is, l)))) in
+      above name (entry_key (get_or es place d))
+      (subst (λ (i : ℕ). is_before entry_key long (get_or es i d) ≡ false) (sym is)
+      (prefix_len_stops (is_before entry_key long) es d (omega (arith, is, l)))) in
       let none : IsNarrowed entry_key es name place place = record {
-        front = λ k d l. less_to entry_key es formed.ascending name (place - 1) (omega (arith, l, short)) (front (omega (arith, l))) k d (omega (arith, l));
+        prefix = λ k d l. less_to entry_key es formed.ascending name (place - 1) (omega (arith, l, short)) (head (omega (arith, l))) k d
+            (omega (arith, l));
         back = λ k d from_place l. greater_from entry_key es formed.ascending name place (stops (omega (arith, from_place, l))) k d from_place l;
       } in
       no_place (found es name (Err place) false refl formed.ascending short (narrowed_none entry_key es name place none)) no_tree
 
-  -- what is answered by a search for one of the two, where the other isn't there
-  pub first_of_two : (r : Result ℕ ℕ) → (HasKey es (key_of name true) → ⊥) → IfOk r (λ i. position (λ (e : EntryView). same_name e.name name) es ≡ Some i) → IfErr r (λ (i : ℕ). HasKey es (key_of name false) → ⊥)
+  -- if one kind is missing, a search for the other finds the first entry of the name
+  pub first_of_two : (r : Result ℕ ℕ) → (HasKey es (key_of name true) → ⊥)
+      → IfOk r (λ i. position (λ (e : EntryView). same_name e.name name) es ≡ Some i)
+      → IfErr r (λ (i : ℕ). HasKey es (key_of name false) → ⊥)
       → result_ok r ≡ position (λ (e : EntryView). same_name e.name name) es
   first_of_two (Ok i) no_tree ok err = sym ok
   first_of_two (Err i) no_tree ok err = sym (no_place err no_tree)
 
-  pub second : (r : Result ℕ ℕ) → (HasKey es (key_of name false) → ⊥) → IfOk r (λ i. position (λ (e : EntryView). same_name e.name name) es ≡ Some i) → IfErr r (λ (i : ℕ). HasKey es (key_of name true) → ⊥)
+  pub second : (r : Result ℕ ℕ) → (HasKey es (key_of name false) → ⊥) → IfOk r (λ i. position (λ (e : EntryView). same_name e.name name) es ≡ Some i)
+      → IfErr r (λ (i : ℕ). HasKey es (key_of name true) → ⊥)
       → result_ok r ≡ position (λ (e : EntryView). same_name e.name name) es
   second (Ok i) no_file ok err = sym ok
   second (Err i) no_file ok err = sym (no_place no_file err)
 
-  module _ (t : Bool) (free : IsFree 47 name) where
+  module _ (t : Bool) (free : IsByteFree 47 name) where
     abbrev pub by_key : EntryView → Ordering
     by_key = compared entry_key (key_of name t)
 
-    -- how names compare is how keys do
-    keyed : (i : ℕ) (d : EntryView) → i < length es → (o : Ordering) → o ≡ name_cmp (get_or es i d).name (is_tree_mode (get_or es i d).mode) name t → by_key (get_or es i d) ≡ o
+    -- entries compare by name and kind as their keys do
+    keyed : (i : ℕ) (d : EntryView) → i < length es → (o : Ordering) → o ≡ name_cmp (get_or es i d).name (is_tree_mode (get_or es i d).mode) name t
+        → by_key (get_or es i d) ≡ o
     keyed i d low o is = sym (is ∙ by_keys (get_or es i d).name (is_tree_mode (get_or es i d).mode) name t (free_at i d low) free)
 
-    pub told : (i : ℕ) (e : EntryView) → i < length es → e ≡ get_or es i e → (o : Ordering) → o ≡ name_cmp e.name (is_tree_mode e.mode) name t → HoldsAt (λ x. by_key x ≡ o) es i
-    told i e low is o order = λ d.
-        subst (λ (x : EntryView). by_key x ≡ o) (get_or_default es i e d low) (keyed i e low o (subst (λ (x : EntryView). o ≡ name_cmp x.name (is_tree_mode x.mode) name t) is order))
+    pub first_in_pairs : (i : ℕ) (e : EntryView) → i < length es → e ≡ get_or es i e → (o : Ordering)
+        → o ≡ name_cmp e.name (is_tree_mode e.mode) name t
+        → HoldsAt (λ x. by_key x ≡ o) es i
+    first_in_pairs i e low is o order = λ d.
+        subst (λ (x : EntryView). by_key x ≡ o) (get_or_default es i e d low)
+        (keyed i e low o (subst (λ (x : EntryView). o ≡ name_cmp x.name (is_tree_mode x.mode) name t) is order))
 
-    -- the entry that was found
-    at_key : (i : ℕ) (d : EntryView) → i < length es → HoldsAt (λ e. by_key e ≡ Equal) es i → ((get_or es i d).name ≡ name) × (is_tree_mode (get_or es i d).mode ≡ t)
-    at_key i d low held = same_parts (get_or es i d).name (is_tree_mode (get_or es i d).mode) name t (free_at i d low) free (halved_key entry_key es (key_of name t) i d held)
+    -- the entry that was found has the name and the kind
+    at_key : (i : ℕ) (d : EntryView) → i < length es → HoldsAt (λ e. by_key e ≡ Equal) es i → ((get_or es i d).name ≡ name)
+        × (is_tree_mode (get_or es i d).mode ≡ t)
+    at_key i d low held = same_parts (get_or es i d).name (is_tree_mode (get_or es i d).mode) name t (free_at i d low) free
+        (halved_key entry_key es (key_of name t) i d held)
 
-    pub found_place : (r : Result ℕ ℕ) → IsSearchInRange r (length es) → IsBinarySearchResult by_key es r → IfOk r (λ i. position (λ (e : EntryView). same_name e.name name) es ≡ Some i)
+    pub found_place : (r : Result ℕ ℕ) → IsSearchInRange r (length es) → IsBinarySearchResult by_key es r
+        → IfOk r (λ i. position (λ (e : EntryView). same_name e.name name) es ≡ Some i)
     found_place (Ok i) range is = let d = first es i range in only_place i d range (at_key i d range is).0
     found_place (Err i) range is = tt
 
-    pub found_kind : (r : Result ℕ ℕ) → IsSearchInRange r (length es) → IsBinarySearchResult by_key es r → IfOk r (HoldsAt (λ (e : EntryView). is_tree_mode e.mode ≡ t) es)
+    pub found_kind : (r : Result ℕ ℕ) → IsSearchInRange r (length es) → IsBinarySearchResult by_key es r
+        → IfOk r (HoldsAt (λ (e : EntryView). is_tree_mode e.mode ≡ t) es)
     found_kind (Ok i) range is = λ d. (at_key i d range is).1
     found_kind (Err i) range is = tt
 
-    pub found_none : (r : Result ℕ ℕ) → IsSearchInRange r (length es) → IsBinarySearchResult by_key es r → IfErr r (λ (i : ℕ). HasKey es (key_of name t) → ⊥)
+    pub found_none : (r : Result ℕ ℕ) → IsSearchInRange r (length es) → IsBinarySearchResult by_key es r
+        → IfErr r (λ (i : ℕ). HasKey es (key_of name t) → ⊥)
     found_none (Ok i) range is = tt
     found_none (Err i) range is = found es (key_of name t) (Err i) false refl formed.ascending range is
 

@@ -1,45 +1,56 @@
--- What holds of each entry of the open directories holds after each call.
+-- A property of each entry of the open directories holds after each call.
 use Rattle.std.proofs.Common.{◌≢◌, List, [], ◌∷◌, ◌++◌, ℕ, None}
 use Rattle.gixobj_tree.specs.Entries.{EntryView}
 use Rattle.gixobj_hash.specs.declared.hash.object_id.ObjectId.{ObjectId}
-use Rattle.gixobj_files.specs.Edits.{IsNoTree, Opens, assured_dirs, only, removed_dirs, upserted_dirs, with_path}
+use Rattle.gixobj_files.specs.Edits.{IsNoTree, Opens, ensured_dirs, only, removed_dirs, upserted_dirs, with_path}
 use Rattle.gixobj_files.specs.Files.{Has, Path, Trees}
 use Rattle.gixobj_files.specs.Opening.{Dirs, IsOpened, in_dir, in_path}
-use Rattle.gixobj_files.proofs.AssuredFiles.{opens_along}
+use Rattle.gixobj_files.proofs.EnsuredFiles.{opens_along}
 use Rattle.gixobj_files.proofs.OpeningFiles.{opens_ready}
 use Rattle.gixobj_files.proofs.StillOpenedOpenings.{opened_opening}
-use Rattle.gixobj_files.proofs.Everywhere.{Everywhere, Lasts, OfEntry, everywhere_assured, everywhere_opened, everywhere_removed, everywhere_upserted, everywhere_written}
+use Rattle.gixobj_files.proofs.Everywhere.{Everywhere, Lasts, OfEntry, everywhere_ensured, everywhere_opened, everywhere_removed, everywhere_upserted, everywhere_written}
 use Rattle.gixobj_files.specs.Bases.{edited_bases, opened_bases}
 
--- it holds below a path
-pub everywhere_at : (P : OfEntry) (prefix : Path) (dirs bases : Dirs) → Everywhere P dirs bases → Everywhere P (in_path prefix dirs) (in_path prefix bases)
+-- a property of all entries holds below a path
+pub everywhere_at : (P : OfEntry) (prefix : Path) (dirs bases : Dirs) → Everywhere P dirs bases
+    → Everywhere P (in_path prefix dirs) (in_path prefix bases)
 everywhere_at P [] dirs bases all = all
 everywhere_at P (name ∷ rest) dirs bases all = everywhere_at P rest (in_dir name dirs) (in_dir name bases) (λ q. all (name ∷ q))
 
--- nothing has a base where the root alone is open
-pub everywhere_only : (P : OfEntry) (entries : List EntryView) → ((e : EntryView) → Has entries e → P e None None) → Everywhere P (only entries) (λ _. None)
+-- if the root alone is open, no directory has a base
+pub everywhere_only : (P : OfEntry) (entries : List EntryView) → ((e : EntryView) → Has entries e → P e None None)
+    → Everywhere P (only entries) (λ _. None)
 everywhere_only P entries each [] e h = each e h
 everywhere_only P entries each (name ∷ path) e h = absurd h
 
-module _ (P : OfEntry) (trees : Trees) (null : ObjectId) (lasts : Lasts P trees null) (old bases : Dirs) (is_opened : IsOpened old) (all : Everywhere P old bases) where
+module _ (P : OfEntry) (trees : Trees) (null : ObjectId) (lasts : Lasts P trees null) (old bases : Dirs) (is_opened : IsOpened old)
+    (all : Everywhere P old bases) where
   -- the bases after directories were opened, and then edited
   abbrev pub after : Dirs → Dirs → Dirs
   after opened new = edited_bases opened new (opened_bases old opened bases)
 
-  pub lasts_upserted : (front : Path) (last : List ℕ) (mode : ℕ) (id : ObjectId) (opened : Dirs) (asked : List ObjectId) → Opens IsNoTree trees front old opened asked
+  pub lasts_upserted : (head : Path) (last : List ℕ) (mode : ℕ) (id : ObjectId) (opened : Dirs) (requested : List ObjectId)
+      → Opens IsNoTree trees head old opened requested
       → ((name : List ℕ) → P (record { mode = mode; name = name; id = id }) None None)
-      → Everywhere P (upserted_dirs (front ++ last ∷ []) mode id null opened) (after opened (upserted_dirs (front ++ last ∷ []) mode id null opened))
-  lasts_upserted front last mode id opened asked opens new =
-      everywhere_upserted P trees null lasts (front ++ last ∷ []) mode id opened (opened_bases old opened bases) new (opens_ready trees front last old opened asked opens)
-      ((opened_opening trees front old opened asked opens is_opened).above) (everywhere_opened P trees null lasts front old opened asked opens bases all)
+      → Everywhere P (upserted_dirs (head ++ last ∷ []) mode id null opened) (after opened (upserted_dirs (head ++ last ∷ []) mode id null opened))
+  lasts_upserted head last mode id opened requested opens new =
+      everywhere_upserted P trees null lasts (head ++ last ∷ []) mode id opened (opened_bases old opened bases) new
+      (opens_ready trees head last old opened requested opens)
+      ((opened_opening trees head old opened requested opens is_opened).above)
+      (everywhere_opened P trees null lasts head old opened requested opens bases all)
 
-  pub lasts_assured : (path : Path) (opened : Dirs) (asked : List ObjectId) → Opens IsNoTree trees path old opened asked → Everywhere P (assured_dirs path null opened) (after opened (assured_dirs path null opened))
-  lasts_assured path opened asked opens =
-      everywhere_assured P trees null lasts path opened (opened_bases old opened bases) (opens_along trees path old opened asked opens)
-      ((opened_opening trees path old opened asked opens is_opened).above) (everywhere_opened P trees null lasts path old opened asked opens bases all)
+  pub lasts_ensured : (path : Path) (opened : Dirs) (requested : List ObjectId) → Opens IsNoTree trees path old opened requested
+      → Everywhere P (ensured_dirs path null opened) (after opened (ensured_dirs path null opened))
+  lasts_ensured path opened requested opens =
+      everywhere_ensured P trees null lasts path opened (opened_bases old opened bases) (opens_along trees path old opened requested opens)
+      ((opened_opening trees path old opened requested opens is_opened).above)
+      (everywhere_opened P trees null lasts path old opened requested opens bases all)
 
-  pub lasts_removed : {Ends : EntryView → Type 0} (front path : Path) (opened : Dirs) (asked : List ObjectId) → Opens Ends trees front old opened asked → Everywhere P (removed_dirs path opened) (after opened (removed_dirs path opened))
-  lasts_removed front path opened asked opens = everywhere_removed P trees null lasts path opened (opened_bases old opened bases) (everywhere_opened P trees null lasts front old opened asked opens bases all)
+  pub lasts_removed : {Ends : EntryView → Type 0} (head path : Path) (opened : Dirs) (requested : List ObjectId)
+      → Opens Ends trees head old opened requested
+      → Everywhere P (removed_dirs path opened) (after opened (removed_dirs path opened))
+  lasts_removed head path opened requested opens = everywhere_removed P trees null lasts path opened (opened_bases old opened bases)
+      (everywhere_opened P trees null lasts head old opened requested opens bases all)
 
   pub lasts_written : (prefix : Path) (own : List EntryView) → old prefix ≢ None → ((e : EntryView) → Has own e → P e None None)
       → Everywhere P (with_path prefix (only own) old) (edited_bases old (with_path prefix (only own) old) bases)

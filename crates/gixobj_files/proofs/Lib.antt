@@ -1,4 +1,4 @@
-pub mod AssuredFiles
+pub mod EnsuredFiles
 pub mod Based
 pub mod BelowPrefix
 pub mod Calls
@@ -9,7 +9,7 @@ pub mod EditedFiles
 pub mod Everywhere
 pub mod Formed
 pub mod Halted
-pub mod Halves
+pub mod BinarySearch
 pub mod HasTrees
 pub mod Histories
 pub mod KeyOrder
@@ -20,7 +20,7 @@ pub mod Namesakes
 pub mod NullIds
 pub mod OpenedFiles
 pub mod OpeningFiles
-pub mod OwnTrees
+pub mod WrittenTrees
 pub mod Placing
 pub mod Plain
 pub mod PlainHistories
@@ -28,9 +28,9 @@ pub mod PrefixStays
 pub mod RemovedFiles
 pub mod Replacing
 pub mod SameTrees
-pub mod SiftedEntries
+pub mod FilteredEntries
 pub mod StillOpened
-pub mod StillOpenedAssured
+pub mod StillOpenedEnsured
 pub mod StillOpenedOpenings
 pub mod StillOpenedRemovals
 pub mod Sublists

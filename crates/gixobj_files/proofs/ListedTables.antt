@@ -1,4 +1,4 @@
--- Tables that have chosen trees: those of a list, of a store, and of both.
+-- Tables of chosen trees: those of a list, of a store, and of both. The laws of tables use it.
 use Rattle.std.proofs.Common.{All, ◌≡◌, ◌≢◌, ◌⊎◌, inl, inr, ⊎_elim, Bool, true, false, List, [], ◌∷◌, ◌∙◌, refl, sym, ap, subst, Option, Some, None}
 use Rattle.std.specs.Fmt.{digits}
 use Rattle.std.specs.List.{AllByRecursion}
@@ -12,10 +12,10 @@ use Rattle.gixobj_hash.specs.declared.hash.kind.Kind.TheVariants as hash
 use Rattle.gixobj_hash.specs.declared.hash.object_id.ObjectId.{ObjectId}
 use Rattle.gixobj_hash.specs.declared.kind.Kind.TheVariants.{Tree}
 use Rattle.gixobj_files.specs.Files.{Table, Trees, is_null}
-use Rattle.gixobj_files.specs.Tables.{AgreesWithPairs, AgreesWithStore, FitsBeside, IsUnaskedId, IsFirst, IsOwnTable, IsTableOf}
+use Rattle.gixobj_files.specs.Tables.{AgreesWithPairs, AgreesWithStore, IsConsistentWith, IsNeverLookedUp, IsFirst, IsTableOfStore, IsTableOf}
 use Rattle.gixobj_hash.proofs.SameIds.{same_ids}
 
--- the ids of the empty tree, computed, aren't null
+-- the ids of the empty tree, as digests, aren't null
 sha1_not_null : is_null (id_of hash.Sha1 Tree []) ≡ false
 unfolding digits sha1.first_words sha1.schedule sha1.rounds sha1.compress sha1.hash_after sha1.digest_bytes sha1.sha1
 sha1_not_null = refl
@@ -40,7 +40,9 @@ filled it one other hash.Sha256 = other
 
 empty_or_filled : (it : ObjectId) → IsEmpty it ⊎ IsFilled it
 empty_or_filled it =
-    ⊎_elim (λ is. inl (hash.Sha1, is)) (λ one. ⊎_elim (λ is. inl (hash.Sha256, is)) (λ other. inr (filled it one other)) (same_ids it (id_of hash.Sha256 Tree []))) (same_ids it (id_of hash.Sha1 Tree []))
+    ⊎_elim (λ is. inl (hash.Sha1, is))
+    (λ one. ⊎_elim (λ is. inl (hash.Sha256, is)) (λ other. inr (filled it one other)) (same_ids it (id_of hash.Sha256 Tree [])))
+    (same_ids it (id_of hash.Sha1 Tree []))
 
 -- a table of chosen trees; the null ids and those of the empty tree are as in every table
 module _ (choose : Trees) where
@@ -63,7 +65,7 @@ module _ (choose : Trees) where
   abbrev chosen_table : Table
   chosen_table = record {
     tree_at = λ it. chosen_at it (is_null it);
-    none_by_null = λ it null. ap (chosen_at it) null;
+    nothing_by_null = λ it null. ap (chosen_at it) null;
     none_in_empty = λ hash. ap (chosen_at (id_of hash Tree [])) (empty_not_null hash) ∙ chosen_empty hash (empty_or_filled (id_of hash Tree []));
   }
 
@@ -72,28 +74,29 @@ module _ (choose : Trees) where
 
 first_of : (pairs : List Pair) (it : ObjectId) → (found : Option (List EntryView)) × IsFirst pairs it found
 first_of [] it = (None, refl)
-first_of (pair ∷ pairs) it = ⊎_elim (λ same. (Some pair.1, inl (same, refl))) (λ other. let rest = first_of pairs it in (rest.0, inr (other, rest.1))) (same_ids pair.0 it)
+first_of (pair ∷ pairs) it = ⊎_elim (λ same. (Some pair.1, inl (same, refl))) (λ other. let rest = first_of pairs it in (rest.0, inr (other, rest.1)))
+    (same_ids pair.0 it)
 
 pub table_of : (pairs : List Pair) → (T : Table) × IsTableOf T pairs
 table_of pairs =
     let choose : Trees = λ it. (first_of pairs it).0 in
     (chosen_table choose, λ it some other. subst (IsFirst pairs it) (sym (chooses choose it some other)) (first_of pairs it).1)
 
--- an id that is neither null nor an empty tree's
-filled_id : (it : ObjectId) → (IsUnaskedId it → ⊥) → is_null it ≡ false
-filled_id it sought = elim (is_null it) as (λ b. is_null it ≡ b → b ≡ false) [ true ↦ λ null. absurd (sought (inl null)) | false ↦ λ some. refl ] refl
+-- an id that is looked up isn't null
+filled_id : (it : ObjectId) → (IsNeverLookedUp it → ⊥) → is_null it ≡ false
+filled_id it searched = elim (is_null it) as (λ b. is_null it ≡ b → b ≡ false) [ true ↦ λ null. absurd (searched (inl null)) | false ↦ λ some. refl ] refl
 
 kind_of_empty : (hash : Kind) → id_kind (id_of hash Tree []) ≡ hash
 kind_of_empty hash.Sha1 = refl
 kind_of_empty hash.Sha256 = refl
 
-no_empty_id : (it : ObjectId) → (IsUnaskedId it → ⊥) → IsFilled it
-no_empty_id it sought hash is = sought (inr (is ∙ ap (λ (h : Kind). id_of h Tree []) (sym (ap id_kind is ∙ kind_of_empty hash))))
+no_empty_id : (it : ObjectId) → (IsNeverLookedUp it → ⊥) → IsFilled it
+no_empty_id it searched hash is = searched (inr (is ∙ ap (λ (h : Kind). id_of h Tree []) (sym (ap id_kind is ∙ kind_of_empty hash))))
 
-pub own_table : (trees : Trees) → (T : Table) × IsOwnTable T trees
-own_table trees = (chosen_table trees, λ it sought. chooses trees it (filled_id it sought) (no_empty_id it sought))
+pub own_table : (trees : Trees) → (T : Table) × IsTableOfStore T trees
+own_table trees = (chosen_table trees, λ it searched. chooses trees it (filled_id it searched) (no_empty_id it searched))
 
--- the pair is one of the list
+-- the pair is in the list
 abbrev IsIn : List Pair → Pair → Type 0
 IsIn [] pair = ⊥
 IsIn (first ∷ pairs) pair = (first ≡ pair) ⊎ IsIn pairs pair
@@ -107,24 +110,25 @@ each_of : (P : Pair → Type 0) (pairs : List Pair) → ((pair : Pair) → IsIn 
 each_of P [] all = tt
 each_of P (first ∷ pairs) all = (all first (inl refl), each_of P pairs (λ pair h. all pair (inr h)))
 
--- what the first pair of an id has is what some pair of it has
-abbrev IsTold : List Pair → ObjectId → Option (List EntryView) → Type 0
-IsTold pairs it found = ((found ≡ None) × ((pair : Pair) → IsIn pairs pair → pair.0 ≢ it)) ⊎ ((pair : Pair) × IsIn pairs pair × (pair.0 ≡ it) × (found ≡ Some pair.1))
+-- the tree of the first pair of an id is that of some pair of the id
+abbrev IsKnown : List Pair → ObjectId → Option (List EntryView) → Type 0
+IsKnown pairs it found = ((found ≡ None) × ((pair : Pair) → IsIn pairs pair → pair.0 ≢ it))
+    ⊎ ((pair : Pair) × IsIn pairs pair × (pair.0 ≡ it) × (found ≡ Some pair.1))
 
-told : (pairs : List Pair) (it : ObjectId) (found : Option (List EntryView)) → IsFirst pairs it found → IsTold pairs it found
-told [] it found none = inl (none, λ pair h. absurd h)
-told (first ∷ pairs) it found (inl is) = inr (first, inl refl, is.0, is.1)
-told (first ∷ pairs) it found (inr (other, rest)) = behind (told pairs it found rest)
+first_in_pairs : (pairs : List Pair) (it : ObjectId) (found : Option (List EntryView)) → IsFirst pairs it found → IsKnown pairs it found
+first_in_pairs [] it found none = inl (none, λ pair h. absurd h)
+first_in_pairs (first ∷ pairs) it found (inl is) = inr (first, inl refl, is.0, is.1)
+first_in_pairs (first ∷ pairs) it found (inr (other, rest)) = in_rest (first_in_pairs pairs it found rest)
   where
     differs : ((pair : Pair) → IsIn pairs pair → pair.0 ≢ it) → (pair : Pair) → IsIn (first ∷ pairs) pair → pair.0 ≢ it
     differs none pair (inl same) = λ is. other (ap (λ (p : Pair). p.0) same ∙ is)
     differs none pair (inr h) = none pair h
 
-    behind : IsTold pairs it found → IsTold (first ∷ pairs) it found
-    behind (inl none) = inl (none.0, differs none.1)
-    behind (inr some) = inr (some.0, inr some.1, some.2, some.3)
+    in_rest : IsKnown pairs it found → IsKnown (first ∷ pairs) it found
+    in_rest (inl none) = inl (none.0, differs none.1)
+    in_rest (inr some) = inr (some.0, inr some.1, some.2, some.3)
 
-module _ (pairs : List Pair) (trees : Trees) (fits : FitsBeside pairs trees) where
+module _ (pairs : List Pair) (trees : Trees) (fits : IsConsistentWith pairs trees) where
   abbrev or_the_store : ObjectId → Option (List EntryView) → Option (List EntryView)
   or_the_store it None = trees it
   or_the_store it (Some entries) = Some entries
@@ -136,33 +140,40 @@ module _ (pairs : List Pair) (trees : Trees) (fits : FitsBeside pairs trees) whe
   filled_pair = of_each (λ pair. is_null pair.0 ≡ false) pairs (recursion_from_All (λ pair. is_null pair.0 ≡ false) pairs fits.filled)
 
   empty_pair : (pair : Pair) → IsIn pairs pair → (hash : Kind) → pair.0 ≡ id_of hash Tree [] → pair.1 ≡ []
-  empty_pair = of_each (λ pair. (hash : Kind) → pair.0 ≡ id_of hash Tree [] → pair.1 ≡ []) pairs (recursion_from_All (λ pair. (hash : Kind) → pair.0 ≡ id_of hash Tree [] → pair.1 ≡ []) pairs fits.empty)
+  empty_pair = of_each (λ pair. (hash : Kind) → pair.0 ≡ id_of hash Tree [] → pair.1 ≡ []) pairs
+      (recursion_from_All (λ pair. (hash : Kind) → pair.0 ≡ id_of hash Tree [] → pair.1 ≡ []) pairs fits.empty)
 
   same_tree : (pair : Pair) → IsIn pairs pair → (other : Pair) → IsIn pairs other → other.0 ≡ pair.0 → other.1 ≡ pair.1
   same_tree pair h other =
       of_each (λ other. other.0 ≡ pair.0 → other.1 ≡ pair.1) pairs (recursion_from_All (λ other. other.0 ≡ pair.0 → other.1 ≡ pair.1) pairs
-      (of_each (λ (pair : Pair). All (λ other. other.0 ≡ pair.0 → other.1 ≡ pair.1) pairs) pairs (recursion_from_All (λ (pair : Pair). All (λ other. other.0 ≡ pair.0 → other.1 ≡ pair.1) pairs) pairs fits.one_tree) pair h)) other
+      (of_each (λ (pair : Pair). All (λ other. other.0 ≡ pair.0 → other.1 ≡ pair.1) pairs) pairs
+      (recursion_from_All (λ (pair : Pair). All (λ other. other.0 ≡ pair.0 → other.1 ≡ pair.1) pairs) pairs fits.one_tree) pair h)) other
 
   store_tree : (pair : Pair) → IsIn pairs pair → (entries : List EntryView) → trees pair.0 ≡ Some entries → entries ≡ pair.1
-  store_tree = of_each (λ pair. (entries : List EntryView) → trees pair.0 ≡ Some entries → entries ≡ pair.1) pairs (recursion_from_All (λ pair. (entries : List EntryView) → trees pair.0 ≡ Some entries → entries ≡ pair.1) pairs fits.of_the_store)
+  store_tree = of_each (λ pair. (entries : List EntryView) → trees pair.0 ≡ Some entries → entries ≡ pair.1) pairs
+      (recursion_from_All (λ pair. (entries : List EntryView) → trees pair.0 ≡ Some entries → entries ≡ pair.1) pairs fits.of_the_store)
 
-  -- at the id of a pair
-  either_pair : (pair : Pair) → IsIn pairs pair → (found : Option (List EntryView)) → IsTold pairs pair.0 found → or_the_store pair.0 found ≡ Some pair.1
+  -- the table has the tree of each pair at its id
+  either_pair : (pair : Pair) → IsIn pairs pair → (found : Option (List EntryView)) → IsKnown pairs pair.0 found → or_the_store pair.0 found ≡ Some pair.1
   either_pair pair h found (inl none) = absurd (none.1 pair h refl)
   either_pair pair h found (inr some) = ap (or_the_store pair.0) some.3 ∙ ap Some (same_tree pair h some.0 some.1 some.2)
 
-  -- at an id that the store names
-  either_store : (it : ObjectId) (entries : List EntryView) → trees it ≡ Some entries → (found : Option (List EntryView)) → IsTold pairs it found → or_the_store it found ≡ Some entries
+  -- the table has the store's tree at each id that the store names
+  either_store : (it : ObjectId) (entries : List EntryView) → trees it ≡ Some entries → (found : Option (List EntryView)) → IsKnown pairs it found
+      → or_the_store it found ≡ Some entries
   either_store it entries is found (inl none) = ap (or_the_store it) none.0 ∙ is
   either_store it entries is found (inr some) = ap (or_the_store it) some.3 ∙ ap Some (sym (store_tree some.0 some.1 entries (ap trees some.2 ∙ is)))
 
   at_pair : (pair : Pair) → IsIn pairs pair → (which : IsEmpty pair.0 ⊎ IsFilled pair.0) → (chosen_table either).tree_at pair.0 ≡ Some pair.1
   at_pair pair h (inl is) = ap (chosen_table either).tree_at is.1 ∙ (chosen_table either).none_in_empty is.0 ∙ ap Some (sym (empty_pair pair h is.0 is.1))
-  at_pair pair h (inr other) = chooses either pair.0 (filled_pair pair h) other ∙ either_pair pair h (first_of pairs pair.0).0 (told pairs pair.0 (first_of pairs pair.0).0 (first_of pairs pair.0).1)
+  at_pair pair h (inr other) = chooses either pair.0 (filled_pair pair h) other ∙ either_pair pair h (first_of pairs pair.0).0
+      (first_in_pairs pairs pair.0 (first_of pairs pair.0).0 (first_of pairs pair.0).1)
 
   pub fitting_table : (T : Table) × AgreesWithStore T trees × AgreesWithPairs T pairs
   fitting_table = (
     chosen_table either,
-    (λ it entries sought is. chooses either it (filled_id it sought) (no_empty_id it sought) ∙ either_store it entries is (first_of pairs it).0 (told pairs it (first_of pairs it).0 (first_of pairs it).1)),
-    All-from_recursion (λ pair. (chosen_table either).tree_at pair.0 ≡ Some pair.1) pairs (each_of (λ pair. (chosen_table either).tree_at pair.0 ≡ Some pair.1) pairs (λ pair h. at_pair pair h (empty_or_filled pair.0))),
+    (λ it entries searched is. chooses either it (filled_id it searched) (no_empty_id it searched) ∙ either_store it entries is (first_of pairs it).0
+        (first_in_pairs pairs it (first_of pairs it).0 (first_of pairs it).1)),
+    All-from_recursion (λ pair. (chosen_table either).tree_at pair.0 ≡ Some pair.1) pairs
+        (each_of (λ pair. (chosen_table either).tree_at pair.0 ≡ Some pair.1) pairs (λ pair h. at_pair pair h (empty_or_filled pair.0))),
   )

@@ -1,4 +1,4 @@
--- Taking the entry of a name out of entries whose names differ.
+-- Removal of the entry of a name from entries whose names differ.
 use Rattle.std.proofs.Common.{◌≡◌, ◌≢◌, ◌∙◌, ◌<◌, ◌≤◌, ◌+◌, ℕ, Bool, true, false, not, cond, List, [], ◌∷◌, length, Some, None, nat_lt, refl, sym, ap, one-add, arith}
 use Rattle.std.specs.Cmp.Lexicographic.{bytes_decides}
 use Rattle.std.specs.List.{AllByRecursion, filter, position, position_or_len, remove}
@@ -8,7 +8,7 @@ use Rattle.gixobj_files.specs.Editing.{same_name, without}
 use Rattle.gixobj_files.proofs.Sublists.{all_weaker}
 
 module _ {X : Type 0} (p : X → Bool) where
-  -- no element that passes has a later one that does
+  -- no element that passes has a later one that passes
   abbrev pub PassOnce : List X → Type 0
   PassOnce xs = EachLater (λ x y. p x ≡ true → p y ≡ false) xs
 
@@ -28,7 +28,8 @@ module _ {X : Type 0} (p : X → Bool) where
   pub none_passes : (xs : List X) → length xs ≤ position_or_len p xs → filter (λ x. not (p x)) xs ≡ xs
   none_passes [] high = refl
   none_passes (x ∷ xs) high =
-      elim (p x) as (λ b. length (x ∷ xs) ≤ cond (not b) (1 + position_or_len p xs) 0 → cond (not b) (x ∷ filter (λ y. not (p y)) xs) (filter (λ y. not (p y)) xs) ≡ x ∷ xs) [
+      elim (p x) as (λ b. length (x ∷ xs) ≤ cond (not b) (1 + position_or_len p xs) 0 → cond (not b) (x ∷ filter (λ y. not (p y)) xs)
+      (filter (λ y. not (p y)) xs) ≡ x ∷ xs) [
         | true ↦ λ l. absurd (omega (arith, l))
         | false ↦ λ l. ap (λ ys. x ∷ ys) (none_passes xs (omega (arith, l)))
       ] high
@@ -37,7 +38,9 @@ named_once : (name : List ℕ) (es : List EntryView) → EachLater (λ x y. x.na
 named_once name [] apart = tt
 named_once name (e ∷ es) apart = (
   all_weaker (λ y. e.name ≢ y.name) (λ y. same_name e.name name ≡ true → same_name y.name name ≡ false)
-      (λ y other same. false_from_ne_true (same_name y.name name) (λ too. other ((bytes_decides e.name name).0 same ∙ sym ((bytes_decides y.name name).0 too)))) es apart.0,
+      (λ y other same. false_from_ne_true (same_name y.name name)
+      (λ too. other ((bytes_decides e.name name).0 same ∙ sym ((bytes_decides y.name name).0 too))))
+      es apart.0,
   named_once name es apart.1,
 )
 
@@ -49,14 +52,16 @@ unchosen : (b : Bool) (k : ℕ) → cond b (Some k) None ≡ None → b ≡ fals
 unchosen true k e = absurd (cc)
 unchosen false k e = refl
 
--- what stays when the entry at the name's place goes
-pub removed_at : (name : List ℕ) (es : List EntryView) (i : ℕ) → Some i ≡ position (λ e. same_name e.name name) es → EachLater (λ x y. x.name ≢ y.name) es → remove es i ≡ without name es
+-- the removal of the entry at the name's position leaves the entries of other names
+pub removed_at : (name : List ℕ) (es : List EntryView) (i : ℕ) → Some i ≡ position (λ e. same_name e.name name) es
+    → EachLater (λ x y. x.name ≢ y.name) es
+    → remove es i ≡ without name es
 removed_at name es i e apart =
     let place : ℕ = position_or_len (λ e. same_name e.name name) es in
     let at = chosen (nat_lt place (length es)) place i (sym e) in
     rw (sym at.1) (first_removed (λ e. same_name e.name name) es (named_once name es apart) (ltb-true _ _ at.0))
 
--- where no entry has the name, all stay
+-- if no entry has the name, all entries are of other names
 pub none_removed : (name : List ℕ) (es : List EntryView) → None ≡ position (λ e. same_name e.name name) es → without name es ≡ es
 none_removed name es e =
     let place : ℕ = position_or_len (λ e. same_name e.name name) es in

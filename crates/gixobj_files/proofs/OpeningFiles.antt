@@ -1,4 +1,5 @@
--- Opening directories as what their ids stand for changes no file, and then an edit at the path may be made.
+-- An opening of directories as the trees of their ids changes no file, and an edit at the path may follow: for the
+-- editor's edits and `Based`.
 use Rattle.std.proofs.Common.{◌≡◌, ◌≢◌, inl, inr, ℕ, zero, suc, false, cond, List, [], ◌∷◌, ◌++◌, refl, sym, ap, subst, ◌∙◌, Option, Some, None}
 use Rattle.gixobj_tree.specs.Entries.{EntryView}
 use Rattle.gixobj_mode.specs.Mode.{is_tree_mode}
@@ -10,82 +11,107 @@ use Rattle.gixobj_files.specs.Opening.{Dirs, HasAt, OpenFiles, in_dir}
 use Rattle.gixobj_files.specs.Tables.{AgreesWithStore}
 use Rattle.gixobj_files.proofs.EditedFiles.{same_refl}
 use Rattle.gixobj_files.proofs.UpsertedFiles.{IsReady}
-use Rattle.gixobj_files.proofs.OpenedFiles.{Stands, below_stands, elsewhere, from_open, from_shut, into_open, into_shut, name_itself, name_other, root_only, same_names}
+use Rattle.gixobj_files.proofs.OpenedFiles.{IsAt, below_is_at, elsewhere, from_open, from_unopened, into_open, into_unopened, name_itself, name_other, root_only, same_names}
 
-pub stands : (T : Table) (trees : Trees) → AgreesWithStore T trees → (id : ObjectId) (entries : List EntryView) (asked : List ObjectId) → Finds trees id entries asked → Stands T id entries
-stands T trees agrees id entries asked (formed, inl (inl null, empty, none)) = inl (null, empty)
-stands T trees agrees id entries asked (formed, inl (inr is, empty, none)) = inr (subst (λ (o : Option (List EntryView)). o ≡ Some entries) (sym (ap T.tree_at is ∙ T.none_in_empty (id_kind id))) (ap Some (sym empty)))
-stands T trees agrees id entries asked (formed, inr (filled, is, asks)) = inr (agrees id entries filled is)
+pub agrees_at : (T : Table) (trees : Trees) → AgreesWithStore T trees → (id : ObjectId) (entries : List EntryView) (requested : List ObjectId)
+    → Finds trees id entries requested → IsAt T id entries
+agrees_at T trees agrees id entries requested (formed, inl (inl null, empty, none)) = inl (null, empty)
+agrees_at T trees agrees id entries requested (formed, inl (inr is, empty, none)) =
+    inr (subst (λ (o : Option (List EntryView)). o ≡ Some entries) (sym (ap T.tree_at is ∙ T.none_in_empty (id_kind id))) (ap Some (sym empty)))
+agrees_at T trees agrees id entries requested (formed, inr (filled, is, requests)) = inr (agrees id entries filled is)
 
 pub inside_is : (name : List ℕ) (inner dirs : Dirs) → in_dir name (with_dir name inner dirs) ≡ inner
 inside_is name inner dirs = ap (λ b path. cond b (inner path) (dirs (name ∷ path))) (name_itself name)
 
-pub beside_is : (name first : List ℕ) (inner dirs : Dirs) → name ≢ first → in_dir first (with_dir name inner dirs) ≡ in_dir first dirs
-beside_is name first inner dirs differ = ap (λ b path. cond b (inner path) (dirs (first ∷ path))) (name_other name first differ)
+pub shares_base_is : (name first : List ℕ) (inner dirs : Dirs) → name ≢ first → in_dir first (with_dir name inner dirs) ≡ in_dir first dirs
+shares_base_is name first inner dirs differ = ap (λ b path. cond b (inner path) (dirs (first ∷ path))) (name_other name first differ)
 
-pub opens_root : {Ends : EntryView → Type 0} (trees : Trees) (path : Path) (dirs new : Dirs) (asked : List ObjectId) → Opens Ends trees path dirs new asked → new [] ≡ dirs []
-opens_root trees path dirs new asked (arrived d) = refl
-opens_root trees path dirs new asked (stops name rest d other none) = refl
-opens_root trees path dirs new asked (down name rest d inner e entries more has named is opens) = refl
-opens_root trees path dirs new asked (found name rest d inner e entries first more entry tree free none finds opens) = refl
+pub opens_root : {Ends : EntryView → Type 0} (trees : Trees) (path : Path) (dirs new : Dirs) (requested : List ObjectId)
+    → Opens Ends trees path dirs new requested → new [] ≡ dirs []
+opens_root trees path dirs new requested (arrived d) = refl
+opens_root trees path dirs new requested (stops name rest d other none) = refl
+opens_root trees path dirs new requested (down name rest d inner e entries more has named is opens) = refl
+opens_root trees path dirs new requested (found name rest d inner e entries first more entry tree free none finds opens) = refl
 
--- one level: the directories in a name have the same files as before
-pub same_level : (T : Table) (k : ℕ) (name : List ℕ) (inner dirs : Dirs) → ((path : Path) (mode : ℕ) (id : ObjectId) → (OpenFiles T (suc k) (with_dir name inner dirs) (name ∷ path) mode id → OpenFiles T (suc k) dirs (name ∷ path) mode id) × (OpenFiles T (suc k) dirs (name ∷ path) mode id → OpenFiles T (suc k) (with_dir name inner dirs) (name ∷ path) mode id))
+-- at one level, the directories in a name have the same files as before
+pub same_level : (T : Table) (k : ℕ) (name : List ℕ) (inner dirs : Dirs)
+    → ((path : Path) (mode : ℕ) (id : ObjectId)
+    → (OpenFiles T (suc k) (with_dir name inner dirs) (name ∷ path) mode id → OpenFiles T (suc k) dirs (name ∷ path) mode id)
+    × (OpenFiles T (suc k) dirs (name ∷ path) mode id → OpenFiles T (suc k) (with_dir name inner dirs) (name ∷ path) mode id))
     → SameFiles (OpenFiles T (suc k) (with_dir name inner dirs)) (OpenFiles T (suc k) dirs)
 same_level T k name inner dirs here [] mode id = ((λ h. absurd h), λ h. absurd h)
 same_level T k name inner dirs here (first ∷ path) mode id =
     let new : Dirs = with_dir name inner dirs in
     elim (same_names name first) [
-      | inl same ↦ subst (λ f. (OpenFiles T (suc k) new (f ∷ path) mode id → OpenFiles T (suc k) dirs (f ∷ path) mode id) × (OpenFiles T (suc k) dirs (f ∷ path) mode id → OpenFiles T (suc k) new (f ∷ path) mode id)) same (here path mode id)
-      | inr differ ↦ (elsewhere T k new dirs first (λ e named has. has) (beside_is name first inner dirs differ) path mode id, elsewhere T k dirs new first (λ e named has. has) (sym (beside_is name first inner dirs differ)) path mode id)
+      | inl same ↦ subst (λ f. (OpenFiles T (suc k) new (f ∷ path) mode id → OpenFiles T (suc k) dirs (f ∷ path) mode id)
+          × (OpenFiles T (suc k) dirs (f ∷ path) mode id → OpenFiles T (suc k) new (f ∷ path) mode id)) same (here path mode id)
+      | inr differ ↦ (
+        elsewhere T k new dirs first (λ e named has. has) (shares_base_is name first inner dirs differ) path mode id,
+        elsewhere T k dirs new first
+            (λ e named has. has) (sym (shares_base_is name first inner dirs differ)) path mode id,
+      )
     ]
 
-pub opens_files : {Ends : EntryView → Type 0} (T : Table) (trees : Trees) → AgreesWithStore T trees → (path : Path) (dirs new : Dirs) (asked : List ObjectId) → Opens Ends trees path dirs new asked → (n : ℕ) → SameFiles (OpenFiles T n new) (OpenFiles T n dirs)
-opens_files T trees agrees path dirs new asked (arrived d) n = same_refl (OpenFiles T n d)
-opens_files T trees agrees path dirs new asked (stops name rest d other none) n = same_refl (OpenFiles T n d)
-opens_files T trees agrees path dirs new asked (down name rest d inner e entries more has named is opens) zero = λ path mode id. ((λ h. absurd h), λ h. absurd h)
-opens_files T trees agrees path dirs new asked (down name rest d inner e entries more has named is opens) (suc k) =
+pub opens_files : {Ends : EntryView → Type 0} (T : Table) (trees : Trees) → AgreesWithStore T trees
+    → (path : Path) (dirs new : Dirs) (requested : List ObjectId) → Opens Ends trees path dirs new requested → (n : ℕ)
+    → SameFiles (OpenFiles T n new) (OpenFiles T n dirs)
+opens_files T trees agrees path dirs new requested (arrived d) n = same_refl (OpenFiles T n d)
+opens_files T trees agrees path dirs new requested (stops name rest d other none) n = same_refl (OpenFiles T n d)
+opens_files T trees agrees path dirs new requested (down name rest d inner e entries more has named is opens) zero =
+    λ path mode id. ((λ h. absurd h), λ h. absurd h)
+opens_files T trees agrees path dirs new requested (down name rest d inner e entries more has named is opens) (suc k) =
     same_level T k name inner d (λ path mode id.
     let new : Dirs = with_dir name inner d in
     let inside = inside_is name inner d in
     let is_new : new (name ∷ []) ≡ Some entries = ap (λ (x : Dirs). x []) inside ∙ opens_root trees rest (in_dir name d) inner more opens ∙ is in
     let step = opens_files T trees agrees rest (in_dir name d) inner more opens k path mode id in (
-      (λ h. from_open T k d name entries e has named is path mode id (step.0 (subst (λ (x : Dirs). OpenFiles T k x path mode id) inside (into_open T k new name entries is_new path mode id h)))),
-      λ h. from_open T k new name entries e has named is_new path mode id (subst (λ (x : Dirs). OpenFiles T k x path mode id) (sym inside) (step.1 (into_open T k d name entries is path mode id h))),
+      (λ h. from_open T k d name entries e has named is path mode id
+          (step.0 (subst (λ (x : Dirs). OpenFiles T k x path mode id) inside (into_open T k new name entries is_new path mode id h)))),
+      λ h. from_open T k new name entries e has named is_new path mode id
+          (subst (λ (x : Dirs). OpenFiles T k x path mode id) (sym inside) (step.1 (into_open T k d name entries is path mode id h))),
     ))
-opens_files T trees agrees path dirs new asked (found name rest d inner e entries first more entry tree free none finds opens) zero = λ path mode id. ((λ h. absurd h), λ h. absurd h)
-opens_files T trees agrees path dirs new asked (found name rest d inner e entries first more entry tree free none finds opens) (suc k) =
+opens_files T trees agrees path dirs new requested (found name rest d inner e entries first more entry tree free none finds opens) zero =
+    λ path mode id. ((λ h. absurd h), λ h. absurd h)
+opens_files T trees agrees path dirs new requested (found name rest d inner e entries first more entry tree free none finds opens) (suc k) =
     same_level T k name inner d (λ path mode id.
     let new : Dirs = with_dir name inner d in
     let inside = inside_is name inner d in
     let is_new : new (name ∷ []) ≡ Some entries = ap (λ (x : Dirs). x []) inside ∙ opens_root trees rest (only entries) inner more opens in
     let step = opens_files T trees agrees rest (only entries) inner more opens k path mode id in
     let alone = root_only T k (only entries) entries refl (λ other. refl) path mode id in
-    let below = below_stands T k e.mode e.id entries tree (stands T trees agrees e.id entries first finds) path mode id in (
-      (λ h. from_shut T k d name (none []) e entry.0 entry.1 path mode id
-          (below.1 (alone.0 (step.0 (subst (λ (x : Dirs). OpenFiles T k x path mode id) inside (into_open T k new name entries is_new path mode id h)))))),
-      λ h. let s = into_shut T k d name (none []) path mode id h in
+    let below = below_is_at T k e.mode e.id entries tree (agrees_at T trees agrees e.id entries first finds) path mode id in (
+      (λ h. from_unopened T k d name (none []) e entry.0 entry.1 path mode id
+          (below.1 (alone.0 (step.0
+          (subst (λ (x : Dirs). OpenFiles T k x path mode id) inside (into_open T k new name entries is_new path mode id h)))))),
+      λ h. let s = into_unopened T k d name (none []) path mode id h in
           from_open T k new name entries e entry.0 entry.1 is_new path mode id
-          (subst (λ (x : Dirs). OpenFiles T k x path mode id) (sym inside) (step.1 (alone.1 (below.0 (subst (λ (x : EntryView). Below T (Files T k) x.mode x.id path mode id) (entry.2 s.0 s.1 s.2) s.3))))),
+          (subst (λ (x : Dirs). OpenFiles T k x path mode id) (sym inside)
+          (step.1 (alone.1 (below.0 (subst (λ (x : EntryView). Below T (Files T k) x.mode x.id path mode id) (entry.2 s.0 s.1 s.2) s.3))))),
     ))
 
--- after it an entry may be put at a name behind the path
-ready_more : (name : List ℕ) (q : Path) (dirs : Dirs) → (((e : EntryView) → HasAt (dirs []) e → e.name ≡ name → is_tree_mode e.mode ≡ false) × ((path : Path) → dirs (name ∷ path) ≡ None)) → IsReady (name ∷ q) dirs
-ready_more name [] dirs shut = tt
-ready_more name (next ∷ rest) dirs shut = inl shut
+-- after an opening an entry may be upserted at a name after the path
+ready_more : (name : List ℕ) (q : Path) (dirs : Dirs) → (((e : EntryView) → HasAt (dirs []) e → e.name ≡ name → is_tree_mode e.mode ≡ false)
+    × ((path : Path) → dirs (name ∷ path) ≡ None)) → IsReady (name ∷ q) dirs
+ready_more name [] dirs unopened = tt
+ready_more name (next ∷ rest) dirs unopened = inl unopened
 
-ready_down : (name : List ℕ) (q : Path) (dirs : Dirs) → ((e : EntryView) × HasAt (dirs []) e × (e.name ≡ name)) → ((es : List EntryView) × (dirs (name ∷ []) ≡ Some es)) → IsReady q (in_dir name dirs) → IsReady (name ∷ q) dirs
+ready_down : (name : List ℕ) (q : Path) (dirs : Dirs) → ((e : EntryView) × HasAt (dirs []) e × (e.name ≡ name))
+    → ((es : List EntryView) × (dirs (name ∷ []) ≡ Some es)) → IsReady q (in_dir name dirs) → IsReady (name ∷ q) dirs
 ready_down name [] dirs entry is ready = tt
 ready_down name (next ∷ rest) dirs entry is ready = inr (entry, is, ready)
 
-pub opens_ready : (trees : Trees) (path : Path) (last : List ℕ) (dirs new : Dirs) (asked : List ObjectId) → Opens IsNoTree trees path dirs new asked → IsReady (path ++ last ∷ []) new
-opens_ready trees path last dirs new asked (arrived d) = tt
-opens_ready trees path last dirs new asked (stops name rest d other none) = ready_more name (rest ++ last ∷ []) d (other, none)
-opens_ready trees path last dirs new asked (down name rest d inner e entries more has named is opens) =
+pub opens_ready : (trees : Trees) (path : Path) (last : List ℕ) (dirs new : Dirs) (requested : List ObjectId)
+    → Opens IsNoTree trees path dirs new requested
+    → IsReady (path ++ last ∷ []) new
+opens_ready trees path last dirs new requested (arrived d) = tt
+opens_ready trees path last dirs new requested (stops name rest d other none) = ready_more name (rest ++ last ∷ []) d (other, none)
+opens_ready trees path last dirs new requested (down name rest d inner e entries more has named is opens) =
     let inside = inside_is name inner d in
-    ready_down name (rest ++ last ∷ []) (with_dir name inner d) (e, has, named) (entries, ap (λ (x : Dirs). x []) inside ∙ opens_root trees rest (in_dir name d) inner more opens ∙ is)
+    ready_down name (rest ++ last ∷ []) (with_dir name inner d) (e, has, named)
+    (entries, ap (λ (x : Dirs). x []) inside ∙ opens_root trees rest (in_dir name d) inner more opens ∙ is)
     (subst (IsReady (rest ++ last ∷ [])) (sym inside) (opens_ready trees rest last (in_dir name d) inner more opens))
-opens_ready trees path last dirs new asked (found name rest d inner e entries first more entry tree free none finds opens) =
+opens_ready trees path last dirs new requested (found name rest d inner e entries first more entry tree free none finds opens) =
     let inside = inside_is name inner d in
-    ready_down name (rest ++ last ∷ []) (with_dir name inner d) (e, entry.0, entry.1) (entries, ap (λ (x : Dirs). x []) inside ∙ opens_root trees rest (only entries) inner more opens)
+    ready_down name (rest ++ last ∷ []) (with_dir name inner d) (e, entry.0, entry.1)
+    (entries, ap (λ (x : Dirs). x []) inside ∙ opens_root trees rest (only entries) inner more opens)
     (subst (IsReady (rest ++ last ∷ [])) (sym inside) (opens_ready trees rest last (only entries) inner more opens))

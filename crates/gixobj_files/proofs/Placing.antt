@@ -1,4 +1,4 @@
--- An entry put at its place among ascending entries.
+-- An entry inserted at its position among ascending entries.
 use Rattle.std.proofs.Common.{◌≡◌, ◌∙◌, ◌≤◌, ◌+◌, ℕ, Bool, true, false, not, cond, All, List, [], ◌∷◌, ◌++◌, length, refl, sym, ap, one-add, arith}
 use mathlib.Core.Bool.{true≢false}
 use Rattle.std.specs.List.{AllByRecursion, filter, insert, prefix_len}
@@ -6,7 +6,7 @@ use Rattle.std.specs.Ordering.{is_lt}
 use Rattle.std.proofs.lemmas.Bool.{false_from_ne_true}
 use Rattle.std.proofs.lemmas.List.Elements.{All-from_recursion}
 use Rattle.gixobj_tree.specs.Entries.{ComesBefore, EachLater, EntryView, IsEntryName}
-use Rattle.gixobj_hash.specs.Texts.{IsFree}
+use Rattle.gixobj_hash.specs.ByteStrings.{IsByteFree}
 use Rattle.gixobj_files.specs.Editing.{comes_before, same_name, with_entry, without}
 use Rattle.gixobj_files.proofs.KeyOrder.{before_passing}
 use Rattle.gixobj_files.proofs.Sublists.{all_kept, all_weaker, later_kept}
@@ -16,30 +16,35 @@ none_before : (x e : EntryView) (es : List EntryView) → comes_before e x ≡ f
     → (filter (λ y. comes_before y x) es ≡ []) × (filter (λ y. not (comes_before y x)) es ≡ es)
 none_before x e [] fails above = (refl, refl)
 none_before x e (y ∷ ys) fails above =
-    let also : comes_before y x ≡ false = false_from_ne_true (comes_before y x) (λ passes. true≢false (sym (ap is_lt (comes_trans e y x above.0 (before_passing y x passes))) ∙ fails)) in
+    let also : comes_before y x ≡ false =
+    false_from_ne_true (comes_before y x) (λ passes. true≢false (sym (ap is_lt (comes_trans e y x above.0 (before_passing y x passes))) ∙ fails)) in
     let rest = none_before x e ys fails above.1 in
     (rw also rest.0, rw also (ap (λ l. y ∷ l) rest.1))
 
--- in ascending order those that come before an entry are the first ones
+-- in ascending order the entries that come before an entry are the first ones
 parted : (x : EntryView) (es : List EntryView) → EachLater ComesBefore es
     → insert es (prefix_len (λ y. comes_before y x) es) x ≡ filter (λ y. comes_before y x) es ++ x ∷ filter (λ y. not (comes_before y x)) es
 parted x [] up = refl
 parted x (e ∷ es) up =
     elim (comes_before e x) as (λ b. comes_before e x ≡ b → insert (e ∷ es) (cond b (1 + prefix_len (λ y. comes_before y x) es) 0) x
-    ≡ cond b (e ∷ filter (λ y. comes_before y x) es) (filter (λ y. comes_before y x) es) ++ x ∷ cond (not b) (e ∷ filter (λ y. not (comes_before y x)) es) (filter (λ y. not (comes_before y x)) es)) [
+    ≡ cond b (e ∷ filter (λ y. comes_before y x) es) (filter (λ y. comes_before y x) es) ++ x ∷ cond (not b) (e ∷ filter (λ y. not (comes_before y x)) es)
+    (filter (λ y. not (comes_before y x)) es)) [
       | true ↦ λ passes. rw one-add (ap (λ l. e ∷ l) (parted x es up.1))
       | false ↦ λ fails. let rest = none_before x e es fails up.0 in rw (rest.0, rest.1) refl
     ] refl
 
-pub placed : (x : EntryView) (old es l : List EntryView) (place : ℕ) → EachLater ComesBefore old → es ≡ without x.name old → l ≡ es → place ≡ prefix_len (λ y. comes_before y x) l → insert es place x ≡ with_entry x old
+pub placed : (x : EntryView) (old es l : List EntryView) (place : ℕ) → EachLater ComesBefore old → es ≡ without x.name old → l ≡ es
+    → place ≡ prefix_len (λ y. comes_before y x) l → insert es place x ≡ with_entry x old
 placed x old es l place up p q r = rw (r, q, p) (parted x (without x.name old) (later_kept ComesBefore (λ e. not (same_name e.name x.name)) old up))
 
 pub prefix_short : {X : Type 0} (p : X → Bool) (xs : List X) → prefix_len p xs ≤ length xs
 prefix_short p [] = omega arith
-prefix_short p (x ∷ xs) = elim (p x) as (λ b. cond b (1 + prefix_len p xs) 0 ≤ length (x ∷ xs)) [ true ↦ omega (arith, prefix_short p xs) | false ↦ omega arith ]
+prefix_short p (x ∷ xs) = elim (p x) as (λ b. cond b (1 + prefix_len p xs) 0 ≤ length (x ∷ xs))
+    [ true ↦ omega (arith, prefix_short p xs) | false ↦ omega arith ]
 
--- the names of the entries of other names
-pub free_names : (x : EntryView) (es : List EntryView) → AllByRecursion (λ e. IsEntryName e.name) es → All (λ e. IsFree 47 e.name) (without x.name es)
+-- the names of the entries of other names have no slash
+pub free_names : (x : EntryView) (es : List EntryView) → AllByRecursion (λ e. IsEntryName e.name) es → All (λ e. IsByteFree 47 e.name) (without x.name es)
 free_names x es names =
-    All-from_recursion (λ (e : EntryView). IsFree 47 e.name) (without x.name es)
-    (all_weaker (λ (e : EntryView). IsEntryName e.name) (λ (e : EntryView). IsFree 47 e.name) (λ e name. name.one_name) (without x.name es) (all_kept (λ e. IsEntryName e.name) (λ e. not (same_name e.name x.name)) es names))
+    All-from_recursion (λ (e : EntryView). IsByteFree 47 e.name) (without x.name es)
+    (all_weaker (λ (e : EntryView). IsEntryName e.name) (λ (e : EntryView). IsByteFree 47 e.name) (λ e name. name.one_name) (without x.name es)
+    (all_kept (λ e. IsEntryName e.name) (λ e. not (same_name e.name x.name)) es names))

@@ -1,4 +1,5 @@
--- Where trees' entries come from writes alone: what is open, and what a write hands out then.
+-- The open directories, and what a write emits, if the entries of tree mode come from writes alone: for the editor's
+-- law of one id for equal files.
 use Rattle.std.proofs.Common.{◌≡◌, ◌≢◌, inl, inr, ⊎_elim, ℕ, true, List, [], ◌∷◌, ◌++◌, refl, sym, ap, subst, ◌∙◌, Option, Some, None, Contains}
 use Rattle.std.specs.List.{AllByRecursion}
 use Rattle.std.proofs.lemmas.List.Elements.{All-contains}
@@ -12,18 +13,19 @@ use Rattle.gixobj_files.specs.Opening.{Dirs, HasAt, in_dir}
 use Rattle.gixobj_files.specs.Tables.{AgreesWithPairs, AgreesWithStore}
 use Rattle.gixobj_files.proofs.Canonical.{IsBuilt, IsClean, built}
 use Rattle.gixobj_files.proofs.Everywhere.{Everywhere, Lasts, OfEntry}
-use Rattle.gixobj_files.proofs.WrittenFiles.{kept_has}
-use Rattle.gixobj_files.specs.HandingOut.{Leaves, Walks, emptied, end, entry_with, leaves, shut, unchanged, written}
+use Rattle.gixobj_files.proofs.WrittenFiles.{non_null_has}
+use Rattle.gixobj_files.specs.Emission.{EmitsBelow, Walks, emptied, end, entry_with, leaves, unopened, unchanged, written}
 use Rattle.gixobj_files.proofs.Based.{some_list}
 
--- the id of the entry is that of a pair with such a tree, which isn't empty
+-- the id of the entry is that of a pair whose tree is built and isn't empty
 pub record IsOfPair (pairs : List Pair) (id : ObjectId) : Type 0 where
   pub tree : List EntryView
   pub filled : tree ≢ []
   pub named : Contains pairs (id, tree)
   pub is_built : IsBuilt pairs tree
 
--- a tree's entry has the mode of trees, and an id of a pair where it isn't open; a base that isn't empty is the tree of the entry's id
+-- an entry of tree mode has the mode 040000, and an id of a pair if it isn't open; a base that isn't empty is the tree
+-- of the entry's id
 pub record IsPlain (pairs : List Pair) (e : EntryView) (here base : Option (List EntryView)) : Type 0 where
   pub mode : is_tree_mode e.mode ≡ true → e.mode ≡ tree_type
   pub its_pair : is_tree_mode e.mode ≡ true → here ≡ None → IsOfPair pairs e.id
@@ -32,7 +34,7 @@ pub record IsPlain (pairs : List Pair) (e : EntryView) (here base : Option (List
 abbrev pub Plain : List Pair → OfEntry
 Plain pairs e here base = IsPlain pairs e here base
 
--- an entry that isn't open
+-- each entry of tree mode that isn't open has the id of a pair
 abbrev pub RestsOn : List Pair → List EntryView → Type 0
 RestsOn pairs entries = (e : EntryView) → Has entries e → is_tree_mode e.mode ≡ true → (e.mode ≡ tree_type) × IsOfPair pairs e.id
 
@@ -40,45 +42,51 @@ pub closed : (pairs : List Pair) (entries : List EntryView) → RestsOn pairs en
 closed pairs entries rests e h = record { mode = λ t. (rests e h t).0; its_pair = λ t none. (rests e h t).1; based = λ list is. absurd (cc is) }
 
 pub rests_of : (pairs : List Pair) (entries : List EntryView) → IsBuilt pairs entries → RestsOn pairs entries
-rests_of pairs entries (built l clean modes tree filled named deep) e h t = (modes e h t, record { tree = tree e h t; filled = filled e h t; named = named e h t; is_built = deep e h t })
+rests_of pairs entries (built l clean modes tree filled named deep) e h t =
+    (modes e h t, record { tree = tree e h t; filled = filled e h t; named = named e h t; is_built = deep e h t })
 
 pub built_of : (pairs : List Pair) (entries : List EntryView) → IsClean entries → RestsOn pairs entries → IsBuilt pairs entries
 built_of pairs entries clean rests =
-    built entries clean (λ e h t. (rests e h t).0) (λ e h t. (rests e h t).1.tree) (λ e h t. (rests e h t).1.filled) (λ e h t. (rests e h t).1.named) (λ e h t. (rests e h t).1.is_built)
+    built entries clean (λ e h t. (rests e h t).0) (λ e h t. (rests e h t).1.tree) (λ e h t. (rests e h t).1.filled) (λ e h t. (rests e h t).1.named)
+    (λ e h t. (rests e h t).1.is_built)
 
 module _ (T : Table) (pairs : List Pair) (known : AgreesWithPairs T pairs) where
   its_tree : (id : ObjectId) (tree : List EntryView) → Contains pairs (id, tree) → T.tree_at id ≡ Some tree
   its_tree id tree has = All-contains (λ pair. T.tree_at pair.0 ≡ Some pair.1) pairs (id, tree) known has
 
-  -- what a store has by the id of a pair is its tree
-  found_is : (trees : Trees) → AgreesWithStore T trees → (id : ObjectId) (it : IsOfPair pairs id) (entries : List EntryView) (asked : List ObjectId) → Finds trees id entries asked → it.tree ≡ entries
-  found_is trees agrees id it entries asked (formed, inl (inl null, empty, none)) = absurd (let bad : Some it.tree ≡ None = sym (its_tree id it.tree it.named) ∙ T.none_by_null id null in cc bad)
-  found_is trees agrees id it entries asked (formed, inl (inr is, empty, none)) =
+  -- what a store has by the id of a pair is the tree of the pair
+  found_is : (trees : Trees) → AgreesWithStore T trees → (id : ObjectId) (it : IsOfPair pairs id) (entries : List EntryView) (requested : List ObjectId)
+      → Finds trees id entries requested → it.tree ≡ entries
+  found_is trees agrees id it entries requested (formed, inl (inl null, empty, none)) =
+      absurd (let bad : Some it.tree ≡ None = sym (its_tree id it.tree it.named) ∙ T.nothing_by_null id null in cc bad)
+  found_is trees agrees id it entries requested (formed, inl (inr is, empty, none)) =
       some_list it.tree entries (sym (its_tree id it.tree it.named) ∙ ap T.tree_at is ∙ T.none_in_empty (id_kind id) ∙ ap Some (sym empty))
-  found_is trees agrees id it entries asked (formed, inr (filled, is, asks)) = some_list it.tree entries (sym (its_tree id it.tree it.named) ∙ agrees id entries filled is)
+  found_is trees agrees id it entries requested (formed, inr (filled, is, requests)) =
+      some_list it.tree entries (sym (its_tree id it.tree it.named) ∙ agrees id entries filled is)
 
   pub plain_lasts : (trees : Trees) (null : ObjectId) → AgreesWithStore T trees → Lasts (Plain pairs) trees null
   plain_lasts trees null agrees = record {
-    shut = λ e base p. record { mode = p.mode; its_pair = p.its_pair; based = λ list is. absurd (cc is) };
+    not_open = λ e base p. record { mode = p.mode; its_pair = p.its_pair; based = λ list is. absurd (cc is) };
     still = λ e was now base p. record { mode = p.mode; its_pair = λ t none. absurd (cc none); based = p.based };
     made = λ name now. record { mode = λ t. refl; its_pair = λ t none. absurd (cc none); based = λ list is some. absurd (some (sym (some_list [] list is))) };
-    opened = λ e base entries asked p tree finds.
+    opened = λ e base entries requested p tree finds.
         let it : IsOfPair pairs e.id = p.its_pair tree refl in
-        let same : it.tree ≡ entries = found_is trees agrees e.id it entries asked finds in (
+        let same : it.tree ≡ entries = found_is trees agrees e.id it entries requested finds in (
           record {
             mode = p.mode;
             its_pair = λ t none. absurd (cc none);
-            based = λ list is some. let is_list : it.tree ≡ list = same ∙ some_list entries list is in (subst (λ l. Contains pairs (e.id, l)) is_list it.named, subst (IsBuilt pairs) is_list it.is_built);
+            based = λ list is some. let is_list : it.tree ≡ list =
+                same ∙ some_list entries list is in (subst (λ l. Contains pairs (e.id, l)) is_list it.named, subst (IsBuilt pairs) is_list it.is_built);
           },
           closed pairs entries (subst (RestsOn pairs) same (rests_of pairs it.tree it.is_built)),
         );
   }
 
--- what is said of some pairs is said of those in front, and of those behind
+-- a property of pairs holds of a prefix of them, and of the rest
 module _ (Q : Pair → Type 0) where
-  pub all_left : (xs ys : List Pair) → AllByRecursion Q (xs ++ ys) → AllByRecursion Q xs
-  all_left [] ys h = tt
-  all_left (x ∷ xs) ys h = (h.0, all_left xs ys h.1)
+  pub all_remaining : (xs ys : List Pair) → AllByRecursion Q (xs ++ ys) → AllByRecursion Q xs
+  all_remaining [] ys h = tt
+  all_remaining (x ∷ xs) ys h = (h.0, all_remaining xs ys h.1)
 
   pub all_right : (xs ys : List Pair) → AllByRecursion Q (xs ++ ys) → AllByRecursion Q ys
   all_right [] ys h = h
@@ -88,49 +96,61 @@ module _ (Q : Pair → Type 0) where
   all_joined [] ys h k = k
   all_joined (x ∷ xs) ys h k = (h.0, all_joined xs ys h.1 k)
 
--- a pair that goes out, with a tree without null ids
-abbrev pub GoesOut : List Pair → Pair → Type 0
-GoesOut pairs pair = Contains pairs pair × IsClean pair.1
+-- an emitted pair has a tree without null ids
+abbrev pub IsEmitted : List Pair → Pair → Type 0
+IsEmitted pairs pair = Contains pairs pair × IsClean pair.1
 
 abbrev pub HasBuilt : List Pair → Pair → Type 0
 HasBuilt pairs pair = IsBuilt pairs pair.1
 
 module _ (pairs : List Pair) where
-  -- an entry with its id, before others
-  rests_more : (e : EntryView) (id : ObjectId) (os : List EntryView) → (is_tree_mode e.mode ≡ true → (e.mode ≡ tree_type) × IsOfPair pairs id) → RestsOn pairs os → RestsOn pairs (entry_with e id ++ os)
+  -- an entry with its id, before others that have ids of pairs
+  rests_more : (e : EntryView) (id : ObjectId) (os : List EntryView) → (is_tree_mode e.mode ≡ true → (e.mode ≡ tree_type) × IsOfPair pairs id)
+      → RestsOn pairs os → RestsOn pairs (entry_with e id ++ os)
   rests_more e id os here rests x h =
-      ⊎_elim (λ one. subst (λ (y : EntryView). is_tree_mode y.mode ≡ true → (y.mode ≡ tree_type) × IsOfPair pairs y.id) one.1 here) (λ behind. rests x behind) (kept_has e id os x h)
+      ⊎_elim (λ one. subst (λ (y : EntryView). is_tree_mode y.mode ≡ true → (y.mode ≡ tree_type) × IsOfPair pairs y.id) one.1 here) (λ after. rests x after)
+      (non_null_has e id os x h)
 
   mutual
-    pub leaves_plain : (dirs bases : Dirs) (ps : List Pair) (own : List EntryView) (saved : ℕ) → Leaves dirs bases ps own saved → Everywhere (Plain pairs) dirs bases → AllByRecursion (GoesOut pairs) ps
+    pub leaves_plain : (dirs bases : Dirs) (ps : List Pair) (own : List EntryView) (saved : ℕ) → EmitsBelow dirs bases ps own saved
+        → Everywhere (Plain pairs) dirs bases → AllByRecursion (IsEmitted pairs) ps
         → RestsOn pairs own × AllByRecursion (HasBuilt pairs) ps
     leaves_plain dirs bases ps own saved (leaves d b es below os n is walk) all out =
         walk_plain d b es below os n walk (λ e h. all [] e (subst (λ o. HasAt o e) (sym is) h)) (λ first q. all (first ∷ q)) out
 
     walk_plain : (dirs bases : Dirs) (es : List EntryView) (ps : List Pair) (own : List EntryView) (saved : ℕ) → Walks dirs bases es ps own saved
-        → ((e : EntryView) → Has es e → IsPlain pairs e (dirs (e.name ∷ [])) (bases (e.name ∷ []))) → ((first : List ℕ) → Everywhere (Plain pairs) (in_dir first dirs) (in_dir first bases)) → AllByRecursion (GoesOut pairs) ps
+        → ((e : EntryView) → Has es e → IsPlain pairs e (dirs (e.name ∷ [])) (bases (e.name ∷ [])))
+        → ((first : List ℕ) → Everywhere (Plain pairs) (in_dir first dirs) (in_dir first bases)) → AllByRecursion (IsEmitted pairs) ps
         → RestsOn pairs own × AllByRecursion (HasBuilt pairs) ps
     walk_plain dirs bases es ps own saved (end d b) here deeper out = ((λ e h. absurd h), tt)
-    walk_plain dirs bases es ps own saved (shut d b e rest below os n none walk) here deeper out =
+    walk_plain dirs bases es ps own saved (unopened d b e rest below os n none walk) here deeper out =
         let w = walk_plain d b rest below os n walk (λ x h. here x (inr h)) deeper out in
         let mine = here e (inl refl) in
         (rests_more e e.id os (λ t. (mine.mode t, mine.its_pair t none)) w.0, w.1)
     walk_plain dirs bases es ps own saved (emptied d b e rest inner below os m n found walk) here deeper out =
-        let w = walk_plain d b rest below os n walk (λ x h. here x (inr h)) deeper (all_right (GoesOut pairs) inner below out) in
-        let lower = leaves_plain (in_dir e.name d) (in_dir e.name b) inner [] m found (deeper e.name) (all_left (GoesOut pairs) inner below out) in
+        let w = walk_plain d b rest below os n walk (λ x h. here x (inr h)) deeper (all_right (IsEmitted pairs) inner below out) in
+        let lower = leaves_plain (in_dir e.name d) (in_dir e.name b) inner [] m found (deeper e.name) (all_remaining (IsEmitted pairs) inner below out) in
         (w.0, all_joined (HasBuilt pairs) inner below lower.1 w.1)
     walk_plain dirs bases es ps own saved (unchanged d b e first rest more_own inner below os m n found same walk) here deeper out =
-        let w = walk_plain d b rest below os n walk (λ x h. here x (inr h)) deeper (all_right (GoesOut pairs) inner below out) in
-        let lower = leaves_plain (in_dir e.name d) (in_dir e.name b) inner (first ∷ more_own) m found (deeper e.name) (all_left (GoesOut pairs) inner below out) in
+        let w = walk_plain d b rest below os n walk (λ x h. here x (inr h)) deeper (all_right (IsEmitted pairs) inner below out) in
+        let lower = leaves_plain (in_dir e.name d) (in_dir e.name b) inner (first ∷ more_own) m found (deeper e.name)
+        (all_remaining (IsEmitted pairs) inner below out) in
         let mine = here e (inl refl) in
         let some : first ∷ more_own ≢ [] = λ none. cc none in
-        let it = mine.based (first ∷ more_own) same some in
-        (rests_more e e.id os (λ t. (mine.mode t, record { tree = first ∷ more_own; filled = some; named = it.0; is_built = it.1 })) w.0, all_joined (HasBuilt pairs) inner below lower.1 w.1)
+        let it = mine.based (first ∷ more_own) same some in (
+          rests_more e e.id os (λ t. (mine.mode t, record { tree = first ∷ more_own; filled = some; named = it.0; is_built = it.1 })) w.0,
+          all_joined
+              (HasBuilt pairs) inner below lower.1 w.1,
+        )
     walk_plain dirs bases es ps own saved (written d b e first rest more_own inner below os m n named_id found differ walk) here deeper out =
-        let pair = all_right (GoesOut pairs) inner ((named_id, first ∷ more_own) ∷ below) out in
+        let pair = all_right (IsEmitted pairs) inner ((named_id, first ∷ more_own) ∷ below) out in
         let w = walk_plain d b rest below os n walk (λ x h. here x (inr h)) deeper pair.1 in
-        let lower = leaves_plain (in_dir e.name d) (in_dir e.name b) inner (first ∷ more_own) m found (deeper e.name) (all_left (GoesOut pairs) inner ((named_id, first ∷ more_own) ∷ below) out) in
+        let lower = leaves_plain (in_dir e.name d) (in_dir e.name b) inner (first ∷ more_own) m found (deeper e.name)
+        (all_remaining (IsEmitted pairs) inner ((named_id, first ∷ more_own) ∷ below) out) in
         let mine = here e (inl refl) in
         let some : first ∷ more_own ≢ [] = λ none. cc none in
-        let is : IsBuilt pairs (first ∷ more_own) = built_of pairs (first ∷ more_own) (pair.0.1) lower.0 in
-        (rests_more e named_id os (λ t. (mine.mode t, record { tree = first ∷ more_own; filled = some; named = pair.0.0; is_built = is })) w.0, all_joined (HasBuilt pairs) inner ((named_id, first ∷ more_own) ∷ below) lower.1 (is, w.1))
+        let is : IsBuilt pairs (first ∷ more_own) = built_of pairs (first ∷ more_own) (pair.0.1) lower.0 in (
+          rests_more e named_id os (λ t. (mine.mode t, record { tree = first ∷ more_own; filled = some; named = pair.0.0; is_built = is })) w.0,
+          all_joined
+              (HasBuilt pairs) inner ((named_id, first ∷ more_own) ∷ below) lower.1 (is, w.1),
+        )

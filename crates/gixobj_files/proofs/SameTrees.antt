@@ -1,4 +1,4 @@
--- Trees that compare as the same are the same.
+-- Trees that compare as equal are equal.
 use mathlib.Core.Bool.{true≢false}
 use Rattle.std.proofs.Common.{◌≡◌, ◌≢◌, ◌⊎◌, inl, inr, ◌∙◌, true, false, List, [], ◌∷◌, refl, sym, ap}
 use Rattle.std.specs.Cmp.{tied_then}
@@ -35,4 +35,5 @@ pub other_tree : (xs ys : List EntryView) → same_tree xs ys ≡ false → xs �
 other_tree xs ys h same = true≢false (sym (tree_equiv.refl xs) ∙ ap (same_tree xs) same ∙ h)
 
 pub same_or_other : (xs ys : List EntryView) → (xs ≡ ys) ⊎ (xs ≢ ys)
-same_or_other xs ys = elim (same_tree xs ys) as (λ b. same_tree xs ys ≡ b → (xs ≡ ys) ⊎ (xs ≢ ys)) [ true ↦ λ h. inl (one_tree xs ys h) | false ↦ λ h. inr (other_tree xs ys h) ] refl
+same_or_other xs ys = elim (same_tree xs ys) as (λ b. same_tree xs ys ≡ b → (xs ≡ ys) ⊎ (xs ≢ ys))
+    [ true ↦ λ h. inl (one_tree xs ys h) | false ↦ λ h. inr (other_tree xs ys h) ] refl

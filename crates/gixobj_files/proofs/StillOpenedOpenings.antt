@@ -1,4 +1,5 @@
--- Opening the directories on a path keeps what is open, and each open directory well-formed with a tree's entry above it.
+-- An opening of the directories on a path keeps what is open, and the invariant of open directories: for the editor and
+-- `Lasting`.
 use Rattle.std.proofs.Common.{◌≡◌, true, false, cond, List, [], ◌∷◌, ◌++◌, ℕ, refl, sym, ap, subst, ◌∙◌, Some, None}
 use Rattle.std.specs.Prelude.{IsTrue}
 use Rattle.std.specs.Cmp.Lexicographic.{bytes_decides}
@@ -13,20 +14,24 @@ use Rattle.gixobj_files.proofs.OpeningFiles.{opens_root}
 use Rattle.gixobj_files.proofs.StillOpened.{AreAbove, AreFormed}
 
 formed_with_dir : (name : List ℕ) (inner dirs : Dirs) → AreFormed inner → AreFormed dirs → AreFormed (with_dir name inner dirs)
-formed_with_dir name inner dirs inside beside [] es is = beside [] es is
-formed_with_dir name inner dirs inside beside (first ∷ at) es is =
-    elim (same_name name first) as (λ b. cond b (inner at) (dirs (first ∷ at)) ≡ Some es → IsWellFormed es) [ true ↦ λ k. inside at es k | false ↦ λ k. beside (first ∷ at) es k ] is
+formed_with_dir name inner dirs inside next_to [] es is = next_to [] es is
+formed_with_dir name inner dirs inside next_to (first ∷ at) es is =
+    elim (same_name name first) as (λ b. cond b (inner at) (dirs (first ∷ at)) ≡ Some es → IsWellFormed es)
+    [ true ↦ λ k. inside at es k | false ↦ λ k. next_to (first ∷ at) es k ] is
 
-above_with_dir : (name : List ℕ) (inner dirs : Dirs) → AreAbove inner → AreAbove dirs → ((e : EntryView) × HasAt (dirs []) e × (e.name ≡ name) × IsTrue (is_tree_mode e.mode)) → AreAbove (with_dir name inner dirs)
-above_with_dir name inner dirs inside beside entry [] other es is =
-    elim (same_name name other) as (λ b. same_name name other ≡ b → cond b (inner []) (dirs (other ∷ [])) ≡ Some es → (e : EntryView) × HasAt (dirs []) e × (e.name ≡ other) × IsTrue (is_tree_mode e.mode)) [
+above_with_dir : (name : List ℕ) (inner dirs : Dirs) → AreAbove inner → AreAbove dirs
+    → ((e : EntryView) × HasAt (dirs []) e × (e.name ≡ name) × IsTrue (is_tree_mode e.mode)) → AreAbove (with_dir name inner dirs)
+above_with_dir name inner dirs inside next_to entry [] other es is =
+    elim (same_name name other) as (λ b. same_name name other ≡ b → cond b (inner []) (dirs (other ∷ [])) ≡ Some es → (e : EntryView) × HasAt (dirs []) e
+    × (e.name ≡ other) × IsTrue (is_tree_mode e.mode)) [
       | true ↦ λ called k. (entry.0, entry.1, entry.2 ∙ (bytes_decides name other).0 called, entry.3)
-      | false ↦ λ called k. beside [] other es k
+      | false ↦ λ called k. next_to [] other es k
     ] refl is
-above_with_dir name inner dirs inside beside entry (first ∷ at) other es is =
-    elim (same_name name first) as (λ b. cond b (inner (at ++ other ∷ [])) (dirs (first ∷ (at ++ other ∷ []))) ≡ Some es → (e : EntryView) × HasAt (cond b (inner at) (dirs (first ∷ at))) e × (e.name ≡ other) × IsTrue (is_tree_mode e.mode)) [
+above_with_dir name inner dirs inside next_to entry (first ∷ at) other es is =
+    elim (same_name name first) as (λ b. cond b (inner (at ++ other ∷ [])) (dirs (first ∷ (at ++ other ∷ []))) ≡ Some es → (e : EntryView)
+    × HasAt (cond b (inner at) (dirs (first ∷ at))) e × (e.name ≡ other) × IsTrue (is_tree_mode e.mode)) [
       | true ↦ λ k. inside at other es k
-      | false ↦ λ k. beside (first ∷ at) other es k
+      | false ↦ λ k. next_to (first ∷ at) other es k
     ] is
 
 formed_only : (entries : List EntryView) → IsWellFormed entries → AreFormed (only entries)
@@ -40,30 +45,33 @@ above_only : (entries : List EntryView) → AreAbove (only entries)
 above_only entries [] name es is = absurd (cc is)
 above_only entries (first ∷ path) name es is = absurd (cc is)
 
-formed_opening : {Ends : EntryView → Type 0} (trees : Trees) (path : Path) (dirs new : Dirs) (asked : List ObjectId) → Opens Ends trees path dirs new asked → AreFormed dirs → AreFormed new
-formed_opening trees path dirs new asked (arrived d) formed = formed
-formed_opening trees path dirs new asked (stops name rest d other none) formed = formed
-formed_opening trees path dirs new asked (down name rest d inner e entries more has named is opens) formed =
+formed_opening : {Ends : EntryView → Type 0} (trees : Trees) (path : Path) (dirs new : Dirs) (requested : List ObjectId)
+    → Opens Ends trees path dirs new requested → AreFormed dirs → AreFormed new
+formed_opening trees path dirs new requested (arrived d) formed = formed
+formed_opening trees path dirs new requested (stops name rest d other none) formed = formed
+formed_opening trees path dirs new requested (down name rest d inner e entries more has named is opens) formed =
     formed_with_dir name inner d (formed_opening trees rest (in_dir name d) inner more opens (λ q. formed (name ∷ q))) formed
-formed_opening trees path dirs new asked (found name rest d inner e entries first more entry tree free none finds opens) formed =
+formed_opening trees path dirs new requested (found name rest d inner e entries first more entry tree free none finds opens) formed =
     formed_with_dir name inner d (formed_opening trees rest (only entries) inner more opens (formed_only entries finds.0)) formed
 
-above_opening : {Ends : EntryView → Type 0} (trees : Trees) (path : Path) (dirs new : Dirs) (asked : List ObjectId) → Opens Ends trees path dirs new asked → AreAbove dirs → AreAbove new
-above_opening trees path dirs new asked (arrived d) above = above
-above_opening trees path dirs new asked (stops name rest d other none) above = above
-above_opening trees path dirs new asked (down name rest d inner e entries more has named is opens) above =
+above_opening : {Ends : EntryView → Type 0} (trees : Trees) (path : Path) (dirs new : Dirs) (requested : List ObjectId)
+    → Opens Ends trees path dirs new requested → AreAbove dirs → AreAbove new
+above_opening trees path dirs new requested (arrived d) above = above
+above_opening trees path dirs new requested (stops name rest d other none) above = above
+above_opening trees path dirs new requested (down name rest d inner e entries more has named is opens) above =
     above_with_dir name inner d (above_opening trees rest (in_dir name d) inner more opens (λ q. above (name ∷ q))) above (above [] name entries is)
-above_opening trees path dirs new asked (found name rest d inner e entries first more entry tree free none finds opens) above =
+above_opening trees path dirs new requested (found name rest d inner e entries first more entry tree free none finds opens) above =
     above_with_dir name inner d (above_opening trees rest (only entries) inner more opens (above_only entries)) above (e, entry.0, entry.1, tree)
 
-pub opened_opening : {Ends : EntryView → Type 0} (trees : Trees) (path : Path) (dirs new : Dirs) (asked : List ObjectId) → Opens Ends trees path dirs new asked → IsOpened dirs → IsOpened new
-opened_opening trees path dirs new asked opens opened = record {
-  root = λ none. opened.root (sym (opens_root trees path dirs new asked opens) ∙ none);
-  well_formed = formed_opening trees path dirs new asked opens opened.well_formed;
-  above = above_opening trees path dirs new asked opens opened.above;
+pub opened_opening : {Ends : EntryView → Type 0} (trees : Trees) (path : Path) (dirs new : Dirs) (requested : List ObjectId)
+    → Opens Ends trees path dirs new requested → IsOpened dirs → IsOpened new
+opened_opening trees path dirs new requested opens opened = record {
+  root = λ none. opened.root (sym (opens_root trees path dirs new requested opens) ∙ none);
+  well_formed = formed_opening trees path dirs new requested opens opened.well_formed;
+  above = above_opening trees path dirs new requested opens opened.above;
 }
 
--- the same of whole open directories
+-- the open directories in an open directory satisfy the invariant
 pub opened_in_dir : (name : List ℕ) (dirs : Dirs) (entries : List EntryView) → dirs (name ∷ []) ≡ Some entries → IsOpened dirs → IsOpened (in_dir name dirs)
 opened_in_dir name dirs entries is all = record {
   root = λ none. cc (sym is ∙ none);
@@ -74,25 +82,27 @@ opened_in_dir name dirs entries is all = record {
 pub opened_only : (entries : List EntryView) → IsWellFormed entries → IsOpened (only entries)
 opened_only entries formed = record { root = λ none. cc none; well_formed = formed_only entries formed; above = above_only entries }
 
-pub opened_with_dir : (name : List ℕ) (inner dirs : Dirs) → IsOpened inner → IsOpened dirs → ((e : EntryView) × HasAt (dirs []) e × (e.name ≡ name) × IsTrue (is_tree_mode e.mode)) → IsOpened (with_dir name inner dirs)
-opened_with_dir name inner dirs inside beside entry = record {
-  root = beside.root;
-  well_formed = formed_with_dir name inner dirs inside.well_formed beside.well_formed;
-  above = above_with_dir name inner dirs inside.above beside.above entry;
+pub opened_with_dir : (name : List ℕ) (inner dirs : Dirs) → IsOpened inner → IsOpened dirs
+    → ((e : EntryView) × HasAt (dirs []) e × (e.name ≡ name) × IsTrue (is_tree_mode e.mode)) → IsOpened (with_dir name inner dirs)
+opened_with_dir name inner dirs inside next_to entry = record {
+  root = next_to.root;
+  well_formed = formed_with_dir name inner dirs inside.well_formed next_to.well_formed;
+  above = above_with_dir name inner dirs inside.above next_to.above entry;
 }
 
--- what is open stays as it is
-pub opening_keeps : {Ends : EntryView → Type 0} (trees : Trees) (path : Path) (dirs new : Dirs) (asked : List ObjectId) → Opens Ends trees path dirs new asked → (at : Path) (es : List EntryView) → dirs at ≡ Some es → new at ≡ Some es
-opening_keeps trees path dirs new asked (arrived d) at es is = is
-opening_keeps trees path dirs new asked (stops name rest d other none) at es is = is
-opening_keeps trees path dirs new asked (down name rest d inner e entries more has named there opens) [] es is = is
-opening_keeps trees path dirs new asked (down name rest d inner e entries more has named there opens) (first ∷ at) es is =
+-- an opening leaves each open directory unchanged
+pub opening_keeps : {Ends : EntryView → Type 0} (trees : Trees) (path : Path) (dirs new : Dirs) (requested : List ObjectId)
+    → Opens Ends trees path dirs new requested → (at : Path) (es : List EntryView) → dirs at ≡ Some es → new at ≡ Some es
+opening_keeps trees path dirs new requested (arrived d) at es is = is
+opening_keeps trees path dirs new requested (stops name rest d other none) at es is = is
+opening_keeps trees path dirs new requested (down name rest d inner e entries more has named there opens) [] es is = is
+opening_keeps trees path dirs new requested (down name rest d inner e entries more has named there opens) (first ∷ at) es is =
     elim (same_name name first) as (λ b. same_name name first ≡ b → cond b (inner at) (d (first ∷ at)) ≡ Some es) [
       | true ↦ λ called. opening_keeps trees rest (in_dir name d) inner more opens at es (ap (λ n. d (n ∷ at)) ((bytes_decides name first).0 called) ∙ is)
       | false ↦ λ called. is
     ] refl
-opening_keeps trees path dirs new asked (found name rest d inner e entries first more entry tree free none finds opens) [] es is = is
-opening_keeps trees path dirs new asked (found name rest d inner e entries first more entry tree free none finds opens) (other ∷ at) es is =
+opening_keeps trees path dirs new requested (found name rest d inner e entries first more entry tree free none finds opens) [] es is = is
+opening_keeps trees path dirs new requested (found name rest d inner e entries first more entry tree free none finds opens) (other ∷ at) es is =
     elim (same_name name other) as (λ b. same_name name other ≡ b → cond b (inner at) (d (other ∷ at)) ≡ Some es) [
       | true ↦ λ called. absurd (let bad : None ≡ Some es = sym (none at) ∙ ap (λ n. d (n ∷ at)) ((bytes_decides name other).0 called) ∙ is in cc bad)
       | false ↦ λ called. is

@@ -1,4 +1,4 @@
--- A removal keeps each open directory well-formed, and in the directory above it a tree's entry for it.
+-- A removal keeps the invariant of open directories: for removals by the editor and `PrefixStays`.
 use Rattle.std.proofs.Common.{◌≡◌, ◌≢◌, inl, inr, true, false, cond, List, [], ◌∷◌, ◌++◌, ℕ, refl, sym, ap, subst, ◌∙◌, Option, Some, None}
 use Rattle.std.specs.Prelude.{IsTrue}
 use Rattle.std.specs.Cmp.Lexicographic.{bytes_decides}
@@ -11,10 +11,11 @@ use Rattle.gixobj_files.specs.Files.{Path}
 use Rattle.gixobj_files.specs.Opening.{Dirs, HasAt, IsOpened, in_dir}
 use Rattle.gixobj_files.proofs.Formed.{well_formed_without}
 use Rattle.gixobj_files.proofs.OpenedFiles.{name_itself, same_names}
-use Rattle.gixobj_files.proofs.RemovedFiles.{has_taken, taken_beside}
+use Rattle.gixobj_files.proofs.RemovedFiles.{has_taken, taken_next_to}
 use Rattle.gixobj_files.proofs.StillOpened.{AreAbove, AreFormed}
 
-formed_taken : (name : List ℕ) (here : Option (List EntryView)) → ((es : List EntryView) → here ≡ Some es → IsWellFormed es) → (es : List EntryView) → option_map (without name) here ≡ Some es → IsWellFormed es
+formed_taken : (name : List ℕ) (here : Option (List EntryView)) → ((es : List EntryView) → here ≡ Some es → IsWellFormed es) → (es : List EntryView)
+    → option_map (without name) here ≡ Some es → IsWellFormed es
 formed_taken name None formed es is = absurd (cc is)
 formed_taken name (Some old) formed es is = subst IsWellFormed (some_is is) (well_formed_without name old (formed old refl))
   where
@@ -25,7 +26,8 @@ formed_removed : (path : Path) (dirs : Dirs) → AreFormed dirs → AreFormed (r
 formed_removed [] dirs formed at es is = formed at es is
 formed_removed (name ∷ []) dirs formed [] es is = formed_taken name (dirs []) (formed []) es is
 formed_removed (name ∷ []) dirs formed (first ∷ at) es is =
-    elim (same_name name first) as (λ b. cond b None (dirs (first ∷ at)) ≡ Some es → IsWellFormed es) [ true ↦ λ k. absurd (cc k) | false ↦ λ k. formed (first ∷ at) es k ] is
+    elim (same_name name first) as (λ b. cond b None (dirs (first ∷ at)) ≡ Some es → IsWellFormed es)
+    [ true ↦ λ k. absurd (cc k) | false ↦ λ k. formed (first ∷ at) es k ] is
 formed_removed (name ∷ next ∷ rest) dirs formed [] es is = formed [] es is
 formed_removed (name ∷ next ∷ rest) dirs formed (first ∷ at) es is =
     elim (same_name name first) as (λ b. cond b (removed_dirs (next ∷ rest) (in_dir name dirs) at) (dirs (first ∷ at)) ≡ Some es → IsWellFormed es) [
@@ -33,7 +35,7 @@ formed_removed (name ∷ next ∷ rest) dirs formed (first ∷ at) es is =
       | false ↦ λ k. formed (first ∷ at) es k
     ] is
 
--- what is open after a removal was open
+-- a directory that is open after a removal was open before it
 was_open : (path : Path) (dirs : Dirs) (es : List EntryView) → removed_dirs path dirs [] ≡ Some es → (old : List EntryView) × (dirs [] ≡ Some old)
 was_open [] dirs es is = (es, is)
 was_open (name ∷ []) dirs es is = taken (dirs []) is
@@ -47,23 +49,28 @@ above_removed : (path : Path) (dirs : Dirs) → AreAbove dirs → AreAbove (remo
 above_removed [] dirs above at other es is = above at other es is
 above_removed (name ∷ []) dirs above [] other es is =
     elim (same_names name other) [
-      | inl same ↦ absurd (let gone : removed_dirs (name ∷ []) dirs (other ∷ []) ≡ None = subst (λ n. removed_dirs (name ∷ []) dirs (n ∷ []) ≡ None) same (ap (λ b. cond b None (dirs (name ∷ []))) (name_itself name)) in let bad : None ≡ Some es = sym gone ∙ is in cc bad)
-      | inr differ ↦ let e = above [] other es (sym (ap (λ (d : Dirs). d []) (taken_beside name other dirs differ)) ∙ is) in
+      | inl same ↦ absurd (let gone : removed_dirs (name ∷ []) dirs (other ∷ []) ≡ None = subst (λ n. removed_dirs (name ∷ []) dirs (n ∷ []) ≡ None) same
+          (ap (λ b. cond b None (dirs (name ∷ []))) (name_itself name)) in let bad : None ≡ Some es = sym gone ∙ is in cc bad)
+      | inr differ ↦ let e = above [] other es (sym (ap (λ (d : Dirs). d []) (taken_next_to name other dirs differ)) ∙ is) in
           (e.0, has_taken name (dirs []) e.0 e.1 (λ q. differ (sym q ∙ e.2)), e.2, e.3)
     ]
 above_removed (name ∷ []) dirs above (first ∷ at) other es is =
-    elim (same_name name first) as (λ b. cond b None (dirs (first ∷ (at ++ other ∷ []))) ≡ Some es → (e : EntryView) × HasAt (cond b None (dirs (first ∷ at))) e × (e.name ≡ other) × IsTrue (is_tree_mode e.mode)) [
+    elim (same_name name first) as (λ b. cond b None (dirs (first ∷ (at ++ other ∷ []))) ≡ Some es → (e : EntryView) × HasAt (cond b None (dirs (first ∷ at))) e
+    × (e.name ≡ other) × IsTrue (is_tree_mode e.mode)) [
       | true ↦ λ k. absurd (cc k)
       | false ↦ λ k. above (first ∷ at) other es k
     ] is
 above_removed (name ∷ next ∷ rest) dirs above [] other es is =
-    elim (same_name name other) as (λ b. same_name name other ≡ b → cond b (removed_dirs (next ∷ rest) (in_dir name dirs) []) (dirs (other ∷ [])) ≡ Some es → (e : EntryView) × HasAt (dirs []) e × (e.name ≡ other) × IsTrue (is_tree_mode e.mode)) [
-      | true ↦ λ called k. let old = was_open (next ∷ rest) (in_dir name dirs) es k in let e = above [] name old.0 old.1 in (e.0, e.1, e.2 ∙ (bytes_decides name other).0 called, e.3)
+    elim (same_name name other) as (λ b. same_name name other ≡ b → cond b (removed_dirs (next ∷ rest) (in_dir name dirs) []) (dirs (other ∷ [])) ≡ Some es
+    → (e : EntryView) × HasAt (dirs []) e × (e.name ≡ other) × IsTrue (is_tree_mode e.mode)) [
+      | true ↦ λ called k. let old = was_open (next ∷ rest) (in_dir name dirs) es k in let e =
+          above [] name old.0 old.1 in (e.0, e.1, e.2 ∙ (bytes_decides name other).0 called, e.3)
       | false ↦ λ called k. above [] other es k
     ] refl is
 above_removed (name ∷ next ∷ rest) dirs above (first ∷ at) other es is =
     elim (same_name name first) as (λ b. cond b (removed_dirs (next ∷ rest) (in_dir name dirs) (at ++ other ∷ [])) (dirs (first ∷ (at ++ other ∷ []))) ≡ Some es
-    → (e : EntryView) × HasAt (cond b (removed_dirs (next ∷ rest) (in_dir name dirs) at) (dirs (first ∷ at))) e × (e.name ≡ other) × IsTrue (is_tree_mode e.mode)) [
+    → (e : EntryView) × HasAt (cond b (removed_dirs (next ∷ rest) (in_dir name dirs) at) (dirs (first ∷ at))) e × (e.name ≡ other)
+    × IsTrue (is_tree_mode e.mode)) [
       | true ↦ λ k. above_removed (next ∷ rest) (in_dir name dirs) (λ q. above (name ∷ q)) at other es k
       | false ↦ λ k. above (first ∷ at) other es k
     ] is

@@ -1,4 +1,5 @@
--- As many ids are asked for on a path as there are directories above its last name that aren't open and would be looked up.
+-- An opening looks up as many ids as there are unopened directories above the last name of its path: for the editor's
+-- counts of lookups.
 use Rattle.std.proofs.Common.{◌≡◌, ◌⊎◌, inl, inr, ℕ, ◌+◌, Bool, true, false, not, cond, List, [], ◌∷◌, ◌++◌, length, refl, sym, ap, ◌∙◌, arith, Option, Some, None}
 use Rattle.std.specs.Prelude.{◌&&◌, ◌≤◌, map}
 use Rattle.std.specs.List.{filter, find}
@@ -12,25 +13,27 @@ use Rattle.gixobj_hash.specs.declared.hash.object_id.ObjectId.{ObjectId}
 use Rattle.gixobj_hash.specs.declared.hash.object_id.ObjectId.TheVariants as id
 use Rattle.gixobj_hash.specs.declared.kind.Kind.TheVariants.{Tree}
 use Rattle.gixobj_files.specs.Editing.{same_name}
-use Rattle.gixobj_files.specs.Edits.{Finds, IsEntryOf, IsUnasked, Opens, arrived, down, first_entry_of, found, only, stops}
+use Rattle.gixobj_files.specs.Edits.{Finds, IsEntryOf, IsNotLookedUp, Opens, arrived, down, first_entry_of, found, only, stops}
 use Rattle.gixobj_files.specs.Files.{Has, Path, Trees, is_null}
 use Rattle.gixobj_files.specs.Opening.{Dirs, HasAt, in_dir}
-use Rattle.gixobj_files.specs.Tables.{IsUnaskedId}
-use Rattle.gixobj_files.specs.Unopened.{is_empty_tree_id, is_shut, is_sought, is_sought_tree, is_unopened, list_of, shut_or_open, strict_beginnings, told_entry, told_in, tree_of, unopened_count}
+use Rattle.gixobj_files.specs.Tables.{IsNeverLookedUp}
+use Rattle.gixobj_files.specs.Unopened.{is_empty_tree_id, needs_opening, needs_lookup, needs_tree_lookup, is_unopened, list_of, by_openness, strict_beginnings, looked_up_entry, entry_in_store, tree_of, unopened_count}
 
--- which ids are asked for
+-- the tests of an id agree with the definitions: an id is looked up unless it is null or the empty tree's
 empty_tree_id : (it : ObjectId) → is_empty_tree_id it ≡ true → it ≡ id_of (id_kind it) Tree []
 empty_tree_id (id.Sha1 bytes) is = ap id.Sha1 ((bytes_decides bytes (id_bytes (id_of hash.Sha1 Tree []))).0 is)
 empty_tree_id (id.Sha256 bytes) is = ap id.Sha256 ((bytes_decides bytes (id_bytes (id_of hash.Sha256 Tree []))).0 is)
 
-pub sought_if : (it : ObjectId) → (IsUnaskedId it → ⊥) → (is_null it ≡ false) × (is_empty_tree_id it ≡ false)
-sought_if it filled = (
+pub searched_if : (it : ObjectId) → (IsNeverLookedUp it → ⊥) → (is_null it ≡ false) × (is_empty_tree_id it ≡ false)
+searched_if it filled = (
   elim (is_null it) as (λ b. is_null it ≡ b → b ≡ false) [ true ↦ λ is. absurd (filled (inl is)) | false ↦ λ is. refl ] refl,
-  elim (is_empty_tree_id it) as (λ b. is_empty_tree_id it ≡ b → b ≡ false) [ true ↦ λ is. absurd (filled (inr (empty_tree_id it is))) | false ↦ λ is. refl ] refl,
+  elim (is_empty_tree_id it) as (λ b. is_empty_tree_id it ≡ b → b ≡ false)
+      [ true ↦ λ is. absurd (filled (inr (empty_tree_id it is))) | false ↦ λ is. refl ]
+      refl,
 )
 
-pub sought : (it : ObjectId) → (IsUnaskedId it → ⊥) → is_sought it ≡ true
-sought it filled = let both = sought_if it filled in rw (both.0, both.1) refl
+pub lookup_needed : (it : ObjectId) → (IsNeverLookedUp it → ⊥) → needs_lookup it ≡ true
+lookup_needed it filled = let both = searched_if it filled in rw (both.0, both.1) refl
 
 not_either : (x y : Bool) → (x ≡ true) ⊎ (y ≡ true) → (not x && not y) ≡ false
 not_either true y h = refl
@@ -41,7 +44,7 @@ not_either false false (inr h) = absurd (cc h)
 is_empty_id : (it : ObjectId) → it ≡ id_of (id_kind it) Tree [] → is_empty_tree_id it ≡ true
 is_empty_id it is = (bytes_decides (id_bytes it) (id_bytes (id_of (id_kind it) Tree []))).1 (ap id_bytes is)
 
-pub unsought : (it : ObjectId) → IsUnaskedId it → is_sought it ≡ false
+pub unsought : (it : ObjectId) → IsNeverLookedUp it → needs_lookup it ≡ false
 unsought it (inl null) = not_either (is_null it) (is_empty_tree_id it) (inl null)
 unsought it (inr is) = not_either (is_null it) (is_empty_tree_id it) (inr (is_empty_id it is))
 
@@ -49,7 +52,8 @@ unsought it (inr is) = not_either (is_null it) (is_empty_tree_id it) (inr (is_em
 find_has : (name : List ℕ) (es : List EntryView) (e : EntryView) → find (λ x. same_name x.name name) es ≡ Some e → Has es e × (e.name ≡ name)
 find_has name [] e is = absurd (cc is)
 find_has name (x ∷ xs) e is =
-    elim (same_name x.name name) as (λ b. same_name x.name name ≡ b → cond b (Some x) (find (λ y. same_name y.name name) xs) ≡ Some e → Has (x ∷ xs) e × (e.name ≡ name)) [
+    elim (same_name x.name name) as (λ b. same_name x.name name ≡ b → cond b (Some x) (find (λ y. same_name y.name name) xs) ≡ Some e → Has (x ∷ xs) e
+    × (e.name ≡ name)) [
       | true ↦ λ called k. let same : x ≡ e = cc k in (inl same, ap (λ (y : EntryView). y.name) (sym same) ∙ (bytes_decides x.name name).0 called)
       | false ↦ λ other k. let rest = find_has name xs e k in (inr rest.0, rest.1)
     ] refl is
@@ -63,7 +67,8 @@ find_none name (x ∷ xs) is e h named =
     ] refl is
   where
     here : Has (x ∷ xs) e → same_name x.name name ≡ false → (Has xs e → ⊥) → ⊥
-    here (inl same) other k = let yes : same_name x.name name ≡ true = (bytes_decides x.name name).1 (ap (λ (y : EntryView). y.name) same ∙ named) in let bad : true ≡ false = sym yes ∙ other in cc bad
+    here (inl same) other k = let yes : same_name x.name name ≡ true =
+        (bytes_decides x.name name).1 (ap (λ (y : EntryView). y.name) same ∙ named) in let bad : true ≡ false = sym yes ∙ other in cc bad
     here (inr l) other k = k l
 
 pub entry_has : (name : List ℕ) (here : Option (List EntryView)) (e : EntryView) → first_entry_of name here ≡ Some e → HasAt here e × (e.name ≡ name)
@@ -85,14 +90,17 @@ the_entry name here e entry = by_cases (found_or_none (first_entry_of name here)
     by_cases (inl none) = absurd (entry_none name here none e entry.0 entry.1)
     by_cases (inr some) = let has = entry_has name here some.0 some.1 in some.1 ∙ ap Some (entry.2 some.0 has.0 has.1)
 
--- counting over the beginnings of a path
+-- the number of parent directories of a path that pass a test
 abbrev passes : (Path → Bool) → Path → ℕ
 passes p path = length (filter p (strict_beginnings path))
 
-mapped : (p : Path → Bool) (name : List ℕ) (paths : List Path) → length (filter p (map (λ path. name ∷ path) paths)) ≡ length (filter (λ path. p (name ∷ path)) paths)
+mapped : (p : Path → Bool) (name : List ℕ) (paths : List Path) → length (filter p (map (λ path. name ∷ path) paths)) ≡ length
+    (filter (λ path. p (name ∷ path)) paths)
 mapped p name [] = refl
 mapped p name (path ∷ paths) =
-    elim (p (name ∷ path)) as (λ b. length (cond b ((name ∷ path) ∷ filter p (map (λ q. name ∷ q) paths)) (filter p (map (λ q. name ∷ q) paths))) ≡ length (cond b (path ∷ filter (λ q. p (name ∷ q)) paths) (filter (λ q. p (name ∷ q)) paths))) [
+    elim (p (name ∷ path)) as (λ b. length (cond b ((name ∷ path) ∷ filter p (map (λ q. name ∷ q) paths)) (filter p (map (λ q. name ∷ q) paths)))
+    ≡ length
+    (cond b (path ∷ filter (λ q. p (name ∷ q)) paths) (filter (λ q. p (name ∷ q)) paths))) [
       | true ↦ omega (arith, mapped p name paths)
       | false ↦ mapped p name paths
     ]
@@ -101,25 +109,31 @@ abbrev one_if : Bool → ℕ
 one_if true = 1
 one_if false = 0
 
-passes_more : (p : Path → Bool) (name next : List ℕ) (rest : Path) → passes p (name ∷ next ∷ rest) ≡ one_if (p (name ∷ [])) + passes (λ path. p (name ∷ path)) (next ∷ rest)
+passes_more : (p : Path → Bool) (name next : List ℕ) (rest : Path) → passes p (name ∷ next ∷ rest) ≡ one_if (p (name ∷ [])) + passes
+    (λ path. p (name ∷ path))
+    (next ∷ rest)
 passes_more p name next rest =
     let others : List Path = map (λ path. name ∷ path) (strict_beginnings (next ∷ rest)) in
-    elim (p (name ∷ [])) as (λ b. length (cond b ((name ∷ []) ∷ filter p others) (filter p others)) ≡ one_if b + passes (λ path. p (name ∷ path)) (next ∷ rest)) [
+    elim (p (name ∷ [])) as (λ b. length (cond b ((name ∷ []) ∷ filter p others) (filter p others)) ≡ one_if b + passes (λ path. p (name ∷ path))
+    (next ∷ rest)) [
       | true ↦ omega (arith, mapped p name (strict_beginnings (next ∷ rest)))
       | false ↦ omega (arith, mapped p name (strict_beginnings (next ∷ rest)))
     ]
 
-passes_deeper : (p : Path → Bool) (name : List ℕ) (rest : Path) (last : List ℕ) (behind : Path) → passes p (name ∷ (rest ++ last ∷ behind)) ≡ one_if (p (name ∷ [])) + passes (λ path. p (name ∷ path)) (rest ++ last ∷ behind)
-passes_deeper p name [] last behind = passes_more p name last behind
-passes_deeper p name (next ∷ rest) last behind = passes_more p name next (rest ++ last ∷ behind)
+passes_deeper : (p : Path → Bool) (name : List ℕ) (rest : Path) (last : List ℕ) (after : Path) → passes p (name ∷ (rest ++ last ∷ after)) ≡ one_if
+    (p (name ∷ [])) + passes (λ path. p (name ∷ path)) (rest ++ last ∷ after)
+passes_deeper p name [] last after = passes_more p name last after
+passes_deeper p name (next ∷ rest) last after = passes_more p name next (rest ++ last ∷ after)
 
--- tests that agree on all paths with names
-same_passes : (p r : Path → Bool) → ((first : List ℕ) (path : Path) → p (first ∷ path) ≡ r (first ∷ path)) → (path : Path) → passes p path ≡ passes r path
+-- tests that agree on all paths with names have equal counts
+same_passes : (p r : Path → Bool) → ((first : List ℕ) (path : Path) → p (first ∷ path) ≡ r (first ∷ path)) → (path : Path)
+    → passes p path ≡ passes r path
 same_passes p r same [] = refl
 same_passes p r same (name ∷ []) = refl
 same_passes p r same (name ∷ next ∷ rest) =
     passes_more p name next rest ∙ ap (λ b. one_if b + passes (λ path. p (name ∷ path)) (next ∷ rest)) (same name [])
-    ∙ ap (λ n. one_if (r (name ∷ [])) + n) (same_passes (λ path. p (name ∷ path)) (λ path. r (name ∷ path)) (λ first path. same name (first ∷ path)) (next ∷ rest))
+    ∙ ap (λ n. one_if (r (name ∷ [])) + n) (same_passes (λ path. p (name ∷ path)) (λ path. r (name ∷ path)) (λ first path. same name (first ∷ path))
+    (next ∷ rest))
     ∙ sym (passes_more r name next rest)
 
 abbrev never : Path → Bool
@@ -133,144 +147,204 @@ never_passes (name ∷ next ∷ rest) = omega (arith, passes_more never name nex
 no_passes : (p : Path → Bool) → ((first : List ℕ) (path : Path) → p (first ∷ path) ≡ false) → (path : Path) → passes p path ≡ 0
 no_passes p fails path = same_passes p never fails path ∙ never_passes path
 
-passes_deeper_none : (p : Path → Bool) (name : List ℕ) (rest : Path) (last : List ℕ) (behind : Path) → p (name ∷ []) ≡ false → ((first : List ℕ) (path : Path) → p (name ∷ first ∷ path) ≡ false) → passes p (name ∷ (rest ++ last ∷ behind)) ≡ 0
-passes_deeper_none p name rest last behind here below =
+passes_deeper_none : (p : Path → Bool) (name : List ℕ) (rest : Path) (last : List ℕ) (after : Path) → p (name ∷ []) ≡ false
+    → ((first : List ℕ) (path : Path) → p (name ∷ first ∷ path) ≡ false) → passes p (name ∷ (rest ++ last ∷ after)) ≡ 0
+passes_deeper_none p name rest last after here below =
     let none : one_if (p (name ∷ [])) ≡ 0 = ap one_if here in
-    let nothing : passes (λ path. p (name ∷ path)) (rest ++ last ∷ behind) ≡ 0 = no_passes (λ path. p (name ∷ path)) below (rest ++ last ∷ behind) in
-    omega (arith, passes_deeper p name rest last behind, none, nothing)
+    let nothing : passes (λ path. p (name ∷ path)) (rest ++ last ∷ after) ≡ 0 = no_passes (λ path. p (name ∷ path)) below (rest ++ last ∷ after) in
+    omega (arith, passes_deeper p name rest last after, none, nothing)
 
--- an opening ends at most before entries that the store isn't asked for
+-- an opening ends at most before entries that aren't looked up
 abbrev pub IsIdle : (EntryView → Type 0) → Type 0
-IsIdle Ends = (e : EntryView) → Ends e → IsUnasked e
+IsIdle Ends = (e : EntryView) → Ends e → IsNotLookedUp e
 
--- entries below a list
+-- entries at a path below a list
 module _ (trees : Trees) where
-  told_none : (path : Path) → told_in trees path None ≡ None
-  told_none [] = refl
-  told_none (name ∷ []) = refl
-  told_none (name ∷ next ∷ rest) = told_none (next ∷ rest)
+  known_none : (path : Path) → entry_in_store trees path None ≡ None
+  known_none [] = refl
+  known_none (name ∷ []) = refl
+  known_none (name ∷ next ∷ rest) = known_none (next ∷ rest)
 
-  told_nothing : (path : Path) → told_in trees path (Some []) ≡ None
-  told_nothing [] = refl
-  told_nothing (name ∷ []) = refl
-  told_nothing (name ∷ next ∷ rest) = told_none (next ∷ rest)
+  known_nothing : (path : Path) → entry_in_store trees path (Some []) ≡ None
+  known_nothing [] = refl
+  known_nothing (name ∷ []) = refl
+  known_nothing (name ∷ next ∷ rest) = known_none (next ∷ rest)
 
-  told_only : (path : Path) (entries : List EntryView) → told_entry trees path (only entries) ≡ told_in trees path (Some entries)
-  told_only [] entries = refl
-  told_only (name ∷ []) entries = refl
-  told_only (name ∷ next ∷ rest) entries = refl
+  known_only : (path : Path) (entries : List EntryView) → looked_up_entry trees path (only entries) ≡ entry_in_store trees path (Some entries)
+  known_only [] entries = refl
+  known_only (name ∷ []) entries = refl
+  known_only (name ∷ next ∷ rest) entries = refl
 
-  told_shut : (name first : List ℕ) (path : Path) (dirs : Dirs) → dirs (name ∷ []) ≡ None → told_entry trees (name ∷ first ∷ path) dirs ≡ told_in trees (first ∷ path) (list_of trees (first_entry_of name (dirs [])))
-  told_shut name first path dirs none = ap (λ o. shut_or_open o (told_in trees (first ∷ path) (list_of trees (first_entry_of name (dirs [])))) (told_entry trees (first ∷ path) (in_dir name dirs))) none
+  known_unopened : (name first : List ℕ) (path : Path) (dirs : Dirs) → dirs (name ∷ []) ≡ None
+      → looked_up_entry trees (name ∷ first ∷ path) dirs ≡ entry_in_store trees (first ∷ path) (list_of trees (first_entry_of name (dirs [])))
+  known_unopened name first path dirs none =
+      ap (λ o. by_openness o (entry_in_store trees (first ∷ path) (list_of trees (first_entry_of name (dirs []))))
+      (looked_up_entry trees (first ∷ path) (in_dir name dirs))) none
 
-  -- nothing is below an id that isn't asked for
-  unasked_told : (it : ObjectId) → IsUnaskedId it → (path : Path) → told_in trees path (tree_of trees it) ≡ None
-  unasked_told it empty path =
-      elim (is_null it) as (λ b. is_null it ≡ b → told_in trees path (cond b None (cond (is_empty_tree_id it) (Some []) (trees it))) ≡ None) [
-        | true ↦ λ null. told_none path
-        | false ↦ λ some. ap (λ b. told_in trees path (cond b (Some []) (trees it))) (is_empty empty some) ∙ told_nothing path
+  -- no entry is below an id that isn't looked up
+  not_looked_up_known : (it : ObjectId) → IsNeverLookedUp it → (path : Path) → entry_in_store trees path (tree_of trees it) ≡ None
+  not_looked_up_known it empty path =
+      elim (is_null it) as (λ b. is_null it ≡ b → entry_in_store trees path (cond b None (cond (is_empty_tree_id it) (Some []) (trees it))) ≡ None) [
+        | true ↦ λ null. known_none path
+        | false ↦ λ some. ap (λ b. entry_in_store trees path (cond b (Some []) (trees it))) (is_empty empty some) ∙ known_nothing path
       ] refl
     where
-      is_empty : IsUnaskedId it → is_null it ≡ false → is_empty_tree_id it ≡ true
+      is_empty : IsNeverLookedUp it → is_null it ≡ false → is_empty_tree_id it ≡ true
       is_empty (inl null) some = absurd (let bad : true ≡ false = sym null ∙ some in cc bad)
       is_empty (inr is) some = is_empty_id it is
 
-  -- no entry of the name, or one that isn't asked for
-  idle_entry : (name : List ℕ) (dirs : Dirs) → ((e : EntryView) → HasAt (dirs []) e → e.name ≡ name → IsUnasked e)
-      → (is_sought_tree (first_entry_of name (dirs [])) ≡ false) × ((path : Path) → told_in trees path (list_of trees (first_entry_of name (dirs []))) ≡ None)
+  -- a name without an entry that is looked up needs no lookup, and has no entry below it
+  idle_entry : (name : List ℕ) (dirs : Dirs) → ((e : EntryView) → HasAt (dirs []) e → e.name ≡ name → IsNotLookedUp e)
+      → (needs_tree_lookup (first_entry_of name (dirs [])) ≡ false)
+      × ((path : Path) → entry_in_store trees path (list_of trees (first_entry_of name (dirs []))) ≡ None)
   idle_entry name dirs idle = by_cases (found_or_none (first_entry_of name (dirs [])))
     where
-      by_kind : (e : EntryView) → IsUnasked e → (is_sought_tree (Some e) ≡ false) × ((path : Path) → told_in trees path (list_of trees (Some e)) ≡ None)
-      by_kind e (inl mode) = (ap (λ b. b && is_sought e.id) mode, λ path. ap (λ b. told_in trees path (cond b (tree_of trees e.id) None)) mode ∙ told_none path)
+      by_kind : (e : EntryView) → IsNotLookedUp e → (needs_tree_lookup (Some e) ≡ false)
+          × ((path : Path) → entry_in_store trees path (list_of trees (Some e)) ≡ None)
+      by_kind e (inl mode) = (
+        ap (λ b. b && needs_lookup e.id) mode,
+        λ path. ap (λ b. entry_in_store trees path (cond b (tree_of trees e.id) None)) mode
+            ∙ known_none path,
+      )
       by_kind e (inr empty) = (
-        elim (is_tree_mode e.mode) as (λ b. (b && is_sought e.id) ≡ false) [ true ↦ unsought e.id empty | false ↦ refl ],
-        λ path. elim (is_tree_mode e.mode) as (λ b. told_in trees path (cond b (tree_of trees e.id) None) ≡ None) [ true ↦ unasked_told e.id empty path | false ↦ told_none path ],
+        elim (is_tree_mode e.mode) as (λ b. (b && needs_lookup e.id) ≡ false) [ true ↦ unsought e.id empty | false ↦ refl ],
+        λ path. elim (is_tree_mode e.mode) as (λ b. entry_in_store trees path (cond b (tree_of trees e.id) None) ≡ None)
+            [ true ↦ not_looked_up_known e.id empty path | false ↦ known_none path ],
       )
 
-      by_cases : (first_entry_of name (dirs []) ≡ None) ⊎ ((x : EntryView) × (first_entry_of name (dirs []) ≡ Some x)) → (is_sought_tree (first_entry_of name (dirs [])) ≡ false) × ((path : Path) → told_in trees path (list_of trees (first_entry_of name (dirs []))) ≡ None)
-      by_cases (inl none) = (ap is_sought_tree none, λ path. ap (λ o. told_in trees path (list_of trees o)) none ∙ told_none path)
+      by_cases : (first_entry_of name (dirs []) ≡ None) ⊎ ((x : EntryView) × (first_entry_of name (dirs []) ≡ Some x))
+          → (needs_tree_lookup (first_entry_of name (dirs [])) ≡ false)
+          × ((path : Path) → entry_in_store trees path (list_of trees (first_entry_of name (dirs []))) ≡ None)
+      by_cases (inl none) = (ap needs_tree_lookup none, λ path. ap (λ o. entry_in_store trees path (list_of trees o)) none ∙ known_none path)
       by_cases (inr some) =
           let has = entry_has name (dirs []) some.0 some.1 in
           let it = by_kind some.0 (idle some.0 has.0 has.1) in
-          (ap is_sought_tree some.1 ∙ it.0, λ path. ap (λ o. told_in trees path (list_of trees o)) some.1 ∙ it.1 path)
+          (ap needs_tree_lookup some.1 ∙ it.0, λ path. ap (λ o. entry_in_store trees path (list_of trees o)) some.1 ∙ it.1 path)
 
-  pub told_nowhere : (name first : List ℕ) (path : Path) (dirs : Dirs) → ((e : EntryView) → HasAt (dirs []) e → e.name ≡ name → IsUnasked e) → ((path : Path) → dirs (name ∷ path) ≡ None) → told_entry trees (name ∷ first ∷ path) dirs ≡ None
-  told_nowhere name first path dirs idle none = told_shut name first path dirs (none []) ∙ (idle_entry name dirs idle).1 (first ∷ path)
+  pub known_nowhere : (name first : List ℕ) (path : Path) (dirs : Dirs) → ((e : EntryView) → HasAt (dirs []) e → e.name ≡ name → IsNotLookedUp e)
+      → ((path : Path) → dirs (name ∷ path) ≡ None) → looked_up_entry trees (name ∷ first ∷ path) dirs ≡ None
+  known_nowhere name first path dirs idle none = known_unopened name first path dirs (none []) ∙ (idle_entry name dirs idle).1 (first ∷ path)
 
-  -- a tree's entry that isn't open
-  first_asked : (it : ObjectId) (entries : List EntryView) (first : List ObjectId) → Finds trees it entries first → length first ≡ one_if (is_sought it)
-  first_asked it entries first (formed, inl (empty, nothing, none)) = ap length none ∙ sym (ap one_if (unsought it empty))
-  first_asked it entries first (formed, inr (filled, is, asks)) = ap length asks ∙ sym (ap one_if (sought it filled))
+  -- an entry of tree mode that isn't open counts one if its id is looked up
+  first_requested : (it : ObjectId) (entries : List EntryView) (first : List ObjectId) → Finds trees it entries first
+      → length first ≡ one_if (needs_lookup it)
+  first_requested it entries first (formed, inl (empty, nothing, none)) = ap length none ∙ sym (ap one_if (unsought it empty))
+  first_requested it entries first (formed, inr (filled, is, requests)) = ap length requests ∙ sym (ap one_if (lookup_needed it filled))
 
-  below_found : (it : ObjectId) (entries : List EntryView) (first : List ObjectId) → Finds trees it entries first → (path : Path) → told_in trees path (tree_of trees it) ≡ told_in trees path (Some entries)
-  below_found it entries first (formed, inr (filled, is, asks)) path = let both = sought_if it filled in ap (told_in trees path) (ap (λ b. cond b None (cond (is_empty_tree_id it) (Some []) (trees it))) both.0 ∙ ap (λ b. cond b (Some []) (trees it)) both.1 ∙ is)
-  below_found it entries first (formed, inl (empty, nothing, none)) path = unasked_told it empty path ∙ sym (ap (λ es. told_in trees path (Some es)) nothing ∙ told_nothing path)
+  below_found : (it : ObjectId) (entries : List EntryView) (first : List ObjectId) → Finds trees it entries first → (path : Path)
+      → entry_in_store trees path (tree_of trees it) ≡ entry_in_store trees path (Some entries)
+  below_found it entries first (formed, inr (filled, is, requests)) path = let both = searched_if it filled in ap (entry_in_store trees path)
+      (ap (λ b. cond b None (cond (is_empty_tree_id it) (Some []) (trees it))) both.0 ∙ ap (λ b. cond b (Some []) (trees it)) both.1 ∙ is)
+  below_found it entries first (formed, inl (empty, nothing, none)) path = not_looked_up_known it empty path
+      ∙ sym (ap (λ es. entry_in_store trees path (Some es)) nothing ∙ known_nothing path)
 
-  pub found_below : (name first : List ℕ) (path : Path) (dirs : Dirs) (e : EntryView) (entries : List EntryView) (asks : List ObjectId) → IsEntryOf name (dirs []) e → is_tree_mode e.mode ≡ true → dirs (name ∷ []) ≡ None → Finds trees e.id entries asks
-      → told_entry trees (name ∷ first ∷ path) dirs ≡ told_entry trees (first ∷ path) (only entries)
-  found_below name first path dirs e entries asks entry tree none finds =
-      told_shut name first path dirs none
-      ∙ ap (λ o. told_in trees (first ∷ path) (list_of trees o)) (the_entry name (dirs []) e entry)
-      ∙ ap (λ b. told_in trees (first ∷ path) (cond b (tree_of trees e.id) None)) tree
-      ∙ below_found e.id entries asks finds (first ∷ path)
-      ∙ sym (told_only (first ∷ path) entries)
+  pub found_below : (name first : List ℕ) (path : Path) (dirs : Dirs) (e : EntryView) (entries : List EntryView) (requests : List ObjectId)
+      → IsEntryOf name (dirs []) e → is_tree_mode e.mode ≡ true → dirs (name ∷ []) ≡ None → Finds trees e.id entries requests
+      → looked_up_entry trees (name ∷ first ∷ path) dirs ≡ looked_up_entry trees (first ∷ path) (only entries)
+  found_below name first path dirs e entries requests entry tree none finds =
+      known_unopened name first path dirs none
+      ∙ ap (λ o. entry_in_store trees (first ∷ path) (list_of trees o)) (the_entry name (dirs []) e entry)
+      ∙ ap (λ b. entry_in_store trees (first ∷ path) (cond b (tree_of trees e.id) None)) tree
+      ∙ below_found e.id entries requests finds (first ∷ path)
+      ∙ sym (known_only (first ∷ path) entries)
 
-  -- below an open directory
-  pub told_open : (name first : List ℕ) (path : Path) (dirs : Dirs) (entries : List EntryView) → dirs (name ∷ []) ≡ Some entries → told_entry trees (name ∷ first ∷ path) dirs ≡ told_entry trees (first ∷ path) (in_dir name dirs)
-  told_open name first path dirs entries is = ap (λ o. shut_or_open o (told_in trees (first ∷ path) (list_of trees (first_entry_of name (dirs [])))) (told_entry trees (first ∷ path) (in_dir name dirs))) is
+  -- below an open directory the entries and counts are those of its directories
+  pub known_open : (name first : List ℕ) (path : Path) (dirs : Dirs) (entries : List EntryView) → dirs (name ∷ []) ≡ Some entries
+      → looked_up_entry trees (name ∷ first ∷ path) dirs ≡ looked_up_entry trees (first ∷ path) (in_dir name dirs)
+  known_open name first path dirs entries is =
+      ap (λ o. by_openness o (entry_in_store trees (first ∷ path) (list_of trees (first_entry_of name (dirs []))))
+      (looked_up_entry trees (first ∷ path) (in_dir name dirs))) is
 
-  pub unopened_open : (name first : List ℕ) (path : Path) (dirs : Dirs) (entries : List EntryView) → dirs (name ∷ []) ≡ Some entries → is_unopened trees dirs (name ∷ first ∷ path) ≡ is_unopened trees (in_dir name dirs) (first ∷ path)
-  unopened_open name first path dirs entries is = ap (λ o. is_shut (dirs (name ∷ first ∷ path)) && is_sought_tree o) (told_open name first path dirs entries is)
+  pub unopened_open : (name first : List ℕ) (path : Path) (dirs : Dirs) (entries : List EntryView) → dirs (name ∷ []) ≡ Some entries
+      → is_unopened trees dirs (name ∷ first ∷ path) ≡ is_unopened trees (in_dir name dirs) (first ∷ path)
+  unopened_open name first path dirs entries is = ap (λ o. needs_opening (dirs (name ∷ first ∷ path)) && needs_tree_lookup o)
+      (known_open name first path dirs entries is)
 
-  -- below a directory that is opened
-  pub unopened_found : (name first : List ℕ) (path : Path) (dirs : Dirs) (e : EntryView) (entries : List EntryView) (asks : List ObjectId) → IsEntryOf name (dirs []) e → is_tree_mode e.mode ≡ true → ((path : Path) → dirs (name ∷ path) ≡ None)
-      → Finds trees e.id entries asks → is_unopened trees dirs (name ∷ first ∷ path) ≡ is_unopened trees (only entries) (first ∷ path)
-  unopened_found name first path dirs e entries asks entry tree none finds =
-      ap (λ o. is_shut o && is_sought_tree (told_entry trees (name ∷ first ∷ path) dirs)) (none (first ∷ path)) ∙ ap is_sought_tree (found_below name first path dirs e entries asks entry tree (none []) finds)
+  -- below a directory that is opened the entries and counts are those of the list found
+  pub unopened_found : (name first : List ℕ) (path : Path) (dirs : Dirs) (e : EntryView) (entries : List EntryView) (requests : List ObjectId)
+      → IsEntryOf name (dirs []) e → is_tree_mode e.mode ≡ true → ((path : Path) → dirs (name ∷ path) ≡ None)
+      → Finds trees e.id entries requests → is_unopened trees dirs (name ∷ first ∷ path) ≡ is_unopened trees (only entries) (first ∷ path)
+  unopened_found name first path dirs e entries requests entry tree none finds =
+      ap (λ o. needs_opening o && needs_tree_lookup (looked_up_entry trees (name ∷ first ∷ path) dirs)) (none (first ∷ path)) ∙ ap needs_tree_lookup
+      (found_below name first path dirs e entries requests entry tree (none []) finds)
 
-  -- a shut directory
-  pub unopened_here : (name : List ℕ) (dirs : Dirs) (e : EntryView) → IsEntryOf name (dirs []) e → is_tree_mode e.mode ≡ true → dirs (name ∷ []) ≡ None → is_unopened trees dirs (name ∷ []) ≡ is_sought e.id
+  -- a directory that isn't open counts if its id is looked up
+  pub unopened_here : (name : List ℕ) (dirs : Dirs) (e : EntryView) → IsEntryOf name (dirs []) e → is_tree_mode e.mode ≡ true
+      → dirs (name ∷ []) ≡ None
+      → is_unopened trees dirs (name ∷ []) ≡ needs_lookup e.id
   unopened_here name dirs e entry tree none =
-      ap (λ o. is_shut o && is_sought_tree (first_entry_of name (dirs []))) none ∙ ap is_sought_tree (the_entry name (dirs []) e entry) ∙ ap (λ b. b && is_sought e.id) tree
+      ap (λ o. needs_opening o && needs_tree_lookup (first_entry_of name (dirs []))) none ∙ ap needs_tree_lookup (the_entry name (dirs []) e entry)
+      ∙ ap (λ b. b && needs_lookup e.id) tree
 
-  -- no directory of the name that is asked for
-  pub unopened_nowhere : (name : List ℕ) (path : Path) (dirs : Dirs) → ((e : EntryView) → HasAt (dirs []) e → e.name ≡ name → IsUnasked e) → ((path : Path) → dirs (name ∷ path) ≡ None) → is_unopened trees dirs (name ∷ path) ≡ false
-  unopened_nowhere name [] dirs idle none = ap (λ o. is_shut o && is_sought_tree (first_entry_of name (dirs []))) (none []) ∙ (idle_entry name dirs idle).0
-  unopened_nowhere name (first ∷ path) dirs idle none = ap (λ o. is_shut o && is_sought_tree (told_entry trees (name ∷ first ∷ path) dirs)) (none (first ∷ path)) ∙ ap is_sought_tree (told_nowhere name first path dirs idle none)
+  -- a name without a directory that is looked up has no unopened directory at or below it
+  pub unopened_nowhere : (name : List ℕ) (path : Path) (dirs : Dirs) → ((e : EntryView) → HasAt (dirs []) e → e.name ≡ name → IsNotLookedUp e)
+      → ((path : Path) → dirs (name ∷ path) ≡ None) → is_unopened trees dirs (name ∷ path) ≡ false
+  unopened_nowhere name [] dirs idle none = ap (λ o. needs_opening o && needs_tree_lookup (first_entry_of name (dirs []))) (none [])
+      ∙ (idle_entry name dirs idle).0
+  unopened_nowhere name (first ∷ path) dirs idle none =
+      ap (λ o. needs_opening o && needs_tree_lookup (looked_up_entry trees (name ∷ first ∷ path) dirs))
+      (none (first ∷ path)) ∙ ap needs_tree_lookup (known_nowhere name first path dirs idle none)
 
-  -- counts, a name deeper
-  pub count_open : (name : List ℕ) (rest : Path) (last : List ℕ) (behind : Path) (dirs : Dirs) (entries : List EntryView) → dirs (name ∷ []) ≡ Some entries
-      → unopened_count trees dirs (name ∷ (rest ++ last ∷ behind)) ≡ unopened_count trees (in_dir name dirs) (rest ++ last ∷ behind)
-  count_open name rest last behind dirs entries is =
-      let here : one_if (is_unopened trees dirs (name ∷ [])) ≡ 0 = ap (λ o. one_if (is_shut o && is_sought_tree (first_entry_of name (dirs [])))) is in
-      let below = same_passes (λ q. is_unopened trees dirs (name ∷ q)) (is_unopened trees (in_dir name dirs)) (λ first q. unopened_open name first q dirs entries is) (rest ++ last ∷ behind) in
-      omega (arith, passes_deeper (is_unopened trees dirs) name rest last behind, here, below)
+  -- the count of a path is that from its first directory, and one more if that directory is looked up
+  pub count_open : (name : List ℕ) (rest : Path) (last : List ℕ) (after : Path) (dirs : Dirs) (entries : List EntryView)
+      → dirs (name ∷ []) ≡ Some entries
+      → unopened_count trees dirs (name ∷ (rest ++ last ∷ after)) ≡ unopened_count trees (in_dir name dirs) (rest ++ last ∷ after)
+  count_open name rest last after dirs entries is =
+      let here : one_if (is_unopened trees dirs (name ∷ [])) ≡ 0 =
+      ap (λ o. one_if (needs_opening o && needs_tree_lookup (first_entry_of name (dirs [])))) is in
+      let below = same_passes (λ q. is_unopened trees dirs (name ∷ q)) (is_unopened trees (in_dir name dirs))
+      (λ first q. unopened_open name first q dirs entries is) (rest ++ last ∷ after) in
+      omega (arith, passes_deeper (is_unopened trees dirs) name rest last after, here, below)
 
-  pub count_found : (name : List ℕ) (rest : Path) (last : List ℕ) (behind : Path) (dirs : Dirs) (e : EntryView) (entries : List EntryView) (first : List ObjectId) → IsEntryOf name (dirs []) e → is_tree_mode e.mode ≡ true → ((path : Path) → dirs (name ∷ path) ≡ None)
-      → Finds trees e.id entries first → unopened_count trees dirs (name ∷ (rest ++ last ∷ behind)) ≡ length first + unopened_count trees (only entries) (rest ++ last ∷ behind)
-  count_found name rest last behind dirs e entries first entry tree none finds =
-      let here : one_if (is_unopened trees dirs (name ∷ [])) ≡ length first = ap one_if (unopened_here name dirs e entry tree (none [])) ∙ sym (first_asked e.id entries first finds) in
-      let below = same_passes (λ q. is_unopened trees dirs (name ∷ q)) (is_unopened trees (only entries)) (λ next q. unopened_found name next q dirs e entries first entry tree none finds) (rest ++ last ∷ behind) in
-      omega (arith, passes_deeper (is_unopened trees dirs) name rest last behind, here, below)
+  pub count_found : (name : List ℕ) (rest : Path) (last : List ℕ) (after : Path) (dirs : Dirs) (e : EntryView) (entries : List EntryView)
+      (first : List ObjectId) → IsEntryOf name (dirs []) e → is_tree_mode e.mode ≡ true → ((path : Path) → dirs (name ∷ path) ≡ None)
+      → Finds trees e.id entries first → unopened_count trees dirs (name ∷ (rest ++ last ∷ after)) ≡ length first + unopened_count trees
+      (only entries)
+      (rest ++ last ∷ after)
+  count_found name rest last after dirs e entries first entry tree none finds =
+      let here : one_if (is_unopened trees dirs (name ∷ [])) ≡ length first = ap one_if (unopened_here name dirs e entry tree (none []))
+      ∙ sym (first_requested e.id entries first finds) in
+      let below = same_passes (λ q. is_unopened trees dirs (name ∷ q)) (is_unopened trees (only entries))
+      (λ next q. unopened_found name next q dirs e entries first entry tree none finds) (rest ++ last ∷ after) in
+      omega (arith, passes_deeper (is_unopened trees dirs) name rest last after, here, below)
 
-  pub count_vain : (name : List ℕ) (rest : Path) (last : List ℕ) (behind : Path) (dirs : Dirs) (e : EntryView) → IsEntryOf name (dirs []) e → is_tree_mode e.mode ≡ true → dirs (name ∷ []) ≡ None → (IsUnaskedId e.id → ⊥)
-      → 1 ≤ unopened_count trees dirs (name ∷ (rest ++ last ∷ behind))
-  count_vain name rest last behind dirs e entry tree none filled =
-      let here : one_if (is_unopened trees dirs (name ∷ [])) ≡ 1 = ap one_if (unopened_here name dirs e entry tree none ∙ sought e.id filled) in
-      omega (arith, passes_deeper (is_unopened trees dirs) name rest last behind, here)
+  pub count_vain : (name : List ℕ) (rest : Path) (last : List ℕ) (after : Path) (dirs : Dirs) (e : EntryView) → IsEntryOf name (dirs []) e
+      → is_tree_mode e.mode ≡ true → dirs (name ∷ []) ≡ None → (IsNeverLookedUp e.id → ⊥)
+      → 1 ≤ unopened_count trees dirs (name ∷ (rest ++ last ∷ after))
+  count_vain name rest last after dirs e entry tree none filled =
+      let here : one_if (is_unopened trees dirs (name ∷ [])) ≡ 1 =
+      ap one_if (unopened_here name dirs e entry tree none ∙ lookup_needed e.id filled) in
+      omega (arith, passes_deeper (is_unopened trees dirs) name rest last after, here)
 
-  pub asked_count : {Ends : EntryView → Type 0} → IsIdle Ends → (path : Path) (last : List ℕ) (dirs new : Dirs) (asked : List ObjectId) → Opens Ends trees path dirs new asked → length asked ≡ unopened_count trees dirs (path ++ last ∷ [])
-  asked_count idle path last dirs new asked (arrived d) = refl
-  asked_count idle path last dirs new asked (stops name rest d other none) =
-      sym (passes_deeper_none (is_unopened trees d) name rest last [] (unopened_nowhere name [] d (λ e h n. idle e (other e h n)) none) (λ first q. unopened_nowhere name (first ∷ q) d (λ e h n. idle e (other e h n)) none))
-  asked_count idle path last dirs new asked (down name rest d inner e entries more has named is opens) = asked_count idle rest last (in_dir name d) inner more opens ∙ sym (count_open name rest last [] d entries is)
-  asked_count idle path last dirs new asked (found name rest d inner e entries first more entry tree free none finds opens) =
-      omega (arith, length-append first more, count_found name rest last [] d e entries first entry tree none finds, asked_count idle rest last (only entries) inner more opens)
+  pub requested_count : {Ends : EntryView → Type 0} → IsIdle Ends → (path : Path) (last : List ℕ) (dirs new : Dirs) (requested : List ObjectId)
+      → Opens Ends trees path dirs new requested → length requested ≡ unopened_count trees dirs (path ++ last ∷ [])
+  requested_count idle path last dirs new requested (arrived d) = refl
+  requested_count idle path last dirs new requested (stops name rest d other none) =
+      sym (passes_deeper_none (is_unopened trees d) name rest last [] (unopened_nowhere name [] d (λ e h n. idle e (other e h n)) none)
+      (λ first q. unopened_nowhere name (first ∷ q) d (λ e h n. idle e (other e h n)) none))
+  requested_count idle path last dirs new requested (down name rest d inner e entries more has named is opens) =
+      requested_count idle rest last (in_dir name d) inner more opens ∙ sym (count_open name rest last [] d entries is)
+  requested_count idle path last dirs new requested (found name rest d inner e entries first more entry tree free none finds opens) =
+      omega (
+        arith,
+        length-append first more,
+        count_found name rest last [] d e entries first entry tree none finds,
+        requested_count idle rest last
+            (only entries) inner more opens,
+      )
 
-  -- no more ids are asked for than there are unopened directories above a path that goes on
-  pub opens_at_most : {Ends : EntryView → Type 0} (path : Path) (last : List ℕ) (behind : Path) (dirs new : Dirs) (asked : List ObjectId) → Opens Ends trees path dirs new asked → length asked ≤ unopened_count trees dirs (path ++ last ∷ behind)
-  opens_at_most path last behind dirs new asked (arrived d) = omega arith
-  opens_at_most path last behind dirs new asked (stops name rest d other none) = omega arith
-  opens_at_most path last behind dirs new asked (down name rest d inner e entries more has named is opens) = omega (arith, count_open name rest last behind d entries is, opens_at_most rest last behind (in_dir name d) inner more opens)
-  opens_at_most path last behind dirs new asked (found name rest d inner e entries first more entry tree free none finds opens) =
-      omega (arith, length-append first more, count_found name rest last behind d e entries first entry tree none finds, opens_at_most rest last behind (only entries) inner more opens)
+  -- an opening looks up at most as many ids as there are unopened directories above a longer path
+  pub opens_at_most : {Ends : EntryView → Type 0} (path : Path) (last : List ℕ) (after : Path) (dirs new : Dirs) (requested : List ObjectId)
+      → Opens Ends trees path dirs new requested → length requested ≤ unopened_count trees dirs (path ++ last ∷ after)
+  opens_at_most path last after dirs new requested (arrived d) = omega arith
+  opens_at_most path last after dirs new requested (stops name rest d other none) = omega arith
+  opens_at_most path last after dirs new requested (down name rest d inner e entries more has named is opens) =
+      omega (arith, count_open name rest last after d entries is, opens_at_most rest last after (in_dir name d) inner more opens)
+  opens_at_most path last after dirs new requested (found name rest d inner e entries first more entry tree free none finds opens) =
+      omega (
+        arith,
+        length-append first more,
+        count_found name rest last after d e entries first entry tree none finds,
+        opens_at_most rest last after
+            (only entries) inner more opens,
+      )

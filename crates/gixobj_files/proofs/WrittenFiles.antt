@@ -1,29 +1,30 @@
--- The files of the tree that a write hands out for a directory are those of the open directories.
+-- The tree that a write emits for a directory has the files of the open directories: for `CursorFiles` and the editor's
+-- writes.
 use Rattle.std.proofs.Common.{◌≡◌, ◌⊎◌, inl, inr, ⊎_elim, ℕ, zero, suc, true, false, cond, List, [], ◌∷◌, ◌++◌, refl, sym, ap, subst, ◌∙◌, Option, Some, None}
 use Rattle.std.specs.Prelude.{MatchOption}
 use Rattle.std.specs.List.{AllByRecursion}
 use Rattle.gixobj_tree.specs.Entries.{EntryView, Pair}
 use Rattle.gixobj_mode.specs.Mode.{is_tree_mode}
 use Rattle.gixobj_hash.specs.declared.hash.object_id.ObjectId.{ObjectId}
-use Rattle.gixobj_files.specs.Files.{Below, Files, Has, Path, SameFiles, Table, is_null, stands_for}
+use Rattle.gixobj_files.specs.Files.{Below, Files, Has, Path, SameFiles, Table, is_null, resolves_to}
 use Rattle.gixobj_files.proofs.Based.{Based}
 use Rattle.gixobj_files.proofs.Everywhere.{Everywhere}
-use Rattle.gixobj_files.specs.HandingOut.{Leaves, Walks, emptied, end, entry_with, leaves, shut, unchanged, written}
+use Rattle.gixobj_files.specs.Emission.{EmitsBelow, Walks, emptied, end, entry_with, leaves, unopened, unchanged, written}
 use Rattle.gixobj_files.specs.Opening.{Dirs, HasAt, IsOpened, OpenFiles, in_dir}
-use Rattle.gixobj_files.proofs.OpenedFiles.{Stands, no_entries}
+use Rattle.gixobj_files.proofs.OpenedFiles.{IsAt, no_entries}
 use Rattle.gixobj_files.proofs.Canonical.{one_entry}
 
--- the entries of open directories are trees'
+-- the entries of open directories are of tree mode
 abbrev pub AreTrees : Dirs → Type 0
 AreTrees dirs = (path : Path) (e : EntryView) (es : List EntryView) → HasAt (dirs path) e → dirs (path ++ e.name ∷ []) ≡ Some es → is_tree_mode e.mode ≡ true
 
 abbrev pub Known : Table → List Pair → Type 0
 Known T pairs = AllByRecursion (λ pair. T.tree_at pair.0 ≡ Some pair.1) pairs
 
--- what the table knows of pairs, it knows of those in front, and of those behind
-pub known_left : (T : Table) (xs ys : List Pair) → Known T (xs ++ ys) → Known T xs
-known_left T [] ys h = tt
-known_left T (x ∷ xs) ys h = (h.0, known_left T xs ys h.1)
+-- a table that has pairs has a prefix of them, and the rest
+pub known_remaining : (T : Table) (xs ys : List Pair) → Known T (xs ++ ys) → Known T xs
+known_remaining T [] ys h = tt
+known_remaining T (x ∷ xs) ys h = (h.0, known_remaining T xs ys h.1)
 
 pub known_right : (T : Table) (xs ys : List Pair) → Known T (xs ++ ys) → Known T ys
 known_right T [] ys h = h
@@ -32,65 +33,89 @@ known_right T (x ∷ xs) ys h = known_right T xs ys h.1
 -- the files at a name of some entries
 abbrev Part : Table → ℕ → Dirs → List EntryView → List ℕ → Path → ℕ → ObjectId → Type 0
 Part T k dirs es name path mode id =
-    (e : EntryView) × Has es e × (e.name ≡ name) × MatchOption (dirs (name ∷ [])) (Below T (Files T k) e.mode e.id path mode id) (λ _. OpenFiles T k (in_dir name dirs) path mode id)
+    (e : EntryView) × Has es e × (e.name ≡ name) × MatchOption (dirs (name ∷ [])) (Below T (Files T k) e.mode e.id path mode id)
+    (λ _. OpenFiles T k (in_dir name dirs) path mode id)
 
--- an entry that is kept, and those behind it
-pub kept_has : (e : EntryView) (id : ObjectId) (os : List EntryView) (x : EntryView) → Has (entry_with e id ++ os) x → ((is_null id ≡ false) × (record { mode = e.mode; name = e.name; id = id } ≡ x)) ⊎ Has os x
-kept_has e id os x h =
-    elim (is_null id) as (λ b. is_null id ≡ b → Has (cond b [] ((record { mode = e.mode; name = e.name; id = id }) ∷ []) ++ os) x → ((is_null id ≡ false) × (record { mode = e.mode; name = e.name; id = id } ≡ x)) ⊎ Has os x) [
+-- the entries of a list that begins with a kept entry are that entry and the others
+pub non_null_has : (e : EntryView) (id : ObjectId) (os : List EntryView) (x : EntryView) → Has (entry_with e id ++ os) x
+    → ((is_null id ≡ false) × (record { mode = e.mode; name = e.name; id = id } ≡ x)) ⊎ Has os x
+non_null_has e id os x h =
+    elim (is_null id) as (λ b. is_null id ≡ b → Has (cond b [] ((record { mode = e.mode; name = e.name; id = id }) ∷ []) ++ os) x
+    → ((is_null id ≡ false) × (record { mode = e.mode; name = e.name; id = id } ≡ x)) ⊎ Has os x) [
       | true ↦ λ is k. inr k
       | false ↦ λ is k. ⊎_elim (λ same. inl (is, same)) inr k
     ] refl h
 
-has_kept : (e : EntryView) (id : ObjectId) (os : List EntryView) → is_null id ≡ false → Has (entry_with e id ++ os) (record { mode = e.mode; name = e.name; id = id })
+has_kept : (e : EntryView) (id : ObjectId) (os : List EntryView) → is_null id ≡ false
+    → Has (entry_with e id ++ os) (record { mode = e.mode; name = e.name; id = id })
 has_kept e id os is = rw is (inl refl)
 
-has_behind : (e : EntryView) (id : ObjectId) (os : List EntryView) (x : EntryView) → Has os x → Has (entry_with e id ++ os) x
-has_behind e id os x h = elim (is_null id) as (λ b. Has (cond b [] ((record { mode = e.mode; name = e.name; id = id }) ∷ []) ++ os) x) [ true ↦ h | false ↦ inr h ]
+has_after : (e : EntryView) (id : ObjectId) (os : List EntryView) (x : EntryView) → Has os x → Has (entry_with e id ++ os) x
+has_after e id os x h = elim (is_null id) as (λ b. Has (cond b [] ((record { mode = e.mode; name = e.name; id = id }) ∷ []) ++ os) x)
+    [ true ↦ h | false ↦ inr h ]
 
 filled_known : (T : Table) (id : ObjectId) (es : List EntryView) → T.tree_at id ≡ Some es → is_null id ≡ false
-filled_known T id es known = elim (is_null id) as (λ b. is_null id ≡ b → b ≡ false) [ true ↦ λ is. absurd (let none : Some es ≡ None = sym known ∙ T.none_by_null id is in cc none) | false ↦ λ is. refl ] refl
+filled_known T id es known = elim (is_null id) as (λ b. is_null id ≡ b → b ≡ false)
+    [ true ↦ λ is. absurd (let none : Some es ≡ None = sym known ∙ T.nothing_by_null id is in cc none) | false ↦ λ is. refl ] refl
 
-at_open : (T : Table) (k : ℕ) (dirs : Dirs) (name : List ℕ) (es : List EntryView) (e : EntryView) (path : Path) (mode : ℕ) (id : ObjectId) → dirs (name ∷ []) ≡ Some es → MatchOption (dirs (name ∷ [])) (Below T (Files T k) e.mode e.id path mode id) (λ _. OpenFiles T k (in_dir name dirs) path mode id) → OpenFiles T k (in_dir name dirs) path mode id
-at_open T k dirs name es e path mode id is h = subst (λ o. MatchOption o (Below T (Files T k) e.mode e.id path mode id) (λ _. OpenFiles T k (in_dir name dirs) path mode id)) is h
+at_open : (T : Table) (k : ℕ) (dirs : Dirs) (name : List ℕ) (es : List EntryView) (e : EntryView) (path : Path) (mode : ℕ) (id : ObjectId)
+    → dirs (name ∷ []) ≡ Some es → MatchOption (dirs (name ∷ [])) (Below T (Files T k) e.mode e.id path mode id)
+    (λ _. OpenFiles T k (in_dir name dirs) path mode id) → OpenFiles T k (in_dir name dirs) path mode id
+at_open T k dirs name es e path mode id is h =
+    subst (λ o. MatchOption o (Below T (Files T k) e.mode e.id path mode id) (λ _. OpenFiles T k (in_dir name dirs) path mode id)) is h
 
-of_open : (T : Table) (k : ℕ) (dirs : Dirs) (name : List ℕ) (es : List EntryView) (e : EntryView) (path : Path) (mode : ℕ) (id : ObjectId) → dirs (name ∷ []) ≡ Some es → OpenFiles T k (in_dir name dirs) path mode id → MatchOption (dirs (name ∷ [])) (Below T (Files T k) e.mode e.id path mode id) (λ _. OpenFiles T k (in_dir name dirs) path mode id)
-of_open T k dirs name es e path mode id is h = subst (λ o. MatchOption o (Below T (Files T k) e.mode e.id path mode id) (λ _. OpenFiles T k (in_dir name dirs) path mode id)) (sym is) h
+of_open : (T : Table) (k : ℕ) (dirs : Dirs) (name : List ℕ) (es : List EntryView) (e : EntryView) (path : Path) (mode : ℕ) (id : ObjectId)
+    → dirs (name ∷ []) ≡ Some es → OpenFiles T k (in_dir name dirs) path mode id → MatchOption (dirs (name ∷ [])) (Below T (Files T k) e.mode e.id path mode id)
+    (λ _. OpenFiles T k (in_dir name dirs) path mode id)
+of_open T k dirs name es e path mode id is h =
+    subst (λ o. MatchOption o (Below T (Files T k) e.mode e.id path mode id) (λ _. OpenFiles T k (in_dir name dirs) path mode id)) (sym is) h
 
-root_of : (dirs bases : Dirs) (ps : List Pair) (own : List EntryView) (saved : ℕ) → Leaves dirs bases ps own saved → (es : List EntryView) × (dirs [] ≡ Some es)
+root_of : (dirs bases : Dirs) (ps : List Pair) (own : List EntryView) (saved : ℕ) → EmitsBelow dirs bases ps own saved → (es : List EntryView)
+    × (dirs [] ≡ Some es)
 root_of dirs bases ps own saved (leaves d b es below os n is walk) = (es, is)
 
-more : (T : Table) (k : ℕ) (dirs : Dirs) (e : EntryView) (es : List EntryView) (name : List ℕ) (path : Path) (mode : ℕ) (id : ObjectId) → Part T k dirs es name path mode id → Part T k dirs (e ∷ es) name path mode id
+more : (T : Table) (k : ℕ) (dirs : Dirs) (e : EntryView) (es : List EntryView) (name : List ℕ) (path : Path) (mode : ℕ) (id : ObjectId)
+    → Part T k dirs es name path mode id → Part T k dirs (e ∷ es) name path mode id
 more T k dirs e es name path mode id p = (p.0, inr p.1, p.2, p.3)
 
--- an open directory that is handed out by an id, or was: its entry has that id, by which the table has its own tree
-handed : (T : Table) (k : ℕ) (d : Dirs) (e : EntryView) (rest os l root : List EntryView) (named_id : ObjectId) → T.tree_at named_id ≡ Some l → is_tree_mode e.mode ≡ true → d (e.name ∷ []) ≡ Some root
+-- a directory that is or was emitted by an id: its entry has that id, by which the table has its written tree
+emitted_at : (T : Table) (k : ℕ) (d : Dirs) (e : EntryView) (rest os l root : List EntryView) (named_id : ObjectId) → T.tree_at named_id ≡ Some l
+    → is_tree_mode e.mode ≡ true → d (e.name ∷ []) ≡ Some root
     → (name : List ℕ) (path : Path) (mode : ℕ) (id : ObjectId)
     → (Files T k l path mode id → OpenFiles T k (in_dir e.name d) path mode id) × (OpenFiles T k (in_dir e.name d) path mode id → Files T k l path mode id)
-    → (Files T (suc k) os (name ∷ path) mode id → Part T k d rest name path mode id) × (Part T k d rest name path mode id → Files T (suc k) os (name ∷ path) mode id)
-    → (Files T (suc k) (entry_with e named_id ++ os) (name ∷ path) mode id → Part T k d (e ∷ rest) name path mode id) × (Part T k d (e ∷ rest) name path mode id → Files T (suc k) (entry_with e named_id ++ os) (name ∷ path) mode id)
-handed T k d e rest os l root named_id known tree there name path mode id lower w =
+    → (Files T (suc k) os (name ∷ path) mode id → Part T k d rest name path mode id)
+    × (Part T k d rest name path mode id → Files T (suc k) os (name ∷ path) mode id)
+    → (Files T (suc k) (entry_with e named_id ++ os) (name ∷ path) mode id → Part T k d (e ∷ rest) name path mode id)
+    × (Part T k d (e ∷ rest) name path mode id → Files T (suc k) (entry_with e named_id ++ os) (name ∷ path) mode id)
+emitted_at T k d e rest os l root named_id known tree there name path mode id lower w =
     let filled = filled_known T named_id l known in
     let new : EntryView = record { mode = e.mode; name = e.name; id = named_id } in
-    let stands : stands_for T e.mode named_id ≡ Some l = rw tree known in
+    let is_at : resolves_to T e.mode named_id ≡ Some l = rw tree known in
     let At : Option (List EntryView) → Type 0 = λ o. MatchOption o ((path ≡ []) × (mode ≡ e.mode) × (id ≡ named_id)) (λ l. Files T k l path mode id) in (
       (λ h. ⊎_elim (λ one. let named : e.name ≡ name = ap (λ (x : EntryView). x.name) one.1 ∙ h.2 in
-          let mine = subst (λ (x : EntryView). Below T (Files T k) x.mode x.id path mode id) (sym one.1) h.3 in
-          (e, inl refl, named, of_open T k d name root e path mode id (subst (λ n. d (n ∷ []) ≡ Some root) named there) (subst (λ n. OpenFiles T k (in_dir n d) path mode id) named (lower.0 (subst At stands mine.1)))))
-          (λ l. more T k d e rest name path mode id (w.0 (h.0, l, h.2, h.3))) (kept_has e named_id os h.0 h.1)),
+          let mine = subst (λ (x : EntryView). Below T (Files T k) x.mode x.id path mode id) (sym one.1) h.3 in (
+            e,
+            inl refl,
+            named,
+            of_open T k d name root e path mode id (subst (λ n. d (n ∷ []) ≡ Some root) named there)
+                (subst (λ n. OpenFiles T k (in_dir n d) path mode id) named (lower.0 (subst At is_at mine.1))),
+          ))
+          (λ l. more T k d e rest name path mode id (w.0 (h.0, l, h.2, h.3))) (non_null_has e named_id os h.0 h.1)),
       λ p. ⊎_elim (λ same. let named : e.name ≡ name = ap (λ (x : EntryView). x.name) same ∙ p.2 in
-          let files = lower.1 (subst (λ n. OpenFiles T k (in_dir n d) path mode id) (sym named) (at_open T k d name root p.0 path mode id (subst (λ n. d (n ∷ []) ≡ Some root) named there) p.3)) in
-          (new, has_kept e named_id os filled, named, (filled, subst At (sym stands) files)))
-          (λ l. let f = w.1 (p.0, l, p.2, p.3) in (f.0, has_behind e named_id os f.0 f.1, f.2, f.3)) p.1,
+          let files = lower.1 (subst (λ n. OpenFiles T k (in_dir n d) path mode id) (sym named)
+          (at_open T k d name root p.0 path mode id (subst (λ n. d (n ∷ []) ≡ Some root) named there) p.3)) in
+          (new, has_kept e named_id os filled, named, (filled, subst At (sym is_at) files)))
+          (λ l. let f = w.1 (p.0, l, p.2, p.3) in (f.0, has_after e named_id os f.0 f.1, f.2, f.3)) p.1,
     )
 
--- a tree with entries is known where it stands for an id
-stands_known : (T : Table) (id : ObjectId) (first : EntryView) (rest : List EntryView) → Stands T id (first ∷ rest) → T.tree_at id ≡ Some (first ∷ rest)
-stands_known T id first rest (inl none) = absurd (cc none.1)
-stands_known T id first rest (inr known) = known
+-- if an id names a tree that isn't empty, the table has the tree by it
+is_at_known : (T : Table) (id : ObjectId) (first : EntryView) (rest : List EntryView) → IsAt T id (first ∷ rest) → T.tree_at id ≡ Some (first ∷ rest)
+is_at_known T id first rest (inl none) = absurd (cc none.1)
+is_at_known T id first rest (inr known) = known
 
 mutual
-  pub leaves_files : (T : Table) (dirs bases : Dirs) (ps : List Pair) (own : List EntryView) (saved : ℕ) → Leaves dirs bases ps own saved → AreTrees dirs → Everywhere (Based T) dirs bases → Known T ps → (n : ℕ) → SameFiles (Files T n own) (OpenFiles T n dirs)
+  pub leaves_files : (T : Table) (dirs bases : Dirs) (ps : List Pair) (own : List EntryView) (saved : ℕ) → EmitsBelow dirs bases ps own saved → AreTrees dirs
+      → Everywhere (Based T) dirs bases → Known T ps → (n : ℕ) → SameFiles (Files T n own) (OpenFiles T n dirs)
   leaves_files T dirs bases ps own saved (leaves d b es below os n is walk) trees based known zero path mode id = ((λ h. absurd h), λ h. absurd h)
   leaves_files T dirs bases ps own saved (leaves d b es below os n is walk) trees based known (suc k) [] mode id = ((λ h. absurd h), λ h. absurd h)
   leaves_files T dirs bases ps own saved (leaves d b es below os n is walk) trees based known (suc k) (name ∷ path) mode id =
@@ -101,42 +126,63 @@ mutual
       )
 
   walk_files : (T : Table) (dirs bases : Dirs) (es : List EntryView) (ps : List Pair) (own : List EntryView) (saved : ℕ) → Walks dirs bases es ps own saved
-      → ((e : EntryView) (l : List EntryView) → Has es e → dirs (e.name ∷ []) ≡ Some l → is_tree_mode e.mode ≡ true) → ((first : List ℕ) → AreTrees (in_dir first dirs))
-      → ((e : EntryView) (l : List EntryView) → Has es e → bases (e.name ∷ []) ≡ Some l → Stands T e.id l) → ((first : List ℕ) → Everywhere (Based T) (in_dir first dirs) (in_dir first bases))
+      → ((e : EntryView) (l : List EntryView) → Has es e → dirs (e.name ∷ []) ≡ Some l → is_tree_mode e.mode ≡ true)
+      → ((first : List ℕ) → AreTrees (in_dir first dirs))
+      → ((e : EntryView) (l : List EntryView) → Has es e → bases (e.name ∷ []) ≡ Some l → IsAt T e.id l)
+      → ((first : List ℕ) → Everywhere (Based T) (in_dir first dirs) (in_dir first bases))
       → Known T ps → (k : ℕ) (name : List ℕ) (path : Path) (mode : ℕ) (id : ObjectId)
-      → (Files T (suc k) own (name ∷ path) mode id → Part T k dirs es name path mode id) × (Part T k dirs es name path mode id → Files T (suc k) own (name ∷ path) mode id)
+      → (Files T (suc k) own (name ∷ path) mode id → Part T k dirs es name path mode id)
+      × (Part T k dirs es name path mode id → Files T (suc k) own (name ∷ path) mode id)
   walk_files T dirs bases es ps own saved (end d b) trees deeper based basing known k name path mode id = ((λ h. absurd h.1), λ h. absurd h.1)
-  walk_files T dirs bases es ps own saved (shut d b e rest below os n none walk) trees deeper based basing known k name path mode id =
+  walk_files T dirs bases es ps own saved (unopened d b e rest below os n none walk) trees deeper based basing known k name path mode id =
       let w = walk_files T d b rest below os n walk (λ x l h. trees x l (inr h)) deeper (λ x l h. based x l (inr h)) basing known k name path mode id in
-      let At : EntryView → Option (List EntryView) → Type 0 = λ x o. MatchOption o (Below T (Files T k) x.mode x.id path mode id) (λ _. OpenFiles T k (in_dir name d) path mode id) in (
-        (λ h. ⊎_elim (λ one. (e, inl refl, ap (λ (x : EntryView). x.name) one.1 ∙ h.2, subst (At e) (sym (subst (λ n. d (n ∷ []) ≡ None) (ap (λ (x : EntryView). x.name) one.1 ∙ h.2) none)) (subst (λ (x : EntryView). Below T (Files T k) x.mode x.id path mode id) (sym one.1) h.3)))
-            (λ l. more T k d e rest name path mode id (w.0 (h.0, l, h.2, h.3))) (kept_has e e.id os h.0 h.1)),
+      let At : EntryView → Option (List EntryView) → Type 0 = λ x o. MatchOption o (Below T (Files T k) x.mode x.id path mode id)
+      (λ _. OpenFiles T k (in_dir name d) path mode id) in (
+        (λ h. ⊎_elim (λ one. (
+          e,
+          inl refl,
+          ap (λ (x : EntryView). x.name) one.1
+              ∙ h.2,
+          subst (At e) (sym (subst (λ n. d (n ∷ []) ≡ None) (ap (λ (x : EntryView). x.name) one.1 ∙ h.2) none))
+              (subst (λ (x : EntryView). Below T (Files T k) x.mode x.id path mode id) (sym one.1) h.3),
+        ))
+            (λ l. more T k d e rest name path mode id (w.0 (h.0, l, h.2, h.3))) (non_null_has e e.id os h.0 h.1)),
         λ p. ⊎_elim (λ same. let named : e.name ≡ name = ap (λ (x : EntryView). x.name) same ∙ p.2 in
             let here = subst (At p.0) (subst (λ n. d (n ∷ []) ≡ None) named none) p.3 in
             let mine = subst (λ (x : EntryView). Below T (Files T k) x.mode x.id path mode id) (sym same) here in
             (e, has_kept e e.id os mine.0, named, mine))
-            (λ l. let f = w.1 (p.0, l, p.2, p.3) in (f.0, has_behind e e.id os f.0 f.1, f.2, f.3)) p.1,
+            (λ l. let f = w.1 (p.0, l, p.2, p.3) in (f.0, has_after e e.id os f.0 f.1, f.2, f.3)) p.1,
       )
   walk_files T dirs bases es ps own saved (emptied d b e rest inner below os m n found walk) trees deeper based basing known k name path mode id =
-      let w = walk_files T d b rest below os n walk (λ x l h. trees x l (inr h)) deeper (λ x l h. based x l (inr h)) basing (known_right T inner below known) k name path mode id in
+      let w = walk_files T d b rest below os n walk (λ x l h. trees x l (inr h)) deeper (λ x l h. based x l (inr h)) basing
+      (known_right T inner below known) k name path mode id in
       let root = root_of (in_dir e.name d) (in_dir e.name b) inner [] m found in
-      let lower = leaves_files T (in_dir e.name d) (in_dir e.name b) inner [] m found (deeper e.name) (basing e.name) (known_left T inner below known) k path mode id in (
+      let lower = leaves_files T (in_dir e.name d) (in_dir e.name b) inner [] m found (deeper e.name) (basing e.name)
+      (known_remaining T inner below known) k path mode id in (
         (λ h. more T k d e rest name path mode id (w.0 h)),
         λ p. ⊎_elim (λ same. let named : e.name ≡ name = ap (λ (x : EntryView). x.name) same ∙ p.2 in
-            absurd (no_entries T k path mode id (lower.1 (subst (λ n. OpenFiles T k (in_dir n d) path mode id) (sym named) (at_open T k d name root.0 p.0 path mode id (subst (λ n. d (n ∷ []) ≡ Some root.0) named root.1) p.3)))))
+            absurd (no_entries T k path mode id
+            (lower.1 (subst (λ n. OpenFiles T k (in_dir n d) path mode id) (sym named)
+            (at_open T k d name root.0 p.0 path mode id (subst (λ n. d (n ∷ []) ≡ Some root.0) named root.1) p.3)))))
             (λ l. w.1 (p.0, l, p.2, p.3)) p.1,
       )
-  walk_files T dirs bases es ps own saved (unchanged d b e first rest more_own inner below os m n found same walk) trees deeper based basing known k name path mode id =
-      let w = walk_files T d b rest below os n walk (λ x l h. trees x l (inr h)) deeper (λ x l h. based x l (inr h)) basing (known_right T inner below known) k name path mode id in
+  walk_files T dirs bases es ps own saved (unchanged d b e first rest more_own inner below os m n found same walk) trees deeper based basing known k name path
+      mode id =
+      let w = walk_files T d b rest below os n walk (λ x l h. trees x l (inr h)) deeper (λ x l h. based x l (inr h)) basing
+      (known_right T inner below known) k name path mode id in
       let root = root_of (in_dir e.name d) (in_dir e.name b) inner (first ∷ more_own) m found in
-      let lower = leaves_files T (in_dir e.name d) (in_dir e.name b) inner (first ∷ more_own) m found (deeper e.name) (basing e.name) (known_left T inner below known) k path mode id in
-      handed T k d e rest os (first ∷ more_own) root.0 e.id (stands_known T e.id first more_own (based e (first ∷ more_own) (inl refl) same)) (trees e root.0 (inl refl) root.1) root.1 name path mode id lower w
-  walk_files T dirs bases es ps own saved (written d b e first rest more_own inner below os m n named_id found differ walk) trees deeper based basing known k name path mode id =
+      let lower = leaves_files T (in_dir e.name d) (in_dir e.name b) inner (first ∷ more_own) m found (deeper e.name) (basing e.name)
+      (known_remaining T inner below known) k path mode id in
+      emitted_at T k d e rest os (first ∷ more_own) root.0 e.id (is_at_known T e.id first more_own (based e (first ∷ more_own) (inl refl) same))
+      (trees e root.0 (inl refl) root.1) root.1 name path mode id lower w
+  walk_files T dirs bases es ps own saved (written d b e first rest more_own inner below os m n named_id found differ walk) trees deeper based basing known k
+      name path mode id =
       let pair = known_right T inner ((named_id, first ∷ more_own) ∷ below) known in
       let w = walk_files T d b rest below os n walk (λ x l h. trees x l (inr h)) deeper (λ x l h. based x l (inr h)) basing pair.1 k name path mode id in
       let root = root_of (in_dir e.name d) (in_dir e.name b) inner (first ∷ more_own) m found in
-      let lower = leaves_files T (in_dir e.name d) (in_dir e.name b) inner (first ∷ more_own) m found (deeper e.name) (basing e.name) (known_left T inner ((named_id, first ∷ more_own) ∷ below) known) k path mode id in
-      handed T k d e rest os (first ∷ more_own) root.0 named_id pair.0 (trees e root.0 (inl refl) root.1) root.1 name path mode id lower w
+      let lower = leaves_files T (in_dir e.name d) (in_dir e.name b) inner (first ∷ more_own) m found (deeper e.name) (basing e.name)
+      (known_remaining T inner ((named_id, first ∷ more_own) ∷ below) known) k path mode id in
+      emitted_at T k d e rest os (first ∷ more_own) root.0 named_id pair.0 (trees e root.0 (inl refl) root.1) root.1 name path mode id lower w
 
 at_some : (o : Option (List EntryView)) (e : EntryView) → HasAt o e → (es : List EntryView) × (o ≡ Some es) × Has es e
 at_some None e h = absurd h

@@ -21,15 +21,17 @@ abbrev pub HasAt : Option (List EntryView) → EntryView → Type 0
 HasAt None e = ⊥
 HasAt (Some entries) e = Has entries e
 
--- the files of open directories: where one is open, it stands for its entry's tree
+-- the files of open directories; an open directory replaces the tree that its entry names
 abbrev pub OpenFiles : Table → ℕ → Dirs → FileSet
 OpenFiles T zero dirs path mode id = ⊥
 OpenFiles T (suc n) dirs [] mode id = ⊥
 OpenFiles T (suc n) dirs (name ∷ path) mode id =
     (e : EntryView) × HasAt (dirs []) e × (e.name ≡ name)
-    × MatchOption (dirs (name ∷ [])) (Below T (Files T n) e.mode e.id path mode id) (λ _. OpenFiles T n (in_dir name dirs) path mode id)
+    × MatchOption (dirs (name ∷ [])) (Below T (Files T n) e.mode e.id path mode id)
+    (λ _. OpenFiles T n (in_dir name dirs) path mode id)
 
--- the root is open, each open directory is well-formed, and all but the root have a tree's entry in an open one
+-- the invariant of open directories; the root is open, each open directory is well-formed, and each but the root has an
+-- entry of tree mode in the open directory above it
 pub record IsOpened (dirs : Dirs) : Type 0 where
   pub root : dirs [] ≢ None
   pub well_formed : (path : Path) (entries : List EntryView) → dirs path ≡ Some entries → IsWellFormed entries

@@ -14,8 +14,8 @@ use Rattle.gixobj_files.specs.Opening.{Dirs, OpenFiles}
 abbrev pub DirMap : Type 0
 DirMap = FinMap (slice_cmp (slice_cmp nat_cmp)) (List EntryView)
 
--- the open directories and their bases, the store, how many trees were looked up in it, the kind of the ids, and the path at which the
--- newest cursor was made
+-- the open directories and their bases, the store and the number of lookups in it, the kind of the ids, and the path of
+-- the newest cursor
 pub record State (S : Type 0) : Type 0 where
   pub dirs : DirMap
   pub bases : DirMap
@@ -24,15 +24,15 @@ pub record State (S : Type 0) : Type 0 where
   pub object_hash : Kind
   pub prefix : Path
 
--- the open directories as a function
+-- the open directories as a function of the path
 abbrev pub open_dirs : {S : Type 0} → State S → Dirs
 open_dirs state = λ path. map.get state.dirs path
 
--- the bases as a function; that of the root counts for nothing
+-- the bases as a function of the path; the base of the root is ignored
 abbrev pub open_bases : {S : Type 0} → State S → Dirs
 open_bases state = λ path. map.get state.bases path
 
--- the root alone is open
+-- the root alone is open, with these entries
 abbrev pub root_alone : List EntryView → DirMap
 root_alone entries = map.insert map.empty [] entries
 

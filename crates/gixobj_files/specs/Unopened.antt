@@ -11,63 +11,68 @@ use Rattle.gixobj_files.specs.Edits.{first_entry_of}
 use Rattle.gixobj_files.specs.Files.{Path, Trees, is_null}
 use Rattle.gixobj_files.specs.Opening.{Dirs, in_dir}
 
+-- the id is that of the empty tree, of its own kind
 abbrev pub is_empty_tree_id : ObjectId → Bool
 is_empty_tree_id id = same_name (id_bytes id) (id_bytes (id_of (id_kind id) Tree []))
 
--- an id that a store is asked for: neither null nor the empty tree's
-abbrev pub is_sought : ObjectId → Bool
-is_sought id = not (is_null id) && not (is_empty_tree_id id)
+-- the id is looked up in a store: it is neither null nor the empty tree's
+abbrev pub needs_lookup : ObjectId → Bool
+needs_lookup id = not (is_null id) && not (is_empty_tree_id id)
 
--- the tree of an id in a store's own table
+-- the tree of an id in the table of a store
 abbrev pub tree_of : Trees → ObjectId → Option (List EntryView)
 tree_of trees id = if is_null id then None else (if is_empty_tree_id id then Some [] else trees id)
 
--- the list that an entry stands for, where it is a tree's that the table has
+-- the list that an entry names, if the entry is of tree mode and the store's table has its id
 abbrev pub list_of : Trees → Option EntryView → Option (List EntryView)
 list_of trees None = None
 list_of trees (Some e) = if is_tree_mode e.mode then tree_of trees e.id else None
 
--- the entry at a path below a list, by the store's own table
-abbrev pub told_in : Trees → Path → Option (List EntryView) → Option EntryView
-told_in trees [] entries = None
-told_in trees (name ∷ []) entries = first_entry_of name entries
-told_in trees (name ∷ next ∷ rest) entries = told_in trees (next ∷ rest) (list_of trees (first_entry_of name entries))
+-- the entry at a path below a list, through the table of the store
+abbrev pub entry_in_store : Trees → Path → Option (List EntryView) → Option EntryView
+entry_in_store trees [] entries = None
+entry_in_store trees (name ∷ []) entries = first_entry_of name entries
+entry_in_store trees (name ∷ next ∷ rest) entries =
+    entry_in_store trees (next ∷ rest) (list_of trees (first_entry_of name entries))
 
--- the first where a directory is shut, the second where it is open
-abbrev pub shut_or_open : Option (List EntryView) → Option EntryView → Option EntryView → Option EntryView
-shut_or_open None shut opened = shut
-shut_or_open (Some entries) shut opened = opened
+-- the first entry if a directory isn't open, and the second if it is
+abbrev pub by_openness : Option (List EntryView) → Option EntryView → Option EntryView → Option EntryView
+by_openness None unopened opened = unopened
+by_openness (Some entries) unopened opened = opened
 
--- the entry at a path: by open lists, else by the store's own table
-abbrev pub told_entry : Trees → Path → Dirs → Option EntryView
-told_entry trees [] dirs = None
-told_entry trees (name ∷ []) dirs = first_entry_of name (dirs [])
-told_entry trees (name ∷ next ∷ rest) dirs =
-    shut_or_open (dirs (name ∷ [])) (told_in trees (next ∷ rest) (list_of trees (first_entry_of name (dirs [])))) (told_entry trees (next ∷ rest) (in_dir name dirs))
+-- the entry at a path, through open directories, and from there through the table of the store
+abbrev pub looked_up_entry : Trees → Path → Dirs → Option EntryView
+looked_up_entry trees [] dirs = None
+looked_up_entry trees (name ∷ []) dirs = first_entry_of name (dirs [])
+looked_up_entry trees (name ∷ next ∷ rest) dirs =
+    by_openness (dirs (name ∷ [])) (entry_in_store trees (next ∷ rest) (list_of trees (first_entry_of name (dirs []))))
+    (looked_up_entry trees (next ∷ rest) (in_dir name dirs))
 
--- the beginnings of a path, but for the root and the path itself
+-- the parent directories of a path, except the root
 abbrev pub strict_beginnings : Path → List Path
 strict_beginnings [] = []
 strict_beginnings (name ∷ []) = []
 strict_beginnings (name ∷ next ∷ rest) = (name ∷ []) ∷ map (λ path. name ∷ path) (strict_beginnings (next ∷ rest))
 
--- a place in the directory at a path: the beginnings of it are those of the path, and the path itself
+-- a path one name longer: its parent directories are those of the path, and the path itself
 abbrev pub inside : Path → Path
 inside path = path ++ [] ∷ []
 
--- a tree's entry, by an id that a store is asked for
-abbrev pub is_sought_tree : Option EntryView → Bool
-is_sought_tree None = false
-is_sought_tree (Some e) = is_tree_mode e.mode && is_sought e.id
+-- the entry is of tree mode, and its id is looked up
+abbrev pub needs_tree_lookup : Option EntryView → Bool
+needs_tree_lookup None = false
+needs_tree_lookup (Some e) = is_tree_mode e.mode && needs_lookup e.id
 
-abbrev pub is_shut : Option (List EntryView) → Bool
-is_shut None = true
-is_shut (Some entries) = false
+-- the directory isn't open
+abbrev pub needs_opening : Option (List EntryView) → Bool
+needs_opening None = true
+needs_opening (Some entries) = false
 
--- a tree's entry that isn't open, by an id that is neither null nor the empty tree's
+-- the directory isn't open and would be looked up; its entry is of tree mode, and its id is neither null nor the empty
+-- tree's
 abbrev pub is_unopened : Trees → Dirs → Path → Bool
-is_unopened trees dirs path = is_shut (dirs path) && is_sought_tree (told_entry trees path dirs)
+is_unopened trees dirs path = needs_opening (dirs path) && needs_tree_lookup (looked_up_entry trees path dirs)
 
--- how many directories above a path aren't open and would be looked up
+-- the number of parent directories of a path that aren't open and would be looked up
 abbrev pub unopened_count : Trees → Dirs → Path → ℕ
 unopened_count trees dirs path = length (filter (is_unopened trees dirs) (strict_beginnings path))

@@ -1,4 +1,4 @@
-//! Laws of the definitions. Each function does nothing: its contract is the law.
+//! Laws of tables and histories of edits. Each function does nothing: its contract is the law.
 ghost use Rattle.std.specs.Prelude.{◌↔◌, ◌≤◌, ℕ, All, List, length};
 ghost use Rattle.std.specs.FinMap as map;
 ghost use Rattle.gixobj_tree.specs.Entries.{EntryView, IsWellFormed, Pair};
@@ -8,34 +8,39 @@ ghost use Rattle.gixobj_files.specs.History.{History, Step};
 ghost use Rattle.gixobj_files.specs.Opening.{IsOpened};
 ghost use Rattle.gixobj_files.specs.PlainHistory.{HasNoTree, NoFiles, PlainHistory};
 ghost use Rattle.gixobj_files.specs.State.{root_alone};
-ghost use Rattle.gixobj_files.specs.Tables.{AgreesWithPairs, AgreesWithStore, FitsBeside, IsOwnTable, IsTableOf};
+ghost use Rattle.gixobj_files.specs.Tables.{AgreesWithPairs, AgreesWithStore, IsConsistentWith, IsTableOfStore, IsTableOf};
 
-/// Every list of ids and trees makes a table, so what holds of every table is said of some.
-pub fn every_list_makes_a_table()
+/// Every list of pairs, each an id with its tree, has a table.
+///
+/// A statement about all tables of a list is therefore never vacuous.
+pub fn list_has_table()
     ensures { (pairs : List Pair) → (T : Table) × IsTableOf T pairs }
 {}
 
-/// Every store has a table of its own, which has the trees that the store names and no other.
-pub fn every_store_has_its_own_table()
-    ensures { (trees : Trees) → (T : Table) × IsOwnTable T trees }
+/// Every store has a table of its own, with the trees that the store names and no other.
+pub fn store_has_table()
+    ensures { (trees : Trees) → (T : Table) × IsTableOfStore T trees }
 {}
 
-/// Some table agrees with a store and with trees that were handed out beside it, as long as no id of theirs stands for
-/// two trees.
-pub fn fitting_pairs_have_a_table()
-    ensures { (pairs : List Pair) (trees : Trees) → FitsBeside pairs trees → (T : Table)
+/// A store and the pairs of emitted trees have a common table if the pairs are consistent with the store.
+///
+/// Pairs are consistent if no id names two trees; `IsConsistentWith` has all conditions.
+pub fn consistent_pairs_have_table()
+    ensures { (pairs : List Pair) (trees : Trees) → IsConsistentWith pairs trees → (T : Table)
         × AgreesWithStore T trees × AgreesWithPairs T pairs }
 {}
 
-/// A well-formed root that is open alone is what open directories are.
-pub fn a_root_alone_is_opened()
+/// A well-formed root that is open alone satisfies the invariant of open directories.
+pub fn single_root_is_opened()
     ensures { (entries : List EntryView) → IsWellFormed entries
         → IsOpened (λ path. map.get (root_alone entries) path) }
 {}
 
-/// Where no tree is put in and no root but the empty one is set, steps make the same files of none in every table:
-/// `PlainHistory` tells them without a table and without a bound on their paths.
-pub fn a_plain_history_needs_no_table()
+/// Steps that start without files make the same files in every table.
+///
+/// The steps may upsert no tree, and set no root but the empty one. `PlainHistory` states their files without
+/// a table and without a bound on their paths.
+pub fn plain_history_is_table_independent()
     ensures { (steps : List Step) → All HasNoTree steps
         → (T : Table) (n : ℕ) (path : Path) (mode : ℕ) (id : ObjectId)
         → History T n steps NoFiles path mode id

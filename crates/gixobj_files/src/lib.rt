@@ -1,12 +1,14 @@
-//! Entries of one directory and files of trees, on which open directories and their editor stand: entries are sought by
-//! halves, put in and copied, and trees are made of them.
+//! Entries of one directory and files of trees, on which open directories and their editor are built.
 //!
-//! Of files it has definitions and laws alone: what edits, openings and writes make of them, told by lists of entries,
-//! by tables from ids to such lists, and by sets of files.
+//! The code searches, inserts and copies entries, filters trees, and builds the tree that a write makes of a
+//! directory.
+//!
+//! Of files there are definitions and laws alone. They state what edits, openings and writes make of files,
+//! over lists of entries, tables from ids to such lists, and sets of files.
 #![tactic(auto)]
 
 pub mod entries;
+pub mod filtered;
 pub mod laws;
-pub mod own_tree;
 pub mod places;
-pub mod sifted;
+pub mod written_tree;

@@ -1,4 +1,4 @@
--- What the store that keeps nothing finds and answers.
+-- Results of lookups and writes in the store that keeps nothing.
 use Rattle.std.proofs.Common.{◌≡◌, ℕ, List, [], None, Ok, Some, ap, false, length, refl, sym}
 use Rattle.std.proofs.lemmas.List.{append-nil}
 use Rattle.std.specs.FinMap as finite
@@ -24,9 +24,9 @@ no_header_found id = ap (option_map header) (nothing id)
 pub not_there : (id : ObjectId) → false ≡ is_some (named finite.empty id)
 not_there id = ap (λ (it : Option StoredObject). is_some it) (nothing id)
 
--- the id of what is handed over whole
-pub answers_whole : (kind : Kind) (content : List ℕ) → AnswersId kind (length content) (Some content) (Ok (id_of Sha1 kind content))
-answers_whole kind content = (Some [], (content, record { taken = sym (append-nil content); counted = refl }, refl))
+-- the id of an object whose entire content is the stream
+pub answers_entire : (kind : Kind) (content : List ℕ) → AnswersId kind (length content) (Some content) (Ok (id_of Sha1 kind content))
+answers_entire kind content = (Some [], (content, record { consumed = sym (append-nil content); counted = refl }, refl))
 
 pub answers_known : (id : ObjectId) (kind : Kind) (content : List ℕ) → AnswersKnownId id kind (length content) (Some content) (Ok id)
-answers_known id kind content = (refl, (Some [], (content, record { taken = sym (append-nil content); counted = refl })))
+answers_known id kind content = (refl, (Some [], (content, record { consumed = sym (append-nil content); counted = refl })))

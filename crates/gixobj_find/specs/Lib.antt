@@ -6,4 +6,4 @@ pub mod Writers
 pub use Rattle.gixobj_fields.specs.StreamHash
 pub use Rattle.gixobj_fields.specs.Writing
 pub use Rattle.gixobj_object.specs.Stores
-pub use Rattle.gixobj_tree.specs.TreeText
+pub use Rattle.gixobj_tree.specs.TreeEncoding

@@ -1,4 +1,4 @@
--- What the store in memory means.
+-- The model of the store in memory.
 use Rattle.std.specs.Prelude.{map, ⊤}
 use Rattle.std.specs.FinMap as finite
 use Rattle.gixobj_object.specs.Stores.{Objects, StoredObject}
@@ -7,15 +7,15 @@ use Rattle.gixobj_fields.specs.declared.encode.Error.TheVariants.{OutOfMemory, W
 use Rattle.gixobj_find.specs.declared.memory.Memory.{Memory}
 use Rattle.gixobj_find.specs.declared.memory.Stored.{Stored}
 
--- an object that is kept
+-- the stored object of a kept object
 abbrev pub stored_object : Stored → StoredObject
 stored_object it = record { kind = it.kind; object_hash = it.object_hash; bytes = it.bytes.items }
 
--- the objects that are kept, by their ids
+-- the kept objects, by id
 abbrev pub memory_objects : Memory → Objects
 memory_objects store = finite.from_entries (map (λ pair. (pair.0, stored_object pair.1)) store.objects.entries)
 
--- a writer refused a value of the object, and neither failed nor had no memory
+-- the error rejects a value of the object; it is no failure of a writer and not out of memory
 abbrev pub IsForAValue : Error → Type 0
 IsForAValue (Writer cause) = ⊥
 IsForAValue OutOfMemory = ⊥

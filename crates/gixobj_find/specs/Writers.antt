@@ -1,22 +1,25 @@
--- Objects written into a store.
+-- Writes of objects to a store.
 use Rattle.std.specs.Prelude.{◌≡◌, ◌⊎◌, ℕ, Err, List, [], Option, Result, Some, length}
 use Rattle.gixobj_fields.specs.Streams.{SinkView}
-use Rattle.gixobj_fields.specs.Writing.{Refused, RefusesNothing, RefusesWriting}
+use Rattle.gixobj_fields.specs.Writing.{RejectedValue, RejectsNothing, IsWritingError}
 use Rattle.gixobj_fields.specs.declared.encode.Error as encode
 use Rattle.gixobj_hash.specs.declared.hash.object_id.ObjectId.{ObjectId}
 use Rattle.gixobj_hash.specs.declared.kind.Kind.{Kind}
 use Rattle.gixobj_find.specs.declared.write.Error.{Error}
 use Rattle.gixobj_find.specs.declared.write.Error.TheVariants.{Encode}
 
--- what a store may answer when it is handed an object of this kind and size, and a stream of these bytes, where they are known
+-- the results of a store for an object of this kind and size, and a stream of these bytes if they are known
 abbrev pub AnswersStreams : Type 1
 AnswersStreams = Kind → ℕ → Option (List ℕ) → Result ObjectId Error → Type 0
 
--- the object can't be written behind nothing, as the error says
-abbrev pub CannotEncode : (Refused → List ℕ → Type 0) → List ℕ → Result ObjectId Error → Type 0
-CannotEncode Refuses text result = (cause : encode.Error) × (result ≡ Err (Encode cause)) × ((before after : SinkView) × (before.held ≡ Some []) × RefusesWriting Refuses before after text cause)
+-- the result is the error of encoding the object to an empty writer
+abbrev pub CannotEncode : (RejectedValue → List ℕ → Type 0) → List ℕ → Result ObjectId Error → Type 0
+CannotEncode Rejects content result = (cause : encode.Error) × (result ≡ Err (Encode cause))
+    × ((before after : SinkView) × (before.held ≡ Some []) × IsWritingError Rejects before after content cause)
 
--- what a store answers when it is handed an object: that of the stream of exactly its text, of which nothing is refused; or that it can't be written
-abbrev pub IsWrittenObject : AnswersStreams → Kind → (Refused → List ℕ → Type 0) → List ℕ → Result ObjectId Error → Type 0
-IsWrittenObject answers kind Refuses text result =
-    (RefusesNothing Refuses × answers kind (length text) (Some text) result) ⊎ CannotEncode Refuses text result
+-- the result of a write: that for the stream of the object's encoding if no value is rejected; or the error of encoding
+-- it
+abbrev pub IsWrittenObject : AnswersStreams → Kind → (RejectedValue → List ℕ → Type 0) → List ℕ → Result ObjectId Error
+    → Type 0
+IsWrittenObject answers kind Rejects content result =
+    (RejectsNothing Rejects × answers kind (length content) (Some content) result) ⊎ CannotEncode Rejects content result

@@ -1,4 +1,4 @@
-//! Why objects of a kind aren't found; and the store that has none.
+//! Errors of lookups by kind, and the store that finds nothing.
 
 pub mod existing;
 pub mod existing_iter;

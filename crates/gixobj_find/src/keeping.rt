@@ -1,9 +1,9 @@
-//! What a store is that keeps trees, and one that keeps commits, and trees kept in order.
+//! Traits of stores that keep trees and commits, and a call that keeps trees in order.
 
 ghost use Rattle.std.specs.Prelude.{◌≡◌, All, IfErr, OnErr, OnOk};
 ghost use Rattle.gixobj_hash.specs.declared.hash.object_id.ObjectId.{ObjectId};
-ghost use Rattle.gixobj_find.specs.Keeping.{RefusesKeep, RefusesKeepCommit, StopsKeeping, with_commit, with_tree, with_trees};
-ghost use Rattle.gixobj_tree.specs.TreeText.{HasText};
+ghost use Rattle.gixobj_find.specs.Keeping.{IsKeepError, IsKeepCommitError, StopsKeepingAt, with_commit, with_tree, with_trees};
+ghost use Rattle.gixobj_tree.specs.TreeEncoding.{IsEncodableTree};
 
 use bstr::BString;
 use gixobj_hash::OutOfMemory;
@@ -12,13 +12,13 @@ use gixobj_object::Find;
 use gixobj_tree::Tree;
 use std::alloc::{AllocError, AllocFailed};
 
-/// The refusal of a store to keep a tree or a commit.
+/// The error of a store that keeps a tree or a commit.
 #[derive(Debug, Drop, thiserror::Error)]
 pub enum KeepError {
-    /// The store could not keep it, for the reason that it gives.
+    /// The store failed to keep the object; the payload is the message of the store.
     #[error("{0}")]
     Store(BString),
-    /// There was no memory.
+    /// An allocation failed.
     #[error("out of memory")]
     OutOfMemory,
 }
@@ -56,54 +56,63 @@ impl<T: Drop> From<AllocFailed<T>> for KeepError {
     }
 }
 
-/// A store that keeps trees, and in which they are found.
+/// An object store that keeps trees, which lookups then find.
 pub trait Keep: Find {
-    /// Puts a tree in under this id, as the bytes that are written for it, with ids of the kind of this id, in place of
-    /// what the id named before.
+    /// Keeps the encoding of a tree under `id`, with ids of the hash kind of `id`.
     ///
-    /// `Store` only for an id whose lookup may fail, or for a tree that can't be written, with the store's own
-    /// message, and `OutOfMemory` where memory ran out; the store means what it did. For which ids a lookup may
-    /// fail never changes.
+    /// It replaces the object that `id` named before. After an error each id names what it named before. The
+    /// ids for which a lookup may fail never change.
+    ///
+    /// # Errors
+    ///
+    /// - [`KeepError::Store`] with the message of the store, only if the lookup of `id` may fail or the tree
+    ///   cannot be encoded.
+    /// - [`KeepError::OutOfMemory`] if an allocation fails.
     fn keep(&mut self, id: ObjectId, tree: &Tree) -> Result<(), KeepError>
-        ensures kept { OnOk result (Self.objects self.new
+        ensures stored { OnOk result (Self.objects self.new
             ≡ with_tree (id, tree.now) (Self.objects self.old)) }
-        ensures has_text { OnOk result (HasText tree.now) }
+        ensures has_encoding { OnOk result (IsEncodableTree tree.now) }
         ensures unchanged { OnErr result (Self.objects self.new ≡ Self.objects self.old) }
-        ensures refusal { IfErr result (RefusesKeep (Self.may_fail self.old) id tree.now) }
-        ensures may_fail { (other : ObjectId)
+        ensures error { IfErr result (IsKeepError (Self.may_fail self.old) id tree.now) }
+        ensures fallible { (other : ObjectId)
             → Self.may_fail self.new other ≡ Self.may_fail self.old other };
 }
 
-/// A store that keeps commits, and in which they are found.
+/// An object store that keeps commits, which lookups then find.
 pub trait KeepCommit: Find {
-    /// Puts a commit of these bytes in under this id, with ids of the kind of this id, in place of
-    /// what the id named before. The bytes aren't judged.
+    /// Keeps a commit of these bytes under `id`, with ids of the hash kind of `id`.
     ///
-    /// `Store` only for an id whose lookup may fail, with the store's own message, and
-    /// `OutOfMemory` where memory ran out; the store means what it did. For which ids a lookup
-    /// may fail never changes.
+    /// It replaces the object that `id` named before. The bytes are not validated. After an error each id
+    /// names what it named before. The ids for which a lookup may fail never change.
+    ///
+    /// # Errors
+    ///
+    /// - [`KeepError::Store`] with the message of the store, only if the lookup of `id` may fail.
+    /// - [`KeepError::OutOfMemory`] if an allocation fails.
     fn keep_commit(&mut self, id: ObjectId, bytes: &[u8]) -> Result<(), KeepError>
-        ensures kept { OnOk result (Self.objects self.new
+        ensures stored { OnOk result (Self.objects self.new
             ≡ with_commit id bytes.now (Self.objects self.old)) }
         ensures unchanged { OnErr result (Self.objects self.new ≡ Self.objects self.old) }
-        ensures refusal { IfErr result (RefusesKeepCommit (Self.may_fail self.old) id) }
-        ensures may_fail { (other : ObjectId)
+        ensures error { IfErr result (IsKeepCommitError (Self.may_fail self.old) id) }
+        ensures fallible { (other : ObjectId)
             → Self.may_fail self.new other ≡ Self.may_fail self.old other };
 }
 
 /// Keeps trees in order, each under its id.
 ///
-/// A refusal ends it, and comes with the number of the trees that are kept, which is that of the one refused.
+/// # Errors
+///
+/// The error of the first tree that is not kept, with the number of kept trees, which is its index.
 pub fn keep_all<S: Keep>(
     store: &mut S,
     trees: &[(ObjectId, Tree)],
 ) -> Result<(), (usize, KeepError)>
-    ensures kept { OnOk result (S.objects store.new ≡ with_trees trees.now (S.objects store.old)) }
-    ensures have_texts { OnOk result (All (λ kept. HasText kept.1) trees.now) }
-    ensures stopped { IfErr result (λ it.
-        StopsKeeping (S.may_fail store.old) trees.now (S.objects store.old) (S.objects store.new)
+    ensures stored { OnOk result (S.objects store.new ≡ with_trees trees.now (S.objects store.old)) }
+    ensures have_encodings { OnOk result (All (λ kept. IsEncodableTree kept.1) trees.now) }
+    ensures error { IfErr result (λ it.
+        StopsKeepingAt (S.may_fail store.old) trees.now (S.objects store.old) (S.objects store.new)
         it.0 it.1) }
-    ensures may_fail { (id : ObjectId) → S.may_fail store.new id ≡ S.may_fail store.old id }
+    ensures fallible { (id : ObjectId) → S.may_fail store.new id ≡ S.may_fail store.old id }
 {
     for (number, (id, tree)) in trees.iter().enumerate() {
         match store.keep(*id, tree) {

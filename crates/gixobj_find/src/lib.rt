@@ -1,5 +1,5 @@
-//! Objects looked up in stores by their kinds, and written into stores; what a store is that keeps trees and commits,
-//! and one in memory.
+//! Lookups of objects by kind in object stores, writes of objects, stores that keep trees and commits, and a
+//! store in memory.
 #![tactic(auto)]
 
 pub mod find;

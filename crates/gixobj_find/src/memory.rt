@@ -1,9 +1,9 @@
-//! A store of objects in memory.
+//! An object store in memory.
 
 ghost use Rattle.std.specs.Prelude.{◌≡◌, ◌⊎◌, IfErr, IfOk, IsOk, IsSome, OnErr, is_some};
 ghost use Rattle.std.specs.FinMap as map;
 ghost use Rattle.gixobj_object.specs.Stores.{IsFound, IsHeaderFound, named};
-ghost use Rattle.gixobj_object.specs.declared.find.Error.TheVariants as refusal;
+ghost use Rattle.gixobj_object.specs.declared.find.Error.TheVariants as find_error;
 ghost use Rattle.gixobj_hash.specs.Hash.{id_of};
 ghost use Rattle.gixobj_hash.specs.Hash.Borrowed.{borrowed_id};
 ghost use Rattle.gixobj_find.specs.Memory.{IsForAValue, memory_objects};
@@ -18,14 +18,14 @@ use gixobj_tree::Tree;
 use std::alloc::Global;
 use std::collections::BTreeMap;
 
-/// A store that keeps its objects in memory, by their ids.
+/// An object store that keeps its objects in memory, by id. [`Memory::new`] makes one.
 #[derive(Debug, Drop)]
 pub struct Memory {
     alloc: Global,
     objects: BTreeMap<ObjectId, Stored>,
 }
 
-/// An object that is kept.
+/// A kept object.
 #[derive(Debug, Drop)]
 struct Stored {
     kind: Kind,
@@ -34,7 +34,7 @@ struct Stored {
 }
 
 impl Memory {
-    /// A store without objects. It takes no memory: `alloc` is kept for later.
+    /// Makes a store without objects. Allocates nothing; later calls allocate from `alloc`.
     pub fn new(alloc: Global) -> Memory
         ensures { memory_objects result ≡ map.empty }
     {
@@ -44,9 +44,25 @@ impl Memory {
         }
     }
 
-    /// Puts an object of this kind and content in, whose ids are of this kind of digest, and answers its id.
+    /// Inserts an object of this kind and content, with ids of `object_hash`, and returns its id by
+    /// `object_hash`.
     ///
-    /// Where there is no memory the store is as before.
+    /// Allocates a copy of `bytes`, and an entry of the store.
+    ///
+    /// # Errors
+    ///
+    /// [`OutOfMemory`] if an allocation fails; then the store is unchanged.
+    ///
+    /// # Examples
+    ///
+    /// ```rust
+    /// fn store(alloc: Global) -> Result<Memory, OutOfMemory> {
+    ///     let mut store = Memory::new(alloc);
+    ///     store.insert(Kind::Tree, HashKind::Sha1, TREE_BYTES)?;
+    ///     store.insert(Kind::Commit, HashKind::Sha1, FIRST_BYTES)?;
+    ///     Ok(store)
+    /// }
+    /// ```
     pub fn insert(
         &mut self,
         kind: Kind,
@@ -54,7 +70,7 @@ impl Memory {
         bytes: &[u8],
     ) -> Result<ObjectId, OutOfMemory>
         ensures id { IfOk result (λ id. id ≡ id_of object_hash kind bytes.now) }
-        ensures put { IfOk result (λ id. memory_objects self.new
+        ensures appended { IfOk result (λ id. memory_objects self.new
             ≡ map.insert (memory_objects self.old) id
             (record { kind = kind; object_hash = object_hash; bytes = bytes.now })) }
         ensures unchanged { OnErr result (memory_objects self.new ≡ memory_objects self.old) }
@@ -78,7 +94,7 @@ impl Store for Memory {
     ghost may_fail = { λ store id. false };
 }
 
-/// No lookup fails, but where memory ran out to copy an object that is there.
+/// Lookups fail only if an allocation for the copy of a found object fails.
 impl Find for Memory {
     #[tactic(auto, using(crate::proofs::Objects::kept))]
     fn try_find<'a>(
@@ -87,7 +103,7 @@ impl Find for Memory {
         buffer: &'a mut Vec<u8>,
     ) -> Result<Option<Data<'a>>, find::Error>
         ensures found { IfOk result (IsFound (memory_objects self.now) (borrowed_id id.entry)) }
-        ensures refusal { IfErr result (λ error. (error ≡ refusal.OutOfMemory)
+        ensures error { IfErr result (λ error. (error ≡ find_error.OutOfMemory)
             × IsSome (named (memory_objects self.now) (borrowed_id id.entry))) }
     {
         let Some(stored) = self.objects.get(&id.to_owned()) else {
@@ -99,7 +115,7 @@ impl Find for Memory {
     }
 }
 
-/// It takes no memory.
+/// Lookups of headers never fail. Allocates nothing.
 impl FindHeader for Memory {
     #[tactic(auto, using(crate::proofs::Objects::kept))]
     fn try_header(&self, id: oid<'_>) -> Result<Option<Header>, find::Error>
@@ -117,7 +133,7 @@ impl FindHeader for Memory {
     }
 }
 
-/// It takes no memory.
+/// Allocates nothing.
 impl Exists for Memory {
     #[tactic(auto, using(crate::proofs::Objects::kept))]
     fn exists(&self, id: oid<'_>) -> bool
@@ -127,7 +143,7 @@ impl Exists for Memory {
     }
 }
 
-/// Only a tree with a zero byte in a name can't be kept, but where memory ran out.
+/// Keeping fails only for a tree with a zero byte in a name, or if an allocation fails.
 impl Keep for Memory {
     fn keep(&mut self, id: ObjectId, tree: &Tree) -> Result<(), KeepError> {
         let mut bytes = Vec::new(self.alloc);
@@ -145,7 +161,7 @@ impl Keep for Memory {
     }
 }
 
-/// A commit is kept, but where memory ran out.
+/// Keeping fails only if an allocation fails.
 impl KeepCommit for Memory {
     fn keep_commit(&mut self, id: ObjectId, bytes: &[u8]) -> Result<(), KeepError> {
         let commit = Stored {
@@ -158,7 +174,7 @@ impl KeepCommit for Memory {
     }
 }
 
-/// Why a tree that wasn't written isn't kept: for a name of it, or else because memory ran out.
+/// Converts the error of a tree that was not encoded: a zero byte in a name, or out of memory.
 fn unwritten(alloc: Global, error: encode::Error) -> KeepError
     ensures { IsForAValue error ⊎ (result ≡ KeepError.OutOfMemory) }
 {

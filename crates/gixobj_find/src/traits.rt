@@ -1,4 +1,4 @@
-//! What every store can do.
+//! Traits that every store implements, and the trait of stores that write objects.
 
 mod find_ext;
 mod header_ext;

@@ -1,22 +1,22 @@
-//! Why an object isn't written into a store.
+//! The error of a write to an object store.
 use bstr::BString;
 use gixobj_fields::{encode, stream_hash};
 use gixobj_hash::OutOfMemory;
 use std::alloc::AllocError;
 
-/// The refusal of the calls of [`Write`](crate::Write).
+/// The error of the calls of [`Write`](crate::Write).
 #[derive(Debug, Drop, thiserror::Error)]
 pub enum Error {
-    /// The store failed, for the reason that it gives.
+    /// The store failed; the payload is the message of the store.
     #[error("{0}")]
     Store(BString),
-    /// The object can't be written.
+    /// The object cannot be encoded.
     #[error("{0}")]
     Encode(encode::Error),
     /// The stream failed, or ended early.
     #[error("{0}")]
     Read(stream_hash::Error),
-    /// There was no memory.
+    /// An allocation failed.
     #[error("out of memory")]
     OutOfMemory,
 }

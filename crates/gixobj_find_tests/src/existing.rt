@@ -1,14 +1,15 @@
-//! Lookups of each kind, of objects of each kind, of a missing one, of damaged ones, and in a store that fails.
+//! Lookups that require an object, for each kind: of objects of each kind, of missing and malformed objects,
+//! and in a store that fails.
 
 use crate::failing::Failing;
-use crate::samples::{KINDS, id_of_bytes, text_of};
+use crate::samples::{KINDS, bytes_of, id_of_bytes};
 use gix_object::find::{existing, existing_iter, existing_object};
 use gix_object::hash::{Kind as HashKind, ObjectId};
 use gix_object::{FindExt, HeaderExt, Kind, Memory, OutOfMemory, Store, decode, find};
 use std::alloc::Global;
 use std::test::Fail;
 
-/// What a lookup came to.
+/// The result of a lookup, reduced to its case.
 #[derive(Clone, Copy, Debug, PartialEq, Eq)]
 pub(crate) enum Answer {
     Found,
@@ -17,20 +18,20 @@ pub(crate) enum Answer {
     Damaged,
     Missing,
     OfKind(Kind, Kind),
-    /// A refusal that has another id than the one that was asked for.
+    /// An error with another id than the one that was looked up.
     OfAnotherId,
 }
 
-/// An answer whose refusal has the first id, where the second was asked for.
-fn at(told: ObjectId, asked: ObjectId, answer: Answer) -> Answer {
-    match told == asked {
+/// Returns the answer if both ids are equal, else `OfAnotherId`.
+fn at(reported: ObjectId, requested: ObjectId, answer: Answer) -> Answer {
+    match reported == requested {
         true => answer,
         false => Answer::OfAnotherId,
     }
 }
 
-/// What a lookup at this id that reads the object came to.
-fn read<T: Drop>(found: Result<T, existing_object::Error>, id: ObjectId) -> Answer {
+/// Classifies the result of a lookup by this id that decodes the object.
+fn classify_object<T: Drop>(found: Result<T, existing_object::Error>, id: ObjectId) -> Answer {
     match found {
         Ok(_) => Answer::Found,
         Err(existing_object::Error::Find(find::Error::OutOfMemory)) => Answer::WithoutMemory,
@@ -53,8 +54,8 @@ fn read<T: Drop>(found: Result<T, existing_object::Error>, id: ObjectId) -> Answ
     }
 }
 
-/// What a lookup of a reader at this id came to.
-fn told<T: Drop>(found: Result<T, existing_iter::Error>, id: ObjectId) -> Answer {
+/// Classifies the result of a lookup by this id that returns an iterator.
+fn classify_iterator<T: Drop>(found: Result<T, existing_iter::Error>, id: ObjectId) -> Answer {
     match found {
         Ok(_) => Answer::Found,
         Err(existing_iter::Error::Find(find::Error::OutOfMemory)) => Answer::WithoutMemory,
@@ -70,8 +71,8 @@ fn told<T: Drop>(found: Result<T, existing_iter::Error>, id: ObjectId) -> Answer
     }
 }
 
-/// What a lookup of any object at this id came to.
-fn any<T: Drop>(found: Result<T, existing::Error>, id: ObjectId) -> Answer {
+/// Classifies the result of a lookup of any object by this id.
+fn classify_any<T: Drop>(found: Result<T, existing::Error>, id: ObjectId) -> Answer {
     match found {
         Ok(_) => Answer::Found,
         Err(existing::Error::Find(find::Error::OutOfMemory)) => Answer::WithoutMemory,
@@ -80,64 +81,69 @@ fn any<T: Drop>(found: Result<T, existing::Error>, id: ObjectId) -> Answer {
     }
 }
 
-/// What the lookup of an object of this kind comes to.
+/// Looks up an object of this kind, and classifies the result.
 pub(crate) fn found(alloc: Global, store: &Failing, kind: Kind, id: ObjectId) -> Answer {
     let mut buffer = Vec::new(alloc);
     match kind {
-        Kind::Tree => read(store.find_tree(alloc, id.as_oid(), &mut buffer), id),
-        Kind::Blob => read(store.find_blob(alloc, id.as_oid(), &mut buffer), id),
-        Kind::Commit => read(store.find_commit(alloc, id.as_oid(), &mut buffer), id),
-        Kind::Tag => read(store.find_tag(alloc, id.as_oid(), &mut buffer), id),
+        Kind::Tree => classify_object(store.find_tree(alloc, id.as_oid(), &mut buffer), id),
+        Kind::Blob => classify_object(store.find_blob(alloc, id.as_oid(), &mut buffer), id),
+        Kind::Commit => classify_object(store.find_commit(alloc, id.as_oid(), &mut buffer), id),
+        Kind::Tag => classify_object(store.find_tag(alloc, id.as_oid(), &mut buffer), id),
     }
 }
 
-/// What the lookup of a reader of this kind comes to; of blobs there is none, so that of any object.
+/// Looks up an iterator over an object of this kind, and classifies the result. Blobs have no iterator: it
+/// looks up any object.
 pub(crate) fn found_reader(alloc: Global, store: &Failing, kind: Kind, id: ObjectId) -> Answer {
     let mut buffer = Vec::new(alloc);
     match kind {
-        Kind::Tree => told(store.find_tree_iter(id.as_oid(), &mut buffer), id),
-        Kind::Commit => told(store.find_commit_iter(alloc, id.as_oid(), &mut buffer), id),
-        Kind::Tag => told(store.find_tag_iter(id.as_oid(), &mut buffer), id),
-        Kind::Blob => any(store.find(id.as_oid(), &mut buffer), id),
+        Kind::Tree => classify_iterator(store.find_tree_iter(id.as_oid(), &mut buffer), id),
+        Kind::Commit => classify_iterator(
+            store.find_commit_iter(alloc, id.as_oid(), &mut buffer),
+            id,
+        ),
+        Kind::Tag => classify_iterator(store.find_tag_iter(id.as_oid(), &mut buffer), id),
+        Kind::Blob => classify_any(store.find(id.as_oid(), &mut buffer), id),
     }
 }
 
-/// A store with one object, which fails at its first lookup where `fails` says so.
+/// Returns a store with one object, which fails in its first lookup if `fails` is set, and the id of the
+/// object.
 pub(crate) fn store_of(
     alloc: Global,
     kind: Kind,
-    text: &[u8],
+    input: &[u8],
     fails: bool,
 ) -> Result<(Failing, ObjectId), OutOfMemory> {
     let mut objects = Memory::new(alloc);
-    let id = objects.insert(kind, HashKind::Sha1, text)?;
+    let id = objects.insert(kind, HashKind::Sha1, input)?;
     let lookups_that_fail: &'static [u64] = if fails { &[1] } else { &[] };
     Ok((Failing::new(alloc, objects, lookups_that_fail, &[]), id))
 }
 
-/// What the lookup of an object of a kind comes to where the store has one of this kind and content.
-fn answer_of(alloc: Global, kind: Kind, text: &[u8], fails: bool, wanted: Kind) -> Option<Answer> {
-    match store_of(alloc, kind, text, fails) {
+/// Looks up an object of the kind `wanted` in a store with one object, and classifies the result.
+fn answer_of(alloc: Global, kind: Kind, input: &[u8], fails: bool, wanted: Kind) -> Option<Answer> {
+    match store_of(alloc, kind, input, fails) {
         Ok((store, id)) => Some(found(alloc, &store, wanted, id)),
         Err(_) => None,
     }
 }
 
-/// What the lookup of a reader comes to there.
+/// Looks up an iterator of the kind `wanted` in a store with one object, and classifies the result.
 fn reader_answer(
     alloc: Global,
     kind: Kind,
-    text: &[u8],
+    input: &[u8],
     fails: bool,
     wanted: Kind,
 ) -> Option<Answer> {
-    match store_of(alloc, kind, text, fails) {
+    match store_of(alloc, kind, input, fails) {
         Ok((store, id)) => Some(found_reader(alloc, &store, wanted, id)),
         Err(_) => None,
     }
 }
 
-/// What a lookup is to come to, where the kind is one that is wanted or isn't.
+/// Returns the expected answer for an object of the kind `kind`, by whether it is of the kind `wanted`.
 fn expected(kind: Kind, wanted: Kind, is_one: bool) -> Answer {
     match is_one {
         true => Answer::Found,
@@ -145,11 +151,11 @@ fn expected(kind: Kind, wanted: Kind, is_one: bool) -> Answer {
     }
 }
 
-/// Whether an object of this kind is found as one of its kind alone.
+/// Returns whether an object of this kind is found as an object of its kind, and of no other.
 fn is_found_alone(alloc: Global, kind: Kind) -> bool {
     for wanted in KINDS {
         let expected = expected(kind, wanted, kind == wanted);
-        if answer_of(alloc, kind, text_of(kind), false, wanted) != Some(expected) {
+        if answer_of(alloc, kind, bytes_of(kind), false, wanted) != Some(expected) {
             return false;
         }
     }
@@ -157,31 +163,32 @@ fn is_found_alone(alloc: Global, kind: Kind) -> bool {
 }
 
 #[test]
-fn objects_of_each_kind(rt: HostRuntime) {
+fn finds_objects_by_their_kind(rt: HostRuntime) {
     for kind in KINDS {
         assert!(rt; is_found_alone(rt.alloc(), kind), "{kind:?}");
     }
 }
 
-/// Whether readers of this kind alone are found of an object of this kind, and the object.
+/// Returns whether an object of this kind is found by an iterator of its kind, and of no other, and as any
+/// object.
 fn is_read_alone(alloc: Global, kind: Kind) -> bool {
     for wanted in [Kind::Tree, Kind::Commit, Kind::Tag] {
         let expected = expected(kind, wanted, kind == wanted);
-        if reader_answer(alloc, kind, text_of(kind), false, wanted) != Some(expected) {
+        if reader_answer(alloc, kind, bytes_of(kind), false, wanted) != Some(expected) {
             return false;
         }
     }
-    reader_answer(alloc, kind, text_of(kind), false, Kind::Blob) == Some(Answer::Found)
+    reader_answer(alloc, kind, bytes_of(kind), false, Kind::Blob) == Some(Answer::Found)
 }
 
 #[test]
-fn readers_of_each_kind(rt: HostRuntime) {
+fn finds_iterators_by_their_kind(rt: HostRuntime) {
     for kind in KINDS {
         assert!(rt; is_read_alone(rt.alloc(), kind), "{kind:?}");
     }
 }
 
-/// Whether a damaged object of this kind is refused as damaged, whatever is wanted.
+/// Returns whether each lookup that decodes fails for a malformed object of this kind with a decoding error.
 fn is_damaged(alloc: Global, kind: Kind) -> bool {
     for wanted in KINDS {
         if answer_of(alloc, kind, b"tree", false, wanted) != Some(Answer::Damaged) {
@@ -191,10 +198,10 @@ fn is_damaged(alloc: Global, kind: Kind) -> bool {
     true
 }
 
-/// An object is read by its own kind first, so a damaged one is refused as damaged by each lookup; a
-/// reader is given all the same.
+/// An object is decoded by its own kind first, so each lookup that decodes fails for a malformed one. An
+/// iterator is returned regardless.
 #[test]
-fn damaged_objects(rt: HostRuntime) {
+fn fails_to_decode_damaged_objects(rt: HostRuntime) {
     for kind in [Kind::Tree, Kind::Commit, Kind::Tag] {
         let reader = reader_answer(rt.alloc(), kind, b"tree", false, kind);
         assert!(rt; is_damaged(rt.alloc(), kind), "{kind:?}");
@@ -203,7 +210,7 @@ fn damaged_objects(rt: HostRuntime) {
 }
 
 #[test]
-fn missing_objects(rt: HostRuntime) -> Result<(), Fail> {
+fn reports_missing_objects(rt: HostRuntime) -> Result<(), Fail> {
     let (store, _) = store_of(rt.alloc(), Kind::Blob, b"", false)?;
     let missing = id_of_bytes(1);
     for wanted in KINDS {
@@ -216,16 +223,16 @@ fn missing_objects(rt: HostRuntime) -> Result<(), Fail> {
 }
 
 #[test]
-fn a_store_that_fails(rt: HostRuntime) {
+fn fails_if_store_fails(rt: HostRuntime) {
     for wanted in KINDS {
-        let object = answer_of(rt.alloc(), wanted, text_of(wanted), true, wanted);
-        let reader = reader_answer(rt.alloc(), wanted, text_of(wanted), true, wanted);
+        let object = answer_of(rt.alloc(), wanted, bytes_of(wanted), true, wanted);
+        let reader = reader_answer(rt.alloc(), wanted, bytes_of(wanted), true, wanted);
         assert!(rt; object == Some(Answer::Failed), "{wanted:?}");
         assert!(rt; reader == Some(Answer::Failed), "{wanted:?}");
     }
 }
 
-/// Whether the tree without entries is found by its id.
+/// Returns whether the lookup of the empty tree's id finds a tree without entries.
 pub(crate) fn finds_the_empty_tree(alloc: Global, store: &Failing, kind: HashKind) -> bool {
     let mut buffer = Vec::new(alloc);
     match store.find_tree(alloc, ObjectId::empty_tree(kind).as_oid(), &mut buffer) {
@@ -234,7 +241,7 @@ pub(crate) fn finds_the_empty_tree(alloc: Global, store: &Failing, kind: HashKin
     }
 }
 
-/// Whether the blob without bytes is found by its id.
+/// Returns whether the lookup of the empty blob's id finds a blob without bytes.
 fn finds_the_empty_blob(alloc: Global, store: &Failing, kind: HashKind) -> bool {
     let mut buffer = Vec::new(alloc);
     match store.find_blob(alloc, ObjectId::empty_blob(kind).as_oid(), &mut buffer) {
@@ -243,9 +250,9 @@ fn finds_the_empty_blob(alloc: Global, store: &Failing, kind: HashKind) -> bool 
     }
 }
 
-/// The empty tree and the empty blob are found without the store, which would fail at each lookup.
+/// The empty tree and the empty blob are found without the store, which would fail in each lookup.
 #[test]
-fn empty_objects(rt: HostRuntime) -> Result<(), Fail> {
+fn finds_empty_objects_without_store(rt: HostRuntime) -> Result<(), Fail> {
     let alloc = rt.alloc();
     let store = Failing::new(alloc, Memory::new(alloc), &[1, 2, 3, 4], &[]);
     for kind in [HashKind::Sha1, HashKind::Sha256] {
@@ -256,34 +263,34 @@ fn empty_objects(rt: HostRuntime) -> Result<(), Fail> {
     Ok(())
 }
 
-/// By [`FindExt::find`] the empty tree is found where the store has it alone.
+/// [`FindExt::find`] finds the empty tree only if the store has it.
 #[test]
-fn empty_tree_as_any_object(rt: HostRuntime) -> Result<(), Fail> {
+fn finds_no_empty_tree_as_any_object(rt: HostRuntime) -> Result<(), Fail> {
     let (store, _) = store_of(rt.alloc(), Kind::Blob, b"", false)?;
     let empty = ObjectId::empty_tree(HashKind::Sha1);
     assert!(rt; found_reader(rt.alloc(), &store, Kind::Blob, empty) == Answer::Missing);
     Ok(())
 }
 
-/// Whether the header of an object of this kind has its kind and its size.
+/// Returns whether the header of an object of this kind has its kind and its size in bytes.
 fn has_header(alloc: Global, kind: Kind) -> bool {
-    let Ok((store, id)) = store_of(alloc, kind, text_of(kind), false) else {
+    let Ok((store, id)) = store_of(alloc, kind, bytes_of(kind), false) else {
         return false;
     };
     match store.header(id.as_oid()) {
-        Ok(header) => header.kind == kind && header.size == text_of(kind).len() as u64,
+        Ok(header) => header.kind == kind && header.size == bytes_of(kind).len() as u64,
         Err(_) => false,
     }
 }
 
 #[test]
-fn headers(rt: HostRuntime) {
+fn finds_headers(rt: HostRuntime) {
     for kind in KINDS {
         assert!(rt; has_header(rt.alloc(), kind), "{kind:?}");
     }
 }
 
-/// Whether no header is found at the id, which the refusal has.
+/// Returns whether no header is found by the id, and the error has the id.
 fn has_no_header(store: &Failing, id: ObjectId) -> bool {
     match store.header(id.as_oid()) {
         Err(existing::Error::NotFound { oid }) => oid == id,
@@ -292,16 +299,16 @@ fn has_no_header(store: &Failing, id: ObjectId) -> bool {
 }
 
 #[test]
-fn headers_not_found(rt: HostRuntime) -> Result<(), Fail> {
+fn returns_error_without_header(rt: HostRuntime) -> Result<(), Fail> {
     let (store, id) = store_of(rt.alloc(), Kind::Blob, b"", true)?;
     assert!(rt; matches!(&store.header(id.as_oid()), Err(existing::Error::Find(_))));
     assert!(rt; has_no_header(&store, id_of_bytes(1)));
     Ok(())
 }
 
-/// Each error has the id that was asked for.
+/// Each error has the id that was looked up.
 #[test]
-fn ids_of_errors(rt: HostRuntime) -> Result<(), Fail> {
+fn errors_have_id_that_was_looked_up(rt: HostRuntime) -> Result<(), Fail> {
     let (store, id) = store_of(rt.alloc(), Kind::Blob, b"x", false)?;
     let of_a_blob = Answer::OfKind(Kind::Blob, Kind::Tree);
     assert!(rt; found(rt.alloc(), &store, Kind::Tree, id) == of_a_blob);

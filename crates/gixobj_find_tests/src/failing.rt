@@ -1,4 +1,4 @@
-//! A store in memory that counts its calls, and fails at some of them.
+//! A store in memory that counts its calls, and fails in some of them.
 ghost use Rattle.std.specs.Prelude.{◌≡◌};
 ghost use Rattle.gix_object.specs.Memory.{memory_objects};
 
@@ -10,10 +10,11 @@ use gix_object::{
 use std::alloc::Global;
 use std::cell::Cell;
 
-/// What a refused call says.
+/// The message of the error of a call that fails.
 pub const OFFLINE: &[u8] = b"offline";
 
-/// The objects of another store. The lookups and the calls to keep something at the stated places fail, each counted from 1.
+/// A store of the objects of another, which fails in listed calls. [`Failing::new`] makes one. Lookups and
+/// calls that keep something are counted separately, from 1.
 #[derive(Drop)]
 pub struct Failing {
     alloc: Global,
@@ -26,7 +27,8 @@ pub struct Failing {
 }
 
 impl Failing {
-    /// These objects, with lookups and calls to keep something that fail.
+    /// Makes a store of these objects. It fails in the lookups and in the calls that keep something with
+    /// these numbers.
     pub fn new(
         alloc: Global,
         objects: Memory,
@@ -44,22 +46,22 @@ impl Failing {
         }
     }
 
-    /// How many lookups there were.
+    /// The number of lookups, failed ones included.
     pub fn lookups(&self) -> u64 {
         self.lookups.get()
     }
 
-    /// How many calls there were to keep a tree or a commit.
+    /// The number of calls that keep a tree or a commit, failed ones included.
     pub fn keeps(&self) -> u64 {
         self.keeps
     }
 
-    /// How many calls there were to keep a commit.
+    /// The number of calls that keep a commit, failed ones included.
     pub fn commits(&self) -> u64 {
         self.commits
     }
 
-    /// Counts a lookup, and fails at a stated one.
+    /// Counts a lookup, and fails if its number is in the list.
     fn count_lookup(&self) -> Result<(), find::Error> {
         let at = self.lookups.get().saturating_add(1);
         self.lookups.set(at);
@@ -69,7 +71,7 @@ impl Failing {
         Ok(())
     }
 
-    /// Counts a call to keep something, and fails at a stated one.
+    /// Counts a call that keeps something, and fails if its number is in the list.
     fn count_keep(&mut self) -> Result<(), KeepError>
         ensures { self.new.objects ≡ self.old.objects }
     {

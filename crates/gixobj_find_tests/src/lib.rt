@@ -1,11 +1,11 @@
-//! Tests of stores, and of what is looked up in them and written into them.
+//! Tests of stores, of lookups in them and of writes into them.
 #![tactic(auto)]
 
 #[cfg(test)]
+mod allocation_failures;
+#[cfg(test)]
 mod existing;
 pub mod failing;
-#[cfg(test)]
-mod growths;
 #[cfg(test)]
 mod never;
 #[cfg(test)]

@@ -1,4 +1,4 @@
-//! The store that has nothing.
+//! The store without objects.
 
 use crate::samples::{id, id_of_bytes, is_id};
 use gix_object::find::Never;
@@ -8,10 +8,10 @@ use gixobj_base_tests::limited::Stepping;
 use std::alloc::Global;
 use std::test::Fail;
 
-/// The id of `hello` and a newline, as a blob.
+/// The id of the blob of `hello` and a newline.
 const HELLO: &[u8] = b"ce013625030ba8dba906f756967f9e9ca394464a";
 
-/// Whether nothing is found at the id, by all three calls.
+/// Returns whether each of the three calls finds nothing by the id.
 fn has_nothing(alloc: Global, id: ObjectId) -> bool {
     let mut buffer = Vec::new(alloc);
     matches!(&Never.try_find(id.as_oid(), &mut buffer), Ok(None))
@@ -26,7 +26,7 @@ fn finds_nothing(rt: HostRuntime) {
 }
 
 #[test]
-fn answers_ids(rt: HostRuntime) -> Result<(), Fail> {
+fn returns_ids(rt: HostRuntime) -> Result<(), Fail> {
     let alloc = rt.alloc();
     let blob = ObjectRef::from_bytes(alloc, b"hello\n", Kind::Blob, HashKind::Sha256)?;
     let known = id_of_bytes(1);
@@ -38,7 +38,7 @@ fn answers_ids(rt: HostRuntime) -> Result<(), Fail> {
 }
 
 #[test]
-fn answers_ids_of_streams(rt: HostRuntime) {
+fn returns_ids_of_streams(rt: HostRuntime) {
     let mut stream = b"hello\nrest".as_slice();
     let answer = Never.write_stream(rt.alloc(), Kind::Blob, 6, &mut stream);
     assert!(rt; is_id(answer, id(HELLO)));
@@ -54,8 +54,9 @@ fn reads_streams_of_known_ids(rt: HostRuntime) {
     assert!(rt; stream == b"rest".as_slice());
 }
 
-/// Whether a stream of a known id is refused where a reader fails or ends behind so many of its six bytes, for that.
-fn is_refused_behind(alloc: Global, count: usize, fails: bool) -> bool {
+/// Returns whether a stream of a known id fails with the error for its reader, which fails or ends after
+/// `count` of six bytes.
+fn is_failed_after(alloc: Global, count: usize, fails: bool) -> bool {
     let mut stream = Stepping {
         rest: &b"hello\n"[..count.min(6)],
         step: 1,
@@ -69,9 +70,9 @@ fn is_refused_behind(alloc: Global, count: usize, fails: bool) -> bool {
 }
 
 #[test]
-fn readers_that_fail_or_end(rt: HostRuntime) {
+fn fails_if_reader_fails_or_ends(rt: HostRuntime) {
     for count in 0..6usize {
-        assert!(rt; is_refused_behind(rt.alloc(), count, true), "{count}");
-        assert!(rt; is_refused_behind(rt.alloc(), count, false), "{count}");
+        assert!(rt; is_failed_after(rt.alloc(), count, true), "{count}");
+        assert!(rt; is_failed_after(rt.alloc(), count, false), "{count}");
     }
 }

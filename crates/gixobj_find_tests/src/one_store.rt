@@ -1,4 +1,4 @@
-//! Lookups in one store, of two trees, a blob and a damaged commit.
+//! Lookups in one store of two trees, a blob and a malformed commit.
 
 use crate::existing::{Answer, finds_the_empty_tree, found, found_reader};
 use crate::failing::Failing;
@@ -8,7 +8,7 @@ use gix_object::{FindExt, Kind, Memory, OutOfMemory, decode};
 use std::alloc::Global;
 use std::test::Fail;
 
-/// The store, and the ids of the blob and of the commit.
+/// Returns the store, and the ids of the blob and of the commit.
 fn store_of(alloc: Global) -> Result<(Failing, ObjectId, ObjectId), OutOfMemory> {
     let mut store = two_trees(alloc)?;
     let blob = store.insert(Kind::Blob, HashKind::Sha1, b"hello\n")?;
@@ -16,7 +16,8 @@ fn store_of(alloc: Global) -> Result<(Failing, ObjectId, ObjectId), OutOfMemory>
     Ok((Failing::new(alloc, store, &[], &[]), blob, damaged))
 }
 
-/// Whether a reader of a commit is found at the id, which refuses the text at once and is at its end then.
+/// Returns whether the id has an iterator over a commit that first yields an error for malformed bytes, and
+/// then ends.
 fn has_reader(alloc: Global, store: &Failing, id: ObjectId) -> bool {
     let mut buffer = Vec::new(alloc);
     match store.find_commit_iter(alloc, id.as_oid(), &mut buffer) {
@@ -29,7 +30,7 @@ fn has_reader(alloc: Global, store: &Failing, id: ObjectId) -> bool {
 }
 
 #[test]
-fn a_blob_and_a_damaged_commit(rt: HostRuntime) -> Result<(), Fail> {
+fn fails_for_blob_and_damaged_commit(rt: HostRuntime) -> Result<(), Fail> {
     let alloc = rt.alloc();
     let (store, blob, damaged) = store_of(alloc)?;
     let of_a_blob = Answer::OfKind(Kind::Blob, Kind::Tree);
@@ -39,9 +40,9 @@ fn a_blob_and_a_damaged_commit(rt: HostRuntime) -> Result<(), Fail> {
     Ok(())
 }
 
-/// The tree without entries, which the store lacks.
+/// A store that lacks the empty tree finds it as a tree, but not as any object.
 #[test]
-fn the_empty_tree(rt: HostRuntime) -> Result<(), Fail> {
+fn finds_empty_tree_only_as_tree(rt: HostRuntime) -> Result<(), Fail> {
     let alloc = rt.alloc();
     let (store, _, _) = store_of(alloc)?;
     let empty = ObjectId::empty_tree(HashKind::Sha1);

@@ -1,14 +1,14 @@
-//! Entries at the end of paths through the trees of a store.
+//! Lookups of entries along paths through the trees of a store.
 
 use crate::failing::Failing;
-use crate::samples::{BAK, ROOT, ROOT_TEXT, VERSION_1, id, id_of_bytes, names, two_trees};
+use crate::samples::{BAK, ROOT, ROOT_BYTES, VERSION_1, id, id_of_bytes, names, two_trees};
 use gix_object::hash::{Kind as HashKind, ObjectId};
 use gix_object::tree::{Entry, EntryKind};
 use gix_object::{Find, FindExt, Kind, Memory, TreeRefIter, find};
 use std::alloc::Global;
 use std::test::Fail;
 
-/// Whether an entry is a file with this id and this name.
+/// Returns whether an entry is a file with this id and this name.
 fn is_file(found: &Option<Entry>, id: ObjectId, name: &[u8]) -> bool {
     match found {
         Some(entry) => {
@@ -20,7 +20,7 @@ fn is_file(found: &Option<Entry>, id: ObjectId, name: &[u8]) -> bool {
     }
 }
 
-/// The entry at a path from the tree with these bytes, in a store.
+/// Looks up the entry at a path from the tree with these bytes, in a store.
 pub(crate) fn entry_from<S: Find>(
     alloc: Global,
     store: &S,
@@ -33,20 +33,21 @@ pub(crate) fn entry_from<S: Find>(
     reader.lookup_entry_by_path(alloc, store, &mut buffer, path)
 }
 
-/// The entry at a path from the second tree, in a store of both.
+/// Looks up the entry at a path from the tree [`ROOT`], in a store of two trees.
 fn at_path(alloc: Global, path: &[u8]) -> Result<Option<Entry>, find::Error> {
     let store = two_trees(alloc)?;
-    entry_from(alloc, &store, ROOT_TEXT, HashKind::Sha1, path)
+    entry_from(alloc, &store, ROOT_BYTES, HashKind::Sha1, path)
 }
 
 #[test]
-fn a_file_below(rt: HostRuntime) -> Result<(), Fail> {
+fn finds_file_in_directory(rt: HostRuntime) -> Result<(), Fail> {
     let found = at_path(rt.alloc(), b"bak//test.txt")?;
     assert!(rt; is_file(&found, id(VERSION_1), b"test.txt"));
     Ok(())
 }
 
-/// The id of the entry at a path, or none where there is none; nothing where the lookup fails.
+/// Returns the id of the entry at a path, or `Some(None)` if there is no entry, or `None` if the lookup
+/// fails.
 fn id_at(alloc: Global, path: &[u8]) -> Option<Option<ObjectId>> {
     match at_path(alloc, path) {
         Ok(Some(entry)) => Some(Some(entry.oid)),
@@ -55,18 +56,18 @@ fn id_at(alloc: Global, path: &[u8]) -> Option<Option<ObjectId>> {
     }
 }
 
-/// Paths of the directory.
+/// Paths of the directory `bak`.
 const DIRECTORIES: &[&[u8]] = &[b"bak", b"/bak/", b"//bak"];
 
 #[test]
-fn directories(rt: HostRuntime) {
+fn finds_directories(rt: HostRuntime) {
     for &path in DIRECTORIES {
         assert!(rt; id_at(rt.alloc(), path) == Some(Some(id(BAK))), "{path:?}");
     }
 }
 
-/// No name; a file that the store lacks, as a directory; a name that isn't there, first and last; `.`,
-/// which is a name.
+/// Paths without an entry: without a name; below a file that the store lacks; with a missing name, first or
+/// last. The part `.` is a name.
 const NOTHING: &[&[u8]] = &[
     b"",
     b"/",
@@ -79,13 +80,13 @@ const NOTHING: &[&[u8]] = &[
 ];
 
 #[test]
-fn nothing_there(rt: HostRuntime) {
+fn finds_nothing_at_paths_without_entry(rt: HostRuntime) {
     for &path in NOTHING {
         assert!(rt; id_at(rt.alloc(), path) == Some(None), "{path:?}");
     }
 }
 
-/// Names of a path, and whether an entry is there.
+/// Names of a path, and whether there is an entry.
 const NAMES: &[(&[&str], bool)] = &[
     (&["bak", "test.txt"], true),
     (&["bak", "", "test.txt"], false),
@@ -93,8 +94,8 @@ const NAMES: &[(&[&str], bool)] = &[
     (&[], false),
 ];
 
-/// Whether an entry is at these names from the second tree, which is found in a store of both; none where
-/// the lookup fails.
+/// Returns whether there is an entry at these names from the tree [`ROOT`] in a store of two trees; `None` if
+/// a lookup fails.
 fn is_there(alloc: Global, path: &[&str]) -> Option<bool> {
     let store = two_trees(alloc).ok()?;
     let path = names(alloc, path).ok()?;
@@ -105,21 +106,22 @@ fn is_there(alloc: Global, path: &[&str]) -> Option<bool> {
     Some(found.is_some())
 }
 
-/// The names of a path as they are: one of no byte, or with a slash, is looked up like others.
+/// Names are looked up unchanged: an empty one, or one with a slash, like others.
 #[test]
-fn names_as_they_are(rt: HostRuntime) {
+fn looks_up_names_unchanged(rt: HostRuntime) {
     for &(path, wanted) in NAMES {
         assert!(rt; is_there(rt.alloc(), path) == Some(wanted), "{path:?}");
     }
 }
 
-/// A tree of a blob, which is a directory by its mode, and of a file, whose id is that of the first tree.
+/// A tree of two entries: a blob with the mode of a directory, and the tree [`BAK`] with the mode of a file.
 const MIXED: &[u8] = b"40000 blob\0\
     \x7c\x4f\x37\x27\x7f\xed\x15\xcf\x3c\x1f\x1a\x81\x36\xb7\x5a\xbd\x99\x63\x38\xee\
     100644 file\0\
     \xd8\x32\x9f\xc1\xcc\x93\x87\x80\xff\xdd\x9f\x94\xe0\xd3\x64\xe0\xea\x74\xf5\x79";
 
-/// Whether an entry is at a path from the tree with these bytes, in a store; none where the lookup fails.
+/// Returns whether there is an entry at a path from the tree with these bytes, in a store; `None` if the
+/// lookup fails.
 fn is_there_from<S: Find>(alloc: Global, store: &S, tree: &[u8], path: &[u8]) -> Option<bool> {
     match entry_from(alloc, store, tree, HashKind::Sha1, path) {
         Ok(found) => Some(found.is_some()),
@@ -127,9 +129,10 @@ fn is_there_from<S: Find>(alloc: Global, store: &S, tree: &[u8], path: &[u8]) ->
     }
 }
 
-/// A path through a blob of the store, and through an entry of a file's mode whose id is a tree's.
+/// A path through a blob finds nothing, and one through an entry with a file's mode and a tree's id finds the
+/// entry.
 #[test]
-fn kinds_of_objects_and_not_modes(rt: HostRuntime) -> Result<(), Fail> {
+fn follows_kinds_of_objects_and_not_modes(rt: HostRuntime) -> Result<(), Fail> {
     let mut store = two_trees(rt.alloc())?;
     let blob = store.insert(Kind::Blob, HashKind::Sha1, b"100644 q\0")?;
     assert!(rt; blob == id(b"7c4f37277fed15cf3c1f1a8136b75abd996338ee"));
@@ -138,32 +141,32 @@ fn kinds_of_objects_and_not_modes(rt: HostRuntime) -> Result<(), Fail> {
     Ok(())
 }
 
-/// Whether a lookup of a path from the second tree fails with the store.
+/// Returns whether a lookup along a path from the tree [`ROOT_BYTES`] fails with the error of the store.
 fn fails<S: Find>(alloc: Global, store: &S, path: &[u8]) -> bool {
     matches!(
-        &entry_from(alloc, store, ROOT_TEXT, HashKind::Sha1, path),
+        &entry_from(alloc, store, ROOT_BYTES, HashKind::Sha1, path),
         Err(find::Error::Store(_))
     )
 }
 
-/// What a lookup of `bak/test.txt` in a store that fails at its first lookup comes to, and how often it asked.
+/// The path `bak/test.txt` needs one lookup, which fails the first time; the path `bak` needs none.
 #[test]
-fn a_store_that_fails(rt: HostRuntime) -> Result<(), Fail> {
+fn fails_if_store_fails(rt: HostRuntime) -> Result<(), Fail> {
     let alloc = rt.alloc();
     let store = Failing::new(alloc, two_trees(alloc)?, &[1], &[]);
-    assert!(rt; is_there_from(alloc, &store, ROOT_TEXT, b"bak") == Some(true));
+    assert!(rt; is_there_from(alloc, &store, ROOT_BYTES, b"bak") == Some(true));
     assert!(rt; store.lookups() == 0);
     assert!(rt; fails(alloc, &store, b"bak/test.txt") && store.lookups() == 1);
-    assert!(rt; is_there_from(alloc, &store, ROOT_TEXT, b"bak/test.txt") == Some(true));
+    assert!(rt; is_there_from(alloc, &store, ROOT_BYTES, b"bak/test.txt") == Some(true));
     assert!(rt; store.lookups() == 2);
     Ok(())
 }
 
-/// Two entries of one name, and a third behind a damaged one.
+/// Two entries of one name, and a third after a malformed one.
 const TWICE: &[u8] =
     b"100644 a\0aaaaaaaaaaaaaaaaaaaa40000 a\0bbbbbbbbbbbbbbbbbbbb!100644 c\0cccccccccccccccccccc";
 
-/// The id of the entry at a path from the tree with these bytes, in a store.
+/// Returns the id of the entry at a path from the tree with these bytes, in a store.
 fn id_from<S: Find>(
     alloc: Global,
     store: &S,
@@ -177,9 +180,9 @@ fn id_from<S: Find>(
     }
 }
 
-/// Of two entries of one name the first counts, and none behind a damaged one.
+/// Of two entries of one name the first is found, and none after a malformed one.
 #[test]
-fn first_and_undamaged(rt: HostRuntime) {
+fn finds_first_of_two_and_none_after_damage(rt: HostRuntime) {
     let store = Memory::new(rt.alloc());
     let first = id_from(rt.alloc(), &store, TWICE, HashKind::Sha1, b"a");
     assert!(rt; first == Some(id_of_bytes(b'a')));
@@ -191,14 +194,14 @@ const FILE_OF_SHA256: &[u8] = b"100644 b\0\
     \x07\x07\x07\x07\x07\x07\x07\x07\x07\x07\x07\x07\x07\x07\x07\x07\
     \x07\x07\x07\x07\x07\x07\x07\x07\x07\x07\x07\x07\x07\x07\x07\x07";
 
-/// Ids of SHA-256.
+/// A lookup along a path of trees with SHA-256 ids.
 #[test]
-fn by_sha256(rt: HostRuntime) -> Result<(), Fail> {
+fn finds_entry_by_sha256(rt: HostRuntime) -> Result<(), Fail> {
     let mut store = Memory::new(rt.alloc());
     let below = store.insert(Kind::Tree, HashKind::Sha256, FILE_OF_SHA256)?;
-    let mut text = Vec::from_slice(rt.alloc(), b"40000 a\0")?;
-    text.extend_from_slice(below.as_bytes())?;
-    let found = id_from(rt.alloc(), &store, &text, HashKind::Sha256, b"a/b");
+    let mut encoding = Vec::from_slice(rt.alloc(), b"40000 a\0")?;
+    encoding.extend_from_slice(below.as_bytes())?;
+    let found = id_from(rt.alloc(), &store, &encoding, HashKind::Sha256, b"a/b");
     assert!(rt; found == Some(ObjectId::Sha256([7; 32])));
     Ok(())
 }

@@ -1,4 +1,4 @@
-//! A store that keeps what it is handed, for tests.
+//! A store that records the streams that are written into it.
 
 use bstr::BString;
 use gix_object::hash::{Kind as HashKind, ObjectId};
@@ -7,7 +7,7 @@ use std::alloc::Global;
 use std::cell::RefCell;
 use std::io::Read;
 
-/// What was handed to a store: the kind, the size that was said, and the bytes of the stream.
+/// A recorded stream: the kind, the declared size in bytes, and the bytes of the stream.
 #[derive(Debug, Drop, PartialEq, Eq)]
 pub(crate) struct Stream {
     pub(crate) kind: Kind,
@@ -15,21 +15,21 @@ pub(crate) struct Stream {
     pub(crate) bytes: Vec<u8>,
 }
 
-/// A store that keeps each stream, reads it to its end, and answers the null id.
+/// A store that reads each stream to its end, records it, and returns the null id.
 #[derive(Drop)]
 pub(crate) struct Recorder {
     streams: RefCell<Vec<Stream>>,
 }
 
 impl Recorder {
-    /// A store that was handed nothing yet.
+    /// Makes a store without streams.
     pub(crate) fn new(alloc: Global) -> Recorder {
         Recorder {
             streams: RefCell::new(Vec::new(alloc)),
         }
     }
 
-    /// Whether it was handed exactly these streams.
+    /// Returns whether the store has these streams, and no others.
     pub(crate) fn has(&self, wanted: &[Stream]) -> bool {
         match self.streams.try_borrow() {
             Ok(streams) => streams.as_slice() == wanted,
@@ -37,7 +37,7 @@ impl Recorder {
         }
     }
 
-    /// Keeps a stream.
+    /// Records a stream.
     fn keep(&self, stream: Stream) -> Result<(), write::Error> {
         match self.streams.try_borrow_mut() {
             Ok(mut streams) => match streams.push(stream) {

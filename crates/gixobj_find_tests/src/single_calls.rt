@@ -1,5 +1,5 @@
-//! Single calls: what is handed to a shared store and to the one that keeps nothing, and a step into a tree that is
-//! damaged at its first byte.
+//! Single calls: writes into a shared store and into one that keeps nothing; a step into a tree with a
+//! malformed first byte.
 
 use crate::recording::{Recorder, Stream};
 use crate::samples::{is_id, names};
@@ -12,8 +12,8 @@ use std::ops::ControlFlow;
 use std::rc::Rc;
 use std::test::Fail;
 
-/// Whether a store answers the null id to a content.
-fn takes<W: Write>(alloc: Global, store: &W) -> bool {
+/// Returns whether a store returns the null id for bytes.
+fn returns_null_id<W: Write>(alloc: Global, store: &W) -> bool {
     is_id(
         store.write_buf(alloc, Kind::Tag, b"a"),
         ObjectId::null(HashKind::Sha1),
@@ -21,10 +21,10 @@ fn takes<W: Write>(alloc: Global, store: &W) -> bool {
 }
 
 #[test]
-fn to_a_shared_store(rt: HostRuntime) -> Result<(), Fail> {
+fn writes_to_shared_store(rt: HostRuntime) -> Result<(), Fail> {
     let alloc = rt.alloc();
     let store = Rc::new(alloc, Recorder::new(alloc))?;
-    assert!(rt; takes(alloc, &store));
+    assert!(rt; returns_null_id(alloc, &store));
     let wanted = Stream {
         kind: Kind::Tag,
         size: 1,
@@ -36,23 +36,23 @@ fn to_a_shared_store(rt: HostRuntime) -> Result<(), Fail> {
 
 /// The id is that of an object of the stated kind.
 #[test]
-fn a_stream_of_a_tree(rt: HostRuntime) {
+fn returns_id_of_stated_kind(rt: HostRuntime) {
     let mut stream = b"rest".as_slice();
     let answer = Never.write_stream(rt.alloc(), Kind::Tree, 0, &mut stream);
     assert!(rt; is_id(answer, ObjectId::empty_tree(HashKind::Sha1)));
     assert!(rt; stream == b"rest".as_slice());
 }
 
-/// No entry is found behind the damaged one.
+/// No entry is found after the malformed one.
 #[test]
-fn a_damaged_first_entry(rt: HostRuntime) -> Result<(), Fail> {
+fn finds_nothing_after_damaged_first_entry(rt: HostRuntime) -> Result<(), Fail> {
     let path = names(rt.alloc(), &["a"])?;
-    let mut left = path.as_slice();
+    let mut remaining = path.as_slice();
     let tree = Data::new(
         b"!100644 a\0aaaaaaaaaaaaaaaaaaaa",
         Kind::Tree,
         HashKind::Sha1,
     );
-    assert!(rt; matches!(next_entry(&mut left, tree), ControlFlow::Break(None)));
+    assert!(rt; matches!(next_entry(&mut remaining, tree), ControlFlow::Break(None)));
     Ok(())
 }

@@ -1,4 +1,4 @@
-//! One step of a path.
+//! Steps of a lookup along a path, by [`next_entry`].
 
 use crate::samples::{id_of_bytes, names};
 use bstr::BString;
@@ -8,18 +8,18 @@ use gix_object::{Data, Kind};
 use std::alloc::Global;
 use std::ops::ControlFlow;
 
-/// Two entries, and a third behind a damaged one.
+/// Two entries, and a third after a malformed one.
 const TREE: &[u8] =
     b"100644 a\0aaaaaaaaaaaaaaaaaaaa40000 b\0bbbbbbbbbbbbbbbbbbbb!100644 c\0cccccccccccccccccccc";
 
-/// What a step comes to: the id with which it breaks, or goes on; and how many names are left.
+/// The result of a step: the id with which it breaks or continues, and the number of remaining names.
 #[derive(Clone, Copy, Debug, PartialEq, Eq)]
 enum Step {
     Break(Option<ObjectId>, usize),
     Continue(ObjectId, usize),
 }
 
-/// The id of an entry that was found.
+/// Returns the id of an entry that was found.
 fn id_of(found: Option<EntryRef<'_>>) -> Option<ObjectId> {
     match found {
         Some(entry) => Some(entry.oid.to_owned()),
@@ -27,17 +27,17 @@ fn id_of(found: Option<EntryRef<'_>>) -> Option<ObjectId> {
     }
 }
 
-/// A step by these names into an object of this kind.
+/// Makes a step by these names into an object of this kind.
 fn step_by(kind: Kind, names: &[BString]) -> Step {
-    let mut left = names;
-    match next_entry(&mut left, Data::new(TREE, kind, HashKind::Sha1)) {
-        ControlFlow::Break(found) => Step::Break(id_of(found), left.len()),
-        ControlFlow::Continue(id) => Step::Continue(id, left.len()),
+    let mut remaining = names;
+    match next_entry(&mut remaining, Data::new(TREE, kind, HashKind::Sha1)) {
+        ControlFlow::Break(found) => Step::Break(id_of(found), remaining.len()),
+        ControlFlow::Continue(id) => Step::Continue(id, remaining.len()),
     }
 }
 
-/// Whether a step by these names comes to this.
-fn comes_to(alloc: Global, kind: Kind, path: &[&str], wanted: Step) -> bool {
+/// Returns whether a step by these names has this result.
+fn steps_to(alloc: Global, kind: Kind, path: &[&str], wanted: Step) -> bool {
     match names(alloc, path) {
         Ok(names) => step_by(kind, &names) == wanted,
         Err(_) => false,
@@ -48,7 +48,7 @@ const A: ObjectId = ObjectId::Sha1([b'a'; 20]);
 
 const B: ObjectId = ObjectId::Sha1([b'b'; 20]);
 
-/// Names, and what a step by them into the tree comes to.
+/// Names, and the results of steps by them into the tree.
 const STEPS: &[(&[&str], Step)] = &[
     (&[], Step::Break(None, 0)),
     (&["a"], Step::Break(Some(A), 0)),
@@ -63,16 +63,16 @@ const STEPS: &[(&[&str], Step)] = &[
 #[test]
 fn steps_into_a_tree(rt: HostRuntime) {
     for &(path, wanted) in STEPS {
-        assert!(rt; comes_to(rt.alloc(), Kind::Tree, path, wanted), "{path:?}");
+        assert!(rt; steps_to(rt.alloc(), Kind::Tree, path, wanted), "{path:?}");
     }
     assert!(rt; A == id_of_bytes(b'a'));
 }
 
-/// No name is taken off for an object that is no tree.
+/// A step into an object that isn't a tree removes no name.
 #[test]
-fn steps_into_others(rt: HostRuntime) {
+fn consumes_no_name_in_other_objects(rt: HostRuntime) {
     for kind in [Kind::Blob, Kind::Commit, Kind::Tag] {
-        let is_so = comes_to(rt.alloc(), kind, &["a", "b"], Step::Break(None, 2));
+        let is_so = steps_to(rt.alloc(), kind, &["a", "b"], Step::Break(None, 2));
         assert!(rt; is_so, "{kind:?}");
     }
 }

@@ -1,4 +1,4 @@
--- Digits, by a test of each byte.
+-- A byte is a decimal or octal digit if and only if it passes its test.
 use Rattle.std.proofs.Common.{◌≡◌, ℕ, ◌-◌, ◌<◌, ◌≤◌, Bool, true, List, [], ◌∷◌, get_or, length, nat_le, take, arith}
 use Rattle.std.proofs.lemmas.List.Elements.{All-cons, All-head, All-nil, All-tail}
 use Rattle.std.specs.Char.{digit_value, is_ascii_digit}
@@ -7,15 +7,17 @@ use Rattle.std.specs.Prelude.{◌&&◌}
 use Rattle.std.specs.Str.Parse.{AllDigits, digits_value}
 use Rattle.std.proofs.lemmas.Str.Parse.{digit_at, digits_value-take-le}
 
-pub AllDigits-from_pass : (radix : ℕ) (p : ℕ → Bool) → ((byte : ℕ) → p byte ≡ true → digit_value byte < radix) → (text : List ℕ) → AllPass p text → AllDigits radix text
+pub AllDigits-from_pass : (radix : ℕ) (p : ℕ → Bool) → ((byte : ℕ) → p byte ≡ true → digit_value byte < radix) → (bytes : List ℕ) → AllPass p bytes
+    → AllDigits radix bytes
 AllDigits-from_pass radix p digit [] pass = tt
-AllDigits-from_pass radix p digit (byte ∷ text) pass =
-    (digit byte (All-head (λ it. p it ≡ true) byte text pass), AllDigits-from_pass radix p digit text (All-tail (λ it. p it ≡ true) byte text pass))
+AllDigits-from_pass radix p digit (byte ∷ bytes) pass =
+    (digit byte (All-head (λ it. p it ≡ true) byte bytes pass), AllDigits-from_pass radix p digit bytes (All-tail (λ it. p it ≡ true) byte bytes pass))
 
-pub pass-from_AllDigits : (radix : ℕ) (p : ℕ → Bool) → ((byte : ℕ) → digit_value byte < radix → p byte ≡ true) → (text : List ℕ) → AllDigits radix text → AllPass p text
+pub pass-from_AllDigits : (radix : ℕ) (p : ℕ → Bool) → ((byte : ℕ) → digit_value byte < radix → p byte ≡ true) → (bytes : List ℕ) → AllDigits radix bytes
+    → AllPass p bytes
 pass-from_AllDigits radix p test [] digits = All-nil (λ it. p it ≡ true)
-pass-from_AllDigits radix p test (byte ∷ text) digits =
-    All-cons (λ it. p it ≡ true) byte text (test byte digits.0) (pass-from_AllDigits radix p test text digits.1)
+pass-from_AllDigits radix p test (byte ∷ bytes) digits =
+    All-cons (λ it. p it ≡ true) byte bytes (test byte digits.0) (pass-from_AllDigits radix p test bytes digits.1)
 
 pub digit_from_test : (byte : ℕ) → is_ascii_digit byte ≡ true → digit_value byte < 10
 digit_from_test byte passes = grind (arith, passes)
@@ -23,7 +25,7 @@ digit_from_test byte passes = grind (arith, passes)
 pub test_from_digit : (byte : ℕ) → digit_value byte < 10 → is_ascii_digit byte ≡ true
 test_from_digit byte digit = grind (arith, digit)
 
--- the octal digits
+-- an octal digit
 abbrev pub is_octal : ℕ → Bool
 is_octal byte = nat_le 48 byte && nat_le byte 55
 
@@ -35,12 +37,13 @@ test_from_octal byte digit = grind (arith, digit)
 
 -- ---- numbers
 
--- the number of a front is no more than that of all digits
-pub number_of_front : (digits : List ℕ) (i : ℕ) → digits_value 10 (take i digits) ≤ digits_value 10 digits
-number_of_front digits i = digits_value-take-le 10 digits i (omega arith)
+-- the number of a prefix is at most the number of all digits
+pub number_of_prefix : (digits : List ℕ) (i : ℕ) → digits_value 10 (take i digits) ≤ digits_value 10 digits
+number_of_prefix digits i = digits_value-take-le 10 digits i (omega arith)
 
--- a digit in its place
-pub digit_in_place : (digits : List ℕ) (i : ℕ) → AllDigits 10 digits → i < length digits → (48 ≤ get_or digits i 0) × (digit_value (get_or digits i 0) ≡ get_or digits i 0 - 48)
+-- the byte at each position of decimal digits is at least `0`, and its value is its distance from `0`
+pub digit_in_place : (digits : List ℕ) (i : ℕ) → AllDigits 10 digits → i < length digits → (48 ≤ get_or digits i 0)
+    × (digit_value (get_or digits i 0) ≡ get_or digits i 0 - 48)
 digit_in_place digits i all within =
     let range = digit_at digits i all within in
     let least : 48 ≤ get_or digits i 0 = omega arith in

@@ -1,4 +1,4 @@
--- The hex text of an id that was read is what was read, in lower case.
+-- Hex that decodes to an id re-encodes in lower case.
 use Rattle.std.proofs.Common.{◌≡◌, ◌<◌, ◌+◌, ◌*◌, ◌/◌, ◌%◌, ◌==◌, ◌||◌, ℕ, Bool, true, not, List, [], ◌∷◌, slice_index, unwrap_or, Some, is_some, Ok, arith, refl, ap, sym, ◌∙◌}
 use Rattle.std.proofs.lemmas.Bool.{eqb-true}
 use Rattle.std.proofs.lemmas.List.Elements.{All-head, All-tail}
@@ -7,11 +7,11 @@ use Rattle.std.specs.List.{AllPass}
 use Rattle.std.specs.Str.{str_to_ascii_lowercase}
 use Rattle.hex.proofs.HexLemmas.{decode_of-even, decode_of-ok}
 use Rattle.hex.specs.Hex.{decode_pairs, encode_lower, encode_with, hex_digit_value, is_hex_digit, lower_digits, pair_value, value_at}
-use Rattle.gixobj_hash.specs.Hash.{Spells, hex_text, id_bytes, is_lower_hex_digit}
+use Rattle.gixobj_hash.specs.Hash.{DecodesToId, encode_id_hex, id_bytes, is_lower_hex_digit}
 use Rattle.gixobj_hash.specs.declared.hash.object_id.ObjectId.{ObjectId}
 use Rattle.gixobj_hash.proofs.HexSteps.{IsLower, at_number, bound, chosen, digit_value_of, value_small}
 
--- a digit of either case, in lower case, is the one that is written for its value
+-- a hex digit in lower case is the encoded digit of its value, for each case of the digit
 abbrev is_written : ℕ → Bool
 is_written byte = not (is_hex_digit byte) || (slice_index lower_digits (unwrap_or (hex_digit_value byte) 0) == to_ascii_lowercase byte)
 
@@ -22,18 +22,19 @@ digit_written : (byte value : ℕ) → hex_digit_value byte ≡ Some value → s
 digit_written byte value reads =
     let written = at_number is_written 103 byte refl (digit_small byte value reads) in
     let digit : is_hex_digit byte ≡ true = ap is_some reads in
-    let same = eqb-true (slice_index lower_digits (unwrap_or (hex_digit_value byte) 0)) (to_ascii_lowercase byte) (chosen (is_hex_digit byte) _ written digit) in
+    let same = eqb-true (slice_index lower_digits (unwrap_or (hex_digit_value byte) 0)) (to_ascii_lowercase byte)
+    (chosen (is_hex_digit byte) _ written digit) in
     ap (λ it. slice_index lower_digits (unwrap_or it 0)) (sym reads) ∙ same
 
-written_in_lower_case : (i : ℕ) (text bytes : List ℕ) → decode_pairs i text ≡ Ok bytes → encode_lower bytes ≡ str_to_ascii_lowercase text
+written_in_lower_case : (i : ℕ) (content bytes : List ℕ) → decode_pairs i content ≡ Ok bytes → encode_lower bytes ≡ str_to_ascii_lowercase content
 unfolding decode_pairs encode_with
 written_in_lower_case i [] bytes ok =
     let none : [] ≡ bytes = cc ok in
     rw (← none) refl
 written_in_lower_case i (digit ∷ []) bytes ok = cc ok
-written_in_lower_case i (high ∷ low ∷ text) bytes ok =
+written_in_lower_case i (high ∷ low ∷ content) bytes ok =
     let pair = bound (pair_value high low i) _ bytes ok in
-    let rest = bound (decode_pairs (i + 2) text) _ bytes pair.2 in
+    let rest = bound (decode_pairs (i + 2) content) _ bytes pair.2 in
     let first = bound (value_at high i) _ pair.0 pair.1 in
     let second = bound (value_at low (i + 1)) _ pair.0 first.2 in
     let high_value = digit_value_of high i first.0 (hex_digit_value high) first.1 in
@@ -46,22 +47,22 @@ written_in_lower_case i (high ∷ low ∷ text) bytes ok =
     let under : pair.0 % 16 ≡ second.0 = omega arith in
     let one = ap (slice_index lower_digits) over ∙ digit_written high first.0 high_value in
     let two = ap (slice_index lower_digits) under ∙ digit_written low second.0 low_value in
-    let more = written_in_lower_case (i + 2) text rest.0 rest.1 in
+    let more = written_in_lower_case (i + 2) content rest.0 rest.1 in
     rw (← all) (cc (one, two, more))
 
--- the hex text of an id is what was read, in lower case
-pub hex_in_lower_case : (text : List ℕ) (id : ObjectId) → Spells text id → hex_text id ≡ str_to_ascii_lowercase text
-hex_in_lower_case text id spells =
-    let read = decode_of-ok text (id_bytes id) spells.digits in
-    written_in_lower_case 0 text (id_bytes id) (sym (decode_of-even text read.0) ∙ spells.digits)
+-- the re-encoded hex of an id is the decoded hex in lower case
+pub hex_in_lower_case : (content : List ℕ) (id : ObjectId) → DecodesToId content id → encode_id_hex id ≡ str_to_ascii_lowercase content
+hex_in_lower_case content id spells =
+    let read = decode_of-ok content (id_bytes id) spells.digits in
+    written_in_lower_case 0 content (id_bytes id) (sym (decode_of-even content read.0) ∙ spells.digits)
 
--- a hex text in lower case stays as it is
+-- the lower case of hex in lower case is unchanged
 lower_stays : (byte : ℕ) → is_lower_hex_digit byte ≡ true → to_ascii_lowercase byte ≡ byte
 lower_stays byte lower = grind (arith, lower)
 
-pub lower_case_stays : (text : List ℕ) → AllPass is_lower_hex_digit text → str_to_ascii_lowercase text ≡ text
+pub lower_case_stays : (content : List ℕ) → AllPass is_lower_hex_digit content → str_to_ascii_lowercase content ≡ content
 lower_case_stays [] lower = refl
-lower_case_stays (byte ∷ text) lower =
-    let first = lower_stays byte (All-head IsLower byte text lower) in
-    let rest = lower_case_stays text (All-tail IsLower byte text lower) in
+lower_case_stays (byte ∷ content) lower =
+    let first = lower_stays byte (All-head IsLower byte content lower) in
+    let rest = lower_case_stays content (All-tail IsLower byte content lower) in
     cc (first, rest)

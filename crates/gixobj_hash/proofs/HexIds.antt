@@ -1,4 +1,4 @@
--- A hex text spells one id.
+-- Hex decodes to exactly one id.
 use Rattle.std.proofs.Common.{◌≡◌, ℕ, ◌==◌, All, List, [], ◌∷◌, map, inl, inr, length, if◌then◌else◌, Ok, Result, refl, subst, sym, arith}
 use Rattle.std.proofs.lemmas.List.Elements.{All-head, All-tail}
 use Rattle.std.specs.List.{AllZip}
@@ -6,12 +6,12 @@ use Rattle.std.specs.Result.{result_unwrap_or}
 use Rattle.hex.proofs.HexLemmas.{decode_of-digits}
 use Rattle.hex.specs.Hex.{decode_of}
 use Rattle.hex.specs.declared.error.FromHexError.{FromHexError}
-use Rattle.gixobj_hash.specs.Hash.{IsHexOfAnId, Spells, id_from}
+use Rattle.gixobj_hash.specs.Hash.{IsIdHex, DecodesToId, id_from}
 use Rattle.gixobj_hash.specs.declared.hash.kind.Kind.{Kind}
 use Rattle.gixobj_hash.specs.declared.hash.kind.Kind.TheVariants as hash
 use Rattle.gixobj_hash.specs.declared.hash.object_id.ObjectId.{ObjectId}
 use Rattle.gixobj_hash.specs.declared.hash.object_id.ObjectId.TheVariants.{Sha1, Sha256}
-use Rattle.gixobj_hash.specs.Hash.Hex.{IsHexOf, IsHexOfItsKind, kind_of_hex, spelled_id}
+use Rattle.gixobj_hash.specs.Hash.Hex.{IsIdHexOfKind, IsIdHexOfItsKind, kind_of_hex, decoded_id}
 
 short_id : (n : ℕ) (read : Result (List ℕ) FromHexError) (bytes : List ℕ) → n ≡ 40 → read ≡ Ok bytes
     → id_from (if n == 40 then hash.Sha1 else hash.Sha256) (result_unwrap_or read []) ≡ Sha1 bytes
@@ -21,31 +21,31 @@ long_id : (n : ℕ) (read : Result (List ℕ) FromHexError) (bytes : List ℕ) �
     → id_from (if n == 40 then hash.Sha1 else hash.Sha256) (result_unwrap_or read []) ≡ Sha256 bytes
 long_id n read bytes long ok = rw (long, ok) refl
 
-pub one_id : (text : List ℕ) (id : ObjectId) → Spells text id → id ≡ spelled_id text
-one_id text (Sha1 bytes) spells = sym (short_id (length text) (decode_of text) bytes spells.len spells.digits)
-one_id text (Sha256 bytes) spells = sym (long_id (length text) (decode_of text) bytes spells.len spells.digits)
+pub one_id : (content : List ℕ) (id : ObjectId) → DecodesToId content id → id ≡ decoded_id content
+one_id content (Sha1 bytes) spells = sym (short_id (length content) (decode_of content) bytes spells.len spells.digits)
+one_id content (Sha256 bytes) spells = sym (long_id (length content) (decode_of content) bytes spells.len spells.digits)
 
-pub spelled : (text : List ℕ) → IsHexOfAnId text → Spells text (spelled_id text)
-spelled text (inl short, digits) =
-    let read = decode_of-digits text (omega arith) digits in
-    subst (Spells text) (sym (short_id (length text) (decode_of text) read.0 short read.1)) (record { len = short; digits = read.1 })
-spelled text (inr long, digits) =
-    let read = decode_of-digits text (omega arith) digits in
-    subst (Spells text) (sym (long_id (length text) (decode_of text) read.0 long read.1)) (record { len = long; digits = read.1 })
+pub spelled : (content : List ℕ) → IsIdHex content → DecodesToId content (decoded_id content)
+spelled content (inl short, digits) =
+    let read = decode_of-digits content (omega arith) digits in
+    subst (DecodesToId content) (sym (short_id (length content) (decode_of content) read.0 short read.1)) (record { len = short; digits = read.1 })
+spelled content (inr long, digits) =
+    let read = decode_of-digits content (omega arith) digits in
+    subst (DecodesToId content) (sym (long_id (length content) (decode_of content) read.0 long read.1)) (record { len = long; digits = read.1 })
 
-pub of_its_kind : (text : List ℕ) → IsHexOfAnId text → IsHexOfItsKind text
-of_its_kind text (inl short, digits) = (rw short refl, digits)
-of_its_kind text (inr long, digits) = (rw long refl, digits)
+pub of_its_kind : (content : List ℕ) → IsIdHex content → IsIdHexOfItsKind content
+of_its_kind content (inl short, digits) = (rw short refl, digits)
+of_its_kind content (inr long, digits) = (rw long refl, digits)
 
-pub of_an_id : (text : List ℕ) → IsHexOfItsKind text → IsHexOfAnId text
-of_an_id text (len, digits) = (grind arith, digits)
+pub of_an_id : (content : List ℕ) → IsIdHexOfItsKind content → IsIdHex content
+of_an_id content (len, digits) = (grind arith, digits)
 
-pub all_spelled : (texts : List (List ℕ)) (ids : List ObjectId) → All IsHexOfAnId texts → ids ≡ map spelled_id texts → AllZip Spells texts ids
-all_spelled [] ids all same = subst (AllZip Spells []) (sym same) tt
-all_spelled (text ∷ texts) ids all same =
-    let rest = all_spelled texts (map spelled_id texts) (All-tail IsHexOfAnId text texts all) refl in
-    subst (AllZip Spells (text ∷ texts)) (sym same) (spelled text (All-head IsHexOfAnId text texts all), rest)
+pub all_decode : (encodings : List (List ℕ)) (ids : List ObjectId) → All IsIdHex encodings → ids ≡ map decoded_id encodings → AllZip DecodesToId encodings ids
+all_decode [] ids all same = subst (AllZip DecodesToId []) (sym same) tt
+all_decode (content ∷ encodings) ids all same =
+    let rest = all_decode encodings (map decoded_id encodings) (All-tail IsIdHex content encodings all) refl in
+    subst (AllZip DecodesToId (content ∷ encodings)) (sym same) (spelled content (All-head IsIdHex content encodings all), rest)
 
-pub kind_spelled : (kind : Kind) (text : List ℕ) → IsHexOf kind text → kind ≡ kind_of_hex text
-kind_spelled hash.Sha1 text (len, digits) = rw len refl
-kind_spelled hash.Sha256 text (len, digits) = rw len refl
+pub kind_spelled : (kind : Kind) (content : List ℕ) → IsIdHexOfKind kind content → kind ≡ kind_of_hex content
+kind_spelled hash.Sha1 content (len, digits) = rw len refl
+kind_spelled hash.Sha256 content (len, digits) = rw len refl

@@ -1,11 +1,11 @@
--- Steps of proofs about hex text, in either case.
+-- Lemmas about single hex digits of either case, and about steps of decoding.
 use Rattle.std.proofs.Common.{◌≡◌, ◌<◌, ◌||◌, ◌&&◌, ℕ, zero, suc, Bool, true, false, not, inl, inr, Option, Some, None, Result, Ok, Err, arith, refl}
 use Rattle.std.proofs.lemmas.Bool.{and_parts, cases_lt}
 use Rattle.hex.specs.Hex.{digit_or_error, hex_digit_value, ◌>>=◌}
 use Rattle.hex.specs.declared.error.FromHexError.{FromHexError}
 use Rattle.gixobj_hash.specs.Hash.{is_lower_hex_digit}
 
--- what passes a test of each number below this one, passes it
+-- the test holds for each number below the bound
 abbrev pub all_below : (ℕ → Bool) → ℕ → Bool
 all_below p zero = true
 all_below p (suc n) = p n && all_below p n
@@ -26,7 +26,7 @@ chosen false b either first = cc first
 pub value_small : (byte value : ℕ) → hex_digit_value byte ≡ Some value → value < 16
 value_small byte value reads = grind arith
 
--- the parts of a step that succeeded
+-- a bind that succeeds has two steps that succeed
 pub bound : {A B : Type 0} (r : Result A FromHexError) (f : A → Result B FromHexError) (y : B) → (r >>= f) ≡ Ok y → (x : A) × (r ≡ Ok x) × (f x ≡ Ok y)
 bound (Ok x) f y ok = (x, refl, ok)
 bound (Err e) f y ok = cc ok

@@ -1,16 +1,16 @@
--- A test of all bytes, as a truth value; a byte of two digits.
+-- A test of all bytes agrees with its predicate, and two hex digits decode to a byte.
 use Rattle.std.proofs.Common.{◌≡◌, ◌+◌, ◌*◌, ℕ, List, Ok, Some, ap, arith, refl, true}
 use Rattle.std.proofs.lemmas.List.Sums.{AllPass-from_list_all, list_all-from_AllPass}
 use Rattle.std.specs.List.{AllPass, list_all}
 use Rattle.hex.specs.Hex.{digit_or_error, hex_digit_value, is_hex_digit, pair_value, value_at}
 
-pub passed : (text : List ℕ) → list_all is_hex_digit text ≡ true → AllPass is_hex_digit text
-passed text all = AllPass-from_list_all is_hex_digit text all
+pub passed : (content : List ℕ) → list_all is_hex_digit content ≡ true → AllPass is_hex_digit content
+passed content all = AllPass-from_list_all is_hex_digit content all
 
-pub told : (text : List ℕ) → AllPass is_hex_digit text → list_all is_hex_digit text ≡ true
-told text all = list_all-from_AllPass is_hex_digit text all
+pub passes_test : (content : List ℕ) → AllPass is_hex_digit content → list_all is_hex_digit content ≡ true
+passes_test content all = list_all-from_AllPass is_hex_digit content all
 
--- two digits are a byte
+-- two hex digits decode to the byte 16 times the first value plus the second
 pub pair_read : (high low place first second : ℕ) → hex_digit_value high ≡ Some first → hex_digit_value low ≡ Some second
     → pair_value high low place ≡ Ok (16 * first + second)
 pair_read high low place first second one two =

@@ -1,5 +1,5 @@
 mod Contents
-pub mod Cuts
+pub mod SplitsAtEach
 pub mod Digits
 mod EmptyObjects
 pub mod Headers
@@ -8,7 +8,7 @@ mod HexDigits
 pub mod HexIds
 mod HexSteps
 mod HexTests
-pub mod HexTexts
+pub mod EncodedHex
 pub mod SameIds
-pub mod SizeTexts
+pub mod DecodedSizes
 pub mod Splits

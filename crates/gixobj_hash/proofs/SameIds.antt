@@ -1,4 +1,4 @@
--- Ids are the same or not.
+-- Equality of ids is decidable.
 use Rattle.std.proofs.Common.{◌≡◌, ◌≢◌, ◌⊎◌, ℕ, true, false, List, ⊎_elim, ap, inl, inr, refl}
 use Rattle.std.specs.Cmp.Lexicographic.{bytes_decides, pointwise}
 use Rattle.std.specs.Prelude.{nat_eq}

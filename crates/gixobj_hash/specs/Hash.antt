@@ -1,4 +1,4 @@
--- Object ids: digests of SHA-1 or SHA-256 (FIPS 180-4), their bytes and their hex text.
+-- Object ids: SHA-1 and SHA-256 digests (FIPS 180-4), their bytes and their hex.
 pub mod Borrowed
 pub mod Hasher
 pub mod Hex
@@ -15,14 +15,14 @@ use Rattle.gixobj_hash.specs.declared.hash.kind.Kind.TheVariants as hash
 use Rattle.gixobj_hash.specs.declared.hash.object_id.ObjectId.{ObjectId}
 use Rattle.gixobj_hash.specs.declared.hash.object_id.ObjectId.TheVariants as id
 use Rattle.gixobj_hash.specs.declared.kind.Kind as object
-use Rattle.gixobj_hash.specs.Encode.{loose_header_text}
+use Rattle.gixobj_hash.specs.Encode.{encode_loose_header}
 
--- how many bytes a digest of this kind has
+-- the length of a digest, in bytes
 abbrev pub hash_len : Kind → ℕ
 hash_len hash.Sha1 = 20
 hash_len hash.Sha256 = 32
 
--- as many bytes as a digest of some kind has
+-- the length is that of some digest: 20 or 32 bytes
 abbrev pub is_id_length : ℕ → Bool
 is_id_length n = n == 20 || n == 32
 
@@ -31,7 +31,7 @@ abbrev pub digest_of : Kind → List ℕ → List ℕ
 digest_of hash.Sha1 message = sha1 message
 digest_of hash.Sha256 message = sha256 message
 
--- the kind of digest that an id is
+-- the hash function of an id
 abbrev pub id_kind : ObjectId → Kind
 id_kind (id.Sha1 bytes) = hash.Sha1
 id_kind (id.Sha256 bytes) = hash.Sha256
@@ -41,40 +41,40 @@ abbrev pub id_bytes : ObjectId → List ℕ
 id_bytes (id.Sha1 bytes) = bytes
 id_bytes (id.Sha256 bytes) = bytes
 
--- the id of this kind and these bytes
+-- the id of this hash function with these bytes
 abbrev pub id_from : Kind → List ℕ → ObjectId
 id_from hash.Sha1 bytes = id.Sha1 bytes
 id_from hash.Sha256 bytes = id.Sha256 bytes
 
--- as every id of a program is: as many bytes as its kind has
+-- an id of a program: its length is that of its hash function, and its elements are bytes
 abbrev pub IsId : ObjectId → Type 0
 IsId it = (length (id_bytes it) ≡ hash_len (id_kind it)) × IsBytes (id_bytes it)
 
 -- the id of an object: the digest of its loose header and its content
 abbrev pub id_of : Kind → object.Kind → List ℕ → ObjectId
-id_of hash kind content = id_from hash (digest_of hash (loose_header_text kind (length content) ++ content))
+id_of hash kind content = id_from hash (digest_of hash (encode_loose_header kind (length content) ++ content))
 
--- the id of zero bytes alone
+-- the null id: all bytes are zero
 abbrev pub null_id : Kind → ObjectId
 null_id kind = id_from kind (replicate (hash_len kind) 0)
 
--- all bytes are zero
+-- all bytes of the id are zero
 abbrev pub IsNull : ObjectId → Type 0
 IsNull it = All (λ byte. byte ≡ 0) (id_bytes it)
 
--- the hex text of an id as it is written, in lower case
-abbrev pub hex_text : ObjectId → List ℕ
-hex_text it = encode_lower (id_bytes it)
+-- the hex of an id, in lower case
+abbrev pub encode_id_hex : ObjectId → List ℕ
+encode_id_hex it = encode_lower (id_bytes it)
 
--- a hex digit, but for those in upper case
+-- a hex digit in lower case: `0` to `9` or `a` to `f`
 abbrev pub is_lower_hex_digit : ℕ → Bool
 is_lower_hex_digit byte = is_ascii_digit byte || (nat_le 97 byte && nat_le byte 102)
 
--- a text of as many hex digits, of either case, as an id has
-abbrev pub IsHexOfAnId : List ℕ → Type 0
-IsHexOfAnId text = ((length text ≡ 40) ⊎ (length text ≡ 64)) × AllPass is_hex_digit text
+-- the hex of an id: 40 or 64 hex digits, of either case
+abbrev pub IsIdHex : List ℕ → Type 0
+IsIdHex input = ((length input ≡ 40) ⊎ (length input ≡ 64)) × AllPass is_hex_digit input
 
--- the text is the hex text of the id, in either case
-pub record Spells (text : List ℕ) (it : ObjectId) : Type 0 where
-  pub len : length text ≡ 2 * hash_len (id_kind it)
-  pub digits : decode_of text ≡ Ok (id_bytes it)
+-- the input is the hex of the id, in either case
+pub record DecodesToId (input : List ℕ) (it : ObjectId) : Type 0 where
+  pub len : length input ≡ 2 * hash_len (id_kind it)
+  pub digits : decode_of input ≡ Ok (id_bytes it)

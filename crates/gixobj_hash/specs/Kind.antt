@@ -1,16 +1,16 @@
--- The kinds of objects (gitformat-loose, "Loose object format").
-pub mod Refusal
+-- The kinds of objects and their names (gitformat-loose, "Loose object format").
+pub mod NameError
 use Rattle.std.specs.Prelude.{◌≡◌, ◌≢◌, ℕ, List, codes}
 use Rattle.gixobj_hash.specs.declared.kind.Kind.{Kind}
 use Rattle.gixobj_hash.specs.declared.kind.Kind.TheVariants.{Tree, Blob, Commit, Tag}
 
--- the word that names a kind of object
-abbrev pub kind_word : Kind → List ℕ
-kind_word Tree = codes "tree"
-kind_word Blob = codes "blob"
-kind_word Commit = codes "commit"
-kind_word Tag = codes "tag"
+-- the name of a kind of object
+abbrev pub kind_name : Kind → List ℕ
+kind_name Tree = codes "tree"
+kind_name Blob = codes "blob"
+kind_name Commit = codes "commit"
+kind_name Tag = codes "tag"
 
--- no kind of object has this name
-abbrev pub IsNoKindWord : List ℕ → Type 0
-IsNoKindWord word = (kind : Kind) → word ≢ kind_word kind
+-- the name is unknown: it differs from the name of each kind of object
+abbrev pub IsUnknownKindName : List ℕ → Type 0
+IsUnknownKindName token = (kind : Kind) → token ≢ kind_name kind

@@ -1,8 +1,8 @@
 pub mod Bytes
-pub mod Cuts
+pub mod Splits
 pub mod Decode
 pub mod Encode
 pub mod Hash
 pub mod Kind
 pub mod Optional
-pub mod Texts
+pub mod ByteStrings

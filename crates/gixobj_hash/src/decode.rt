@@ -1,23 +1,23 @@
-//! Loose objects, read: the header, and the content behind it (`gitformat-loose`, "Loose object format").
+//! Decodes loose objects: the header and the content after it (`gitformat-loose`, "Loose object format").
 ghost use Rattle.std.specs.Prelude.{◌≡◌, ◌↔◌, ◌<◌, ◌^◌, ℕ, IsTrue, IfOk, IfErr, Ok, MatchResult};
 ghost use Rattle.std.specs.Option.{SomeIff};
 ghost use Rattle.std.specs.Str.Parse.{AllDigits, IsNumeral, digits_value, starts_with_minus};
 ghost use Rattle.gixobj_hash.specs.declared.decode.Error.TheVariants.{OutOfMemory};
 ghost use Rattle.gixobj_hash.specs.declared.kind.Kind.{Kind};
-ghost use Rattle.gixobj_hash.specs.Decode.{HasContent, HasLooseHeader, HasSizeFault, IsSizeText, RefusesHeader, RefusesLooseContent, RefusesSize, size_digits};
+ghost use Rattle.gixobj_hash.specs.Decode.{HasContent, HasLooseHeader, HasSizeFault, DecodesToSize, IsLooseHeaderError, IsLooseContentError, IsSizeError, size_digits};
 
-use crate::texts::{are_digits, number_from_digits, split_at_byte};
+use crate::split::{are_digits, number_from_digits, split_at_byte};
 use crate::{Kind, kind};
 use bstr::BString;
 use std::alloc::{AllocError, AllocFailed, Global};
 
-/// The refusal of a reader of objects.
+/// The error of a call that decodes an object.
 #[derive(Clone, Debug, Drop, thiserror::Error)]
 pub enum Error {
-    /// The bytes are no object of the kind.
+    /// The bytes are a malformed encoding of an object of the expected kind.
     #[error("malformed object")]
     Malformed,
-    /// There was no memory for what was read.
+    /// Memory for the decoded value could not be allocated.
     #[error("out of memory")]
     OutOfMemory,
 }
@@ -46,16 +46,16 @@ impl<T: Drop> From<AllocFailed<T>> for Error {
     }
 }
 
-/// Why a text is no size.
+/// Why a size is invalid. It is part of [`LooseHeaderDecodeError::ParseIntegerError`].
 #[derive(Clone, Copy, Debug, PartialEq, Eq, thiserror::Error)]
 pub enum ParseIntegerErrorKind {
-    /// There is no byte after the sign.
+    /// No byte follows the sign.
     #[error("no digit")]
     Empty,
-    /// A byte after the sign is no digit.
+    /// A byte after the sign is not a decimal digit.
     #[error("a byte that is no digit")]
     InvalidDigit,
-    /// The number is past 64 bits.
+    /// The number exceeds 64 bits.
     #[error("a number past 64 bits")]
     PosOverflow,
     /// The number is below zero.
@@ -63,29 +63,29 @@ pub enum ParseIntegerErrorKind {
     NegOverflow,
 }
 
-/// The refusal of [`loose_header`].
+/// The error of [`loose_header`].
 #[derive(Debug, Drop, thiserror::Error)]
 pub enum LooseHeaderDecodeError {
-    /// The size text is no size.
+    /// The size is invalid: the bytes between the first space and the zero byte after it.
     #[error("{message}: {source} in {number:?}")]
     ParseIntegerError {
-        /// What is wrong with the text.
+        /// Why the size is invalid.
         source: ParseIntegerErrorKind,
-        /// What the text was read as.
+        /// What the bytes were decoded as: a size.
         message: &'static str,
-        /// The size text.
+        /// A copy of the bytes of the size.
         number: BString,
     },
-    /// There is no space, or no zero byte after the size.
+    /// The input has no space, or no zero byte after it.
     #[error("{message}")]
     InvalidHeader {
         /// What is missing.
         message: &'static str,
     },
-    /// The word before the first space names no kind of object.
+    /// The bytes before the first space are an unknown kind of object.
     #[error("the header of a loose object: {0}")]
     ObjectHeader(kind::Error),
-    /// There was no memory to copy the word or the size text that is refused.
+    /// The copy of the unknown kind or the invalid size could not be allocated.
     #[error("out of memory")]
     OutOfMemory,
 }
@@ -98,7 +98,7 @@ impl From<kind::Error> for LooseHeaderDecodeError {
     fn from(error: kind::Error) -> LooseHeaderDecodeError {
         match error {
             kind::Error::OutOfMemory => LooseHeaderDecodeError::OutOfMemory,
-            refusal => LooseHeaderDecodeError::ObjectHeader(refusal),
+            failure => LooseHeaderDecodeError::ObjectHeader(failure),
         }
     }
 }
@@ -113,16 +113,16 @@ impl From<AllocError> for LooseHeaderDecodeError {
     }
 }
 
-/// The refusal of [`loose_content`].
+/// The error of [`loose_content`].
 #[derive(Debug, Drop, thiserror::Error)]
 pub enum LooseContentError {
-    /// The input begins with no loose header.
+    /// The loose header could not be decoded.
     #[error("{0}")]
     Header(LooseHeaderDecodeError),
-    /// Fewer bytes follow the header than it says.
+    /// Fewer bytes follow the header than it states.
     #[error("fewer than {size} bytes behind the header of an object")]
     Short {
-        /// How many bytes the header says.
+        /// The size that the header states, in bytes.
         size: u64,
     },
 }
@@ -137,31 +137,63 @@ impl From<LooseHeaderDecodeError> for LooseContentError {
     }
 }
 
-/// The kind and the content of the loose object that the input begins with: a loose header, and then
-/// as many bytes as it says. Bytes behind these are ignored.
+/// Decodes the loose object at the beginning of the input.
 ///
-/// `Header` where the input begins with no loose header, as [`loose_header`] says; `Short` where
-/// fewer bytes follow it. Memory is taken by [`loose_header`] alone.
+/// Returns the kind and the content, which is borrowed from the input. The content has the length that the
+/// header states. Bytes after it are ignored.
+///
+/// Allocates only as [`loose_header`] does.
+///
+/// # Errors
+///
+/// - [`LooseContentError::Header`] with the error of [`loose_header`], out of memory included, if that call
+///   fails.
+/// - [`LooseContentError::Short`] with the size that the header states, if fewer bytes follow the header.
+///
+/// # Examples
+///
+/// ```rust
+/// pub fn shown(alloc: Global, loose: &[u8]) -> Result<(Kind, usize, ObjectId), LooseContentError> {
+///     let (kind, content) = loose_content(alloc, loose)?;
+///     Ok((
+///         kind,
+///         content.len(),
+///         compute_hash(HashKind::Sha1, kind, content),
+///     ))
+/// }
+/// ```
 pub fn loose_content(alloc: Global, input: &[u8]) -> Result<(Kind, &[u8]), LooseContentError>
     ensures found { IfOk result (λ it. HasContent input.now it.0 it.1.now) }
-    ensures refusal { IfErr result (RefusesLooseContent input.now) }
+    ensures error { IfErr result (IsLooseContentError input.now) }
 {
     let (kind, size, used) = loose_header(alloc, input)?;
-    let behind = &input[used..];
-    if size > behind.len() as u64 {
+    let following = &input[used..];
+    if size > following.len() as u64 {
         return Err(LooseContentError::Short { size });
     }
-    Ok((kind, &behind[..size as usize]))
+    Ok((kind, &following[..size as usize]))
 }
 
-/// The loose header that the input begins with: the kind, the size in bytes of what follows, and how
-/// many bytes the header takes.
+/// Decodes the loose header at the beginning of the input.
 ///
-/// Any other input is refused: as `InvalidHeader` without a space; else as `ObjectHeader` where the
-/// word before the first space names no kind; else as `InvalidHeader` without a zero byte after it;
-/// else as `ParseIntegerError` where the text before that zero byte is no size. A size is at most one
-/// sign and then digits; behind a minus only zero is a size. The word or the size text is handed back
-/// as a copy; where it finds no memory, the refusal is `OutOfMemory`. Nothing else takes memory.
+/// Returns the kind of the object, the size of its content in bytes, and the length of the header in bytes.
+/// That length includes the zero byte. A size is at most one sign, `+` or `-`, and then decimal digits.
+/// After `-` only zero is a size.
+///
+/// Allocates only the copy for an error.
+///
+/// # Errors
+///
+/// The first of these cases that applies:
+///
+/// - [`LooseHeaderDecodeError::InvalidHeader`] if the input has no space.
+/// - [`LooseHeaderDecodeError::ObjectHeader`] with a copy of the bytes before the first space, if they are
+///   an unknown kind.
+/// - [`LooseHeaderDecodeError::InvalidHeader`] if no zero byte follows that space.
+/// - [`LooseHeaderDecodeError::ParseIntegerError`] with the cause and a copy of the bytes before that zero
+///   byte, if they are an invalid size.
+///
+/// [`LooseHeaderDecodeError::OutOfMemory`] replaces an error whose copy can't be allocated.
 pub fn loose_header(
     alloc: Global,
     input: &[u8],
@@ -169,51 +201,52 @@ pub fn loose_header(
     ensures accepts { (kind : Kind) (size used : ℕ) → HasLooseHeader input.now kind size used
         → result ≡ Ok (kind, size, used) }
     ensures found { IfOk result (λ header. HasLooseHeader input.now header.0 header.1 header.2) }
-    ensures refusal { IfErr result (RefusesHeader input.now) }
+    ensures error { IfErr result (IsLooseHeaderError input.now) }
 {
     read_loose_header(alloc, input)
 }
 
+/// Decodes a loose header; [`loose_header`] adds the clause `accepts`.
 fn read_loose_header(
     alloc: Global,
     input: &[u8],
 ) -> Result<(Kind, u64, usize), LooseHeaderDecodeError>
     ensures found { IfOk result (λ header. HasLooseHeader input.now header.0 header.1 header.2) }
-    ensures refusal { IfErr result (RefusesHeader input.now) }
+    ensures error { IfErr result (IsLooseHeaderError input.now) }
 {
-    let Some((word, after)) = split_at_byte(input, b' ') else {
+    let Some((token, after)) = split_at_byte(input, b' ') else {
         let message = "no space after the kind of an object";
         return Err(LooseHeaderDecodeError::InvalidHeader { message });
     };
-    let kind = Kind::from_bytes(alloc, word)?;
-    let Some((size_text, _)) = split_at_byte(after, 0) else {
+    let kind = Kind::from_bytes(alloc, token)?;
+    let Some((size_bytes, _)) = split_at_byte(after, 0) else {
         let message = "no zero byte after the size of an object";
         return Err(LooseHeaderDecodeError::InvalidHeader { message });
     };
-    let size = read_size(alloc, size_text)?;
-    Ok((kind, size, word.len() + size_text.len() + 2))
+    let size = read_size(alloc, size_bytes)?;
+    Ok((kind, size, token.len() + size_bytes.len() + 2))
 }
 
-/// The size that a text spells, or the refusal with a copy of the text.
-fn read_size(alloc: Global, text: &[u8]) -> Result<u64, LooseHeaderDecodeError>
-    ensures found { IfOk result (IsSizeText text.now) }
-    ensures refusal { IfErr result (RefusesSize text.now) }
+/// Decodes a size, or fails with a copy of the bytes.
+fn read_size(alloc: Global, bytes: &[u8]) -> Result<u64, LooseHeaderDecodeError>
+    ensures found { IfOk result (DecodesToSize bytes.now) }
+    ensures error { IfErr result (IsSizeError bytes.now) }
 {
-    match size_from_text(text) {
+    match size_from_bytes(bytes) {
         Ok(size) => Ok(size),
         Err(source) => Err(LooseHeaderDecodeError::ParseIntegerError {
             source,
             message: "the size of an object",
-            number: BString::from_slice(alloc, text)?,
+            number: BString::from_slice(alloc, bytes)?,
         }),
     }
 }
 
-/// The size that a text spells: at most one sign, and then digits.
-fn size_from_text(text: &[u8]) -> Result<u64, ParseIntegerErrorKind>
-    ensures { MatchResult result (IsSizeText text.now) (HasSizeFault text.now) }
+/// Decodes a size: at most one sign, and then decimal digits.
+fn size_from_bytes(bytes: &[u8]) -> Result<u64, ParseIntegerErrorKind>
+    ensures { MatchResult result (DecodesToSize bytes.now) (HasSizeFault bytes.now) }
 {
-    let (is_negative, digits) = split_sign(text);
+    let (is_negative, digits) = split_sign(bytes);
     if digits.is_empty() {
         return Err(ParseIntegerErrorKind::Empty);
     }
@@ -228,14 +261,14 @@ fn size_from_text(text: &[u8]) -> Result<u64, ParseIntegerErrorKind>
     }
 }
 
-/// Whether a minus stands first, and what stands after a sign.
-fn split_sign(text: &[u8]) -> (bool, &[u8])
-    ensures minus { result.0 ≡ starts_with_minus text.now }
-    ensures digits { result.1.now ≡ size_digits text.now }
+/// Returns whether the bytes begin with a minus, and the bytes after a sign.
+fn split_sign(bytes: &[u8]) -> (bool, &[u8])
+    ensures minus { result.0 ≡ starts_with_minus bytes.now }
+    ensures digits { result.1.now ≡ size_digits bytes.now }
 {
-    match text {
+    match bytes {
         [b'-', digits @ ..] => (true, digits),
         [b'+', digits @ ..] => (false, digits),
-        _ => (false, text),
+        _ => (false, bytes),
     }
 }

@@ -1,6 +1,6 @@
-//! The ids of objects, computed.
+//! Computes the ids of objects.
 ghost use Rattle.std.specs.Prelude.{◌≡◌};
-ghost use Rattle.gixobj_hash.specs.Encode.{loose_header_text};
+ghost use Rattle.gixobj_hash.specs.Encode.{encode_loose_header};
 ghost use Rattle.gixobj_hash.specs.Hash.{id_of};
 ghost use Rattle.gixobj_hash.specs.Hash.Hasher.{HoldsMessage};
 
@@ -9,8 +9,19 @@ pub use crate::hash::hasher::Hasher;
 use crate::{Kind, hash};
 use itoa::Buffer;
 
-/// The id of an object of this kind whose content is `content`: the digest of its loose header and
-/// its content. It takes no memory.
+/// Computes the id of an object of this kind with this content.
+///
+/// The id is the digest of the loose header and the content, by the hash function `hash`. Allocates
+/// nothing.
+///
+/// # Examples
+///
+/// ```rust
+/// fn blob_of(alloc: Global, hash: HashKind, number: u32) -> Result<ObjectId, AllocError> {
+///     let bytes = format!(in alloc; "{number}\n")?;
+///     Ok(compute_hash(hash, Kind::Blob, bytes.as_bytes()))
+/// }
+/// ```
 pub fn compute_hash(hash: hash::Kind, kind: Kind, content: &[u8]) -> ObjectId
     ensures { result ≡ id_of hash kind content.now }
 {
@@ -19,10 +30,12 @@ pub fn compute_hash(hash: hash::Kind, kind: Kind, content: &[u8]) -> ObjectId
     hasher.finalize()
 }
 
-/// The digest of the loose header of an object of this kind and size, to go on with its content. It
-/// takes no memory.
+/// Begins the digest of an object of this kind, whose content has `size` bytes.
+///
+/// Returns a [`Hasher`] that holds the loose header. The caller appends the content to it. Allocates
+/// nothing.
 pub fn object_hasher(hash: hash::Kind, kind: Kind, size: u64) -> Hasher
-    ensures { HoldsMessage hash result (loose_header_text kind size) }
+    ensures { HoldsMessage hash result (encode_loose_header kind size) }
 {
     let mut digits = Buffer::new();
     let mut hasher = Hasher::new(hash);

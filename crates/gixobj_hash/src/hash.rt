@@ -1,4 +1,4 @@
-//! Object ids: the kinds of digest, ids that are owned or borrowed, and the test that two agree.
+//! Object ids: hash functions, owned and borrowed ids, and the comparison of an id with an expected one.
 
 mod borrowed;
 pub(crate) mod hasher;

@@ -1,12 +1,12 @@
-//! What is known of an object before its content is read.
+//! The kind and the size of an object whose content has not been decoded.
 
 use crate::Kind;
 
-/// The kind and the size of an object.
+/// The kind and the size of an object: what its loose header states.
 #[derive(Clone, Copy, Debug, PartialEq, Eq, PartialOrd, Ord, Hash)]
 pub struct Header {
-    /// The kind of object.
+    /// The kind of the object.
     pub kind: Kind,
-    /// How many bytes its content has, as it is written without compression.
+    /// The size of the uncompressed content, in bytes.
     pub size: u64,
 }

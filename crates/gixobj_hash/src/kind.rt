@@ -1,35 +1,35 @@
-//! The kinds of objects, and the words that name them (`gitformat-loose`, "Loose object format").
+//! The four kinds of objects and their names (`gitformat-loose`, "Loose object format").
 ghost use Rattle.std.specs.Prelude.{◌≡◌, ◌↔◌, ◌≤◌, IsTrue, IfOk, IfErr, MatchOption, Ok, length};
 ghost use Rattle.gixobj_hash.specs.declared.kind.Kind.{Kind};
-ghost use Rattle.gixobj_hash.specs.Kind.{IsNoKindWord, kind_word};
+ghost use Rattle.gixobj_hash.specs.Kind.{IsUnknownKindName, kind_name};
 
 use bstr::BString;
 use std::alloc::{AllocError, Global};
 use std::fmt;
 
-/// The four kinds of objects.
+/// The kind of an object. [`Kind::from_name`] and [`Kind::from_bytes`] decode its name.
 #[derive(Clone, Copy, Debug, PartialEq, Eq, PartialOrd, Ord, Hash)]
 pub enum Kind {
     /// A directory: modes, names and ids.
     Tree,
     /// The content of a file, or the target of a symbolic link.
     Blob,
-    /// A state of the tree, with its parents, author, committer and message.
+    /// A commit: a tree, parents, author, committer and message.
     Commit,
-    /// A name for another object, with a message.
+    /// An annotated tag: a name for another object, with a message.
     Tag,
 }
 
-/// The refusal of [`Kind::from_bytes`].
+/// The error of [`Kind::from_bytes`].
 #[derive(Clone, Debug, Drop, thiserror::Error)]
 pub enum Error {
-    /// The bytes are no kind's word. They are handed back.
+    /// The bytes are an unknown kind of object.
     #[error("unknown object kind {kind:?}")]
     InvalidObjectKind {
-        /// The bytes handed in.
+        /// A copy of these bytes.
         kind: BString,
     },
-    /// The bytes are no kind's word, and there was no memory to copy them.
+    /// The bytes are an unknown kind of object, and their copy could not be allocated.
     #[error("out of memory")]
     OutOfMemory,
 }
@@ -46,14 +46,15 @@ impl From<AllocError> for Error {
 
 /// Initialization
 impl Kind {
-    ghost use Rattle.gixobj_hash.specs.Kind.Refusal.{RefusesWord};
+    ghost use Rattle.gixobj_hash.specs.Kind.NameError.{IsKindNameError};
 
-    /// The kind that a word names: `tree`, `blob`, `commit` or `tag`, or none for any other bytes. It
-    /// takes no memory.
-    pub fn of_word(word: &[u8]) -> Option<Kind>
-        ensures { MatchOption result (IsNoKindWord word.now) (λ kind. word.now ≡ kind_word kind) }
+    /// Decodes the name of a kind: `tree`, `blob`, `commit` or `tag`.
+    ///
+    /// Returns `None` for any other bytes. Allocates nothing.
+    pub fn from_name(token: &[u8]) -> Option<Kind>
+        ensures { MatchOption result (IsUnknownKindName token.now) (λ kind. token.now ≡ kind_name kind) }
     {
-        match word {
+        match token {
             b"tree" => Some(Kind::Tree),
             b"blob" => Some(Kind::Blob),
             b"commit" => Some(Kind::Commit),
@@ -62,16 +63,20 @@ impl Kind {
         }
     }
 
-    /// The kind that a word names, as [`Kind::of_word`] says.
+    /// Decodes the name of a kind, which [`Kind::from_name`] lists.
     ///
-    /// Any other bytes are refused, with a copy of them: `InvalidObjectKind`, or `OutOfMemory` where
-    /// the copy finds no memory.
+    /// Allocates only the copy for an error.
+    ///
+    /// # Errors
+    ///
+    /// - [`Error::InvalidObjectKind`] with a copy of the bytes, if they are an unknown kind.
+    /// - [`Error::OutOfMemory`] if that copy can't be allocated.
     pub fn from_bytes(alloc: Global, s: &[u8]) -> Result<Kind, Error>
-        ensures accepts { (kind : Kind) → s.now ≡ kind_word kind → result ≡ Ok kind }
-        ensures found { IfOk result (λ kind. s.now ≡ kind_word kind) }
-        ensures refusal { IfErr result (RefusesWord s.now) }
+        ensures accepts { (kind : Kind) → s.now ≡ kind_name kind → result ≡ Ok kind }
+        ensures found { IfOk result (λ kind. s.now ≡ kind_name kind) }
+        ensures error { IfErr result (IsKindNameError s.now) }
     {
-        match Kind::of_word(s) {
+        match Kind::from_name(s) {
             Some(kind) => Ok(kind),
             None => Err(Error::InvalidObjectKind {
                 kind: BString::from_slice(alloc, s)?,
@@ -84,10 +89,10 @@ impl Kind {
 impl Kind {
     ghost use Rattle.gixobj_hash.specs.declared.kind.Kind.TheVariants.{Tree, Blob, Commit, Tag};
 
-    /// The word that names the kind.
+    /// Returns the name of the kind, as loose headers have it.
     pub fn as_bytes(&self) -> &'static [u8]
-        ensures value { result.now ≡ kind_word self.now }
-        ensures short { length result.now ≤ 6 }
+        ensures value { result.now ≡ kind_name self.now }
+        ensures max_len { length result.now ≤ 6 }
     {
         match self {
             Kind::Tree => b"tree",
@@ -97,28 +102,28 @@ impl Kind {
         }
     }
 
-    /// Whether this is the kind of trees.
+    /// Returns whether this is the kind of trees.
     pub fn is_tree(&self) -> bool
         ensures { IsTrue result ↔ (self.now ≡ Tree) }
     {
         matches!(self, Kind::Tree)
     }
 
-    /// Whether this is the kind of blobs.
+    /// Returns whether this is the kind of blobs.
     pub fn is_blob(&self) -> bool
         ensures { IsTrue result ↔ (self.now ≡ Blob) }
     {
         matches!(self, Kind::Blob)
     }
 
-    /// Whether this is the kind of commits.
+    /// Returns whether this is the kind of commits.
     pub fn is_commit(&self) -> bool
         ensures { IsTrue result ↔ (self.now ≡ Commit) }
     {
         matches!(self, Kind::Commit)
     }
 
-    /// Whether this is the kind of tags.
+    /// Returns whether this is the kind of tags.
     pub fn is_tag(&self) -> bool
         ensures { IsTrue result ↔ (self.now ≡ Tag) }
     {
@@ -126,11 +131,11 @@ impl Kind {
     }
 }
 
-/// Shows the word that names the kind.
+/// Formats the name of the kind.
 impl fmt::Display for Kind {
     ghost use Rattle.std.specs.Prelude.{Some};
 
-    ghost output = { λ kind. Some (kind_word kind) };
+    ghost output = { λ kind. Some (kind_name kind) };
 
     fn fmt<W: fmt::Write>(&self, f: &mut fmt::Formatter<W>) -> fmt::Result {
         f.write_str(match self {

@@ -1,8 +1,8 @@
-//! Object ids, the kinds of objects, and the header of a loose object; and what cuts texts: at a byte, texts that may
-//! be missing, numbers in digits.
+//! Object ids, object kinds and loose headers. Its modules `split`, `parse` and `optional` have steps that
+//! decoders share: splits at a byte, numbers in digits and optional byte strings.
 //!
-//! A loose object is its header, `<kind> <size>` and a zero byte, and then its content. Its id is
-//! the SHA-1 or SHA-256 digest of all of that (`gitformat-loose`, "Loose object format").
+//! A loose object is its header and then its content. The header is `<kind> <size>` and a zero byte. The id
+//! of an object is the SHA-1 or SHA-256 digest of both (`gitformat-loose`, "Loose object format").
 #![tactic(auto)]
 
 pub mod decode;
@@ -15,7 +15,7 @@ pub mod laws;
 pub mod memory;
 pub mod optional;
 pub mod parse;
-pub mod texts;
+pub mod split;
 
 pub use digest::compute_hash;
 pub use header::Header;

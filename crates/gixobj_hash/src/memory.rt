@@ -1,7 +1,7 @@
-//! Out of memory, where nothing else is refused.
+//! The error of calls that fail only if memory can't be allocated.
 use std::alloc::{AllocError, AllocFailed};
 
-/// There was no memory. It is the error of calls that refuse nothing else.
+/// Memory could not be allocated. It is the error of calls that have no other.
 #[derive(Clone, Copy, Debug, PartialEq, Eq, thiserror::Error)]
 #[error("out of memory")]
 pub struct OutOfMemory;

@@ -1,8 +1,9 @@
--- What steps put into the store, whatever comes of them: objects under their digests.
+-- Steps insert objects into the store under their digests alone, imported or failed: for the contracts of `step` and
+-- `import_all`.
 use Rattle.std.proofs.Common.{◌≡◌, ◌∙◌, ⊎_elim, List, [], ◌∷◌, Option, ap, subst, sym, take}
 use Rattle.std.proofs.lemmas.List.Elements.{All-take}
 use Rattle.gixobj_editor.specs.declared.command.Edit.{Edit}
-use Rattle.gixobj_object.specs.Stores.{Meaning, Objects}
+use Rattle.gixobj_object.specs.Stores.{StoreModel, Objects}
 use Rattle.gixobj_directories.specs.declared.write.Written.{Written}
 use Rattle.gixobj_files.specs.State.{State}
 use Rattle.gixobj_hash.specs.declared.hash.kind.Kind as hash
@@ -10,71 +11,82 @@ use Rattle.gixobj_hash.specs.declared.hash.object_id.ObjectId.{ObjectId}
 use Rattle.gixobj_find.specs.Keeping.{with_commit, with_trees}
 use Rattle.gixobj_editor.specs.declared.reply.EditReply.TheVariants as reply
 use Rattle.gixobj_import.specs.ByDigest.{AddsByDigest}
-use Rattle.gixobj_import.specs.Commits.{step_text}
-use Rattle.gixobj_import.specs.Edited.{AreDone, IsWriteBehind}
-use Rattle.gixobj_import.specs.Steps.{AreImported, IsImported, IsStepFailed, RefusesEdits, RefusesStep, RefusesStepCommit, RefusesWrite}
+use Rattle.gixobj_import.specs.Commits.{encode_step}
+use Rattle.gixobj_import.specs.Edited.{AreDone, IsWriteAfter}
+use Rattle.gixobj_import.specs.Steps.{AreImported, IsImported, IsStepFailed, IsStepEditsError, IsStepError, IsStepCommitError, IsStepWriteError}
 use Rattle.gixobj_import.specs.declared.import.ImportError.{ImportError}
 use Rattle.gixobj_import.specs.declared.import.ImportError.TheVariants as import
 use Rattle.gixobj_import.specs.declared.import.Imported.{Imported}
 use Rattle.gixobj_import.specs.declared.import.Importer.{Importer}
 use Rattle.gixobj_import.specs.declared.import.Step.{Step}
 use Rattle.gixobj_import.proofs.Digests.{IsDigest, adds_commit, adds_none, adds_then, adds_trees, all_digests}
-use Rattle.gixobj_import.proofs.Doing.{all_kept, edits_stay, refused_stays}
+use Rattle.gixobj_import.proofs.Doing.{all_kept, edits_stay, failed_stays}
 use Rattle.gixobj_import.proofs.Known.{OfStores}
 
-module _ {S : Type 0} (means : Meaning S) (laws : OfStores) where
+module _ {S : Type 0} (means : StoreModel S) (laws : OfStores) where
   abbrev pub objects_of : Importer S → Objects
   objects_of importer = means.objects importer.editor.store
 
-  trees_add : (hash : hash.Kind) (old new : State S) (edits : List Edit) (it : Written) → IsWriteBehind means hash old edits (reply.Written it) new → AddsByDigest (means.objects old.store) (means.objects new.store)
-  trees_add hash old new edits it behind =
-      subst (AddsByDigest (means.objects old.store)) (sym (all_kept means laws.trees_of hash old new edits it behind))
-      (adds_trees laws.put_in hash it.trees.items (means.objects old.store) (all_digests hash it.trees.items behind.write.written.called))
+  trees_add : (hash : hash.Kind) (old new : State S) (edits : List Edit) (it : Written) → IsWriteAfter means hash old edits (reply.Written it) new
+      → AddsByDigest (means.objects old.store) (means.objects new.store)
+  trees_add hash old new edits it after =
+      subst (AddsByDigest (means.objects old.store)) (sym (all_kept means laws.trees_of hash old new edits it after))
+      (adds_trees laws.inserted hash it.trees.items (means.objects old.store) (all_digests hash it.trees.items after.write.written.called))
 
   module _ (old : Importer S) (step : Step) (it : Imported) (new : Importer S) (one : IsImported means old step it new) where
-    pub kept_so : objects_of new ≡ with_commit it.commit (step_text step it.written.id old.last) (with_trees it.written.trees.items (objects_of old))
-    kept_so = one.commit.kept ∙ ap (with_commit it.commit (step_text step it.written.id old.last)) (all_kept means laws.trees_of old.hash old.editor one.between step.edits.items it.written one.trees)
+    pub kept_so : objects_of new ≡ with_commit it.commit (encode_step step it.written.id old.last) (with_trees it.written.trees.items (objects_of old))
+    kept_so = one.commit.stored ∙ ap (with_commit it.commit (encode_step step it.written.id old.last))
+        (all_kept means laws.trees_of old.hash old.editor one.between step.edits.items it.written one.trees)
 
     pub step_adds : AddsByDigest (objects_of old) (objects_of new)
     step_adds =
         adds_then (objects_of old) (means.objects one.between.store) (objects_of new)
         (trees_add old.hash old.editor one.between step.edits.items it.written one.trees)
-        (subst (AddsByDigest (means.objects one.between.store)) (sym one.commit.kept) (adds_commit laws.put_in old.hash it.commit (step_text step it.written.id old.last) (means.objects one.between.store) one.commit.id))
+        (subst (AddsByDigest (means.objects one.between.store)) (sym one.commit.stored)
+        (adds_commit laws.inserted old.hash it.commit (encode_step step it.written.id old.last) (means.objects one.between.store) one.commit.id))
 
-  pub steps_add : (old new : Importer S) (steps : List Step) (imported : List Imported) → AreImported means old steps imported new → AddsByDigest (objects_of old) (objects_of new)
+  pub steps_add : (old new : Importer S) (steps : List Step) (imported : List Imported) → AreImported means old steps imported new
+      → AddsByDigest (objects_of old) (objects_of new)
   steps_add old new [] [] done = adds_none (objects_of old) (objects_of new) (ap objects_of done)
   steps_add old new (step ∷ steps) (it ∷ imported) (between, one, done) =
       adds_then (objects_of old) (objects_of between) (objects_of new) (step_adds old step it between one) (steps_add between new steps imported done)
   steps_add old new [] (it ∷ imported) done = absurd done
   steps_add old new (step ∷ steps) [] done = absurd done
 
-  write_adds : (hash : hash.Kind) (old new : State S) (error : ImportError) → RefusesWrite means hash old error new → AddsByDigest (means.objects old.store) (means.objects new.store)
+  write_adds : (hash : hash.Kind) (old new : State S) (error : ImportError) → IsStepWriteError means hash old error new
+      → AddsByDigest (means.objects old.store) (means.objects new.store)
   write_adds hash old new (import.Write error) is = adds_none _ _ (ap (λ (s : State S). means.objects s.store) is.unchanged)
   write_adds hash old new (import.NotKept error) (it, count, is) =
-      subst (AddsByDigest (means.objects old.store)) (sym is.kept.kept)
-      (adds_trees laws.put_in hash (take count it.trees.items) (means.objects old.store) (All-take (IsDigest hash) count it.trees.items (all_digests hash it.trees.items is.written.called)))
+      subst (AddsByDigest (means.objects old.store)) (sym is.stored.stored)
+      (adds_trees laws.inserted hash (take count it.trees.items) (means.objects old.store)
+      (All-take (IsDigest hash) count it.trees.items (all_digests hash it.trees.items is.written.called)))
   write_adds hash old new import.WriteInStep is = absurd is
   write_adds hash old new (import.Edit index error) is = absurd is
   write_adds hash old new (import.Commit error) is = absurd is
   write_adds hash old new import.OutOfMemory is = absurd is
   write_adds hash old new import.Failed is = absurd is
 
-  behind_adds : (hash : hash.Kind) (edits : List Edit) (old new : State S) (error : ImportError) → (edited : State S) × AreDone means old edits edited × RefusesWrite means hash edited error new
+  after_adds : (hash : hash.Kind) (edits : List Edit) (old new : State S) (error : ImportError) → (edited : State S) × AreDone means old edits edited
+      × IsStepWriteError means hash edited error new
       → AddsByDigest (means.objects old.store) (means.objects new.store)
-  behind_adds hash edits old new error (edited, done, refused) =
-      subst (λ (objects : Objects). AddsByDigest objects (means.objects new.store)) (ap means.objects (edits_stay means laws.trees_of old edited edits done)) (write_adds hash edited new error refused)
+  after_adds hash edits old new error (edited, done, rejected) =
+      subst (λ (objects : Objects). AddsByDigest objects (means.objects new.store)) (ap means.objects (edits_stay means laws.trees_of old edited edits done))
+      (write_adds hash edited new error rejected)
 
-  edits_add : (hash : hash.Kind) (edits : List Edit) (old new : State S) (error : ImportError) → RefusesEdits means hash edits old error new → AddsByDigest (means.objects old.store) (means.objects new.store)
+  edits_add : (hash : hash.Kind) (edits : List Edit) (old new : State S) (error : ImportError) → IsStepEditsError means hash edits old error new
+      → AddsByDigest (means.objects old.store) (means.objects new.store)
   edits_add hash edits old new (import.Edit index error) is =
-      adds_none _ _ (ap means.objects (refused_stays means laws.trees_of is.reached new is.refused error is.refusal ∙ edits_stay means laws.trees_of old is.reached (take index edits) is.done))
-  edits_add hash edits old new (import.Write error) is = behind_adds hash edits old new (import.Write error) is
-  edits_add hash edits old new (import.NotKept error) is = behind_adds hash edits old new (import.NotKept error) is
+      adds_none _ _ (ap means.objects (failed_stays means laws.trees_of is.reached new is.error_state error is.cause
+      ∙ edits_stay means laws.trees_of old is.reached (take index edits) is.done))
+  edits_add hash edits old new (import.Write error) is = after_adds hash edits old new (import.Write error) is
+  edits_add hash edits old new (import.NotKept error) is = after_adds hash edits old new (import.NotKept error) is
   edits_add hash edits old new import.WriteInStep is = absurd is.2
   edits_add hash edits old new (import.Commit error) is = absurd is.2
   edits_add hash edits old new import.OutOfMemory is = absurd is.2
   edits_add hash edits old new import.Failed is = absurd is.2
 
-  commit_adds : (hash : hash.Kind) (step : Step) (tree : ObjectId) (parent : Option ObjectId) (old new : State S) (error : ImportError) → RefusesStepCommit means hash step tree parent old error new
+  commit_adds : (hash : hash.Kind) (step : Step) (tree : ObjectId) (parent : Option ObjectId) (old new : State S) (error : ImportError)
+      → IsStepCommitError means hash step tree parent old error new
       → AddsByDigest (means.objects old.store) (means.objects new.store)
   commit_adds hash step tree parent old new (import.NotKept error) is = adds_none _ _ is.unchanged
   commit_adds hash step tree parent old new (import.Commit error) is = adds_none _ _ (ap (λ (s : State S). means.objects s.store) is.1)
@@ -84,20 +96,22 @@ module _ {S : Type 0} (means : Meaning S) (laws : OfStores) where
   commit_adds hash step tree parent old new (import.Write error) is = absurd is.0
   commit_adds hash step tree parent old new import.Failed is = absurd is.0
 
-  failed_adds : (old new : Importer S) (step : Step) (error : ImportError) → IsStepFailed means old step error new → AddsByDigest (objects_of old) (objects_of new)
+  failed_adds : (old new : Importer S) (step : Step) (error : ImportError) → IsStepFailed means old step error new
+      → AddsByDigest (objects_of old) (objects_of new)
   failed_adds old new step error is =
-      ⊎_elim (λ refused. edits_add old.hash step.edits.items old.editor new.editor error refused)
+      ⊎_elim (λ rejected. edits_add old.hash step.edits.items old.editor new.editor error rejected)
       (λ uncommitted.
       adds_then (objects_of old) (means.objects uncommitted.between.store) (objects_of new)
       (trees_add old.hash old.editor uncommitted.between step.edits.items uncommitted.it uncommitted.trees)
-      (commit_adds old.hash step uncommitted.it.id old.last uncommitted.between new.editor error uncommitted.refusal))
-      is.refusal
+      (commit_adds old.hash step uncommitted.it.id old.last uncommitted.between new.editor error uncommitted.cause))
+      is.cause
 
-  pub refused_adds : (old new : Importer S) (step : Step) (error : ImportError) → RefusesStep means old step error new → AddsByDigest (objects_of old) (objects_of new)
-  refused_adds old new step import.Failed is = adds_none _ _ (ap objects_of is.1)
-  refused_adds old new step import.WriteInStep is = adds_none _ _ (ap objects_of is.2)
-  refused_adds old new step (import.Edit index error) is = failed_adds old new step (import.Edit index error) is
-  refused_adds old new step (import.Write error) is = failed_adds old new step (import.Write error) is
-  refused_adds old new step (import.NotKept error) is = failed_adds old new step (import.NotKept error) is
-  refused_adds old new step (import.Commit error) is = failed_adds old new step (import.Commit error) is
-  refused_adds old new step import.OutOfMemory is = failed_adds old new step import.OutOfMemory is
+  pub rejected_adds : (old new : Importer S) (step : Step) (error : ImportError) → IsStepError means old step error new
+      → AddsByDigest (objects_of old) (objects_of new)
+  rejected_adds old new step import.Failed is = adds_none _ _ (ap objects_of is.1)
+  rejected_adds old new step import.WriteInStep is = adds_none _ _ (ap objects_of is.2)
+  rejected_adds old new step (import.Edit index error) is = failed_adds old new step (import.Edit index error) is
+  rejected_adds old new step (import.Write error) is = failed_adds old new step (import.Write error) is
+  rejected_adds old new step (import.NotKept error) is = failed_adds old new step (import.NotKept error) is
+  rejected_adds old new step (import.Commit error) is = failed_adds old new step (import.Commit error) is
+  rejected_adds old new step import.OutOfMemory is = failed_adds old new step import.OutOfMemory is

@@ -1,9 +1,9 @@
--- Calls of a closure that answers digests.
+-- Calls of a closure that returns digests.
 use Rattle.std.proofs.Common.{◌≡◌, ◌∙◌, List, [], ◌∷◌, Err, Ok, Result, refl, subst, sym}
 use Rattle.std.specs.Fn.{Called, CalledAt, Mut}
 use Rattle.std.specs.List.{FoldsTo}
 use denote.Ref.{Bor}
-use Rattle.gixobj_directories.specs.Handing.{Stopped}
+use Rattle.gixobj_directories.specs.Emitting.{Stopped}
 use Rattle.gixobj_directories.specs.declared.write.WriteError.{WriteError}
 use Rattle.gixobj_directories.specs.declared.write.WriteError.TheVariants as write
 use Rattle.gixobj_directories.specs.declared.write.Written.{Written}
@@ -13,26 +13,30 @@ use Rattle.gixobj_files.specs.State.{State}
 use Rattle.gixobj_hash.specs.declared.hash.kind.Kind as hash
 use Rattle.gixobj_hash.specs.declared.hash.object_id.ObjectId.{ObjectId}
 use Rattle.gixobj_tree.specs.Entries.{EntryView, Pair}
-use Rattle.gixobj_editor.specs.Replies.{Denies, GivesTreeId}
-use Rattle.gixobj_tree.specs.TreeText.{IsAnsweredDigest}
+use Rattle.gixobj_editor.specs.Replies.{Denies, ReturnsTreeId}
+use Rattle.gixobj_tree.specs.TreeEncoding.{IsAnsweredDigest}
 
 module _ {F : Type 0} (hash : hash.Kind) (of : Mut F (Bor (List EntryView) × Unit {0}) (Result ObjectId encode.Error)) (out : F)
-    (calls : (asked : F) (tree : Bor (List EntryView)) (answer : Result ObjectId encode.Error) (answered : F) → asked ≡ out → Called of asked (tree, tt) answer answered → IsAnsweredDigest hash tree.now answer × (answered ≡ asked)) where
-  answered_so : (asked answered : F) (tree : List EntryView) (answer : Result ObjectId encode.Error) → asked ≡ out → CalledAt of asked tree answer answered → IsAnsweredDigest hash tree answer × (answered ≡ out)
-  answered_so asked answered tree answer same one =
-      let it = calls asked one.shown answer answered same one.called in
+    (calls : (requested : F) (tree : Bor (List EntryView)) (answer : Result ObjectId encode.Error) (answered : F) → requested ≡ out
+    → Called of requested (tree, tt) answer answered → IsAnsweredDigest hash tree.now answer × (answered ≡ requested)) where
+  answered_so : (requested answered : F) (tree : List EntryView) (answer : Result ObjectId encode.Error) → requested ≡ out
+      → CalledAt of requested tree answer answered → IsAnsweredDigest hash tree answer × (answered ≡ out)
+  answered_so requested answered tree answer same one =
+      let it = calls requested one.shown answer answered same one.called in
       (subst (λ (t : List EntryView). IsAnsweredDigest hash t answer) one.shows it.0, it.1 ∙ same)
 
-  folds : (asked last : F) (pairs : List Pair) → asked ≡ out → FoldsTo (λ f p g. CalledAt of f p.1 (Ok p.0) g) asked pairs last → FoldsTo (GivesTreeId (IsAnsweredDigest hash)) tt pairs tt × (last ≡ out)
-  folds asked last [] same folded = (refl, sym folded ∙ same)
-  folds asked last (pair ∷ pairs) same (next, one, rest) =
-      let now = answered_so asked next pair.1 (Ok pair.0) same one in
+  folds : (requested last : F) (pairs : List Pair) → requested ≡ out → FoldsTo (λ f p g. CalledAt of f p.1 (Ok p.0) g) requested pairs last
+      → FoldsTo (ReturnsTreeId (IsAnsweredDigest hash)) tt pairs tt × (last ≡ out)
+  folds requested last [] same folded = (refl, sym folded ∙ same)
+  folds requested last (pair ∷ pairs) same (next, one, rest) =
+      let now = answered_so requested next pair.1 (Ok pair.0) same one in
       let later = folds next last pairs now.1 rest in
       ((tt, now.0, later.0), later.1)
 
-  pub written : {S : Type 0} (old new : State S) (it : Written) → (last : F) × IsWrittenEditor (λ f p g. CalledAt of f p.1 (Ok p.0) g) out old it new last → IsWrittenEditor (GivesTreeId (IsAnsweredDigest hash)) tt old it new tt
+  pub written : {S : Type 0} (old new : State S) (it : Written) → (last : F) × IsWrittenEditor (λ f p g. CalledAt of f p.1 (Ok p.0) g) out old it new last
+      → IsWrittenEditor (ReturnsTreeId (IsAnsweredDigest hash)) tt old it new tt
   written old new it (last, wrote) = record {
-    handed_out = wrote.handed_out;
+    emitted = wrote.emitted;
     called = (folds out last it.trees.items refl wrote.called).0;
     storable = wrote.storable;
     below = wrote.below;
@@ -46,8 +50,9 @@ module _ {F : Type 0} (hash : hash.Kind) (of : Mut F (Bor (List EntryView) × Un
     has_bases = wrote.has_bases;
   }
 
-  pub stopped : (goes_out : List Pair → Type 0) (error : WriteError encode.Error) → (last : F) × Stopped (λ f p g. CalledAt of f p.1 (Ok p.0) g) (λ f t e g. CalledAt of f t (Err e) g) goes_out out last error
-      → Stopped (GivesTreeId (IsAnsweredDigest hash)) (Denies (IsAnsweredDigest hash)) goes_out tt tt error
+  pub stopped : (goes_out : List Pair → Type 0) (error : WriteError encode.Error) → (last : F) × Stopped (λ f p g. CalledAt of f p.1 (Ok p.0) g)
+      (λ f t e g. CalledAt of f t (Err e) g) goes_out out last error
+      → Stopped (ReturnsTreeId (IsAnsweredDigest hash)) (Denies (IsAnsweredDigest hash)) goes_out tt tt error
   stopped goes_out (write.Out e) (last, (before, tree, between, folded, one, goes)) =
       let so_far = folds out between before refl folded in
       (before, tree, tt, so_far.0, (answered_so between last tree (Err e) so_far.1 one).0, goes)

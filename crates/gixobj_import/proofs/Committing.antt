@@ -1,13 +1,13 @@
 -- The commits of steps that are imported one after the other.
 use Rattle.std.proofs.Common.{◌≡◌, inr, List, [], ◌∷◌, Option, None, Some, ap, subst, sym}
 use Rattle.std.proofs.lemmas.List.Elements.{All-cons, All-head, All-nil}
-use Rattle.gixobj_object.specs.Stores.{Meaning, Objects}
-use Rattle.gixobj_hash.specs.Hash.{hex_text}
-use Rattle.gixobj_hash.specs.Hash.Hex.{IsHexOf}
+use Rattle.gixobj_object.specs.Stores.{StoreModel, Objects}
+use Rattle.gixobj_hash.specs.Hash.{encode_id_hex}
+use Rattle.gixobj_hash.specs.Hash.Hex.{IsIdHexOfKind}
 use Rattle.gixobj_hash.specs.declared.hash.kind.Kind as hash
 use Rattle.gixobj_hash.specs.declared.hash.object_id.ObjectId.{ObjectId}
 use Rattle.gixobj_import.specs.ByDigest.{AddsByDigest, NamesByDigest}
-use Rattle.gixobj_import.specs.Commits.{only_parent, step_text}
+use Rattle.gixobj_import.specs.Commits.{only_parent, encode_step}
 use Rattle.gixobj_import.specs.Imports.{AreCommitsOf, IsNewImporter}
 use Rattle.gixobj_import.specs.Steps.{AreImported, HaveHex, IsImported}
 use Rattle.gixobj_import.specs.declared.import.Imported.{Imported}
@@ -17,28 +17,30 @@ use Rattle.gixobj_import.proofs.Adding.{objects_of, steps_add}
 use Rattle.gixobj_import.proofs.Digests.{adds_then, names_commit, stays_named}
 use Rattle.gixobj_import.proofs.Known.{OfStores}
 
-module _ {S : Type 0} (means : Meaning S) (laws : OfStores) where
+module _ {S : Type 0} (means : StoreModel S) (laws : OfStores) where
   last_is : (old : Importer S) (step : Step) (it : Imported) (new : Importer S) → IsImported means old step it new → new.last ≡ Some it.commit
   last_is old step it new one = ap (λ (i : Importer S). i.last) one.rest
 
   hash_is : (old : Importer S) (step : Step) (it : Imported) (new : Importer S) → IsImported means old step it new → new.hash ≡ old.hash
   hash_is old step it new one = ap (λ (i : Importer S). i.hash) one.rest
 
-  commits : (old new : Importer S) (steps : List Step) (imported : List Imported) → AreImported means old steps imported new → HaveHex old.hash (only_parent old.last)
+  commits : (old new : Importer S) (steps : List Step) (imported : List Imported) → AreImported means old steps imported new
+      → HaveHex old.hash (only_parent old.last)
       → (final : Objects) → AddsByDigest (objects_of means laws new) final → AreCommitsOf old.hash old.last steps imported final
   commits old new [] [] done hex final adds = tt
   commits old new (step ∷ steps) (it ∷ imported) (between, one, done) hex final adds =
-      let P : ObjectId → Type 0 = λ id. IsHexOf old.hash (hex_text id) in
+      let P : ObjectId → Type 0 = λ id. IsIdHexOfKind old.hash (encode_id_hex id) in
       let later = commits between new steps imported done
       (subst (λ (h : hash.Kind). HaveHex h (only_parent between.last)) (sym (hash_is old step it between one))
       (subst (λ (parent : Option ObjectId). HaveHex old.hash (only_parent parent)) (sym (last_is old step it between one)) one.commit.hex)) final adds in
-      let text = step_text step it.written.id old.last in
+      let bytes = encode_step step it.written.id old.last in
       let from_here = adds_then (objects_of means laws between) (objects_of means laws new) final (steps_add means laws between new steps imported done) adds in
       let names = stays_named (objects_of means laws between) final it.commit from_here
-      (subst (λ (objects : Objects). NamesByDigest objects it.commit) (sym one.commit.kept) (names_commit laws.put_in old.hash it.commit text (means.objects one.between.store) one.commit.id)) in (
+      (subst (λ (objects : Objects). NamesByDigest objects it.commit) (sym one.commit.stored)
+      (names_commit laws.inserted old.hash it.commit bytes (means.objects one.between.store) one.commit.id)) in (
         record {
           id = one.commit.id;
-          text = one.commit.text (All-cons P it.written.id (only_parent old.last) (All-head P it.written.id [] one.root) hex);
+          decodes = one.commit.decodes (All-cons P it.written.id (only_parent old.last) (All-head P it.written.id [] one.root) hex);
           author = one.commit.author;
           committer = one.commit.committer;
           stored = record { it = names.it; named_so = names.named_so; which = inr names.digest };
@@ -49,10 +51,11 @@ module _ {S : Type 0} (means : Meaning S) (laws : OfStores) where
   commits old new [] (it ∷ imported) done hex final adds = absurd done
   commits old new (step ∷ steps) [] done hex final adds = absurd done
 
-  -- those of a new importer
-  pub commits_of_new : (old new : Importer S) (steps : List Step) (imported : List Imported) → AreImported means old steps imported new → IsNewImporter old → (final : Objects) → AddsByDigest (objects_of means laws new) final
+  -- the commits of a new importer
+  pub commits_of_new : (old new : Importer S) (steps : List Step) (imported : List Imported) → AreImported means old steps imported new → IsNewImporter old
+      → (final : Objects) → AddsByDigest (objects_of means laws new) final
       → AreCommitsOf old.hash None steps imported final
   commits_of_new old new steps imported done is final adds =
-      let P : ObjectId → Type 0 = λ id. IsHexOf old.hash (hex_text id) in
+      let P : ObjectId → Type 0 = λ id. IsIdHexOfKind old.hash (encode_id_hex id) in
       subst (λ (parent : Option ObjectId). AreCommitsOf old.hash parent steps imported final) is.last
       (commits old new steps imported done (subst (λ (parent : Option ObjectId). HaveHex old.hash (only_parent parent)) (sym is.last) (All-nil P)) final adds)

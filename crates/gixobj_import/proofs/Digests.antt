@@ -1,4 +1,5 @@
--- Objects that are put into a store under their digests.
+-- Objects that are inserted into a store under their digests: for the write of a step, its commit, and what both add to
+-- the store.
 use Rattle.std.proofs.Common.{◌≡◌, ◌∙◌, ◌*◌, inl, inr, ⊎_elim, ℕ, All, List, [], ◌∷◌, ◌++◌, ap, refl, subst, sym}
 use Rattle.std.proofs.lemmas.List.Elements.{All-cons, All-head, All-nil, All-tail}
 use Rattle.std.specs.FinMap as finite
@@ -8,35 +9,37 @@ use Rattle.gixobj_directories.specs.declared.write.Written.{Written}
 use Rattle.gixobj_editor.specs.Writes.{IsWrittenEditor}
 use Rattle.gixobj_files.specs.State.{State}
 use Rattle.gixobj_tree.specs.Entries.{Pair}
-use Rattle.gixobj_hash.specs.Hash.{IsHexOfAnId, IsId, Spells, hash_len, hex_text, id_from, id_kind, id_of}
-use Rattle.gixobj_hash.specs.Hash.Hex.{IsHexOf}
+use Rattle.gixobj_hash.specs.Hash.{IsIdHex, IsId, DecodesToId, hash_len, encode_id_hex, id_from, id_kind, id_of}
+use Rattle.gixobj_hash.specs.Hash.Hex.{IsIdHexOfKind}
 use Rattle.gixobj_hash.specs.declared.hash.kind.Kind as hash
 use Rattle.gixobj_hash.specs.declared.hash.kind.Kind.TheVariants as hash_kind
 use Rattle.gixobj_hash.specs.declared.hash.object_id.ObjectId.{ObjectId}
 use Rattle.gixobj_hash.specs.declared.kind.Kind as kind
 use Rattle.gixobj_hash.specs.declared.kind.Kind.TheVariants.{Commit, Tree}
 use Rattle.gixobj_find.specs.Keeping.{commit_object, tree_object, with_commit, with_tree, with_trees}
-use Rattle.gixobj_tree.specs.TreeText.{IsAnsweredDigest, tree_text}
-use Rattle.gixobj_editor.specs.Replies.{GivesTreeId}
+use Rattle.gixobj_tree.specs.TreeEncoding.{IsAnsweredDigest, encode_tree}
+use Rattle.gixobj_editor.specs.Replies.{ReturnsTreeId}
 use Rattle.gixobj_import.specs.ByDigest.{AddsByDigest, NamesByDigest, digest_id}
 use Rattle.gixobj_import.specs.Steps.{HaveHex}
-use Rattle.gixobj_import.proofs.Known.{PutIn}
+use Rattle.gixobj_import.proofs.Known.{Inserted}
 
 kind_of_made : (k : hash.Kind) (bytes : List ℕ) → id_kind (id_from k bytes) ≡ k
 kind_of_made hash_kind.Sha1 bytes = refl
 kind_of_made hash_kind.Sha256 bytes = refl
 
--- an id that is a digest is of the digest's kind
+-- an id that is a digest has the kind of the digest
 pub kind_of_digest : (k : hash.Kind) (o : kind.Kind) (bytes : List ℕ) (it : ObjectId) → it ≡ id_of k o bytes → id_kind it ≡ k
 kind_of_digest k o bytes it is = ap id_kind is ∙ kind_of_made k _
 
--- the hex text of an id of this kind
-pub hex_of_id : (k : hash.Kind) (id : ObjectId) → ((it : ObjectId) → IsId it → IsHexOfAnId (hex_text it)) → ((it : ObjectId) → IsId it → Spells (hex_text it) it) → IsId id → id_kind id ≡ k → HaveHex k (id ∷ [])
+-- the hex digits of an id of this kind are those of its kind
+pub hex_of_id : (k : hash.Kind) (id : ObjectId) → ((it : ObjectId) → IsId it → IsIdHex (encode_id_hex it))
+    → ((it : ObjectId) → IsId it → DecodesToId (encode_id_hex it) it) → IsId id → id_kind id ≡ k → HaveHex k (id ∷ [])
 hex_of_id k id reads spells is same =
-    let P : ObjectId → Type 0 = λ it. IsHexOf k (hex_text it) in
+    let P : ObjectId → Type 0 = λ it. IsIdHexOfKind k (encode_id_hex it) in
     All-cons P id [] ((spells id is).len ∙ ap (λ (h : hash.Kind). 2 * hash_len h) same, (reads id is).1) (All-nil P)
 
-digests_itself : (k : hash.Kind) (o : kind.Kind) (bytes : List ℕ) (it : ObjectId) → it ≡ id_of k o bytes → digest_id (record { kind = o; object_hash = id_kind it; bytes = bytes }) ≡ it
+digests_itself : (k : hash.Kind) (o : kind.Kind) (bytes : List ℕ) (it : ObjectId) → it ≡ id_of k o bytes
+    → digest_id (record { kind = o; object_hash = id_kind it; bytes = bytes }) ≡ it
 digests_itself k o bytes it is = ap (λ (h : hash.Kind). id_of h o bytes) (kind_of_digest k o bytes it is) ∙ sym is
 
 pub adds_none : (before after : Objects) → after ≡ before → AddsByDigest before after
@@ -45,7 +48,8 @@ adds_none before after same id = inl (ap (λ (objects : Objects). named objects 
 pub adds_then : (before between after : Objects) → AddsByDigest before between → AddsByDigest between after → AddsByDigest before after
 adds_then before between after first then id =
     ⊎_elim
-    (λ same. ⊎_elim (λ as_before. inl (same ∙ as_before)) (λ named_so. inr (record { it = named_so.it; named_so = same ∙ named_so.named_so; digest = named_so.digest })) (first id))
+    (λ same. ⊎_elim (λ as_before. inl (same ∙ as_before))
+    (λ named_so. inr (record { it = named_so.it; named_so = same ∙ named_so.named_so; digest = named_so.digest })) (first id))
     inr
     (then id)
 
@@ -53,9 +57,9 @@ pub stays_named : (before after : Objects) (id : ObjectId) → AddsByDigest befo
 stays_named before after id adds names = ⊎_elim (λ same. record { it = names.it; named_so = same ∙ names.named_so; digest = names.digest }) (λ it. it) (adds id)
 
 abbrev pub IsDigest : hash.Kind → Pair → Type 0
-IsDigest hash pair = pair.0 ≡ id_of hash Tree (tree_text pair.1)
+IsDigest hash pair = pair.0 ≡ id_of hash Tree (encode_tree pair.1)
 
-module _ (laws : PutIn) where
+module _ (laws : Inserted) where
   adds_one : (objects : Objects) (id : ObjectId) (it : StoredObject) → digest_id it ≡ id → AddsByDigest objects (finite.insert objects id it)
   adds_one objects id it digest other =
       ⊎_elim (λ same. inr (record { it = it; named_so = ap (named (finite.insert objects id it)) same ∙ laws.there objects id it; digest = digest ∙ sym same }))
@@ -66,18 +70,24 @@ module _ (laws : PutIn) where
   adds_trees hash [] objects all = adds_none objects objects refl
   adds_trees hash (pair ∷ pairs) objects all =
       adds_then objects (with_tree pair objects) (with_trees pairs (with_tree pair objects))
-      (adds_one objects pair.0 (tree_object pair.0 pair.1) (digests_itself hash Tree (tree_text pair.1) pair.0 (All-head (IsDigest hash) pair pairs all)))
+      (adds_one objects pair.0 (tree_object pair.0 pair.1) (digests_itself hash Tree (encode_tree pair.1) pair.0 (All-head (IsDigest hash) pair pairs all)))
       (adds_trees hash pairs (with_tree pair objects) (All-tail (IsDigest hash) pair pairs all))
 
-  pub adds_commit : (hash : hash.Kind) (commit : ObjectId) (text : List ℕ) (objects : Objects) → commit ≡ id_of hash Commit text → AddsByDigest objects (with_commit commit text objects)
-  adds_commit hash commit text objects is = adds_one objects commit (commit_object commit text) (digests_itself hash Commit text commit is)
+  pub adds_commit : (hash : hash.Kind) (commit : ObjectId) (content : List ℕ) (objects : Objects) → commit ≡ id_of hash Commit content
+      → AddsByDigest objects (with_commit commit content objects)
+  adds_commit hash commit content objects is = adds_one objects commit (commit_object commit content) (digests_itself hash Commit content commit is)
 
-  pub names_commit : (hash : hash.Kind) (commit : ObjectId) (text : List ℕ) (objects : Objects) → commit ≡ id_of hash Commit text → NamesByDigest (with_commit commit text objects) commit
-  names_commit hash commit text objects is =
-      record { it = commit_object commit text; named_so = laws.there objects commit (commit_object commit text); digest = digests_itself hash Commit text commit is }
+  pub names_commit : (hash : hash.Kind) (commit : ObjectId) (content : List ℕ) (objects : Objects) → commit ≡ id_of hash Commit content
+      → NamesByDigest (with_commit commit content objects) commit
+  names_commit hash commit content objects is =
+      record {
+        it = commit_object commit content;
+        named_so = laws.there objects commit (commit_object commit content);
+        digest = digests_itself hash Commit content commit is;
+      }
 
--- the trees that went out have their digests
-pub all_digests : (hash : hash.Kind) (pairs : List Pair) → FoldsTo (GivesTreeId (IsAnsweredDigest hash)) tt pairs tt → All (IsDigest hash) pairs
+-- the emitted trees have their digests as ids
+pub all_digests : (hash : hash.Kind) (pairs : List Pair) → FoldsTo (ReturnsTreeId (IsAnsweredDigest hash)) tt pairs tt → All (IsDigest hash) pairs
 all_digests hash [] folded = All-nil (IsDigest hash)
 all_digests hash (pair ∷ pairs) (next, one, rest) = All-cons (IsDigest hash) pair pairs one.1 (all_digests hash pairs rest)
 
@@ -86,7 +96,8 @@ last_has P [] x all = All-head P x [] all
 last_has P (y ∷ xs) x all = last_has P xs x (All-tail P y (xs ++ x ∷ []) all)
 
 -- the id of the root is a digest of this kind
-pub root_kind : {S : Type 0} (k : hash.Kind) (old new : State S) (it : Written) → IsWrittenEditor (GivesTreeId (IsAnsweredDigest k)) tt old it new tt → id_kind it.id ≡ k
+pub root_kind : {S : Type 0} (k : hash.Kind) (old new : State S) (it : Written) → IsWrittenEditor (ReturnsTreeId (IsAnsweredDigest k)) tt old it new tt
+    → id_kind it.id ≡ k
 root_kind k old new it wrote =
     let all = subst (All (IsDigest k)) wrote.last (all_digests k it.trees.items wrote.called) in
-    kind_of_digest k Tree (tree_text wrote.own) it.id (last_has (IsDigest k) wrote.below (it.id, wrote.own) all)
+    kind_of_digest k Tree (encode_tree wrote.own) it.id (last_has (IsDigest k) wrote.below (it.id, wrote.own) all)

@@ -1,23 +1,23 @@
--- Actors that can be written, and commits that were.
+-- Actors that can be encoded, and commits that were: for the encoding of a step's commit and for its keeping.
 use Rattle.std.proofs.Common.{◌≡◌, ◌≢◌, ◌⊎◌, inl, inr, ⊎_elim, ◌==◌, sym, subst, refl, ℕ, true, false, All, List, [], ◌∷◌, Option, Some, None, arith}
 use Rattle.std.proofs.lemmas.Bool.Decides.{nat_tests}
 use Rattle.std.proofs.lemmas.List.Elements.{All-cons, All-head, All-nil, All-tail}
 use Rattle.std.specs.Prelude.{map}
 use Rattle.bstr.specs.Owned.{bstring_bytes}
 use Rattle.gixobj_actor.specs.Actor.{IsWritable}
-use Rattle.gixobj_actor.specs.ActorWriting.{IsLegal, owned_text}
+use Rattle.gixobj_actor.specs.ActorWriting.{IsLegal, encode_owned_actor}
 use Rattle.gixobj_actor.specs.declared.actor.Signature.{Signature}
 use Rattle.gixobj_commit.specs.CommitViews.{owned_commit_lines}
-use Rattle.gixobj_commit.specs.CommitWriting.{RefusesEncoding, RefusesOwnedCommit, before_author, before_committer}
+use Rattle.gixobj_commit.specs.CommitWriting.{IsEncodingError, IsOwnedCommitError, before_author, before_committer}
 use Rattle.gixobj_commit.specs.declared.commit.Commit.{Commit}
-use Rattle.gixobj_fields.specs.Writing.{RefusesNothing, illegal_actor}
-use Rattle.gixobj_hash.specs.Hash.{hex_text}
-use Rattle.gixobj_hash.specs.Hash.Hex.{IsHexOf}
+use Rattle.gixobj_fields.specs.Writing.{RejectsNothing, illegal_actor}
+use Rattle.gixobj_hash.specs.Hash.{encode_id_hex}
+use Rattle.gixobj_hash.specs.Hash.Hex.{IsIdHexOfKind}
 use Rattle.gixobj_hash.specs.declared.hash.kind.Kind as hash
 use Rattle.gixobj_hash.specs.declared.hash.object_id.ObjectId.{ObjectId}
-use Rattle.gixobj_commit.specs.Commit.{CommitLines, IsCommitText}
-use Rattle.gixobj_hash.specs.Texts.{IsFree}
-use Rattle.gixobj_import.specs.Commits.{NamesSignature, SameActor, only_parent, step_commit, step_text}
+use Rattle.gixobj_commit.specs.Commit.{CommitLines, DecodesToCommit}
+use Rattle.gixobj_hash.specs.ByteStrings.{IsByteFree}
+use Rattle.gixobj_import.specs.Commits.{NamesSignature, SameActor, only_parent, step_commit, encode_step}
 use Rattle.gixobj_import.specs.Steps.{HaveHex}
 use Rattle.gixobj_import.specs.declared.import.Step.{Step}
 
@@ -27,12 +27,12 @@ same_or_not byte other = elim (byte == other) as (λ b. (byte == other) ≡ b �
   | false ↦ λ fails. inr (λ same. grind (arith, nat_tests, fails, same))
 ] refl
 
-free_or_not : (byte : ℕ) (text : List ℕ) → IsFree byte text ⊎ ¬ (IsFree byte text)
+free_or_not : (byte : ℕ) (bytes : List ℕ) → IsByteFree byte bytes ⊎ ¬ (IsByteFree byte bytes)
 free_or_not byte [] = inl (All-nil (λ it. it ≢ byte))
-free_or_not byte (first ∷ text) =
+free_or_not byte (first ∷ bytes) =
     let P : ℕ → Type 0 = λ it. it ≢ byte in
-    ⊎_elim (λ same. inr (λ free. All-head P first text free same))
-    (λ other. ⊎_elim (λ free. inl (All-cons P first text other free)) (λ has. inr (λ free. has (All-tail P first text free))) (free_or_not byte text))
+    ⊎_elim (λ same. inr (λ free. All-head P first bytes free same))
+    (λ other. ⊎_elim (λ free. inl (All-cons P first bytes other free)) (λ has. inr (λ free. has (All-tail P first bytes free))) (free_or_not byte bytes))
     (same_or_not first byte)
 
 both : {A B : Type 0} → A ⊎ ¬ A → B ⊎ ¬ B → (A × B) ⊎ ¬ (A × B)
@@ -46,8 +46,8 @@ three (inl a) (inl b) (inr never) = inr (λ it. never it.2)
 three (inl a) (inr never) c = inr (λ it. never it.1)
 three (inr never) b c = inr (λ it. never it.0)
 
-writable_or_not : (text : List ℕ) → IsWritable text ⊎ ¬ (IsWritable text)
-writable_or_not text = three (free_or_not 60 text) (free_or_not 62 text) (free_or_not 10 text)
+writable_or_not : (bytes : List ℕ) → IsWritable bytes ⊎ ¬ (IsWritable bytes)
+writable_or_not bytes = three (free_or_not 60 bytes) (free_or_not 62 bytes) (free_or_not 10 bytes)
 
 legal_or_not : (actor : Signature) → IsLegal actor ⊎ ¬ (IsLegal actor)
 legal_or_not actor = both (writable_or_not (bstring_bytes actor.name)) (writable_or_not (bstring_bytes actor.email))
@@ -58,36 +58,42 @@ copied_legal actor copy same legal = (subst IsWritable same.name legal.0, subst 
 legal_copied : (actor copy : Signature) → SameActor actor copy → IsLegal actor → IsLegal copy
 legal_copied actor copy same legal = (subst IsWritable (sym same.name) legal.0, subst IsWritable (sym same.email) legal.1)
 
--- of a commit that was written both actors can be
-written_legal : (commit : Commit) → RefusesNothing (RefusesOwnedCommit commit) → IsLegal commit.author × IsLegal commit.committer
+-- both actors of an encoded commit can be encoded
+written_legal : (commit : Commit) → RejectsNothing (IsOwnedCommitError commit) → IsLegal commit.author × IsLegal commit.committer
 written_legal commit nothing =
     ⊎_elim
-    (λ author. ⊎_elim (λ committer. (author, committer)) (λ other. absurd (nothing illegal_actor (before_committer (owned_commit_lines commit)) (inr (inl (author, other, refl, refl))))) (legal_or_not commit.committer))
+    (λ author. ⊎_elim (λ committer. (author, committer))
+    (λ other. absurd (nothing illegal_actor (before_committer (owned_commit_lines commit)) (inr (inl (author, other, refl, refl)))))
+    (legal_or_not commit.committer))
     (λ other. absurd (nothing illegal_actor (before_author (owned_commit_lines commit)) (inl (other, refl, refl))))
     (legal_or_not commit.author)
 
 module _ (step : Step) (commit : Commit) (author : SameActor step.author commit.author) (committer : SameActor step.committer commit.committer) where
-  pub actors_legal : RefusesNothing (RefusesOwnedCommit commit) → IsLegal step.author × IsLegal step.committer
+  pub actors_legal : RejectsNothing (IsOwnedCommitError commit) → IsLegal step.author × IsLegal step.committer
   actors_legal nothing =
       let legal = written_legal commit nothing in
       (copied_legal step.author commit.author author legal.0, copied_legal step.committer commit.committer committer legal.1)
 
-  pub actor_refused : (tree : ObjectId) (parent : Option ObjectId) (parts : List ℕ) → owned_commit_lines commit ≡ step_commit step tree parent → RefusesOwnedCommit commit illegal_actor parts → ¬ (IsLegal step.author) ⊎ ¬ (IsLegal step.committer)
-  actor_refused tree parent parts lines (inl (other, is, before)) = inl (λ legal. other (legal_copied step.author commit.author author legal))
-  actor_refused tree parent parts lines (inr (inl (legal, other, is, before))) = inr (λ it. other (legal_copied step.committer commit.committer committer it))
-  actor_refused tree parent parts lines (inr (inr (legal, other, refused))) = absurd (subst (λ (it : CommitLines). RefusesEncoding it.encoding illegal_actor) lines refused.0)
+  pub actor_rejected : (tree : ObjectId) (parent : Option ObjectId) (parts : List ℕ) → owned_commit_lines commit ≡ step_commit step tree parent
+      → IsOwnedCommitError commit illegal_actor parts → ¬ (IsLegal step.author) ⊎ ¬ (IsLegal step.committer)
+  actor_rejected tree parent parts lines (inl (other, is, before)) = inl (λ legal. other (legal_copied step.author commit.author author legal))
+  actor_rejected tree parent parts lines (inr (inl (legal, other, is, before))) = inr (λ it. other (legal_copied step.committer commit.committer committer it))
+  actor_rejected tree parent parts lines (inr (inr (legal, other, rejected))) =
+      absurd (subst (λ (it : CommitLines). IsEncodingError it.encoding illegal_actor) lines rejected.0)
 
-parents_hex : (k : hash.Kind) (parent : Option ObjectId) → HaveHex k (only_parent parent) → All (IsHexOf k) (map hex_text (only_parent parent))
-parents_hex k None all = All-nil (IsHexOf k)
-parents_hex k (Some id) all = let P : ObjectId → Type 0 = λ it. IsHexOf k (hex_text it) in All-cons (IsHexOf k) (hex_text id) [] (All-head P id [] all) (All-nil (IsHexOf k))
+parents_hex : (k : hash.Kind) (parent : Option ObjectId) → HaveHex k (only_parent parent) → All (IsIdHexOfKind k) (map encode_id_hex (only_parent parent))
+parents_hex k None all = All-nil (IsIdHexOfKind k)
+parents_hex k (Some id) all = let P : ObjectId → Type 0 = λ it. IsIdHexOfKind k (encode_id_hex it) in All-cons (IsIdHexOfKind k) (encode_id_hex id) []
+    (All-head P id [] all) (All-nil (IsIdHexOfKind k))
 
--- what is written of a step's commit is its text
-pub step_text_reads : (k : hash.Kind) (step : Step) (tree : ObjectId) (parent : Option ObjectId) → NamesSignature (owned_text step.author) step.author → NamesSignature (owned_text step.committer) step.committer
-    → HaveHex k (tree ∷ only_parent parent) → IsCommitText k (step_text step tree parent) (step_commit step tree parent)
-step_text_reads k step tree parent author committer hex =
-    let P : ObjectId → Type 0 = λ it. IsHexOf k (hex_text it) in
+-- the encoding of a step's commit decodes to the commit
+pub step_encoding_decodes : (k : hash.Kind) (step : Step) (tree : ObjectId) (parent : Option ObjectId)
+    → NamesSignature (encode_owned_actor step.author) step.author → NamesSignature (encode_owned_actor step.committer) step.committer
+    → HaveHex k (tree ∷ only_parent parent) → DecodesToCommit k (encode_step step tree parent) (step_commit step tree parent)
+step_encoding_decodes k step tree parent author committer hex =
+    let P : ObjectId → Type 0 = λ it. IsIdHexOfKind k (encode_id_hex it) in
     record {
-      headers_text = [];
+      headers_encoding = [];
       joined = refl;
       tree = All-head P tree (only_parent parent) hex;
       parents = parents_hex k parent (All-tail P tree (only_parent parent) hex);

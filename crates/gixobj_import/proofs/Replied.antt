@@ -1,4 +1,4 @@
--- Replies to edits from the contracts of the calls.
+-- Replies to edits, from the contracts of the calls.
 use Rattle.std.proofs.Common.{◌≡◌, List, Err, Ok, Result, subst}
 use Rattle.std.specs.Prelude.{IfErr, OnErr, OnOk}
 use Rattle.std.specs.declared.alloc.Global.{Global}
@@ -7,52 +7,55 @@ use Rattle.bstr.specs.declared.bstring.BString.{BString}
 use Rattle.gixobj_directories.specs.Openings.{OfTrees}
 use Rattle.gixobj_editor.specs.declared.command.Edit.TheVariants as edit
 use Rattle.gixobj_directories.specs.Calls.{names_of}
-use Rattle.gixobj_editor.specs.Removals.{IsLeafRemoved, IsRemoved, RefusesLeafRemoval, RefusesRemoval}
-use Rattle.gixobj_editor.specs.Upserts.{IsForAName, IsRefused, IsUpserted, RefusesUpsert}
+use Rattle.gixobj_editor.specs.Removals.{IsLeafRemoved, IsRemoved, IsLeafRemovalError, IsRemovalError}
+use Rattle.gixobj_editor.specs.Upserts.{IsForAName, IsEditFailure, IsUpserted, IsUpsertError}
 use Rattle.gixobj_editor.specs.declared.editor.error.Error.{Error}
 use Rattle.gixobj_files.specs.Edits.{IsNoTree}
 use Rattle.gixobj_files.specs.Files.{Trees}
 use Rattle.gixobj_files.specs.State.{State, open_dirs}
 use Rattle.gixobj_hash.specs.declared.hash.object_id.ObjectId.{ObjectId}
-use Rattle.gixobj_object.specs.Stores.{Meaning}
+use Rattle.gixobj_object.specs.Stores.{StoreModel}
 use Rattle.gixobj_mode.specs.Mode.{mode_of_kind}
 use Rattle.gixobj_mode.specs.declared.entry_kind.EntryKind.{EntryKind}
-use Rattle.gixobj_editor.specs.Replies.{IsRefusedEdit, reply_to}
+use Rattle.gixobj_editor.specs.Replies.{IsFailedEdit, reply_to}
 use Rattle.gixobj_import.specs.Edited.{IsReplied}
 
--- an edit at the names that were lent to the call
-module _ {S : Type 0} (means : Meaning S) (old new : State S) (path : Vec BString Global) (lent : List BString) (is : lent ≡ path.items) where
+-- an edit at the names of a borrowed path
+module _ {S : Type 0} (means : StoreModel S) (old new : State S) (path : Vec BString Global) (lent : List BString) (is : lent ≡ path.items) where
   abbrev Of : (Trees → Type 0) → Type 0
   Of = OfTrees (means.objects old.store)
 
-  refused : (Refuses : List BString → Trees → Type 0) → Of (λ trees. IsRefused trees old (names_of lent) new) → Of (Refuses lent) → IsRefusedEdit means (Refuses path.items) old (names_of path.items) new
-  refused Refuses left refusal = subst (λ (l : List BString). IsRefusedEdit means (Refuses l) old (names_of l) new) is (record { left = left; refusal = refusal })
+  failed_reply : (Rejects : List BString → Trees → Type 0) → Of (λ trees. IsEditFailure trees old (names_of lent) new) → Of (Rejects lent)
+      → IsFailedEdit means (Rejects path.items) old (names_of path.items) new
+  failed_reply Rejects pending failure = subst (λ (l : List BString). IsFailedEdit means (Rejects l) old (names_of l) new) is
+      (record { remaining = pending; cause = failure })
 
   abbrev Upserts : List BString → Error → Trees → Type 0
-  Upserts l error trees = RefusesUpsert (means.objects old.store) (means.may_fail old.store) trees (open_dirs old) (names_of l) error
+  Upserts l error trees = IsUpsertError (means.objects old.store) (means.may_fail old.store) trees (open_dirs old) (names_of l) error
 
   abbrev Removes : List BString → Error → Trees → Type 0
-  Removes l error trees = RefusesRemoval IsNoTree (means.objects old.store) (means.may_fail old.store) trees (open_dirs old) (names_of l) error
+  Removes l error trees = IsRemovalError IsNoTree (means.objects old.store) (means.may_fail old.store) trees (open_dirs old) (names_of l) error
 
   abbrev RemovesLeaf : List BString → Error → Trees → Type 0
-  RemovesLeaf l error trees = RefusesLeafRemoval (means.objects old.store) (means.may_fail old.store) trees (open_dirs old) (names_of l) error
+  RemovesLeaf l error trees = IsLeafRemovalError (means.objects old.store) (means.may_fail old.store) trees (open_dirs old) (names_of l) error
 
   pub upsert_replied : (kind : EntryKind) (id : ObjectId) (done : Result (Unit {0}) Error)
       → OnOk done (Of (λ trees. IsUpserted trees old (names_of lent) (mode_of_kind kind) id new))
-      → OnErr done (Of (λ trees. IsRefused trees old (names_of lent) new))
+      → OnErr done (Of (λ trees. IsEditFailure trees old (names_of lent) new))
       → IfErr done (λ error. Of (Upserts lent error)) → IfErr done (λ error. IsForAName error → new ≡ old)
       → IsReplied means old (edit.Upsert path kind id) (reply_to done) new
-  upsert_replied kind id (Ok it) upserted left refusal unasked = subst (λ (l : List BString). Of (λ trees. IsUpserted trees old (names_of l) (mode_of_kind kind) id new)) is upserted
-  upsert_replied kind id (Err error) upserted left refusal unasked = (refused (λ l trees. Upserts l error trees) left refusal, unasked)
+  upsert_replied kind id (Ok it) upserted pending failure not_looked_up =
+      subst (λ (l : List BString). Of (λ trees. IsUpserted trees old (names_of l) (mode_of_kind kind) id new)) is upserted
+  upsert_replied kind id (Err error) upserted pending failure not_looked_up = (failed_reply (λ l trees. Upserts l error trees) pending failure, not_looked_up)
 
   pub removal_replied : (done : Result (Unit {0}) Error) → OnOk done (Of (λ trees. IsRemoved IsNoTree trees old (names_of lent) new))
-      → OnErr done (Of (λ trees. IsRefused trees old (names_of lent) new)) → IfErr done (λ error. Of (Removes lent error))
+      → OnErr done (Of (λ trees. IsEditFailure trees old (names_of lent) new)) → IfErr done (λ error. Of (Removes lent error))
       → IsReplied means old (edit.Remove path) (reply_to done) new
-  removal_replied (Ok it) removed left refusal = subst (λ (l : List BString). Of (λ trees. IsRemoved IsNoTree trees old (names_of l) new)) is removed
-  removal_replied (Err error) removed left refusal = refused (λ l trees. Removes l error trees) left refusal
+  removal_replied (Ok it) removed pending failure = subst (λ (l : List BString). Of (λ trees. IsRemoved IsNoTree trees old (names_of l) new)) is removed
+  removal_replied (Err error) removed pending failure = failed_reply (λ l trees. Removes l error trees) pending failure
 
   pub leaf_removal_replied : (done : Result (Unit {0}) Error) → OnOk done (Of (λ trees. IsLeafRemoved trees old (names_of lent) new))
-      → OnErr done (Of (λ trees. IsRefused trees old (names_of lent) new)) → IfErr done (λ error. Of (RemovesLeaf lent error))
+      → OnErr done (Of (λ trees. IsEditFailure trees old (names_of lent) new)) → IfErr done (λ error. Of (RemovesLeaf lent error))
       → IsReplied means old (edit.RemoveLeaf path) (reply_to done) new
-  leaf_removal_replied (Ok it) removed left refusal = subst (λ (l : List BString). Of (λ trees. IsLeafRemoved trees old (names_of l) new)) is removed
-  leaf_removal_replied (Err error) removed left refusal = refused (λ l trees. RemovesLeaf l error trees) left refusal
+  leaf_removal_replied (Ok it) removed pending failure = subst (λ (l : List BString). Of (λ trees. IsLeafRemoved trees old (names_of l) new)) is removed
+  leaf_removal_replied (Err error) removed pending failure = failed_reply (λ l trees. RemovesLeaf l error trees) pending failure

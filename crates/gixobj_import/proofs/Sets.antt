@@ -1,4 +1,4 @@
--- The files of an editor that has none.
+-- An editor without entries has no files.
 use Rattle.std.proofs.Common.{◌≡◌, ◌∙◌, ℕ, zero, suc, List, [], ◌∷◌, None, Option, Some, subst, sym}
 use Rattle.std.specs.Cmp.Lexicographic.{lists_total, nat_list_cmp_total, slice_cmp}
 use Rattle.std.specs.FinMap as map
@@ -16,12 +16,13 @@ use Rattle.gixobj_files.specs.PlainHistory.{NoFiles}
 root_open : map.get (root_alone []) [] ≡ Some []
 root_open = map.get-insert (lists_total nat_list_cmp_total) map.empty [] [] []
 
-others_shut : (name : List ℕ) (path : Path) → map.get (root_alone []) (name ∷ path) ≡ None
-others_shut name path = map.get-insert (lists_total nat_list_cmp_total) map.empty [] [] (name ∷ path) ∙ map.get-empty (slice_cmp (slice_cmp nat_cmp)) (name ∷ path)
+others_unopened : (name : List ℕ) (path : Path) → map.get (root_alone []) (name ∷ path) ≡ None
+others_unopened name path = map.get-insert (lists_total nat_list_cmp_total) map.empty [] [] (name ∷ path) ∙ map.get-empty (slice_cmp (slice_cmp nat_cmp))
+    (name ∷ path)
 
 no_entry : (path : Path) (e : EntryView) → HasAt (map.get (root_alone []) path) e → ⊥
 no_entry [] e has = subst (λ (found : Option (List EntryView)). HasAt found e) root_open has
-no_entry (name ∷ path) e has = subst (λ (found : Option (List EntryView)). HasAt found e) (others_shut name path) has
+no_entry (name ∷ path) e has = subst (λ (found : Option (List EntryView)). HasAt found e) (others_unopened name path) has
 
 none_open : (T : Table) (n : ℕ) (path : Path) (mode : ℕ) (id : ObjectId) → OpenFiles T n (λ at. map.get (root_alone []) at) path mode id → ⊥
 none_open T zero path mode id has = has
@@ -29,11 +30,12 @@ none_open T (suc n) [] mode id has = has
 none_open T (suc n) (name ∷ path) mode id has = no_entry [] has.0 has.1
 
 module _ {S : Type 0} (state : State S) (is : state.dirs ≡ root_alone []) where
-  -- it has no files
+  -- the editor has no files
   pub nothing_open : (T : Table) (n : ℕ) → SameFiles (EditorFiles T n state) NoFiles
   nothing_open T n =
-      subst (λ (dirs : DirMap). SameFiles (OpenFiles T n (λ at. map.get dirs at)) NoFiles) (sym is) (λ path mode id. (none_open T n path mode id, λ none. absurd none))
+      subst (λ (dirs : DirMap). SameFiles (OpenFiles T n (λ at. map.get dirs at)) NoFiles) (sym is)
+      (λ path mode id. (none_open T n path mode id, λ none. absurd none))
 
-  -- and nothing was opened
+  -- only the root is open, so every table has the bases
   pub nothing_based : (T : Table) → HasBases T (open_dirs state) (open_bases state)
   nothing_based T path e base has based filled = absurd (no_entry path e (subst (λ (dirs : DirMap). HasAt (map.get dirs path) e) is has))

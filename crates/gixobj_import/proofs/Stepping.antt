@@ -1,4 +1,5 @@
--- Steps that are imported one after the other, and what they come to.
+-- Steps that are imported one after the other, and their results: for the functions of `import`, `commits` and
+-- `written`.
 use Rattle.std.proofs.Common.{◌≡◌, ◌∙◌, ◌<◌, ◌≤◌, ◌+◌, ⊎_elim, ℕ, zero, suc, List, [], ◌∷◌, ◌++◌, Option, Some, ap, arith, get_or, inl, length, refl, subst, sym, take, Err, Ok, Result}
 use Rattle.std.proofs.lemmas.Bool.{true≢false}
 use Rattle.std.proofs.lemmas.List.{take_all, take_more}
@@ -10,14 +11,14 @@ use Rattle.gixobj_files.specs.State.{State}
 use Rattle.gixobj_hash.specs.declared.hash.kind.Kind as hash
 use Rattle.gixobj_hash.specs.declared.hash.object_id.ObjectId.{ObjectId}
 use Rattle.gixobj_editor.specs.declared.reply.EditReply.TheVariants as reply
-use Rattle.gixobj_import.specs.Edited.{AreDone, IsWriteBehind, IsWriteReplied}
-use Rattle.gixobj_import.specs.Steps.{AreImported, IsImported, IsStepFailed, RefusesEdits, RefusesStep, RefusesStepCommit, RefusesStepText, RefusesWrite, Stops}
+use Rattle.gixobj_import.specs.Edited.{AreDone, IsWriteAfter, IsWriteReplied}
+use Rattle.gixobj_import.specs.Steps.{AreImported, IsImported, IsStepFailed, IsStepEditsError, IsStepError, IsStepCommitError, IsStepEncodeError, IsStepWriteError, Stops}
 use Rattle.gixobj_import.specs.declared.import.ImportError.{ImportError}
 use Rattle.gixobj_import.specs.declared.import.ImportError.TheVariants as import
 use Rattle.gixobj_import.specs.declared.import.Imported.{Imported}
 use Rattle.gixobj_import.specs.declared.import.Importer.{Importer}
 use Rattle.gixobj_import.specs.declared.import.Step.{Step}
-use Rattle.gixobj_object.specs.Stores.{Meaning}
+use Rattle.gixobj_object.specs.Stores.{StoreModel}
 
 found : (steps : List Step) (index : ℕ) (it : Step) → index < length steps → it ≡ get_or steps index it → slice_get steps index ≡ Some it
 found [] zero it within is = absurd (omega arith)
@@ -25,83 +26,101 @@ found [] (suc index) it within is = absurd (omega arith)
 found (step ∷ steps) zero it within is = ap Some (sym is)
 found (step ∷ steps) (suc index) it within is = found steps index it (omega arith) is
 
--- one of the edits is a write, by the test of the list that was lent
+-- one of the edits is a write, by the test of the borrowed list
 pub has_a_write : (items lent : List Edit) (b : Bool) → lent ≡ items → b ≡ true → IsTrue b ↔ Contains lent edit.Write → Contains items edit.Write
 has_a_write items lent b same is iff = subst (λ (es : List Edit). Contains es edit.Write) same (iff.0 is)
 
--- none of the edits is a write, by the test of the list that was lent
+-- none of the edits is a write, by the test of the borrowed list
 pub free_of : (items lent : List Edit) (b : Bool) → lent ≡ items → b ≡ false → IsTrue b ↔ Contains lent edit.Write → ¬ Contains items edit.Write
 free_of items lent b same is iff has =
     let holds : b ≡ true = iff.1 (subst (λ (es : List Edit). Contains es edit.Write) (sym same) has) in
     true≢false (sym holds ∙ is)
 
-module _ {S : Type 0} (means : Meaning S) where
-  imported_then : (old between new : Importer S) (steps : List Step) (imported : List Imported) (step : Step) (it : Imported) → AreImported means old steps imported between → IsImported means between step it new
+module _ {S : Type 0} (means : StoreModel S) where
+  imported_then : (old between new : Importer S) (steps : List Step) (imported : List Imported) (step : Step) (it : Imported)
+      → AreImported means old steps imported between → IsImported means between step it new
       → AreImported means old (steps ++ step ∷ []) (imported ++ it ∷ []) new
   imported_then old between new [] [] step it done last = (new, subst (λ (i : Importer S). IsImported means i step it new) done last, refl)
-  imported_then old between new (first ∷ steps) (one ∷ imported) step it (next, is, done) last = (next, is, imported_then next between new steps imported step it done last)
+  imported_then old between new (first ∷ steps) (one ∷ imported) step it (next, is, done) last =
+      (next, is, imported_then next between new steps imported step it done last)
   imported_then old between new [] (one ∷ imported) step it done last = absurd done
   imported_then old between new (first ∷ steps) [] step it done last = absurd done
 
   -- one more step is imported
-  pub one_more_imported : (old between new : Importer S) (steps : List Step) (imported : List Imported) (index : ℕ) (step : Step) (it : Imported) → index < length steps → step ≡ get_or steps index step
-      → AreImported means old (take index steps) imported between → IsImported means between step it new → AreImported means old (take (index + 1) steps) (imported ++ it ∷ []) new
+  pub one_more_imported : (old between new : Importer S) (steps : List Step) (imported : List Imported) (index : ℕ) (step : Step) (it : Imported)
+      → index < length steps → step ≡ get_or steps index step
+      → AreImported means old (take index steps) imported between → IsImported means between step it new
+      → AreImported means old (take (index + 1) steps)
+      (imported ++ it ∷ []) new
   one_more_imported old between new steps imported index step it within is done last =
-      let more : take (index + 1) steps ≡ take index steps ++ step ∷ [] = take_more steps index step within ∙ ap (λ (x : Step). take index steps ++ x ∷ []) (sym is) in
-      subst (λ (ss : List Step). AreImported means old ss (imported ++ it ∷ []) new) (sym more) (imported_then old between new (take index steps) imported step it done last)
+      let more : take (index + 1) steps ≡ take index steps ++ step ∷ [] = take_more steps index step within
+      ∙ ap (λ (x : Step). take index steps ++ x ∷ [])
+      (sym is) in
+      subst (λ (ss : List Step). AreImported means old ss (imported ++ it ∷ []) new) (sym more)
+      (imported_then old between new (take index steps) imported step it done last)
 
   -- after the last step all are imported
-  pub all_imported : (old new : Importer S) (steps : List Step) (imported : List Imported) (index : ℕ) → length steps ≤ index → AreImported means old (take index steps) imported new → AreImported means old steps imported new
-  all_imported old new steps imported index over done = subst (λ (ss : List Step). AreImported means old ss imported new) (take_all index steps over) done
+  pub all_imported : (old new : Importer S) (steps : List Step) (imported : List Imported) (index : ℕ) → length steps ≤ index
+      → AreImported means old (take index steps) imported new → AreImported means old steps imported new
+  all_imported old new steps imported index over done = subst (λ (ss : List Step). AreImported means old ss imported new)
+      (take_all index steps over) done
 
-  -- or the next one is refused
-  pub stopped_at : (old between new : Importer S) (steps : List Step) (imported : List Imported) (index : ℕ) (step : Step) (error : ImportError) → index < length steps → step ≡ get_or steps index step
-      → AreImported means old (take index steps) imported between → length imported ≡ index → RefusesStep means between step error new → Stops means old steps imported error new
-  stopped_at old between new steps imported index step error within is done as_many refusal = inl (record {
-    refused = step;
+  -- the next step fails, and the import stops
+  pub stopped_at : (old between new : Importer S) (steps : List Step) (imported : List Imported) (index : ℕ) (step : Step) (error : ImportError)
+      → index < length steps → step ≡ get_or steps index step
+      → AreImported means old (take index steps) imported between → length imported ≡ index → IsStepError means between step error new
+      → Stops means old steps imported error new
+  stopped_at old between new steps imported index step error within is done as_many failure = inl (record {
+    error_state = step;
     at = ap (slice_get steps) as_many ∙ found steps index step within is;
     reached = between;
     imported = subst (λ (k : ℕ). AreImported means old (take k steps) imported between) (sym as_many) done;
-    refusal = refusal;
+    cause = failure;
   })
 
-  -- a step that fails is refused
-  pub refuses_step : (old new : Importer S) (step : Step) (error : ImportError) → IsStepFailed means old step error new → RefusesStep means old step error new
-  refuses_step old new step import.Failed is = ⊎_elim (λ refused. absurd refused.2) (λ uncommitted. absurd uncommitted.refusal.0) is.refusal
-  refuses_step old new step import.WriteInStep is = ⊎_elim (λ refused. absurd refused.2) (λ uncommitted. absurd uncommitted.refusal.0) is.refusal
-  refuses_step old new step (import.Edit index error) is = is
-  refuses_step old new step (import.Write error) is = is
-  refuses_step old new step (import.NotKept error) is = is
-  refuses_step old new step (import.Commit error) is = is
-  refuses_step old new step import.OutOfMemory is = is
+  -- the error of a failed step is an error of the step
+  pub rejects_step : (old new : Importer S) (step : Step) (error : ImportError) → IsStepFailed means old step error new
+      → IsStepError means old step error new
+  rejects_step old new step import.Failed is = ⊎_elim (λ rejected. absurd rejected.2) (λ uncommitted. absurd uncommitted.cause.0) is.cause
+  rejects_step old new step import.WriteInStep is = ⊎_elim (λ rejected. absurd rejected.2) (λ uncommitted. absurd uncommitted.cause.0) is.cause
+  rejects_step old new step (import.Edit index error) is = is
+  rejects_step old new step (import.Write error) is = is
+  rejects_step old new step (import.NotKept error) is = is
+  rejects_step old new step (import.Commit error) is = is
+  rejects_step old new step import.OutOfMemory is = is
 
-  -- a write that is refused behind edits that came through
-  pub edits_refused : (hash : hash.Kind) (edits : List Edit) (old edited new : State S) (error : ImportError) → AreDone means old edits edited → RefusesWrite means hash edited error new → RefusesEdits means hash edits old error new
-  edits_refused hash edits old edited new (import.Edit index error) done refused = absurd refused
-  edits_refused hash edits old edited new (import.Write error) done refused = (edited, done, refused)
-  edits_refused hash edits old edited new (import.NotKept error) done refused = (edited, done, refused)
-  edits_refused hash edits old edited new import.WriteInStep done refused = absurd refused
-  edits_refused hash edits old edited new (import.Commit error) done refused = absurd refused
-  edits_refused hash edits old edited new import.OutOfMemory done refused = absurd refused
-  edits_refused hash edits old edited new import.Failed done refused = absurd refused
+  -- a write fails after edits that were done
+  pub edits_failed : (hash : hash.Kind) (edits : List Edit) (old edited new : State S) (error : ImportError) → AreDone means old edits edited
+      → IsStepWriteError means hash edited error new → IsStepEditsError means hash edits old error new
+  edits_failed hash edits old edited new (import.Edit index error) done rejected = absurd rejected
+  edits_failed hash edits old edited new (import.Write error) done rejected = (edited, done, rejected)
+  edits_failed hash edits old edited new (import.NotKept error) done rejected = (edited, done, rejected)
+  edits_failed hash edits old edited new import.WriteInStep done rejected = absurd rejected
+  edits_failed hash edits old edited new (import.Commit error) done rejected = absurd rejected
+  edits_failed hash edits old edited new import.OutOfMemory done rejected = absurd rejected
+  edits_failed hash edits old edited new import.Failed done rejected = absurd rejected
 
-  -- a write behind edits that came through, as what the call returned says
-  pub write_behind : (hash : hash.Kind) (edits : List Edit) (old edited new : State S) (done : Result Written ImportError) → AreDone means old edits edited
-      → IfOk done (λ it. IsWriteReplied means hash edited (reply.Written it) new) → IfOk done (λ it. IsWriteBehind means hash old edits (reply.Written it) new)
-  write_behind hash edits old edited new (Ok it) done write = record { edited = edited; done = done; write = write }
-  write_behind hash edits old edited new (Err error) done write = tt
+  -- a write after edits that were done, by what the call returned
+  pub write_after : (hash : hash.Kind) (edits : List Edit) (old edited new : State S) (done : Result Written ImportError)
+      → AreDone means old edits edited
+      → IfOk done (λ it. IsWriteReplied means hash edited (reply.Written it) new)
+      → IfOk done (λ it. IsWriteAfter means hash old edits (reply.Written it) new)
+  write_after hash edits old edited new (Ok it) done write = record { edited = edited; done = done; write = write }
+  write_after hash edits old edited new (Err error) done write = tt
 
-  pub write_refused_behind : (hash : hash.Kind) (edits : List Edit) (old edited new : State S) (done : Result Written ImportError) → AreDone means old edits edited
-      → IfErr done (λ error. RefusesWrite means hash edited error new) → IfErr done (λ error. RefusesEdits means hash edits old error new)
-  write_refused_behind hash edits old edited new (Ok it) done refusal = tt
-  write_refused_behind hash edits old edited new (Err error) done refusal = edits_refused hash edits old edited new error done refusal
+  pub write_failed_after : (hash : hash.Kind) (edits : List Edit) (old edited new : State S) (done : Result Written ImportError)
+      → AreDone means old edits edited
+      → IfErr done (λ error. IsStepWriteError means hash edited error new) → IfErr done (λ error. IsStepEditsError means hash edits old error new)
+  write_failed_after hash edits old edited new (Ok it) done failure = tt
+  write_failed_after hash edits old edited new (Err error) done failure = edits_failed hash edits old edited new error done failure
 
-  -- a commit that isn't written
-  pub text_refused : (hash : hash.Kind) (step : Step) (tree : ObjectId) (parent : Option ObjectId) (old new : State S) (error : ImportError) → RefusesStepText step error → new ≡ old → RefusesStepCommit means hash step tree parent old error new
-  text_refused hash step tree parent old new (import.Edit index error) refused same = absurd refused
-  text_refused hash step tree parent old new (import.Write error) refused same = absurd refused
-  text_refused hash step tree parent old new (import.NotKept error) refused same = absurd refused
-  text_refused hash step tree parent old new import.WriteInStep refused same = absurd refused
-  text_refused hash step tree parent old new (import.Commit error) refused same = (refused, same)
-  text_refused hash step tree parent old new import.OutOfMemory refused same = (refused, same)
-  text_refused hash step tree parent old new import.Failed refused same = absurd refused
+  -- a commit that isn't encoded
+  pub encoding_failed : (hash : hash.Kind) (step : Step) (tree : ObjectId) (parent : Option ObjectId) (old new : State S) (error : ImportError)
+      → IsStepEncodeError step error → new ≡ old → IsStepCommitError means hash step tree parent old error new
+  encoding_failed hash step tree parent old new (import.Edit index error) rejected same = absurd rejected
+  encoding_failed hash step tree parent old new (import.Write error) rejected same = absurd rejected
+  encoding_failed hash step tree parent old new (import.NotKept error) rejected same = absurd rejected
+  encoding_failed hash step tree parent old new import.WriteInStep rejected same = absurd rejected
+  encoding_failed hash step tree parent old new (import.Commit error) rejected same = (rejected, same)
+  encoding_failed hash step tree parent old new import.OutOfMemory rejected same = (rejected, same)
+  encoding_failed hash step tree parent old new import.Failed rejected same = absurd rejected

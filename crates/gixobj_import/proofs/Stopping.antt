@@ -1,4 +1,4 @@
--- An import of a new importer that came to a stop.
+-- An import of a new importer that stopped.
 use Rattle.std.proofs.Common.{inl, inr, List, [], ◌∷◌, None, ap, length, take}
 use Rattle.gixobj_import.specs.ByDigest.{AddsByDigest}
 use Rattle.gixobj_import.specs.Imports.{AreCommitsOf, HaveFilesOfNothing, IsNewImporter}
@@ -7,28 +7,33 @@ use Rattle.gixobj_import.specs.declared.import.ImportError.{ImportError}
 use Rattle.gixobj_import.specs.declared.import.Imported.{Imported}
 use Rattle.gixobj_import.specs.declared.import.Importer.{Importer}
 use Rattle.gixobj_import.specs.declared.import.Step.{Step}
-use Rattle.gixobj_import.proofs.Adding.{objects_of, refused_adds, steps_add}
+use Rattle.gixobj_import.proofs.Adding.{objects_of, rejected_adds, steps_add}
 use Rattle.gixobj_import.proofs.Committing.{commits_of_new}
 use Rattle.gixobj_import.proofs.Digests.{adds_none, adds_then}
 use Rattle.gixobj_import.proofs.Filing.{files_of_new}
 use Rattle.gixobj_import.proofs.Known.{OfStores}
-use Rattle.gixobj_object.specs.Stores.{Meaning}
+use Rattle.gixobj_object.specs.Stores.{StoreModel}
 
-module _ {S : Type 0} (means : Meaning S) (laws : OfStores) where
-  pub stopped_adds : (old new : Importer S) (steps : List Step) (imported : List Imported) (error : ImportError) → Stops means old steps imported error new → AddsByDigest (objects_of means laws old) (objects_of means laws new)
+module _ {S : Type 0} (means : StoreModel S) (laws : OfStores) where
+  pub stopped_adds : (old new : Importer S) (steps : List Step) (imported : List Imported) (error : ImportError) → Stops means old steps imported error new
+      → AddsByDigest (objects_of means laws old) (objects_of means laws new)
   stopped_adds old new steps imported error (inl at) =
-      adds_then (objects_of means laws old) (objects_of means laws at.reached) (objects_of means laws new) (steps_add means laws old at.reached (take (length imported) steps) imported at.imported)
-      (refused_adds means laws at.reached new at.refused error at.refusal)
+      adds_then (objects_of means laws old) (objects_of means laws at.reached) (objects_of means laws new)
+      (steps_add means laws old at.reached (take (length imported) steps) imported at.imported)
+      (rejected_adds means laws at.reached new at.error_state error at.cause)
   stopped_adds old new steps imported error (inr nothing) = adds_none _ _ (ap (objects_of means laws) nothing.unchanged)
 
-  pub commits_of_stopped : (old new : Importer S) (steps : List Step) (imported : List Imported) (error : ImportError) → Stops means old steps imported error new → IsNewImporter old
+  pub commits_of_stopped : (old new : Importer S) (steps : List Step) (imported : List Imported) (error : ImportError)
+      → Stops means old steps imported error new → IsNewImporter old
       → AreCommitsOf old.hash None (take (length imported) steps) imported (objects_of means laws new)
   commits_of_stopped old new steps imported error (inl at) is =
-      commits_of_new means laws old at.reached (take (length imported) steps) imported at.imported is (objects_of means laws new) (refused_adds means laws at.reached new at.refused error at.refusal)
+      commits_of_new means laws old at.reached (take (length imported) steps) imported at.imported is (objects_of means laws new)
+      (rejected_adds means laws at.reached new at.error_state error at.cause)
   commits_of_stopped old new steps [] error (inr nothing) is = tt
   commits_of_stopped old new steps (it ∷ imported) error (inr nothing) is = cc nothing.nothing
 
-  pub files_of_stopped : (old new : Importer S) (steps : List Step) (imported : List Imported) (error : ImportError) → Stops means old steps imported error new → IsNewImporter old
+  pub files_of_stopped : (old new : Importer S) (steps : List Step) (imported : List Imported) (error : ImportError) → Stops means old steps imported error new
+      → IsNewImporter old
       → HaveFilesOfNothing (objects_of means laws old) (take (length imported) steps) imported
   files_of_stopped old new steps imported error (inl at) is = files_of_new means laws old at.reached (take (length imported) steps) imported at.imported is
   files_of_stopped old new steps [] error (inr nothing) is = λ T n agrees k it at. cc at

@@ -1,8 +1,8 @@
--- Edits of a step, which come through one after the other, and the write behind them.
+-- The edits of a step, which are done one after the other, and the write after them.
 use Rattle.std.specs.Prelude.{◌≡◌, ℕ, List, [], ◌∷◌, Some, slice_get, take}
 use Rattle.gixobj_editor.specs.declared.command.Edit.{Edit}
 use Rattle.gixobj_editor.specs.declared.command.Edit.TheVariants as edit
-use Rattle.gixobj_object.specs.Stores.{Meaning}
+use Rattle.gixobj_object.specs.Stores.{StoreModel}
 use Rattle.gixobj_directories.specs.Calls.{names_of}
 use Rattle.gixobj_editor.specs.declared.editor.error.Error.{Error}
 use Rattle.gixobj_fields.specs.declared.encode.Error as encode
@@ -14,44 +14,45 @@ use Rattle.gixobj_editor.specs.Replies.{Answers, IsEditReply}
 use Rattle.gixobj_editor.specs.declared.reply.EditReply.{EditReply}
 use Rattle.gixobj_editor.specs.declared.reply.EditReply.TheVariants as reply
 use Rattle.gixobj_mode.specs.Mode.{mode_of_kind}
-use Rattle.gixobj_tree.specs.TreeText.{IsAnsweredDigest}
+use Rattle.gixobj_tree.specs.TreeEncoding.{IsAnsweredDigest}
 
--- what an edit does to the files; a write does nothing
+-- the steps of a history that an edit is; a write is none
 abbrev pub steps_if_done : Edit → List Step
 steps_if_done (edit.Upsert path kind id) = upsert (names_of path.items) (mode_of_kind kind) id ∷ []
 steps_if_done (edit.Remove path) = remove (names_of path.items) ∷ []
 steps_if_done (edit.RemoveLeaf path) = remove (names_of path.items) ∷ []
 steps_if_done edit.Write = []
 
--- no tree is handed out
+-- no call emits a tree
 abbrev pub NoAnswers : Answers encode.Error
 NoAnswers tree answer = ⊥
 
-module _ {S : Type 0} (means : Meaning S) where
-  -- the edit may get this reply, as in a run
+module _ {S : Type 0} (means : StoreModel S) where
+  -- the edit may get this reply, by the rules of a run
   abbrev pub IsReplied : State S → Edit → EditReply encode.Error → State S → Type 0
   IsReplied = IsEditReply means NoAnswers at_root
 
-  -- a write by digests, whose trees the store then keeps, may get this reply, as in a run
+  -- a write by digests, whose trees the store then keeps, may get this reply, by the rules of a run
   abbrev pub IsWriteReplied : hash.Kind → State S → EditReply encode.Error → State S → Type 0
   IsWriteReplied hash old its_reply new = IsEditReply means (IsAnsweredDigest hash) at_root old edit.Write its_reply new
 
-  -- the edits come through, one after the other
+  -- the edits are done, one after the other
   abbrev pub AreDone : State S → List Edit → State S → Type 0
   AreDone old [] new = new ≡ old
   AreDone old (it ∷ edits) new =
       (between : State S) × IsReplied old it reply.Done between × AreDone between edits new
 
-  -- the edit of this number is refused, and those before it come through
-  pub record IsRefusedAt (old : State S) (edits : List Edit) (index : ℕ) (error : Error) (new : State S) : Type 0 where
-    pub refused : Edit
-    pub at : slice_get edits index ≡ Some refused
+  -- the edit of this number fails with this error, after those before it were done
+  pub record IsFailedAt (old : State S) (edits : List Edit) (index : ℕ) (error : Error) (new : State S) : Type 0 where
+    pub error_state : Edit
+    pub at : slice_get edits index ≡ Some error_state
     pub reached : State S
     pub done : AreDone old (take index edits) reached
-    pub refusal : IsReplied reached refused (reply.Refused error) new
+    pub cause : IsReplied reached error_state (reply.Refused error) new
 
-  -- the edits come through, and the write behind them gets this reply
-  pub record IsWriteBehind (hash : hash.Kind) (old : State S) (edits : List Edit) (its_reply : EditReply encode.Error) (new : State S) : Type 0 where
+  -- the edits are done, and the write after them gets this reply
+  pub record IsWriteAfter (hash : hash.Kind) (old : State S) (edits : List Edit) (its_reply : EditReply encode.Error)
+      (new : State S) : Type 0 where
     pub edited : State S
     pub done : AreDone old edits edited
     pub write : IsWriteReplied hash edited its_reply new

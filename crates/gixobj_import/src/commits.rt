@@ -1,27 +1,27 @@
 //! The commit of a step.
 ghost use Rattle.std.specs.Prelude.{◌≡◌, IfErr, IfOk, OnOk};
-ghost use Rattle.gixobj_actor.specs.ActorWriting.{IsLegal, owned_text};
+ghost use Rattle.gixobj_actor.specs.ActorWriting.{IsLegal, encode_owned_actor};
 ghost use Rattle.gixobj_commit.specs.CommitViews.{owned_commit_lines};
-ghost use Rattle.gixobj_import.specs.Commits.{NamesSignature, SameActor, only_parent, step_commit, step_text};
-ghost use Rattle.gixobj_import.specs.Steps.{IsCommitKept, RefusesStepCommit, RefusesStepText};
-ghost use Rattle.gixobj_object.specs.Stores.{meaning};
+ghost use Rattle.gixobj_import.specs.Commits.{NamesSignature, SameActor, only_parent, step_commit, encode_step};
+ghost use Rattle.gixobj_import.specs.Steps.{IsCommitKept, IsStepCommitError, IsStepEncodeError};
+ghost use Rattle.gixobj_object.specs.Stores.{store_model};
 
 use crate::import::{ImportError, Step};
 use crate::written::is_an_id;
 use bstr::BString;
 use gixobj_actor::actor::Signature;
-use gixobj_actor::laws::actor_reads_back;
+use gixobj_actor::laws::actor_round_trips;
 use gixobj_commit::Commit;
 use gixobj_editor::editor::Editor;
 use gixobj_fields::{WriteTo, encode};
 use gixobj_find::KeepCommit;
 use gixobj_hash::hash::{self, ObjectId};
-use gixobj_hash::laws::hex_reads_back;
+use gixobj_hash::laws::hex_round_trips;
 use gixobj_hash::{Kind, OutOfMemory, compute_hash};
 use smallvec::SmallVec;
 use std::alloc::Global;
 
-/// Makes the commit of a step, and has the store keep it under the digest of its text.
+/// Makes the commit of a step, and has the store keep it under the digest of its encoding.
 pub(crate) fn keep_commit_of<S: KeepCommit>(
     alloc: Global,
     editor: &mut Editor<S>,
@@ -30,49 +30,49 @@ pub(crate) fn keep_commit_of<S: KeepCommit>(
     tree: ObjectId,
     parent: Option<ObjectId>,
 ) -> Result<ObjectId, ImportError>
-    ensures kept { IfOk result (λ commit.
-        IsCommitKept (meaning S.objects S.may_fail) hash step.now tree parent editor.old commit
+    ensures stored { IfOk result (λ commit.
+        IsCommitKept (store_model S.objects S.may_fail) hash step.now tree parent editor.old commit
         editor.new) }
-    ensures refusal { IfErr result (λ error.
-        RefusesStepCommit (meaning S.objects S.may_fail) hash step.now tree parent editor.old error
+    ensures error { IfErr result (λ error.
+        IsStepCommitError (store_model S.objects S.may_fail) hash step.now tree parent editor.old error
         editor.new) }
 {
-    hex_reads_back();
-    let text = match text_of(alloc, step, tree, parent) {
-        Ok(text) => text,
+    hex_round_trips();
+    let content = match bytes_of(alloc, step, tree, parent) {
+        Ok(content) => content,
         Err(error) => return Err(error),
     };
-    let commit = compute_hash(hash, Kind::Commit, &text);
+    let commit = compute_hash(hash, Kind::Commit, &content);
     is_an_id(&commit);
     names_actor(&step.author);
     names_actor(&step.committer);
-    match editor.store_mut().keep_commit(commit, &text) {
+    match editor.store_mut().keep_commit(commit, &content) {
         Ok(()) => Ok(commit),
         Err(error) => Err(ImportError::NotKept(error)),
     }
 }
 
-/// The written bytes of the commit of a step.
-fn text_of(
+/// Encodes the commit of a step.
+fn bytes_of(
     alloc: Global,
     step: &Step,
     tree: ObjectId,
     parent: Option<ObjectId>,
 ) -> Result<Vec<u8>, ImportError>
-    ensures text { IfOk result (λ text. text.items ≡ step_text step.now tree parent) }
+    ensures encoded { IfOk result (λ content. content.items ≡ encode_step step.now tree parent) }
     ensures legal { OnOk result (IsLegal step.now.author × IsLegal step.now.committer) }
-    ensures refusal { IfErr result (RefusesStepText step.now) }
+    ensures error { IfErr result (IsStepEncodeError step.now) }
 {
     let commit = commit_of(alloc, step, tree, parent)?;
-    let mut text = Vec::new(alloc);
-    match commit.write_to_vec(alloc, &mut text) {
-        Ok(()) => Ok(text),
+    let mut content = Vec::new(alloc);
+    match commit.write_to_vec(alloc, &mut content) {
+        Ok(()) => Ok(content),
         Err(encode::Error::IllegalActor) => Err(ImportError::Commit(encode::Error::IllegalActor)),
         Err(_) => Err(ImportError::OutOfMemory),
     }
 }
 
-/// The commit of a step.
+/// Makes the commit of a step.
 fn commit_of(
     alloc: Global,
     step: &Step,
@@ -94,7 +94,7 @@ fn commit_of(
     })
 }
 
-/// A list of at most one id.
+/// Returns a list of at most one id.
 fn parents_of(alloc: Global, parent: Option<ObjectId>) -> Result<SmallVec<ObjectId, 1>, OutOfMemory>
     ensures { IfOk result (λ it. it.items ≡ only_parent parent) }
 {
@@ -105,7 +105,7 @@ fn parents_of(alloc: Global, parent: Option<ObjectId>) -> Result<SmallVec<Object
     Ok(parents)
 }
 
-/// A copy of an actor.
+/// Copies an actor.
 fn copy_of_actor(alloc: Global, actor: &Signature) -> Result<Signature, OutOfMemory>
     ensures { IfOk result (SameActor actor.now) }
 {
@@ -116,11 +116,11 @@ fn copy_of_actor(alloc: Global, actor: &Signature) -> Result<Signature, OutOfMem
     })
 }
 
-/// What is written of an actor names it.
+/// Shows that the encoding of an actor names the actor.
 fn names_actor(actor: &Signature)
     requires { IsLegal actor.now }
-    ensures { NamesSignature (owned_text actor.now) actor.now }
+    ensures { NamesSignature (encode_owned_actor actor.now) actor.now }
 {
-    actor_reads_back();
+    actor_round_trips();
     let _seconds = actor.time.seconds;
 }

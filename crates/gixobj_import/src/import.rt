@@ -1,4 +1,4 @@
-//! The importer: a tree is edited step by step, and each step becomes a commit.
+//! The importer: it edits a tree step by step, and makes each step a commit.
 ghost use Rattle.std.specs.Prelude.{◌≡◌, [], ℕ, IfErr, IfOk, None};
 ghost use Rattle.std.specs.Borrow.{Lends, sem};
 ghost use Rattle.gixobj_files.specs.Bases.{HasBases};
@@ -6,16 +6,16 @@ ghost use Rattle.gixobj_files.specs.Files.{Table};
 ghost use Rattle.gixobj_files.specs.State.{open_bases, open_dirs};
 ghost use Rattle.gixobj_import.specs.ByDigest.{AddsByDigest};
 ghost use Rattle.gixobj_import.specs.Imports.{AgreesWithStep, AreCommitsOf, HasFilesOf, HaveFilesOfNothing, IsNewImporter, before};
-ghost use Rattle.gixobj_import.specs.Steps.{AreImported, IsImported, RefusesStep, Stops, over_store};
+ghost use Rattle.gixobj_import.specs.Steps.{AreImported, IsImported, IsStepError, Stops, over_store};
 ghost use Rattle.gixobj_import.specs.contracts.import.Importer.{the_row};
-ghost use Rattle.gixobj_object.specs.Stores.{meaning};
+ghost use Rattle.gixobj_object.specs.Stores.{store_model};
 
 use crate::commits::keep_commit_of;
 use crate::edits::hold_a_write;
 use crate::written::write_edits;
 use bstr::BString;
 use gixobj_actor::actor::Signature;
-use gixobj_directories::laws::every_store_names_trees;
+use gixobj_directories::laws::store_has_tree_map;
 use gixobj_editor::Edit;
 use gixobj_editor::editor::{Editor, Error, WriteError, Written};
 use gixobj_editor::edits::push_reserved;
@@ -24,59 +24,59 @@ pub use gixobj_find::KeepCommit;
 use gixobj_find::{Keep, KeepError};
 use gixobj_hash::OutOfMemory;
 use gixobj_hash::hash::{self, ObjectId};
-use gixobj_object::laws::{an_object_is_put_in, ids_are_the_same_or_not};
+use gixobj_object::laws::{id_equality_is_decidable, object_map_insert};
 use gixobj_tree::Tree;
 use std::alloc::Global;
 
-/// A step of an import: edits of the files so far, and who made them a commit.
+/// A step of an import: edits of the files so far, and the actors and the message of their commit.
 #[derive(Debug, Drop)]
 pub struct Step {
     /// The edits, in order. None of them may be a write.
     pub edits: Vec<Edit>,
-    /// Who made the change.
+    /// The author, who made the change.
     pub author: Signature,
-    /// Who made the commit.
+    /// The committer, who made the commit.
     pub committer: Signature,
-    /// The message.
+    /// The commit message.
     pub message: BString,
 }
 
-/// A step that was imported.
+/// A step that was imported. [`Importer::step`] returns it.
 #[derive(Debug, Drop)]
 pub struct Imported {
-    /// The id of its commit.
+    /// The id of the step's commit.
     pub commit: ObjectId,
-    /// What was written for its commit: the id of the root, and the trees that were handed out.
+    /// What was written for the commit: the id of the root, and the emitted trees.
     pub written: Written,
 }
 
-/// Why a step is not imported.
+/// The error of a step: why it isn't imported.
 #[derive(Debug, Drop, thiserror::Error)]
 pub enum ImportError {
     /// One of the edits is a write. Nothing was done.
     #[error("a write among the edits")]
     WriteInStep,
-    /// The edit of this number, from 0, was refused.
+    /// An edit failed.
     #[error("edit {index} was refused: {error}")]
     Edit {
-        /// The number of the edit.
+        /// The number of the edit, from 0.
         index: usize,
-        /// Why it was refused.
+        /// The error of the edit.
         error: Error,
     },
     /// The trees weren't written: one has a name with a zero byte, or memory ran out.
     #[error("not written: {0}")]
     Write(WriteError<encode::Error>),
-    /// The store didn't keep a tree, or the commit.
+    /// The store didn't keep a tree or the commit, with this error.
     #[error("not kept: {0}")]
     NotKept(KeepError),
-    /// The commit can't be written.
+    /// The commit can't be written, since no commit may have its author or committer.
     #[error("the commit can't be written: {0}")]
     Commit(encode::Error),
-    /// There was no memory.
+    /// Memory ran out.
     #[error("out of memory")]
     OutOfMemory,
-    /// An earlier step was refused, but for a write in it. Nothing was done.
+    /// An earlier step failed with another error than [`ImportError::WriteInStep`]. Nothing was done.
     #[error("an earlier step was refused")]
     Failed,
 }
@@ -92,16 +92,16 @@ impl From<OutOfMemory> for ImportError {
     }
 }
 
-/// An import that came to a stop.
+/// An import that stopped. [`import_all`] returns it as its error.
 #[derive(Debug, Drop)]
 pub struct Stopped {
     /// The steps that were imported before.
     pub done: Vec<Imported>,
-    /// Why the next one was not.
+    /// The error that stopped the import.
     pub error: ImportError,
 }
 
-/// An importer: an editor over a store, and the commit that was imported last.
+/// An importer: an editor over a store, and the id of the last imported commit. [`Importer::new`] makes one.
 #[derive(Drop)]
 pub struct Importer<S> {
     alloc: Global,
@@ -112,8 +112,9 @@ pub struct Importer<S> {
 }
 
 impl<S> Importer<S> {
-    /// An importer that begins with no files and no commit, over a store, with ids of this kind of
-    /// digest. It takes no memory: `alloc` is kept for later.
+    /// Makes an importer without files and commits, over a store, with ids of this kind of digest.
+    ///
+    /// Allocates nothing: `alloc` is kept for later.
     pub fn new(alloc: Global, store: S, hash: hash::Kind) -> Importer<S>
         ensures new { IsNewImporter result }
         ensures store { result.editor.store ≡ store }
@@ -130,7 +131,7 @@ impl<S> Importer<S> {
         }
     }
 
-    /// The store.
+    /// Returns the store of the importer.
     pub fn store_mut(&mut self) -> &mut S
         ensures* writes_back { sem 𝓛 (Lends (the_row S.row) S.row self.entry result
             (over_store self.old)) }
@@ -141,39 +142,47 @@ impl<S> Importer<S> {
 }
 
 impl<S: Keep + KeepCommit> Importer<S> {
-    /// Does the edits of a step, writes the changed trees and has the store keep them, and then
-    /// makes the step's commit and has the store keep it: its only parent is the commit that was
-    /// imported last, where there is one.
+    /// Imports a step: does its edits, writes the changed trees, and makes its commit.
     ///
-    /// `Failed` where an earlier step was refused, but for a write in it; else `WriteInStep` where
-    /// one of the edits is a write: nothing has changed. `Edit` for the first edit that is refused,
-    /// `Write` for a tree that can't be written or whose bytes find no memory, `NotKept` where the
-    /// store doesn't keep a tree or the commit, `Commit` for an author or committer that no commit
-    /// may have, and `OutOfMemory` where there was no memory for the commit: the importer has failed
-    /// then, and refuses each further step.
+    /// The store keeps the trees, and then the commit. The only parent of the commit is the last imported
+    /// commit, if there is one.
     ///
-    /// Whatever comes of it, each id names in the store what it named before, or an object whose
-    /// digest it is.
+    /// Each id afterwards names in the store what it named before, or an object whose digest it is. That
+    /// holds after an error too.
     ///
-    /// It takes memory for the directories that the edits open and the trees that go out, for each
-    /// tree's bytes, for a copy of the step's actors and message, and for the commit's bytes.
+    /// Allocates the directories that the edits open, the emitted trees and the bytes of each. For the commit
+    /// it allocates a copy of the step's actors and message, and its bytes.
+    ///
+    /// # Errors
+    ///
+    /// Nothing is changed after the first two. After any other the importer has failed, and each further step
+    /// fails with [`ImportError::Failed`].
+    ///
+    /// - [`ImportError::Failed`] if an earlier step failed, except with [`ImportError::WriteInStep`].
+    /// - [`ImportError::WriteInStep`] if one of the edits is a write.
+    /// - [`ImportError::Edit`] with the number and the error of the first edit that fails.
+    /// - [`ImportError::Write`] with the write's error, if a tree has a name with a zero byte, or memory runs
+    ///   out for the trees or their bytes.
+    /// - [`ImportError::NotKept`] with the store's error, if the store doesn't keep a tree or the commit.
+    /// - [`ImportError::Commit`] with the encoder's error, if no commit may have the author or the committer.
+    /// - [`ImportError::OutOfMemory`] if memory runs out for the commit.
     pub fn step(&mut self, step: &Step) -> Result<Imported, ImportError>
         ensures imported { IfOk result (λ it.
-            IsImported (meaning S.objects S.may_fail) self.old step.now it self.new) }
-        ensures refused { IfErr result (λ error.
-            RefusesStep (meaning S.objects S.may_fail) self.old step.now error self.new) }
+            IsImported (store_model S.objects S.may_fail) self.old step.now it self.new) }
+        ensures after_error { IfErr result (λ error.
+            IsStepError (store_model S.objects S.may_fail) self.old step.now error self.new) }
         ensures adds { AddsByDigest (S.objects self.old.editor.store)
             (S.objects self.new.editor.store) }
-        // The files, in each table that agrees with the store and with what was handed out.
+        // The files, in each table that agrees with the store and with the emitted trees.
         ensures files { IfOk result (λ it. (T : Table) (n : ℕ)
             → AgreesWithStep T (S.objects self.old.editor.store) self.old.editor it
             → HasFilesOf T n self.old.editor step.now it self.new.editor) }
         ensures bases { IfOk result (λ it. (T : Table)
             → HasBases T (open_dirs self.new.editor) (open_bases self.new.editor)) }
     {
-        every_store_names_trees();
-        an_object_is_put_in();
-        ids_are_the_same_or_not();
+        store_has_tree_map();
+        object_map_insert();
+        id_equality_is_decidable();
         if self.failed {
             return Err(ImportError::Failed);
         }
@@ -197,34 +206,49 @@ impl<S: Keep + KeepCommit> Importer<S> {
     }
 }
 
-/// Imports the steps in order, and answers what was imported, one for each step.
+/// Imports the steps in order, and returns what was imported, one for each step.
 ///
-/// It stops at the first step that is refused, and answers what was imported before. `OutOfMemory`
-/// also where there was no memory for the list: then nothing was done. It takes memory for the
-/// list before the first step, and then that of each step.
+/// Allocates the list before the first step, and then what each step allocates.
 ///
-/// Of a new importer: each commit's id is the digest of a text that is the step's author, committer
-/// and message, with the commit before it as only parent; the store names this commit by it then, or
-/// another object whose digest is the same id. Whatever trees other ids name, the commit's tree has,
-/// to every depth, exactly the files that the edits of the steps so far make of nothing.
+/// With a new importer, the id of each commit is the digest of an encoding with the step's author, committer
+/// and message. The only parent is the commit before it. The store then names this commit by the id, or
+/// another object with the same digest. Whatever trees other ids name, the commit's tree has, at every depth,
+/// exactly the files that the edits of the steps so far make of none.
+///
+/// # Errors
+///
+/// [`Stopped`] at the first step that fails, with the error of [`Importer::step`] and with what was imported
+/// before. If memory runs out for the list, the error is [`ImportError::OutOfMemory`] and nothing was done.
+///
+/// # Examples
+///
+/// ```rust
+/// pub fn tip(alloc: Global, steps: &[Step]) -> Result<Option<ObjectId>, ImportError> {
+///     let mut importer = Importer::new(alloc, Memory::new(alloc), HashKind::Sha1);
+///     match import_all(&mut importer, steps) {
+///         Ok(mut imported) => Ok(imported.pop().map(|last| last.commit)),
+///         Err(stopped) => Err(stopped.error),
+///     }
+/// }
+/// ```
 pub fn import_all<S: Keep + KeepCommit>(
     importer: &mut Importer<S>,
     steps: &[Step],
 ) -> Result<Vec<Imported>, Stopped>
     ensures imported { IfOk result (λ all.
-        AreImported (meaning S.objects S.may_fail) importer.old steps.now all.items importer.new) }
-    ensures stopped { IfErr result (λ it.
-        Stops (meaning S.objects S.may_fail) importer.old steps.now it.done.items it.error
+        AreImported (store_model S.objects S.may_fail) importer.old steps.now all.items importer.new) }
+    ensures error { IfErr result (λ it.
+        Stops (store_model S.objects S.may_fail) importer.old steps.now it.done.items it.error
         importer.new) }
     ensures adds { AddsByDigest (S.objects importer.old.editor.store)
         (S.objects importer.new.editor.store) }
-    // A new importer's commits and files, where all steps are imported.
+    // The commits and files of a new importer, if all steps are imported.
     ensures commits { IfOk result (λ all. IsNewImporter importer.old
         → AreCommitsOf importer.old.hash None steps.now all.items
         (S.objects importer.new.editor.store)) }
     ensures files { IfOk result (λ all. IsNewImporter importer.old
         → HaveFilesOfNothing (S.objects importer.old.editor.store) steps.now all.items) }
-    // And those of the steps before the one that was refused.
+    // The commits and files of a new importer, for the steps before the one that failed.
     ensures commits_done { IfErr result (λ it. IsNewImporter importer.old
         → AreCommitsOf importer.old.hash None (before it.done.items steps.now) it.done.items
         (S.objects importer.new.editor.store)) }
@@ -232,9 +256,9 @@ pub fn import_all<S: Keep + KeepCommit>(
         → HaveFilesOfNothing (S.objects importer.old.editor.store) (before it.done.items steps.now)
         it.done.items) }
 {
-    every_store_names_trees();
-    an_object_is_put_in();
-    ids_are_the_same_or_not();
+    store_has_tree_map();
+    object_map_insert();
+    id_equality_is_decidable();
     let mut imported = match Vec::with_capacity(importer.alloc, steps.len()) {
         Ok(imported) => imported,
         Err(_) => return Err(no_list(importer.alloc)),
@@ -253,7 +277,7 @@ pub fn import_all<S: Keep + KeepCommit>(
     Ok(imported)
 }
 
-/// An import for whose list there was no memory.
+/// Returns the import for whose list memory ran out.
 fn no_list(alloc: Global) -> Stopped
     ensures done { result.done.items ≡ [] }
     ensures error { result.error ≡ ImportError.OutOfMemory }

@@ -1,6 +1,6 @@
 //! Imports of history: steps of edits, each of which becomes a commit on the one before it.
 //!
-//! It is written above the public calls of the editor, of stores and of commits alone.
+//! They use the public calls of the editor, of stores and of commits alone.
 #![tactic(auto)]
 
 mod commits;

@@ -1,2 +1,2 @@
-mod LineRefusals
+mod LineErrors
 pub mod OneLine

@@ -1,5 +1,5 @@
-//! A line of a commit's text, by where a reader stands (gitdatamodel, "commits"): what whole commits and their tokens
-//! are read by, in crates above.
+//! The next line of a commit, by the state of its decoder (gitdatamodel, "commits"). The decoders of entire
+//! commits and of commit tokens, in crates above, use it.
 #![tactic(auto)]
 
 pub mod lines;

@@ -1,9 +1,9 @@
-//! The line at the front of a commit's text, by where a reader stands.
+//! Decodes the line at the beginning of a commit's remaining bytes, by the state of the decoder.
 ghost use Rattle.std.specs.Prelude.{◌≡◌, ◌≢◌, ◌∷◌, ℕ, List, IfErr, IfNone, IfOk, IfSome, MatchOption};
 ghost use Rattle.bstr.specs.BStr.{bstr_bytes};
 ghost use Rattle.gixobj_actor.specs.Actor.{IsActorOf, actor_view};
 ghost use Rattle.gixobj_hash.specs.declared.hash.kind.Kind.{Kind};
-ghost use Rattle.gixobj_line.specs.Lines.{HasActor, HasLine, HasNoActor, IsParsedLine, RefusesLine, line_view};
+ghost use Rattle.gixobj_line.specs.Lines.{HasActor, HasLine, HasNoActor, IsParsedLine, IsLineError, line_view};
 ghost use Rattle.gixobj_line.specs.declared.lines.State.TheVariants as state;
 ghost use Rattle.gixobj_hash.specs.Bytes.{newline};
 
@@ -16,47 +16,54 @@ use gixobj_hash::hash::Kind;
 use std::alloc::Global;
 use std::borrow::CowSlice;
 
-/// Where in a commit a reader stands.
+/// The state of a commit's decoder: which lines may come next.
 #[derive(Clone, Copy, Debug)]
 pub enum State {
-    /// Before the tree.
+    /// The tree.
     Tree,
-    /// Before a parent or the author.
+    /// A parent or the author.
     Parents,
-    /// Before the committer.
+    /// The committer.
     Committer,
-    /// Before the encoding, another header or the message.
+    /// The encoding, another header or the message.
     Encoding,
-    /// Before a header or the message.
+    /// A header or the message.
     ExtraHeaders,
-    /// Behind the message.
+    /// No line: the message was decoded.
     End,
 }
 
-/// A line of a commit, or a header of several.
+/// A line of a commit, or a header of several lines. [`read_line`] decodes one.
 #[derive(Debug, Drop)]
 pub enum Line<'a> {
-    /// The hex text of the tree's id.
+    /// The hex of the tree's id.
     Tree(BStr<'a>),
-    /// The hex text of a parent's id.
+    /// The hex of a parent's id.
     Parent(BStr<'a>),
-    /// The line of the author, and the actor that it names.
+    /// The value of the author's field, and the actor that it decodes to.
     Author(BStr<'a>, SignatureRef<'a>),
-    /// The line of the committer, and the actor that it names.
+    /// The value of the committer's field, and the actor that it decodes to.
     Committer(BStr<'a>, SignatureRef<'a>),
     /// The name of the message's encoding.
     Encoding(BStr<'a>),
-    /// A header behind these.
+    /// The name and the value of an extra header. A value of one line is borrowed, and one of several lines
+    /// is owned.
     ExtraHeader((BStr<'a>, CowSlice<'a, u8>)),
     /// The message.
     Message(BStr<'a>),
 }
 
-/// The line at the front of the input where a reader stands in this state, the state behind it, and
-/// what follows it.
+/// Decodes the line of a commit at the beginning of the input, in the state `before`.
 ///
-/// `Malformed` where the input begins with no line that may come here. A header of several lines takes
-/// memory, and `OutOfMemory` comes for no other line.
+/// Returns the line, the state after it and the rest of the input. Ids are hex of the hash function `kind`.
+/// An extra header may have several lines.
+///
+/// Allocates only the value of a header of several lines.
+///
+/// # Errors
+///
+/// - [`Error::Malformed`] if the input begins with no line that may come in this state.
+/// - [`Error::OutOfMemory`] if the value of a header of several lines can't be allocated.
 #[inline(always)]
 pub fn read_line(
     alloc: Global,
@@ -67,7 +74,7 @@ pub fn read_line(
     ensures found { IfOk result (λ it. HasLine kind before input.now (line_view it.0) it.1
         it.2.now) }
     ensures parsed { IfOk result (λ it. IsParsedLine it.0) }
-    ensures refusal { IfErr result (RefusesLine kind before input.now) }
+    ensures error { IfErr result (IsLineError kind before input.now) }
 {
     match before {
         State::Tree => read_tree(kind, input),
@@ -79,14 +86,14 @@ pub fn read_line(
     }
 }
 
-/// The tree, at the front of the input.
+/// Decodes the tree.
 #[inline(always)]
 #[tactic(auto, using(crate::specs::Lines::tree_comes))]
 fn read_tree(kind: Kind, input: &[u8]) -> Result<(Line<'_>, State, &[u8]), Error>
     ensures found { IfOk result (λ it. HasLine kind state.Tree input.now (line_view it.0) it.1
         it.2.now) }
     ensures parsed { IfOk result (λ it. IsParsedLine it.0) }
-    ensures refusal { IfErr result (RefusesLine kind state.Tree input.now) }
+    ensures error { IfErr result (IsLineError kind state.Tree input.now) }
 {
     let Some((hex, rest)) = header_id(input, b"tree", kind) else {
         return Err(Error::Malformed);
@@ -94,14 +101,14 @@ fn read_tree(kind: Kind, input: &[u8]) -> Result<(Line<'_>, State, &[u8]), Error
     Ok((Line::Tree(hex), State::Parents, rest))
 }
 
-/// A parent or, where none comes, the author.
+/// Decodes a parent, or else the author.
 #[inline(always)]
 #[tactic(auto, using(crate::specs::Lines::parent_comes, crate::specs::Lines::author_comes))]
 fn read_parent_or_author(kind: Kind, input: &[u8]) -> Result<(Line<'_>, State, &[u8]), Error>
     ensures found { IfOk result (λ it. HasLine kind state.Parents input.now (line_view it.0) it.1
         it.2.now) }
     ensures parsed { IfOk result (λ it. IsParsedLine it.0) }
-    ensures refusal { IfErr result (RefusesLine kind state.Parents input.now) }
+    ensures error { IfErr result (IsLineError kind state.Parents input.now) }
 {
     if let Some((hex, rest)) = header_id(input, b"parent", kind) {
         return Ok((Line::Parent(hex), State::Parents, rest));
@@ -112,14 +119,14 @@ fn read_parent_or_author(kind: Kind, input: &[u8]) -> Result<(Line<'_>, State, &
     Ok((Line::Author(line, actor), State::Committer, rest))
 }
 
-/// The committer.
+/// Decodes the committer.
 #[inline(always)]
 #[tactic(auto, using(crate::specs::Lines::committer_comes))]
 fn read_committer(input: &[u8]) -> Result<(Line<'_>, State, &[u8]), Error>
     ensures found { (kind : Kind) → IfOk result
         (λ it. HasLine kind state.Committer input.now (line_view it.0) it.1 it.2.now) }
     ensures parsed { IfOk result (λ it. IsParsedLine it.0) }
-    ensures refusal { (kind : Kind) → IfErr result (RefusesLine kind state.Committer input.now) }
+    ensures error { (kind : Kind) → IfErr result (IsLineError kind state.Committer input.now) }
 {
     let Some((line, actor, rest)) = actor_line(input, b"committer") else {
         return Err(Error::Malformed);
@@ -127,14 +134,14 @@ fn read_committer(input: &[u8]) -> Result<(Line<'_>, State, &[u8]), Error>
     Ok((Line::Committer(line, actor), State::Encoding, rest))
 }
 
-/// The encoding or, where its name doesn't come, a header or the message.
+/// Decodes the encoding if its name comes, and else a header or the message.
 #[inline(always)]
 #[tactic(auto, using(crate::specs::Lines::encoding_comes))]
 fn read_encoding_or_header(alloc: Global, input: &[u8]) -> Result<(Line<'_>, State, &[u8]), Error>
     ensures found { (kind : Kind) → IfOk result
         (λ it. HasLine kind state.Encoding input.now (line_view it.0) it.1 it.2.now) }
     ensures parsed { IfOk result (λ it. IsParsedLine it.0) }
-    ensures refusal { (kind : Kind) → IfErr result (RefusesLine kind state.Encoding input.now) }
+    ensures error { (kind : Kind) → IfErr result (IsLineError kind state.Encoding input.now) }
 {
     let Some(_) = after_name(input, b"encoding") else {
         return read_header_or_message(alloc, input);
@@ -149,14 +156,14 @@ fn read_encoding_or_header(alloc: Global, input: &[u8]) -> Result<(Line<'_>, Sta
     ))
 }
 
-/// A header or, behind an empty line, the message.
+/// Decodes the message after an empty line, or else a header.
 #[inline(always)]
-#[tactic(auto, using(crate::specs::Lines::header_comes, crate::specs::Lines::message_comes, crate::proofs::LineRefusals::refuses_header))]
+#[tactic(auto, using(crate::specs::Lines::header_comes, crate::specs::Lines::message_comes, crate::proofs::LineErrors::rejects_header))]
 fn read_header_or_message(alloc: Global, input: &[u8]) -> Result<(Line<'_>, State, &[u8]), Error>
     ensures found { (kind : Kind) → IfOk result
         (λ it. HasLine kind state.ExtraHeaders input.now (line_view it.0) it.1 it.2.now) }
     ensures parsed { IfOk result (λ it. IsParsedLine it.0) }
-    ensures refusal { (kind : Kind) → IfErr result (RefusesLine kind state.ExtraHeaders input.now) }
+    ensures error { (kind : Kind) → IfErr result (IsLineError kind state.ExtraHeaders input.now) }
 {
     if let Some(message) = after_newline(input) {
         return Ok((Line::Message(BStr::new(message)), State::End, b""));
@@ -165,7 +172,7 @@ fn read_header_or_message(alloc: Global, input: &[u8]) -> Result<(Line<'_>, Stat
     Ok((Line::ExtraHeader(header), State::ExtraHeaders, rest))
 }
 
-/// The line of the actor in the field of this name at the front, the actor, and what follows it.
+/// Decodes the field of this name with an actor: its value, the actor, and the rest of the input.
 #[inline(always)]
 fn actor_line<'a>(input: &'a [u8], name: &[u8]) -> Option<(BStr<'a>, SignatureRef<'a>, &'a [u8])>
     ensures found { IfSome result (λ it. HasActor name.now input.now (bstr_bytes it.0) it.2.now) }

@@ -1,5 +1,5 @@
 pub mod ByteSix
-mod KindTexts
-pub mod ModeTexts
-pub mod ModesBack
+mod EncodedKinds
+pub mod EncodedModes
+pub mod ModesRoundTrip
 mod OctalNumbers

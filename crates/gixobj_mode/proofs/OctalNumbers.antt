@@ -1,4 +1,4 @@
--- The number that digits spell, modulo 65536 at each step.
+-- The number of octal digits, modulo 65536 at each step.
 use Rattle.std.proofs.Common.{◌≡◌, ◌<◌, ◌+◌, ◌-◌, ◌*◌, ◌%◌, ℕ, List, [], ◌∷◌, length, drop, get_or, arith, subst, sym, ap, ◌∙◌}
 use Rattle.std.proofs.lemmas.List.{drop_more}
 use Rattle.std.specs.Char.{digit_value}
@@ -7,7 +7,7 @@ use Rattle.std.specs.Str.Parse.{AllDigits, digits_value_after}
 same_step : (a b digit : ℕ) → a % 65536 ≡ b % 65536 → (a * 8 + digit) % 65536 ≡ (b * 8 + digit) % 65536
 same_step a b digit same = omega arith
 
--- only the number modulo 65536 counts
+-- the number after more digits depends on the number before them modulo 65536 alone
 pub same_after : (a b : ℕ) (digits : List ℕ) → a % 65536 ≡ b % 65536 → digits_value_after 8 a digits % 65536 ≡ digits_value_after 8 b digits % 65536
 same_after a b [] same = same
 same_after a b (digit ∷ digits) same = same_after (a * 8 + digit_value digit) (b * 8 + digit_value digit) digits (same_step a b (digit_value digit) same)
@@ -15,7 +15,7 @@ same_after a b (digit ∷ digits) same = same_after (a * 8 + digit_value digit) 
 octal_value : (digit : ℕ) → digit_value digit < 8 → digit_value digit ≡ digit - 48
 octal_value digit small = grind (arith, small)
 
--- one digit more
+-- the invariant after one more digit
 pub record OneMore (digits : List ℕ) (at number value : ℕ) : Type 0 where
   pub octal : AllDigits 8 (drop (at + 1) digits)
   pub same : digits_value_after 8 ((number * 8 + value) % 65536) (drop (at + 1) digits) % 65536 ≡ digits_value_after 8 number (drop at digits) % 65536
@@ -27,11 +27,12 @@ one_more_of number value digit rest is octal =
     let same : ((number * 8 + value) % 65536) % 65536 ≡ (number * 8 + digit_value digit) % 65536 = omega arith in
     same_after ((number * 8 + value) % 65536) (number * 8 + digit_value digit) rest same
 
-pub one_more : (digits : List ℕ) (at number value : ℕ) → at < length digits → value ≡ get_or digits at 0 - 48 → AllDigits 8 (drop at digits) → OneMore digits at number value
+pub one_more : (digits : List ℕ) (at number value : ℕ) → at < length digits → value ≡ get_or digits at 0 - 48 → AllDigits 8 (drop at digits)
+    → OneMore digits at number value
 one_more digits at number value within is octal =
     let cut : drop at digits ≡ get_or digits at 0 ∷ drop (at + 1) digits = drop_more digits at 0 within in
-    let whole : AllDigits 8 (get_or digits at 0 ∷ drop (at + 1) digits) = (let P : List ℕ → Type 0 = AllDigits 8 in subst P cut octal) in
+    let entire : AllDigits 8 (get_or digits at 0 ∷ drop (at + 1) digits) = (let P : List ℕ → Type 0 = AllDigits 8 in subst P cut octal) in
     record {
-      octal = whole.1;
-      same = one_more_of number value (get_or digits at 0) (drop (at + 1) digits) is whole ∙ ap (λ it. digits_value_after 8 number it % 65536) (sym cut);
+      octal = entire.1;
+      same = one_more_of number value (get_or digits at 0) (drop (at + 1) digits) is entire ∙ ap (λ it. digits_value_after 8 number it % 65536) (sym cut);
     }

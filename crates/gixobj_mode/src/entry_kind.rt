@@ -1,29 +1,30 @@
 //! The kinds of tree entries.
 ghost use Rattle.std.specs.Prelude.{◌≡◌};
 ghost use Rattle.bstr.specs.BStr.{bstr_bytes};
-ghost use Rattle.gixobj_mode.specs.Mode.{mode_of_kind, mode_text};
+ghost use Rattle.gixobj_mode.specs.Mode.{mode_of_kind, encode_mode};
 
 use bstr::BStr;
 
-/// What an entry of a tree can be: the modes that git itself writes, one each.
+/// The kind of a tree entry: one for each mode that git itself writes. [`crate::EntryMode::kind`] returns
+/// it.
 #[derive(Clone, Copy, Debug, PartialEq, Eq, PartialOrd, Ord, Hash)]
 pub enum EntryKind {
     /// A directory, `040000`.
     Tree = 0o040000,
     /// A file, `100644`.
     Blob = 0o100644,
-    /// A file that its owner may run, `100755`.
+    /// A file that its owner may execute, `100755`.
     BlobExecutable = 0o100755,
     /// A symbolic link, `120000`.
     Link = 0o120000,
-    /// The commit of a submodule, `160000`.
+    /// A submodule's commit, `160000`.
     Commit = 0o160000,
 }
 
 impl EntryKind {
-    /// The kind's own mode as a tree has it: octal digits, five for a tree and else six.
+    /// Returns the mode of the kind as trees have it: octal digits, five for a tree and six for all others.
     pub fn as_octal_str(&self) -> BStr<'static>
-        ensures { bstr_bytes result ≡ mode_text (mode_of_kind self.now) }
+        ensures { bstr_bytes result ≡ encode_mode (mode_of_kind self.now) }
     {
         BStr::new(match self {
             EntryKind::Tree => b"40000",

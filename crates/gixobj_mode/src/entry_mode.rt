@@ -1,21 +1,21 @@
-//! The modes of tree entries.
+//! The modes of tree entries: their encoding, their type bits and their kinds.
 ghost use Rattle.std.specs.Prelude.{◌≡◌, ◌≢◌, ◌++◌, slice_index, ◌≤◌, ◌↔◌, ◌+◌, ◌%◌, ℕ, List, [], ◌∷◌, IsTrue, IfSome, IfNone, length, ◌^◌, ◌⊎◌, not, take};
 ghost use Rattle.std.specs.Int.{from_be_bytes, w64};
 ghost use Rattle.std.specs.Option.{SomeIff};
 ghost use Rattle.std.specs.Str.Parse.{AllDigits, digits_value};
 ghost use Rattle.bstr.specs.BStr.{bstr_bytes};
 ghost use Rattle.gixobj_mode.specs.declared.entry_kind.EntryKind.{EntryKind};
-ghost use Rattle.gixobj_hash.specs.Texts.{IsFree};
-ghost use Rattle.gixobj_mode.specs.Mode.{BeginsWithKind, BeginsWithMode, IsModeNumber, KeepsByteSix, EndsMode, blob_type, commit_type, entry_word, is_tree_mode, kind_of_mode, link_type, mode_of_digits, mode_of_kind, mode_text, mode_type, mode_value, tree_type, type_bits, is_blob_mode, is_commit_mode, is_link_mode, mode_bits};
+ghost use Rattle.gixobj_hash.specs.ByteStrings.{IsByteFree};
+ghost use Rattle.gixobj_mode.specs.Mode.{BeginsWithKind, BeginsWithMode, IsModeNumber, HasSixDigits, EndsMode, blob_type, commit_type, entry_kind_name, is_tree_mode, kind_of_mode, link_type, mode_of_digits, mode_of_kind, encode_mode, mode_type, mode_value, tree_type, type_bits, is_blob_mode, is_commit_mode, is_link_mode, mode_bits};
 ghost use Rattle.gixobj_hash.specs.Bytes.{digit, space};
 
 use crate::EntryKind;
 use bstr::{BStr, ByteSlice};
 
-/// The mode of a tree entry, 16 bits: what kind of object the entry names, and for a file its
-/// permissions.
+/// The mode of a tree entry, 16 bits: the type of the entry's object, and the permissions of a file.
 ///
-/// A mode that was read as `040000` is kept apart from `40000`, so that it is written back as it was.
+/// [`EntryMode::from_bytes`] decodes a mode, and each [`EntryKind`] converts into its mode. A mode that is
+/// decoded from `040000` differs from one of `40000`, so that it re-encodes identically.
 #[derive(Clone, Copy, Debug, PartialEq, Eq, PartialOrd, Ord, Hash)]
 pub struct EntryMode {
     internal: u16,
@@ -25,7 +25,10 @@ const IFMT: u16 = 0o170000;
 
 /// Access
 impl EntryMode {
-    /// The mode as a number of 16 bits: `0o040000` for a tree, however it was spelled.
+    /// Returns the mode as a number of 16 bits.
+    ///
+    /// It is `0o040000` if the internal type bits are `0o140000`. These mark a tree whose encoding has a
+    /// first `0`.
     pub fn value(self) -> u16
         ensures { result ≡ mode_value (mode_bits self) }
     {
@@ -36,7 +39,7 @@ impl EntryMode {
         }
     }
 
-    /// The kind that the type bits say. A mode of none of git's types is a commit's.
+    /// Returns the kind of the type bits. Unknown type bits are of the kind [`EntryKind::Commit`].
     pub fn kind(&self) -> EntryKind
         ensures { result ≡ kind_of_mode (mode_bits self.now) }
     {
@@ -49,50 +52,62 @@ impl EntryMode {
         }
     }
 
-    /// Whether the type bits are a tree's.
+    /// Returns whether the type bits are those of a tree.
     pub fn is_tree(&self) -> bool
         ensures { result ≡ is_tree_mode (mode_bits self.now) }
     {
         self.value() & IFMT == 0o040000
     }
 
-    /// Whether the type bits are not a tree's.
+    /// Returns whether the type bits differ from those of a tree.
     pub fn is_no_tree(&self) -> bool
         ensures { result ≡ not (is_tree_mode (mode_bits self.now)) }
     {
         self.value() & IFMT != 0o040000
     }
 
-    /// Whether the type bits are a symbolic link's.
+    /// Returns whether the type bits are those of a symbolic link.
     pub fn is_link(&self) -> bool
         ensures { result ≡ is_link_mode (mode_bits self.now) }
     {
         self.value() & IFMT == 0o120000
     }
 
-    /// Whether the type bits are a file's.
+    /// Returns whether the type bits are those of a file.
     pub fn is_blob(&self) -> bool
         ensures { result ≡ is_blob_mode (mode_bits self.now) }
     {
         self.value() & IFMT == 0o100000
     }
 
-    /// Whether the type bits are a submodule's. A mode of no type of git's isn't one, though its
-    /// kind is `Commit`.
+    /// Returns whether the type bits are those of a submodule's commit.
+    ///
+    /// It is false for unknown type bits, although their kind is [`EntryKind::Commit`].
     pub fn is_commit(&self) -> bool
         ensures { result ≡ is_commit_mode (mode_bits self.now) }
     {
         self.value() & IFMT == 0o160000
     }
 
-    /// Whether this is a file that its owner may run.
+    /// Returns whether this is a file that its owner may execute.
+    ///
+    /// # Examples
+    ///
+    /// ```rust
+    /// for entry in TreeRefIter::from_bytes(bytes, HashKind::Sha1) {
+    ///     let entry = entry?;
+    ///     if entry.mode.is_executable() {
+    ///         names.push(entry.filename)?;
+    ///     }
+    /// }
+    /// ```
     pub fn is_executable(&self) -> bool
         ensures { IsTrue result ↔ (kind_of_mode (mode_bits self.now) ≡ EntryKind.BlobExecutable) }
     {
         matches!(self.kind(), EntryKind::BlobExecutable)
     }
 
-    /// Whether this is a file or a symbolic link.
+    /// Returns whether this is a file, executable or not, or a symbolic link.
     pub fn is_blob_or_symlink(&self) -> bool
         ensures { IsTrue result ↔ ((kind_of_mode (mode_bits self.now) ≡ EntryKind.Blob)
             ⊎ (kind_of_mode (mode_bits self.now) ≡ EntryKind.BlobExecutable)
@@ -104,9 +119,9 @@ impl EntryMode {
         )
     }
 
-    /// The word of the kind: `tree`, `blob`, `exe`, `link` or `commit`.
+    /// Returns the name of the kind: `tree`, `blob`, `exe`, `link` or `commit`.
     pub fn as_str(&self) -> &'static str
-        ensures { result.now ≡ entry_word (kind_of_mode (mode_bits self.now)) }
+        ensures { result.now ≡ entry_kind_name (kind_of_mode (mode_bits self.now)) }
     {
         match self.kind() {
             EntryKind::Tree => "tree",
@@ -117,11 +132,13 @@ impl EntryMode {
         }
     }
 
-    /// The mode's text as a tree has it, in the buffer: octal digits, one for 0, five for a tree, and
-    /// else six.
+    /// Encodes the mode in octal, as trees have it, into a buffer.
+    ///
+    /// Mode 0 has one digit, `0`. A tree has five digits, and a `0` before them if it was decoded from
+    /// `040000`. All other modes have six digits.
     pub fn as_bytes<'a>(&self, backing: &'a mut [u8; 6]) -> BStr<'a>
-        ensures text { bstr_bytes result ≡ mode_text (mode_bits self.now) }
-        ensures short { length (bstr_bytes result) ≤ 6 }
+        ensures encoded { bstr_bytes result ≡ encode_mode (mode_bits self.now) }
+        ensures max_len { length (bstr_bytes result) ≤ 6 }
     {
         let mode = self.internal;
         let [first, second] = [octal_digit(mode / 32768), octal_digit(mode / 4096)];
@@ -143,9 +160,13 @@ impl EntryMode {
 
 /// Initialization
 impl EntryMode {
-    /// The mode whose digits stand in front of the bytes, up to a space or the end: at most seven
-    /// octal digits, their number modulo 65536. `040000` is kept apart from `40000`. Where byte 6 is
-    /// a space and byte 5 isn't, there are exactly six digits. None for no bytes.
+    /// Decodes the mode at the beginning of the bytes, up to a space or the end.
+    ///
+    /// A mode is at most seven octal digits, and its number is taken modulo 65536. If byte 6, counted from
+    /// 0, is a space and byte 5 is not, it has exactly six digits. `040000` decodes to a mode that differs
+    /// from the one of `40000`.
+    ///
+    /// Returns `None` if the bytes are empty or begin with no such mode.
     pub fn from_bytes(i: &[u8]) -> Option<EntryMode>
         ensures found { IfSome result (λ mode. (rest : List ℕ)
             × BeginsWithMode i.now (mode_bits mode) rest) }
@@ -156,19 +177,19 @@ impl EntryMode {
         Some(mode)
     }
 
-    /// The mode in front of the bytes, as [`EntryMode::from_bytes`] reads it, and what stands behind
-    /// its digits.
+    /// Decodes the mode at the beginning of the bytes by the rules of [`EntryMode::from_bytes`], and
+    /// returns the bytes after its digits.
     #[inline(always)]
-    #[tactic(auto, using(crate::proofs::KindTexts::mode_of_found))]
+    #[tactic(auto, using(crate::proofs::EncodedKinds::mode_of_found))]
     pub fn extract_from_bytes(i: &[u8]) -> Option<(EntryMode, &[u8])>
         ensures found { IfSome result (λ parts.
             BeginsWithMode i.now (mode_bits parts.0) parts.1.now) }
         ensures none { IfNone result ((mode : ℕ) (rest : List ℕ)
             → ¬ BeginsWithMode i.now mode rest) }
     {
-        match kind_in_front(i) {
+        match kind_prefix(i) {
             Some((kind, rest)) => Some((EntryMode::from(kind), rest)),
-            None => any_mode_in_front(i),
+            None => any_mode_prefix(i),
         }
     }
 }
@@ -176,7 +197,7 @@ impl EntryMode {
 impl From<EntryKind> for EntryMode {
     ghost from_gives = { λ kind mode. mode_bits mode ≡ mode_of_kind kind };
 
-    /// The kind's own mode.
+    /// Returns the mode of the kind.
     fn from(kind: EntryKind) -> EntryMode {
         EntryMode {
             internal: kind as u16,
@@ -187,7 +208,7 @@ impl From<EntryKind> for EntryMode {
 impl From<EntryMode> for EntryKind {
     ghost from_gives = { λ mode kind. kind ≡ kind_of_mode (mode_bits mode) };
 
-    /// The kind of the mode.
+    /// Returns the kind of the mode.
     fn from(mode: EntryMode) -> EntryKind {
         mode.kind()
     }
@@ -200,8 +221,11 @@ impl TryFrom<u32> for EntryMode {
 
     ghost try_from_gives = { FromNumber };
 
-    /// The mode of this number. A number past 16 bits, or one that is neither `0o40000` nor has the
-    /// bit `0o100000`, is given back.
+    /// Makes the mode of this number.
+    ///
+    /// # Errors
+    ///
+    /// The number itself, if it exceeds 16 bits, or if it is neither `0o40000` nor has the bit `0o100000`.
     fn try_from(number: u32) -> Result<EntryMode, u32> {
         match u16::try_from(number) {
             Ok(internal) if internal == 0o040000 || internal & 0o100000 == 0o100000 => {
@@ -219,16 +243,20 @@ impl<'a> TryFrom<&'a [u8]> for EntryMode {
 
     ghost try_from_gives = { FromBytes };
 
-    /// As [`EntryMode::from_bytes`]; other bytes are given back.
+    /// Decodes the mode at the beginning of the bytes by the rules of [`EntryMode::from_bytes`].
+    ///
+    /// # Errors
+    ///
+    /// The bytes themselves, if they begin with no mode.
     fn try_from(bytes: &'a [u8]) -> Result<EntryMode, &'a [u8]> {
         EntryMode::from_bytes(bytes).ok_or(bytes)
     }
 }
 
-/// The mode's text and a space, where it is a kind's own mode, or else none.
+/// Encodes the mode of a kind, with a space after it. Returns `None` for any other mode.
 #[inline(always)]
-pub fn kind_text(mode: EntryMode) -> Option<&'static [u8]>
-    ensures found { IfSome result (λ text. text.now ≡ mode_text (mode_bits mode) ++ space ∷ []) }
+pub fn encode_kind(mode: EntryMode) -> Option<&'static [u8]>
+    ensures found { IfSome result (λ content. content.now ≡ encode_mode (mode_bits mode) ++ space ∷ []) }
     ensures none { IfNone result ((kind : EntryKind) → mode_bits mode ≢ mode_of_kind kind) }
 {
     match mode.internal {
@@ -241,27 +269,27 @@ pub fn kind_text(mode: EntryMode) -> Option<&'static [u8]>
     }
 }
 
-/// How many bytes the text of a mode has whose highest four bits are these, but for mode 0: five for a
-/// tree, and else six.
-const TEXT_LENS: [u8; 16] = [6, 6, 6, 6, 5, 6, 6, 6, 6, 6, 6, 6, 6, 6, 6, 6];
+/// The lengths of encoded modes in bytes, by their highest four bits: five for a tree, and six for all
+/// others but mode 0.
+const ENCODED_LENS: [u8; 16] = [6, 6, 6, 6, 5, 6, 6, 6, 6, 6, 6, 6, 6, 6, 6, 6];
 
-/// How many bytes the mode's text has.
+/// Returns the length of the encoded mode, in bytes.
 #[inline(always)]
-pub fn text_len(mode: EntryMode) -> usize
-    ensures value { result ≡ length (mode_text (mode_bits mode)) }
-    ensures short { result ≤ 6 }
+pub fn encoded_len(mode: EntryMode) -> usize
+    ensures value { result ≡ length (encode_mode (mode_bits mode)) }
+    ensures max_len { result ≤ 6 }
 {
     if mode.internal == 0 {
         return 1;
     }
-    usize::from(TEXT_LENS[usize::from(mode.internal / 4096)])
+    usize::from(ENCODED_LENS[usize::from(mode.internal / 4096)])
 }
 
-/// The kind whose own mode and a space stand in front of the bytes, of which there are eight at least,
-/// and the rest from the space on. Seven bytes are compared at once, as a number.
+/// Finds the kind whose mode and a space begin the bytes, and the rest from the space on. It compares seven
+/// bytes at once, as a number, and finds none in fewer than eight.
 #[inline(always)]
-#[tactic(auto, using(crate::proofs::KindTexts::blob_found, crate::proofs::KindTexts::tree_found, crate::proofs::KindTexts::executable_found, crate::proofs::KindTexts::link_found, crate::proofs::KindTexts::commit_found, crate::proofs::KindTexts::no_kind))]
-fn kind_in_front(i: &[u8]) -> Option<(EntryKind, &[u8])>
+#[tactic(auto, using(crate::proofs::EncodedKinds::blob_found, crate::proofs::EncodedKinds::tree_found, crate::proofs::EncodedKinds::executable_found, crate::proofs::EncodedKinds::link_found, crate::proofs::EncodedKinds::commit_found, crate::proofs::EncodedKinds::no_kind))]
+fn kind_prefix(i: &[u8]) -> Option<(EntryKind, &[u8])>
     ensures found { IfSome result (λ it. BeginsWithKind i.now it.0 it.1.now) }
     ensures none { 8 ≤ length i.now → IfNone result ((kind : EntryKind) (rest : List ℕ)
         → ¬ BeginsWithKind i.now kind rest) }
@@ -269,40 +297,40 @@ fn kind_in_front(i: &[u8]) -> Option<(EntryKind, &[u8])>
     if i.len() < 8 {
         return None;
     }
-    let front = first_seven(i);
-    if front == u64::from_be_bytes(*b"\0100644 ") {
+    let prefix = first_seven(i);
+    if prefix == u64::from_be_bytes(*b"\0100644 ") {
         return Some((EntryKind::Blob, i.split_at(6).1));
     }
-    if front / 256 == u64::from_be_bytes(*b"\0\040000 ") {
+    if prefix / 256 == u64::from_be_bytes(*b"\0\040000 ") {
         return Some((EntryKind::Tree, i.split_at(5).1));
     }
-    if front == u64::from_be_bytes(*b"\0100755 ") {
+    if prefix == u64::from_be_bytes(*b"\0100755 ") {
         return Some((EntryKind::BlobExecutable, i.split_at(6).1));
     }
-    if front == u64::from_be_bytes(*b"\0120000 ") {
+    if prefix == u64::from_be_bytes(*b"\0120000 ") {
         return Some((EntryKind::Link, i.split_at(6).1));
     }
-    if front == u64::from_be_bytes(*b"\0160000 ") {
+    if prefix == u64::from_be_bytes(*b"\0160000 ") {
         return Some((EntryKind::Commit, i.split_at(6).1));
     }
     None
 }
 
-/// The first seven bytes as a number, whose first digit in base 256 is the first byte. Read with the
-/// eighth they are one word.
+/// Returns the first seven bytes as a big-endian number. It loads eight bytes at once and drops the last.
 #[inline(always)]
-fn first_seven(text: &[u8]) -> u64
-    requires { 8 ≤ length text.now }
-    ensures { result ≡ from_be_bytes w64 (0 ∷ take 7 text.now) }
+fn first_seven(content: &[u8]) -> u64
+    requires { 8 ≤ length content.now }
+    ensures { result ≡ from_be_bytes w64 (0 ∷ take 7 content.now) }
 {
-    let word = u64::from_be_bytes([
-        text[0], text[1], text[2], text[3], text[4], text[5], text[6], text[7],
+    let token = u64::from_be_bytes([
+        content[0], content[1], content[2], content[3], content[4], content[5], content[6],
+        content[7],
     ]);
-    word / 256
+    token / 256
 }
 
-/// The mode in front of the bytes, and what stands behind its digits, whatever they are.
-fn any_mode_in_front(i: &[u8]) -> Option<(EntryMode, &[u8])>
+/// Decodes any mode at the beginning of the bytes, and returns the bytes after its digits.
+fn any_mode_prefix(i: &[u8]) -> Option<(EntryMode, &[u8])>
     ensures found { IfSome result (λ parts.
         BeginsWithMode i.now (mode_bits parts.0) parts.1.now) }
     ensures none { IfNone result ((mode : ℕ) (rest : List ℕ)
@@ -319,10 +347,10 @@ fn any_mode_in_front(i: &[u8]) -> Option<(EntryMode, &[u8])>
     Some((EntryMode { internal }, rest))
 }
 
-/// What stands before the first space, and the rest from there on.
+/// Splits the bytes before the first space, or at their end if they have none.
 fn split_digits(i: &[u8]) -> (&[u8], &[u8])
     ensures joined { i.now ≡ result.0.now ++ result.1.now }
-    ensures first { IsFree space result.0.now }
+    ensures first { IsByteFree space result.0.now }
     ensures ends { EndsMode result.1.now }
 {
     match i.find_byte(b' ') {
@@ -331,7 +359,7 @@ fn split_digits(i: &[u8]) -> (&[u8], &[u8])
     }
 }
 
-/// Whether byte 6 asks for six digits, and there are more or fewer.
+/// Returns whether the rule of byte 6 demands six digits, and the number of digits differs.
 fn breaks_byte_six(i: &[u8], digits: usize) -> bool
     ensures { IsTrue result ↔ ((slice_index i.now 6 ≡ space) × (slice_index i.now 5 ≢ space)
         × (digits ≢ 6)) }
@@ -339,7 +367,7 @@ fn breaks_byte_six(i: &[u8], digits: usize) -> bool
     i.get(6) == Some(&b' ') && i.get(5) != Some(&b' ') && digits != 6
 }
 
-/// The mode that digits spell, where they are at most seven and octal.
+/// Decodes a mode of at most seven octal digits.
 fn mode_from_digits(digits: &[u8]) -> Option<u16>
     ensures { SomeIff result (AllDigits 8 digits.now × (length digits.now ≤ 7))
         (mode_of_digits digits.now) }
@@ -362,7 +390,7 @@ fn are_octal(digits: &[u8]) -> bool
     digits.iter().all(|digit| matches!(*digit, b'0'..=b'7'))
 }
 
-/// The number that octal digits spell, modulo 65536.
+/// Decodes octal digits as a number, modulo 65536.
 fn octal_number(digits: &[u8]) -> u16
     requires { AllDigits 8 digits.now }
     ensures { result ≡ digits_value 8 digits.now % 2 ^ 16 }
@@ -374,7 +402,7 @@ fn octal_number(digits: &[u8]) -> u16
     number as u16
 }
 
-/// The last octal digit of a number.
+/// Returns the last octal digit of a number, in ASCII.
 fn octal_digit(number: u16) -> u8
     ensures { result ≡ digit (number % 8) }
 {

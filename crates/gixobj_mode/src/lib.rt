@@ -1,4 +1,4 @@
-//! Modes and kinds of the entries of trees (gitdatamodel, "trees").
+//! Modes and kinds of tree entries (gitdatamodel, "trees").
 #![tactic(auto)]
 
 mod entry_kind;
@@ -6,4 +6,4 @@ mod entry_mode;
 pub mod laws;
 
 pub use entry_kind::EntryKind;
-pub use entry_mode::{EntryMode, kind_text, text_len};
+pub use entry_mode::{EntryMode, encode_kind, encoded_len};

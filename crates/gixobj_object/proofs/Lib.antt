@@ -1,8 +1,8 @@
 mod BrokenTrees
 mod Contents
 pub mod Keeping
-mod PathTexts
+mod PathBytes
 mod Paths
-mod Seeking
+mod Searching
 mod Steps
 mod Walks

@@ -1,4 +1,4 @@
--- One step into a tree.
+-- One step of a path lookup into a tree; used for `next_entry`, `lookup_entry` and `lookup_entry_by_path`.
 use Rattle.std.proofs.Common.{◌≡◌, ◌≢◌, ◌<◌, ◌∷◌, ℕ, List, [], ap, arith, drop, length, map, nat_eq, refl, subst, sym, ⊎_elim, ◌∙◌}
 use Rattle.std.proofs.Math.Dec.{eqb-suc-zero}
 use Rattle.std.proofs.lemmas.List.{drop-map}
@@ -12,83 +12,97 @@ use Rattle.gixobj_hash.specs.declared.hash.object_id.ObjectId.{ObjectId}
 use Rattle.gixobj_hash.specs.declared.kind.Kind.TheVariants.{Tree}
 use Rattle.gixobj_tree.specs.TreeViews.{entry_view}
 use Rattle.gixobj_tree.specs.declared.tree.borrowed.entry_ref.EntryRef.{EntryRef}
-use Rattle.gixobj_object.proofs.PathTexts.{are_names, names_in, one_list}
+use Rattle.gixobj_object.proofs.PathBytes.{are_names, names_in, one_list}
 use Rattle.gixobj_object.proofs.Paths.{Follows, breaks_at, ends_at, no_path_in_none, tree_or_other}
-use Rattle.gixobj_object.specs.EntryGiving.{IsAtEntry}
-use Rattle.gixobj_object.specs.Lookups.{IsAtPath, IsStep, IsStepInText, LeadsTo, Name, RefusesPath, tree_left}
+use Rattle.gixobj_object.specs.EntrySteps.{IsAtEntry}
+use Rattle.gixobj_object.specs.Lookups.{IsAtPath, IsStep, IsStepInBytes, LeadsTo, Name, IsPathError, remaining_tree}
 use Rattle.gixobj_object.specs.Stores.{IsFound, Objects, StoredObject, named, stored}
 use Rattle.gixobj_object.specs.declared.«data».Data.{Data}
 use Rattle.gixobj_object.specs.declared.find.Error.TheVariants.{OutOfMemory}
 use Rattle.gixobj_object.specs.declared.tree.TreeRefIter.{TreeRefIter}
 
--- what a reader at the start of a tree has left is the tree
-same_left : (it : Data) (reader : TreeRefIter) → it.kind ≡ Tree → IsAtEntry it.object_hash it.bytes.now reader → tree_left reader ≡ stored it
-same_left it reader is_tree start i = record { kind = sym is_tree i; object_hash = (start i).kind; bytes = (start i).bytes }
+-- the remaining tree of a new iterator is the stored tree
+same_remaining : (it : Data) (reader : TreeRefIter) → it.kind ≡ Tree → IsAtEntry it.object_hash it.bytes.now reader → remaining_tree reader ≡ stored it
+same_remaining it reader is_tree start i = record { kind = sym is_tree i; object_hash = (start i).kind; bytes = (start i).bytes }
 
--- a step of such a reader is one into the tree
-pub step_into : (it : Data) (reader : TreeRefIter) (said : Name) (names others : List Name) (result : ControlFlow (Option EntryRef) ObjectId) → it.kind ≡ Tree → IsAtEntry it.object_hash it.bytes.now reader → names ≡ said ∷ others
-    → IsStep (tree_left reader) (said ∷ others) result → IsStep (stored it) names result
+-- a step of a new iterator is a step into the stored tree
+pub step_into : (it : Data) (reader : TreeRefIter) (said : Name) (names others : List Name) (result : ControlFlow (Option EntryRef) ObjectId) → it.kind ≡ Tree
+    → IsAtEntry it.object_hash it.bytes.now reader → names ≡ said ∷ others
+    → IsStep (remaining_tree reader) (said ∷ others) result → IsStep (stored it) names result
 step_into it reader said names others result is_tree start split step =
-    subst (λ (x : StoredObject). IsStep x names result) (same_left it reader is_tree start) (subst (λ (x : List Name). IsStep (tree_left reader) x result) (sym split) step)
+    subst (λ (x : StoredObject). IsStep x names result) (same_remaining it reader is_tree start)
+    (subst (λ (x : List Name). IsStep (remaining_tree reader) x result) (sym split) step)
 
 pub are_last : (more : List BString) → MatchBool (nat_eq (length more) 0) (map bstring_bytes more ≡ []) (map bstring_bytes more ≢ [])
 are_last [] = refl
 are_last (name ∷ more) = rw (eqb-suc-zero (length more)) (λ none. cc none)
 
--- ---- the first step, into the tree of a reader
+-- ---- the first step, into the tree of an iterator
 
-same_stored : (it : Data) (reader : TreeRefIter) → it.bytes ≡ reader.bytes → it.kind ≡ Tree → it.object_hash ≡ reader.hash_kind → stored it ≡ tree_left reader
+same_stored : (it : Data) (reader : TreeRefIter) → it.bytes ≡ reader.bytes → it.kind ≡ Tree → it.object_hash ≡ reader.hash_kind
+    → stored it ≡ remaining_tree reader
 same_stored it reader bytes kind hash i = record { kind = kind i; object_hash = hash i; bytes = (bytes i).now }
 
-pub first_step : (it : Data) (reader : TreeRefIter) (names : List Name) (result : ControlFlow (Option EntryRef) ObjectId) → it.bytes ≡ reader.bytes → it.kind ≡ Tree → it.object_hash ≡ reader.hash_kind → (it.kind ≡ Tree → IsStep (stored it) names result)
-    → IsStep (tree_left reader) names result
+pub first_step : (it : Data) (reader : TreeRefIter) (names : List Name) (result : ControlFlow (Option EntryRef) ObjectId) → it.bytes ≡ reader.bytes
+    → it.kind ≡ Tree → it.object_hash ≡ reader.hash_kind → (it.kind ≡ Tree → IsStep (stored it) names result)
+    → IsStep (remaining_tree reader) names result
 first_step it reader names result bytes kind hash step = subst (λ (x : StoredObject). IsStep x names result) (same_stored it reader bytes kind hash) (step kind)
 
-pub names_left : (before after : List BString) → after ≡ drop 1 before → map bstring_bytes after ≡ drop 1 (map bstring_bytes before)
-names_left before after left = ap (map bstring_bytes) left ∙ sym (drop-map bstring_bytes 1 before)
+pub names_remaining : (before after : List BString) → after ≡ drop 1 before → map bstring_bytes after ≡ drop 1 (map bstring_bytes before)
+names_remaining before after remaining = ap (map bstring_bytes) remaining ∙ sym (drop-map bstring_bytes 1 before)
 
-pub starts_at : (objects : Objects) (reader : TreeRefIter) (names : List Name) (found : Option EntryRef) → IsStep (tree_left reader) names (Break found) → IsAtPath objects (Some (tree_left reader)) names (option_map entry_view found)
-starts_at objects reader names found step = breaks_at objects (tree_left reader) names found (λ other. absurd (other refl)) (λ is. step)
+pub starts_at : (objects : Objects) (reader : TreeRefIter) (names : List Name) (found : Option EntryRef) → IsStep (remaining_tree reader) names (Break found)
+    → IsAtPath objects (Some (remaining_tree reader)) names (option_map entry_view found)
+starts_at objects reader names found step = breaks_at objects (remaining_tree reader) names found (λ other. absurd (other refl)) (λ is. step)
 
-pub copy_refused : (objects : Objects) (may_fail : ObjectId → Bool) (reader : TreeRefIter) (names : List Name) (found : Option EntryRef) → IsStep (tree_left reader) names (Break found) → IsSome found → RefusesPath objects may_fail (Some (tree_left reader)) names OutOfMemory
-copy_refused objects may_fail reader names (Some entry) (name, split, first) some = (name, [], entry_view entry, split, (refl, first))
-copy_refused objects may_fail reader names None step none = cc none
+pub copy_rejected : (objects : Objects) (may_fail : ObjectId → Bool) (reader : TreeRefIter) (names : List Name) (found : Option EntryRef)
+    → IsStep (remaining_tree reader) names (Break found) → IsSome found → IsPathError objects may_fail (Some (remaining_tree reader)) names OutOfMemory
+copy_rejected objects may_fail reader names (Some entry) (name, split, first) some = (name, [], entry_view entry, split, (refl, first))
+copy_rejected objects may_fail reader names None step none = cc none
 
--- ---- a further step, into what the store names
+-- ---- a later step, into the object that an id names
 
-pub found_there : (objects : Objects) (at id : ObjectId) (found : Option Data) (it : Data) → IsFound objects at found → at ≡ id → found ≡ Some it → named objects id ≡ Some (stored it)
+pub found_there : (objects : Objects) (at id : ObjectId) (found : Option Data) (it : Data) → IsFound objects at found → at ≡ id → found ≡ Some it
+    → named objects id ≡ Some (stored it)
 found_there objects at id found it is same some = ap (named objects) (sym same) ∙ sym is ∙ ap (option_map stored) some
 
-pub ends_in_none : (objects : Objects) (first : Option StoredObject) (path names : List Name) (at id : ObjectId) (found : Option Data) → Follows objects first path id names → IsFound objects at found → at ≡ id → found ≡ None → IsAtPath objects first path None
+pub ends_in_none : (objects : Objects) (first : Option StoredObject) (path names : List Name) (at id : ObjectId) (found : Option Data)
+    → Follows objects first path id names → IsFound objects at found → at ≡ id → found ≡ None → IsAtPath objects first path None
 ends_in_none objects first path names at id found follows is same none =
     let nothing : named objects id ≡ None = ap (named objects) (sym same) ∙ sym is ∙ ap (option_map stored) none in
-    ends_at objects first path names id None follows (λ e. subst (λ (x : Option StoredObject). ¬ LeadsTo objects x names e) (sym nothing) (no_path_in_none objects names e))
+    ends_at objects first path names id None follows
+    (λ e. subst (λ (x : Option StoredObject). ¬ LeadsTo objects x names e) (sym nothing) (no_path_in_none objects names e))
 
 continue_breaks : (next : ObjectId) → ¬ (◌≡◌ {A = ControlFlow (Option EntryRef) ObjectId} (Continue next) (Break None))
 continue_breaks next same = cc same
 
--- a step that goes on is one into a tree
+-- a step that continues is a step into a tree
 pub went_on : (it : Data) (next : ObjectId) → (it.kind ≢ Tree → ◌≡◌ {A = ControlFlow (Option EntryRef) ObjectId} (Continue next) (Break None)) → it.kind ≡ Tree
 went_on it next other = ⊎_elim (λ is_tree. is_tree) (λ is_not. absurd (continue_breaks next (other is_not))) (tree_or_other it.kind)
 
-pub ends_there : (objects : Objects) (first : Option StoredObject) (path names : List Name) (id : ObjectId) (it : Data) (found : Option EntryRef) → Follows objects first path id names → named objects id ≡ Some (stored it)
-    → (it.kind ≢ Tree → ◌≡◌ {A = ControlFlow (Option EntryRef) ObjectId} (Break found) (Break None)) → (it.kind ≡ Tree → IsStep (stored it) names (Break found)) → IsAtPath objects first path (option_map entry_view found)
+pub ends_there : (objects : Objects) (first : Option StoredObject) (path names : List Name) (id : ObjectId) (it : Data) (found : Option EntryRef)
+    → Follows objects first path id names → named objects id ≡ Some (stored it)
+    → (it.kind ≢ Tree → ◌≡◌ {A = ControlFlow (Option EntryRef) ObjectId} (Break found) (Break None)) → (it.kind ≡ Tree → IsStep (stored it) names (Break found))
+    → IsAtPath objects first path (option_map entry_view found)
 ends_there objects first path names id it found follows is other step =
-    ends_at objects first path names id (option_map entry_view found) follows (subst (λ (x : Option StoredObject). IsAtPath objects x names (option_map entry_view found)) (sym is) (breaks_at objects (stored it) names found other step))
+    ends_at objects first path names id (option_map entry_view found) follows
+    (subst (λ (x : Option StoredObject). IsAtPath objects x names (option_map entry_view found)) (sym is)
+    (breaks_at objects (stored it) names found other step))
 
--- ---- in a text
+-- ---- paths in bytes
 
--- what is said of a step by the names of a text is said of their list
-pub step_in_list : (tree : StoredObject) (path rest : List ℕ) (result : ControlFlow (Option EntryRef) ObjectId) → IsStepInText tree path rest result → IsStep tree (names_in path) result × (names_in rest ≡ drop 1 (names_in path))
-step_in_list tree path rest result (names, are, left, step) =
+-- a step by the names of a path in bytes is a step by the list of its names
+pub step_in_list : (tree : StoredObject) (path rest : List ℕ) (result : ControlFlow (Option EntryRef) ObjectId) → IsStepInBytes tree path rest result
+    → IsStep tree (names_in path) result × (names_in rest ≡ drop 1 (names_in path))
+step_in_list tree path rest result (names, are, remaining, step) =
     let same = one_list path names (names_in path) are (are_names path) in (
       subst (λ (it : List Name). IsStep tree it result) same step,
-      one_list rest (names_in rest) (drop 1 names) (are_names rest) left ∙ ap (drop 1) same,
+      one_list rest (names_in rest) (drop 1 names) (are_names rest) remaining ∙ ap (drop 1) same,
     )
 
 pub fewer_names : (path rest : List ℕ) → names_in path ≢ [] → names_in rest ≡ drop 1 (names_in path) → length (names_in rest) < length (names_in path)
-fewer_names path rest some left = fewer (names_in path) (names_in rest) some left
+fewer_names path rest some remaining = fewer (names_in path) (names_in rest) some remaining
   where
     fewer : (before after : List Name) → before ≢ [] → after ≡ drop 1 before → length after < length before
-    fewer [] after some left = absurd (some refl)
-    fewer (name ∷ before) after some left = rw left (omega arith)
+    fewer [] after some remaining = absurd (some refl)
+    fewer (name ∷ before) after some remaining = rw remaining (omega arith)

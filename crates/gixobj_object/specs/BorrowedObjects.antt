@@ -1,21 +1,21 @@
--- Objects of any kind, borrowed: their kind, their text as it is written, what is refused, and copies with parts of their own.
+-- Borrowed objects of any kind: their kind, their encoding, errors of encoding, and owned copies.
 use Rattle.std.specs.Prelude.{◌≡◌, ◌≢◌, ℕ, List, [], ⊤}
-use Rattle.gixobj_commit.specs.CommitOwned.{IsOwnedFormOfCommit as IsOwnedCommit, RefusesOwningCommit}
+use Rattle.gixobj_commit.specs.CommitOwned.{IsOwnedFormOfCommit as IsOwnedCommit, IsIntoOwnedCommitError}
 use Rattle.gixobj_commit.specs.CommitViews.{commit_lines}
-use Rattle.gixobj_commit.specs.CommitWriting.{HasIds, RefusesCommitLines, commit_text, in_lower_case}
-use Rattle.gixobj_fields.specs.Writing.{Refused}
-use Rattle.gixobj_hash.specs.Hash.{IsHexOfAnId}
+use Rattle.gixobj_commit.specs.CommitWriting.{HasIds, IsCommitLinesError, encode_commit, in_lower_case}
+use Rattle.gixobj_fields.specs.Writing.{RejectedValue}
+use Rattle.gixobj_hash.specs.Hash.{IsIdHex}
 use Rattle.gixobj_hash.specs.declared.decode.Error.{Error}
 use Rattle.gixobj_hash.specs.declared.decode.Error.TheVariants.{OutOfMemory}
 use Rattle.gixobj_hash.specs.declared.kind.Kind.{Kind}
 use Rattle.gixobj_hash.specs.declared.kind.Kind.TheVariants as kind
 use Rattle.gixobj_object.specs.declared.object.Object.{Object}
 use Rattle.gixobj_object.specs.declared.object.Object.TheVariants as own
-use Rattle.gixobj_tag.specs.TagOwned.{IsOwnedFormOfTag as IsOwnedTag, RefusesOwningTag}
+use Rattle.gixobj_tag.specs.TagOwned.{IsOwnedFormOfTag as IsOwnedTag, IsIntoOwnedTagError}
 use Rattle.gixobj_tag.specs.TagViews.{tag_lines}
-use Rattle.gixobj_tag.specs.TagWriting.{RefusesTagLines, tag_text}
+use Rattle.gixobj_tag.specs.TagWriting.{IsTagLinesError, encode_tag}
 use Rattle.gixobj_tree.specs.TreeViews.{tree_entries}
-use Rattle.gixobj_tree.specs.TreeText.{RefusesTree, tree_text}
+use Rattle.gixobj_tree.specs.TreeEncoding.{IsTreeEncodeError, encode_tree}
 use Rattle.gixobj_object.specs.declared.object.borrowed.ObjectRef.{ObjectRef}
 use Rattle.gixobj_object.specs.declared.object.borrowed.ObjectRef.TheVariants as object
 
@@ -28,39 +28,39 @@ borrowed_kind (object.Tag tag) = kind.Tag
 
 -- ---- hex fields
 
--- the hex fields of a commit and of a tag are ids
+-- the hex fields of a commit and the target of a tag are ids
 abbrev pub HasObjectIds : ObjectRef → Type 0
 HasObjectIds (object.Tree tree) = ⊤
 HasObjectIds (object.Blob blob) = ⊤
 HasObjectIds (object.Commit commit) = HasIds (commit_lines commit)
-HasObjectIds (object.Tag tag) = IsHexOfAnId (tag_lines tag).target
+HasObjectIds (object.Tag tag) = IsIdHex (tag_lines tag).target
 
--- what the writers ask: the hex fields of a commit are ids
+-- precondition of encoding: the hex fields of a commit are ids
 abbrev pub IsReadyToWrite : ObjectRef → Type 0
 IsReadyToWrite (object.Tree tree) = ⊤
 IsReadyToWrite (object.Blob blob) = ⊤
 IsReadyToWrite (object.Commit commit) = HasIds (commit_lines commit)
 IsReadyToWrite (object.Tag tag) = ⊤
 
--- ---- written
+-- ---- encoding
 
--- the text of an object as it is written: that of the tree, the blob, the commit or the tag
-abbrev pub borrowed_object_text : ObjectRef → List ℕ
-borrowed_object_text (object.Tree tree) = tree_text (tree_entries tree)
-borrowed_object_text (object.Blob blob) = blob.bytes.now
-borrowed_object_text (object.Commit commit) = commit_text (in_lower_case (commit_lines commit))
-borrowed_object_text (object.Tag tag) = tag_text (tag_lines tag)
+-- the encoding of an object is that of its tree, blob, commit or tag
+abbrev pub encode_borrowed_object : ObjectRef → List ℕ
+encode_borrowed_object (object.Tree tree) = encode_tree (tree_entries tree)
+encode_borrowed_object (object.Blob blob) = blob.bytes.now
+encode_borrowed_object (object.Commit commit) = encode_commit (in_lower_case (commit_lines commit))
+encode_borrowed_object (object.Tag tag) = encode_tag (tag_lines tag)
 
--- an object is refused as its tree, its commit or its tag is, and a blob never
-abbrev pub RefusesBorrowedObject : ObjectRef → Refused → List ℕ → Type 0
-RefusesBorrowedObject (object.Tree tree) = RefusesTree (tree_entries tree)
-RefusesBorrowedObject (object.Blob blob) = λ value parts. ⊥
-RefusesBorrowedObject (object.Commit commit) = RefusesCommitLines (in_lower_case (commit_lines commit))
-RefusesBorrowedObject (object.Tag tag) = RefusesTagLines (tag_lines tag)
+-- the rejected value of an object and the bytes before it are those of its tree, commit or tag; a blob has none
+abbrev pub IsBorrowedObjectError : ObjectRef → RejectedValue → List ℕ → Type 0
+IsBorrowedObjectError (object.Tree tree) = IsTreeEncodeError (tree_entries tree)
+IsBorrowedObjectError (object.Blob blob) = λ value parts. ⊥
+IsBorrowedObjectError (object.Commit commit) = IsCommitLinesError (in_lower_case (commit_lines commit))
+IsBorrowedObjectError (object.Tag tag) = IsTagLinesError (tag_lines tag)
 
--- ---- copied
+-- ---- owned copies
 
--- the object with parts of its own: of the same kind, and the own form of the tree, the blob, the commit or the tag
+-- the owned object has the same kind, and it is the owned form of the tree, blob, commit or tag
 abbrev pub IsOwnedObject : ObjectRef → Object → Type 0
 IsOwnedObject (object.Tree tree) (own.Tree copy) = copy ≡ tree_entries tree
 IsOwnedObject (object.Blob blob) (own.Blob copy) = copy.bytes.items ≡ blob.bytes.now
@@ -68,9 +68,9 @@ IsOwnedObject (object.Commit commit) (own.Commit copy) = IsOwnedCommit (commit_l
 IsOwnedObject (object.Tag tag) (own.Tag copy) = IsOwnedTag (tag_lines tag) copy
 IsOwnedObject _ _ = ⊥
 
--- why an object gets no parts of its own: why its commit or its tag gets none, or memory ran out, which a tree without entries doesn't take
-abbrev pub RefusesOwningObject : ObjectRef → Error → Type 0
-RefusesOwningObject (object.Tree tree) error = (error ≡ OutOfMemory) × (tree_entries tree ≢ [])
-RefusesOwningObject (object.Blob blob) error = error ≡ OutOfMemory
-RefusesOwningObject (object.Commit commit) error = RefusesOwningCommit (commit_lines commit) error
-RefusesOwningObject (object.Tag tag) error = RefusesOwningTag (tag_lines tag) error
+-- the error of an owned copy is that of a commit or a tag; a blob, and a tree with entries, are only out of memory
+abbrev pub IsIntoOwnedObjectError : ObjectRef → Error → Type 0
+IsIntoOwnedObjectError (object.Tree tree) error = (error ≡ OutOfMemory) × (tree_entries tree ≢ [])
+IsIntoOwnedObjectError (object.Blob blob) error = error ≡ OutOfMemory
+IsIntoOwnedObjectError (object.Commit commit) error = IsIntoOwnedCommitError (commit_lines commit) error
+IsIntoOwnedObjectError (object.Tag tag) error = IsIntoOwnedTagError (tag_lines tag) error

@@ -1,4 +1,4 @@
--- The ids of objects whose content is not yet read.
+-- Ids of objects that are not decoded yet.
 use Rattle.std.specs.Prelude.{◌≡◌}
 use Rattle.gixobj_hash.specs.Hash.{id_of}
 use Rattle.gixobj_hash.specs.declared.hash.kind.Kind.{Kind}
@@ -7,10 +7,10 @@ use Rattle.gixobj_object.specs.declared.«data».Data.{Data}
 use Rattle.gixobj_object.specs.declared.«data».verify.Error.{Error}
 use Rattle.gixobj_object.specs.declared.«data».verify.Error.TheVariants.{Verify}
 
--- the id of the object by this kind of digest: that of its own kind and its content
+-- the id of an object by this hash kind: that of its kind and its content
 abbrev pub checksum : Kind → Data → ObjectId
 checksum kind it = id_of kind it.kind it.bytes.now
 
--- the refusal has the id that was found and the expected one
+-- the error has the actual id and the expected id
 abbrev pub HasBothIds : ObjectId → ObjectId → Error → Type 0
 HasBothIds actual expected (Verify error) = (error.actual ≡ actual) × (error.expected ≡ expected)

@@ -1,6 +1,6 @@
 pub mod BorrowedObjects
 pub mod Checksums
-pub mod EntryGiving
+pub mod EntrySteps
 pub mod Lookups
 pub mod LooseObjects
 pub mod ObjectReading
@@ -18,12 +18,12 @@ pub use Rattle.gixobj_hash.specs.Decode
 pub use Rattle.gixobj_hash.specs.Encode
 pub use Rattle.gixobj_hash.specs.Hash
 pub use Rattle.gixobj_hash.specs.Kind
-pub use Rattle.gixobj_ref_iter.specs.TagTokenGiving
-pub use Rattle.gixobj_ref_iter.specs.TokenGiving
+pub use Rattle.gixobj_ref_iter.specs.TagTokenSteps
+pub use Rattle.gixobj_ref_iter.specs.CommitTokenSteps
 pub use Rattle.gixobj_tag.specs.TagOwned
-pub use Rattle.gixobj_tag.specs.TagText
+pub use Rattle.gixobj_tag.specs.TagFormat
 pub use Rattle.gixobj_tag.specs.TagViews
 pub use Rattle.gixobj_tag.specs.TagWriting
-pub use Rattle.gixobj_tree.specs.TreeReading
-pub use Rattle.gixobj_tree.specs.TreeText
+pub use Rattle.gixobj_tree.specs.TreeDecoding
+pub use Rattle.gixobj_tree.specs.TreeEncoding
 pub use Rattle.gixobj_tree.specs.TreeViews

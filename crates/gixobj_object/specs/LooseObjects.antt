@@ -1,6 +1,7 @@
--- Loose objects, read: a header, and then a content of as many bytes as it says (gitformat-loose, "Loose object format").
+-- Decoding of loose objects: a header, and a content of the size in the header (gitformat-loose, "Loose object
+-- format").
 use Rattle.std.specs.Prelude.{◌≡◌, ◌⊎◌, ◌≤◌, ◌^◌, ℕ, List, ⊤}
-use Rattle.gixobj_hash.specs.Decode.{BeginsWithHeader, HasContent, IsShort, RefusesHeader}
+use Rattle.gixobj_hash.specs.Decode.{BeginsWithHeader, HasContent, IsShort, IsLooseHeaderError}
 use Rattle.gixobj_hash.specs.declared.decode.Error.{Error}
 use Rattle.gixobj_hash.specs.declared.decode.LooseContentError.{LooseContentError}
 use Rattle.gixobj_hash.specs.declared.decode.LooseContentError.TheVariants as content
@@ -8,39 +9,42 @@ use Rattle.gixobj_hash.specs.declared.decode.LooseHeaderDecodeError.{LooseHeader
 use Rattle.gixobj_hash.specs.declared.decode.LooseHeaderDecodeError.TheVariants as header
 use Rattle.gixobj_hash.specs.declared.hash.kind.Kind as hash
 use Rattle.gixobj_hash.specs.declared.kind.Kind.{Kind}
-use Rattle.gixobj_object.specs.ObjectReading.{IsObjectText, RefusesObjectText}
+use Rattle.gixobj_object.specs.ObjectReading.{DecodesToObject, IsObjectDecodeError}
 use Rattle.gixobj_object.specs.declared.object.borrowed.ObjectRef.{ObjectRef}
 use Rattle.gixobj_object.specs.declared.object.borrowed.decode.LooseDecodeError.{LooseDecodeError}
 use Rattle.gixobj_object.specs.declared.object.borrowed.decode.LooseDecodeError.TheVariants.{InvalidContent, InvalidHeader, OutOfMemory}
 
--- the header says a size that no address of 64 bits reaches
+-- the size in the header is 2^64 or more
 abbrev pub IsTooLarge : List ℕ → ℕ → Type 0
 IsTooLarge input size = (kind : Kind) × (rest : List ℕ) × BeginsWithHeader input kind size rest × (2 ^ 64 ≤ size)
 
--- the input begins with this loose object, with ids of this kind
+-- the input begins with this loose object, with ids of this hash kind
 abbrev pub IsLooseObject : hash.Kind → List ℕ → ObjectRef → Type 0
-IsLooseObject hash input it = (kind : Kind) × (content : List ℕ) × HasContent input kind content × IsObjectText hash kind content it
+IsLooseObject hash input it = (kind : Kind) × (content : List ℕ) × HasContent input kind content
+    × DecodesToObject hash kind content it
 
--- the content of the loose object with which the input begins is refused so
-abbrev pub RefusesContent : hash.Kind → List ℕ → Error → Type 0
-RefusesContent hash input error = (kind : Kind) × (content : List ℕ) × HasContent input kind content × RefusesObjectText hash kind content error
+-- the error of the content of the loose object at the start of the input
+abbrev pub IsContentError : hash.Kind → List ℕ → Error → Type 0
+IsContentError hash input error = (kind : Kind) × (content : List ℕ) × HasContent input kind content
+    × IsObjectDecodeError hash kind content error
 
--- the refusal says that a header is invalid
+-- the error is an invalid header
 abbrev pub IsInvalidHeader : LooseHeaderDecodeError → Type 0
 IsInvalidHeader (header.InvalidHeader message) = ⊤
 IsInvalidHeader _ = ⊥
 
--- the refusal is made of that of a content: a header's is handed on; where fewer bytes follow than a header says, either the header is called
--- invalid, or no address of 64 bits reaches the size
-abbrev pub IsContentRefusal : LooseContentError → LooseDecodeError → Type 0
-IsContentRefusal (content.Header error) it = it ≡ InvalidHeader error
-IsContentRefusal (content.Short size) (InvalidHeader error) = IsInvalidHeader error
-IsContentRefusal (content.Short size) (OutOfMemory said) = (2 ^ 64 ≤ size) × (said ≡ size)
-IsContentRefusal (content.Short size) (InvalidContent error) = ⊥
+-- conversion of an error of loose content: that of a header is unchanged; a content that is too short is an invalid
+-- header, or out of memory if its size is 2^64 or more
+abbrev pub ConvertsContentError : LooseContentError → LooseDecodeError → Type 0
+ConvertsContentError (content.Header error) it = it ≡ InvalidHeader error
+ConvertsContentError (content.Short size) (InvalidHeader error) = IsInvalidHeader error
+ConvertsContentError (content.Short size) (OutOfMemory said) = (2 ^ 64 ≤ size) × (said ≡ size)
+ConvertsContentError (content.Short size) (InvalidContent error) = ⊥
 
--- why the input begins with no loose object: why it begins with no header, or fewer bytes follow than the header says; why the content is refused;
--- or no memory has room for a content of this size
-abbrev pub RefusesLooseObject : hash.Kind → List ℕ → LooseDecodeError → Type 0
-RefusesLooseObject hash input (InvalidHeader error) = RefusesHeader input error ⊎ (IsShort input × IsInvalidHeader error)
-RefusesLooseObject hash input (InvalidContent error) = RefusesContent hash input error
-RefusesLooseObject hash input (OutOfMemory size) = IsTooLarge input size
+-- the error of a loose object: its header is invalid, or fewer bytes follow than its size; its content does not decode;
+-- or out of memory for a size of 2^64 or more
+abbrev pub IsLooseObjectError : hash.Kind → List ℕ → LooseDecodeError → Type 0
+IsLooseObjectError hash input (InvalidHeader error) = IsLooseHeaderError input error
+    ⊎ (IsShort input × IsInvalidHeader error)
+IsLooseObjectError hash input (InvalidContent error) = IsContentError hash input error
+IsLooseObjectError hash input (OutOfMemory size) = IsTooLarge input size

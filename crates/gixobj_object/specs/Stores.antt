@@ -1,4 +1,4 @@
--- What a store of objects means, and what is found in it.
+-- The model of an object store, and the results of lookups in it.
 use Rattle.std.specs.Prelude.{◌≡◌, ℕ, Bool, IsTrue, List, Option, Some, length, ⊤}
 use Rattle.std.specs.FinMap as map
 use Rattle.std.specs.Option.{option_map}
@@ -11,13 +11,13 @@ use Rattle.gixobj_object.specs.declared.«data».Data.{Data}
 use Rattle.gixobj_object.specs.declared.find.Error.{Error}
 use Rattle.gixobj_object.specs.declared.find.Error.TheVariants.{OutOfMemory, Store}
 
--- an object in a store: its kind, the kind of the ids in it, and its bytes
+-- a stored object: its kind, the hash kind of the ids in it, and its bytes
 pub record StoredObject : Type 0 where
   pub kind : Kind
   pub object_hash : hash.Kind
   pub bytes : List ℕ
 
--- which object each id names
+-- the object that each id names
 abbrev pub Objects : Type 0
 Objects = map.FinMap id_cmp StoredObject
 
@@ -29,32 +29,32 @@ named = map.get
 abbrev pub Names : Objects → ObjectId → StoredObject → Type 0
 Names objects id it = named objects id ≡ Some it
 
--- the object that an object's content is
+-- the stored object of an object that is not decoded yet
 abbrev pub stored : Data → StoredObject
 stored it = record { kind = it.kind; object_hash = it.object_hash; bytes = it.bytes.now }
 
--- what is known of an object before its content is read
+-- the header of a stored object: its kind and its size in bytes
 abbrev pub header : StoredObject → Header
 header it = record { kind = it.kind; size = length it.bytes }
 
--- what was found is the object that the id names, or nothing where it names none
+-- a lookup found the object that the id names, or none if the id names none
 abbrev pub IsFound : Objects → ObjectId → Option Data → Type 0
 IsFound objects id found = option_map stored found ≡ named objects id
 
--- what was found is the kind and the size of the object that the id names, or nothing where it names none
+-- a lookup found the kind and the size of the object that the id names, or none if the id names none
 abbrev pub IsHeaderFound : Objects → ObjectId → Option Header → Type 0
 IsHeaderFound objects id found = found ≡ option_map header (named objects id)
 
--- why a lookup finds nothing: the store failed, and it may fail for this id; or memory ran out
-abbrev pub RefusesFind : (ObjectId → Bool) → ObjectId → Error → Type 0
-RefusesFind may_fail id (Store message) = IsTrue (may_fail id)
-RefusesFind may_fail id OutOfMemory = ⊤
+-- the error of a lookup: the store failed for an id whose lookup may fail, or out of memory
+abbrev pub IsFindError : (ObjectId → Bool) → ObjectId → Error → Type 0
+IsFindError may_fail id (Store message) = IsTrue (may_fail id)
+IsFindError may_fail id OutOfMemory = ⊤
 
--- what a store means: which object each of its ids names, and for which a lookup may fail
-pub record Meaning (S : Type 0) : Type 0 where
+-- the model of a store: the object that each id names, and the ids for which a lookup may fail
+pub record StoreModel (S : Type 0) : Type 0 where
   pub objects : S → Objects
   pub may_fail : S → ObjectId → Bool
 
--- what the objects of a store, and the ids for which its lookups may fail, are
-abbrev pub meaning : {S : Type 0} → (S → Objects) → (S → ObjectId → Bool) → Meaning S
-meaning objects may_fail = record { objects = objects; may_fail = may_fail }
+-- the model of a store with these objects, and these ids for which a lookup may fail
+abbrev pub store_model : {S : Type 0} → (S → Objects) → (S → ObjectId → Bool) → StoreModel S
+store_model objects may_fail = record { objects = objects; may_fail = may_fail }

@@ -1,11 +1,11 @@
-//! Objects whose content is not yet read.
+//! Objects that are not decoded yet.
 ghost use Rattle.std.specs.Prelude.{◌≡◌, ◌↔◌, IfErr, IfOk, IfSome, IsSome};
 ghost use Rattle.gixobj_hash.specs.declared.kind.Kind.TheVariants as object;
-ghost use Rattle.gixobj_object.specs.EntryGiving.{IsAtEntry};
+ghost use Rattle.gixobj_object.specs.EntrySteps.{IsAtEntry};
 ghost use Rattle.gixobj_object.specs.BorrowedObjects.{HasObjectIds, IsReadyToWrite};
-ghost use Rattle.gixobj_object.specs.ObjectReading.{IsObjectText, RefusesObjectText};
-ghost use Rattle.gixobj_ref_iter.specs.TagTokenGiving.{IsAtStartOfTag};
-ghost use Rattle.gixobj_ref_iter.specs.TokenGiving.{IsAtStartOfCommit};
+ghost use Rattle.gixobj_object.specs.ObjectReading.{DecodesToObject, IsObjectDecodeError};
+ghost use Rattle.gixobj_ref_iter.specs.TagTokenSteps.{IsAtStartOfTag};
+ghost use Rattle.gixobj_ref_iter.specs.CommitTokenSteps.{IsAtStartOfCommit};
 
 pub mod verify;
 
@@ -16,20 +16,22 @@ use gixobj_hash::{Kind, hash};
 use gixobj_ref_iter::{CommitRefIter, TagRefIter};
 use std::alloc::Global;
 
-/// The content of an object, borrowed, with its kind and the kind of its ids.
+/// An object that is not decoded yet: its kind, the kind of its ids and its content.
+///
+/// [`Find::try_find`](crate::Find::try_find) returns one, and [`Data::new`] makes one.
 #[derive(Clone, Copy, Debug, PartialEq, Eq, PartialOrd, Ord, Hash)]
 pub struct Data<'a> {
     /// The kind of the object.
     pub kind: Kind,
-    /// The kind of the ids in it.
+    /// The hash kind of the ids in the object.
     pub object_hash: hash::Kind,
-    /// The content.
+    /// The content, without a loose header.
     pub bytes: &'a [u8],
 }
 
 /// Initialization
 impl<'a> Data<'a> {
-    /// The content of an object of this kind. It takes no memory.
+    /// Makes the undecoded object of this kind and content. Allocates nothing.
     pub fn new(bytes: &'a [u8], kind: Kind, object_hash: hash::Kind) -> Data<'a>
         ensures content { result.bytes ≡ bytes.entry }
         ensures kind { result.kind ≡ kind }
@@ -45,23 +47,28 @@ impl<'a> Data<'a> {
 
 /// Conversion
 impl<'a> Data<'a> {
-    /// The object with this content.
+    /// Decodes the content as an object of its kind.
     ///
-    /// `Malformed` where the content is no object's text of the kind. `OutOfMemory` comes only for a tree or
-    /// a commit, as their own readers say; a blob is never refused.
+    /// Allocates the entries of a tree, the parents of a commit from the second one on, and its extra
+    /// headers.
+    ///
+    /// # Errors
+    ///
+    /// - [`Error::Malformed`] if the content is not the encoding of an object of its kind. A blob never
+    ///   fails.
+    /// - [`Error::OutOfMemory`] if an allocation fails, for a tree or a commit only.
     pub fn decode(&self, alloc: Global) -> Result<ObjectRef<'a>, Error>
-        ensures found { IfOk result (IsObjectText self.now.object_hash self.now.kind
+        ensures found { IfOk result (DecodesToObject self.now.object_hash self.now.kind
             self.now.bytes.now) }
         ensures has_ids { IfOk result HasObjectIds }
-        ensures ready { IfOk result IsReadyToWrite }
-        ensures refusal { IfErr result (RefusesObjectText self.now.object_hash self.now.kind
+        ensures encodable { IfOk result IsReadyToWrite }
+        ensures error { IfErr result (IsObjectDecodeError self.now.object_hash self.now.kind
             self.now.bytes.now) }
     {
         ObjectRef::from_bytes(alloc, self.bytes, self.kind, self.object_hash)
     }
 
-    /// A reader that tells the commit token by token, or none where the object is of another kind.
-    /// It takes no memory.
+    /// Returns an iterator over the tokens of the commit, or `None` for another kind. Allocates nothing.
     pub fn try_into_commit_iter(self, alloc: Global) -> Option<CommitRefIter<'a>>
         ensures accepts { IsSome result ↔ (self.entry.kind ≡ object.Commit) }
         ensures reader { IfSome result (IsAtStartOfCommit self.entry.object_hash
@@ -73,8 +80,7 @@ impl<'a> Data<'a> {
         }
     }
 
-    /// A reader that tells the tag token by token, or none where the object is of another kind.
-    /// It takes no memory.
+    /// Returns an iterator over the tokens of the tag, or `None` for another kind. Allocates nothing.
     pub fn try_into_tag_iter(self) -> Option<TagRefIter<'a>>
         ensures accepts { IsSome result ↔ (self.entry.kind ≡ object.Tag) }
         ensures reader { IfSome result (IsAtStartOfTag self.entry.object_hash
@@ -86,8 +92,7 @@ impl<'a> Data<'a> {
         }
     }
 
-    /// A reader that tells the tree entry by entry, or none where the object is of another kind.
-    /// It takes no memory.
+    /// Returns an iterator over the entries of the tree, or `None` for another kind. Allocates nothing.
     pub fn try_into_tree_iter(self) -> Option<TreeRefIter<'a>>
         ensures accepts { IsSome result ↔ (self.entry.kind ≡ object.Tree) }
         ensures reader { IfSome result (IsAtEntry self.entry.object_hash self.entry.bytes.now) }

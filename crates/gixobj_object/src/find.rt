@@ -1,4 +1,4 @@
-//! Why a store of objects finds none.
+//! Errors of lookups in an object store.
 ghost use Rattle.std.specs.Prelude.{◌≡◌};
 ghost use Rattle.gixobj_object.specs.declared.find.Error.TheVariants as find;
 
@@ -6,13 +6,13 @@ use bstr::BString;
 use gixobj_hash::OutOfMemory;
 use std::alloc::{AllocError, AllocFailed};
 
-/// The refusal of a lookup in a store.
+/// The error of a lookup in an object store.
 #[derive(Debug, Drop, thiserror::Error)]
 pub enum Error {
-    /// The store failed, for the reason that it gives.
+    /// The store failed; the payload is the message of the store.
     #[error("{0}")]
     Store(BString),
-    /// There was no memory.
+    /// An allocation failed.
     #[error("out of memory")]
     OutOfMemory,
 }

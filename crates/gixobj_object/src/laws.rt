@@ -1,4 +1,4 @@
-//! Laws of both readers of trees, and of what stores mean. Each function does nothing: its contract is the law.
+//! Laws of the tree readers and of object stores. Each function does nothing: its contract is the law.
 ghost use Rattle.std.specs.Prelude.{◌≡◌, ◌≢◌, ◌⊎◌, ◌++◌, ◌∷◌, [], ℕ, Err, List, None, Ok, Option, Result, Some};
 ghost use Rattle.std.specs.FinMap as finite;
 ghost use Rattle.gixobj_fields.specs.Runs.{Ending, broken, complete};
@@ -6,61 +6,74 @@ ghost use Rattle.gixobj_hash.specs.declared.decode.Error.{Error};
 ghost use Rattle.gixobj_hash.specs.declared.hash.kind.Kind.{Kind};
 ghost use Rattle.gixobj_hash.specs.declared.hash.object_id.ObjectId.{ObjectId};
 ghost use Rattle.gixobj_tree.specs.Entries.{EntryView};
-ghost use Rattle.gixobj_tree.specs.TreeReading.{IsTreeText, TellsEntries};
+ghost use Rattle.gixobj_tree.specs.TreeDecoding.{DecodesToTree, YieldsEntries};
 ghost use Rattle.gixobj_tree.specs.TreeViews.{entry_view};
 ghost use Rattle.gixobj_tree.specs.declared.tree.borrowed.entry_ref.EntryRef.{EntryRef};
-ghost use Rattle.gixobj_object.specs.EntryGiving.{GivesEntry, HasPassedEntries, IsAtEntry, IsTail, bytes_left};
+ghost use Rattle.gixobj_object.specs.EntrySteps.{NextEntry, HasConsumedEntries, IsAtEntry, IsTail, remaining_tree_bytes};
 ghost use Rattle.gixobj_object.specs.Stores.{Objects, StoredObject, named};
-ghost use Rattle.gixobj_object.specs.TreeReaders.{IsLongestFront};
+ghost use Rattle.gixobj_object.specs.TreeReaders.{IsLongestPrefix};
 ghost use Rattle.gixobj_object.specs.declared.tree.TreeRefIter.{TreeRefIter};
 
-/// Both readers of trees read one language. The text of a tree is told to its end, as the entries of that
-/// tree; and a text that is told to its end is that of a tree with these entries. Before an error the
-/// entries of the longest front are told that is a tree's text. Of each text one run is told.
-pub fn tree_readers_read_one_language()
-    ensures told { (kind : Kind) (text : List ℕ) (entries : List EntryView)
-        → IsTreeText kind text entries → TellsEntries kind text entries complete }
-    ensures read { (kind : Kind) (text : List ℕ) (entries : List EntryView)
-        → TellsEntries kind text entries complete → IsTreeText kind text entries }
-    ensures before_an_error { (kind : Kind) (text : List ℕ) (entries : List EntryView)
-        → TellsEntries kind text entries broken → IsLongestFront kind text entries }
-    ensures one_run { (kind : Kind) (text : List ℕ) (entries entries' : List EntryView)
-        (ending ending' : Ending) → TellsEntries kind text entries ending
-        → TellsEntries kind text entries' ending' → (entries ≡ entries') × (ending ≡ ending') }
+/// The tree decoder and the iterator over entries accept the same trees.
+///
+/// - `reported`: the iterator yields all entries of an encoded tree, and then ends without an error.
+/// - `read`: bytes that the iterator yields without an error are the encoding of the tree of these entries.
+/// - `before_an_error`: the entries yielded before an error are those of the longest prefix that encodes a
+///   tree.
+/// - `one_run`: bytes have one list of yielded entries, and one ending.
+pub fn tree_readers_agree()
+    ensures yields { (kind : Kind) (bytes : List ℕ) (entries : List EntryView)
+        → DecodesToTree kind bytes entries → YieldsEntries kind bytes entries complete }
+    ensures read { (kind : Kind) (bytes : List ℕ) (entries : List EntryView)
+        → YieldsEntries kind bytes entries complete → DecodesToTree kind bytes entries }
+    ensures before_an_error { (kind : Kind) (bytes : List ℕ) (entries : List EntryView)
+        → YieldsEntries kind bytes entries broken → IsLongestPrefix kind bytes entries }
+    ensures one_run { (kind : Kind) (bytes : List ℕ) (entries entries' : List EntryView)
+        (ending ending' : Ending) → YieldsEntries kind bytes entries ending
+        → YieldsEntries kind bytes entries' ending' → (entries ≡ entries') × (ending ≡ ending') }
 {}
 
-/// What a walk through the entries of a text comes to, call by call: a reader at its start has passed
-/// none; each entry that it gives is passed too; where it gives nothing more, those that were passed are
-/// told to the end, and where it gives an error, they are told up to there.
-pub fn entries_are_passed()
-    ensures starts { (kind : Kind) (text : List ℕ) (reader : TreeRefIter)
-        → IsAtEntry kind text reader → HasPassedEntries kind text [] reader }
-    ensures goes_on { (kind : Kind) (text : List ℕ) (entries : List EntryView)
-        (at after : TreeRefIter) (entry : EntryRef) → HasPassedEntries kind text entries at
-        → GivesEntry at (Some (Ok entry)) after
-        → HasPassedEntries kind text (entries ++ entry_view entry ∷ []) after }
-    ensures ends { (kind : Kind) (text : List ℕ) (entries : List EntryView) (at after : TreeRefIter)
-        → HasPassedEntries kind text entries at → GivesEntry at None after
-        → TellsEntries kind text entries complete }
-    ensures stops { (kind : Kind) (text : List ℕ) (entries : List EntryView)
-        (at after : TreeRefIter) (error : Error) → HasPassedEntries kind text entries at
-        → GivesEntry at (Some (Err error)) after → TellsEntries kind text entries broken }
+/// The entries that an iterator has consumed are those that the tree's bytes yield.
+///
+/// - `starts`: a new iterator has consumed no entry.
+/// - `continues`: each yielded entry is appended to the consumed ones.
+/// - `ends`: at the end of the iterator, the bytes yield the consumed entries and no error.
+/// - `stops`: at an error, the bytes yield the consumed entries and then an error.
+pub fn consumed_entries_are_prefix()
+    ensures starts { (kind : Kind) (bytes : List ℕ) (reader : TreeRefIter)
+        → IsAtEntry kind bytes reader → HasConsumedEntries kind bytes [] reader }
+    ensures continues { (kind : Kind) (bytes : List ℕ) (entries : List EntryView)
+        (at after : TreeRefIter) (entry : EntryRef) → HasConsumedEntries kind bytes entries at
+        → NextEntry at (Some (Ok entry)) after
+        → HasConsumedEntries kind bytes (entries ++ entry_view entry ∷ []) after }
+    ensures ends { (kind : Kind) (bytes : List ℕ) (entries : List EntryView) (at after : TreeRefIter)
+        → HasConsumedEntries kind bytes entries at → NextEntry at None after
+        → YieldsEntries kind bytes entries complete }
+    ensures stops { (kind : Kind) (bytes : List ℕ) (entries : List EntryView)
+        (at after : TreeRefIter) (error : Error) → HasConsumedEntries kind bytes entries at
+        → NextEntry at (Some (Err error)) after → YieldsEntries kind bytes entries broken }
 {}
 
-/// What a reader of a text has left is the end of that text: at its start, and behind each call. So
-/// [`TreeRefIter::offset_to_next_entry`](crate::TreeRefIter::offset_to_next_entry) of the text may be asked.
-pub fn bytes_left_end_the_text()
-    ensures starts { (kind : Kind) (text : List ℕ) (reader : TreeRefIter)
-        → IsAtEntry kind text reader → IsTail text (bytes_left reader) }
-    ensures goes_on { (text : List ℕ) (at after : TreeRefIter)
-        (item : Option (Result EntryRef Error)) → IsTail text (bytes_left at)
-        → GivesEntry at item after → IsTail text (bytes_left after) }
+/// The remaining bytes of an iterator are a suffix of the tree's bytes, at its start and after each call.
+///
+/// [`TreeRefIter::offset_to_next_entry`](crate::TreeRefIter::offset_to_next_entry) requires this suffix.
+pub fn remaining_bytes_are_suffix()
+    ensures starts { (kind : Kind) (bytes : List ℕ) (reader : TreeRefIter)
+        → IsAtEntry kind bytes reader → IsTail bytes (remaining_tree_bytes reader) }
+    ensures continues { (bytes : List ℕ) (at after : TreeRefIter)
+        (item : Option (Result EntryRef Error)) → IsTail bytes (remaining_tree_bytes at)
+        → NextEntry at item after → IsTail bytes (remaining_tree_bytes after) }
 {}
 
-/// What ids name in a store into which an object was put: its id that object, each other id what it named before;
-/// in an empty one no id names any. So of objects that are put in out of a list, the last first, each id names the first
-/// one of the list that stands there with it.
-pub fn an_object_is_put_in()
+/// Insertion in a map from ids to objects.
+///
+/// - `nothing`: in an empty map an id names no object.
+/// - `there`: an inserted id names the inserted object.
+/// - `elsewhere`: each other id names what it named before.
+///
+/// So after a list is inserted from its last object to its first, an id names the first object listed with
+/// it.
+pub fn object_map_insert()
     ensures nothing { (id : ObjectId) → named finite.empty id ≡ None }
     ensures there { (objects : Objects) (id : ObjectId) (it : StoredObject)
         → named (finite.insert objects id it) id ≡ Some it }
@@ -68,7 +81,7 @@ pub fn an_object_is_put_in()
         → named (finite.insert objects id it) other ≡ named objects other }
 {}
 
-/// Two ids are the same or not. So what is said of the empty tree's id, and of each other one, is said of all.
-pub fn ids_are_the_same_or_not()
+/// Two ids are equal or different. A statement on the empty tree's id and on each other id holds for all ids.
+pub fn id_equality_is_decidable()
     ensures { (id other : ObjectId) → (id ≡ other) ⊎ (id ≢ other) }
 {}

@@ -1,5 +1,5 @@
-//! Objects of any kind, owned and borrowed, objects whose content is not yet read, trees read entry by entry, and what a
-//! store of objects is. Objects are read by their kind or as loose objects, taken apart and written.
+//! Objects of any kind, owned and borrowed, undecoded objects, iterators over tree entries, and object
+//! stores. Objects are decoded by their kind or as loose objects, converted to their parts, and encoded.
 #![tactic(auto)]
 
 pub mod data;

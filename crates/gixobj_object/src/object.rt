@@ -1,4 +1,4 @@
-//! Objects of any kind, owned (gitdatamodel, "objects"); below it borrowed ones, and how objects are read.
+//! Owned objects of any kind (gitdatamodel, "objects"). The modules below hold borrowed objects and decoding.
 ghost use Rattle.std.specs.Prelude.{◌≡◌, ◌≢◌, MatchOption};
 ghost use Rattle.gixobj_object.specs.Objects.{owned_kind};
 
@@ -12,7 +12,8 @@ use gixobj_hash::Kind;
 use gixobj_tag::Tag;
 use gixobj_tree::{Blob, Tree};
 
-/// An object of any kind, owned.
+/// An owned object of any kind. [`ObjectRef::into_owned`] makes one, and `From` converts a tree, blob, commit
+/// or tag.
 #[derive(Clone, Debug, Drop, PartialEq, Eq, PartialOrd, Ord, Hash)]
 pub enum Object {
     /// A directory.
@@ -27,7 +28,7 @@ pub enum Object {
 
 /// Access
 impl Object {
-    /// The kind of the object.
+    /// Returns the kind of the object.
     pub fn kind(&self) -> Kind
         ensures { result ≡ owned_kind self.now }
     {
@@ -39,7 +40,7 @@ impl Object {
         }
     }
 
-    /// The tree, or none where the object is of another kind.
+    /// Returns the tree, or `None` for an object of another kind.
     pub fn as_tree(&self) -> Option<&Tree>
         ensures { MatchOption result (owned_kind self.now ≢ Kind.Tree)
             (λ tree. self.now ≡ Object.Tree tree.now) }
@@ -50,7 +51,7 @@ impl Object {
         }
     }
 
-    /// The blob, or none where the object is of another kind.
+    /// Returns the blob, or `None` for an object of another kind.
     pub fn as_blob(&self) -> Option<&Blob>
         ensures { MatchOption result (owned_kind self.now ≢ Kind.Blob)
             (λ blob. self.now ≡ Object.Blob blob.now) }
@@ -61,7 +62,7 @@ impl Object {
         }
     }
 
-    /// The commit, or none where the object is of another kind.
+    /// Returns the commit, or `None` for an object of another kind.
     pub fn as_commit(&self) -> Option<&Commit>
         ensures { MatchOption result (owned_kind self.now ≢ Kind.Commit)
             (λ commit. self.now ≡ Object.Commit commit.now) }
@@ -72,7 +73,7 @@ impl Object {
         }
     }
 
-    /// The tag, or none where the object is of another kind.
+    /// Returns the tag, or `None` for an object of another kind.
     pub fn as_tag(&self) -> Option<&Tag>
         ensures { MatchOption result (owned_kind self.now ≢ Kind.Tag)
             (λ tag. self.now ≡ Object.Tag tag.now) }

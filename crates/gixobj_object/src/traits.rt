@@ -1,6 +1,6 @@
-//! What a store of objects is, and how objects are looked up in it.
+//! Traits of object stores: the model of a store and the lookups in it.
 ghost use Rattle.std.specs.Prelude.{◌≡◌, IfErr, IfOk, IsFalse, is_some};
-ghost use Rattle.gixobj_object.specs.Stores.{IsFound, IsHeaderFound, RefusesFind, named};
+ghost use Rattle.gixobj_object.specs.Stores.{IsFound, IsHeaderFound, IsFindError, named};
 ghost use Rattle.gixobj_hash.specs.Hash.Borrowed.{borrowed_id};
 
 mod impls;
@@ -10,55 +10,73 @@ use crate::find::Error;
 use gixobj_hash::Header;
 use gixobj_hash::hash::oid;
 
-/// A store of objects, as contracts see it. It has no calls of its own.
+/// The model of an object store, as contracts see it. It has no calls.
 ///
-/// A store of one's own says here what it means, and then implements [`Find`], [`FindHeader`] and
-/// [`Exists`], whose answers all follow from it.
+/// A store states its model here, and implements [`Find`], [`FindHeader`] and [`Exists`]. The model
+/// determines their results.
 pub trait Store {
     ghost use Rattle.std.specs.Prelude.{Bool};
     ghost use Rattle.gixobj_object.specs.Stores.{Objects};
     ghost use Rattle.gixobj_hash.specs.declared.hash.object_id.ObjectId.{ObjectId};
 
-    /// Which object each id names.
+    /// The object that each id names.
     ghost objects: { Self → Objects };
 
-    /// For which ids a lookup may fail.
+    /// The ids for which a lookup may fail.
     ghost may_fail: { Self → ObjectId → Bool };
 }
 
-/// A store in which objects are found.
+/// An object store that looks up objects by their ids.
 pub trait Find: Store {
-    /// The object that the id names, whose content is put into `buffer`, or none where it names none.
+    /// Looks up the object that `id` names, or returns `None` if it names none.
     ///
-    /// `Store` only for an id whose lookup may fail, with the store's own message, and `OutOfMemory` where
-    /// memory ran out. Behind an error the buffer may hold anything.
+    /// The content is written to `buffer`. After an error the buffer may hold any bytes.
+    ///
+    /// # Errors
+    ///
+    /// - [`Error::Store`] with the message of the store, only if the lookup of `id` may fail.
+    /// - [`Error::OutOfMemory`] if an allocation fails.
+    ///
+    /// # Examples
+    ///
+    /// ```rust
+    /// if id.to_owned() != self.id {
+    ///     return self.store.try_find(id, buffer);
+    /// }
+    /// buffer.clear();
+    /// buffer.extend_from_slice(self.object.bytes)?;
+    /// Ok(Some(Data::new(buffer.as_slice(), self.object.kind, self.object.object_hash)))
+    /// ```
     fn try_find<'a>(&self, id: oid<'_>, buffer: &'a mut Vec<u8>) -> Result<Option<Data<'a>>, Error>
         ensures found { IfOk result (IsFound (Self.objects self.now) (borrowed_id id.entry)) }
-        ensures refusal { IfErr result (RefusesFind (Self.may_fail self.now)
+        ensures error { IfErr result (IsFindError (Self.may_fail self.now)
             (borrowed_id id.entry)) };
 }
 
-/// A store in which the kinds and sizes of objects are found.
+/// An object store that looks up the kinds and the sizes of objects.
 pub trait FindHeader: Store {
-    /// The kind and the size of the object that the id names, or none where it names none.
+    /// Looks up the kind and the size in bytes of the object that `id` names, or returns `None` if it names
+    /// none.
     ///
-    /// `Store` only for an id whose lookup may fail, with the store's own message, and `OutOfMemory` where
-    /// memory ran out.
+    /// # Errors
+    ///
+    /// - [`Error::Store`] with the message of the store, only if the lookup of `id` may fail.
+    /// - [`Error::OutOfMemory`] if an allocation fails.
     fn try_header(&self, id: oid<'_>) -> Result<Option<Header>, Error>
         ensures found { IfOk result (IsHeaderFound (Self.objects self.now) (borrowed_id id.entry)) }
-        ensures refusal { IfErr result (RefusesFind (Self.may_fail self.now)
+        ensures error { IfErr result (IsFindError (Self.may_fail self.now)
             (borrowed_id id.entry)) };
 }
 
-/// A store that tells whether it has an object.
+/// An object store that knows which objects it has.
 pub trait Exists: Store {
-    /// Whether the id names an object. For an id whose lookup may fail it may answer either.
+    /// Returns whether `id` names an object. For an id whose lookup may fail the result may be either.
     fn exists(&self, id: oid<'_>) -> bool
         ensures { IsFalse (Self.may_fail self.now (borrowed_id id.entry))
             → result ≡ is_some (named (Self.objects self.now) (borrowed_id id.entry)) };
 }
 
-/// A store in which both objects and their headers are found.
+/// An object store that looks up objects and their headers.
 pub trait FindObjectOrHeader: Find + FindHeader {}
 
 impl<T: Find + FindHeader> FindObjectOrHeader for T {}

@@ -1,7 +1,7 @@
-//! Trees read entry by entry (gitdatamodel, "trees").
+//! Iteration over the entries of an encoded tree (gitdatamodel, "trees").
 ghost use Rattle.std.specs.Prelude.{◌≡◌, ◌-◌, [], IfErr, IfOk, length, map};
-ghost use Rattle.gixobj_object.specs.EntryGiving.{GivesEntry, IsAtEntry, IsTail, bytes_left, entries_left};
-ghost use Rattle.gixobj_tree.specs.TreeReading.{IsTreeText, RefusesTreeText};
+ghost use Rattle.gixobj_object.specs.EntrySteps.{NextEntry, IsAtEntry, IsTail, remaining_tree_bytes, remaining_entries};
+ghost use Rattle.gixobj_tree.specs.TreeDecoding.{DecodesToTree, IsTreeDecodeError};
 ghost use Rattle.gixobj_tree.specs.TreeViews.{entry_view};
 
 mod lookup;
@@ -14,7 +14,9 @@ use gixobj_tree::tree::decode::read_entry;
 pub use lookup::next_entry;
 use std::alloc::Global;
 
-/// A reader of a tree that tells it entry by entry.
+/// An iterator over the entries of an encoded tree, which are decoded one by one.
+///
+/// [`TreeRefIter::from_bytes`] makes one.
 #[derive(Clone, Copy, Debug, PartialEq, Eq, PartialOrd, Ord, Hash)]
 pub struct TreeRefIter<'a> {
     hash_kind: hash::Kind,
@@ -23,8 +25,24 @@ pub struct TreeRefIter<'a> {
 
 /// Lifecycle
 impl<'a> TreeRefIter<'a> {
-    /// A reader of the tree with this text, whose entries have ids of this kind. It reads nothing yet, and
-    /// takes no memory.
+    /// Makes an iterator over the entries of the tree that `bytes` encodes, with ids of `hash_kind`.
+    ///
+    /// Decodes nothing yet. Allocates nothing.
+    ///
+    /// # Examples
+    ///
+    /// ```rust
+    /// pub fn executables(alloc: Global, bytes: &[u8]) -> Result<Vec<BStr<'_>>, decode::Error> {
+    ///     let mut names = Vec::new(alloc);
+    ///     for entry in TreeRefIter::from_bytes(bytes, HashKind::Sha1) {
+    ///         let entry = entry?;
+    ///         if entry.mode.is_executable() {
+    ///             names.push(entry.filename)?;
+    ///         }
+    ///     }
+    ///     Ok(names)
+    /// }
+    /// ```
     pub fn from_bytes(bytes: &'a [u8], hash_kind: hash::Kind) -> TreeRefIter<'a>
         ensures { IsAtEntry hash_kind bytes.now result }
     {
@@ -37,7 +55,7 @@ impl<'a> Default for TreeRefIter<'a> {
 
     ghost is_default = { IsAtEntry Sha1 [] };
 
-    /// A reader of no bytes, with ids of the default kind.
+    /// Makes an iterator over no bytes, with ids of the default hash kind.
     fn default() -> TreeRefIter<'a> {
         TreeRefIter::from_bytes(b"", hash::Kind::default())
     }
@@ -45,40 +63,45 @@ impl<'a> Default for TreeRefIter<'a> {
 
 /// Access
 impl<'a> TreeRefIter<'a> {
-    /// All entries that are left.
+    /// Decodes the remaining entries. Allocates the list of entries.
     ///
-    /// `Malformed` where the bytes that are left are no tree's text. The list takes memory, and
-    /// `OutOfMemory` comes only where an entry was read.
+    /// # Errors
+    ///
+    /// - [`Error::Malformed`] if the remaining bytes are not the encoding of a tree.
+    /// - [`Error::OutOfMemory`] if an allocation fails; then the remaining bytes begin with an entry.
     pub fn entries(self, alloc: Global) -> Result<Vec<EntryRef<'a>>, Error>
         ensures found { IfOk result (λ entries.
-            IsTreeText self.entry.hash_kind (bytes_left self.entry)
+            DecodesToTree self.entry.hash_kind (remaining_tree_bytes self.entry)
             (map entry_view entries.items)) }
-        ensures refusal { IfErr result (RefusesTreeText self.entry.hash_kind
-            (bytes_left self.entry)) }
+        ensures error { IfErr result (IsTreeDecodeError self.entry.hash_kind
+            (remaining_tree_bytes self.entry)) }
     {
         let tree = TreeRef::from_bytes(alloc, self.bytes, self.hash_kind)?;
         Ok(tree.entries)
     }
 
-    /// Where in the bytes of the tree the next entry begins: how many stand before those that are left.
-    /// A reader of what stands behind that place goes on as this one. It takes no memory.
+    /// Returns the offset of the next entry in `buf`, in bytes. `buf` has to end with the remaining bytes.
+    ///
+    /// A new iterator over the bytes from this offset continues like this one. Allocates nothing.
     pub fn offset_to_next_entry(&self, buf: &[u8]) -> usize
-        requires { IsTail buf.now (bytes_left self.now) }
-        ensures { result ≡ length buf.now - length (bytes_left self.now) }
+        requires { IsTail buf.now (remaining_tree_bytes self.now) }
+        ensures { result ≡ length buf.now - length (remaining_tree_bytes self.now) }
     {
         buf.len() - self.bytes.len()
     }
 }
 
-/// Tells the next entry. Behind an error the reader is at its end.
+/// Yields the next entry. After an error the iterator is at its end. Allocates nothing.
 ///
-/// `Malformed` where the bytes that are left begin with no entry. It takes no memory.
+/// # Errors
+///
+/// [`Error::Malformed`] if bytes remain that begin with no entry.
 impl<'a> Iterator for TreeRefIter<'a> {
     type Item = Result<EntryRef<'a>, Error>;
 
-    ghost next_gives = { GivesEntry };
+    ghost next_gives = { NextEntry };
 
-    ghost remaining = { entries_left };
+    ghost remaining = { remaining_entries };
 
     fn next(&mut self) -> Option<Result<EntryRef<'a>, Error>> {
         if self.bytes.is_empty() {

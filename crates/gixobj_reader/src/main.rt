@@ -1,15 +1,15 @@
-//! The command `show [sha256]` of the program `gixobj` alone, which depends on few of its crates and so is soon
-//! built.
+//! The command `show [sha256]` of the program `gixobj` alone. It depends on few of the program's crates,
+//! so it builds fast.
 #![tactic(auto)]
 
 use gixobj_fields::streams::ToWrite;
-use gixobj_show::engine::{engine, tell};
-use gixobj_show::words::words_of_process;
+use gixobj_show::arguments::process_arguments;
+use gixobj_show::engine::{engine, report_to};
 use std::process::ExitCode;
 
 fn main(rt: HostRuntime) -> ExitCode {
     let mut errors = rt.stderr();
-    ExitCode::from(match words_of_process(&rt) {
+    ExitCode::from(match process_arguments(&rt) {
         Ok(words) => engine(
             rt.alloc(),
             words.as_slice(),
@@ -17,6 +17,6 @@ fn main(rt: HostRuntime) -> ExitCode {
             &mut rt.stdout(),
             &mut errors,
         ),
-        Err(refusal) => tell(refusal, &mut ToWrite(&mut errors)),
+        Err(error) => report_to(error, &mut ToWrite(&mut errors)),
     })
 }

@@ -4,7 +4,7 @@ mod CommitTokens
 mod CommitWalks
 mod CommitsFound
 mod ParentsFound
-mod Seeking
+mod Searching
 mod TagLanguage
 mod TagRuns
 mod TagTokens

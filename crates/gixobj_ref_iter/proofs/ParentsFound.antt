@@ -1,4 +1,4 @@
--- The parents that a reader of tokens finds in the text of a commit.
+-- States which parents a token iterator finds in the encoding of a commit; the law `id_search_complete` uses it.
 use Rattle.std.proofs.Common.{◌≡◌, ℕ, List, [], ◌∷◌, ◌++◌, Option, Some, None, refl, sym, ap, subst, ◌∙◌}
 use Rattle.std.proofs.lemmas.Iterator.{YieldsList}
 use Rattle.std.proofs.lemmas.List.Elements.{All-cons, All-head, All-nil, All-tail}
@@ -6,14 +6,14 @@ use Rattle.std.proofs.lemmas.List.Concat.{flat_map-append}
 use Rattle.std.specs.Iterator.{AlwaysYields}
 use Rattle.std.specs.List.{AllZip, flat_map}
 use Rattle.std.specs.Prelude.{map, ⊤}
-use Rattle.gixobj_hash.specs.Hash.{Spells}
+use Rattle.gixobj_hash.specs.Hash.{DecodesToId}
 use Rattle.gixobj_hash.specs.declared.decode.Error.TheVariants.{Malformed, OutOfMemory}
 use Rattle.gixobj_hash.specs.declared.hash.kind.Kind.{Kind}
 use Rattle.gixobj_hash.specs.declared.hash.object_id.ObjectId.{ObjectId}
-use Rattle.gixobj_fields.proofs.Runs.{behind_first, behind_passed}
-use Rattle.gixobj_fields.specs.HeaderText.{Header}
-use Rattle.gixobj_fields.specs.Runs.{Ending, HasNone, complete, tells_end, tells_error, tells_piece}
-use Rattle.gixobj_commit.specs.Commit.{CommitLines, IsCommitText, encoding_lines, lines_of_commit}
+use Rattle.gixobj_fields.proofs.Runs.{after_first, after_passed}
+use Rattle.gixobj_fields.specs.HeaderFormat.{Header}
+use Rattle.gixobj_fields.specs.Runs.{Ending, HasNone, complete, yields_end, yields_error, yields_piece}
+use Rattle.gixobj_commit.specs.Commit.{CommitLines, DecodesToCommit, encoding_lines, lines_of_commit}
 use Rattle.gixobj_line.specs.Lines.{HasLine, LineView, MayFold, author_comes, committer_comes, encoding_comes, first_header_comes, first_message_comes, header_comes, header_line, message_comes, message_line, parent_comes, parent_line, tree_comes}
 use Rattle.gixobj_line.specs.declared.lines.State.{State}
 use Rattle.gixobj_line.specs.declared.lines.State.TheVariants as state
@@ -21,12 +21,12 @@ use Rattle.gixobj_ref_iter.proofs.CommitsFound.{from_start}
 use Rattle.gixobj_ref_iter.proofs.CommitLanguage as language
 use Rattle.gixobj_ref_iter.proofs.CommitRuns.{one_run}
 use Rattle.gixobj_ref_iter.proofs.CommitTokens.{no_token_of_nothing, one_token}
-use Rattle.gixobj_ref_iter.specs.CommitRuns.{TellsCommit}
-use Rattle.gixobj_ref_iter.specs.CommitTokens.{HasCommitToken, TellsLine, CommitTokenView, author_token, committer_token, encoding_token, header_token, message_token, parent_token, tells_author, tells_committer, tells_encoding, tells_header, tells_message, tells_parent, tells_tree, tree_token}
+use Rattle.gixobj_ref_iter.specs.CommitRuns.{YieldsCommitTokens}
+use Rattle.gixobj_ref_iter.specs.CommitTokens.{HasCommitToken, IsTokenOfLine, CommitTokenView, author_token, committer_token, encoding_token, header_token, message_token, parent_token, yields_author, yields_committer, yields_encoding, yields_header, yields_message, yields_parent, yields_tree, tree_token}
 use Rattle.gixobj_ref_iter.specs.Readers.{AreTokensOfCommit}
-use Rattle.gixobj_ref_iter.specs.TokenFilters.{GivesParent, parents_reader}
-use Rattle.gixobj_ref_iter.specs.TokenGiving.{IsAtStartOfCommit, standing_in_commit}
-use Rattle.gixobj_ref_iter.specs.TokenPassing.{IsParentToken}
+use Rattle.gixobj_ref_iter.specs.TokenFilters.{NextParent, parents_reader}
+use Rattle.gixobj_ref_iter.specs.CommitTokenSteps.{IsAtStartOfCommit, commit_reader_state}
+use Rattle.gixobj_ref_iter.specs.TokenSearch.{IsParentToken}
 use Rattle.gixobj_ref_iter.specs.declared.commit.filters.ParentIds.{ParentIds}
 
 -- ---- the parents among tokens
@@ -50,87 +50,101 @@ no_parent (message_token message) other = refl
 no_parents : (tokens : List CommitTokenView) → HasNone IsParentToken tokens → parents_of tokens ≡ []
 no_parents [] none = refl
 no_parents (token ∷ tokens) none =
-    rw (no_parent token (All-head (λ it. ¬ IsParentToken it) token tokens none)) (no_parents tokens (All-tail (λ it. ¬ IsParentToken it) token tokens none))
+    rw (no_parent token (All-head (λ it. ¬ IsParentToken it) token tokens none))
+    (no_parents tokens (All-tail (λ it. ¬ IsParentToken it) token tokens none))
 
--- behind tokens without a parent the first parent is that of the rest
-behind_others : (others tokens : List CommitTokenView) → HasNone IsParentToken others → parents_of (others ++ tokens) ≡ parents_of tokens
-behind_others others tokens none = flat_map-append parent_id others tokens ∙ ap (λ (it : List ObjectId). it ++ parents_of tokens) (no_parents others none)
+-- after tokens without a parent, the parents are those of the rest
+after_others : (others tokens : List CommitTokenView) → HasNone IsParentToken others → parents_of (others ++ tokens) ≡ parents_of tokens
+after_others others tokens none = flat_map-append parent_id others tokens ∙ ap (λ (it : List ObjectId). it ++ parents_of tokens)
+    (no_parents others none)
 
--- ---- no parent comes behind the committer
+-- ---- no parent follows the committer
 
-abbrev IsBehindActors : State → Type 0
-IsBehindActors state.Encoding = ⊤
-IsBehindActors state.ExtraHeaders = ⊤
-IsBehindActors state.End = ⊤
-IsBehindActors _ = ⊥
+abbrev IsAfterActors : State → Type 0
+IsAfterActors state.Encoding = ⊤
+IsAfterActors state.ExtraHeaders = ⊤
+IsAfterActors state.End = ⊤
+IsAfterActors _ = ⊥
 
-behind_folded : (before : State) (input : List ℕ) → MayFold before input → IsBehindActors before
-behind_folded state.Tree input may = absurd may
-behind_folded state.Parents input may = absurd may
-behind_folded state.Committer input may = absurd may
-behind_folded state.Encoding input may = tt
-behind_folded state.ExtraHeaders input may = tt
-behind_folded state.End input may = absurd may
+after_folded : (before : State) (input : List ℕ) → MayFold before input → IsAfterActors before
+after_folded state.Tree input may = absurd may
+after_folded state.Parents input may = absurd may
+after_folded state.Committer input may = absurd may
+after_folded state.Encoding input may = tt
+after_folded state.ExtraHeaders input may = tt
+after_folded state.End input may = absurd may
 
-behind_actors : (kind : Kind) (before : State) (input : List ℕ) (line : LineView) (token : CommitTokenView) (after : State) (rest : List ℕ) → HasLine kind before input line after rest → TellsLine line token → IsBehindActors before
-    → (¬ IsParentToken token) × IsBehindActors after
-behind_actors kind before input line token after rest (tree_comes _ hex _ has) tells may = absurd may
-behind_actors kind before input line token after rest (parent_comes _ hex _ has) tells may = absurd may
-behind_actors kind before input line token after rest (author_comes _ actor _ has) tells may = absurd may
-behind_actors kind before input line token after rest (committer_comes _ actor _ has) tells may = absurd may
-behind_actors kind before input line token after rest (encoding_comes _ encoding _ has) (tells_encoding _) may = (λ is. is, tt)
-behind_actors kind before input line token after rest (first_header_comes _ header _ has other) (tells_header _) may = (λ is. is, tt)
-behind_actors kind before input line token after rest (header_comes _ header _ has) (tells_header _) may = (λ is. is, tt)
-behind_actors kind before input line token after rest (first_message_comes _ message is) (tells_message _) may = (λ is. is, tt)
-behind_actors kind before input line token after rest (message_comes _ message is) (tells_message _) may = (λ is. is, tt)
+after_actors : (kind : Kind) (before : State) (input : List ℕ) (line : LineView) (token : CommitTokenView) (after : State) (rest : List ℕ)
+    → HasLine kind before input line after rest → IsTokenOfLine line token → IsAfterActors before
+    → (¬ IsParentToken token) × IsAfterActors after
+after_actors kind before input line token after rest (tree_comes _ hex _ has) yields may = absurd may
+after_actors kind before input line token after rest (parent_comes _ hex _ has) yields may = absurd may
+after_actors kind before input line token after rest (author_comes _ actor _ has) yields may = absurd may
+after_actors kind before input line token after rest (committer_comes _ actor _ has) yields may = absurd may
+after_actors kind before input line token after rest (encoding_comes _ encoding _ has) (yields_encoding _) may = (λ is. is, tt)
+after_actors kind before input line token after rest (first_header_comes _ header _ has other) (yields_header _) may = (λ is. is, tt)
+after_actors kind before input line token after rest (header_comes _ header _ has) (yields_header _) may = (λ is. is, tt)
+after_actors kind before input line token after rest (first_message_comes _ message is) (yields_message _) may = (λ is. is, tt)
+after_actors kind before input line token after rest (message_comes _ message is) (yields_message _) may = (λ is. is, tt)
 
-none_behind : (kind : Kind) (before : State) (input : List ℕ) (tokens : List CommitTokenView) (ending : Ending) → IsBehindActors before → TellsCommit kind before input tokens ending → HasNone IsParentToken tokens
-none_behind kind before input tokens ending may (tells_end _) = All-nil (λ it. ¬ IsParentToken it)
-none_behind kind before input tokens ending may (tells_error _ _ some none) = All-nil (λ it. ¬ IsParentToken it)
-none_behind kind before input tokens ending may (tells_piece _ behind _ rest token others _ (line, has, tells) told) =
-    let it = behind_actors kind before input line token behind rest has tells may in
-    All-cons (λ it. ¬ IsParentToken it) token others it.0 (none_behind kind behind rest others ending it.1 told)
+none_after : (kind : Kind) (before : State) (input : List ℕ) (tokens : List CommitTokenView) (ending : Ending) → IsAfterActors before
+    → YieldsCommitTokens kind before input tokens ending → HasNone IsParentToken tokens
+none_after kind before input tokens ending may (yields_end _) = All-nil (λ it. ¬ IsParentToken it)
+none_after kind before input tokens ending may (yields_error _ _ some none) = All-nil (λ it. ¬ IsParentToken it)
+none_after kind before input tokens ending may (yields_piece _ following _ rest token others _ (line, has, yields) seen) =
+    let it = after_actors kind before input line token following rest has yields may in
+    All-cons (λ it. ¬ IsParentToken it) token others it.0 (none_after kind following rest others ending it.1 seen)
 
 -- ---- the iterator
 
--- the whole run behind the parent that was given
+-- the complete run after the yielded parent
 record Given (id : ObjectId) (tokens : List CommitTokenView) (after : ParentIds) : Type 0 where
   others : List CommitTokenView
-  told : TellsCommit (standing_in_commit (parents_reader after)).kind (standing_in_commit (parents_reader after)).state (standing_in_commit (parents_reader after)).bytes others complete
+  yielded : YieldsCommitTokens (commit_reader_state (parents_reader after)).kind (commit_reader_state (parents_reader after)).state
+      (commit_reader_state (parents_reader after)).bytes others complete
   first : parents_of tokens ≡ id ∷ parents_of others
 
-module _ (it : ParentIds) (tokens : List CommitTokenView) (told : TellsCommit (standing_in_commit (parents_reader it)).kind (standing_in_commit (parents_reader it)).state (standing_in_commit (parents_reader it)).bytes tokens complete) where
-  some_given : (id : ObjectId) (after : ParentIds) → GivesParent it (Some id) after → Given id tokens after
-  some_given id after (before, input, token, (passed, passes, none), has, is, same_kind) =
-      let kind = (standing_in_commit (parents_reader it)).kind in
-      let at = behind_passed (HasCommitToken kind) (one_token kind) (no_token_of_nothing kind) (standing_in_commit (parents_reader it)).state before (standing_in_commit (parents_reader it)).bytes input passed tokens complete passes told in
-      let one = behind_first (HasCommitToken kind) (one_token kind) (no_token_of_nothing kind) before _ input _ token at.others complete has at.told in
+module _ (it : ParentIds) (tokens : List CommitTokenView)
+    (seen : YieldsCommitTokens (commit_reader_state (parents_reader it)).kind (commit_reader_state (parents_reader it)).state
+    (commit_reader_state (parents_reader it)).bytes tokens complete) where
+  some_passed : (id : ObjectId) (after : ParentIds) → NextParent it (Some id) after → Given id tokens after
+  some_passed id after (before, input, token, (passed, passes, none), has, is, same_kind) =
+      let kind = (commit_reader_state (parents_reader it)).kind in
+      let at = after_passed (HasCommitToken kind) (one_token kind) (no_token_of_nothing kind) (commit_reader_state (parents_reader it)).state before
+      (commit_reader_state (parents_reader it)).bytes input passed tokens complete passes seen in
+      let one = after_first (HasCommitToken kind) (one_token kind) (no_token_of_nothing kind) before _ input _ token at.others complete has
+      at.yielded in
       record {
         others = one.others;
-        told = subst (λ (kind : Kind). TellsCommit kind (standing_in_commit (parents_reader after)).state (standing_in_commit (parents_reader after)).bytes one.others complete) (sym same_kind) one.told;
-        first = ap parents_of at.joined ∙ behind_others passed at.others none ∙ ap parents_of one.joined ∙ ap (λ (first : CommitTokenView). parent_id first ++ parents_of one.others) is;
+        yielded = subst (λ (kind : Kind). YieldsCommitTokens kind (commit_reader_state (parents_reader after)).state
+            (commit_reader_state (parents_reader after)).bytes one.others complete) (sym same_kind) one.yielded;
+        first = ap parents_of at.joined ∙ after_others passed at.others none ∙ ap parents_of one.joined
+            ∙ ap (λ (first : CommitTokenView). parent_id first ++ parents_of one.others) is;
       }
 
-  none_given : (after : ParentIds) → GivesParent it None after → parents_of tokens ≡ []
-  none_given after (Malformed, (ending, (others, run, none)), ended, same_kind) =
-      let same = (one_run _ _ _ others tokens ending complete run told).0 in
+  none_passed : (after : ParentIds) → NextParent it None after → parents_of tokens ≡ []
+  none_passed after (Malformed, (ending, (others, run, none)), ended, same_kind) =
+      let same = (one_run _ _ _ others tokens ending complete run seen).0 in
       no_parents tokens (subst (HasNone IsParentToken) same none)
-  none_given after (OutOfMemory, (before, input, (passed, passes, none), refused), ended, same_kind) =
-      let kind = (standing_in_commit (parents_reader it)).kind in
-      let at = behind_passed (HasCommitToken kind) (one_token kind) (no_token_of_nothing kind) (standing_in_commit (parents_reader it)).state before (standing_in_commit (parents_reader it)).bytes input passed tokens complete passes told in
-      ap parents_of at.joined ∙ behind_others passed at.others none ∙ no_parents at.others (none_behind _ before input at.others complete (behind_folded before input refused.0) at.told)
+  none_passed after (OutOfMemory, (before, input, (passed, passes, none), rejected), ended, same_kind) =
+      let kind = (commit_reader_state (parents_reader it)).kind in
+      let at = after_passed (HasCommitToken kind) (one_token kind) (no_token_of_nothing kind) (commit_reader_state (parents_reader it)).state before
+      (commit_reader_state (parents_reader it)).bytes input passed tokens complete passes seen in
+      ap parents_of at.joined ∙ after_others passed at.others none ∙ no_parents at.others
+      (none_after _ before input at.others complete (after_folded before input rejected.0) at.yielded)
 
-always : (ids : List ObjectId) (it : ParentIds) (tokens : List CommitTokenView) → TellsCommit (standing_in_commit (parents_reader it)).kind (standing_in_commit (parents_reader it)).state (standing_in_commit (parents_reader it)).bytes tokens complete
-    → parents_of tokens ≡ ids → AlwaysYields GivesParent (λ id. id) it ids
-always [] it tokens told none = λ id after gives. let given = some_given it tokens told id after gives in cc (none, given.first)
-always (id ∷ ids) it tokens told some = (
-  λ after gives. let none = none_given it tokens told after gives in cc (none, some),
-  λ given after gives.
-      let next = some_given it tokens told given after gives in
-      let same : given ∷ parents_of next.others ≡ id ∷ ids = sym next.first ∙ some in
-      let first : given ≡ id = cc same in
+always : (ids : List ObjectId) (it : ParentIds) (tokens : List CommitTokenView) → YieldsCommitTokens (commit_reader_state (parents_reader it)).kind
+    (commit_reader_state (parents_reader it)).state (commit_reader_state (parents_reader it)).bytes tokens complete
+    → parents_of tokens ≡ ids → AlwaysYields NextParent (λ id. id) it ids
+always [] it tokens seen none = λ id after gives. let received = some_passed it tokens seen id after gives in cc (none, received.first)
+always (id ∷ ids) it tokens seen some = (
+  λ after gives. let none = none_passed it tokens seen after gives in cc (none, some),
+  λ received after gives.
+      let next = some_passed it tokens seen received after gives in
+      let same : received ∷ parents_of next.others ≡ id ∷ ids = sym next.first ∙ some in
+      let first : received ≡ id = cc same in
       let more : parents_of next.others ≡ ids = cc same in
-      (first, always ids after next.others next.told more),
+      (first, always ids after next.others next.yielded more),
 )
 
 -- ---- the parents of a commit
@@ -139,17 +153,18 @@ abbrev hex_of : LineView → List (List ℕ)
 hex_of (parent_line hex) = hex ∷ []
 hex_of _ = []
 
-all_told : (lines : List LineView) (tokens : List CommitTokenView) → AllZip TellsLine lines tokens → AllZip Spells (flat_map hex_of lines) (parents_of tokens)
-all_told [] [] zips = tt
-all_told [] (token ∷ tokens) zips = absurd zips
-all_told (line ∷ lines) [] zips = absurd zips
-all_told (_ ∷ lines) (_ ∷ tokens) (tells_tree hex id spells, others) = all_told lines tokens others
-all_told (_ ∷ lines) (_ ∷ tokens) (tells_parent hex id spells, others) = (spells, all_told lines tokens others)
-all_told (_ ∷ lines) (_ ∷ tokens) (tells_author text actor is, others) = all_told lines tokens others
-all_told (_ ∷ lines) (_ ∷ tokens) (tells_committer text actor is, others) = all_told lines tokens others
-all_told (_ ∷ lines) (_ ∷ tokens) (tells_encoding encoding, others) = all_told lines tokens others
-all_told (_ ∷ lines) (_ ∷ tokens) (tells_header header, others) = all_told lines tokens others
-all_told (_ ∷ lines) (_ ∷ tokens) (tells_message message, others) = all_told lines tokens others
+all_yielded : (lines : List LineView) (tokens : List CommitTokenView) → AllZip IsTokenOfLine lines tokens
+    → AllZip DecodesToId (flat_map hex_of lines) (parents_of tokens)
+all_yielded [] [] zips = tt
+all_yielded [] (token ∷ tokens) zips = absurd zips
+all_yielded (line ∷ lines) [] zips = absurd zips
+all_yielded (_ ∷ lines) (_ ∷ tokens) (yields_tree hex id spells, others) = all_yielded lines tokens others
+all_yielded (_ ∷ lines) (_ ∷ tokens) (yields_parent hex id spells, others) = (spells, all_yielded lines tokens others)
+all_yielded (_ ∷ lines) (_ ∷ tokens) (yields_author content actor is, others) = all_yielded lines tokens others
+all_yielded (_ ∷ lines) (_ ∷ tokens) (yields_committer content actor is, others) = all_yielded lines tokens others
+all_yielded (_ ∷ lines) (_ ∷ tokens) (yields_encoding encoding, others) = all_yielded lines tokens others
+all_yielded (_ ∷ lines) (_ ∷ tokens) (yields_header header, others) = all_yielded lines tokens others
+all_yielded (_ ∷ lines) (_ ∷ tokens) (yields_message message, others) = all_yielded lines tokens others
 
 hexes_in : (hexes : List (List ℕ)) (lines : List LineView) → flat_map hex_of lines ≡ [] → flat_map hex_of (map parent_line hexes ++ lines) ≡ hexes
 hexes_in [] lines none = none
@@ -159,17 +174,22 @@ none_in_headers : (headers : List Header) (message : List ℕ) → flat_map hex_
 none_in_headers [] message = refl
 none_in_headers (header ∷ headers) message = none_in_headers headers message
 
-none_in_encoding : (encoding : Option (List ℕ)) (headers : List Header) (message : List ℕ) → flat_map hex_of (encoding_lines encoding ++ (map header_line headers ++ message_line message ∷ [])) ≡ []
+none_in_encoding : (encoding : Option (List ℕ)) (headers : List Header) (message : List ℕ)
+    → flat_map hex_of (encoding_lines encoding ++ (map header_line headers ++ message_line message ∷ [])) ≡ []
 none_in_encoding None headers message = none_in_headers headers message
 none_in_encoding (Some encoding) headers message = none_in_headers headers message
 
-parents_spelled : (commit : CommitLines) (tokens : List CommitTokenView) → AreTokensOfCommit commit tokens → AllZip Spells commit.parents (parents_of tokens)
+parents_spelled : (commit : CommitLines) (tokens : List CommitTokenView) → AreTokensOfCommit commit tokens
+    → AllZip DecodesToId commit.parents (parents_of tokens)
 parents_spelled commit tokens are =
-    subst (λ (hexes : List (List ℕ)). AllZip Spells hexes (parents_of tokens)) (hexes_in commit.parents _ (none_in_encoding commit.encoding commit.extra_headers commit.message)) (all_told (lines_of_commit commit) tokens are)
+    subst (λ (hexes : List (List ℕ)). AllZip DecodesToId hexes (parents_of tokens))
+    (hexes_in commit.parents _ (none_in_encoding commit.encoding commit.extra_headers commit.message))
+    (all_yielded (lines_of_commit commit) tokens are)
 
-pub its_parents : (kind : Kind) (text : List ℕ) (commit : CommitLines) (it : ParentIds) → IsCommitText kind text commit → IsAtStartOfCommit kind text (parents_reader it)
-    → (ids : List ObjectId) × AllZip Spells commit.parents ids × YieldsList GivesParent (λ id. id) it ids
-its_parents kind text commit it is start =
-    let run = language.told kind text commit is in
-    let told = from_start kind text (parents_reader it) run.0 start run.1 in
-    (parents_of run.0, parents_spelled commit run.0 run.2, record { runs = always (parents_of run.0) it run.0 told refl })
+pub its_parents : (kind : Kind) (content : List ℕ) (commit : CommitLines) (it : ParentIds) → DecodesToCommit kind content commit
+    → IsAtStartOfCommit kind content (parents_reader it)
+    → (ids : List ObjectId) × AllZip DecodesToId commit.parents ids × YieldsList NextParent (λ id. id) it ids
+its_parents kind content commit it is start =
+    let run = language.yields_decoded kind content commit is in
+    let seen = from_start kind content (parents_reader it) run.0 start run.1 in
+    (parents_of run.0, parents_spelled commit run.0 run.2, record { runs = always (parents_of run.0) it run.0 seen refl })

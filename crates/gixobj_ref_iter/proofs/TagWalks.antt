@@ -1,39 +1,52 @@
--- A reader of tags that goes through all tokens.
+-- An iterator over tags that consumes all tokens.
 use Rattle.std.proofs.Common.{◌++◌, ◌∷◌, ◌∙◌, List, [], ℕ, Ok, Err, Some, None, ap, subst, sym}
-use Rattle.gixobj_fields.proofs.Runs.{passes_one, tells_passed}
-use Rattle.gixobj_fields.specs.Readers.{Standing}
-use Rattle.gixobj_fields.specs.Runs.{HasNoPiece, broken, complete, tells_end, tells_error}
+use Rattle.gixobj_fields.proofs.Runs.{passes_one, yields_passed}
+use Rattle.gixobj_fields.specs.Iterators.{ReaderState}
+use Rattle.gixobj_fields.specs.Runs.{HasNoPiece, broken, complete, yields_end, yields_error}
 use Rattle.gixobj_hash.specs.declared.decode.Error.{Error}
 use Rattle.gixobj_hash.specs.declared.decode.Error.TheVariants.{Malformed, OutOfMemory}
 use Rattle.gixobj_hash.specs.declared.hash.kind.Kind.{Kind}
 use Rattle.gixobj_ref_iter.specs.TagTokens.{HasTagToken, TagTokenView, tag_token_view}
-use Rattle.gixobj_ref_iter.specs.TagTokenGiving.{GivesTagToken, HasPassedTagTokens, IsAtStartOfTag, TellsTag, standing_in_tag}
+use Rattle.gixobj_ref_iter.specs.TagTokenSteps.{NextTagToken, HasConsumedTagTokens, IsAtStartOfTag, YieldsTagTokens, tag_reader_state}
 use Rattle.gixobj_ref_iter.specs.declared.tag.State.{State}
 use Rattle.gixobj_ref_iter.specs.declared.tag.State.TheVariants as state
 use Rattle.gixobj_ref_iter.specs.declared.tag.TagRefIter.{TagRefIter}
 use Rattle.gixobj_ref_iter.specs.declared.tag.Token.{Token}
 
-module _ (kind : Kind) (text : List ℕ) where
-  pub starts : (reader : TagRefIter) → IsAtStartOfTag kind text reader → HasPassedTagTokens kind text [] reader
-  starts reader start = ((ap (λ (it : Standing Kind State). it.state) (sym start), ap (λ (it : Standing Kind State). it.bytes) (sym start)), ap (λ (it : Standing Kind State). it.kind) start)
+module _ (kind : Kind) (content : List ℕ) where
+  pub starts : (reader : TagRefIter) → IsAtStartOfTag kind content reader → HasConsumedTagTokens kind content [] reader
+  starts reader start = (
+    (ap (λ (it : ReaderState Kind State). it.state) (sym start), ap (λ (it : ReaderState Kind State). it.bytes) (sym start)),
+    ap
+        (λ (it : ReaderState Kind State). it.kind) start,
+  )
 
-  pub goes_on : (tokens : List TagTokenView) (at after : TagRefIter) (token : Token) → HasPassedTagTokens kind text tokens at → GivesTagToken at (Some (Ok token)) after → HasPassedTagTokens kind text (tokens ++ tag_token_view token ∷ []) after
+  pub goes_on : (tokens : List TagTokenView) (at after : TagRefIter) (token : Token) → HasConsumedTagTokens kind content tokens at
+      → NextTagToken at (Some (Ok token)) after → HasConsumedTagTokens kind content (tokens ++ tag_token_view token ∷ []) after
   goes_on tokens at after token (passed, same_kind) (has, kept, such) =
-      let here = subst (λ (it : Kind). HasTagToken it (standing_in_tag at).state (standing_in_tag at).bytes (tag_token_view token) (standing_in_tag after).state (standing_in_tag after).bytes) same_kind has in
-      (passes_one (HasTagToken kind) state.Target (standing_in_tag at).state (standing_in_tag after).state text (standing_in_tag at).bytes (standing_in_tag after).bytes tokens (tag_token_view token) passed here, kept ∙ same_kind)
+      let here = subst (λ (it : Kind). HasTagToken it (tag_reader_state at).state (tag_reader_state at).bytes (tag_token_view token)
+      (tag_reader_state after).state (tag_reader_state after).bytes) same_kind has in (
+        passes_one (HasTagToken kind) state.Target (tag_reader_state at).state (tag_reader_state after).state content (tag_reader_state at).bytes
+            (tag_reader_state after).bytes tokens (tag_token_view token) passed here,
+        kept ∙ same_kind,
+      )
 
-  pub ends : (tokens : List TagTokenView) (at after : TagRefIter) → HasPassedTagTokens kind text tokens at → GivesTagToken at None after → TellsTag kind state.Target text tokens complete
+  pub ends : (tokens : List TagTokenView) (at after : TagRefIter) → HasConsumedTagTokens kind content tokens at → NextTagToken at None after
+      → YieldsTagTokens kind state.Target content tokens complete
   ends tokens at after (passed, same_kind) gives =
-      let end : TellsTag kind (standing_in_tag at).state (standing_in_tag at).bytes [] complete = rw gives.0 (tells_end (standing_in_tag at).state) in
-      tells_passed (HasTagToken kind) state.Target (standing_in_tag at).state text (standing_in_tag at).bytes tokens complete passed end
+      let end : YieldsTagTokens kind (tag_reader_state at).state (tag_reader_state at).bytes [] complete =
+      rw gives.0 (yields_end (tag_reader_state at).state) in
+      yields_passed (HasTagToken kind) state.Target (tag_reader_state at).state content (tag_reader_state at).bytes tokens complete passed end
 
-  malformed_only : (at after : TagRefIter) (error : Error) → GivesTagToken at (Some (Err error)) after → GivesTagToken at (Some (Err Malformed)) after
+  malformed_only : (at after : TagRefIter) (error : Error) → NextTagToken at (Some (Err error)) after → NextTagToken at (Some (Err Malformed)) after
   malformed_only at after Malformed gives = gives
   malformed_only at after OutOfMemory gives = absurd gives.1
 
-  pub stops : (tokens : List TagTokenView) (at after : TagRefIter) (error : Error) → HasPassedTagTokens kind text tokens at → GivesTagToken at (Some (Err error)) after → TellsTag kind state.Target text tokens broken
+  pub stops : (tokens : List TagTokenView) (at after : TagRefIter) (error : Error) → HasConsumedTagTokens kind content tokens at
+      → NextTagToken at (Some (Err error)) after → YieldsTagTokens kind state.Target content tokens broken
   stops tokens at after error (passed, same_kind) gives =
-      let refused = malformed_only at after error gives in
-      let none = subst (λ (it : Kind). HasNoPiece (HasTagToken it) (standing_in_tag at).state (standing_in_tag at).bytes) same_kind refused.1 in
-      let stop : TellsTag kind (standing_in_tag at).state (standing_in_tag at).bytes [] broken = tells_error (standing_in_tag at).state (standing_in_tag at).bytes refused.0 none in
-      tells_passed (HasTagToken kind) state.Target (standing_in_tag at).state text (standing_in_tag at).bytes tokens broken passed stop
+      let rejected = malformed_only at after error gives in
+      let none = subst (λ (it : Kind). HasNoPiece (HasTagToken it) (tag_reader_state at).state (tag_reader_state at).bytes) same_kind rejected.1 in
+      let stop : YieldsTagTokens kind (tag_reader_state at).state (tag_reader_state at).bytes [] broken =
+      yields_error (tag_reader_state at).state (tag_reader_state at).bytes rejected.0 none in
+      yields_passed (HasTagToken kind) state.Target (tag_reader_state at).state content (tag_reader_state at).bytes tokens broken passed stop

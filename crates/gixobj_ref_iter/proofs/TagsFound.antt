@@ -1,11 +1,11 @@
--- What a reader of tokens finds in the text of a tag.
+-- States what searches of a token iterator find in the encoding of a tag; the law `tag_part_search_complete` uses it.
 use Rattle.std.proofs.Common.{◌≡◌, ◌≢◌, ℕ, List, [], ◌∷◌, ◌++◌, Option, Some, None, Result, Ok, Err, append_assoc, ap, refl, subst, sym, ◌∙◌}
 use Rattle.std.proofs.lemmas.List.{append-nil}
 use Rattle.gixobj_actor.specs.declared.actor.SignatureRef.{SignatureRef}
-use Rattle.gixobj_fields.proofs.Runs.{behind_first, behind_passed, one_here}
-use Rattle.gixobj_fields.specs.Readers.{Standing}
-use Rattle.gixobj_fields.specs.Runs.{Ending, HasNone, complete, tells_end, tells_piece}
-use Rattle.gixobj_hash.specs.Hash.{Spells}
+use Rattle.gixobj_fields.proofs.Runs.{after_first, after_passed, one_here}
+use Rattle.gixobj_fields.specs.Iterators.{ReaderState}
+use Rattle.gixobj_fields.specs.Runs.{Ending, HasNone, complete, yields_end, yields_piece}
+use Rattle.gixobj_hash.specs.Hash.{DecodesToId}
 use Rattle.gixobj_hash.specs.declared.decode.Error.{Error}
 use Rattle.gixobj_hash.specs.declared.decode.Error.TheVariants.{Malformed, OutOfMemory}
 use Rattle.gixobj_hash.specs.declared.hash.kind.Kind.{Kind}
@@ -14,10 +14,10 @@ use Rattle.gixobj_hash.specs.declared.hash.object_id.ObjectId.{ObjectId}
 use Rattle.gixobj_ref_iter.proofs.TagLanguage as language
 use Rattle.gixobj_ref_iter.proofs.TagRuns.{one_run}
 use Rattle.gixobj_ref_iter.proofs.TagTokens.{no_token_of_nothing, one_token}
-use Rattle.gixobj_ref_iter.specs.TagReaders.{AreTokensOfTag, EndsBehindItsName, MayMiss, NameCame, TellsAll, TellsTagger, misses_body, misses_nothing, misses_tagger_and_body, tells_no_tagger, tells_tagger}
-use Rattle.gixobj_tag.specs.TagText.{IsTagText, TagLines}
+use Rattle.gixobj_ref_iter.specs.TagReaders.{AreTokensOfTag, EndsAfterItsName, IsOptionalToken, IsAfterName, AreAllTokensOfTag, IsTokenOfTagger, misses_body, misses_nothing, misses_tagger_and_body, yields_no_tagger, yields_tagger}
+use Rattle.gixobj_tag.specs.TagFormat.{DecodesToTag, TagLines}
 use Rattle.gixobj_ref_iter.specs.TagTokens.{HasTagToken, TagTokenView, body_token, kind_token, name_token, no_tagger_token, target_token, tag_token_view}
-use Rattle.gixobj_ref_iter.specs.TagTokenGiving.{FindsTagger, GivesIdOfTag, GivesTagToken, IsAtStartOfTag, IsTaggerToken, LacksTagger, TellsTag, answered_tag_id, tag_id_or_malformed, standing_in_tag, told_tagger, tag_token_id}
+use Rattle.gixobj_ref_iter.specs.TagTokenSteps.{FindsTagger, NextIdOfTag, NextTagToken, IsAtStartOfTag, IsTaggerToken, YieldsNoTagger, YieldsTagTokens, answered_tag_id, tag_id_or_malformed, tag_reader_state, token_of_tagger, tag_token_id}
 use Rattle.gixobj_ref_iter.specs.declared.tag.State.{State}
 use Rattle.gixobj_ref_iter.specs.declared.tag.State.TheVariants as state
 use Rattle.gixobj_ref_iter.specs.declared.tag.TagRefIter.{TagRefIter}
@@ -39,100 +39,132 @@ last_apart (a ∷ xs) (b ∷ ys) x y same =
     let more = last_apart xs ys x y tails in
     (cc (heads, more.0), more.1)
 
-is_tagger : (line : Option (List ℕ)) (token : TagTokenView) → TellsTagger line token → IsTaggerToken token
-is_tagger line token (tells_tagger _ actor rest is) = tt
-is_tagger line token tells_no_tagger = tt
+is_tagger : (line : Option (List ℕ)) (token : TagTokenView) → IsTokenOfTagger line token → IsTaggerToken token
+is_tagger line token (yields_tagger _ actor rest is) = tt
+is_tagger line token yields_no_tagger = tt
 
-no_line : (line : Option (List ℕ)) (token : TagTokenView) → TellsTagger line token → token ≡ no_tagger_token → line ≡ None
-no_line line token (tells_tagger _ actor rest is) same = absurd (cc same)
-no_line line token tells_no_tagger same = refl
+no_line : (line : Option (List ℕ)) (token : TagTokenView) → IsTokenOfTagger line token → token ≡ no_tagger_token → line ≡ None
+no_line line token (yields_tagger _ actor rest is) same = absurd (cc same)
+no_line line token yields_no_tagger same = refl
 
-told_is_tagger : (tagger : Option SignatureRef) → IsTaggerToken (told_tagger tagger)
-told_is_tagger None = tt
-told_is_tagger (Some actor) = tt
+yielded_is_tagger : (tagger : Option SignatureRef) → IsTaggerToken (token_of_tagger tagger)
+yielded_is_tagger None = tt
+yielded_is_tagger (Some actor) = tt
 
--- of all that a tag holds, the token of the tagger alone is one
-at_its_place : (passed more : List TagTokenView) (token tagger : TagTokenView) (id : ObjectId) (of : object.Kind) (name message : List ℕ) (signature : Option (List ℕ)) → IsTaggerToken token
+-- of all tokens of a tag, only the tagger's is a tagger token
+at_its_place : (passed more : List TagTokenView) (token tagger : TagTokenView) (id : ObjectId) (of : object.Kind) (name message : List ℕ)
+    (signature : Option (List ℕ)) → IsTaggerToken token
     → passed ++ token ∷ more ≡ target_token id ∷ kind_token of ∷ name_token name ∷ tagger ∷ body_token message signature ∷ [] → token ≡ tagger
-at_its_place [] more token tagger id of name message signature is same = let e : token ≡ target_token id = cc same in absurd (subst IsTaggerToken e is)
-at_its_place (a ∷ []) more token tagger id of name message signature is same = let e : token ≡ kind_token of = cc same in absurd (subst IsTaggerToken e is)
-at_its_place (a ∷ b ∷ []) more token tagger id of name message signature is same = let e : token ≡ name_token name = cc same in absurd (subst IsTaggerToken e is)
+at_its_place [] more token tagger id of name message signature is same = let e : token ≡ target_token id =
+    cc same in absurd (subst IsTaggerToken e is)
+at_its_place (a ∷ []) more token tagger id of name message signature is same = let e : token ≡ kind_token of =
+    cc same in absurd (subst IsTaggerToken e is)
+at_its_place (a ∷ b ∷ []) more token tagger id of name message signature is same = let e : token ≡ name_token name =
+    cc same in absurd (subst IsTaggerToken e is)
 at_its_place (a ∷ b ∷ c ∷ []) more token tagger id of name message signature is same = cc same
-at_its_place (a ∷ b ∷ c ∷ d ∷ []) more token tagger id of name message signature is same = let e : token ≡ body_token message signature = cc same in absurd (subst IsTaggerToken e is)
+at_its_place (a ∷ b ∷ c ∷ d ∷ []) more token tagger id of name message signature is same = let e : token ≡ body_token message signature =
+    cc same in absurd (subst IsTaggerToken e is)
 at_its_place (a ∷ b ∷ c ∷ d ∷ e ∷ []) more token tagger id of name message signature is same = absurd (cc same)
 at_its_place (a ∷ b ∷ c ∷ d ∷ e ∷ f ∷ passed) more token tagger id of name message signature is same = absurd (cc same)
 
--- ---- without a token that tells of a tagger
+-- ---- without a tagger token
 
-some_tagger : (tag : TagLines) (tokens : List TagTokenView) (id : ObjectId) (tagger : TagTokenView) (more : List TagTokenView) → TellsTagger tag.tagger tagger → tokens ≡ target_token id ∷ kind_token tag.target_kind ∷ name_token tag.name ∷ tagger ∷ more
+some_tagger : (tag : TagLines) (tokens : List TagTokenView) (id : ObjectId) (tagger : TagTokenView) (more : List TagTokenView)
+    → IsTokenOfTagger tag.tagger tagger → tokens ≡ target_token id ∷ kind_token tag.target_kind ∷ name_token tag.name ∷ tagger ∷ more
     → HasNone IsTaggerToken tokens → ⊥
-some_tagger tag tokens id tagger more tells same none =
-    one_here IsTaggerToken (target_token id ∷ kind_token tag.target_kind ∷ name_token tag.name ∷ []) tagger more (is_tagger tag.tagger tagger tells) (subst (HasNone IsTaggerToken) same none)
+some_tagger tag tokens id tagger more yields same none =
+    one_here IsTaggerToken (target_token id ∷ kind_token tag.target_kind ∷ name_token tag.name ∷ []) tagger more (is_tagger tag.tagger tagger yields)
+    (subst (HasNone IsTaggerToken) same none)
 
 same_body : (m n : List ℕ) (s t : Option (List ℕ)) → body_token m s ≡ body_token n t → (m ≡ n) × (s ≡ t)
 same_body m n s t same = (cc same, cc same)
 
-lacks_all : (tag : TagLines) (tokens missing : List TagTokenView) → MayMiss missing → TellsAll tag (tokens ++ missing) → HasNone IsTaggerToken tokens → EndsBehindItsName tag
+lacks_all : (tag : TagLines) (tokens missing : List TagTokenView) → IsOptionalToken missing → AreAllTokensOfTag tag (tokens ++ missing)
+    → HasNone IsTaggerToken tokens → EndsAfterItsName tag
 lacks_all tag tokens missing misses_nothing all none =
-    absurd (some_tagger tag tokens all.id all.tagger (body_token tag.message tag.signature ∷ []) all.told (sym (append-nil tokens) ∙ all.joined) none)
+    absurd (some_tagger tag tokens all.id all.tagger (body_token tag.message tag.signature ∷ []) all.yielded
+    (sym (append-nil tokens) ∙ all.joined) none)
 lacks_all tag tokens missing misses_body all none =
-    let apart = last_apart tokens (target_token all.id ∷ kind_token tag.target_kind ∷ name_token tag.name ∷ all.tagger ∷ []) (body_token [] None) (body_token tag.message tag.signature) all.joined in
-    absurd (some_tagger tag tokens all.id all.tagger [] all.told apart.0 none)
+    let apart = last_apart tokens (target_token all.id ∷ kind_token tag.target_kind ∷ name_token tag.name ∷ all.tagger ∷ []) (body_token [] None)
+    (body_token tag.message tag.signature) all.joined in
+    absurd (some_tagger tag tokens all.id all.tagger [] all.yielded apart.0 none)
 lacks_all tag tokens missing misses_tagger_and_body all none =
-    let regrouped : (tokens ++ no_tagger_token ∷ []) ++ body_token [] None ∷ [] ≡ tokens ++ no_tagger_token ∷ body_token [] None ∷ [] = append_assoc tokens (no_tagger_token ∷ []) (body_token [] None ∷ []) in
-    let body = last_apart (tokens ++ no_tagger_token ∷ []) (target_token all.id ∷ kind_token tag.target_kind ∷ name_token tag.name ∷ all.tagger ∷ []) (body_token [] None) (body_token tag.message tag.signature) (regrouped ∙ all.joined) in
+    let regrouped : (tokens ++ no_tagger_token ∷ []) ++ body_token [] None ∷ [] ≡ tokens ++ no_tagger_token ∷ body_token [] None ∷ [] =
+    append_assoc tokens (no_tagger_token ∷ []) (body_token [] None ∷ []) in
+    let body = last_apart (tokens ++ no_tagger_token ∷ []) (target_token all.id ∷ kind_token tag.target_kind ∷ name_token tag.name ∷ all.tagger ∷ [])
+    (body_token [] None) (body_token tag.message tag.signature) (regrouped ∙ all.joined) in
     let tagger = last_apart tokens (target_token all.id ∷ kind_token tag.target_kind ∷ name_token tag.name ∷ []) no_tagger_token all.tagger body.0 in
     let bare = same_body [] tag.message None tag.signature body.1 in
-    (no_line tag.tagger all.tagger all.told (sym tagger.1), sym bare.0, sym bare.1)
+    (no_line tag.tagger all.tagger all.yielded (sym tagger.1), sym bare.0, sym bare.1)
 
--- ---- the run of a reader at the start of a tag's text
+-- ---- the run of an iterator at the start of a tag's encoding
 
-first_of_all : (tag : TagLines) (tokens missing : List TagTokenView) (token : TagTokenView) (others : List TagTokenView) → (all : TellsAll tag (tokens ++ missing)) → tokens ≡ token ∷ others → token ≡ target_token all.id
+first_of_all : (tag : TagLines) (tokens missing : List TagTokenView) (token : TagTokenView) (others : List TagTokenView)
+    → (all : AreAllTokensOfTag tag (tokens ++ missing)) → tokens ≡ token ∷ others → token ≡ target_token all.id
 first_of_all tag tokens missing token others all same =
-    let joined : token ∷ (others ++ missing) ≡ target_token all.id ∷ kind_token tag.target_kind ∷ name_token tag.name ∷ all.tagger ∷ body_token tag.message tag.signature ∷ [] =
+    let joined : token ∷ (others ++ missing) ≡ target_token all.id ∷ kind_token tag.target_kind ∷ name_token tag.name ∷ all.tagger
+    ∷ body_token tag.message
+    tag.signature ∷ [] =
     ap (λ (it : List TagTokenView). it ++ missing) (sym same) ∙ all.joined in
     cc joined
 
-begins_token : (kind : Kind) (before : State) (input : List ℕ) (tokens : List TagTokenView) → TellsTag kind before input tokens complete → NameCame tokens → (token : TagTokenView) × (behind : State) × (rest : List ℕ) × HasTagToken kind before input token behind rest
-begins_token kind before input tokens (tells_end _) came = absurd came
-begins_token kind before input tokens (tells_piece _ behind _ rest token _ _ has told) came = (token, behind, rest, has)
+begins_token : (kind : Kind) (before : State) (input : List ℕ) (tokens : List TagTokenView) → YieldsTagTokens kind before input tokens complete
+    → IsAfterName tokens → (token : TagTokenView) × (following : State) × (rest : List ℕ) × HasTagToken kind before input token following rest
+begins_token kind before input tokens (yields_end _) came = absurd came
+begins_token kind before input tokens (yields_piece _ following _ rest token _ _ has yields_decoded) came = (token, following, rest, has)
 
-module _ (kind : Kind) (text : List ℕ) (tag : TagLines) (reader : TagRefIter) (is : IsTagText kind text tag) (start : IsAtStartOfTag kind text reader) where
-  run : (tokens : List TagTokenView) × TellsTag kind state.Target text tokens complete × AreTokensOfTag tag tokens × NameCame tokens
-  run = language.told kind text tag is
+module _ (kind : Kind) (content : List ℕ) (tag : TagLines) (reader : TagRefIter) (is : DecodesToTag kind content tag)
+    (start : IsAtStartOfTag kind content reader) where
+  run : (tokens : List TagTokenView) × YieldsTagTokens kind state.Target content tokens complete × AreTokensOfTag tag tokens × IsAfterName tokens
+  run = language.yields_decoded kind content tag is
 
-  told : TellsTag (standing_in_tag reader).kind (standing_in_tag reader).state (standing_in_tag reader).bytes run.0 complete
-  told = subst (λ (it : Standing Kind State). TellsTag it.kind it.state it.bytes run.0 complete) (sym start) run.1
+  yields_decoded : YieldsTagTokens (tag_reader_state reader).kind (tag_reader_state reader).state (tag_reader_state reader).bytes run.0 complete
+  yields_decoded = subst (λ (it : ReaderState Kind State). YieldsTagTokens it.kind it.state it.bytes run.0 complete) (sym start) run.1
 
-  begins : (token : TagTokenView) × (behind : State) × (rest : List ℕ) × HasTagToken (standing_in_tag reader).kind (standing_in_tag reader).state (standing_in_tag reader).bytes token behind rest
-  begins = begins_token (standing_in_tag reader).kind (standing_in_tag reader).state (standing_in_tag reader).bytes run.0 told run.3
+  begins : (token : TagTokenView) × (following : State) × (rest : List ℕ) × HasTagToken (tag_reader_state reader).kind (tag_reader_state reader).state
+      (tag_reader_state reader).bytes token following rest
+  begins = begins_token (tag_reader_state reader).kind (tag_reader_state reader).state (tag_reader_state reader).bytes run.0 yields_decoded run.3
 
-  its_answer : (answer : Option (Result Token Error)) (after : TagRefIter) → GivesTagToken reader answer after → (id : ObjectId) × (answered_tag_id answer ≡ Ok id) × Spells tag.target id
+  its_answer : (answer : Option (Result Token Error)) (after : TagRefIter) → NextTagToken reader answer after → (id : ObjectId)
+      × (answered_tag_id answer ≡ Ok id) × DecodesToId tag.target id
   its_answer (Some (Ok token)) after gives =
-      let kind' = (standing_in_tag reader).kind in
-      let first = behind_first (HasTagToken kind') (one_token kind') (no_token_of_nothing kind') (standing_in_tag reader).state (standing_in_tag after).state (standing_in_tag reader).bytes (standing_in_tag after).bytes (tag_token_view token) run.0 complete gives.0 told in
+      let kind' = (tag_reader_state reader).kind in
+      let first = after_first (HasTagToken kind') (one_token kind') (no_token_of_nothing kind') (tag_reader_state reader).state
+      (tag_reader_state after).state
+      (tag_reader_state reader).bytes (tag_reader_state after).bytes (tag_token_view token) run.0 complete gives.0 yields_decoded in
       let all = run.2.2 in
       let same = first_of_all tag run.0 run.2.0 (tag_token_view token) first.others all first.joined in
-      (all.id, ap (λ (it : TagTokenView). tag_id_or_malformed (tag_token_id it)) same, all.spelled)
+      (all.id, ap (λ (it : TagTokenView). tag_id_or_malformed (tag_token_id it)) same, all.hex_of_id)
   its_answer (Some (Err Malformed)) after gives = absurd (gives.1 _ _ _ begins.3)
   its_answer (Some (Err OutOfMemory)) after gives = absurd gives.1
-  its_answer None after gives = absurd (no_token_of_nothing (standing_in_tag reader).kind (standing_in_tag reader).state (standing_in_tag reader).bytes begins.0 _ _ gives.0 begins.3)
+  its_answer None after gives =
+      absurd (no_token_of_nothing (tag_reader_state reader).kind (tag_reader_state reader).state (tag_reader_state reader).bytes begins.0 _ _ gives.0
+      begins.3)
 
-  pub its_target : (result : Result ObjectId Error) → GivesIdOfTag reader result → (id : ObjectId) × (result ≡ Ok id) × Spells tag.target id
+  pub its_target : (result : Result ObjectId Error) → NextIdOfTag reader result → (id : ObjectId) × (result ≡ Ok id) × DecodesToId tag.target id
   its_target result (answer, after, gives, is_answer) = let it = its_answer answer after gives in (it.0, is_answer ∙ it.1, it.2)
 
-  pub its_tagger : (tagger : Option SignatureRef) → FindsTagger reader tagger → TellsTagger tag.tagger (told_tagger tagger)
-  its_tagger tagger (before, behind, here, rest, (passed, passes, none), has) =
-      let kind' = (standing_in_tag reader).kind in
-      let at = behind_passed (HasTagToken kind') (one_token kind') (no_token_of_nothing kind') (standing_in_tag reader).state before (standing_in_tag reader).bytes here passed run.0 complete passes told in
-      let first = behind_first (HasTagToken kind') (one_token kind') (no_token_of_nothing kind') before behind here rest (told_tagger tagger) at.others complete has at.told in
+  pub its_tagger : (tagger : Option SignatureRef) → FindsTagger reader tagger → IsTokenOfTagger tag.tagger (token_of_tagger tagger)
+  its_tagger tagger (before, following, here, rest, (passed, passes, none), has) =
+      let kind' = (tag_reader_state reader).kind in
+      let at = after_passed (HasTagToken kind') (one_token kind') (no_token_of_nothing kind') (tag_reader_state reader).state before
+      (tag_reader_state reader).bytes here passed run.0 complete passes yields_decoded in
+      let first = after_first (HasTagToken kind') (one_token kind') (no_token_of_nothing kind') before following here rest
+      (token_of_tagger tagger) at.others complete has at.yielded in
       let all = run.2.2 in
-      let joined : passed ++ told_tagger tagger ∷ (first.others ++ run.2.0) ≡ (passed ++ told_tagger tagger ∷ first.others) ++ run.2.0 = sym (append_assoc passed (told_tagger tagger ∷ first.others) run.2.0) in
-      let whole = joined ∙ ap (λ (it : List TagTokenView). (passed ++ it) ++ run.2.0) (sym first.joined) ∙ ap (λ (it : List TagTokenView). it ++ run.2.0) (sym at.joined) ∙ all.joined in
-      let same = at_its_place passed (first.others ++ run.2.0) (told_tagger tagger) all.tagger all.id tag.target_kind tag.name tag.message tag.signature (told_is_tagger tagger) whole in
-      subst (TellsTagger tag.tagger) (sym same) all.told
+      let joined : passed ++ token_of_tagger tagger ∷ (first.others ++ run.2.0) ≡ (passed ++ token_of_tagger tagger ∷ first.others) ++ run.2.0 =
+      sym (append_assoc passed (token_of_tagger tagger ∷ first.others) run.2.0) in
+      let entire = joined ∙ ap (λ (it : List TagTokenView). (passed ++ it) ++ run.2.0) (sym first.joined)
+      ∙ ap (λ (it : List TagTokenView). it ++ run.2.0)
+      (sym at.joined) ∙ all.joined in
+      let same = at_its_place passed (first.others ++ run.2.0) (token_of_tagger tagger) all.tagger all.id tag.target_kind tag.name tag.message
+      tag.signature
+      (yielded_is_tagger tagger) entire in
+      subst (IsTokenOfTagger tag.tagger) (sym same) all.yielded
 
-  pub ends_behind_name : (ending : Ending) → LacksTagger reader ending → EndsBehindItsName tag
-  ends_behind_name ending (tokens, lacks, none) =
-      let same = (one_run (standing_in_tag reader).kind (standing_in_tag reader).state (standing_in_tag reader).bytes tokens run.0 ending complete lacks told).0 in
+  pub ends_after_name : (ending : Ending) → YieldsNoTagger reader ending → EndsAfterItsName tag
+  ends_after_name ending (tokens, lacks, none) =
+      let same = (one_run (tag_reader_state reader).kind (tag_reader_state reader).state (tag_reader_state reader).bytes tokens run.0 ending complete
+      lacks
+      yields_decoded).0 in
       lacks_all tag run.0 run.2.0 run.2.1 run.2.2 (subst (HasNone IsTaggerToken) same none)

@@ -1,10 +1,10 @@
--- Commits read token by token.
+-- The tokens of a commit.
 use Rattle.std.specs.Prelude.{ℕ, List, []}
 use Rattle.bstr.specs.BStr.{bstr_bytes}
 use Rattle.gixobj_actor.specs.Actor.{ActorView, IsActorOf, actor_view}
 use Rattle.gixobj_fields.specs.HeaderReading.{header_of}
-use Rattle.gixobj_fields.specs.HeaderText.{Header}
-use Rattle.gixobj_hash.specs.Hash.{Spells}
+use Rattle.gixobj_fields.specs.HeaderFormat.{Header}
+use Rattle.gixobj_hash.specs.Hash.{DecodesToId}
 use Rattle.gixobj_hash.specs.declared.hash.kind.Kind.{Kind}
 use Rattle.gixobj_hash.specs.declared.hash.object_id.ObjectId.{ObjectId}
 use Rattle.gixobj_line.specs.Lines.{HasLine, LineView, author_line, committer_line, encoding_line, header_line, message_line, parent_line, tree_line}
@@ -12,7 +12,7 @@ use Rattle.gixobj_line.specs.declared.lines.State.{State}
 use Rattle.gixobj_ref_iter.specs.declared.commit.Token.{Token}
 use Rattle.gixobj_ref_iter.specs.declared.commit.Token.TheVariants as token
 
--- a token, wherever it lies
+-- a token: ids, the parts of actors, a message encoding, an extra header, a message
 pub data CommitTokenView : Type 0 where
   tree_token : ObjectId → CommitTokenView
   parent_token : ObjectId → CommitTokenView
@@ -22,6 +22,7 @@ pub data CommitTokenView : Type 0 where
   header_token : Header → CommitTokenView
   message_token : List ℕ → CommitTokenView
 
+-- a token as contracts see it: its id, the parts of its actor, or the bytes of its value
 abbrev pub commit_token_view : Token → CommitTokenView
 commit_token_view (token.Tree id) = tree_token id
 commit_token_view (token.Parent id) = parent_token id
@@ -31,20 +32,25 @@ commit_token_view (token.Encoding encoding) = encoding_token (bstr_bytes encodin
 commit_token_view (token.ExtraHeader header) = header_token (header_of header)
 commit_token_view (token.Message message) = message_token (bstr_bytes message)
 
--- the token tells the line: the id that its hex text spells, the parts of its actor, or its value as it is
-pub data TellsLine : LineView → CommitTokenView → Type 0 where
-  tells_tree : (hex : List ℕ) (id : ObjectId) → Spells hex id → TellsLine (tree_line hex) (tree_token id)
-  tells_parent : (hex : List ℕ) (id : ObjectId) → Spells hex id → TellsLine (parent_line hex) (parent_token id)
-  tells_author : (line : List ℕ) (actor : ActorView) → IsActorOf line actor → TellsLine (author_line line) (author_token actor)
-  tells_committer : (line : List ℕ) (actor : ActorView) → IsActorOf line actor → TellsLine (committer_line line) (committer_token actor)
-  tells_encoding : (encoding : List ℕ) → TellsLine (encoding_line encoding) (encoding_token encoding)
-  tells_header : (header : Header) → TellsLine (header_line header) (header_token header)
-  tells_message : (message : List ℕ) → TellsLine (message_line message) (message_token message)
+-- the token of a line: the id that its hex encodes, the parts of its actor, or its unchanged value
+pub data IsTokenOfLine : LineView → CommitTokenView → Type 0 where
+  yields_tree : (hex : List ℕ) (id : ObjectId) → DecodesToId hex id → IsTokenOfLine (tree_line hex) (tree_token id)
+  yields_parent : (hex : List ℕ) (id : ObjectId) → DecodesToId hex id
+      → IsTokenOfLine (parent_line hex) (parent_token id)
+  yields_author : (line : List ℕ) (actor : ActorView) → IsActorOf line actor
+      → IsTokenOfLine (author_line line) (author_token actor)
+  yields_committer : (line : List ℕ) (actor : ActorView) → IsActorOf line actor
+      → IsTokenOfLine (committer_line line) (committer_token actor)
+  yields_encoding : (encoding : List ℕ) → IsTokenOfLine (encoding_line encoding) (encoding_token encoding)
+  yields_header : (header : Header) → IsTokenOfLine (header_line header) (header_token header)
+  yields_message : (message : List ℕ) → IsTokenOfLine (message_line message) (message_token message)
 
--- the input begins with a line that the token tells, and goes on with the rest in the state behind it
+-- the input begins with the line of this token, and the rest follows in the state after it
 abbrev pub HasCommitToken : Kind → State → List ℕ → CommitTokenView → State → List ℕ → Type 0
-HasCommitToken kind before input token behind rest = (line : LineView) × HasLine kind before input line behind rest × TellsLine line token
+HasCommitToken kind before input token after rest = (line : LineView) × HasLine kind before input line after rest
+    × IsTokenOfLine line token
 
--- the text is the token: it begins with it, and ends behind it
-abbrev pub IsCommitTokenText : Kind → CommitTokenView → List ℕ → Type 0
-IsCommitTokenText kind token text = (before : State) × (behind : State) × HasCommitToken kind before text token behind []
+-- the bytes are the encoding of this token alone
+abbrev pub DecodesToCommitToken : Kind → CommitTokenView → List ℕ → Type 0
+DecodesToCommitToken kind token bytes = (before : State) × (after : State)
+    × HasCommitToken kind before bytes token after []

@@ -4,8 +4,8 @@ pub mod Extracting
 pub mod Readers
 pub mod TagExtracting
 pub mod TagReaders
-pub mod TagTokenGiving
+pub mod TagTokenSteps
 pub mod TagTokens
 pub mod TokenFilters
-pub mod TokenGiving
-pub mod TokenPassing
+pub mod CommitTokenSteps
+pub mod TokenSearch

@@ -2,12 +2,13 @@
 use Rattle.std.specs.Prelude.{◌≡◌, ℕ, List, [], ◌∷◌, ◌++◌}
 use Rattle.std.specs.List.{AllZip}
 use Rattle.gixobj_commit.specs.Commit.{CommitLines, lines_of_commit}
-use Rattle.gixobj_ref_iter.specs.CommitTokens.{TellsLine, CommitTokenView, message_token}
+use Rattle.gixobj_ref_iter.specs.CommitTokens.{IsTokenOfLine, CommitTokenView, message_token}
 
 -- the last token is a message
 abbrev pub EndsInMessage : List CommitTokenView → Type 0
-EndsInMessage tokens = (front : List CommitTokenView) × (message : List ℕ) × (tokens ≡ front ++ message_token message ∷ [])
+EndsInMessage tokens = (prefix : List CommitTokenView) × (message : List ℕ)
+    × (tokens ≡ prefix ++ message_token message ∷ [])
 
--- the tokens are what the commit holds: one for each of its lines
+-- the tokens are those of the commit, one for each of its lines
 abbrev pub AreTokensOfCommit : CommitLines → List CommitTokenView → Type 0
-AreTokensOfCommit commit tokens = AllZip TellsLine (lines_of_commit commit) tokens
+AreTokensOfCommit commit tokens = AllZip IsTokenOfLine (lines_of_commit commit) tokens

@@ -1,9 +1,9 @@
-//! Commits read token by token.
+//! The token iterator over commits.
 ghost use Rattle.std.specs.Prelude.{◌≡◌, MatchOption, None, Some};
 ghost use Rattle.gixobj_hash.specs.Hash.Borrowed.{borrowed_id};
 ghost use Rattle.gixobj_line.specs.Lines.{HasHex, IsParsedLine, line_view};
-ghost use Rattle.gixobj_ref_iter.specs.CommitTokens.{TellsLine, commit_token_view};
-ghost use Rattle.gixobj_ref_iter.specs.TokenGiving.{BorrowsValue, GivesCommitToken, IsAtStartOfCommit, commit_token_id, commit_tokens_left};
+ghost use Rattle.gixobj_ref_iter.specs.CommitTokens.{IsTokenOfLine, commit_token_view};
+ghost use Rattle.gixobj_ref_iter.specs.CommitTokenSteps.{BorrowsValue, NextCommitToken, IsAtStartOfCommit, commit_token_id, remaining_commit_tokens};
 
 mod access;
 mod filters;
@@ -20,7 +20,8 @@ use gixobj_line::lines::{Line, State, read_line};
 use std::alloc::Global;
 use std::borrow::CowSlice;
 
-/// A reader of a commit that tells it token by token.
+/// An iterator over the tokens of a commit, each decoded when it is yielded. [`CommitRefIter::from_bytes`]
+/// makes one.
 #[derive(Clone, Copy, Drop)]
 pub struct CommitRefIter<'a> {
     bytes: &'a [u8],
@@ -31,8 +32,20 @@ pub struct CommitRefIter<'a> {
 
 /// Lifecycle
 impl<'a> CommitRefIter<'a> {
-    /// A reader of the commit with this text, whose ids are of this kind. It reads nothing yet, and
-    /// takes no memory.
+    /// Returns an iterator over the tokens of a commit's encoding, with ids of `hash_kind`. Decodes nothing
+    /// yet, and allocates nothing.
+    ///
+    /// # Examples
+    ///
+    /// ```rust
+    /// for token in CommitRefIter::from_bytes(alloc, bytes, HashKind::Sha1) {
+    ///     match token? {
+    ///         Token::Parent { id } => return Ok(Some(id)),
+    ///         Token::Author { .. } => break,
+    ///         _ => {}
+    ///     }
+    /// }
+    /// ```
     pub fn from_bytes(alloc: Global, bytes: &'a [u8], hash_kind: Kind) -> CommitRefIter<'a>
         ensures { IsAtStartOfCommit hash_kind bytes.now result }
     {
@@ -45,16 +58,19 @@ impl<'a> CommitRefIter<'a> {
     }
 }
 
-/// Tells the next token. Behind an error the reader is at its end.
+/// Yields the next token. After an error the iterator is at its end.
 ///
-/// `Malformed` where the bytes that are left begin with no token that may come next. A header of
-/// several lines takes memory, and `OutOfMemory` comes for no other token.
+/// # Errors
+///
+/// - [`Error::Malformed`] if the remaining bytes begin with no token that may come next.
+/// - [`Error::OutOfMemory`] if the value of a header of several lines fails to allocate. No other token
+///   allocates.
 impl<'a> Iterator for CommitRefIter<'a> {
     type Item = Result<Token<'a>, Error>;
 
-    ghost next_gives = { GivesCommitToken };
+    ghost next_gives = { NextCommitToken };
 
-    ghost remaining = { commit_tokens_left };
+    ghost remaining = { remaining_commit_tokens };
 
     fn next(&mut self) -> Option<Result<Token<'a>, Error>> {
         if self.bytes.is_empty() {
@@ -74,45 +90,45 @@ impl<'a> Iterator for CommitRefIter<'a> {
     }
 }
 
-/// A part of a commit.
+/// A token of a commit, yielded by [`CommitRefIter`].
 #[derive(Clone, Debug, Drop, PartialEq, Eq, PartialOrd, Ord, Hash)]
 pub enum Token<'a> {
     /// The tree.
     Tree {
-        /// Its id.
+        /// The id of the tree.
         id: ObjectId,
     },
     /// A parent.
     Parent {
-        /// Its id.
+        /// The id of the parent.
         id: ObjectId,
     },
-    /// Who made the change.
+    /// Who made the change, and when.
     Author {
-        /// The actor, not trimmed.
+        /// The author, untrimmed.
         signature: SignatureRef<'a>,
     },
-    /// Who made the commit.
+    /// Who made the commit, and when.
     Committer {
-        /// The actor, not trimmed.
+        /// The committer, untrimmed.
         signature: SignatureRef<'a>,
     },
-    /// The name of the message's encoding.
+    /// The name of the message's character encoding.
     Encoding(BStr<'a>),
-    /// A header behind these: its name and its value.
+    /// An extra header: its name and its value.
     ExtraHeader((BStr<'a>, CowSlice<'a, u8>)),
-    /// The message.
+    /// The message, as unchanged bytes.
     Message(BStr<'a>),
 }
 
 /// Lifecycle
 impl<'a> Token<'a> {
-    /// The token that tells the line. It takes no memory.
-    #[tactic(auto, using(crate::specs::CommitTokens::tells_tree, crate::specs::CommitTokens::tells_parent, crate::specs::CommitTokens::tells_author, crate::specs::CommitTokens::tells_committer, crate::specs::CommitTokens::tells_encoding, crate::specs::CommitTokens::tells_header, crate::specs::CommitTokens::tells_message))]
+    /// Converts a line into its token. Allocates nothing.
+    #[tactic(auto, using(crate::specs::CommitTokens::yields_tree, crate::specs::CommitTokens::yields_parent, crate::specs::CommitTokens::yields_author, crate::specs::CommitTokens::yields_committer, crate::specs::CommitTokens::yields_encoding, crate::specs::CommitTokens::yields_header, crate::specs::CommitTokens::yields_message))]
     fn of_line(line: Line<'a>) -> Token<'a>
         requires parsed { IsParsedLine line }
         requires ids { HasHex (line_view line) }
-        ensures told { TellsLine (line_view line.entry) (commit_token_view result) }
+        ensures yields { IsTokenOfLine (line_view line.entry) (commit_token_view result) }
         ensures borrowed { BorrowsValue result }
     {
         match line {
@@ -129,7 +145,7 @@ impl<'a> Token<'a> {
 
 /// Access
 impl<'a> Token<'a> {
-    /// The id of a tree or a parent, borrowed.
+    /// Returns the id of a tree or parent token, borrowed.
     pub fn id(&self) -> Option<oid<'_>>
         ensures { MatchOption result (commit_token_id (commit_token_view self.now) ≡ None)
             (λ id. commit_token_id (commit_token_view self.now) ≡ Some (borrowed_id id)) }
@@ -140,7 +156,7 @@ impl<'a> Token<'a> {
         }
     }
 
-    /// The id of a tree or a parent.
+    /// Returns the id of a tree or parent token.
     pub fn try_into_id(self) -> Option<ObjectId>
         ensures { result ≡ commit_token_id (commit_token_view self.entry) }
     {

@@ -1,10 +1,11 @@
-//! Laws of both readers of commits and of both readers of tags: most functions do nothing, and their contract is the law.
+//! Laws that tie the token iterators to the decoders of entire commits and tags. Most functions are empty,
+//! and their contract is the law.
 
 pub mod readers;
 mod tags;
 pub mod tokens;
 
 pub use tags::{
-    parts_of_tags_are_found, tag_readers_read_one_language, tag_tokens_are_passed,
-    tag_tokens_have_one_reading,
+    consumed_tag_tokens_are_prefix, tag_part_search_complete, tag_readers_agree,
+    tag_tokens_decode_uniquely,
 };

@@ -1,5 +1,6 @@
-//! Commits and tags read token by token, with their signatures found on the way (gitdatamodel, "commits", "tag objects").
-//! They depend on what reads a line of a commit and a part of a tag, as the readers of whole ones do.
+//! Token iterators over commits and tags, and the signatures in their encodings (gitdatamodel, "commits",
+//! "tag objects"). They share the decoders of a commit's line and of a tag's part with the decoders of entire
+//! objects.
 #![tactic(auto)]
 
 pub mod commit;

@@ -1,12 +1,12 @@
-//! Tags read token by token.
+//! The token iterator over tags.
 ghost use Rattle.std.specs.Prelude.{◌≡◌, ◌≢◌, [], IfErr, IfNone, IfOk, IfSome, MatchOption, None, Some};
 ghost use Rattle.gixobj_fields.specs.Runs.{Ending, HasNoPiece};
 ghost use Rattle.gixobj_hash.specs.Hash.Borrowed.{borrowed_id};
 ghost use Rattle.gixobj_hash.specs.declared.decode.Error.TheVariants.{Malformed};
 ghost use Rattle.gixobj_tag.specs.LineViews.{IsParsedTagger, line_if_some};
-ghost use Rattle.gixobj_ref_iter.specs.TagReaders.{TellsTagger};
+ghost use Rattle.gixobj_ref_iter.specs.TagReaders.{IsTokenOfTagger};
 ghost use Rattle.gixobj_ref_iter.specs.TagTokens.{HasTagToken, tag_token_view};
-ghost use Rattle.gixobj_ref_iter.specs.TagTokenGiving.{FindsTagger, GivesIdOfTag, GivesTagToken, IsAtStartOfTag, LacksTagger, tag_token_id, tag_tokens_left};
+ghost use Rattle.gixobj_ref_iter.specs.TagTokenSteps.{FindsTagger, NextIdOfTag, NextTagToken, IsAtStartOfTag, YieldsNoTagger, tag_token_id, remaining_tag_tokens};
 
 mod signature;
 
@@ -20,7 +20,7 @@ use gixobj_hash::{Kind, hash};
 use gixobj_tag::tag::decode;
 use gixobj_tag::tag::decode::TaggerLine;
 
-/// Where in a tag a reader stands.
+/// The position of a token iterator in a tag.
 #[derive(Clone, Copy, Debug)]
 enum State {
     /// Before the target.
@@ -29,15 +29,16 @@ enum State {
     TargetKind,
     /// Before the name.
     Name,
-    /// Before the tagger, or where none comes.
+    /// Before the tagger, which may be absent.
     Tagger,
     /// Before the message and the signature.
     Body,
-    /// Behind them.
+    /// After the signature.
     End,
 }
 
-/// A reader of a tag that tells it token by token.
+/// An iterator over the tokens of a tag, each decoded when it is yielded. [`TagRefIter::from_bytes`] makes
+/// one.
 #[derive(Clone, Copy)]
 pub struct TagRefIter<'a> {
     bytes: &'a [u8],
@@ -47,8 +48,8 @@ pub struct TagRefIter<'a> {
 
 /// Lifecycle
 impl<'a> TagRefIter<'a> {
-    /// A reader of the tag with this text, whose target has an id of this kind. It reads nothing yet, and
-    /// takes no memory.
+    /// Returns an iterator over the tokens of a tag's encoding, with a target id of `hash_kind`. Decodes
+    /// nothing yet, and allocates nothing.
     pub fn from_bytes(bytes: &'a [u8], hash_kind: hash::Kind) -> TagRefIter<'a>
         ensures { IsAtStartOfTag hash_kind bytes.now result }
     {
@@ -62,12 +63,14 @@ impl<'a> TagRefIter<'a> {
 
 /// Access
 impl<'a> TagRefIter<'a> {
-    /// The id of the next token, which is the target's at the start.
+    /// Returns the id of the next token, which is the target's at the start. Allocates nothing.
     ///
-    /// `Malformed` where no token comes, or it has no id. It takes no memory.
+    /// # Errors
+    ///
+    /// [`Error::Malformed`] if the next token is malformed, is missing or has no id.
     pub fn target_id(self) -> Result<ObjectId, Error>
-        ensures found { GivesIdOfTag self.entry result }
-        ensures refusal { IfErr result (λ e. e ≡ Malformed) }
+        ensures found { NextIdOfTag self.entry result }
+        ensures error { IfErr result (λ e. e ≡ Malformed) }
     {
         let mut tokens = self;
         let Some(Ok(token)) = tokens.next() else {
@@ -79,14 +82,18 @@ impl<'a> TagRefIter<'a> {
         }
     }
 
-    /// Who made the tag, not trimmed, or none where a body comes and no line of a tagger before it.
+    /// Returns who made the tag, and when, untrimmed; `None` if other bytes than a tagger line follow the
+    /// name. Allocates nothing.
     ///
-    /// `Malformed` where the bytes end before either, or go on with neither. It takes no memory.
-    #[tactic(auto, using(crate::proofs::TagRuns::seeks_start, crate::proofs::TagRuns::seeks_first))]
+    /// # Errors
+    ///
+    /// [`Error::Malformed`] if a token up to the tagger is malformed, or if the bytes end with the name or
+    /// earlier.
+    #[tactic(auto, using(crate::proofs::TagRuns::searches_start, crate::proofs::TagRuns::searches_first))]
     pub fn tagger(self) -> Result<Option<SignatureRef<'a>>, Error>
         ensures found { IfOk result (FindsTagger self.entry) }
-        ensures refusal { IfErr result (λ e. (e ≡ Malformed)
-            × ((ending : Ending) × LacksTagger self.entry ending)) }
+        ensures error { IfErr result (λ e. (e ≡ Malformed)
+            × ((ending : Ending) × YieldsNoTagger self.entry ending)) }
     {
         for item in self {
             let token = item?;
@@ -98,15 +105,17 @@ impl<'a> TagRefIter<'a> {
     }
 }
 
-/// Tells the next token. Behind an error the reader is at its end.
+/// Yields the next token. After an error the iterator is at its end. Allocates nothing.
 ///
-/// `Malformed` where the bytes that are left begin with no token that may come next. It takes no memory.
+/// # Errors
+///
+/// [`Error::Malformed`] if the remaining bytes begin with no token that may come next.
 impl<'a> Iterator for TagRefIter<'a> {
     type Item = Result<Token<'a>, Error>;
 
-    ghost next_gives = { GivesTagToken };
+    ghost next_gives = { NextTagToken };
 
-    ghost remaining = { tag_tokens_left };
+    ghost remaining = { remaining_tag_tokens };
 
     fn next(&mut self) -> Option<Result<Token<'a>, Error>> {
         if self.bytes.is_empty() {
@@ -126,8 +135,7 @@ impl<'a> Iterator for TagRefIter<'a> {
     }
 }
 
-/// The token at the front of the input where a reader stands in this state, the state behind it, and what
-/// follows it.
+/// Decodes the token at the start of the input in this state, with the state after it and the rest.
 #[tactic(auto, using(crate::specs::TagTokens::target_comes, crate::specs::TagTokens::kind_comes, crate::specs::TagTokens::name_comes, crate::specs::TagTokens::body_comes))]
 fn read_token(
     input: &[u8],
@@ -165,11 +173,11 @@ fn read_token(
     }
 }
 
-/// The token that tells the tagger, or that none comes.
-#[tactic(auto, using(crate::specs::TagReaders::tells_tagger, crate::specs::TagReaders::tells_no_tagger))]
+/// Returns the token of a tagger, or that of its absence.
+#[tactic(auto, using(crate::specs::TagReaders::yields_tagger, crate::specs::TagReaders::yields_no_tagger))]
 fn tagger_token(tagger: Option<TaggerLine<'_>>) -> Token<'_>
     requires { IsParsedTagger tagger }
-    ensures { TellsTagger (line_if_some tagger.entry) (tag_token_view result) }
+    ensures { IsTokenOfTagger (line_if_some tagger.entry) (tag_token_view result) }
 {
     match tagger {
         Some((_, actor)) => Token::Tagger(Some(actor)),
@@ -177,32 +185,32 @@ fn tagger_token(tagger: Option<TaggerLine<'_>>) -> Token<'_>
     }
 }
 
-/// A part of a tag.
+/// A token of a tag, yielded by [`TagRefIter`].
 #[derive(Clone, Debug, Drop, PartialEq, Eq, PartialOrd, Ord, Hash)]
 pub enum Token<'a> {
-    /// The object that is tagged.
+    /// The tagged object.
     Target {
-        /// Its id.
+        /// The id of the tagged object.
         id: ObjectId,
     },
-    /// The kind of that object.
+    /// The kind of the tagged object.
     TargetKind(Kind),
     /// The name of the tag.
     Name(BStr<'a>),
-    /// Who made the tag, not trimmed, or none.
+    /// Who made the tag, and when, untrimmed; `None` without a tagger line.
     Tagger(Option<SignatureRef<'a>>),
-    /// What stands behind the lines.
+    /// The bytes after the header lines.
     Body {
         /// The message.
         message: BStr<'a>,
-        /// The signature, from its marker on, or none.
+        /// The signature from its marker on, if there is one.
         signature: Option<BStr<'a>>,
     },
 }
 
 /// Access
 impl Token<'_> {
-    /// The id of a target, borrowed.
+    /// Returns the id of a target token, borrowed.
     pub fn id(&self) -> Option<oid<'_>>
         ensures { MatchOption result (tag_token_id (tag_token_view self.now) ≡ None)
             (λ id. tag_token_id (tag_token_view self.now) ≡ Some (borrowed_id id)) }
@@ -213,7 +221,7 @@ impl Token<'_> {
         }
     }
 
-    /// The id of a target.
+    /// Returns the id of a target token.
     pub fn into_id(self) -> Option<ObjectId>
         ensures { result ≡ tag_token_id (tag_token_view self.entry) }
     {

@@ -1,38 +1,38 @@
-//! Answers of the public calls, as the recorded ones are written.
+//! Answers about modes, the order of names, and loose headers, in the format of the recorded ones.
 
 use crate::recorded::answers::Answer;
-use crate::recorded::texts::{bytes_of, cut};
+use crate::recorded::fields::{bytes_of, cut};
 use bstr::ByteSlice;
 use gixobj_base::decode::{LooseHeaderDecodeError, ParseIntegerErrorKind, loose_header};
 use gixobj_base::tree::{EntryMode, name_order};
 use std::cmp::Ordering;
 
-/// What `EntryMode::from_bytes` reads.
+/// Answers with the mode that `EntryMode::from_bytes` decodes.
 pub(crate) fn mode_answer(question: &[u8], answer: &mut Answer) {
     let bytes = bytes_of(answer.alloc, question);
     match EntryMode::from_bytes(bytes.as_slice()) {
-        Some(mode) => put_mode(mode, answer),
-        None => answer.put_word("none"),
+        Some(mode) => write_mode(mode, answer),
+        None => answer.write_keyword("none"),
     }
 }
 
-/// What `EntryMode::try_from` makes of an octal number.
+/// Answers with the mode that `EntryMode::try_from` returns for an octal number.
 pub(crate) fn number_answer(question: &[u8], answer: &mut Answer) {
     match EntryMode::try_from(octal(question)) {
-        Ok(mode) => put_mode(mode, answer),
-        Err(number) => answer.put_shown("err", number),
+        Ok(mode) => write_mode(mode, answer),
+        Err(number) => answer.write_shown("err", number),
     }
 }
 
-/// The number of octal digits, or 0.
+/// Parses octal digits. 0 if they are invalid.
 pub(crate) fn octal(digits: &[u8]) -> u32 {
     let digits = str::from_utf8(digits).unwrap_or("");
     u32::from_str_radix(digits, 8).unwrap_or(0)
 }
 
-/// The column of a mode: its text, value, word and tests.
-pub(crate) fn put_mode(mode: EntryMode, answer: &mut Answer) {
-    answer.put_word("ok");
+/// The column of a mode: octal digits, value, name and the predicates that hold.
+pub(crate) fn write_mode(mode: EntryMode, answer: &mut Answer) {
+    answer.write_keyword("ok");
     add_mode(mode, answer);
     answer.add_holding(&[
         (mode.is_tree(), "is-tree"),
@@ -45,7 +45,7 @@ pub(crate) fn put_mode(mode: EntryMode, answer: &mut Answer) {
     ]);
 }
 
-/// The text, the value and the word of a mode.
+/// Adds the octal digits, the value and the name of a mode.
 pub(crate) fn add_mode(mode: EntryMode, answer: &mut Answer) {
     let mut buffer = [0; 6];
     answer.push(b" ");
@@ -55,7 +55,7 @@ pub(crate) fn add_mode(mode: EntryMode, answer: &mut Answer) {
     answer.add(mode.as_str());
 }
 
-/// What `name_order` says of two names with their kinds.
+/// Answers with the order that `name_order` returns for two names and their kinds.
 pub(crate) fn order_answer(question: &[u8], answer: &mut Answer) {
     let (left, rest) = cut(question, b'\t');
     let (left_kind, rest) = cut(rest, b'\t');
@@ -68,16 +68,16 @@ pub(crate) fn order_answer(question: &[u8], answer: &mut Answer) {
         right.as_slice(),
         is_tree(right_kind),
     );
-    answer.put_word(order_word(order));
+    answer.write_keyword(order_keyword(order));
 }
 
-/// Whether a word is that of trees.
-fn is_tree(word: &[u8]) -> bool {
-    word == b"tree".as_slice()
+/// Whether a token names trees.
+fn is_tree(token: &[u8]) -> bool {
+    token == b"tree".as_slice()
 }
 
-/// The word of an order.
-fn order_word(order: Ordering) -> &'static str {
+/// The name of an order.
+fn order_keyword(order: Ordering) -> &'static str {
     match order {
         Ordering::Less => "Less",
         Ordering::Equal => "Equal",
@@ -85,18 +85,18 @@ fn order_word(order: Ordering) -> &'static str {
     }
 }
 
-/// What `decode::loose_header` reads.
+/// Answers with the header that `decode::loose_header` decodes.
 pub(crate) fn header_answer(question: &[u8], answer: &mut Answer) {
     let bytes = bytes_of(answer.alloc, question);
     match loose_header(answer.alloc, bytes.as_slice()) {
-        Ok((kind, size, used)) => answer.put_shown("ok", format_args!("{kind} {size} {used}")),
-        Err(refusal) => answer.put_word(refusal_text(&refusal)),
+        Ok((kind, size, used)) => answer.write_shown("ok", format_args!("{kind} {size} {used}")),
+        Err(error) => answer.write_keyword(error_message(&error)),
     }
 }
 
-/// The case of a refusal, and the fault of a size text.
-fn refusal_text(refusal: &LooseHeaderDecodeError) -> &'static str {
-    match refusal {
+/// The case of an error, with the cause of an invalid size.
+fn error_message(error: &LooseHeaderDecodeError) -> &'static str {
+    match error {
         LooseHeaderDecodeError::InvalidHeader { .. } => "err InvalidHeader",
         LooseHeaderDecodeError::ObjectHeader(_) => "err ObjectHeader",
         LooseHeaderDecodeError::OutOfMemory => "err OutOfMemory",

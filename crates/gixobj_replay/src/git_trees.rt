@@ -1,95 +1,97 @@
-//! Answers about trees of which `git` says what they are, and about texts that are none.
+//! Answers about trees that `git` describes, and about malformed ones.
 
-mod found;
-mod told;
+mod iterated;
+mod lookups;
 
 use crate::recorded::answers::Answer;
-use crate::recorded::objects::put_sizes;
-use crate::recorded::texts::{fault, outcome_word, text_and_kind};
-use crate::trees::put_entries;
-use found::are_found;
+use crate::recorded::fields::{bytes_and_kind, fault, outcome_keyword};
+use crate::recorded::objects::write_sizes;
+use crate::trees::write_entries;
 use gixobj_base::{Kind, Tree, WriteTo, compute_hash};
 use gixobj_codec::tree::EntryRef;
 use gixobj_codec::{TreeRef, TreeRefIter};
-use told::{put_beginnings, put_refused, tells};
+use iterated::{write_beginnings, write_rejected, yields_entries};
+use lookups::are_found;
 
-/// What the public calls say of a text that is read as a tree, told, sought, copied and written, and of
-/// its beginnings. The question is the text and the kind of its ids.
+/// Answers with a tree and its prefixes: decoded, iterated, searched, copied and encoded. The question is the
+/// encoding and the kind of ids.
 pub(crate) fn git_tree_answer(question: &[u8], answer: &mut Answer) {
-    let (bytes, hash_kind) = text_and_kind(answer.alloc, question);
-    let text = bytes.as_slice();
-    answer.put_shown("id", compute_hash(hash_kind, Kind::Tree, text));
-    let told = TreeRefIter::from_bytes(text, hash_kind);
-    match TreeRef::from_bytes(answer.alloc, text, hash_kind) {
-        Ok(tree) => put_tree(text, tree, told, answer),
+    let (bytes, hash_kind) = bytes_and_kind(answer.alloc, question);
+    let input = bytes.as_slice();
+    answer.write_shown("id", compute_hash(hash_kind, Kind::Tree, input));
+    let seen = TreeRefIter::from_bytes(input, hash_kind);
+    match TreeRef::from_bytes(answer.alloc, input, hash_kind) {
+        Ok(tree) => write_tree(input, tree, seen, answer),
         Err(error) => {
-            answer.put("whole", fault(&error));
-            put_refused(told, answer);
+            answer.write_pair("whole", fault(&error));
+            write_rejected(seen, answer);
         }
     }
-    put_beginnings(text, hash_kind, answer);
+    write_beginnings(input, hash_kind, answer);
 }
 
 /// The columns of a tree.
-fn put_tree(text: &[u8], tree: TreeRef<'_>, told: TreeRefIter<'_>, answer: &mut Answer) {
-    put_entries(&tree, answer);
-    put_written("written", text, &tree, answer);
-    put_sizes(&tree, "size", "loose", answer);
-    answer.put(
+fn write_tree(input: &[u8], tree: TreeRef<'_>, seen: TreeRefIter<'_>, answer: &mut Answer) {
+    write_entries(&tree, answer);
+    write_written("written", input, &tree, answer);
+    write_sizes(&tree, "size", "loose", answer);
+    answer.write_pair(
         "told",
-        word_of(tells(answer.alloc, told, tree.entries.as_slice())),
+        keyword_of(yields_entries(answer.alloc, seen, tree.entries.as_slice())),
     );
     match tree.to_owned(answer.alloc) {
-        Ok(copy) => put_copies(text, tree, &copy, answer),
+        Ok(copy) => write_copies(input, tree, &copy, answer),
         Err(_) => answer.fail(),
     }
 }
 
-/// The columns of a tree that is copied, and of its owned form.
-fn put_copies(text: &[u8], tree: TreeRef<'_>, copy: &Tree, answer: &mut Answer) {
-    put_judged(&tree, copy, answer);
+/// The columns of a copied tree and of its owned form.
+fn write_copies(input: &[u8], tree: TreeRef<'_>, copy: &Tree, answer: &mut Answer) {
+    write_checks(&tree, copy, answer);
     match tree.into_owned(answer.alloc) {
-        Ok(owned) => put_owned(text, &owned, copy, answer),
+        Ok(owned) => write_owned(input, &owned, copy, answer),
         Err(_) => answer.fail(),
     }
 }
 
-/// The columns of a copy: whether it has the tree's entries, whether it is well-formed, and whether the tree's entries
-/// are found.
-fn put_judged(tree: &TreeRef<'_>, copy: &Tree, answer: &mut Answer) {
+/// The columns of a copy: the same entries, well formed, and entries found by name.
+fn write_checks(tree: &TreeRef<'_>, copy: &Tree, answer: &mut Answer) {
     let is_well_formed = copy.is_well_formed();
-    answer.put("owned", word_of(has_entries(copy, tree.entries.as_slice())));
-    answer.put("well-formed", if is_well_formed { "yes" } else { "no" });
-    answer.put("found", word_of(are_found(tree, is_well_formed)));
+    answer.write_pair(
+        "owned",
+        keyword_of(has_entries(copy, tree.entries.as_slice())),
+    );
+    answer.write_pair("well-formed", if is_well_formed { "yes" } else { "no" });
+    answer.write_pair("found", keyword_of(are_found(tree, is_well_formed)));
 }
 
 /// The columns of an owned tree.
-fn put_owned(text: &[u8], owned: &Tree, copy: &Tree, answer: &mut Answer) {
-    answer.put("copied", word_of(copy == owned));
-    put_written("owned-written", text, owned, answer);
-    put_sizes(owned, "owned-size", "owned-loose", answer);
+fn write_owned(input: &[u8], owned: &Tree, copy: &Tree, answer: &mut Answer) {
+    answer.write_pair("copied", keyword_of(copy == owned));
+    write_written("owned-written", input, owned, answer);
+    write_sizes(owned, "owned-size", "owned-loose", answer);
 }
 
-/// Whether two answers of this crate agree, in a word.
-fn word_of(is_so: bool) -> &'static str {
-    if is_so { "alike" } else { "otherwise" }
+/// Names whether two answers agree.
+fn keyword_of(holds: bool) -> &'static str {
+    if holds { "alike" } else { "otherwise" }
 }
 
-/// The column of `back` where a tree, borrowed or owned, is written as its text, else of what is written of it.
-fn put_written<T: WriteTo>(word: &str, text: &[u8], tree: &T, answer: &mut Answer)
+/// The column of a tree's encoding: `back` if it equals the input, else its bytes.
+fn write_written<T: WriteTo>(token: &str, input: &[u8], tree: &T, answer: &mut Answer)
     requires { T.can_write tree.now }
 {
     let mut out = Vec::new(answer.alloc);
-    let outcome = outcome_word(tree.write_to(answer.alloc, &mut out));
-    if outcome == "ok" && out.as_slice() == text {
-        answer.put(word, "back");
+    let outcome = outcome_keyword(tree.write_to(answer.alloc, &mut out));
+    if outcome == "ok" && out.as_slice() == input {
+        answer.write_pair(token, "back");
     } else {
-        answer.put(word, outcome);
+        answer.write_pair(token, outcome);
         answer.add_hex(out.as_slice());
     }
 }
 
-/// Whether an owned tree has these entries.
+/// Whether an owned tree has these entries, in order.
 fn has_entries(tree: &Tree, entries: &[EntryRef<'_>]) -> bool {
     for (owned, entry) in tree.entries.iter().zip(entries) {
         if EntryRef::from(owned) != *entry {

@@ -1,26 +1,26 @@
-//! Answers about loose objects of any kind, as the recorded ones are written.
+//! Answers about loose objects of any kind, in the format of the recorded ones.
 
 use crate::recorded::answers::Answer;
-use crate::recorded::objects::{put_sizes, put_written};
-use crate::recorded::texts::text_and_kind;
+use crate::recorded::fields::bytes_and_kind;
+use crate::recorded::objects::{write_sizes, write_written};
 use gixobj_base::Kind;
 use gixobj_codec::{LooseDecodeError, ObjectRef};
 
-/// What the public calls say of a loose object that is read and written.
+/// Answers with a decoded loose object and its encoding.
 pub(crate) fn object_answer(question: &[u8], answer: &mut Answer) {
-    let (bytes, hash_kind) = text_and_kind(answer.alloc, question);
+    let (bytes, hash_kind) = bytes_and_kind(answer.alloc, question);
     match ObjectRef::from_loose(answer.alloc, bytes.as_slice(), hash_kind) {
         Ok(object) => {
-            answer.put("ok", word_of(object.kind()));
-            put_written("written", &object, answer);
-            put_sizes(&object, "size", "loose", answer);
+            answer.write_pair("ok", keyword_of(object.kind()));
+            write_written("written", &object, answer);
+            write_sizes(&object, "size", "loose", answer);
         }
-        Err(error) => answer.put("err", case_of(&error)),
+        Err(error) => answer.write_pair("err", case_of(&error)),
     }
 }
 
-/// The word of a kind.
-fn word_of(kind: Kind) -> &'static str {
+/// The name of a kind.
+fn keyword_of(kind: Kind) -> &'static str {
     match kind {
         Kind::Tree => "tree",
         Kind::Blob => "blob",
@@ -29,7 +29,7 @@ fn word_of(kind: Kind) -> &'static str {
     }
 }
 
-/// The case of a refusal.
+/// The case of an error.
 pub(crate) fn case_of(error: &LooseDecodeError) -> &'static str {
     match error {
         LooseDecodeError::InvalidHeader(_) => "InvalidHeader",

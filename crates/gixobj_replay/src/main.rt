@@ -1,5 +1,5 @@
-//! Asks the public calls for what `git` or the Rust crate answered, or for what a rule says, as `data/` has it,
-//! and prints for each file how many answers agree, and the ones that don't.
+//! Compares the public calls with recorded answers of `git`, of the Rust crate and of written rules, as
+//! `data/` has them. Prints for each file how many answers agree, and each row that differs.
 #![tactic(auto)]
 
 mod actor_lines;
@@ -7,12 +7,13 @@ mod actors;
 mod answers;
 mod commits;
 mod entry_modes;
+mod formatting;
 mod git_commits;
 mod git_objects;
 mod git_tags;
 mod git_trees;
 mod header_fields;
-mod header_texts;
+mod header_rows;
 mod ids;
 mod kinds;
 mod listed_trees;
@@ -26,7 +27,6 @@ mod signed_data;
 mod stored_scripts;
 mod tables;
 mod tags;
-mod texts;
 mod times;
 mod trees;
 

@@ -1,10 +1,10 @@
-//! Answers about objects that programs signed and verified, with what they answered.
+//! Answers about objects that programs signed and verified. The rows have the output of each program.
 
-mod played;
+mod scripted;
 mod verified;
 
 use crate::recorded::answers::Answer;
-use crate::recorded::texts::{cut, fault, kind_of_ids, outcome_word};
+use crate::recorded::fields::{cut, fault, kind_of_ids, outcome_keyword};
 use crate::reports::format_of;
 use bstr::BString;
 use gixobj_base::parse::split_at_byte;
@@ -12,11 +12,11 @@ use gixobj_base::{WriteTo, hash};
 use gixobj_codec::{CommitRef, TagRef};
 use gixobj_signature::signature::sign::{Error, Options};
 use gixobj_text::signature::Format;
-use played::Row;
+use scripted::Row;
 use std::alloc::{AllocError, Global};
-use verified::put_verified;
+use verified::write_verified;
 
-/// The kind of an object, that of its ids, the format of the program, and the least trust.
+/// The kind of an object and of its ids, the format of the program, and the minimum trust.
 #[derive(Clone, Copy)]
 struct Head<'a> {
     object: &'a [u8],
@@ -25,7 +25,7 @@ struct Head<'a> {
     minimum: &'a [u8],
 }
 
-/// A program, the words before the fixed ones, and what is set for it.
+/// A program, the arguments before the fixed ones, and its environment.
 #[derive(Drop)]
 struct Program {
     program: BString,
@@ -33,16 +33,16 @@ struct Program {
     environment: Vec<(BString, BString)>,
 }
 
-/// What comes of signing an object, or of verifying its signature, by the programs' answers in the row.
+/// Answers with a signed object or a verified signature. The programs' outputs are in the row.
 pub(crate) fn program_answer(question: &[u8], answer: &mut Answer) {
     let mut row = Row {
         alloc: answer.alloc,
         rest: question,
     };
     let (call, head) = head_of(row.next());
-    let text = answer.unspelled(row.next());
+    let input = answer.unescape(row.next());
     match program_of(answer.alloc, &mut row) {
-        Ok(program) => put_call(call, head, text.as_slice(), program, &mut row, answer),
+        Ok(program) => write_call(call, head, input.as_slice(), program, &mut row, answer),
         Err(_) => answer.fail(),
     }
     if !row.rest.is_empty() {
@@ -50,7 +50,7 @@ pub(crate) fn program_answer(question: &[u8], answer: &mut Answer) {
     }
 }
 
-/// Whether is signed or verified, and what.
+/// Splits the first column: the call, and the object that it is for.
 fn head_of(column: &[u8]) -> (&[u8], Head<'_>) {
     let (call, rest) = cut(column, b' ');
     let (object, rest) = cut(rest, b' ');
@@ -65,30 +65,30 @@ fn head_of(column: &[u8]) -> (&[u8], Head<'_>) {
     (call, head)
 }
 
-/// The program of the next two columns.
+/// The program in the next two columns.
 fn program_of(alloc: Global, row: &mut Row<'_>) -> Result<Program, AllocError> {
     let environment = row.next();
     let (program, arguments) = cut(row.next(), b' ');
     Ok(Program {
         program: BString::from_slice(alloc, program)?,
-        arguments: words_of(alloc, arguments)?,
+        arguments: arguments_of(alloc, arguments)?,
         environment: environment_of(alloc, environment)?,
     })
 }
 
-/// Words, apart by spaces.
-fn words_of(alloc: Global, column: &[u8]) -> Result<Vec<BString>, AllocError> {
-    let mut words = Vec::new(alloc);
+/// Arguments, separated by spaces.
+fn arguments_of(alloc: Global, column: &[u8]) -> Result<Vec<BString>, AllocError> {
+    let mut arguments = Vec::new(alloc);
     if column.is_empty() {
-        return Ok(words);
+        return Ok(arguments);
     }
-    for word in column.split(|byte| *byte == b' ') {
-        words.push(BString::from_slice(alloc, word)?)?;
+    for argument in column.split(|byte| *byte == b' ') {
+        arguments.push(BString::from_slice(alloc, argument)?)?;
     }
-    Ok(words)
+    Ok(arguments)
 }
 
-/// Names and values, apart by spaces.
+/// Names and values, separated by spaces.
 fn environment_of(alloc: Global, column: &[u8]) -> Result<Vec<(BString, BString)>, AllocError> {
     let mut pairs = Vec::new(alloc);
     for pair in column.split(|byte| *byte == b' ') {
@@ -105,25 +105,25 @@ fn pair_of(alloc: Global, name: &[u8], value: &[u8]) -> Result<(BString, BString
     Ok((name, BString::from_slice(alloc, value)?))
 }
 
-/// What comes of a call.
-fn put_call(
+/// Adds the result of a call.
+fn write_call(
     call: &[u8],
     head: Head<'_>,
-    text: &[u8],
+    input: &[u8],
     program: Program,
     row: &mut Row<'_>,
     answer: &mut Answer,
 ) {
     match call {
-        b"sign" => put_signed(head, text, program, row, answer),
-        _ => put_verified(head, text, program, row, answer),
+        b"sign" => write_signed(head, input, program, row, answer),
+        _ => write_verified(head, input, program, row, answer),
     }
 }
 
-/// What comes of signing an object: what is written of the signed one, or the refusal.
-fn put_signed(
+/// Adds the encoding of the signed object, or the error.
+fn write_signed(
     head: Head<'_>,
-    text: &[u8],
+    input: &[u8],
     program: Program,
     row: &mut Row<'_>,
     answer: &mut Answer,
@@ -137,67 +137,67 @@ fn put_signed(
         format: head.format,
         program,
         program_arguments: arguments,
-        signing_key: BString::new(answer.unspelled(row.next())),
+        signing_key: BString::new(answer.unescape(row.next())),
         environment,
     };
     let _revoked = row.next();
     let _time = row.next();
     match head.object {
-        b"tag" => put_signed_tag(text, head.ids, options, row, answer),
-        _ => put_signed_commit(text, head.ids, options, row, answer),
+        b"tag" => write_signed_tag(input, head.ids, options, row, answer),
+        _ => write_signed_commit(input, head.ids, options, row, answer),
     }
 }
 
-/// The same of a commit.
-fn put_signed_commit(
-    text: &[u8],
+/// Adds the encoding of the signed commit, or the error.
+fn write_signed_commit(
+    input: &[u8],
     ids: hash::Kind,
     options: Options,
     row: &mut Row<'_>,
     answer: &mut Answer,
 ) {
-    match CommitRef::from_bytes(answer.alloc, text, ids) {
+    match CommitRef::from_bytes(answer.alloc, input, ids) {
         Ok(commit) => match commit.sign(answer.alloc, options, row) {
-            Ok(signed) => put_written(&signed, answer),
-            Err(error) => put_refusal(&error, answer),
+            Ok(signed) => write_written(&signed, answer),
+            Err(error) => write_failure(&error, answer),
         },
-        Err(error) => answer.put_word(fault(&error)),
+        Err(error) => answer.write_keyword(fault(&error)),
     }
 }
 
-/// The same of a tag.
-fn put_signed_tag(
-    text: &[u8],
+/// Adds the encoding of the signed tag, or the error.
+fn write_signed_tag(
+    input: &[u8],
     ids: hash::Kind,
     options: Options,
     row: &mut Row<'_>,
     answer: &mut Answer,
 ) {
-    match TagRef::from_bytes(text, ids) {
+    match TagRef::from_bytes(input, ids) {
         Ok(tag) => match tag.sign(answer.alloc, options, row) {
-            Ok(signed) => put_written(&signed, answer),
-            Err(error) => put_refusal(&error, answer),
+            Ok(signed) => write_written(&signed, answer),
+            Err(error) => write_failure(&error, answer),
         },
-        Err(error) => answer.put_word(fault(&error)),
+        Err(error) => answer.write_keyword(fault(&error)),
     }
 }
 
-/// What is written of an object.
-fn put_written<T: WriteTo>(object: &T, answer: &mut Answer)
+/// Adds the encoding of an object.
+fn write_written<T: WriteTo>(object: &T, answer: &mut Answer)
     requires { T.can_write object.now }
 {
     let mut out = Vec::new(answer.alloc);
-    let outcome = outcome_word(object.write_to(answer.alloc, &mut out));
-    answer.put_spelled(outcome, out.as_slice());
+    let outcome = outcome_keyword(object.write_to(answer.alloc, &mut out));
+    answer.write_escaped(outcome, out.as_slice());
 }
 
-/// Why nothing is signed.
-fn put_refusal(error: &Error, answer: &mut Answer) {
+/// Adds the error of signing.
+fn write_failure(error: &Error, answer: &mut Answer) {
     match error {
         Error::Failed { program, output } => {
-            answer.put_spelled("err Failed", program.as_bytes());
-            answer.add_spelled(output.as_bytes());
+            answer.write_escaped("err Failed", program.as_bytes());
+            answer.add_escaped(output.as_bytes());
         }
-        error => answer.put_shown("err", error),
+        error => answer.write_shown("err", error),
     }
 }

@@ -1,7 +1,7 @@
-//! Recorded answers: how they are spelled, and tables of them compared.
+//! Recorded answers: their format, and the comparison of tables.
 
 pub(crate) mod answers;
+pub(crate) mod escapes;
+pub(crate) mod fields;
 pub(crate) mod objects;
-pub(crate) mod spelling;
 pub(crate) mod tables;
-pub(crate) mod texts;

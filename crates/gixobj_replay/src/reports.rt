@@ -1,8 +1,8 @@
-//! Answers about what verifiers report, and about markers of signatures, as the recorded ones are written.
+//! Answers about reports of verifiers and markers of signatures, in the format of the recorded ones.
 
 use crate::recorded::answers::Answer;
-use crate::recorded::texts::{bytes_of, cut};
-use crate::tags::format_word;
+use crate::recorded::fields::{bytes_of, cut};
+use crate::tags::format_keyword;
 use bstr::BString;
 use gixobj_base::OutOfMemory;
 use gixobj_signature::signature::verify::{
@@ -11,51 +11,51 @@ use gixobj_signature::signature::verify::{
 use gixobj_text::signature::{Format, find};
 use std::alloc::Global;
 
-/// What people are told in each report of OpenPGP and of X.509.
-const TOLD: &[u8] = b"told";
+/// The human-readable output of each report of OpenPGP and of X.509.
+const OUTPUT: &[u8] = b"told";
 
-/// What the public calls say of a report of OpenPGP or of X.509.
+/// Answers with the outcome of a report of OpenPGP or of X.509.
 pub(crate) fn gpg_report_answer(question: &[u8], answer: &mut Answer) {
     let (format, raw) = cut(question, b' ');
     let format = format_of(format);
     let raw = bytes_of(answer.alloc, raw);
     match gpg_outcome(answer.alloc, format, raw.as_slice()) {
-        Ok(outcome) => put_gpg_outcome(&outcome, format, raw.as_slice(), answer),
+        Ok(outcome) => write_gpg_outcome(&outcome, format, raw.as_slice(), answer),
         Err(OutOfMemory) => answer.fail(),
     }
 }
 
 /// The columns of an outcome of OpenPGP or of X.509.
-fn put_gpg_outcome(outcome: &Outcome, format: Format, raw: &[u8], answer: &mut Answer) {
-    put_status(outcome, answer);
-    answer.put_word(level_word(outcome.trust_level));
-    put_if_some(&outcome.key, answer);
-    put_if_some(&outcome.signer, answer);
-    put_if_some(&outcome.fingerprint, answer);
-    put_if_some(&outcome.primary_key_fingerprint, answer);
-    put_validity(outcome, is_of_gpg(outcome, format, raw), answer);
+fn write_gpg_outcome(outcome: &Outcome, format: Format, raw: &[u8], answer: &mut Answer) {
+    write_status(outcome, answer);
+    answer.write_keyword(level_keyword(outcome.trust_level));
+    write_if_some(&outcome.key, answer);
+    write_if_some(&outcome.signer, answer);
+    write_if_some(&outcome.fingerprint, answer);
+    write_if_some(&outcome.primary_key_fingerprint, answer);
+    write_validity(outcome, is_of_gpg(outcome, format, raw), answer);
 }
 
-/// Whether an outcome has this format, what people are told, and the raw report.
+/// Whether an outcome has this format, the human-readable output, and the raw report.
 fn is_of_gpg(outcome: &Outcome, format: Format, raw: &[u8]) -> bool {
     outcome.format == format
-        && outcome.output.as_bytes() == TOLD
+        && outcome.output.as_bytes() == OUTPUT
         && outcome.raw_output.as_bytes() == raw
 }
 
-/// The columns of whether an outcome is another than the report's, and of whether it is valid.
-fn put_validity(outcome: &Outcome, is_whole: bool, answer: &mut Answer) {
-    answer.put_holding(&[(!is_whole, "another"), (outcome.is_valid(), "valid")]);
+/// The columns of whether an outcome differs from the report's, and of whether it is valid.
+fn write_validity(outcome: &Outcome, is_entire: bool, answer: &mut Answer) {
+    answer.write_holding(&[(!is_entire, "another"), (outcome.is_valid(), "valid")]);
 }
 
 /// The outcome of a report of OpenPGP or of X.509.
 fn gpg_outcome(alloc: Global, format: Format, raw: &[u8]) -> Result<Outcome, OutOfMemory> {
-    let output = BString::from_slice(alloc, TOLD)?;
+    let output = BString::from_slice(alloc, OUTPUT)?;
     let raw_output = BString::from_slice(alloc, raw)?;
     parse_gpg_output(alloc, format, output, raw_output)
 }
 
-/// What the public calls say of a report of SSH.
+/// Answers with the outcome of a report of SSH.
 pub(crate) fn ssh_report_answer(question: &[u8], answer: &mut Answer) {
     let (trust, rest) = cut(question, b' ');
     let (signer, output) = cut(rest, b' ');
@@ -67,12 +67,12 @@ pub(crate) fn ssh_report_answer(question: &[u8], answer: &mut Answer) {
     let output = bytes_of(answer.alloc, output);
     match ssh_outcome(answer.alloc, trust, &signer, output.as_slice()) {
         Ok(outcome) => {
-            put_status(&outcome, answer);
-            put_if_some(&outcome.key, answer);
-            let is_whole = outcome.trust_level == trust
+            write_status(&outcome, answer);
+            write_if_some(&outcome.key, answer);
+            let is_entire = outcome.trust_level == trust
                 && signer.is(&outcome.signer)
                 && is_of_ssh(&outcome, output.as_slice());
-            put_validity(&outcome, is_whole, answer);
+            write_validity(&outcome, is_entire, answer);
         }
         Err(OutOfMemory) => answer.fail(),
     }
@@ -95,7 +95,7 @@ struct SignerColumn {
 }
 
 impl SignerColumn {
-    /// A copy, or none.
+    /// Copies the signer, if there is one.
     fn copy(&self, alloc: Global) -> Result<Option<BString>, OutOfMemory> {
         if !self.is_there {
             return Ok(None);
@@ -125,32 +125,32 @@ fn ssh_outcome(
 }
 
 /// The column of a status.
-fn put_status(outcome: &Outcome, answer: &mut Answer) {
+fn write_status(outcome: &Outcome, answer: &mut Answer) {
     let status = outcome.status;
-    answer.put_column();
+    answer.write_column();
     answer.push_shown(format_args!("{status:?}"));
 }
 
-/// The column of a text that may be missing.
-fn put_if_some(text: &Option<BString>, answer: &mut Answer) {
-    answer.put_column();
-    match text {
-        Some(text) => answer.push_hex(text.as_bytes()),
+/// The column of bytes that may be missing.
+fn write_if_some(content: &Option<BString>, answer: &mut Answer) {
+    answer.write_column();
+    match content {
+        Some(content) => answer.push_hex(content.as_bytes()),
         None => answer.push(b"-"),
     }
 }
 
-/// What the public calls say of the name of a level of trust.
+/// Answers with the trust level of a name.
 pub(crate) fn trust_answer(question: &[u8], answer: &mut Answer) {
     let name = bytes_of(answer.alloc, question);
     match TrustLevel::from_bytes(name.as_slice()) {
-        Some(level) => answer.put_word(level_word(level)),
-        None => answer.put_word("none"),
+        Some(level) => answer.write_keyword(level_keyword(level)),
+        None => answer.write_keyword("none"),
     }
 }
 
-/// The name of a level.
-fn level_word(level: TrustLevel) -> &'static str {
+/// The name of a trust level.
+fn level_keyword(level: TrustLevel) -> &'static str {
     match level {
         TrustLevel::Undefined => "Undefined",
         TrustLevel::Never => "Never",
@@ -160,9 +160,9 @@ fn level_word(level: TrustLevel) -> &'static str {
     }
 }
 
-/// The level of a name.
-pub(crate) fn level_of(word: &[u8]) -> TrustLevel {
-    match word {
+/// The trust level of a name.
+pub(crate) fn level_of(token: &[u8]) -> TrustLevel {
+    match token {
         b"Never" => TrustLevel::Never,
         b"Marginal" => TrustLevel::Marginal,
         b"Fully" => TrustLevel::Fully,
@@ -171,23 +171,23 @@ pub(crate) fn level_of(word: &[u8]) -> TrustLevel {
     }
 }
 
-/// The format of a word.
-pub(crate) fn format_of(word: &[u8]) -> Format {
-    match word {
+/// The format that a token names.
+pub(crate) fn format_of(token: &[u8]) -> Format {
+    match token {
         b"X509" => Format::X509,
         b"Ssh" => Format::Ssh,
         _ => Format::OpenPgp,
     }
 }
 
-/// What the public calls say of a text: the place of its last marker, and the format.
+/// Answers with the position of the last marker in the input, and its format.
 pub(crate) fn marker_answer(question: &[u8], answer: &mut Answer) {
-    let text = bytes_of(answer.alloc, question);
-    match find(text.as_slice()) {
+    let content = bytes_of(answer.alloc, question);
+    match find(content.as_slice()) {
         Some((place, format)) => {
             answer.push_shown(place);
-            answer.add(format_word(format));
+            answer.add(format_keyword(format));
         }
-        None => answer.put_word("none"),
+        None => answer.write_keyword("none"),
     }
 }

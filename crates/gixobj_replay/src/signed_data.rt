@@ -1,49 +1,49 @@
-//! Answers about signatures found in the texts of commits and tags, and what they sign, as the recorded ones are
-//! written.
+//! Answers about signatures in commits and tags and the data that they sign, in the format of the recorded
+//! ones.
 
 use crate::recorded::answers::Answer;
-use crate::recorded::texts::{bytes_of, cut, fault, kind_of_ids};
-use crate::tags::format_word;
+use crate::recorded::fields::{bytes_of, cut, fault, kind_of_ids};
+use crate::tags::format_keyword;
 use gixobj_base::hash::Kind;
 use gixobj_codec::{CommitRefIter, TagRefIter};
 use gixobj_signature::signature::SignedData;
 
-/// What the public calls say of a text: the signature and what it signs, none, or why it isn't read.
+/// Answers with the signature and the signed data of an object, that it has none, or the error.
 pub(crate) fn signed_data_answer(question: &[u8], answer: &mut Answer) {
-    let (word, rest) = cut(question, b' ');
-    let (text, kind) = cut(rest, b' ');
-    let bytes = bytes_of(answer.alloc, text);
-    match word {
-        b"tag" => put_tag(bytes.as_slice(), answer),
-        _ => put_commit(bytes.as_slice(), kind_of_ids(kind), answer),
+    let (token, rest) = cut(question, b' ');
+    let (content, kind) = cut(rest, b' ');
+    let bytes = bytes_of(answer.alloc, content);
+    match token {
+        b"tag" => write_tag(bytes.as_slice(), answer),
+        _ => write_commit(bytes.as_slice(), kind_of_ids(kind), answer),
     }
 }
 
-/// The same of a commit.
-fn put_commit(bytes: &[u8], kind: Kind, answer: &mut Answer) {
+/// The columns of a commit's signature and its signed data.
+fn write_commit(bytes: &[u8], kind: Kind, answer: &mut Answer) {
     match CommitRefIter::signature(answer.alloc, bytes, kind) {
         Ok(Some((signature, signed))) => {
-            answer.put_hex("ok", signature.as_slice());
+            answer.write_hex("ok", signature.as_slice());
             add_signed(signed, answer);
         }
-        Ok(None) => answer.put_word("none"),
-        Err(error) => answer.put_word(fault(&error)),
+        Ok(None) => answer.write_keyword("none"),
+        Err(error) => answer.write_keyword(fault(&error)),
     }
 }
 
-/// The same of a tag, with the format of its signature.
-fn put_tag(bytes: &[u8], answer: &mut Answer) {
+/// The columns of a tag's signature with its format, and of its signed data.
+fn write_tag(bytes: &[u8], answer: &mut Answer) {
     match TagRefIter::signature(bytes) {
         Some((signature, signed)) => {
-            answer.put("ok", format_word(signature.format));
+            answer.write_pair("ok", format_keyword(signature.format));
             answer.add_hex(signature.bytes.as_bytes());
             add_signed(signed, answer);
         }
-        None => answer.put_word("none"),
+        None => answer.write_keyword("none"),
     }
 }
 
-/// What is signed.
+/// Adds the signed data.
 fn add_signed(signed: SignedData<'_>, answer: &mut Answer) {
     match signed.to_bstring(answer.alloc) {
         Ok(bytes) => answer.add_hex(bytes.as_bytes()),

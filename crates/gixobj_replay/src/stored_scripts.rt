@@ -1,33 +1,32 @@
-//! Answers about scripts of edits that are run over a store of objects: what is told of one, and why directories weren't
-//! found.
+//! Answers about scripts of edits over a store of objects: their output, and why directories weren't found.
 
 use crate::recorded::answers::Answer;
-use crate::recorded::texts::{bytes_of, cut, kind_of_ids};
+use crate::recorded::fields::{bytes_of, cut, kind_of_ids};
 use gixobj_base::{Kind, OutOfMemory, Tree, encode, hash};
 use gixobj_editor::editor::{Editor, Error};
 use gixobj_editor::{Command, EditReply, Reply, run};
 use gixobj_find::Memory;
 use gixobj_find::find::existing_object;
-use gixobj_script::{read_script, told_lines};
+use gixobj_script::{read_script, report_lines};
 use std::alloc::Global;
 
-/// What is told of a script, run on the empty root over a store of these objects, and the cause of each directory that
-/// wasn't found. The question is the kind of the ids, the objects, and the script.
+/// Answers with the output of a script on the empty root over a store of these objects, and the cause of each
+/// failed lookup. The question is the kind of ids, the objects, and the script.
 pub(crate) fn stored_script_answer(question: &[u8], answer: &mut Answer) {
-    let (word, rest) = cut(question, b'\t');
+    let (token, rest) = cut(question, b'\t');
     let (objects, script) = cut(rest, b'\t');
-    let hash_kind = kind_of_ids(word);
-    let script = answer.unspelled(script);
+    let hash_kind = kind_of_ids(token);
+    let script = answer.unescape(script);
     let Ok(commands) = read_script(answer.alloc, script.as_slice(), hash_kind) else {
-        return answer.put_word("no script");
+        return answer.write_keyword("no script");
     };
     match store_of(answer.alloc, objects, hash_kind) {
-        Ok(store) => put_run(store, commands, hash_kind, answer),
+        Ok(store) => write_run(store, commands, hash_kind, answer),
         Err(OutOfMemory) => answer.fail(),
     }
 }
 
-/// A store of objects: of each the word of its kind, and its bytes.
+/// A store of objects. Each has its kind and its bytes.
 fn store_of(alloc: Global, objects: &[u8], hash_kind: hash::Kind) -> Result<Memory, OutOfMemory> {
     let mut store = Memory::new(alloc);
     let mut kind = None;
@@ -43,32 +42,32 @@ fn store_of(alloc: Global, objects: &[u8], hash_kind: hash::Kind) -> Result<Memo
     Ok(store)
 }
 
-/// What is told of commands that are run over a store.
-fn put_run(store: Memory, commands: Vec<Command>, hash_kind: hash::Kind, answer: &mut Answer) {
+/// Adds the output of commands that run over a store.
+fn write_run(store: Memory, commands: Vec<Command>, hash_kind: hash::Kind, answer: &mut Answer) {
     let alloc = answer.alloc;
     let mut editor = Editor::new(Tree::empty(alloc), store, hash_kind);
     let out = |tree: &Tree| tree.compute_id(alloc, hash_kind);
     match run(alloc, &mut editor, commands, out) {
-        Ok(replies) => put_told(&replies, editor.lookups(), answer),
+        Ok(replies) => add_output(&replies, editor.lookups(), answer),
         Err(OutOfMemory) => answer.fail(),
     }
 }
 
-/// What is told of replies, and the line of the causes.
-fn put_told(replies: &[Reply<encode::Error>], lookups: u64, answer: &mut Answer) {
-    match told_lines(answer.alloc, replies, lookups) {
-        Ok(told) => answer.push_spelled(told.as_slice()),
+/// Adds the output of replies, and the line of the causes.
+fn add_output(replies: &[Reply<encode::Error>], lookups: u64, answer: &mut Answer) {
+    match report_lines(answer.alloc, replies, lookups) {
+        Ok(seen) => answer.push_escaped(seen.as_slice()),
         Err(OutOfMemory) => answer.fail(),
     }
     push_causes(replies, answer);
 }
 
-/// A line of the word `causes`, and the cause of each directory that wasn't found.
+/// Appends a line of `causes`, and the cause of each failed lookup.
 fn push_causes(replies: &[Reply<encode::Error>], answer: &mut Answer) {
     answer.push(b"causes");
     for reply in replies {
-        if let Some(word) = cause_in(reply) {
-            answer.add(word);
+        if let Some(token) = cause_in(reply) {
+            answer.add(token);
         }
     }
     answer.push(b"\\n");
@@ -77,16 +76,16 @@ fn push_causes(replies: &[Reply<encode::Error>], answer: &mut Answer) {
 /// The cause in a reply, if there is one.
 fn cause_in(reply: &Reply<encode::Error>) -> Option<&'static str> {
     match reply {
-        Reply::Edit(EditReply::Refused(Error::FindExistingObject(cause))) => Some(cause_word(
+        Reply::Edit(EditReply::Refused(Error::FindExistingObject(cause))) => Some(cause_keyword(
             cause,
         )),
-        Reply::AtRefused(Error::FindExistingObject(cause)) => Some(cause_word(cause)),
+        Reply::AtRefused(Error::FindExistingObject(cause)) => Some(cause_keyword(cause)),
         _ => None,
     }
 }
 
-/// The word of a cause.
-fn cause_word(cause: &existing_object::Error) -> &'static str {
+/// The name of a cause.
+fn cause_keyword(cause: &existing_object::Error) -> &'static str {
     match cause {
         existing_object::Error::Find(_) => "Find",
         existing_object::Error::Decode { .. } => "Decode",

@@ -1,4 +1,4 @@
-//! The tables of this program.
+//! The tables of recorded answers, in the order of the output.
 
 mod commits;
 mod fields;
@@ -33,7 +33,7 @@ pub(crate) enum Table {
     Script(ScriptTable),
 }
 
-/// All of them.
+/// All tables, in the order of the output.
 pub(crate) const TABLES: &[Table] = &[
     Table::Field(FieldTable::Modes),
     Table::Field(FieldTable::ModeNumbers),
@@ -45,14 +45,14 @@ pub(crate) const TABLES: &[Table] = &[
     Table::Commit(CommitTable::CommitTokens),
     Table::Commit(CommitTable::Messages),
     Table::Commit(CommitTable::Bodies),
-    Table::Commit(CommitTable::MessageTexts),
+    Table::Commit(CommitTable::MessageRows),
     Table::Commit(CommitTable::GitTrailers),
     Table::Tag(TagTable::Tags),
     Table::Tag(TagTable::TagTokens),
     Table::Tag(TagTable::TagNames),
     Table::Tag(TagTable::GitTagNames),
     Table::Tag(TagTable::GitTags),
-    Table::Tag(TagTable::TagTexts),
+    Table::Tag(TagTable::TagRows),
     Table::Tag(TagTable::TagParts),
     Table::Signature(SignatureTable::GpgReports),
     Table::Signature(SignatureTable::SshReports),
@@ -68,7 +68,7 @@ pub(crate) const TABLES: &[Table] = &[
     Table::Field(FieldTable::NearNames),
     Table::Field(FieldTable::Ids),
     Table::Field(FieldTable::ObjectIds),
-    Table::Field(FieldTable::HeaderTexts),
+    Table::Field(FieldTable::HeaderRows),
     Table::Field(FieldTable::Times),
     Table::Field(FieldTable::ActorLines),
     Table::Field(FieldTable::HeaderFields),
@@ -100,19 +100,19 @@ impl Recorded for Table {
         }
     }
 
-    fn put_answer(self, question: &[u8], answer: &mut Answer) {
+    fn write_answer(self, question: &[u8], answer: &mut Answer) {
         match self {
-            Table::Field(table) => table.put_answer(question, answer),
-            Table::Commit(table) => table.put_answer(question, answer),
-            Table::Tag(table) => table.put_answer(question, answer),
-            Table::Signature(table) => table.put_answer(question, answer),
-            Table::Object(table) => table.put_answer(question, answer),
-            Table::Script(table) => table.put_answer(question, answer),
+            Table::Field(table) => table.write_answer(question, answer),
+            Table::Commit(table) => table.write_answer(question, answer),
+            Table::Tag(table) => table.write_answer(question, answer),
+            Table::Signature(table) => table.write_answer(question, answer),
+            Table::Object(table) => table.write_answer(question, answer),
+            Table::Script(table) => table.write_answer(question, answer),
         }
     }
 
-    /// Rows of the Rust crate's recorded answers begin with the question, all others with their name and
-    /// where the answer is from.
+    /// Splits a row. Rows of the Rust crate begin with the question, other rows with their name and their
+    /// source.
     fn parts<'a>(self, line: &'a [u8]) -> Option<(&'a [u8], &'a [u8])> {
         match self {
             Table::Field(table) => table.parts(line),

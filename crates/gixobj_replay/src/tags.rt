@@ -1,11 +1,11 @@
-//! Answers about tags, as the recorded ones are written.
+//! Answers about tags, in the format of the recorded ones.
 
-mod told;
+mod iterated;
 
 use crate::actors::{add_actor, add_owned};
 use crate::recorded::answers::Answer;
-use crate::recorded::objects::{put_sizes, put_written};
-use crate::recorded::texts::{bytes_of, fault, name_fault, outcome_word, text_and_kind};
+use crate::recorded::fields::{bytes_and_kind, bytes_of, fault, name_fault, outcome_keyword};
+use crate::recorded::objects::{write_sizes, write_written};
 use bstr::BStr;
 use gixobj_base::actor::{Signature, SignatureRef};
 use gixobj_base::{decode, encode};
@@ -13,43 +13,43 @@ use gixobj_codec::tag::write;
 use gixobj_codec::{Tag, TagRef};
 use gixobj_text::signature;
 use gixobj_text::signature::Format;
-pub(crate) use told::tag_token_answer;
+pub(crate) use iterated::tag_token_answer;
 
-/// What the public calls say of a tag that is read whole, written and copied.
+/// Answers with a decoded tag, its encoding and its owned form.
 pub(crate) fn tag_answer(question: &[u8], answer: &mut Answer) {
-    let (bytes, hash_kind) = text_and_kind(answer.alloc, question);
+    let (bytes, hash_kind) = bytes_and_kind(answer.alloc, question);
     match TagRef::from_bytes(bytes.as_slice(), hash_kind) {
         Ok(tag) => {
-            answer.put("whole", "ok");
-            answer.put_hex("target", tag.target.as_bytes());
+            answer.write_pair("whole", "ok");
+            answer.write_hex("target", tag.target.as_bytes());
             answer.add_shown(tag.target());
-            put_fields(&tag, answer);
-            put_written("written", &tag, answer);
-            put_sizes(&tag, "size", "loose", answer);
-            put_owned(tag.into_owned(answer.alloc), answer);
+            write_fields(&tag, answer);
+            write_written("written", &tag, answer);
+            write_sizes(&tag, "size", "loose", answer);
+            write_owned(tag.into_owned(answer.alloc), answer);
         }
-        Err(error) => answer.put("whole", fault(&error)),
+        Err(error) => answer.write_pair("whole", fault(&error)),
     }
 }
 
-/// The columns of the fields but the target.
-fn put_fields(tag: &TagRef<'_>, answer: &mut Answer) {
-    answer.put_shown("target-kind", tag.target_kind);
-    answer.put_hex("name", tag.name.as_bytes());
-    answer.put_hex_if_some("tagger", tag.tagger);
-    put_tagger("tagger-trim", tag.tagger(), answer);
-    answer.put_hex("message", tag.message.as_bytes());
-    answer.put_hex_if_some("signature", tag.signature);
-    put_signature(tag.signature(), answer);
+/// The columns of all fields except the target.
+fn write_fields(tag: &TagRef<'_>, answer: &mut Answer) {
+    answer.write_shown("target-kind", tag.target_kind);
+    answer.write_hex("name", tag.name.as_bytes());
+    answer.write_hex_if_some("tagger", tag.tagger);
+    write_tagger("tagger-trim", tag.tagger(), answer);
+    answer.write_hex("message", tag.message.as_bytes());
+    answer.write_hex_if_some("signature", tag.signature);
+    write_signature(tag.signature(), answer);
 }
 
-/// The column of a tagger, that there is none, or the fault of its line.
-pub(crate) fn put_tagger(
-    word: &str,
+/// The column of a tagger, of a missing one, or of the error of its line.
+pub(crate) fn write_tagger(
+    token: &str,
     tagger: Result<Option<SignatureRef<'_>>, decode::Error>,
     answer: &mut Answer,
 ) {
-    answer.put_word(word);
+    answer.write_keyword(token);
     match tagger {
         Ok(Some(actor)) => {
             answer.add("ok");
@@ -60,19 +60,19 @@ pub(crate) fn put_tagger(
     }
 }
 
-/// The column of the format of a signature and its bytes, or that there is none.
-fn put_signature(signature: Option<signature::SignatureRef<'_>>, answer: &mut Answer) {
+/// The column of a signature's format and bytes, or of a missing one.
+fn write_signature(signature: Option<signature::SignatureRef<'_>>, answer: &mut Answer) {
     match signature {
         Some(signature) => {
-            answer.put("signature-format", format_word(signature.format));
+            answer.write_pair("signature-format", format_keyword(signature.format));
             answer.add_hex(signature.bytes.as_bytes());
         }
-        None => answer.put("signature-format", "none"),
+        None => answer.write_pair("signature-format", "none"),
     }
 }
 
 /// The format of a signature.
-pub(crate) fn format_word(format: Format) -> &'static str {
+pub(crate) fn format_keyword(format: Format) -> &'static str {
     match format {
         Format::OpenPgp => "OpenPgp",
         Format::X509 => "X509",
@@ -80,50 +80,50 @@ pub(crate) fn format_word(format: Format) -> &'static str {
     }
 }
 
-/// The columns of an owned tag, or why there is none.
-fn put_owned(owned: Result<Tag, decode::Error>, answer: &mut Answer) {
+/// The columns of an owned tag, or of the error.
+fn write_owned(owned: Result<Tag, decode::Error>, answer: &mut Answer) {
     match owned {
-        Ok(tag) => put_owned_parts(&tag, answer),
-        Err(error) => answer.put("owned", fault(&error)),
+        Ok(tag) => write_owned_parts(&tag, answer),
+        Err(error) => answer.write_pair("owned", fault(&error)),
     }
 }
 
-/// The columns of an owned tag: its tagger, and what is written of it.
-fn put_owned_parts(tag: &Tag, answer: &mut Answer) {
-    answer.put("owned", "ok");
-    put_owned_tagger(&tag.tagger, answer);
-    put_written("owned-written", tag, answer);
-    put_sizes(tag, "owned-size", "owned-loose", answer);
+/// The columns of an owned tag's tagger and of its encoding.
+fn write_owned_parts(tag: &Tag, answer: &mut Answer) {
+    answer.write_pair("owned", "ok");
+    write_owned_tagger(&tag.tagger, answer);
+    write_written("owned-written", tag, answer);
+    write_sizes(tag, "owned-size", "owned-loose", answer);
 }
 
 /// The column of an owned tagger, or `-`.
-fn put_owned_tagger(actor: &Option<Signature>, answer: &mut Answer) {
-    answer.put_word("owned-tagger");
+fn write_owned_tagger(actor: &Option<Signature>, answer: &mut Answer) {
+    answer.write_keyword("owned-tagger");
     match actor {
         Some(actor) => add_owned(actor, answer),
         None => answer.add("-"),
     }
 }
 
-/// What `validated_name` says of a name.
+/// Answers with the result of `validated_name` for a name.
 pub(crate) fn name_answer(question: &[u8], answer: &mut Answer) {
     let bytes = bytes_of(answer.alloc, question);
     match write::validated_name(BStr::new(bytes.as_slice())) {
-        Ok(name) if name.as_bytes() == bytes.as_slice() => answer.put_word("ok"),
-        Ok(_) => answer.put_word("ok another"),
-        Err(refusal) => answer.put_word(refused_name(refusal)),
+        Ok(name) if name.as_bytes() == bytes.as_slice() => answer.write_keyword("ok"),
+        Ok(_) => answer.write_keyword("ok another"),
+        Err(failure) => answer.write_keyword(rejected_name(failure)),
     }
 }
 
-/// Why a name is refused, and a writer that is refused for it says the same.
-fn refused_name(refusal: write::Error) -> &'static str {
-    let word = match refusal {
+/// The error of a name, which is also the error of the writer.
+fn rejected_name(failure: write::Error) -> &'static str {
+    let token = match failure {
         write::Error::StartsWithDash => "err StartsWithDash",
         write::Error::InvalidRefName(fault) => name_fault(fault),
     };
-    let of_writer = outcome_word(Err(encode::Error::from(refusal)));
-    if of_writer == word {
-        word
+    let of_writer = outcome_keyword(Err(encode::Error::from(failure)));
+    if of_writer == token {
+        token
     } else {
         "err another"
     }

@@ -1,22 +1,22 @@
 //! Answers about times.
 
 use crate::recorded::answers::Answer;
-use crate::recorded::texts::cut;
+use crate::recorded::fields::cut;
 use gixobj_base::date::{Time, TimeBuf, parse_header};
 
-/// What the public calls say of a time. The question is `text` and a text, or `time`, seconds and offset.
+/// Answers with a time. The question is `text` and bytes, or `time`, seconds and offset.
 pub(crate) fn time_answer(question: &[u8], answer: &mut Answer) {
     let (form, what) = cut(question, b' ');
     match form {
-        b"text" => put_read(what, answer),
-        _ => put_written(what, answer),
+        b"text" => write_read(what, answer),
+        _ => write_written(what, answer),
     }
 }
 
-/// The seconds and the offset of a text, or `-`.
-fn put_read(text: &[u8], answer: &mut Answer) {
-    let text = answer.unspelled(text);
-    match parse_header(text.as_slice()) {
+/// Adds the seconds and the offset of the decoded time, or `-`.
+fn write_read(bytes: &[u8], answer: &mut Answer) {
+    let bytes = answer.unescape(bytes);
+    match parse_header(bytes.as_slice()) {
         Some(
             Time {
                 seconds,
@@ -24,14 +24,14 @@ fn put_read(text: &[u8], answer: &mut Answer) {
                 ..
             },
         ) => answer.push_shown(format_args!("{seconds} {offset}")),
-        None => answer.put_word("-"),
+        None => answer.write_keyword("-"),
     }
 }
 
-/// The text of a time, as it is answered and as it is kept, or `-` where there is no such time.
-fn put_written(what: &[u8], answer: &mut Answer) {
+/// Adds the encoding of a time, as returned and as kept in the buffer, or `-` for an invalid time.
+fn write_written(what: &[u8], answer: &mut Answer) {
     let Some(time) = time_of(what) else {
-        return answer.put_word("-");
+        return answer.write_keyword("-");
     };
     let mut buf = TimeBuf::new();
     answer.push_quoted(time.to_str(&mut buf).as_bytes());

@@ -1,15 +1,15 @@
--- The word of a status begins with a byte that few others begin with.
+-- The first byte of a status line selects its keywords; `status_of_line` and `valid_here` use these lemmas.
 use Rattle.std.proofs.Common.{◌≡◌, ◌≢◌, ◌∷◌, ◌∙◌, ◌&&◌, [], ap, cond, drop, length, nat_eq, sym, take, codes, Bool, true, false, List, ℕ, Option, Some, None, refl}
 use Rattle.std.proofs.lemmas.Bool.{eqb-true}
 use Rattle.std.specs.Cmp.Lexicographic.{pointwise}
 use Rattle.std.specs.Option.{option_map}
-use Rattle.gixobj_report.specs.Fields.{behind, either}
+use Rattle.gixobj_report.specs.Fields.{after_prefix, either}
 use Rattle.gixobj_report.specs.GpgReports.{status_of, with_status}
-use Rattle.gixobj_report.specs.Telling.{error_of}
+use Rattle.gixobj_report.specs.StatusLines.{error_of}
 use Rattle.gixobj_report.specs.declared.report.Status.{Status}
 use Rattle.gixobj_report.specs.declared.report.Status.TheVariants as status
 
--- of a line with this first byte, what its words say is what all words say
+-- for a line with this first byte, the keywords that begin with it report what all keywords report
 either_none : {X : Type 0} (x : Option X) → either x None ≡ x
 either_none (Some x) = refl
 either_none None = refl
@@ -18,16 +18,16 @@ moved : (byte first : ℕ) (line rest : List ℕ) → line ≡ first ∷ rest �
 moved byte first line rest is same = is ∙ ap (λ b. b ∷ rest) same
 
 pub good_first : (line rest : List ℕ) (first : ℕ) (found : Option (Status × List ℕ)) → line ≡ first ∷ rest → first ≡ 71
-    → found ≡ either (option_map (with_status status.Good) (behind (codes "GOODSIG ") line)) None → found ≡ status_of line
+    → found ≡ either (option_map (with_status status.Good) (after_prefix (codes "GOODSIG ") line)) None → found ≡ status_of line
 good_first line rest first found is same says =
     let at = moved 71 first line rest is same in
-    says ∙ ap (λ it. either (option_map (with_status status.Good) (behind (codes "GOODSIG ") it)) None) at ∙ sym (ap status_of at)
+    says ∙ ap (λ it. either (option_map (with_status status.Good) (after_prefix (codes "GOODSIG ") it)) None) at ∙ sym (ap status_of at)
 
 pub bad_first : (line rest : List ℕ) (first : ℕ) (found : Option (Status × List ℕ)) → line ≡ first ∷ rest → first ≡ 66
-    → found ≡ either (option_map (with_status status.Bad) (behind (codes "BADSIG ") line)) None → found ≡ status_of line
+    → found ≡ either (option_map (with_status status.Bad) (after_prefix (codes "BADSIG ") line)) None → found ≡ status_of line
 bad_first line rest first found is same says =
     let at = moved 66 first line rest is same in
-    says ∙ ap (λ it. either (option_map (with_status status.Bad) (behind (codes "BADSIG ") it)) None) at ∙ sym (ap status_of at)
+    says ∙ ap (λ it. either (option_map (with_status status.Bad) (after_prefix (codes "BADSIG ") it)) None) at ∙ sym (ap status_of at)
 
 pub error_first : (line rest : List ℕ) (first : ℕ) (found : Option (Status × List ℕ)) → line ≡ first ∷ rest → first ≡ 69
     → found ≡ error_of line → found ≡ status_of line
@@ -36,20 +36,20 @@ error_first line rest first found is same says =
     says ∙ ap error_of at ∙ sym (ap status_of at)
 
 pub revoked_first : (line rest : List ℕ) (first : ℕ) (found : Option (Status × List ℕ)) → line ≡ first ∷ rest → first ≡ 82
-    → found ≡ either (option_map (with_status status.RevokedKey) (behind (codes "REVKEYSIG ") line)) None → found ≡ status_of line
+    → found ≡ either (option_map (with_status status.RevokedKey) (after_prefix (codes "REVKEYSIG ") line)) None → found ≡ status_of line
 revoked_first line rest first found is same says =
     let at = moved 82 first line rest is same in
-    says ∙ ap (λ it. either (option_map (with_status status.RevokedKey) (behind (codes "REVKEYSIG ") it)) None) at
-    ∙ either_none (option_map (with_status status.RevokedKey) (behind (codes "REVKEYSIG ") (82 ∷ rest))) ∙ sym (ap status_of at)
+    says ∙ ap (λ it. either (option_map (with_status status.RevokedKey) (after_prefix (codes "REVKEYSIG ") it)) None) at
+    ∙ either_none (option_map (with_status status.RevokedKey) (after_prefix (codes "REVKEYSIG ") (82 ∷ rest))) ∙ sym (ap status_of at)
 
--- with another first byte, or none, no word is there
+-- with another first byte, or none, no keyword matches
 refuted : (t : Bool) → ¬ (t ≡ true) → t ≡ false
 refuted true other = absurd (other refl)
 refuted false other = refl
 
-not_begun : (byte first : ℕ) (word rest : List ℕ) → first ≢ byte → behind (byte ∷ word) (first ∷ rest) ≡ None
-not_begun byte first word rest other =
-    ap (λ (t : Bool). cond (t && pointwise nat_eq word (take (length word) rest)) (Some (drop (length word) rest)) None)
+not_begun : (byte first : ℕ) (token rest : List ℕ) → first ≢ byte → after_prefix (byte ∷ token) (first ∷ rest) ≡ None
+not_begun byte first token rest other =
+    ap (λ (t : Bool). cond (t && pointwise nat_eq token (take (length token) rest)) (Some (drop (length token) rest)) None)
     (refuted (nat_eq byte first) (λ yes. other (sym (eqb-true byte first yes))))
 
 none_of_six : (a b c d e f : Option (List ℕ)) → a ≡ None → b ≡ None → c ≡ None → d ≡ None → e ≡ None → f ≡ None
@@ -66,22 +66,26 @@ none_of_six None None None None None (Some f) p q r s t u = absurd (cc u)
 
 pub other_first : (line rest : List ℕ) (first : ℕ) → line ≡ first ∷ rest → first ≢ 71 → first ≢ 66 → first ≢ 69 → first ≢ 82 → None ≡ status_of line
 other_first line rest first is good bad error revoked =
-    none_of_six (behind (codes "GOODSIG ") (first ∷ rest)) (behind (codes "BADSIG ") (first ∷ rest)) (behind (codes "ERRSIG ") (first ∷ rest))
-    (behind (codes "EXPSIG ") (first ∷ rest)) (behind (codes "EXPKEYSIG ") (first ∷ rest)) (behind (codes "REVKEYSIG ") (first ∷ rest))
+    none_of_six (after_prefix (codes "GOODSIG ") (first ∷ rest)) (after_prefix (codes "BADSIG ") (first ∷ rest))
+    (after_prefix (codes "ERRSIG ") (first ∷ rest))
+    (after_prefix (codes "EXPSIG ") (first ∷ rest)) (after_prefix (codes "EXPKEYSIG ") (first ∷ rest))
+    (after_prefix (codes "REVKEYSIG ") (first ∷ rest))
     (not_begun 71 first (codes "OODSIG ") rest good) (not_begun 66 first (codes "ADSIG ") rest bad) (not_begun 69 first (codes "RRSIG ") rest error)
-    (not_begun 69 first (codes "XPSIG ") rest error) (not_begun 69 first (codes "XPKEYSIG ") rest error) (not_begun 82 first (codes "EVKEYSIG ") rest revoked)
+    (not_begun 69 first (codes "XPSIG ") rest error) (not_begun 69 first (codes "XPKEYSIG ") rest error)
+    (not_begun 82 first (codes "EVKEYSIG ") rest revoked)
     ∙ sym (ap status_of is)
 
 pub no_first : (line : List ℕ) → length line ≡ 0 → None ≡ status_of line
 no_first [] empty = refl
 no_first (byte ∷ line) empty = absurd (cc empty)
 
--- likewise of the word that says whose key it is
-pub not_valid : (line rest : List ℕ) (first : ℕ) (before : Option (List ℕ)) → line ≡ first ∷ rest → first ≢ 86 → before ≡ either (behind (codes "VALIDSIG ") line) before
+-- with another first byte, or none, the keyword `VALIDSIG` doesn't match
+pub not_valid : (line rest : List ℕ) (first : ℕ) (before : Option (List ℕ)) → line ≡ first ∷ rest → first ≢ 86
+    → before ≡ either (after_prefix (codes "VALIDSIG ") line) before
 not_valid line rest first before is other =
-    sym (ap (λ it. either (behind (codes "VALIDSIG ") it) before) is
+    sym (ap (λ it. either (after_prefix (codes "VALIDSIG ") it) before) is
     ∙ ap (λ it. either it before) (not_begun 86 first (codes "ALIDSIG ") rest other))
 
-pub no_valid : (line : List ℕ) (before : Option (List ℕ)) → length line ≡ 0 → before ≡ either (behind (codes "VALIDSIG ") line) before
+pub no_valid : (line : List ℕ) (before : Option (List ℕ)) → length line ≡ 0 → before ≡ either (after_prefix (codes "VALIDSIG ") line) before
 no_valid [] before empty = refl
 no_valid (byte ∷ line) before empty = absurd (cc empty)

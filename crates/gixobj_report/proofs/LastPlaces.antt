@@ -1,76 +1,85 @@
--- What stands behind the last ` key ` of a line, sought from the end, space by space.
+-- The bytes after the last ` key ` of a line, found by a backward search, space by space.
 use Rattle.std.proofs.Common.{◌≡◌, ◌≢◌, ◌∷◌, ◌++◌, ◌∙◌, ◌<◌, ◌≤◌, ◌&&◌, arith, [], ap, codes, cond, drop, length, length-append, nat_eq, sym, take, append_assoc, suc, zero, ℕ, Bool, true, false, List, Some, None, refl}
 use Rattle.std.proofs.lemmas.Bool.{eqb-true}
 use Rattle.std.proofs.lemmas.List.Elements.{All-head, All-tail}
 use Rattle.std.specs.Cmp.Lexicographic.{pointwise}
 use Rattle.bstr.proofs.Computing.{computing}
 use Rattle.gixobj_hash.specs.Bytes.{space}
-use Rattle.gixobj_hash.specs.Texts.{IsFree, SplitsAtLast}
-use Rattle.gixobj_report.specs.Fields.{behind, either}
-use Rattle.gixobj_report.specs.SshReports.{behind_last, ssh_key}
+use Rattle.gixobj_hash.specs.ByteStrings.{IsByteFree, SplitsAtLast}
+use Rattle.gixobj_report.specs.Fields.{after_prefix, either}
+use Rattle.gixobj_report.specs.SshReports.{after_last, ssh_key}
 
-abbrev key_word : List ℕ
-key_word = codes " key "
+abbrev key_token : List ℕ
+key_token = codes " key "
 
--- a place that lies behind the front of the bytes is the last of all of them too
-last_behind : (text : List ℕ) (at : ℕ) (bytes rest : List ℕ) → behind_last text (drop at bytes) ≡ Some rest → behind_last text bytes ≡ Some rest
-last_behind text zero bytes rest is = is
-last_behind text (suc at) [] rest is = is
-last_behind text (suc at) (byte ∷ bytes) rest is = ap (λ it. either it (behind text (byte ∷ bytes))) (last_behind text at bytes rest is)
+-- the last occurrence in a suffix of the bytes is the last of all bytes
+last_after : (content : List ℕ) (at : ℕ) (bytes rest : List ℕ) → after_last content (drop at bytes) ≡ Some rest → after_last content bytes ≡ Some rest
+last_after content zero bytes rest is = is
+last_after content (suc at) [] rest is = is
+last_after content (suc at) (byte ∷ bytes) rest is = ap (λ it. either it (after_prefix content (byte ∷ bytes))) (last_after content at bytes rest is)
 
 refuted : (t : Bool) → ¬ (t ≡ true) → t ≡ false
 refuted true other = absurd (other refl)
 refuted false other = refl
 
--- none lies where another byte than a space stands
-not_here : (byte : ℕ) (rest : List ℕ) → byte ≢ space → behind key_word (byte ∷ rest) ≡ None
+-- no occurrence begins with another byte than a space
+not_here : (byte : ℕ) (rest : List ℕ) → byte ≢ space → after_prefix key_token (byte ∷ rest) ≡ None
 not_here byte rest other =
     ap (λ (t : Bool). cond (t && pointwise nat_eq (codes "key ") (take 4 rest)) (Some (drop 4 rest)) None)
     (refuted (nat_eq space byte) (λ yes. other (sym (eqb-true space byte yes))))
 
-none_passed : (free passed : List ℕ) → IsFree space free → behind_last key_word passed ≡ None → behind_last key_word (free ++ passed) ≡ None
+none_passed : (free passed : List ℕ) → IsByteFree space free → after_last key_token passed ≡ None → after_last key_token (free ++ passed) ≡ None
 none_passed [] passed all none = none
 none_passed (byte ∷ free) passed all none =
-    ap (λ it. either it (behind key_word (byte ∷ free ++ passed))) (none_passed free passed (All-tail (λ it. it ≢ space) byte free all) none)
+    ap (λ it. either it (after_prefix key_token (byte ∷ free ++ passed))) (none_passed free passed (All-tail (λ it. it ≢ space) byte free all) none)
     ∙ not_here byte (free ++ passed) (All-head (λ it. it ≢ space) byte free all)
 
-drop_front : (front back : List ℕ) → drop (length front) (front ++ back) ≡ back
-drop_front [] back = refl
-drop_front (byte ∷ front) back = drop_front front back
+drop_prefix : (prefix back : List ℕ) → drop (length prefix) (prefix ++ back) ≡ back
+drop_prefix [] back = refl
+drop_prefix (byte ∷ prefix) back = drop_prefix prefix back
 
--- a walk from the end has `left` before it
-module _ (line left front rest : List ℕ) (whole : line ≡ left ++ drop (length left) line) (cut : SplitsAtLast space left front rest) where
-  line_is : line ≡ front ++ (space ∷ rest ++ drop (length left) line)
-  line_is = whole ∙ ap (λ (it : List ℕ). it ++ drop (length left) line) cut.joined ∙ append_assoc front (space ∷ rest) (drop (length left) line)
+-- a backward search that splits `remaining` at its last space
+module _ (line remaining prefix rest : List ℕ) (entire : line ≡ remaining ++ drop (length remaining) line)
+    (cut : SplitsAtLast space remaining prefix rest) where
+  line_is : line ≡ prefix ++ (space ∷ rest ++ drop (length remaining) line)
+  line_is = entire ∙ ap (λ (it : List ℕ). it ++ drop (length remaining) line) cut.joined ∙ append_assoc prefix (space ∷ rest)
+      (drop (length remaining) line)
 
-  at_front : drop (length front) line ≡ space ∷ rest ++ drop (length left) line
-  at_front = ap (drop (length front)) line_is ∙ drop_front front (space ∷ rest ++ drop (length left) line)
+  at_prefix : drop (length prefix) line ≡ space ∷ rest ++ drop (length remaining) line
+  at_prefix = ap (drop (length prefix)) line_is ∙ drop_prefix prefix (space ∷ rest ++ drop (length remaining) line)
 
-  pub joined_here : line ≡ front ++ drop (length front) line
-  joined_here = line_is ∙ ap (λ (it : List ℕ). front ++ it) (sym at_front)
+  pub joined_here : line ≡ prefix ++ drop (length prefix) line
+  joined_here = line_is ∙ ap (λ (it : List ℕ). prefix ++ it) (sym at_prefix)
 
-  pub inside_here : length front ≤ length line
-  inside_here = let sum = ap length joined_here ∙ length-append front (drop (length front) line) in omega (arith, sum)
+  pub inside_here : length prefix ≤ length line
+  inside_here = let sum = ap length joined_here ∙ length-append prefix (drop (length prefix) line) in omega (arith, sum)
 
-  here : behind_last key_word (drop (length left) line) ≡ None → behind_last key_word (drop (length front) line) ≡ behind key_word (drop (length front) line)
+  here : after_last key_token (drop (length remaining) line) ≡ None → after_last key_token (drop (length prefix) line) ≡ after_prefix key_token
+      (drop (length prefix) line)
   here none =
-      ap (behind_last key_word) at_front
-      ∙ ap (λ it. either it (behind key_word (space ∷ rest ++ drop (length left) line))) (none_passed rest (drop (length left) line) cut.last none)
-      ∙ sym (ap (behind key_word) at_front)
+      ap (after_last key_token) at_prefix
+      ∙ ap (λ it. either it (after_prefix key_token (space ∷ rest ++ drop (length remaining) line)))
+      (none_passed rest (drop (length remaining) line) cut.last none)
+      ∙ sym (ap (after_prefix key_token) at_prefix)
 
-  pub key_here : (word : List ℕ) → behind_last key_word (drop (length left) line) ≡ None → behind key_word (drop (length front) line) ≡ Some word → Some word ≡ behind_last key_word line
-  key_here word none is = sym (last_behind key_word (length front) line word (here none ∙ is))
+  pub key_here : (token : List ℕ) → after_last key_token (drop (length remaining) line) ≡ None
+      → after_prefix key_token (drop (length prefix) line) ≡ Some token
+      → Some token ≡ after_last key_token line
+  key_here token none is = sym (last_after key_token (length prefix) line token (here none ∙ is))
 
-  pub no_key_here : behind_last key_word (drop (length left) line) ≡ None → behind key_word (drop (length front) line) ≡ None → behind_last key_word (drop (length front) line) ≡ None
+  pub no_key_here : after_last key_token (drop (length remaining) line) ≡ None → after_prefix key_token (drop (length prefix) line) ≡ None
+      → after_last key_token (drop (length prefix) line) ≡ None
   no_key_here none is = here none ∙ is
 
-pub shorter : (left front rest : List ℕ) → SplitsAtLast space left front rest → length front < length left
-shorter left front rest cut = let sum = ap length cut.joined ∙ length-append front (space ∷ rest) in omega (arith, sum)
+pub shorter : (remaining prefix rest : List ℕ) → SplitsAtLast space remaining prefix rest → length prefix < length remaining
+shorter remaining prefix rest cut = let sum = ap length cut.joined ∙ length-append prefix (space ∷ rest) in omega (arith, sum)
 
-pub no_key_left : (line left : List ℕ) → line ≡ left ++ drop (length left) line → IsFree space left → behind_last key_word (drop (length left) line) ≡ None → None ≡ behind_last key_word line
-no_key_left line left whole free none = sym (ap (behind_last key_word) whole ∙ none_passed left (drop (length left) line) free none)
+pub no_key_remaining : (line remaining : List ℕ) → line ≡ remaining ++ drop (length remaining) line → IsByteFree space remaining
+    → after_last key_token (drop (length remaining) line) ≡ None → None ≡ after_last key_token line
+no_key_remaining line remaining entire free none =
+    sym (ap (after_last key_token) entire ∙ none_passed remaining (drop (length remaining) line) free none)
 
--- without bytes there is no key
+-- empty output has no key
 no_key : ssh_key [] ≡ None
 unfolding computing
 no_key = refl

@@ -2,5 +2,5 @@ mod FieldPlaces
 mod FirstBytes
 mod LastPlaces
 mod Rows
-mod Taken
-mod Told
+mod Fields
+mod StatusesRead

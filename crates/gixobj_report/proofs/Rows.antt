@@ -1,4 +1,4 @@
--- Reports of stated texts, read off the definitions by computing.
+-- Worked examples of reports, computed from the definitions; no proof uses them.
 use Rattle.std.proofs.Common.{◌≡◌, List, [], ◌++◌, None, Some, ℕ, codes, refl}
 use Rattle.bstr.proofs.Computing.{computing}
 use Rattle.gixobj_text.specs.declared.signature.Format.TheVariants as format

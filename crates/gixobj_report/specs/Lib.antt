@@ -2,5 +2,5 @@ pub mod Fields
 pub mod GpgReports
 pub mod Outcomes
 pub mod SshReports
-pub mod Telling
+pub mod StatusLines
 pub mod Trust

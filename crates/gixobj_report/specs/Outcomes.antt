@@ -1,4 +1,4 @@
--- What comes of verifying a signature, and when it is accepted.
+-- The outcome of the verification of a signature, and when it is valid.
 use Rattle.std.specs.Prelude.{ℕ, Bool, true, false, List, [], ◌∷◌, Option, None, nat_le, ◌&&◌}
 use Rattle.std.specs.Option.{option_map}
 use Rattle.bstr.specs.Owned.{bstring_bytes}
@@ -9,7 +9,7 @@ use Rattle.gixobj_report.specs.declared.report.Status.{Status}
 use Rattle.gixobj_report.specs.declared.report.Status.TheVariants as status
 use Rattle.gixobj_report.specs.declared.report.TrustLevel.{TrustLevel}
 
--- an outcome, by its bytes
+-- an outcome as contracts see it: lists of bytes
 pub record OutcomeView : Type 0 where
   pub format : Format
   pub status : Status
@@ -22,6 +22,7 @@ pub record OutcomeView : Type 0 where
   pub raw_output : List ℕ
   pub valid : Bool
 
+-- the view of an outcome
 abbrev pub outcome_view : Outcome → OutcomeView
 outcome_view it = record {
   format = it.format;
@@ -36,22 +37,24 @@ outcome_view it = record {
   valid = it.valid;
 }
 
--- the texts that are copied out of a report
-abbrev pub copied_texts : OutcomeView → List (Option (List ℕ))
-copied_texts it = it.key ∷ it.signer ∷ it.fingerprint ∷ it.primary_key_fingerprint ∷ []
+-- the byte strings that are copied from machine-readable output
+abbrev pub copied_strings : OutcomeView → List (Option (List ℕ))
+copied_strings it = it.key ∷ it.signer ∷ it.fingerprint ∷ it.primary_key_fingerprint ∷ []
 
--- an outcome without such a text
-abbrev pub no_texts : List (Option (List ℕ))
-no_texts = None ∷ None ∷ None ∷ None ∷ []
+-- four missing byte strings: nothing is copied
+abbrev pub no_strings : List (Option (List ℕ))
+no_strings = None ∷ None ∷ None ∷ None ∷ []
 
+-- the status is that of a good signature
 abbrev pub is_good_status : Status → Bool
 is_good_status status.Good = true
 is_good_status other = false
 
--- the trust is at least this
+-- the trust is at least `minimum`
 abbrev pub is_trusted : TrustLevel → TrustLevel → Bool
 is_trusted minimum trust = nat_le (level minimum) (level trust)
 
--- a report is accepted where its call succeeded, its status is good, and the trust is at least what is asked for
-abbrev pub judged : Bool → TrustLevel → OutcomeView → OutcomeView
-judged success minimum it = record it { valid = success && is_good_status it.status && is_trusted minimum it.trust_level }
+-- a report is valid if and only if its call succeeded, its status is good, and its trust is at least `minimum`
+abbrev pub evaluated : Bool → TrustLevel → OutcomeView → OutcomeView
+evaluated success minimum it =
+    record it { valid = success && is_good_status it.status && is_trusted minimum it.trust_level }

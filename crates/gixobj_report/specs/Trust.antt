@@ -1,10 +1,10 @@
--- How far the key of a signature is trusted (git-config, "gpg.minTrustLevel").
+-- The trust in the key of a signature (git-config, "gpg.minTrustLevel").
 use Rattle.std.specs.Prelude.{ℕ, List, Option, Some, None, cond, codes}
 use Rattle.std.specs.Str.{str_eq_ignore_ascii_case}
 use Rattle.gixobj_report.specs.declared.report.TrustLevel.{TrustLevel}
 use Rattle.gixobj_report.specs.declared.report.TrustLevel.TheVariants as trust
 
--- the level of this name, whatever the case of its letters
+-- the trust level of this name, ASCII case ignored, or none of an unknown name
 abbrev pub trust_of : List ℕ → Option TrustLevel
 trust_of name =
     cond (str_eq_ignore_ascii_case name (codes "undefined")) (Some trust.Undefined)
@@ -13,11 +13,12 @@ trust_of name =
     (cond (str_eq_ignore_ascii_case name (codes "fully")) (Some trust.Fully)
     (cond (str_eq_ignore_ascii_case name (codes "ultimate")) (Some trust.Ultimate) None))))
 
+-- the trust level, or undefined without one
 abbrev pub or_undefined : Option TrustLevel → TrustLevel
 or_undefined (Some level) = level
 or_undefined None = trust.Undefined
 
--- the place of a level among them, the least first
+-- the rank of a trust level, from the lowest
 abbrev pub level : TrustLevel → ℕ
 level trust.Undefined = 0
 level trust.Never = 1

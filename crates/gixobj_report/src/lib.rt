@@ -1,5 +1,5 @@
-//! What verifiers report of a signature, and whether it is accepted (gnupg, doc/DETAILS; ssh-keygen, `-Y verify`;
-//! git-config, `gpg.minTrustLevel`).
+//! Outcomes of signature verification, from the reports of verifiers and their evaluation (gnupg,
+//! doc/DETAILS; ssh-keygen, `-Y verify`; git-config, `gpg.minTrustLevel`).
 #![tactic(auto)]
 
 pub mod report;

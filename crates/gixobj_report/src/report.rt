@@ -1,6 +1,6 @@
-//! What verifiers report of a signature, and whether it is accepted (git-config, `gpg.minTrustLevel`).
+//! Reports of signature verifiers, and their evaluation (git-config, `gpg.minTrustLevel`).
 ghost use Rattle.std.specs.Prelude.{◌≡◌};
-ghost use Rattle.gixobj_report.specs.Outcomes.{is_good_status, is_trusted, judged, outcome_view};
+ghost use Rattle.gixobj_report.specs.Outcomes.{is_good_status, is_trusted, evaluated, outcome_view};
 ghost use Rattle.gixobj_report.specs.Trust.{level, trust_of};
 
 pub mod gpg;
@@ -11,45 +11,46 @@ use gixobj_text::signature::Format;
 pub use gpg::parse_gpg_output;
 pub use ssh::parse_ssh_output;
 
-/// What a verifier says of a signature.
+/// The status of a signature, as its verifier reports it in an [`Outcome`].
 #[derive(Clone, Copy, Debug, PartialEq, Eq)]
 pub enum Status {
-    /// It is good.
+    /// The signature is good.
     Good,
-    /// It is bad.
+    /// The signature is bad.
     Bad,
-    /// It couldn't be checked, or several signatures are spoken of.
+    /// The signature couldn't be checked, or the verifier reports several signatures.
     Error,
-    /// It is good, but has expired.
+    /// The signature is good, but has expired.
     Expired,
-    /// It is good, but its key has expired.
+    /// The signature is good, but its key has expired.
     ExpiredKey,
-    /// It is good, but its key was revoked.
+    /// The signature is good, but its key was revoked.
     RevokedKey,
-    /// Nothing that is known here.
+    /// The verifier reports no known status.
     Unknown,
 }
 
-/// How far it is trusted that a key is its owner's, the least first.
+/// The trust that a key belongs to its owner, from the lowest level to the highest.
+/// [`TrustLevel::from_bytes`] decodes one.
 #[derive(Clone, Copy, Debug, Default, PartialEq, Eq, PartialOrd, Ord)]
 pub enum TrustLevel {
-    /// Nothing is known of it.
+    /// The trust is unknown.
     #[default]
     Undefined,
-    /// Never.
+    /// The key is never trusted.
     Never,
-    /// Somewhat.
+    /// The key is marginally trusted.
     Marginal,
-    /// Fully. Of SSH, where the key stands in the file of those that may sign.
+    /// The key is fully trusted. An SSH key is in the allowed signers file.
     Fully,
-    /// As one's own key is.
+    /// The key is ultimately trusted, as one's own key is.
     Ultimate,
 }
 
 impl TrustLevel {
-    /// The level of this name, whatever the case of its letters, or none (git-config, `gpg.minTrustLevel`).
+    /// Decodes the name of a trust level, ASCII case ignored (git-config, `gpg.minTrustLevel`).
     ///
-    /// It takes no memory.
+    /// Returns `None` for an unknown name. Allocates nothing.
     pub fn from_bytes(name: &[u8]) -> Option<TrustLevel>
         ensures { result ≡ trust_of name.now }
     {
@@ -72,33 +73,37 @@ impl TrustLevel {
     }
 }
 
-/// What comes of verifying a signature.
+/// The outcome of the verification of a signature.
+///
+/// [`parse_gpg_output`] and [`parse_ssh_output`] make one, and [`evaluate`] decides whether it is valid.
 #[derive(Clone, Debug, Drop, PartialEq, Eq)]
 pub struct Outcome {
     /// The format of the signature.
     pub format: Format,
-    /// What the verifier says of it.
+    /// The status of the signature.
     pub status: Status,
-    /// How far its key is trusted.
+    /// The trust in the key of the signature.
     pub trust_level: TrustLevel,
-    /// Who signed: the name that goes with the key or, of SSH, the principal that was accepted.
+    /// The signer: the name that is reported with the key or, for SSH, the accepted principal.
     pub signer: Option<BString>,
-    /// The key's id or, of SSH, its fingerprint.
+    /// The ID of the key or, for SSH, its fingerprint.
     pub key: Option<BString>,
     /// The fingerprint of the key.
     pub fingerprint: Option<BString>,
-    /// The fingerprint of the primary key, none of SSH.
+    /// The fingerprint of the primary key, `None` for SSH.
     pub primary_key_fingerprint: Option<BString>,
-    /// What the verifier wrote for people.
+    /// The human-readable output of the verifier.
     pub output: BString,
-    /// What it wrote for programs. Of SSH the same.
+    /// The machine-readable output of the verifier. For SSH it equals `output`.
     pub raw_output: BString,
     valid: bool,
 }
 
 impl Outcome {
-    /// Whether the signature is accepted: the verifier succeeded, the status is good, and the trust is at least the
-    /// one that was asked for. Never so of what was only parsed.
+    /// Returns whether the signature is valid.
+    ///
+    /// It is valid if the verifier succeeded, the status is `Good`, and the trust is at least the minimum
+    /// that [`evaluate`] received. An outcome without evaluation isn't valid.
     pub fn is_valid(&self) -> bool
         ensures { result ≡ (outcome_view self.now).valid }
     {
@@ -106,30 +111,33 @@ impl Outcome {
     }
 }
 
-/// The report of a call that succeeded or didn't, judged by the least trust that is asked for.
-pub fn judge(report: Outcome, success: bool, minimum: TrustLevel) -> Outcome
-    ensures { outcome_view result ≡ judged success minimum (outcome_view report) }
+/// Evaluates the report of a verifier's call.
+///
+/// The outcome is valid if and only if the call succeeded (`success`), the status is `Good`, and the trust is
+/// at least `minimum`.
+pub fn evaluate(report: Outcome, success: bool, minimum: TrustLevel) -> Outcome
+    ensures { outcome_view result ≡ evaluated success minimum (outcome_view report) }
 {
     let mut outcome = report;
     outcome.valid = success && is_good(outcome.status) && is_at_least(outcome.trust_level, minimum);
     outcome
 }
 
-/// Whether the status is that of a good signature.
+/// Returns whether the status is that of a good signature.
 fn is_good(status: Status) -> bool
     ensures { result ≡ is_good_status status }
 {
     matches!(status, Status::Good)
 }
 
-/// Whether the trust is at least the least that is asked for.
+/// Returns whether the trust is at least the minimum.
 fn is_at_least(trust: TrustLevel, minimum: TrustLevel) -> bool
     ensures { result ≡ is_trusted minimum trust }
 {
     place_of(minimum) <= place_of(trust)
 }
 
-/// The place of a level among them.
+/// Returns the rank of a trust level, 0 for the lowest.
 fn place_of(trust: TrustLevel) -> u8
     ensures { result ≡ level trust }
 {

@@ -1,12 +1,12 @@
--- The text of a tree with entries begins with the first of them.
+-- The encoding of a tree with entries begins with the first entry.
 use Rattle.std.proofs.Common.{◌≢◌, ℕ, List, [], ◌∷◌, refl}
 use Rattle.std.specs.List.{concat}
 use Rattle.gixobj_tree.specs.Entries.{EntryView}
 use Rattle.gixobj_hash.specs.declared.hash.kind.Kind as hash
-use Rattle.gixobj_tree.specs.TreeReading.{BeginsWithEntry, IsTreeText}
+use Rattle.gixobj_tree.specs.TreeDecoding.{BeginsWithEntry, DecodesToTree}
 
 pub first_entry : (hash : hash.Kind) (content : List ℕ) (entries : List EntryView)
-    → IsTreeText hash content entries → entries ≢ [] → (e : EntryView) × (rest : List ℕ) × BeginsWithEntry hash content e rest
-first_entry hash content [] (texts, joined, each) some = absurd (some refl)
+    → DecodesToTree hash content entries → entries ≢ [] → (e : EntryView) × (rest : List ℕ) × BeginsWithEntry hash content e rest
+first_entry hash content [] (encodings, joined, each) some = absurd (some refl)
 first_entry hash content (e ∷ entries) ([], joined, each) some = absurd each
-first_entry hash content (e ∷ entries) (text ∷ texts, joined, each) some = (e, concat texts, (text, joined, each.0))
+first_entry hash content (e ∷ entries) (bytes ∷ encodings, joined, each) some = (e, concat encodings, (bytes, joined, each.0))

@@ -1,8 +1,8 @@
 mod FirstEntry
 pub mod Fitting
-mod LineTexts
+mod EncodedLines
 mod Reading
 mod Readings
-mod RefusedTrees
-pub mod Told
+mod TreeErrors
+pub mod Reported
 pub mod Wider

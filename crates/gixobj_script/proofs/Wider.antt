@@ -1,37 +1,40 @@
--- A run by a closure's answers is one by any wider relation of answers.
+-- A run by a relation of answers is a run by each wider relation; used for the report of `edit`.
 use Rattle.std.proofs.Common.{List, [], ◌∷◌, Err, Ok, Result}
 use Rattle.std.specs.List.{FoldsTo}
 use Rattle.gixobj_editor.specs.declared.command.Command.{Command}
 use Rattle.gixobj_editor.specs.declared.command.Command.TheVariants as command
 use Rattle.gixobj_editor.specs.declared.command.Edit.{Edit}
 use Rattle.gixobj_editor.specs.declared.command.Edit.TheVariants as edit
-use Rattle.gixobj_object.specs.Stores.{Meaning, Objects}
+use Rattle.gixobj_object.specs.Stores.{StoreModel, Objects}
 use Rattle.gixobj_directories.specs.Calls.{names_of}
-use Rattle.gixobj_directories.specs.Handing.{Stopped}
+use Rattle.gixobj_directories.specs.Emitting.{Stopped}
 use Rattle.gixobj_directories.specs.declared.write.WriteError.{WriteError}
 use Rattle.gixobj_directories.specs.declared.write.WriteError.TheVariants as write
 use Rattle.gixobj_directories.specs.declared.write.Written.{Written}
 use Rattle.gixobj_editor.specs.Cursors.{prefix_of}
 use Rattle.gixobj_files.specs.Files.{Path}
-use Rattle.gixobj_files.specs.HandingOut.{HandsOutSome}
+use Rattle.gixobj_files.specs.Emission.{EmitsSome}
 use Rattle.gixobj_files.specs.State.{State, open_bases, open_dirs}
 use Rattle.gixobj_hash.specs.declared.hash.object_id.ObjectId.{ObjectId}
 use Rattle.gixobj_tree.specs.Entries.{EntryView, Pair}
 use Rattle.gixobj_editor.specs.Commands.{Place, at_cursor, at_root}
-use Rattle.gixobj_editor.specs.Replies.{Answers, AreEditReplies, Denies, GivesTreeId, IsEditReply, IsRefusedWrite, IsReply, IsReplyAt, IsRun, IsWriteKept, IsWrittenAt, dirs_at}
+use Rattle.gixobj_editor.specs.Replies.{Answers, AreEditReplies, Denies, ReturnsTreeId, IsEditReply, IsFailedWrite, IsReply, IsReplyAt, IsRun, IsWriteKept, IsWrittenAt, dirs_at}
 use Rattle.gixobj_editor.specs.declared.reply.EditReply.{EditReply}
 use Rattle.gixobj_editor.specs.declared.reply.EditReply.TheVariants as edit_reply
 use Rattle.gixobj_editor.specs.declared.reply.Reply.{Reply}
 use Rattle.gixobj_editor.specs.declared.reply.Reply.TheVariants as reply
 
-module _ {S E : Type 0} (means : Meaning S) (answers wider : Answers E) (within : (tree : List EntryView) (answer : Result ObjectId E) → answers tree answer → wider tree answer) where
-  folds : (asked : Unit {0}) (pairs : List Pair) (answered : Unit {0}) → FoldsTo (GivesTreeId answers) asked pairs answered → FoldsTo (GivesTreeId wider) asked pairs answered
-  folds asked [] answered is = is
-  folds asked (pair ∷ pairs) answered (next, one, rest) = (next, within pair.1 (Ok pair.0) one, folds next pairs answered rest)
+module _ {S E : Type 0} (means : StoreModel S) (answers wider : Answers E) (within : (tree : List EntryView) (answer : Result ObjectId E)
+    → answers tree answer
+    → wider tree answer) where
+  folds : (requested_hash : Unit {0}) (pairs : List Pair) (answered : Unit {0}) → FoldsTo (ReturnsTreeId answers) requested_hash pairs answered
+      → FoldsTo (ReturnsTreeId wider) requested_hash pairs answered
+  folds requested_hash [] answered is = is
+  folds requested_hash (pair ∷ pairs) answered (next, one, rest) = (next, within pair.1 (Ok pair.0) one, folds next pairs answered rest)
 
   written : (place : Place) (it : Written) (old new : State S) → IsWrittenAt answers place it old new → IsWrittenAt wider place it old new
   written at_root it old new is = record {
-    handed_out = is.handed_out;
+    emitted = is.emitted;
     called = folds tt it.trees.items tt is.called;
     storable = is.storable;
     below = is.below;
@@ -45,7 +48,7 @@ module _ {S E : Type 0} (means : Meaning S) (answers wider : Answers E) (within 
     has_bases = is.has_bases;
   }
   written (at_cursor prefix) it old new is = record {
-    handed_out = is.handed_out;
+    emitted = is.emitted;
     called = folds tt it.trees.items tt is.called;
     storable = is.storable;
     below = is.below;
@@ -60,18 +63,34 @@ module _ {S E : Type 0} (means : Meaning S) (answers wider : Answers E) (within 
     has_bases = is.has_bases;
   }
 
-  kept : (place : Place) (it : Written) (Keeps : Objects → Objects → Type 0) (old new : State S) → IsWriteKept means (IsWrittenAt answers place it old) Keeps old new
+  kept : (place : Place) (it : Written) (Keeps : Objects → Objects → Type 0) (old new : State S)
+      → IsWriteKept means (IsWrittenAt answers place it old) Keeps old new
       → IsWriteKept means (IsWrittenAt wider place it old) Keeps old new
-  kept place it Keeps old new is = record { between = is.between; written = written place it old is.between is.written; rest = is.rest; kept = is.kept; may_fail = is.may_fail }
+  kept place it Keeps old new is =
+      record {
+        between = is.between;
+        written = written place it old is.between is.written;
+        rest = is.rest;
+        stored = is.stored;
+        may_fail = is.may_fail;
+      }
 
-  stopped : (goes_out : List Pair → Type 0) (error : WriteError E) → Stopped (GivesTreeId answers) (Denies answers) goes_out tt tt error → Stopped (GivesTreeId wider) (Denies wider) goes_out tt tt error
-  stopped goes_out (write.Out cause) (before, tree, asked, folded, one, goes) = (before, tree, asked, folds tt before asked folded, within tree (Err cause) one, goes)
+  stopped : (goes_out : List Pair → Type 0) (error : WriteError E) → Stopped (ReturnsTreeId answers) (Denies answers) goes_out tt tt error
+      → Stopped (ReturnsTreeId wider) (Denies wider) goes_out tt tt error
+  stopped goes_out (write.Out cause) (before, tree, requested_hash, folded, one, goes) =
+      (before, tree, requested_hash, folds tt before requested_hash folded, within tree (Err cause) one, goes)
   stopped goes_out write.OutOfMemory (before, rest, folded, goes) = (before, rest, folds tt before tt folded, goes)
 
-  refused_write : (place : Place) (old : State S) (error : WriteError E) (new : State S) → IsRefusedWrite answers place old error new → IsRefusedWrite wider place old error new
-  refused_write place old error new is = record { stopped = stopped (HandsOutSome (dirs_at place (open_dirs old)) (dirs_at place (open_bases old))) error is.stopped; unchanged = is.unchanged }
+  failed_write : (place : Place) (old : State S) (error : WriteError E) (new : State S) → IsFailedWrite answers place old error new
+      → IsFailedWrite wider place old error new
+  failed_write place old error new is =
+      record {
+        stopped = stopped (EmitsSome (dirs_at place (open_dirs old)) (dirs_at place (open_bases old))) error is.stopped;
+        unchanged = is.unchanged;
+      }
 
-  edit_reply_wider : (place : Place) (old new : State S) (it : Edit) (its_reply : EditReply E) → IsEditReply means answers place old it its_reply new → IsEditReply means wider place old it its_reply new
+  edit_reply_wider : (place : Place) (old new : State S) (it : Edit) (its_reply : EditReply E) → IsEditReply means answers place old it its_reply new
+      → IsEditReply means wider place old it its_reply new
   edit_reply_wider place old new (edit.Upsert path kind id) edit_reply.Done is = is
   edit_reply_wider place old new (edit.Upsert path kind id) (edit_reply.Refused error) is = is
   edit_reply_wider place old new (edit.Remove path) edit_reply.Done is = is
@@ -80,30 +99,38 @@ module _ {S E : Type 0} (means : Meaning S) (answers wider : Answers E) (within 
   edit_reply_wider place old new (edit.RemoveLeaf path) (edit_reply.Refused error) is = is
   edit_reply_wider place old new edit.Write (edit_reply.Written it) is = kept place it _ old new is
   edit_reply_wider place old new edit.Write (edit_reply.NotKept it count error) is = kept place it _ old new is
-  edit_reply_wider place old new edit.Write (edit_reply.WriteRefused error) is = refused_write place old error new is
+  edit_reply_wider place old new edit.Write (edit_reply.WriteRefused error) is = failed_write place old error new is
   edit_reply_wider place old new it its_reply is = absurd is
 
-  edit_replies_wider : (place : Place) (old new : State S) (edits : List Edit) (replies : List (EditReply E)) → AreEditReplies means answers place old edits replies new
+  edit_replies_wider : (place : Place) (old new : State S) (edits : List Edit) (replies : List (EditReply E))
+      → AreEditReplies means answers place old edits replies new
       → AreEditReplies means wider place old edits replies new
   edit_replies_wider place old new [] [] is = is
-  edit_replies_wider place old new (it ∷ edits) (its_reply ∷ replies) (between, first, rest) = (between, edit_reply_wider place old between it its_reply first, edit_replies_wider place between new edits replies rest)
+  edit_replies_wider place old new (it ∷ edits) (its_reply ∷ replies) (between, first, rest) =
+      (between, edit_reply_wider place old between it its_reply first, edit_replies_wider place between new edits replies rest)
   edit_replies_wider place old new [] (its_reply ∷ replies) is = absurd is
   edit_replies_wider place old new (it ∷ edits) [] is = absurd is
 
-  reply_at_wider : (prefix : Path) (old new : State S) (edits : List Edit) (its_reply : Reply E) → IsReplyAt means answers prefix old edits its_reply new → IsReplyAt means wider prefix old edits its_reply new
-  reply_at_wider prefix old new edits (reply.At replies) (between, assured, rest) = (between, assured, edit_replies_wider (at_cursor prefix) between new edits replies.items rest)
+  reply_at_wider : (prefix : Path) (old new : State S) (edits : List Edit) (its_reply : Reply E)
+      → IsReplyAt means answers prefix old edits its_reply new
+      → IsReplyAt means wider prefix old edits its_reply new
+  reply_at_wider prefix old new edits (reply.At replies) (between, ensured, rest) =
+      (between, ensured, edit_replies_wider (at_cursor prefix) between new edits replies.items rest)
   reply_at_wider prefix old new edits (reply.AtRefused error) is = is
   reply_at_wider prefix old new edits its_reply is = absurd is
 
-  reply_wider : (old new : State S) (it : Command) (its_reply : Reply E) → IsReply means answers old it its_reply new → IsReply means wider old it its_reply new
+  reply_wider : (old new : State S) (it : Command) (its_reply : Reply E) → IsReply means answers old it its_reply new
+      → IsReply means wider old it its_reply new
   reply_wider old new (command.Edit it) (reply.Edit its_reply) is = edit_reply_wider at_root old new it its_reply is
   reply_wider old new (command.At prefix edits) its_reply is = reply_at_wider (prefix_of (names_of prefix.items)) old new edits.items its_reply is
   reply_wider old new (command.SetRoot entries) reply.RootSet is = is
   reply_wider old new (command.SetRoot entries) reply.RootRefused is = is
   reply_wider old new it its_reply is = absurd is
 
-  pub run_wider : (old new : State S) (commands : List Command) (replies : List (Reply E)) → IsRun means answers old commands replies new → IsRun means wider old commands replies new
+  pub run_wider : (old new : State S) (commands : List Command) (replies : List (Reply E)) → IsRun means answers old commands replies new
+      → IsRun means wider old commands replies new
   run_wider old new [] [] is = is
-  run_wider old new (it ∷ commands) (its_reply ∷ replies) (between, first, rest) = (between, reply_wider old between it its_reply first, run_wider between new commands replies rest)
+  run_wider old new (it ∷ commands) (its_reply ∷ replies) (between, first, rest) =
+      (between, reply_wider old between it its_reply first, run_wider between new commands replies rest)
   run_wider old new [] (its_reply ∷ replies) is = absurd is
   run_wider old new (it ∷ commands) [] is = absurd is

@@ -1,44 +1,49 @@
--- A run of a script by the program: what it reads, what it writes, and why it tells nothing.
+-- Runs of a script by the program: its input, its output and its errors.
 use Rattle.std.specs.Prelude.{◌≡◌, ℕ, List, Option, codes}
-use Rattle.gixobj_script.specs.Edits.{IsEdit, RefusesEdit}
+use Rattle.gixobj_script.specs.Edits.{IsEdit, IsScriptRunError}
 use Rattle.gixobj_script.specs.Faults.{fault_line, fault_status}
-use Rattle.gixobj_script.specs.Words.{AsksToEdit}
+use Rattle.gixobj_script.specs.Arguments.{IsEditCommand}
 use Rattle.gixobj_script.specs.declared.fault.Fault.{Fault}
 use Rattle.gixobj_script.specs.declared.fault.Fault.TheVariants as fault
 use Rattle.gixobj_script.specs.declared.script.ScriptError.TheVariants as script
-use Rattle.gixobj_fields.specs.Streams.{Puts, PutsFront, SinkView}
+use Rattle.gixobj_fields.specs.Streams.{AppendsAll, AppendsPrefix, SinkView}
 use Rattle.gixobj_hash.specs.declared.hash.kind.Kind as hash
-use Rattle.gixobj_show.specs.Engine.{ReadsAll, Told, Unwritten}
-use Rattle.gixobj_show.specs.Words.{AsksFor}
-use Rattle.gixobj_show.specs.declared.refusal.Refusal.TheVariants as refusal
+use Rattle.gixobj_show.specs.Engine.{ReadsAll, IsPrinted, HasWrittenNothing}
+use Rattle.gixobj_show.specs.Arguments.{IsCommandOfHash}
+use Rattle.gixobj_show.specs.declared.failure.Failure.TheVariants as failure
 
--- the input was read to its end, it is a script, and this text tells what came of it on a new editor
-abbrev pub IsToldOfInput : List (List ℕ) → Option (List ℕ) → Option (List ℕ) → List ℕ → Type 0
-IsToldOfInput words rest rest' text =
-    (hash : hash.Kind) × (script : List ℕ) × AsksFor words (codes "edit") hash × ReadsAll rest rest' script × IsEdit hash script text
+-- the entire input was read, it is a script, and the bytes report its run on a new editor
+abbrev pub IsReportOfInput : List (List ℕ) → Option (List ℕ) → Option (List ℕ) → List ℕ → Type 0
+IsReportOfInput words rest rest' bytes =
+    (hash : hash.Kind) × (script : List ℕ) × IsCommandOfHash words (codes "edit") hash × ReadsAll rest rest' script
+    × IsEdit hash script bytes
 
--- the text that tells was put
+-- the report was written
 abbrev pub Edited : List (List ℕ) → Option (List ℕ) → Option (List ℕ) → SinkView → SinkView → Type 0
-Edited words rest rest' out out' = (text : List ℕ) × IsToldOfInput words rest rest' text × Puts out out' text
+Edited words rest rest' out out' = (bytes : List ℕ) × IsReportOfInput words rest rest' bytes × AppendsAll out out' bytes
 
--- why nothing is told: the first bad line of the input; the input failed; the output failed, and a front of the text that tells was put; or
--- memory ran out
-abbrev pub RefusesEditing : List (List ℕ) → Option (List ℕ) → Option (List ℕ) → Type 0 → SinkView → SinkView → Fault → Type 0
-RefusesEditing words rest rest' may_fail out out' (fault.BadLine number) =
-    (hash : hash.Kind) × (text : List ℕ) × AsksFor words (codes "edit") hash × ReadsAll rest rest' text × RefusesEdit hash text (script.BadLine number)
-RefusesEditing words rest rest' may_fail out out' (fault.Refused refusal.InputFailed) = AsksToEdit words × may_fail
-RefusesEditing words rest rest' may_fail out out' (fault.Refused refusal.OutputFailed) =
-    (text : List ℕ) × IsToldOfInput words rest rest' text × PutsFront out out' text
-RefusesEditing words rest rest' may_fail out out' (fault.Refused refusal.OutOfMemory) = AsksToEdit words
-RefusesEditing words rest rest' may_fail out out' (fault.Refused _) = ⊥
+-- the error of a run: the first bad line of the input; a failed input; a failed output, to which a proper prefix of the
+-- report was written; or out of memory
+abbrev pub IsEditingError : List (List ℕ) → Option (List ℕ) → Option (List ℕ) → Type 0 → SinkView → SinkView → Fault
+    → Type 0
+IsEditingError words rest rest' may_fail out out' (fault.BadLine number) =
+    (hash : hash.Kind) × (bytes : List ℕ) × IsCommandOfHash words (codes "edit") hash × ReadsAll rest rest' bytes
+    × IsScriptRunError hash bytes (script.BadLine number)
+IsEditingError words rest rest' may_fail out out' (fault.Refused failure.InputFailed) = IsEditCommand words × may_fail
+IsEditingError words rest rest' may_fail out out' (fault.Refused failure.OutputFailed) =
+    (bytes : List ℕ) × IsReportOfInput words rest rest' bytes × AppendsPrefix out out' bytes
+IsEditingError words rest rest' may_fail out out' (fault.Refused failure.OutOfMemory) = IsEditCommand words
+IsEditingError words rest rest' may_fail out out' (fault.Refused _) = ⊥
 
--- nothing was put on standard output, but where it failed
-abbrev pub UnwrittenByEdit : Type 0 → Fault → Type 0
-UnwrittenByEdit unchanged (fault.BadLine number) = unchanged
-UnwrittenByEdit unchanged (fault.Refused it) = Unwritten unchanged it
+-- nothing was written to standard output, unless it failed
+abbrev pub EditHasWrittenNothing : Type 0 → Fault → Type 0
+EditHasWrittenNothing unchanged (fault.BadLine number) = unchanged
+EditHasWrittenNothing unchanged (fault.Refused it) = HasWrittenNothing unchanged it
 
--- nothing is told, and the status and the line on standard error say why: nothing was put on standard output, but where it failed
-abbrev pub IsFault : List (List ℕ) → Option (List ℕ) → Option (List ℕ) → Type 0 → SinkView → SinkView → SinkView → SinkView → Type 0 → ℕ → Type 0
+-- the run failed: the status and the line on standard error report the fault, and nothing was written to standard
+-- output, unless it failed
+abbrev pub IsFault : List (List ℕ) → Option (List ℕ) → Option (List ℕ) → Type 0 → SinkView → SinkView → SinkView
+    → SinkView → Type 0 → ℕ → Type 0
 IsFault words rest rest' may_fail out out' errors errors' same_output status =
-    (it : Fault) × (status ≡ fault_status it) × RefusesEditing words rest rest' may_fail out out' it
-    × Told errors errors' (fault_line it) × UnwrittenByEdit same_output it
+    (it : Fault) × (status ≡ fault_status it) × IsEditingError words rest rest' may_fail out out' it
+    × IsPrinted errors errors' (fault_line it) × EditHasWrittenNothing same_output it

@@ -1,21 +1,21 @@
--- What the program says where nothing is told of a script.
+-- Faults of a script that the program runs, and the lines that report them.
 use Rattle.std.specs.Prelude.{ℕ, List, ◌++◌, codes, decimal}
 use Rattle.gixobj_script.specs.declared.fault.Fault.{Fault}
 use Rattle.gixobj_script.specs.declared.fault.Fault.TheVariants as fault
-use Rattle.gixobj_fields.specs.HeaderText.{line_text}
-use Rattle.gixobj_show.specs.Refusal.{line_of, exit_status_of}
+use Rattle.gixobj_fields.specs.HeaderFormat.{encode_line}
+use Rattle.gixobj_show.specs.Failure.{line_of, exit_status_of}
 use Rattle.gixobj_script.specs.declared.script.ScriptError.{ScriptError}
 use Rattle.gixobj_script.specs.declared.script.ScriptError.TheVariants as script
-use Rattle.gixobj_show.specs.declared.refusal.Refusal.TheVariants as refusal
+use Rattle.gixobj_show.specs.declared.failure.Failure.TheVariants as failure
 
--- the fault of a refusal to run a script
+-- the fault of an error of a script
 abbrev pub fault_of : ScriptError → Fault
 fault_of (script.BadLine number) = fault.BadLine number
-fault_of script.OutOfMemory = fault.Refused refusal.OutOfMemory
+fault_of script.OutOfMemory = fault.Refused failure.OutOfMemory
 
--- the line that tells of a bad one
+-- the line that reports a bad line by its number
 abbrev pub bad_line : ℕ → List ℕ
-bad_line number = line_text (codes "gixobj: line " ++ decimal number)
+bad_line number = encode_line (codes "gixobj: line " ++ decimal number)
 
 -- the line for standard error
 abbrev pub fault_line : Fault → List ℕ

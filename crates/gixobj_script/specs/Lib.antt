@@ -6,5 +6,5 @@ pub mod Lines
 pub mod Listing
 pub mod Paths
 pub mod Scripts
-pub mod Telling
-pub mod Words
+pub mod Reporting
+pub mod Arguments

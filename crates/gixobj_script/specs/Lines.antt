@@ -1,64 +1,71 @@
--- The lines of a script: the text of each command.
+-- Lines of a script, and the commands to which they decode.
 use Rattle.std.specs.Prelude.{◌≡◌, ◌++◌, ◌∷◌, ℕ, List, [], codes}
 use Rattle.gixobj_editor.specs.Views.{CommandView, EditView, edits_at, one_edit, remove, remove_leaf, set_root, upsert, write}
-use Rattle.gixobj_hash.specs.Hash.Hex.{IsHexOf, spelled_id}
+use Rattle.gixobj_hash.specs.Hash.Hex.{IsIdHexOfKind, decoded_id}
 use Rattle.gixobj_hash.specs.declared.hash.kind.Kind as hash
 use Rattle.gixobj_hash.specs.declared.hash.object_id.ObjectId.{ObjectId}
 use Rattle.gixobj_script.specs.Paths.{ArePathNames}
 use Rattle.gixobj_hash.specs.Bytes.{space}
-use Rattle.gixobj_hash.specs.Texts.{IsFree}
-use Rattle.gixobj_mode.specs.Mode.{entry_word}
+use Rattle.gixobj_hash.specs.ByteStrings.{IsByteFree}
+use Rattle.gixobj_mode.specs.Mode.{entry_kind_name}
 use Rattle.gixobj_mode.specs.declared.entry_kind.EntryKind.{EntryKind}
 
--- a word, a space, and what follows
-abbrev pub word_and : List ℕ → List ℕ → List ℕ
-word_and word rest = word ++ space ∷ rest
+-- a keyword, a space, and the rest
+abbrev pub keyword_and : List ℕ → List ℕ → List ℕ
+keyword_and token rest = token ++ space ∷ rest
 
--- the text is the hex text of the id: as many digits, of either case, as an id of this kind has
+-- the hex digits of the id, in either case, as many as an id of this hash kind has
 abbrev pub IsHexOfId : hash.Kind → List ℕ → ObjectId → Type 0
-IsHexOfId hash hex id = IsHexOf hash hex × (id ≡ spelled_id hex)
+IsHexOfId hash hex id = IsIdHexOfKind hash hex × (id ≡ decoded_id hex)
 
--- `KIND HEX PATH`: a kind's word, the hex text of an id, and a path, which may hold spaces
-pub record IsEntryAt (hash : hash.Kind) (text : List ℕ) (kind : EntryKind) (id : ObjectId) (path : List ℕ) : Type 0 where
+-- `KIND HEX PATH`: the name of an entry kind, the hex digits of an id, and a path, which may hold spaces
+pub record IsEntryAt (hash : hash.Kind) (bytes : List ℕ) (kind : EntryKind) (id : ObjectId)
+    (path : List ℕ) : Type 0 where
   pub hex : List ℕ
-  pub joined : text ≡ word_and (entry_word kind) (word_and hex path)
-  pub spells : IsHexOfId hash hex id
+  pub joined : bytes ≡ keyword_and (entry_kind_name kind) (keyword_and hex path)
+  pub is_hex_of_id : IsHexOfId hash hex id
 
--- the text of an edit: `upsert KIND HEX PATH`, `remove PATH`, `leaf PATH` or `write`
-abbrev pub IsEditText : hash.Kind → List ℕ → EditView → Type 0
-IsEditText hash text (upsert names kind id) =
-    (entry path : List ℕ) × (text ≡ word_and (codes "upsert") entry) × IsEntryAt hash entry kind id path × ArePathNames path names
-IsEditText hash text (remove names) = (path : List ℕ) × (text ≡ word_and (codes "remove") path) × ArePathNames path names
-IsEditText hash text (remove_leaf names) = (path : List ℕ) × (text ≡ word_and (codes "leaf") path) × ArePathNames path names
-IsEditText hash text write = text ≡ codes "write"
+-- the bytes decode to an edit: `upsert KIND HEX PATH`, `remove PATH`, `leaf PATH` or `write`
+abbrev pub DecodesToEdit : hash.Kind → List ℕ → EditView → Type 0
+DecodesToEdit hash bytes (upsert names kind id) =
+    (entry path : List ℕ) × (bytes ≡ keyword_and (codes "upsert") entry) × IsEntryAt hash entry kind id path
+    × ArePathNames path names
+DecodesToEdit hash bytes (remove names) = (path : List ℕ) × (bytes ≡ keyword_and (codes "remove") path)
+    × ArePathNames path names
+DecodesToEdit hash bytes (remove_leaf names) = (path : List ℕ) × (bytes ≡ keyword_and (codes "leaf") path)
+    × ArePathNames path names
+DecodesToEdit hash bytes write = bytes ≡ codes "write"
 
--- `PREFIX EDIT`: a path that holds no space, and the text of one edit from there
-pub record IsEditAt (hash : hash.Kind) (text : List ℕ) (names : List (List ℕ)) (edits : List EditView) : Type 0 where
+-- `PREFIX EDIT`: a path that holds no space, and one edit from there
+pub record IsEditAt (hash : hash.Kind) (bytes : List ℕ) (names : List (List ℕ)) (edits : List EditView) : Type 0 where
   pub prefix : List ℕ
   pub rest : List ℕ
   pub edit : EditView
-  pub joined : text ≡ word_and prefix rest
-  pub no_space : IsFree space prefix
+  pub joined : bytes ≡ keyword_and prefix rest
+  pub no_space : IsByteFree space prefix
   pub names_of_prefix : ArePathNames prefix names
   pub one : edits ≡ edit ∷ []
-  pub is : IsEditText hash rest edit
+  pub is : DecodesToEdit hash rest edit
 
--- the text of a command: that of an edit, `at PREFIX EDIT`, or `root`
-abbrev pub IsCommandText : hash.Kind → List ℕ → CommandView → Type 0
-IsCommandText hash text (one_edit edit) = IsEditText hash text edit
-IsCommandText hash text (edits_at names edits) = (rest : List ℕ) × (text ≡ word_and (codes "at") rest) × IsEditAt hash rest names edits
-IsCommandText hash text (set_root entries) = (text ≡ codes "root") × (entries ≡ [])
+-- the bytes decode to a command: an edit, `at PREFIX EDIT`, or `root`
+abbrev pub DecodesToCommand : hash.Kind → List ℕ → CommandView → Type 0
+DecodesToCommand hash bytes (one_edit edit) = DecodesToEdit hash bytes edit
+DecodesToCommand hash bytes (edits_at names edits) = (rest : List ℕ) × (bytes ≡ keyword_and (codes "at") rest)
+    × IsEditAt hash rest names edits
+DecodesToCommand hash bytes (set_root entries) = (bytes ≡ codes "root") × (entries ≡ [])
 
--- the text of some edit, and of none
+-- the bytes decode to some edit
 abbrev pub HasEdit : hash.Kind → List ℕ → Type 0
-HasEdit hash text = (edit : EditView) × IsEditText hash text edit
+HasEdit hash bytes = (edit : EditView) × DecodesToEdit hash bytes edit
 
+-- the bytes decode to no edit
 abbrev pub HasNoEdit : hash.Kind → List ℕ → Type 0
-HasNoEdit hash text = (edit : EditView) → ¬ IsEditText hash text edit
+HasNoEdit hash bytes = (edit : EditView) → ¬ DecodesToEdit hash bytes edit
 
--- the text of some command, and of none
+-- the bytes decode to some command
 abbrev pub HasCommand : hash.Kind → List ℕ → Type 0
-HasCommand hash text = (command : CommandView) × IsCommandText hash text command
+HasCommand hash bytes = (command : CommandView) × DecodesToCommand hash bytes command
 
+-- the bytes decode to no command
 abbrev pub HasNoCommand : hash.Kind → List ℕ → Type 0
-HasNoCommand hash text = (command : CommandView) → ¬ IsCommandText hash text command
+HasNoCommand hash bytes = (command : CommandView) → ¬ DecodesToCommand hash bytes command

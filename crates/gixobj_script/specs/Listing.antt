@@ -1,94 +1,105 @@
--- What `tree` tells of a loose tree, and a run of it: what it reads, what it writes, and why it lists nothing.
+-- Lists of the entries of a loose tree, and runs of `tree`: its input, its output and its errors.
 use Rattle.std.specs.Prelude.{◌≡◌, ◌≢◌, ◌⊎◌, ℕ, List, [], ◌∷◌, ◌++◌, Option, codes}
 use Rattle.std.specs.List.{flat_map}
 use Rattle.gixobj_hash.specs.Bytes.{newline, space}
 use Rattle.gixobj_hash.specs.Decode.{HasContent, IsShort}
 use Rattle.gixobj_tree.specs.Entries.{EntryView}
-use Rattle.gixobj_hash.specs.Hash.{hex_text}
-use Rattle.gixobj_mode.specs.Mode.{entry_word, kind_of_mode, mode_text}
+use Rattle.gixobj_hash.specs.Hash.{encode_id_hex}
+use Rattle.gixobj_mode.specs.Mode.{entry_kind_name, kind_of_mode, encode_mode}
 use Rattle.gixobj_hash.specs.declared.hash.kind.Kind as hash
 use Rattle.gixobj_hash.specs.declared.kind.Kind.{Kind}
 use Rattle.gixobj_hash.specs.declared.kind.Kind.TheVariants.{Tree}
-use Rattle.gixobj_tree.specs.TreeReading.{BeginsWithEntry, IsNoTreeText, IsTreeText}
-use Rattle.gixobj_fields.specs.Streams.{Puts, PutsFront, SinkView}
-use Rattle.gixobj_script.specs.Words.{AsksToList}
-use Rattle.gixobj_show.specs.Engine.{ReadsAll, Told, Unwritten}
-use Rattle.gixobj_show.specs.Refusal.{HasNoLooseHeader, exit_status_of, line_of}
-use Rattle.gixobj_show.specs.Words.{AsksFor}
-use Rattle.gixobj_show.specs.declared.refusal.Refusal.{Refusal}
-use Rattle.gixobj_show.specs.declared.refusal.Refusal.TheVariants.{BadHeader, BadTree, InputFailed, NotATree, OutOfMemory, OutputFailed, ShortData}
+use Rattle.gixobj_tree.specs.TreeDecoding.{BeginsWithEntry, IsMalformedTree, DecodesToTree}
+use Rattle.gixobj_fields.specs.Streams.{AppendsAll, AppendsPrefix, SinkView}
+use Rattle.gixobj_script.specs.Arguments.{IsListCommand}
+use Rattle.gixobj_show.specs.Engine.{ReadsAll, IsPrinted, HasWrittenNothing}
+use Rattle.gixobj_show.specs.Failure.{HasNoLooseHeader, exit_status_of, line_of}
+use Rattle.gixobj_show.specs.Arguments.{IsCommandOfHash}
+use Rattle.gixobj_show.specs.declared.failure.Failure.{Failure}
+use Rattle.gixobj_show.specs.declared.failure.Failure.TheVariants.{BadHeader, BadTree, InputFailed, NotATree, OutOfMemory, OutputFailed, ShortData}
 
--- the line of an entry: its mode's text, its kind's word, its id and its name as it stands, a space between them
+-- the line of an entry: its mode, the name of its kind, its id in hex and its unchanged name, separated by spaces
 abbrev pub entry_line : EntryView → List ℕ
 entry_line e =
-    mode_text e.mode ++ space ∷ entry_word (kind_of_mode e.mode) ++ space ∷ hex_text e.id ++ space ∷ e.name ++ newline ∷ []
+    encode_mode e.mode ++ space ∷ entry_kind_name (kind_of_mode e.mode) ++ space ∷ encode_id_hex e.id ++ space ∷ e.name
+    ++ newline ∷ []
 
--- the lines of the entries, one after the other
+-- the lines of the entries, in order
 abbrev pub listing_of : List EntryView → List ℕ
 listing_of entries = flat_map entry_line entries
 
--- the input begins with a loose tree whose ids are of this kind, and this text lists its entries
+-- the input begins with a loose tree whose ids have this hash kind, and the bytes list its entries
 abbrev pub IsListed : hash.Kind → List ℕ → List ℕ → Type 0
-IsListed hash input text =
+IsListed hash input bytes =
     (content : List ℕ) × (entries : List EntryView)
-    × HasContent input Tree content × IsTreeText hash content entries × (text ≡ listing_of entries)
+    × HasContent input Tree content × DecodesToTree hash content entries × (bytes ≡ listing_of entries)
 
--- the input begins with a loose object of another kind
+-- the input begins with a loose object of another kind than a tree
 pub record IsOfAnotherKind (input : List ℕ) : Type 0 where
   pub kind : Kind
   pub content : List ℕ
   pub object : HasContent input kind content
   pub other : kind ≢ Tree
 
--- the input begins with a loose object of a tree's kind, whose content is the text of no tree with ids of this kind
+-- the input begins with a loose tree whose content is not the encoding of a tree with ids of this hash kind
 abbrev pub IsBadTree : hash.Kind → List ℕ → Type 0
-IsBadTree hash input = (content : List ℕ) × HasContent input Tree content × IsNoTreeText hash content
+IsBadTree hash input = (content : List ℕ) × HasContent input Tree content × IsMalformedTree hash content
 
--- the input begins with a loose object of a tree's kind, whose content begins with an entry
+-- the input begins with a loose tree whose content begins with an entry
 abbrev pub HasFirstEntry : hash.Kind → List ℕ → Type 0
 HasFirstEntry hash input =
-    (content : List ℕ) × (e : EntryView) × (rest : List ℕ) × HasContent input Tree content × BeginsWithEntry hash content e rest
+    (content : List ℕ) × (e : EntryView) × (rest : List ℕ) × HasContent input Tree content
+    × BeginsWithEntry hash content e rest
 
--- why the input begins with no loose object of a tree's kind. Only what a bad header hands back takes memory
-abbrev pub RefusesListedTree : List ℕ → Refusal → Type 0
-RefusesListedTree input BadHeader = HasNoLooseHeader input
-RefusesListedTree input OutOfMemory = HasNoLooseHeader input
-RefusesListedTree input ShortData = IsShort input
-RefusesListedTree input NotATree = IsOfAnotherKind input
-RefusesListedTree input _ = ⊥
+-- the error of a loose tree before its content decodes. Out of memory occurs only for the copy in the error of a header
+abbrev pub IsListedTreeError : List ℕ → Failure → Type 0
+IsListedTreeError input BadHeader = HasNoLooseHeader input
+IsListedTreeError input OutOfMemory = HasNoLooseHeader input
+IsListedTreeError input ShortData = IsShort input
+IsListedTreeError input NotATree = IsOfAnotherKind input
+IsListedTreeError input _ = ⊥
 
--- why no tree is listed. What a bad header hands back takes memory, and so do entries and their lines
-abbrev pub RefusesListing : hash.Kind → List ℕ → Refusal → Type 0
-RefusesListing hash input BadHeader = HasNoLooseHeader input
-RefusesListing hash input ShortData = IsShort input
-RefusesListing hash input NotATree = IsOfAnotherKind input
-RefusesListing hash input BadTree = IsBadTree hash input
-RefusesListing hash input OutOfMemory = HasNoLooseHeader input ⊎ HasFirstEntry hash input
-RefusesListing hash input _ = ⊥
+-- the error of a list. Out of memory occurs only for the copy in the error of a header, or for entries and their lines
+abbrev pub IsListingError : hash.Kind → List ℕ → Failure → Type 0
+IsListingError hash input BadHeader = HasNoLooseHeader input
+IsListingError hash input ShortData = IsShort input
+IsListingError hash input NotATree = IsOfAnotherKind input
+IsListingError hash input BadTree = IsBadTree hash input
+IsListingError hash input OutOfMemory = HasNoLooseHeader input ⊎ HasFirstEntry hash input
+IsListingError hash input _ = ⊥
 
--- the words ask for it, the input was read to its end, and this text lists the tree that it begins with
+-- the arguments request a list, the entire input was read, and the bytes list the tree at its start
 abbrev pub IsListOfInput : List (List ℕ) → Option (List ℕ) → Option (List ℕ) → List ℕ → Type 0
-IsListOfInput words rest rest' text =
-    (hash : hash.Kind) × (input : List ℕ) × AsksFor words (codes "tree") hash × ReadsAll rest rest' input × IsListed hash input text
+IsListOfInput words rest rest' bytes =
+    (hash : hash.Kind) × (input : List ℕ) × IsCommandOfHash words (codes "tree") hash × ReadsAll rest rest' input
+    × IsListed hash input bytes
 
--- the list was put
+-- the list was written
 abbrev pub Listed : List (List ℕ) → Option (List ℕ) → Option (List ℕ) → SinkView → SinkView → Type 0
-Listed words rest rest' out out' = (text : List ℕ) × IsListOfInput words rest rest' text × Puts out out' text
+Listed words rest rest' out out' = (bytes : List ℕ) × IsListOfInput words rest rest' bytes × AppendsAll out out' bytes
 
--- why there is no list; where the output failed, a front of it was put
-abbrev pub RefusesList : List (List ℕ) → Option (List ℕ) → Option (List ℕ) → Type 0 → SinkView → SinkView → Refusal → Type 0
-RefusesList words rest rest' may_fail out out' InputFailed = AsksToList words × may_fail
-RefusesList words rest rest' may_fail out out' OutputFailed = (text : List ℕ) × IsListOfInput words rest rest' text × PutsFront out out' text
-RefusesList words rest rest' may_fail out out' OutOfMemory = AsksToList words
-RefusesList words rest rest' may_fail out out' BadHeader = AsksToList words × (input : List ℕ) × ReadsAll rest rest' input × HasNoLooseHeader input
-RefusesList words rest rest' may_fail out out' ShortData = AsksToList words × (input : List ℕ) × ReadsAll rest rest' input × IsShort input
-RefusesList words rest rest' may_fail out out' NotATree = AsksToList words × (input : List ℕ) × ReadsAll rest rest' input × IsOfAnotherKind input
-RefusesList words rest rest' may_fail out out' BadTree =
-    (hash : hash.Kind) × (input : List ℕ) × AsksFor words (codes "tree") hash × ReadsAll rest rest' input × IsBadTree hash input
-RefusesList words rest rest' may_fail out out' _ = ⊥
+-- the error of a run; at a failed output a proper prefix of the list was written
+abbrev pub IsListError : List (List ℕ) → Option (List ℕ) → Option (List ℕ) → Type 0 → SinkView → SinkView → Failure
+    → Type 0
+IsListError words rest rest' may_fail out out' InputFailed = IsListCommand words × may_fail
+IsListError words rest rest' may_fail out out' OutputFailed = (bytes : List ℕ) × IsListOfInput words rest rest' bytes
+    × AppendsPrefix out out' bytes
+IsListError words rest rest' may_fail out out' OutOfMemory = IsListCommand words
+IsListError words rest rest' may_fail out out' BadHeader = IsListCommand words × (input : List ℕ)
+    × ReadsAll rest rest' input × HasNoLooseHeader input
+IsListError words rest rest' may_fail out out' ShortData = IsListCommand words × (input : List ℕ)
+    × ReadsAll rest rest' input × IsShort input
+IsListError words rest rest' may_fail out out' NotATree = IsListCommand words × (input : List ℕ)
+    × ReadsAll rest rest' input × IsOfAnotherKind input
+IsListError words rest rest' may_fail out out' BadTree =
+    (hash : hash.Kind) × (input : List ℕ) × IsCommandOfHash words (codes "tree") hash × ReadsAll rest rest' input
+    × IsBadTree hash input
+IsListError words rest rest' may_fail out out' _ = ⊥
 
--- there is no list, and the status and the line on standard error say why: nothing was put on standard output, but where it failed
-abbrev pub IsUnlisted : List (List ℕ) → Option (List ℕ) → Option (List ℕ) → Type 0 → SinkView → SinkView → SinkView → SinkView → Type 0 → ℕ → Type 0
+-- the run failed: the status and the line on standard error report the error, and nothing was written to standard
+-- output, unless it failed
+abbrev pub IsUnlisted : List (List ℕ) → Option (List ℕ) → Option (List ℕ) → Type 0 → SinkView → SinkView → SinkView
+    → SinkView → Type 0 → ℕ → Type 0
 IsUnlisted words rest rest' may_fail out out' errors errors' same_output status =
-    (refusal : Refusal) × (status ≡ exit_status_of refusal) × RefusesList words rest rest' may_fail out out' refusal
-    × Told errors errors' (line_of refusal) × Unwritten same_output refusal
+    (cause : Failure) × (status ≡ exit_status_of cause) × IsListError words rest rest' may_fail out out' cause
+    × IsPrinted errors errors' (line_of cause) × HasWrittenNothing same_output cause

@@ -1,56 +1,59 @@
--- Scripts: texts of lines, each empty or a command's.
+-- Scripts of lines that are empty or commands.
 use Rattle.std.specs.Prelude.{◌≡◌, ◌≢◌, ◌⊎◌, ◌+◌, ◌++◌, ◌∷◌, ℕ, All, List, [], length}
 use Rattle.std.specs.List.{AllZip}
 use Rattle.gixobj_editor.specs.Views.{CommandView}
 use Rattle.gixobj_hash.specs.declared.hash.kind.Kind as hash
-use Rattle.gixobj_script.specs.Lines.{HasCommand, HasNoCommand, IsCommandText}
-use Rattle.gixobj_hash.specs.Cuts.{IsCutAt}
+use Rattle.gixobj_script.specs.Lines.{HasCommand, HasNoCommand, DecodesToCommand}
+use Rattle.gixobj_hash.specs.Splits.{IsSplitAtEach}
 use Rattle.gixobj_script.specs.declared.script.ScriptError.{ScriptError}
 use Rattle.gixobj_script.specs.declared.script.ScriptError.TheVariants.{BadLine, OutOfMemory}
 use Rattle.gixobj_hash.specs.Bytes.{newline}
 
--- those of the lines that aren't empty
+-- the lines that are not empty
 abbrev pub filled_lines : List (List ℕ) → List (List ℕ)
 filled_lines [] = []
 filled_lines ([] ∷ lines) = filled_lines lines
 filled_lines ((byte ∷ bytes) ∷ lines) = (byte ∷ bytes) ∷ filled_lines lines
 
--- the text of these commands: its lines that aren't empty are theirs, in order. Behind a last newline an empty line stands
-pub record IsScript (hash : hash.Kind) (text : List ℕ) (commands : List CommandView) : Type 0 where
+-- a script of these commands: its lines that are not empty decode to them, in order; an empty line follows a last
+-- newline
+pub record IsScript (hash : hash.Kind) (content : List ℕ) (commands : List CommandView) : Type 0 where
   pub lines : List (List ℕ)
-  pub cut : IsCutAt newline text lines
-  pub each : AllZip (IsCommandText hash) (filled_lines lines) commands
+  pub split_parts : IsSplitAtEach newline content lines
+  pub each : AllZip (DecodesToCommand hash) (filled_lines lines) commands
 
--- an empty line, or a command's
+-- the line is empty or a command
 abbrev pub IsGoodLine : hash.Kind → List ℕ → Type 0
 IsGoodLine hash line = (line ≡ []) ⊎ HasCommand hash line
 
--- any other line
+-- the line is neither empty nor a command
 abbrev pub IsBadLine : hash.Kind → List ℕ → Type 0
 IsBadLine hash line = (line ≢ []) × HasNoCommand hash line
 
--- the commands of a line are put behind others: none of an empty line, and of any other its command
-abbrev pub PutsLine : hash.Kind → List ℕ → List CommandView → List CommandView → Type 0
-PutsLine hash line old new = (own : List CommandView) × AllZip (IsCommandText hash) (filled_lines (line ∷ [])) own × (new ≡ old ++ own)
+-- the command of a line is appended; an empty line has none
+abbrev pub AppendsLine : hash.Kind → List ℕ → List CommandView → List CommandView → Type 0
+AppendsLine hash line old new = (own : List CommandView) × AllZip (DecodesToCommand hash) (filled_lines (line ∷ [])) own
+    × (new ≡ old ++ own)
 
--- why the line of this number isn't put: it is bad; or memory ran out for its command
-abbrev pub RefusesScriptLine : hash.Kind → ℕ → List ℕ → ScriptError → Type 0
-RefusesScriptLine hash number line (BadLine bad) = (bad ≡ number) × IsBadLine hash line
-RefusesScriptLine hash number line OutOfMemory = HasCommand hash line
+-- the error of the line with this number: the line is bad, or out of memory for its command
+abbrev pub IsScriptLineError : hash.Kind → ℕ → List ℕ → ScriptError → Type 0
+IsScriptLineError hash number line (BadLine bad) = (bad ≡ number) × IsBadLine hash line
+IsScriptLineError hash number line OutOfMemory = HasCommand hash line
 
--- the line of this number of a text, from 1, where no line before it is bad
-pub record IsReached (hash : hash.Kind) (text : List ℕ) (number : ℕ) (line : List ℕ) : Type 0 where
+-- the line with this number, from 1, has no bad line before it
+pub record IsReached (hash : hash.Kind) (content : List ℕ) (number : ℕ) (line : List ℕ) : Type 0 where
   pub before : List (List ℕ)
-  pub behind : List (List ℕ)
-  pub cut : IsCutAt newline text (before ++ line ∷ behind)
+  pub following : List (List ℕ)
+  pub split_parts : IsSplitAtEach newline content (before ++ line ∷ following)
   pub good : All (IsGoodLine hash) before
   pub counted : number ≡ length before + 1
 
--- the first bad line of a text has this number
+-- the first bad line has this number
 abbrev pub IsFirstBad : hash.Kind → List ℕ → ℕ → Type 0
-IsFirstBad hash text number = (line : List ℕ) × IsReached hash text number line × IsBadLine hash line
+IsFirstBad hash content number = (line : List ℕ) × IsReached hash content number line × IsBadLine hash line
 
--- why a text isn't read: a line is bad; or memory ran out, which is taken for a command before any bad line
-abbrev pub RefusesScript : hash.Kind → List ℕ → ScriptError → Type 0
-RefusesScript hash text (BadLine number) = IsFirstBad hash text number
-RefusesScript hash text OutOfMemory = (number : ℕ) × (line : List ℕ) × IsReached hash text number line × HasCommand hash line
+-- the error of a script: the first bad line, or out of memory for a command before any bad line
+abbrev pub IsScriptParseError : hash.Kind → List ℕ → ScriptError → Type 0
+IsScriptParseError hash content (BadLine number) = IsFirstBad hash content number
+IsScriptParseError hash content OutOfMemory = (number : ℕ) × (line : List ℕ) × IsReached hash content number line
+    × HasCommand hash line

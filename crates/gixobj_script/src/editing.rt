@@ -1,13 +1,13 @@
-//! Scripts, run on an editor and told.
+//! Runs of scripts on an editor, with a report of the replies.
 ghost use Rattle.std.specs.Prelude.{◌≡◌, ◌⊎◌, ℕ, IfErr, IfOk, OnErr};
 ghost use Rattle.std.specs.Fn.{FnReturnsAt};
-ghost use Rattle.gixobj_object.specs.Stores.{meaning};
-ghost use Rattle.gixobj_tree.specs.TreeText.{IsAnsweredDigest};
-ghost use Rattle.gixobj_script.specs.Edits.{IsEdit, IsTold, RefusesEdit, WasRun};
+ghost use Rattle.gixobj_object.specs.Stores.{store_model};
+ghost use Rattle.gixobj_tree.specs.TreeEncoding.{IsAnsweredDigest};
+ghost use Rattle.gixobj_script.specs.Edits.{IsEdit, IsReported, IsScriptRunError, WasRun};
 ghost use Rattle.gixobj_script.specs.declared.script.ScriptError.TheVariants.{BadLine};
 ghost use Rattle.gixobj_editor.specs.Replies.{IsCallable};
 
-use crate::{ScriptError, read_script, told_lines};
+use crate::{ScriptError, read_script, report_lines};
 use gixobj_editor::editor::Editor;
 use gixobj_editor::run;
 use gixobj_find::{Keep, Memory};
@@ -15,11 +15,20 @@ use gixobj_hash::hash::{Kind, ObjectId};
 use gixobj_tree::Tree;
 use std::alloc::Global;
 
-/// Runs a script on the empty root, over a store in memory that has nothing yet, with ids of this kind, and answers
-/// what is told of it, as [`edit_on`] does. The id of a tree is the digest of its written bytes.
+/// Runs a script on the empty root, over an empty store in memory, and returns the report of [`edit_on`].
+///
+/// Ids are of `hash`; the id of a tree is the digest of its encoding. Allocates the commands, the replies,
+/// the store and the report.
+///
+/// # Errors
+///
+/// - [`ScriptError::BadLine`] with the number of the first line that is neither empty nor a command. Nothing
+///   is run.
+/// - [`ScriptError::OutOfMemory`] if an allocation fails, for a command before any bad line or in a script
+///   without one.
 pub fn edit(alloc: Global, script: &[u8], hash: Kind) -> Result<Vec<u8>, ScriptError>
-    ensures told { IfOk result (λ text. IsEdit hash script.now text.items) }
-    ensures refusal { IfErr result (RefusesEdit hash script.now) }
+    ensures reported { IfOk result (λ content. IsEdit hash script.now content.items) }
+    ensures error { IfErr result (IsScriptRunError hash script.now) }
 {
     let mut editor = Editor::new(Tree::empty(alloc), Memory::new(alloc), hash);
     edit_on(
@@ -33,13 +42,19 @@ pub fn edit(alloc: Global, script: &[u8], hash: Kind) -> Result<Vec<u8>, ScriptE
     )
 }
 
-/// Runs a script on an editor, with `out` for the ids of what is written, and answers what is told of it: a line for
-/// each command, or for each edit in a directory, and last a line with the number of lookups, all that the editor
-/// has made.
+/// Runs a script on an editor, and returns a report of the replies.
 ///
-/// `BadLine` says which line is the first that is neither empty nor a command's: then nothing is run. `OutOfMemory`
-/// where memory ran out: for a command before any bad line, or, where no line is bad, for the replies and what
-/// is told of them. After that nothing was run, or the whole script was, and there was no memory to tell it.
+/// `out` returns the ids of written trees. The report has a line for each command, or for each edit in a
+/// directory. Its last line has the number of all lookups that the editor has made. Allocates the commands,
+/// the replies and the report.
+///
+/// # Errors
+///
+/// - [`ScriptError::BadLine`] with the number of the first line that is neither empty nor a command. Nothing
+///   is run.
+/// - [`ScriptError::OutOfMemory`] if an allocation fails for a command before any bad line; or, if no line is
+///   bad, for the replies or the report. Then nothing was run, or the entire script was run and has no
+///   report.
 pub fn edit_on<S: Keep, E: Drop, F: Fn(&Tree) -> Result<ObjectId, E> + Drop>(
     alloc: Global,
     editor: &mut Editor<S>,
@@ -48,17 +63,17 @@ pub fn edit_on<S: Keep, E: Drop, F: Fn(&Tree) -> Result<ObjectId, E> + Drop>(
     out: F,
 ) -> Result<Vec<u8>, ScriptError>
     requires callable { IsCallable F.pre out }
-    ensures told { IfOk result (λ text. IsTold (meaning S.objects S.may_fail) (FnReturnsAt F.Fn out)
-        hash script.now editor.old text.items editor.new) }
-    ensures refusal { IfErr result (RefusesEdit hash script.now) }
+    ensures reported { IfOk result (λ content. IsReported (store_model S.objects S.may_fail) (FnReturnsAt F.Fn out)
+        hash script.now editor.old content.items editor.new) }
+    ensures error { IfErr result (IsScriptRunError hash script.now) }
     ensures not_run { IfErr result (λ error. (number : ℕ) → error ≡ BadLine number
         → editor.new ≡ editor.old) }
-    ensures left { OnErr result ((editor.new ≡ editor.old)
-        ⊎ WasRun (meaning S.objects S.may_fail) (FnReturnsAt F.Fn out) hash script.now editor.old
+    ensures remaining { OnErr result ((editor.new ≡ editor.old)
+        ⊎ WasRun (store_model S.objects S.may_fail) (FnReturnsAt F.Fn out) hash script.now editor.old
         editor.new) }
 {
     let commands = read_script(alloc, script, hash)?;
     let replies = run(alloc, editor, commands, out)?;
-    let text = told_lines(alloc, &replies, editor.lookups())?;
-    Ok(text)
+    let content = report_lines(alloc, &replies, editor.lookups())?;
+    Ok(content)
 }

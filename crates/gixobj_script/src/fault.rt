@@ -1,24 +1,24 @@
-//! Why nothing is told of a script, and what the program says of it.
+//! Faults of a script that the program runs, and the lines that report them.
 ghost use Rattle.std.specs.Prelude.{◌≡◌};
 ghost use Rattle.gixobj_script.specs.Faults.{bad_line, fault_line, fault_status};
-ghost use Rattle.gixobj_show.specs.Engine.{Told};
+ghost use Rattle.gixobj_show.specs.Engine.{IsPrinted};
 
 use crate::ScriptError;
 use gixobj_fields::streams::Sink;
-use gixobj_show::Refusal;
-use gixobj_show::engine::tell;
+use gixobj_show::Failure;
+use gixobj_show::engine::report_to;
 use itoa::Buffer;
 use smallvec::SmallVec;
 use std::alloc::Global;
 
-/// Why nothing is told of a script.
+/// The fault of a script that the program runs.
 #[derive(Clone, Copy, Debug, PartialEq, Eq)]
 pub enum Fault {
-    /// The line of this number, from 1 and with empty lines counted, is the first that is neither empty nor a
-    /// command's.
+    /// The line with this number is the first that is neither empty nor a command. Numbers begin with 1, and
+    /// count empty lines.
     BadLine(u64),
-    /// The input, the output or the memory failed.
-    Refused(Refusal),
+    /// The input or the output failed, or an allocation failed.
+    Refused(Failure),
 }
 
 impl From<ScriptError> for Fault {
@@ -29,14 +29,14 @@ impl From<ScriptError> for Fault {
     fn from(cause: ScriptError) -> Fault {
         match cause {
             ScriptError::BadLine(number) => Fault::BadLine(number),
-            ScriptError::OutOfMemory => Fault::Refused(Refusal::OutOfMemory),
+            ScriptError::OutOfMemory => Fault::Refused(Failure::OutOfMemory),
         }
     }
 }
 
-/// The line that tells of a bad one, by its number. It has at most 34 bytes, so it takes no memory.
+/// Returns the line that reports a bad line by its number. It has at most 34 bytes, and allocates nothing.
 fn line_for(alloc: Global, number: u64) -> SmallVec<u8, 40>
-    ensures text { result.items ≡ bad_line number }
+    ensures encoded { result.items ≡ bad_line number }
 {
     let mut digits = Buffer::new();
     let mut line = SmallVec::new(alloc);
@@ -47,25 +47,27 @@ fn line_for(alloc: Global, number: u64) -> SmallVec<u8, 40>
     line
 }
 
-/// Puts a line, if there is room for it.
-fn tell_line<E: Sink>(line: &[u8], errors: &mut E)
-    ensures told { Told (E.view errors.old) (E.view errors.new) line.now }
+/// Writes a line, or a prefix of it if the sink has no more room.
+fn report_line<E: Sink>(line: &[u8], errors: &mut E)
+    ensures reported { IsPrinted (E.view errors.old) (E.view errors.new) line.now }
     ensures same_loan { E.loan errors.new ≡ E.loan errors.old }
 {
-    let _ = errors.put(line);
+    let _ = errors.write_bytes(line);
 }
 
-/// Says why nothing is told of a script, and answers the exit status. Where that can't be said, the status alone says it.
-pub fn tell_fault<E: Sink>(alloc: Global, fault: Fault, errors: &mut E) -> u8
+/// Writes the line of a fault, and returns the exit status.
+///
+/// If the line cannot be written, the status alone reports the fault.
+pub fn report_fault<E: Sink>(alloc: Global, fault: Fault, errors: &mut E) -> u8
     ensures status { result ≡ fault_status fault }
-    ensures told { Told (E.view errors.old) (E.view errors.new) (fault_line fault) }
+    ensures reported { IsPrinted (E.view errors.old) (E.view errors.new) (fault_line fault) }
     ensures same_loan { E.loan errors.new ≡ E.loan errors.old }
 {
     match fault {
         Fault::BadLine(number) => {
-            tell_line(&line_for(alloc, number), errors);
+            report_line(&line_for(alloc, number), errors);
             1
         }
-        Fault::Refused(refusal) => tell(refusal, errors),
+        Fault::Refused(error) => report_to(error, errors),
     }
 }

@@ -1,6 +1,6 @@
-//! The program's commands that work on trees: `edit` runs a script of edits, which is read line by line as commands, on
-//! an editor, and tells what came of it; `tree` lists the entries of a loose tree, a line `<mode> <kind> <id> <name>`
-//! each. And what the program does with its words, its input and its outputs.
+//! The commands of the program on trees, and its engine over arguments, an input and outputs. `edit` parses a
+//! script of edits line by line, runs its commands on an editor, and reports the replies. `tree` lists the
+//! entries of a loose tree, as lines `<mode> <kind> <id> <name>`.
 #![tactic(auto)]
 
 pub mod editing;
@@ -9,10 +9,10 @@ pub mod fault;
 pub mod laws;
 mod line;
 mod path;
+pub mod reporting;
 pub mod script;
-pub mod telling;
 pub mod tree;
 
 pub use editing::{edit, edit_on};
+pub use reporting::report_lines;
 pub use script::{ScriptError, read_script};
-pub use telling::told_lines;

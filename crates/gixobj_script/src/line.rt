@@ -1,9 +1,9 @@
-//! The command of a line.
+//! Parsing of one line of a script.
 ghost use Rattle.std.specs.Prelude.{◌≡◌, ◌≢◌, ℕ, List, codes, IfOk, IfNone, IfSome, MatchOption, OnErr};
 ghost use Rattle.gixobj_editor.specs.Views.{command_view, edit_view};
 ghost use Rattle.gixobj_hash.specs.declared.hash.object_id.ObjectId.{ObjectId};
-ghost use Rattle.gixobj_script.specs.Lines.{HasCommand, HasEdit, HasNoCommand, HasNoEdit, IsCommandText, IsEditText, IsEntryAt, IsHexOfId, word_and};
-ghost use Rattle.gixobj_mode.specs.Mode.{entry_word};
+ghost use Rattle.gixobj_script.specs.Lines.{HasCommand, HasEdit, HasNoCommand, HasNoEdit, DecodesToCommand, DecodesToEdit, IsEntryAt, IsHexOfId, keyword_and};
+ghost use Rattle.gixobj_mode.specs.Mode.{entry_kind_name};
 ghost use Rattle.gixobj_mode.specs.declared.entry_kind.EntryKind.{EntryKind};
 
 use crate::path::names_of_path;
@@ -12,19 +12,19 @@ use gixobj_fields::parse::after_name;
 use gixobj_hash::OutOfMemory;
 use gixobj_hash::hash::{Kind, ObjectId};
 use gixobj_hash::parse::{hex_hash, id_of_hex};
-use gixobj_hash::texts::split_at_byte;
+use gixobj_hash::split::split_at_byte;
 use gixobj_tree::Tree;
 use gixobj_tree::tree::EntryKind;
 use std::alloc::Global;
 
-/// The command whose text the line is, with ids of this kind, or none: that of an edit, `at PREFIX EDIT`
-/// with a prefix that holds no space, or `root`.
+/// Parses a line with ids of `hash`: an edit, `at PREFIX EDIT` with a prefix without a space, or `root`; else
+/// `None`.
 ///
-/// `OutOfMemory` only where the line is a command's.
+/// `OutOfMemory` only if the line is a command.
 pub fn read_command(alloc: Global, line: &[u8], hash: Kind) -> Result<Option<Command>, OutOfMemory>
-    ensures read { IfOk result (λ it. MatchOption it (HasNoCommand hash line.now)
-        (λ command. IsCommandText hash line.now (command_view command))) }
-    ensures refusal { OnErr result (HasCommand hash line.now) }
+    ensures found { IfOk result (λ it. MatchOption it (HasNoCommand hash line.now)
+        (λ command. DecodesToCommand hash line.now (command_view command))) }
+    ensures error { OnErr result (HasCommand hash line.now) }
 {
     if let Some(rest) = after_name(line, b"at") {
         return read_edit_at(alloc, rest, hash);
@@ -38,14 +38,14 @@ pub fn read_command(alloc: Global, line: &[u8], hash: Kind) -> Result<Option<Com
     }
 }
 
-/// The command of `at` and a space in front of this text.
-fn read_edit_at(alloc: Global, text: &[u8], hash: Kind) -> Result<Option<Command>, OutOfMemory>
-    ensures read { IfOk result (λ it. MatchOption it
-        (HasNoCommand hash (word_and (codes "at") text.now))
-        (λ command. IsCommandText hash (word_and (codes "at") text.now) (command_view command))) }
-    ensures refusal { OnErr result (HasCommand hash (word_and (codes "at") text.now)) }
+/// Parses the rest of a line after `at` and a space.
+fn read_edit_at(alloc: Global, bytes: &[u8], hash: Kind) -> Result<Option<Command>, OutOfMemory>
+    ensures found { IfOk result (λ it. MatchOption it
+        (HasNoCommand hash (keyword_and (codes "at") bytes.now))
+        (λ command. DecodesToCommand hash (keyword_and (codes "at") bytes.now) (command_view command))) }
+    ensures error { OnErr result (HasCommand hash (keyword_and (codes "at") bytes.now)) }
 {
-    let Some((prefix, rest)) = split_at_byte(text, b' ') else {
+    let Some((prefix, rest)) = split_at_byte(bytes, b' ') else {
         return Ok(None);
     };
     let Some(edit) = read_edit(alloc, rest, hash)? else {
@@ -57,37 +57,37 @@ fn read_edit_at(alloc: Global, text: &[u8], hash: Kind) -> Result<Option<Command
     Ok(Some(Command::At { prefix, edits }))
 }
 
-/// The edit whose text this is, or none: `upsert KIND HEX PATH`, `remove PATH`, `leaf PATH` or `write`.
+/// Parses an edit, `upsert KIND HEX PATH`, `remove PATH`, `leaf PATH` or `write`; else `None`.
 ///
-/// `OutOfMemory` only where the text is an edit's.
-pub fn read_edit(alloc: Global, text: &[u8], hash: Kind) -> Result<Option<Edit>, OutOfMemory>
-    ensures read { IfOk result (λ it. MatchOption it (HasNoEdit hash text.now)
-        (λ edit. IsEditText hash text.now (edit_view edit))) }
-    ensures refusal { OnErr result (HasEdit hash text.now) }
+/// `OutOfMemory` only if the bytes are an edit.
+pub fn read_edit(alloc: Global, bytes: &[u8], hash: Kind) -> Result<Option<Edit>, OutOfMemory>
+    ensures found { IfOk result (λ it. MatchOption it (HasNoEdit hash bytes.now)
+        (λ edit. DecodesToEdit hash bytes.now (edit_view edit))) }
+    ensures error { OnErr result (HasEdit hash bytes.now) }
 {
-    if let Some(entry) = after_name(text, b"upsert") {
+    if let Some(entry) = after_name(bytes, b"upsert") {
         return read_upsert(alloc, entry, hash);
     }
-    if let Some(path) = after_name(text, b"remove") {
+    if let Some(path) = after_name(bytes, b"remove") {
         let path = names_of_path(alloc, path)?;
         return Ok(Some(Edit::Remove { path }));
     }
-    if let Some(path) = after_name(text, b"leaf") {
+    if let Some(path) = after_name(bytes, b"leaf") {
         let path = names_of_path(alloc, path)?;
         return Ok(Some(Edit::RemoveLeaf { path }));
     }
-    match text {
+    match bytes {
         b"write" => Ok(Some(Edit::Write)),
         _ => Ok(None),
     }
 }
 
-/// The edit of `upsert` and a space in front of this text.
+/// Parses the rest of an edit after `upsert` and a space.
 fn read_upsert(alloc: Global, entry: &[u8], hash: Kind) -> Result<Option<Edit>, OutOfMemory>
-    ensures read { IfOk result (λ it. MatchOption it
-        (HasNoEdit hash (word_and (codes "upsert") entry.now))
-        (λ edit. IsEditText hash (word_and (codes "upsert") entry.now) (edit_view edit))) }
-    ensures refusal { OnErr result (HasEdit hash (word_and (codes "upsert") entry.now)) }
+    ensures found { IfOk result (λ it. MatchOption it
+        (HasNoEdit hash (keyword_and (codes "upsert") entry.now))
+        (λ edit. DecodesToEdit hash (keyword_and (codes "upsert") entry.now) (edit_view edit))) }
+    ensures error { OnErr result (HasEdit hash (keyword_and (codes "upsert") entry.now)) }
 {
     let Some((kind, id, path)) = entry_parts(entry, hash) else {
         return Ok(None);
@@ -96,19 +96,19 @@ fn read_upsert(alloc: Global, entry: &[u8], hash: Kind) -> Result<Option<Edit>, 
     Ok(Some(Edit::Upsert { path, kind, id }))
 }
 
-/// The kind, the id and the path of `KIND HEX PATH`, or none. It takes no memory.
+/// Parses `KIND HEX PATH` into its kind, its id and its path, or returns `None`. Allocates nothing.
 fn entry_parts(entry: &[u8], hash: Kind) -> Option<(EntryKind, ObjectId, &[u8])>
     ensures found { IfSome result (λ it. IsEntryAt hash entry.now it.0 it.1 it.2.now) }
     ensures none { IfNone result ((kind : EntryKind) (id : ObjectId) (path : List ℕ)
         → ¬ IsEntryAt hash entry.now kind id path) }
 {
-    let Some((word, behind)) = split_at_byte(entry, b' ') else {
+    let Some((token, after)) = split_at_byte(entry, b' ') else {
         return None;
     };
-    let Some(kind) = kind_of_word(word) else {
+    let Some(kind) = kind_of_name(token) else {
         return None;
     };
-    let Some((hex, path)) = split_at_byte(behind, b' ') else {
+    let Some((hex, path)) = split_at_byte(after, b' ') else {
         return None;
     };
     let Some(id) = id_of_kind(hex, hash) else {
@@ -117,12 +117,12 @@ fn entry_parts(entry: &[u8], hash: Kind) -> Option<(EntryKind, ObjectId, &[u8])>
     Some((kind, id, path))
 }
 
-/// The kind of entries that the word names, or none.
-fn kind_of_word(word: &[u8]) -> Option<EntryKind>
-    ensures { MatchOption result ((kind : EntryKind) → word.now ≢ entry_word kind)
-        (λ kind. word.now ≡ entry_word kind) }
+/// Returns the entry kind with this name, or `None`.
+fn kind_of_name(token: &[u8]) -> Option<EntryKind>
+    ensures { MatchOption result ((kind : EntryKind) → token.now ≢ entry_kind_name kind)
+        (λ kind. token.now ≡ entry_kind_name kind) }
 {
-    match word {
+    match token {
         b"tree" => Some(EntryKind::Tree),
         b"blob" => Some(EntryKind::Blob),
         b"exe" => Some(EntryKind::BlobExecutable),
@@ -132,7 +132,7 @@ fn kind_of_word(word: &[u8]) -> Option<EntryKind>
     }
 }
 
-/// The id of this kind whose hex text this is, in either case, or none.
+/// Decodes the hex digits of an id of `hash`, in either case, or returns `None`.
 fn id_of_kind(hex: &[u8], hash: Kind) -> Option<ObjectId>
     ensures { MatchOption result ((id : ObjectId) → ¬ IsHexOfId hash hex.now id)
         (λ id. IsHexOfId hash hex.now id) }

@@ -1,19 +1,19 @@
-//! The names of a path in a script.
+//! Names of the paths in a script.
 ghost use Rattle.std.specs.Prelude.{◌≢◌, IfOk, OnErr};
 ghost use Rattle.gixobj_editor.specs.Views.{path_names};
-ghost use Rattle.gixobj_hash.specs.Cuts.{IsCutAt};
+ghost use Rattle.gixobj_hash.specs.Splits.{IsSplitAtEach};
 ghost use Rattle.gixobj_script.specs.Paths.{ArePathNames, dot};
 
 use bstr::BString;
 use gixobj_hash::OutOfMemory;
-use gixobj_hash::texts::split_at_byte;
+use gixobj_hash::split::split_at_byte;
 use std::alloc::Global;
 
-/// The names of a path: none of a single `.`, and of any other all that stands between its slashes, also
-/// where no byte does. `.` takes no memory.
+/// Splits a path at each slash into its names, which may be empty. The path `.` has no names, and allocates
+/// nothing.
 pub fn names_of_path(alloc: Global, path: &[u8]) -> Result<Vec<BString>, OutOfMemory>
     ensures names { IfOk result (λ names. ArePathNames path.now (path_names names.items)) }
-    ensures refusal { OnErr result (path.now ≢ dot) }
+    ensures error { OnErr result (path.now ≢ dot) }
 {
     match path {
         b"." => Ok(Vec::new(alloc)),
@@ -21,15 +21,15 @@ pub fn names_of_path(alloc: Global, path: &[u8]) -> Result<Vec<BString>, OutOfMe
     }
 }
 
-/// What stands before, between and behind such bytes.
-fn parts_at(alloc: Global, text: &[u8], byte: u8) -> Result<Vec<BString>, OutOfMemory>
-    ensures { IfOk result (λ parts. IsCutAt byte text.now (path_names parts.items)) }
+/// Splits bytes at each occurrence of a byte.
+fn parts_at(alloc: Global, content: &[u8], byte: u8) -> Result<Vec<BString>, OutOfMemory>
+    ensures { IfOk result (λ parts. IsSplitAtEach byte content.now (path_names parts.items)) }
 {
     let mut parts = Vec::new(alloc);
-    let mut rest = text;
-    while let Some((part, behind)) = split_at_byte(rest, byte) {
+    let mut rest = content;
+    while let Some((part, after)) = split_at_byte(rest, byte) {
         parts.push(BString::from_slice(alloc, part)?)?;
-        rest = behind;
+        rest = after;
     }
     parts.push(BString::from_slice(alloc, rest)?)?;
     Ok(parts)

@@ -1,23 +1,23 @@
-//! Scripts, read whole.
+//! Parsing of scripts.
 ghost use Rattle.std.specs.Prelude.{◌≡◌, ◌≢◌, ◌++◌, [], map, IfErr, IfOk, OnOk};
 ghost use Rattle.gixobj_editor.specs.Views.{command_view};
-ghost use Rattle.gixobj_script.specs.Scripts.{IsScript, PutsLine, RefusesScriptLine, RefusesScript};
+ghost use Rattle.gixobj_script.specs.Scripts.{IsScript, AppendsLine, IsScriptLineError, IsScriptParseError};
 
 use crate::line::read_command;
 use gixobj_editor::Command;
 use gixobj_hash::OutOfMemory;
 use gixobj_hash::hash::Kind;
-use gixobj_hash::texts::split_at_byte;
+use gixobj_hash::split::split_at_byte;
 use std::alloc::{AllocFailed, Global};
 
-/// Why a script isn't read or run, or what came of it isn't told.
+/// The error of parsing a script, running it or reporting its replies.
 #[derive(Clone, Copy, Debug, PartialEq, Eq, thiserror::Error)]
 pub enum ScriptError {
-    /// The line of this number, from 1 and with empty lines counted, is the first that is neither empty nor
-    /// a command's. Nothing is run.
+    /// The line with this number is the first that is neither empty nor a command. Numbers begin with 1, and
+    /// count empty lines. Nothing is run.
     #[error("line {0}")]
     BadLine(u64),
-    /// There was no memory: for the commands, for the replies to them, or for what is told of these.
+    /// An allocation failed: for the commands, for the replies to them, or for the report.
     #[error("out of memory")]
     OutOfMemory,
 }
@@ -42,39 +42,43 @@ impl<T: Drop> From<AllocFailed<T>> for ScriptError {
     }
 }
 
-/// The commands of a script, in order: one a line, with ids of this kind. Lines end in a newline, which the
-/// last one may lack, and empty lines are skipped.
+/// Parses a script into its commands, in order, with ids of `hash`.
 ///
-/// `BadLine` says which line is the first that is neither empty nor a command's. `OutOfMemory` comes only
-/// where a line before any such one is a command's.
-pub fn read_script(alloc: Global, text: &[u8], hash: Kind) -> Result<Vec<Command>, ScriptError>
-    ensures read { IfOk result (λ commands.
-        IsScript hash text.now (map command_view commands.items)) }
-    ensures refusal { IfErr result (RefusesScript hash text.now) }
+/// Each line is a command or empty, and ends in a newline, which the last one may lack. Empty lines are
+/// skipped. Allocates the commands.
+///
+/// # Errors
+///
+/// - [`ScriptError::BadLine`] with the number of the first line that is neither empty nor a command.
+/// - [`ScriptError::OutOfMemory`] if an allocation fails for a command before any bad line.
+pub fn read_script(alloc: Global, bytes: &[u8], hash: Kind) -> Result<Vec<Command>, ScriptError>
+    ensures found { IfOk result (λ commands.
+        IsScript hash bytes.now (map command_view commands.items)) }
+    ensures error { IfErr result (IsScriptParseError hash bytes.now) }
 {
     let mut commands = Vec::new(alloc);
-    let mut rest = text;
+    let mut rest = bytes;
     let mut number = 1;
-    while let Some((line, behind)) = split_at_byte(rest, b'\n') {
-        put_line(&mut commands, alloc, number, line, hash)?;
-        rest = behind;
+    while let Some((line, after)) = split_at_byte(rest, b'\n') {
+        write_line(&mut commands, alloc, number, line, hash)?;
+        rest = after;
         number += 1;
     }
-    put_line(&mut commands, alloc, number, rest, hash)?;
+    write_line(&mut commands, alloc, number, rest, hash)?;
     Ok(commands)
 }
 
-/// Puts the command of the line of this number at the end. Of an empty line there is none.
-fn put_line(
+/// Appends the command of a line. An empty line has none.
+fn write_line(
     commands: &mut Vec<Command>,
     alloc: Global,
     number: u64,
     line: &[u8],
     hash: Kind,
 ) -> Result<(), ScriptError>
-    ensures put { OnOk result (PutsLine hash line.now (map command_view commands.old.items)
+    ensures appended { OnOk result (AppendsLine hash line.now (map command_view commands.old.items)
         (map command_view commands.new.items)) }
-    ensures refusal { IfErr result (RefusesScriptLine hash number line.now) }
+    ensures error { IfErr result (IsScriptLineError hash number line.now) }
 {
     if line.is_empty() {
         return Ok(());

@@ -1,26 +1,27 @@
-//! `tree`: the entries of a loose tree, a line each, over any reader and any two writers.
+//! The command `tree`, which lists the entries of a loose tree over any reader and any two writers.
 ghost use Rattle.std.specs.Prelude.{◌≡◌, ◌≢◌, [], ◌++◌, codes, map, IfOk, IfErr, OnErr, OnOk, ⊤};
 ghost use Rattle.std.specs.String.{string_bytes};
 ghost use Rattle.gixobj_fields.specs.Streams.{writer_view};
 ghost use Rattle.gixobj_hash.specs.Decode.{HasContent};
 ghost use Rattle.gixobj_hash.specs.declared.kind.Kind.TheVariants.{Tree};
-ghost use Rattle.gixobj_script.specs.Listing.{IsListed, IsUnlisted, Listed, RefusesList, RefusesListing, RefusesListedTree, entry_line, listing_of};
-ghost use Rattle.gixobj_show.specs.Engine.{Unwritten};
-ghost use Rattle.gixobj_show.specs.Words.{AsksFor};
+ghost use Rattle.gixobj_script.specs.Listing.{IsListed, IsUnlisted, Listed, IsListError, IsListingError, IsListedTreeError, entry_line, listing_of};
+ghost use Rattle.gixobj_show.specs.Engine.{HasWrittenNothing};
+ghost use Rattle.gixobj_show.specs.Arguments.{IsCommandOfHash};
 ghost use Rattle.gixobj_tree.specs.TreeViews.{entry_view, tree_entries};
 
 use gixobj_fields::streams::{FromRead, Sink, Source, ToWrite};
 use gixobj_hash::decode::{Error, loose_content};
 use gixobj_hash::{Kind, hash};
-use gixobj_show::Refusal;
-use gixobj_show::engine::tell;
+use gixobj_show::Failure;
+use gixobj_show::engine::report_to;
 use gixobj_show::input::read_all;
 use gixobj_tree::TreeRef;
 use gixobj_tree::tree::EntryRef;
 use std::alloc::{AllocError, Global};
 use std::io::{Read, Write};
 
-/// [`list`] over any reader and any two writers. The words ask for that.
+/// Lists a tree like [`list`], over any reader and any two writers. `words` have to request `tree` with
+/// `hash`.
 pub(crate) fn list_read<R: Read, O: Write, E: Write>(
     alloc: Global,
     words: &[String],
@@ -29,7 +30,7 @@ pub(crate) fn list_read<R: Read, O: Write, E: Write>(
     output: &mut O,
     errors: &mut E,
 ) -> u8
-    requires asked { AsksFor (map string_bytes words.now) (codes "tree") hash }
+    requires requested { IsCommandOfHash (map string_bytes words.now) (codes "tree") hash }
     ensures listed { result ≡ 0 → Listed (map string_bytes words.now) (R.remaining input.old)
         (R.remaining input.new) (writer_view (O.contents output.old))
         (writer_view (O.contents output.new)) }
@@ -49,7 +50,8 @@ pub(crate) fn list_read<R: Read, O: Write, E: Write>(
     )
 }
 
-/// Lists the tree of the input, or says why there is no list, and answers the exit status. The words ask for that.
+/// Lists the tree of the input or reports the error, and returns the status. `words` have to request `tree`
+/// with `hash`.
 pub(crate) fn list<S: Source, O: Sink, E: Sink>(
     alloc: Global,
     words: &[String],
@@ -58,7 +60,7 @@ pub(crate) fn list<S: Source, O: Sink, E: Sink>(
     output: &mut O,
     errors: &mut E,
 ) -> u8
-    requires asked { AsksFor (map string_bytes words.now) (codes "tree") hash }
+    requires requested { IsCommandOfHash (map string_bytes words.now) (codes "tree") hash }
     ensures listed { result ≡ 0 → Listed (map string_bytes words.now) (S.rest input.old)
         (S.rest input.new) (O.view output.old) (O.view output.new) }
     ensures unlisted { result ≢ 0 → IsUnlisted (map string_bytes words.now) (S.rest input.old)
@@ -70,93 +72,100 @@ pub(crate) fn list<S: Source, O: Sink, E: Sink>(
 {
     match listed(alloc, words, hash, input, output) {
         Ok(()) => 0,
-        Err(refusal) => tell(refusal, errors),
+        Err(failure) => report_to(failure, errors),
     }
 }
 
-/// Reads the input, and writes the list of its tree. The words ask for that.
+/// Reads the input, and writes the list of its tree. `words` have to request `tree` with `hash`.
 fn listed<S: Source, O: Sink>(
     alloc: Global,
     words: &[String],
     hash: hash::Kind,
     input: &mut S,
     output: &mut O,
-) -> Result<(), Refusal>
-    requires asked { AsksFor (map string_bytes words.now) (codes "tree") hash }
+) -> Result<(), Failure>
+    requires requested { IsCommandOfHash (map string_bytes words.now) (codes "tree") hash }
     ensures listed { OnOk result (Listed (map string_bytes words.now) (S.rest input.old)
         (S.rest input.new) (O.view output.old) (O.view output.new)) }
-    ensures refusal { IfErr result (RefusesList (map string_bytes words.now) (S.rest input.old)
+    ensures error { IfErr result (IsListError (map string_bytes words.now) (S.rest input.old)
         (S.rest input.new) (S.may_fail input.old) (O.view output.old) (O.view output.new)) }
-    ensures unwritten { IfErr result (Unwritten (output.new ≡ output.old)) }
+    ensures nothing_written { IfErr result (HasWrittenNothing (output.new ≡ output.old)) }
     ensures same_loans { (S.loan input.new ≡ S.loan input.old)
         × (O.loan output.new ≡ O.loan output.old) }
 {
     let bytes = read_all(alloc, input)?;
-    let text = listing(alloc, hash, bytes.as_slice())?;
-    match output.put(text.as_slice()) {
+    let listed_lines = listing(alloc, hash, bytes.as_slice())?;
+    match output.write_bytes(listed_lines.as_slice()) {
         Ok(()) => Ok(()),
-        Err(_) => Err(Refusal::OutputFailed),
+        Err(_) => Err(Failure::OutputFailed),
     }
 }
 
-/// A line for each entry of the loose tree that the input begins with, whose ids are of this kind:
-/// `<mode> <kind> <id> <name>`, the name's bytes as they are. Bytes past the tree are ignored.
+/// Lists the entries of the loose tree at the start of the input, with ids of `hash`.
 ///
-/// The refusals are those of [`show`](gixobj_show::show::show), and then `NotATree` for an object of another kind,
-/// `BadTree` where the content is no tree's text with ids of this kind, and `OutOfMemory`, where an
-/// entry was read and there is no memory for the entries or their lines.
-pub fn listing(alloc: Global, hash: hash::Kind, input: &[u8]) -> Result<Vec<u8>, Refusal>
-    ensures found { IfOk result (λ text. IsListed hash input.now text.items) }
-    ensures refusal { IfErr result (RefusesListing hash input.now) }
+/// Each entry is a line `<mode> <kind> <id> <name>`, with the name's bytes unchanged. Bytes after the tree
+/// are ignored. Allocates the entries and their lines.
+///
+/// # Errors
+///
+/// - [`Refusal::BadHeader`] if the input begins with no loose header.
+/// - [`Refusal::ShortData`] if fewer bytes follow than the size in the header.
+/// - [`Refusal::NotATree`] if the object is of another kind.
+/// - [`Refusal::BadTree`] if the content is not the encoding of a tree with ids of `hash`.
+/// - [`Refusal::OutOfMemory`] if an allocation fails: for the error of a header, or for the entries or the
+///   lines of a tree with an entry.
+pub fn listing(alloc: Global, hash: hash::Kind, input: &[u8]) -> Result<Vec<u8>, Failure>
+    ensures found { IfOk result (λ listed_lines. IsListed hash input.now listed_lines.items) }
+    ensures error { IfErr result (IsListingError hash input.now) }
 {
     let content = tree_content(alloc, input)?;
     match TreeRef::from_bytes(alloc, content, hash) {
         Ok(tree) => match lines(alloc, &tree) {
-            Ok(text) => Ok(text),
-            Err(_) => Err(Refusal::OutOfMemory),
+            Ok(listed_lines) => Ok(listed_lines),
+            Err(_) => Err(Failure::OutOfMemory),
         },
-        Err(Error::Malformed) => Err(Refusal::BadTree),
-        Err(Error::OutOfMemory) => Err(Refusal::OutOfMemory),
+        Err(Error::Malformed) => Err(Failure::BadTree),
+        Err(Error::OutOfMemory) => Err(Failure::OutOfMemory),
     }
 }
 
-/// The content of the loose tree that the input begins with.
-fn tree_content(alloc: Global, input: &[u8]) -> Result<&[u8], Refusal>
+/// Returns the content of the loose tree at the start of the input.
+fn tree_content(alloc: Global, input: &[u8]) -> Result<&[u8], Failure>
     ensures found { IfOk result (λ content. HasContent input.now Tree content.now) }
-    ensures refusal { IfErr result (RefusesListedTree input.now) }
+    ensures error { IfErr result (IsListedTreeError input.now) }
 {
     let (kind, content) = loose_content(alloc, input)?;
     match kind {
         Kind::Tree => Ok(content),
-        _ => Err(Refusal::NotATree),
+        _ => Err(Failure::NotATree),
     }
 }
 
-/// The lines of a tree's entries. A tree without entries takes no memory.
+/// Returns the lines of a tree's entries. An empty tree allocates nothing.
 fn lines(alloc: Global, tree: &TreeRef<'_>) -> Result<Vec<u8>, AllocError>
-    ensures text { IfOk result (λ text. text.items ≡ listing_of (tree_entries tree.now)) }
+    ensures encoded { IfOk result (λ listed_lines. listed_lines.items ≡ listing_of (tree_entries tree.now)) }
     ensures some { OnErr result (tree_entries tree.now ≢ []) }
 {
-    let mut text = Vec::new(alloc);
+    let mut listed_lines = Vec::new(alloc);
     for entry in &tree.entries {
-        push_line(&mut text, entry)?;
+        push_line(&mut listed_lines, entry)?;
     }
-    Ok(text)
+    Ok(listed_lines)
 }
 
 /// Appends the line of an entry.
-fn push_line(text: &mut Vec<u8>, entry: &EntryRef<'_>) -> Result<(), AllocError>
-    ensures { OnOk result (text.new.items ≡ text.old.items ++ entry_line (entry_view entry.now)) }
+fn push_line(listed_lines: &mut Vec<u8>, entry: &EntryRef<'_>) -> Result<(), AllocError>
+    ensures { OnOk result (listed_lines.new.items ≡ listed_lines.old.items ++ entry_line (entry_view entry.now)) }
 {
     let mut mode = [0u8; 6];
     let mut hex = [0u8; 64];
-    text.extend_from_slice(entry.mode.as_bytes(&mut mode).as_bytes())?;
-    text.push(b' ')?;
-    text.extend_from_slice(entry.mode.as_str().as_bytes())?;
-    text.push(b' ')?;
-    text.extend_from_slice(entry.oid.to_owned().hex_to_buf(&mut hex).as_bytes())?;
-    text.push(b' ')?;
-    text.extend_from_slice(entry.filename.as_bytes())?;
-    text.push(b'\n')?;
+    listed_lines.extend_from_slice(entry.mode.as_bytes(&mut mode).as_bytes())?;
+    listed_lines.push(b' ')?;
+    listed_lines.extend_from_slice(entry.mode.as_str().as_bytes())?;
+    listed_lines.push(b' ')?;
+    listed_lines.extend_from_slice(entry.oid.to_owned().hex_to_buf(&mut hex).as_bytes())?;
+    listed_lines.push(b' ')?;
+    listed_lines.extend_from_slice(entry.filename.as_bytes())?;
+    listed_lines.push(b'\n')?;
     Ok(())
 }

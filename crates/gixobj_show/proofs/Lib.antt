@@ -1,3 +1,3 @@
 pub mod Contents
 pub mod FewItems
-mod Refused
+mod Errors

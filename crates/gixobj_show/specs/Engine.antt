@@ -1,57 +1,61 @@
--- A run of `show`: what it reads, what it writes, and its status.
+-- The input, the lines and the exit status of a run of `show`.
 use Rattle.std.specs.Prelude.{◌≡◌, ◌⊎◌, ℕ, List, Option, codes}
 use Rattle.std.specs.Io.KnownBytes.{Consumes, IsAtEnd}
 use Rattle.gixobj_hash.specs.Decode.{IsShort}
-use Rattle.gixobj_fields.specs.Streams.{Puts, PutsFront, SinkView}
+use Rattle.gixobj_fields.specs.Streams.{AppendsAll, AppendsPrefix, SinkView}
 use Rattle.gixobj_hash.specs.declared.hash.kind.Kind as hash
-use Rattle.gixobj_show.specs.Refusal.{HasNoLooseHeader, exit_status_of, line_of}
+use Rattle.gixobj_show.specs.Failure.{HasNoLooseHeader, exit_status_of, line_of}
 use Rattle.gixobj_show.specs.Show.{IsShowLine}
-use Rattle.gixobj_show.specs.Words.{Asks, AsksElse, AsksFor}
-use Rattle.gixobj_show.specs.declared.refusal.Refusal.{Refusal}
-use Rattle.gixobj_show.specs.declared.refusal.Refusal.TheVariants.{Usage, InputFailed, OutputFailed, OutOfMemory, BadHeader, ShortData}
+use Rattle.gixobj_show.specs.Arguments.{IsCommand, IsOtherCommand, IsCommandOfHash}
+use Rattle.gixobj_show.specs.declared.failure.Failure.{Failure}
+use Rattle.gixobj_show.specs.declared.failure.Failure.TheVariants.{Usage, InputFailed, OutputFailed, OutOfMemory, BadHeader, ShortData}
 
--- these bytes are all that was left, and now none is
+-- these bytes were all the remaining ones, and now none remains
 abbrev pub ReadsAll : Option (List ℕ) → Option (List ℕ) → List ℕ → Type 0
 ReadsAll old new input = Consumes old new input × IsAtEnd new
 
--- the words ask for it, the input was read to its end, and this line tells of the object that it begins with
+-- the arguments are `show`, the input was read to its end, and the line is that of the loose object at its beginning
 abbrev pub IsAnswer : List (List ℕ) → Option (List ℕ) → Option (List ℕ) → List ℕ → Type 0
 IsAnswer words rest rest' line =
-    (hash : hash.Kind) × (input : List ℕ) × AsksFor words (codes "show") hash × ReadsAll rest rest' input × IsShowLine hash input line
+    (hash : hash.Kind) × (input : List ℕ) × IsCommandOfHash words (codes "show") hash × ReadsAll rest rest' input
+    × IsShowLine hash input line
 
--- the line that answers was put
+-- the line of the loose object was written
 abbrev pub Answered : List (List ℕ) → Option (List ℕ) → Option (List ℕ) → SinkView → SinkView → Type 0
-Answered words rest rest' out out' = (line : List ℕ) × IsAnswer words rest rest' line × Puts out out' line
+Answered words rest rest' out out' = (line : List ℕ) × IsAnswer words rest rest' line × AppendsAll out out' line
 
--- why there is no answer; where the output failed, a front of the line that answers was put
-abbrev pub RefusesAnswer : List (List ℕ) → Option (List ℕ) → Option (List ℕ) → Type 0 → SinkView → SinkView → Refusal → Type 0
-RefusesAnswer words rest rest' may_fail out out' Usage = AsksElse words (codes "show")
-RefusesAnswer words rest rest' may_fail out out' InputFailed = Asks words (codes "show") × may_fail
-RefusesAnswer words rest rest' may_fail out out' OutputFailed = (line : List ℕ) × IsAnswer words rest rest' line × PutsFront out out' line
-RefusesAnswer words rest rest' may_fail out out' OutOfMemory = Asks words (codes "show")
-RefusesAnswer words rest rest' may_fail out out' BadHeader =
-    Asks words (codes "show") × (input : List ℕ) × ReadsAll rest rest' input × HasNoLooseHeader input
-RefusesAnswer words rest rest' may_fail out out' ShortData =
-    Asks words (codes "show") × (input : List ℕ) × ReadsAll rest rest' input × IsShort input
-RefusesAnswer words rest rest' may_fail out out' _ = ⊥
+-- the run failed with this error; OutputFailed: a proper prefix of the line of the loose object was written
+abbrev pub IsAnswerError : List (List ℕ) → Option (List ℕ) → Option (List ℕ) → Type 0 → SinkView → SinkView → Failure
+    → Type 0
+IsAnswerError words rest rest' may_fail out out' Usage = IsOtherCommand words (codes "show")
+IsAnswerError words rest rest' may_fail out out' InputFailed = IsCommand words (codes "show") × may_fail
+IsAnswerError words rest rest' may_fail out out' OutputFailed = (line : List ℕ) × IsAnswer words rest rest' line
+    × AppendsPrefix out out' line
+IsAnswerError words rest rest' may_fail out out' OutOfMemory = IsCommand words (codes "show")
+IsAnswerError words rest rest' may_fail out out' BadHeader =
+    IsCommand words (codes "show") × (input : List ℕ) × ReadsAll rest rest' input × HasNoLooseHeader input
+IsAnswerError words rest rest' may_fail out out' ShortData =
+    IsCommand words (codes "show") × (input : List ℕ) × ReadsAll rest rest' input × IsShort input
+IsAnswerError words rest rest' may_fail out out' _ = ⊥
 
--- nothing was read where the words ask for nothing
-abbrev pub Unread : Type 0 → Refusal → Type 0
-Unread unchanged Usage = unchanged
-Unread unchanged _ = Unit {0}
+-- nothing was read if the arguments are invalid
+abbrev pub HasReadNothing : Type 0 → Failure → Type 0
+HasReadNothing unchanged Usage = unchanged
+HasReadNothing unchanged _ = Unit {0}
 
--- nothing was put on standard output, but where it failed
-abbrev pub Unwritten : Type 0 → Refusal → Type 0
-Unwritten unchanged OutputFailed = Unit {0}
-Unwritten unchanged _ = unchanged
+-- nothing was written to standard output, unless a write to it failed
+abbrev pub HasWrittenNothing : Type 0 → Failure → Type 0
+HasWrittenNothing unchanged OutputFailed = Unit {0}
+HasWrittenNothing unchanged _ = unchanged
 
--- the line was put, or a front of it for which there was no room
-abbrev pub Told : SinkView → SinkView → List ℕ → Type 0
-Told errors errors' line = Puts errors errors' line ⊎ PutsFront errors errors' line
+-- the line was written, or a proper prefix of it to a sink without room for it
+abbrev pub IsPrinted : SinkView → SinkView → List ℕ → Type 0
+IsPrinted errors errors' line = AppendsAll errors errors' line ⊎ AppendsPrefix errors errors' line
 
--- there is no answer, and the status and the line on standard error say why: nothing was read where the words ask for nothing, and nothing
--- was put on standard output, but where it failed
-abbrev pub IsRefusal : List (List ℕ) → Option (List ℕ) → Option (List ℕ) → Type 0 → SinkView → SinkView → SinkView → SinkView → Type 0 → Type 0 → ℕ → Type 0
-IsRefusal words rest rest' may_fail out out' errors errors' same_input same_output status =
-    (refusal : Refusal) × (status ≡ exit_status_of refusal) × RefusesAnswer words rest rest' may_fail out out' refusal
-    × Told errors errors' (line_of refusal) × Unread same_input refusal × Unwritten same_output refusal
+-- the run failed, and the status and the line on standard error report why; nothing was read if the arguments are
+-- invalid, and nothing was written to standard output, unless a write to it failed
+abbrev pub IsReportedError : List (List ℕ) → Option (List ℕ) → Option (List ℕ) → Type 0 → SinkView → SinkView → SinkView
+    → SinkView → Type 0 → Type 0 → ℕ → Type 0
+IsReportedError words rest rest' may_fail out out' errors errors' same_input same_output status =
+    (cause : Failure) × (status ≡ exit_status_of cause) × IsAnswerError words rest rest' may_fail out out' cause
+    × IsPrinted errors errors' (line_of cause) × HasReadNothing same_input cause × HasWrittenNothing same_output cause

@@ -1,9 +1,9 @@
--- Input read whole.
-use Rattle.gixobj_show.specs.declared.refusal.Refusal.{Refusal}
-use Rattle.gixobj_show.specs.declared.refusal.Refusal.TheVariants.{InputFailed, OutOfMemory}
+-- Errors of reading the input to its end.
+use Rattle.gixobj_show.specs.declared.failure.Failure.{Failure}
+use Rattle.gixobj_show.specs.declared.failure.Failure.TheVariants.{InputFailed, OutOfMemory}
 
--- why input isn't read whole: it failed, or there was no memory for it
-abbrev pub RefusesInput : Type 0 → Refusal → Type 0
-RefusesInput may_fail InputFailed = may_fail
-RefusesInput may_fail OutOfMemory = Unit {0}
-RefusesInput may_fail _ = ⊥
+-- InputFailed: the source may fail; OutOfMemory: the allocation of the bytes failed
+abbrev pub IsInputError : Type 0 → Failure → Type 0
+IsInputError may_fail InputFailed = may_fail
+IsInputError may_fail OutOfMemory = Unit {0}
+IsInputError may_fail _ = ⊥

@@ -1,5 +1,5 @@
 pub mod Engine
 pub mod Input
-pub mod Refusal
+pub mod Failure
 pub mod Show
-pub mod Words
+pub mod Arguments

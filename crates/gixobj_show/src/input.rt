@@ -1,21 +1,23 @@
-//! Standard input, read whole.
+//! Standard input, read to its end.
 ghost use Rattle.std.specs.Prelude.{◌≡◌, IfOk, IfErr, OnOk};
 ghost use Rattle.std.specs.Io.KnownBytes.{Consumes, IsAtEnd};
-ghost use Rattle.gixobj_show.specs.Input.{RefusesInput};
+ghost use Rattle.gixobj_show.specs.Input.{IsInputError};
 
-use crate::refusal::Refusal;
+use crate::failure::Failure;
 use gixobj_fields::streams::Source;
 use std::alloc::Global;
 
-/// All the bytes that are left of a source.
+/// Reads all remaining bytes of a source into a list, which allocates.
 ///
-/// The refusals are `InputFailed`, where the source fails, and `OutOfMemory`, where the bytes find
-/// no memory.
-pub fn read_all<S: Source>(alloc: Global, source: &mut S) -> Result<Vec<u8>, Refusal>
+/// # Errors
+///
+/// - [`Refusal::InputFailed`] if the source fails.
+/// - [`Refusal::OutOfMemory`] if the allocation of the bytes failed.
+pub fn read_all<S: Source>(alloc: Global, source: &mut S) -> Result<Vec<u8>, Failure>
     ensures all { IfOk result (λ bytes. Consumes (S.rest source.old) (S.rest source.new)
         bytes.items) }
     ensures end { OnOk result (IsAtEnd (S.rest source.new)) }
-    ensures refusal { IfErr result (RefusesInput (S.may_fail source.old)) }
+    ensures error { IfErr result (IsInputError (S.may_fail source.old)) }
     ensures same_loan { S.loan source.new ≡ S.loan source.old }
 {
     let mut bytes = Vec::new(alloc);
@@ -23,13 +25,13 @@ pub fn read_all<S: Source>(alloc: Global, source: &mut S) -> Result<Vec<u8>, Ref
     'chunks: loop {
         let count = match source.read_some(&mut chunk) {
             Ok(count) => count,
-            Err(_) => return Err(Refusal::InputFailed),
+            Err(_) => return Err(Failure::InputFailed),
         };
         if count == 0 {
             return Ok(bytes);
         }
         if bytes.extend_from_slice(&chunk[..count]).is_err() {
-            return Err(Refusal::OutOfMemory);
+            return Err(Failure::OutOfMemory);
         }
     }
 }

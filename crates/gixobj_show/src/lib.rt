@@ -1,11 +1,11 @@
-//! The program's command `show`, which tells what a loose object is, from its uncompressed bytes, as
-//! `<kind> <size> <id>`; and what all of its commands do alike: words, input, refusals.
+//! The program's command `show`, which prints the kind, the size and the id of an uncompressed loose
+//! object; and the arguments, the input and the errors of all its commands.
 #![tactic(auto)]
 
+pub mod arguments;
 pub mod engine;
+pub mod failure;
 pub mod input;
-pub mod refusal;
 pub mod show;
-pub mod words;
 
-pub use refusal::Refusal;
+pub use failure::Failure;

@@ -1,8 +1,8 @@
-//! `show`: the kind, the size and the id of a loose object.
+//! The kind, the size and the id of a loose object.
 ghost use Rattle.std.specs.Prelude.{◌≡◌, IfOk, IfErr};
-ghost use Rattle.gixobj_show.specs.Show.{IsShown, RefusesShow, show_line};
+ghost use Rattle.gixobj_show.specs.Show.{IsShown, IsShowError, show_line};
 
-use crate::refusal::Refusal;
+use crate::failure::Failure;
 use gixobj_hash::decode::loose_content;
 use gixobj_hash::hash::ObjectId;
 use gixobj_hash::{Kind, compute_hash, hash};
@@ -10,26 +10,30 @@ use itoa::Buffer;
 use smallvec::SmallVec;
 use std::alloc::Global;
 
-/// What `show` tells of an object.
+/// The kind, the size and the id of an object. [`show`] makes one of a loose object.
 #[derive(Clone, Copy, Debug, PartialEq, Eq)]
 pub struct Shown {
-    /// The kind of object.
+    /// The kind of the object.
     pub kind: Kind,
-    /// How many bytes its content has.
+    /// The length of the content in bytes.
     pub size: u64,
-    /// Its id.
+    /// The id of the object.
     pub id: ObjectId,
 }
 
-/// What `show` tells of the loose object that the input begins with, its id by this kind of digest.
-/// Bytes past the object are ignored.
+/// Decodes the loose object at the beginning of the input, and computes its id by this kind of hash.
 ///
-/// The refusals are `BadHeader`, where the input begins with no loose header; `ShortData`, where
-/// fewer bytes follow than the header says; and `OutOfMemory`, where the input begins with no loose
-/// header and there is no memory to say why.
-pub fn show(alloc: Global, hash: hash::Kind, input: &[u8]) -> Result<Shown, Refusal>
+/// Bytes after the object are ignored. Only the error of a malformed header allocates.
+///
+/// # Errors
+///
+/// - [`Refusal::BadHeader`] if the input does not begin with a loose header.
+/// - [`Refusal::ShortData`] if fewer bytes follow the header than it says.
+/// - [`Refusal::OutOfMemory`] if the input does not begin with a loose header, and the allocation of the
+///   error failed.
+pub fn show(alloc: Global, hash: hash::Kind, input: &[u8]) -> Result<Shown, Failure>
     ensures found { IfOk result (λ shown. IsShown hash input.now shown.kind shown.size shown.id) }
-    ensures refusal { IfErr result (RefusesShow input.now) }
+    ensures error { IfErr result (IsShowError input.now) }
 {
     let (kind, content) = loose_content(alloc, input)?;
     Ok(Shown {
@@ -40,9 +44,10 @@ pub fn show(alloc: Global, hash: hash::Kind, input: &[u8]) -> Result<Shown, Refu
 }
 
 impl Shown {
-    /// The line `<kind> <size> <id>`, with its newline. It has at most 93 bytes, so it takes no memory.
+    /// Encodes the line `<kind> <size> <id>` with its newline. It has at most 93 bytes, so nothing is
+    /// allocated.
     pub fn line(&self, alloc: Global) -> SmallVec<u8, 96>
-        ensures text { result.items ≡ show_line self.now.kind self.now.size self.now.id }
+        ensures encoded { result.items ≡ show_line self.now.kind self.now.size self.now.id }
         ensures inline { result.capacity ≡ 96 }
     {
         let mut digits = Buffer::new();

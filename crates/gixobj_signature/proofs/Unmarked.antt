@@ -1,10 +1,10 @@
--- Signatures without a marker.
+-- Plans for signatures without a marker.
 use Rattle.std.proofs.Common.{◌≡◌, List, ℕ, None, refl}
 use Rattle.gixobj_signature.specs.Plans.{done}
 use Rattle.gixobj_signature.specs.Verifiers.{OptionsView, by_open_pgp, by_ssh, by_x509}
 use Rattle.gixobj_signature.specs.Verifying.{unsupported, verify_plan}
 
--- without a marker no call is made, whoever verifies
+-- without a marker the plan makes no call, for any options
 pub no_plan : (it : OptionsView) (signature signed : List ℕ) → verify_plan it signature signed None ≡ done unsupported
 no_plan (by_open_pgp by) signature signed = refl
 no_plan (by_x509 by) signature signed = refl

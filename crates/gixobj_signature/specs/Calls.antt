@@ -1,4 +1,4 @@
--- Calls of programs and their answers, by their bytes.
+-- Calls of external programs and their answers, as contracts see them.
 use Rattle.std.specs.Prelude.{ℕ, ℤ, Bool, List, Option, Result, Ok, Err, map}
 use Rattle.std.specs.Option.{option_map}
 use Rattle.bstr.specs.Owned.{bstring_bytes}
@@ -10,9 +10,10 @@ use Rattle.gixobj_signature.specs.declared.signature.RunError.TheVariants as run
 use Rattle.gixobj_signature.specs.declared.signature.Word.{Word}
 use Rattle.gixobj_signature.specs.declared.signature.Word.TheVariants as word
 
--- a word of a call: its bytes; the path of the file of this number; the time of a signature, in seconds and an offset
+-- an argument of a call: its bytes; the path of the file of this index; a time of verification, in seconds since the
+-- epoch and an offset in seconds
 pub data WordView : Type 0 where
-  text : List ℕ → WordView
+  plain : List ℕ → WordView
   file : ℕ → WordView
   verify_time : ℤ → ℤ → WordView
 
@@ -25,34 +26,38 @@ pub record CallView : Type 0 where
   pub input : Option (List ℕ)
   pub result : Option ℕ
 
--- what a program that ran to its end answered
+-- the output of a program that ran to its end
 pub record OutputView : Type 0 where
   pub success : Bool
   pub stdout : List ℕ
   pub stderr : List ℕ
   pub result : Option (List ℕ)
 
--- why a program didn't run to its end, with the runner's text: no file, not started, not talked to, a time without a text
+-- why a program didn't run to its end, with the runner's message: no file, not started, no communication, a time that
+-- couldn't be formatted
 pub data Failure : Type 0 where
   no_file : List ℕ → Failure
   not_spawned : List ℕ → Failure
-  not_told : List ℕ → Failure
+  not_reported : List ℕ → Failure
   no_time : List ℕ → Failure
 
--- what a runner answers
+-- the answer of a runner: an output, a failure, or out of memory
 pub data Answer : Type 0 where
   ran : OutputView → Answer
   failed : Failure → Answer
   no_memory : Answer
 
+-- the view of an argument
 abbrev pub word_view : Word → WordView
-word_view (word.Text bytes) = text (bstring_bytes bytes)
+word_view (word.Text bytes) = plain (bstring_bytes bytes)
 word_view (word.File number) = file number
 word_view (word.VerifyTime time) = verify_time time.seconds time.offset
 
+-- the name and the value of an environment variable, as bytes
 abbrev pub pair_view : BString × BString → List ℕ × List ℕ
 pair_view pair = (bstring_bytes pair.0, bstring_bytes pair.1)
 
+-- the view of a call
 abbrev pub call_view : Call → CallView
 call_view call = record {
   program = bstring_bytes call.program;
@@ -63,6 +68,7 @@ call_view call = record {
   result = call.result;
 }
 
+-- the view of an output
 abbrev pub output_view : Output → OutputView
 output_view it = record {
   success = it.success;
@@ -71,10 +77,11 @@ output_view it = record {
   result = option_map (λ v. v.items) it.result;
 }
 
+-- the view of what a run returned
 abbrev pub answer_view : Result Output RunError → Answer
 answer_view (Ok output) = ran (output_view output)
 answer_view (Err (run.TemporaryFile why)) = failed (no_file (bstring_bytes why))
 answer_view (Err (run.Spawn why)) = failed (not_spawned (bstring_bytes why))
-answer_view (Err (run.Communicate why)) = failed (not_told (bstring_bytes why))
+answer_view (Err (run.Communicate why)) = failed (not_reported (bstring_bytes why))
 answer_view (Err (run.CommitTime why)) = failed (no_time (bstring_bytes why))
 answer_view (Err run.OutOfMemory) = no_memory

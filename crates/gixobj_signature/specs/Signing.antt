@@ -1,4 +1,4 @@
--- The calls by which programs are asked to sign, and what their answers make.
+-- The calls of programs that sign, and the outcomes of their answers.
 use Rattle.std.specs.Prelude.{◌≡◌, ℕ, Bool, false, List, [], ◌∷◌, ◌++◌, Option, Some, None, Result, Ok, Err, cond, codes, drop, map, nat_eq, ◌&&◌, ◌==◌}
 use Rattle.std.specs.List.{list_any, starts_with}
 use Rattle.bstr.specs.Owned.{bstring_bytes}
@@ -8,14 +8,14 @@ use Rattle.gixobj_fields.specs.declared.encode.Error as encode
 use Rattle.gixobj_hash.specs.declared.decode.Error as decode
 use Rattle.gixobj_text.specs.declared.signature.Format.{Format}
 use Rattle.gixobj_text.specs.declared.signature.Format.TheVariants as format
-use Rattle.gixobj_signature.specs.Calls.{Answer, CallView, Failure, OutputView, WordView, failed, file, no_file, no_memory, no_time, not_spawned, not_told, pair_view, ran, text}
+use Rattle.gixobj_signature.specs.Calls.{Answer, CallView, Failure, OutputView, WordView, failed, file, no_file, no_memory, no_time, not_spawned, not_reported, pair_view, ran, plain}
 use Rattle.gixobj_signature.specs.Pieces.{git_words}
-use Rattle.gixobj_signature.specs.Plans.{Goes, Plan, ask, done, no_more}
+use Rattle.gixobj_signature.specs.Plans.{IsCarriedOut, Plan, ask, done, no_more}
 use Rattle.gixobj_signature.specs.declared.signature.sign.Options.{Options}
 use Rattle.gixobj_signature.specs.declared.signature.sign.Error.{Error}
 use Rattle.gixobj_signature.specs.declared.signature.sign.Error.TheVariants as sign
 
--- who signs, and how
+-- the format, program, arguments, key and environment with which an object is signed
 pub record OptionsView : Type 0 where
   pub format : Format
   pub program : List ℕ
@@ -23,6 +23,7 @@ pub record OptionsView : Type 0 where
   pub key : List ℕ
   pub environment : List (List ℕ × List ℕ)
 
+-- the view of the options of signing
 abbrev pub options_view : Options → OptionsView
 options_view it = record {
   format = it.format;
@@ -32,7 +33,7 @@ options_view it = record {
   environment = map pair_view it.environment.items;
 }
 
--- the key of SSH that these bytes are, or none where they are the path of one (git-config, "user.signingKey")
+-- the literal SSH key of a signing key, or none if it is the path of a key file (git-config, "user.signingKey")
 abbrev pub literal_key : List ℕ → Option (List ℕ)
 literal_key key =
     cond (starts_with nat_eq key (codes "key::")) (Some (drop 5 key))
@@ -40,18 +41,18 @@ literal_key key =
 
 -- ---- the calls
 
--- OpenPGP and X.509: what is signed is the input
+-- OpenPGP and X.509: the payload is the input
 abbrev pub gpg_call : OptionsView → List ℕ → CallView
 gpg_call it payload = record {
   program = it.program;
-  words = map text it.arguments ++ text (codes "--status-fd=2") ∷ text (codes "-bsau") ∷ text it.key ∷ [];
+  words = map plain it.arguments ++ plain (codes "--status-fd=2") ∷ plain (codes "-bsau") ∷ plain it.key ∷ [];
   environment = it.environment;
   files = [];
   input = Some payload;
   result = None;
 }
 
--- SSH: a call of these words and files, with no input, which leaves the signature beside the file of this number
+-- SSH: a call with these arguments and files and no input, which may write the signature next to the file of this index
 abbrev pub leaving_call : OptionsView → List WordView → List (List ℕ) → ℕ → CallView
 leaving_call it words files result = record {
   program = it.program;
@@ -62,124 +63,141 @@ leaving_call it words files result = record {
   result = Some result;
 }
 
--- SSH: the key in a file of the caller's, and what is signed in file 0
+-- SSH: the key is in a file of the caller, and the payload is file 0
 abbrev pub path_call : OptionsView → List ℕ → CallView
 path_call it payload =
-    leaving_call it (git_words it.arguments (codes "sign") ++ text (codes "-f") ∷ text it.key ∷ file 0 ∷ []) (payload ∷ []) 0
+    leaving_call it (git_words it.arguments (codes "sign") ++ plain (codes "-f") ∷ plain it.key ∷ file 0 ∷ [])
+    (payload ∷ []) 0
 
--- SSH: the key in file 0, and what is signed in file 1
+-- SSH: the key is file 0, and the payload is file 1
 abbrev pub literal_call : OptionsView → List ℕ → List ℕ → CallView
 literal_call it key payload =
-    leaving_call it (git_words it.arguments (codes "sign") ++ text (codes "-f") ∷ file 0 ∷ text (codes "-U") ∷ file 1 ∷ [])
+    leaving_call it (git_words it.arguments (codes "sign") ++ plain (codes "-f") ∷ file 0 ∷ plain
+    (codes "-U") ∷ file 1 ∷ [])
     (key ∷ payload ∷ []) 1
 
+-- the call of an SSH program by its literal key, if there is one
 abbrev pub ssh_call_by : Option (List ℕ) → OptionsView → List ℕ → CallView
 ssh_call_by None it payload = path_call it payload
 ssh_call_by (Some key) it payload = literal_call it key payload
 
+-- the call of an SSH program for the key of the options
 abbrev pub ssh_call : OptionsView → List ℕ → CallView
 ssh_call it payload = ssh_call_by (literal_key it.key) it payload
 
--- ---- what their answers make
+-- ---- outcomes of the answers
 
--- what comes of signing
+-- an outcome of signing: the signature, or why there is none; `program_failed` has the standard error of the program
 pub data Signed : Type 0 where
   signature : List ℕ → Signed
   not_owned : decode.Error → Signed
   not_written : encode.Error → Signed
   without_key : Signed
   not_run : Failure → Signed
-  refused : List ℕ → List ℕ → Signed
+  program_failed : List ℕ → List ℕ → Signed
   not_confirmed : Signed
   without_signature : Signed
 
--- the byte is a return, and a newline comes next
+-- the byte is a carriage return, and the next one is a newline
 abbrev pub is_return_before : ℕ → List ℕ → Bool
 is_return_before byte [] = false
 is_return_before byte (next ∷ rest) = byte == 13 && next == 10
 
--- the text without each return that stands directly before a newline
+-- the bytes without each carriage return directly before a newline
 abbrev pub without_returns : List ℕ → List ℕ
 without_returns [] = []
 without_returns (byte ∷ rest) = cond (is_return_before byte rest) (without_returns rest) (byte ∷ without_returns rest)
 
--- a line says that a signature was made (gnupg, doc/DETAILS, "SIG_CREATED")
+-- a line of the standard error reports that a signature was made (gnupg, doc/DETAILS, "SIG_CREATED")
 abbrev pub confirms : List ℕ → Bool
 confirms stderr =
-    list_any (λ line. starts_with nat_eq line (codes "[GNUPG:] SIG_CREATED ")) (map without_terminator (lines_of stderr))
+    list_any (λ line. starts_with nat_eq line (codes "[GNUPG:] SIG_CREATED "))
+    (map without_terminator (lines_of stderr))
 
--- no time is told to a signer, so one without a text is a failure of the talk with the program
+-- the failure that signing reports: its calls have no time, so a time that couldn't be formatted counts as no
+-- communication
 abbrev pub sign_fails : Failure → Failure
-sign_fails (no_time why) = not_told why
+sign_fails (no_time why) = not_reported why
 sign_fails other = other
 
+-- the outcome of an OpenPGP or X.509 program's output: it has to succeed and to report the signature, which is its
+-- standard output
 abbrev pub gpg_signed : List ℕ → OutputView → Signed
 gpg_signed program it =
     cond it.success
     (cond (confirms it.stderr) (signature (without_returns it.stdout)) not_confirmed)
-    (refused program it.stderr)
+    (program_failed program it.stderr)
 
-abbrev pub left_signature : Option (List ℕ) → Signed
-left_signature (Some bytes) = signature (without_returns bytes)
-left_signature None = without_signature
+-- the signature in the file that an SSH program wrote, if it wrote one
+abbrev pub written_signature : Option (List ℕ) → Signed
+written_signature (Some bytes) = signature (without_returns bytes)
+written_signature None = without_signature
 
+-- the outcome of an SSH program's output: it has to succeed and to write a signature file
 abbrev pub ssh_signed : List ℕ → OutputView → Signed
-ssh_signed program it = cond it.success (left_signature it.result) (refused program it.stderr)
+ssh_signed program it = cond it.success (written_signature it.result) (program_failed program it.stderr)
 
--- what follows on the one answer of a signer
+-- the rest of the plan after the answer of a signing program
 abbrev pub on_signer : (OutputView → Signed) → Answer → Plan Signed
 on_signer signed (ran it) = done (signed it)
 on_signer signed (failed why) = done (not_run (sign_fails why))
 on_signer signed no_memory = no_more
 
+-- the plan of an OpenPGP or X.509 program: one call
 abbrev pub gpg_plan : OptionsView → List ℕ → Plan Signed
 gpg_plan it payload = ask (gpg_call it payload) (on_signer (gpg_signed it.program))
 
+-- the plan of an SSH program: one call
 abbrev pub ssh_plan : OptionsView → List ℕ → Plan Signed
 ssh_plan it payload = ask (ssh_call it payload) (on_signer (ssh_signed it.program))
 
+-- the plan by the format of the signature
 abbrev pub by_format : Format → OptionsView → List ℕ → Plan Signed
 by_format format.OpenPgp it payload = gpg_plan it payload
 by_format format.X509 it payload = gpg_plan it payload
 by_format format.Ssh it payload = ssh_plan it payload
 
+-- the plan by the key: without a byte in it, no call
 abbrev pub with_key : List ℕ → OptionsView → List ℕ → Plan Signed
 with_key [] it payload = done without_key
 with_key (byte ∷ rest) it payload = by_format it.format it payload
 
--- signing: no call without a key, and else one, by the format
+-- the plan of signing: no call for an empty key, else one call by the format
 abbrev pub sign_plan : OptionsView → List ℕ → Plan Signed
 sign_plan it payload = with_key it.key it payload
 
--- ---- as the code says it
+-- ---- results of calls
 
--- why nothing is signed, or none because memory ran out
-abbrev pub signer_refusal : Error → Option Signed
-signer_refusal (sign.Decode error) = Some (not_owned error)
-signer_refusal (sign.Encode error) = Some (not_written error)
-signer_refusal sign.MissingSigningKey = Some without_key
-signer_refusal (sign.TemporaryFile why) = Some (not_run (no_file (bstring_bytes why)))
-signer_refusal (sign.Spawn why) = Some (not_run (not_spawned (bstring_bytes why)))
-signer_refusal (sign.Communicate why) = Some (not_run (not_told (bstring_bytes why)))
-signer_refusal (sign.Failed program output) = Some (refused (bstring_bytes program) (bstring_bytes output))
-signer_refusal sign.MissingSignatureConfirmation = Some not_confirmed
-signer_refusal sign.MissingSshSignature = Some without_signature
-signer_refusal sign.OutOfMemory = None
+-- the outcome that an error reports, or none if memory ran out
+abbrev pub signer_error : Error → Option Signed
+signer_error (sign.Decode error) = Some (not_owned error)
+signer_error (sign.Encode error) = Some (not_written error)
+signer_error sign.MissingSigningKey = Some without_key
+signer_error (sign.TemporaryFile why) = Some (not_run (no_file (bstring_bytes why)))
+signer_error (sign.Spawn why) = Some (not_run (not_spawned (bstring_bytes why)))
+signer_error (sign.Communicate why) = Some (not_run (not_reported (bstring_bytes why)))
+signer_error (sign.Failed program output) = Some (program_failed (bstring_bytes program) (bstring_bytes output))
+signer_error sign.MissingSignatureConfirmation = Some not_confirmed
+signer_error sign.MissingSshSignature = Some without_signature
+signer_error sign.OutOfMemory = None
 
+-- the outcome that a result reports, or none if memory ran out
 abbrev pub sign_view : Result BString Error → Option Signed
 sign_view (Ok it) = Some (signature (bstring_bytes it))
-sign_view (Err error) = signer_refusal error
+sign_view (Err error) = signer_error error
 
--- what was answered comes of this plan, and the runner went so
-abbrev pub Signs : {S : Type 0} → (S → CallView → Answer → S → Type 0) → Plan Signed → S → Result BString Error → S → Type 0
-Signs runs plan old result new = Goes runs plan old (sign_view result) new
+-- the result is that of this plan between these states of the runner; if memory ran out, a prefix of its calls was made
+abbrev pub Signs : {S : Type 0} → (S → CallView → Answer → S → Type 0) → Plan Signed → S → Result BString Error → S
+    → Type 0
+Signs runs plan old result new = IsCarriedOut runs plan old (sign_view result) new
 
--- the refusal of a program that didn't run to its end, or none because memory ran out
+-- the outcome of an answer without output, or none if memory ran out
 abbrev pub not_run_view : Answer → Option Signed
 not_run_view (ran it) = None
 not_run_view (failed why) = Some (not_run (sign_fails why))
 not_run_view no_memory = None
 
--- the refusal of this program that wrote this as errors
+-- the error of this failed program, which wrote these bytes to its standard error
 abbrev pub IsFailed : BString → List ℕ → Error → Type 0
-IsFailed program stderr error = (output : BString) × (error ≡ sign.Failed program output) × (bstring_bytes output ≡ stderr)
+IsFailed program stderr error = (output : BString) × (error ≡ sign.Failed program output)
+    × (bstring_bytes output ≡ stderr)

@@ -1,4 +1,4 @@
--- Who verifies, and how.
+-- The options of verification as contracts see them.
 use Rattle.std.specs.Prelude.{ℕ, ℤ, List, Option, map}
 use Rattle.std.specs.Option.{option_map}
 use Rattle.bstr.specs.Owned.{bstring_bytes}
@@ -11,25 +11,28 @@ use Rattle.gixobj_signature.specs.declared.signature.verify.SshProgram.{SshProgr
 use Rattle.gixobj_signature.specs.declared.signature.verify.Verifier.{Verifier}
 use Rattle.gixobj_signature.specs.declared.signature.verify.Verifier.TheVariants as verifier
 
--- a program, the words before those that are fixed, what is set for it, and the least trust that is asked for
+-- a program, its arguments before the fixed ones, the environment variables set for it, and the minimum trust
 pub record ProgramView : Type 0 where
   pub program : List ℕ
   pub arguments : List (List ℕ)
   pub environment : List (List ℕ × List ℕ)
   pub minimum : TrustLevel
 
--- what a program of SSH is told besides: the file of those that may sign, that of revoked keys, and a time
+-- the options of SSH alone: the paths of the files of allowed signers and of revoked keys, and the time of
+-- verification. Its seconds are since the epoch, and its offset is in seconds
 pub record SshView : Type 0 where
   pub allowed : List ℕ
   pub revoked : Option (List ℕ)
   pub seconds : ℤ
   pub offset : ℤ
 
+-- the options by the format of the program
 pub data OptionsView : Type 0 where
   by_open_pgp : ProgramView → OptionsView
   by_x509 : ProgramView → OptionsView
   by_ssh : ProgramView → SshView → OptionsView
 
+-- the view of the options of verification
 abbrev pub options_view : Options → OptionsView
 options_view (options.OpenPgp program arguments environment minimum) =
     by_open_pgp (record {
@@ -59,7 +62,7 @@ options_view (options.Ssh program arguments environment allowed revoked time min
       offset = time.offset;
     })
 
--- the same of options that are taken apart
+-- the view of an OpenPGP or X.509 program with its options
 abbrev pub program_of : Program → ProgramView
 program_of it = record {
   program = bstring_bytes it.program;
@@ -68,6 +71,7 @@ program_of it = record {
   minimum = it.minimum_trust;
 }
 
+-- the view of an SSH program with the options that all programs have
 abbrev pub ssh_program_of : SshProgram → ProgramView
 ssh_program_of it = record {
   program = bstring_bytes it.program;
@@ -76,6 +80,7 @@ ssh_program_of it = record {
   minimum = it.minimum_trust;
 }
 
+-- the view of the options of SSH alone
 abbrev pub ssh_of : SshProgram → SshView
 ssh_of it = record {
   allowed = bstring_bytes it.allowed_signers;
@@ -84,6 +89,7 @@ ssh_of it = record {
   offset = it.verify_time.offset;
 }
 
+-- the view of a verifier, which is that of its options
 abbrev pub verifier_view : Verifier → OptionsView
 verifier_view (verifier.OpenPgp it) = by_open_pgp (program_of it)
 verifier_view (verifier.X509 it) = by_x509 (program_of it)

@@ -1,12 +1,12 @@
--- The calls by which programs are asked to verify. File 0 is the signature in each of them.
+-- The calls of programs that verify. In each of them file 0 is the signature.
 use Rattle.std.specs.Prelude.{ℕ, List, [], ◌∷◌, ◌++◌, Option, Some, None, codes, map}
-use Rattle.gixobj_signature.specs.Calls.{CallView, WordView, file, text, verify_time}
+use Rattle.gixobj_signature.specs.Calls.{CallView, WordView, file, plain, verify_time}
 use Rattle.gixobj_signature.specs.Pieces.{git_words}
 use Rattle.gixobj_signature.specs.Verifiers.{ProgramView, SshView}
 
--- a call of the program with these words, files and input
-abbrev pub whole_call : ProgramView → List WordView → List (List ℕ) → Option (List ℕ) → CallView
-whole_call it words files input = record {
+-- a call of the program with these arguments, files and input
+abbrev pub full_call : ProgramView → List WordView → List (List ℕ) → Option (List ℕ) → CallView
+full_call it words files input = record {
   program = it.program;
   words = words;
   environment = it.environment;
@@ -15,59 +15,72 @@ whole_call it words files input = record {
   result = None;
 }
 
--- ---- OpenPGP: what is signed is the input
+-- ---- OpenPGP: the signed data is the input
 
+-- the arguments of an OpenPGP program (gpg(1), "--verify")
 abbrev pub open_pgp_words : ProgramView → List WordView
 open_pgp_words it =
-    map text it.arguments
-    ++ text (codes "--keyid-format=long") ∷ text (codes "--status-fd=1") ∷ text (codes "--verify") ∷ file 0 ∷ text (codes "-") ∷ []
+    map plain it.arguments
+    ++ plain (codes "--keyid-format=long") ∷ plain (codes "--status-fd=1") ∷ plain (codes "--verify") ∷ file 0 ∷ plain
+    (codes "-") ∷ []
 
+-- the call of an OpenPGP program
 unfoldable pub open_pgp_call : ProgramView → List ℕ → List ℕ → CallView
-open_pgp_call it signature signed = whole_call it (open_pgp_words it) (signature ∷ []) (Some signed)
+open_pgp_call it signature signed = full_call it (open_pgp_words it) (signature ∷ []) (Some signed)
 
--- ---- X.509: what is signed stands in file 1
+-- ---- X.509: the signed data is file 1
 
+-- the arguments of an X.509 program
 abbrev pub x509_words : ProgramView → List WordView
-x509_words it = map text it.arguments ++ text (codes "--status-fd=1") ∷ text (codes "--verify") ∷ file 0 ∷ file 1 ∷ []
+x509_words it = map plain it.arguments ++ plain (codes "--status-fd=1") ∷ plain (codes "--verify") ∷ file 0 ∷ file 1
+    ∷ []
 
+-- the call of an X.509 program
 unfoldable pub x509_call : ProgramView → List ℕ → List ℕ → CallView
-x509_call it signature signed = whole_call it (x509_words it) (signature ∷ signed ∷ []) None
+x509_call it signature signed = full_call it (x509_words it) (signature ∷ signed ∷ []) None
 
--- ---- SSH: what is signed is the input, and answers are in English
+-- ---- SSH: the signed data is the input, and the output is in English
 
+-- the program with the environment variables LANG and LC_ALL, both C, after its own
 abbrev pub in_english : ProgramView → ProgramView
 in_english it =
     record it { environment = it.environment ++ (codes "LANG", codes "C") ∷ (codes "LC_ALL", codes "C") ∷ [] }
 
--- which principals have the key; the input is empty
+-- the call that lists the principals of the key, with an empty input (ssh-keygen(1), "-Y find-principals")
 unfoldable pub principals_call : ProgramView → SshView → List ℕ → CallView
 principals_call it ssh signature =
-    whole_call (in_english it)
-    (map text it.arguments
-    ++ text (codes "-Y") ∷ text (codes "find-principals") ∷ text (codes "-f") ∷ text ssh.allowed ∷ text (codes "-s") ∷ file 0
+    full_call (in_english it)
+    (map plain it.arguments
+    ++ plain (codes "-Y") ∷ plain (codes "find-principals") ∷ plain (codes "-f") ∷ plain ssh.allowed ∷ plain
+    (codes "-s") ∷ file 0
     ∷ verify_time ssh.seconds ssh.offset ∷ [])
     (signature ∷ []) (Some [])
 
--- whether a principal made the signature
+-- the arguments of a verification for a principal, without the revocation file (ssh-keygen(1), "-Y verify")
 abbrev pub principal_words : ProgramView → SshView → List ℕ → List WordView
 principal_words it ssh principal =
     git_words it.arguments (codes "verify")
-    ++ text (codes "-f") ∷ text ssh.allowed ∷ text (codes "-I") ∷ text principal ∷ text (codes "-s") ∷ file 0
+    ++ plain (codes "-f") ∷ plain ssh.allowed ∷ plain (codes "-I") ∷ plain principal ∷ plain (codes "-s") ∷ file 0
     ∷ verify_time ssh.seconds ssh.offset ∷ []
 
+-- the arguments for the revocation file, if there is one
 abbrev pub revocation_words : Option (List ℕ) → List WordView
 revocation_words None = []
-revocation_words (Some path) = text (codes "-r") ∷ text path ∷ []
+revocation_words (Some path) = plain (codes "-r") ∷ plain path ∷ []
 
+-- the call that verifies the signature for a principal
 unfoldable pub principal_call : ProgramView → SshView → List ℕ → List ℕ → List ℕ → CallView
 principal_call it ssh signature signed principal =
-    whole_call (in_english it) (principal_words it ssh principal ++ revocation_words ssh.revoked) (signature ∷ []) (Some signed)
+    full_call (in_english it) (principal_words it ssh principal ++ revocation_words ssh.revoked) (signature ∷ [])
+    (Some signed)
 
--- whether the signature holds, whoever made it
+-- the arguments of a check of the signature for any key (ssh-keygen(1), "-Y check-novalidate")
 abbrev pub novalidate_words : ProgramView → SshView → List WordView
 novalidate_words it ssh =
     git_words it.arguments (codes "check-novalidate")
-    ++ text (codes "-s") ∷ file 0 ∷ verify_time ssh.seconds ssh.offset ∷ []
+    ++ plain (codes "-s") ∷ file 0 ∷ verify_time ssh.seconds ssh.offset ∷ []
 
+-- the call that checks the signature for any key
 unfoldable pub novalidate_call : ProgramView → SshView → List ℕ → List ℕ → CallView
-novalidate_call it ssh signature signed = whole_call (in_english it) (novalidate_words it ssh) (signature ∷ []) (Some signed)
+novalidate_call it ssh signature signed = full_call (in_english it) (novalidate_words it ssh) (signature ∷ [])
+    (Some signed)

@@ -1,5 +1,4 @@
-//! Calls of programs, what they answer, and who makes the calls; below it what is signed, and how programs sign and
-//! verify.
+//! Calls of external programs, their output, and the trait [`Runner`] that makes the calls.
 ghost use Rattle.gixobj_signature.specs.Calls.{answer_view, call_view};
 
 pub mod sign;
@@ -12,82 +11,97 @@ use gixobj_actor::date::Time;
 pub use gixobj_report::report;
 pub use signed_data::SignedData;
 
-/// A word of a call.
+/// An argument of a [`Call`].
 #[derive(Clone, Debug, Drop, PartialEq, Eq)]
 pub enum Word {
-    /// These bytes.
+    /// An argument with these bytes.
     Text(BString),
-    /// The path of the file that holds what stands at this place of [`Call::files`].
+    /// The path of the file whose content has this index in [`Call::files`].
     File(usize),
-    /// `-Overify-time=` with the text of this time behind it, as `ssh-keygen` reads it (ssh-keygen(1), `-O`). The
-    /// runner makes the text.
+    /// `-Overify-time=` followed by this time. The runner formats it for ssh-keygen (ssh-keygen(1), `-O`).
     VerifyTime(Time),
 }
 
-/// A call of a program: all that it is told.
+/// A complete call of an external program, which a [`Runner`] makes.
 #[derive(Clone, Debug, Drop, PartialEq, Eq)]
 pub struct Call {
-    /// The program, a path or a name.
+    /// The program, as a path or a name.
     pub program: BString,
-    /// The words behind it, in order.
+    /// The arguments of the program, in order.
     pub words: Vec<Word>,
-    /// Names and values, set for this program alone.
+    /// Environment variables, as names and values, that are set for this program alone.
     pub environment: Vec<(BString, BString)>,
-    /// What stands in the files that the words name. They are there for this call alone.
+    /// The contents of the files that the arguments name. The files exist during this call alone.
     pub files: Vec<BString>,
-    /// What the program reads, or none where it gets no input at all.
+    /// The bytes of the standard input, or `None` for a program without input.
     pub input: Option<BString>,
-    /// The place of a file of [`Call::files`]: the program may leave another one at the same path with `.sig` behind
-    /// it, and what stands there is asked for.
+    /// The index in [`Call::files`] of a file next to which the program may write another one. That file has
+    /// the same path with `.sig` appended, and [`Output::result`] has its content.
     pub result: Option<usize>,
 }
 
-/// What a program that ran to its end answered.
+/// The output of a program that ran to its end; [`Runner::run`] returns it.
 #[derive(Clone, Debug, Drop, PartialEq, Eq)]
 pub struct Output {
-    /// Whether it ended with status 0.
+    /// Whether the program exited with status 0.
     pub success: bool,
-    /// What it wrote on its standard output.
+    /// The bytes that the program wrote to its standard output.
     pub stdout: Vec<u8>,
-    /// What it wrote on its standard error.
+    /// The bytes that the program wrote to its standard error.
     pub stderr: Vec<u8>,
-    /// What stands in the file that [`Call::result`] asks for, or none where there is no such file or none was asked
-    /// for.
+    /// The content of the file that [`Call::result`] requests, or `None` without a request or such a file.
     pub result: Option<Vec<u8>>,
 }
 
-/// Why a program didn't run to its end. The texts are the runner's own.
+/// Why a program didn't run to its end. Each payload is a message of the runner.
 #[derive(Debug, Drop, thiserror::Error)]
 pub enum RunError {
-    /// A file couldn't be made.
+    /// A file couldn't be created.
     #[error("no temporary file: {0}")]
     TemporaryFile(BString),
     /// The program couldn't be started.
     #[error("not started: {0}")]
     Spawn(BString),
-    /// The program couldn't be given its input, or its output couldn't be had.
+    /// The input of the program couldn't be written, or its output couldn't be read.
     #[error("no communication: {0}")]
     Communicate(BString),
-    /// A time has no text.
+    /// The time of [`Word::VerifyTime`] couldn't be formatted.
     #[error("no text of the time: {0}")]
     CommitTime(BString),
-    /// There was no memory.
+    /// An allocation failed.
     #[error("out of memory")]
     OutOfMemory,
 }
 
-/// Who makes calls of programs.
+/// Makes calls of external programs.
 ///
-/// Nothing in this crate starts a program: whoever wants one to run brings a runner. Its law says which answers a
-/// call may have, and what the call makes of the runner.
+/// No function of this crate starts a program: the caller supplies a runner. The relation `runs` says which
+/// answers a call may have, and in which state each of them leaves the runner.
 pub trait Runner {
     ghost use Rattle.gixobj_signature.specs.Calls.{Answer, CallView};
 
-    /// From this state, this call may have this answer, and then the runner is in that state.
+    /// From this state, this call may have this answer, which leaves the runner in that state.
     ghost runs: { Self → CallView → Answer → Self → Type 0 };
 
-    /// Makes the files, runs the program with `environment` set for it alone, hands it `input`, and takes the files
-    /// away. Tells what it answered, or else the case of [`RunError`].
+    /// Runs a program to its end and returns its output.
+    ///
+    /// The runner creates the files, sets `environment` for this program alone, writes `input` to its
+    /// standard input, and removes the files.
+    ///
+    /// # Errors
+    ///
+    /// The case of [`RunError`] that kept the program from its end.
+    ///
+    /// # Examples
+    ///
+    /// ```rust
+    /// fn run(&mut self, call: &Call) -> Result<Output, RunError> {
+    ///     match self.answer.clone() {
+    ///         Ok(answer) => Ok(answer),
+    ///         Err(_) => Err(RunError::OutOfMemory),
+    ///     }
+    /// }
+    /// ```
     fn run(&mut self, call: &Call) -> Result<Output, RunError>
         ensures { runs self.old (call_view call.now) (answer_view result) self.new };
 }

@@ -4,5 +4,5 @@ pub mod Names
 pub mod PlainNames
 mod TagSigned
 pub mod TagWrites
-pub mod WholeTags
-mod WrittenBack
+pub mod EntireTags
+mod Reencoded

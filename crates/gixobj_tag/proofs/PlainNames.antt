@@ -1,4 +1,5 @@
--- Names of words apart by single dots: the walk over their bytes, and that they have no fault.
+-- Lemmas on the walk over the bytes of a dotted name, and that plain names have no fault, for the proofs of
+-- `name::faults`.
 use Rattle.std.proofs.Common.{◌≡◌, ◌≢◌, ◌+◌, ◌<◌, ◌≤◌, ℕ, Bool, true, false, List, [], ◌∷◌, ◌++◌, refl, sym, ap, subst, ◌∙◌, arith, inl, inr, append_assoc, drop, get_or, length, length-append, rules}
 use Rattle.std.proofs.lemmas.Bool.{and_parts, cases_eq, false≢true, or_parts}
 use Rattle.std.proofs.lemmas.Bool.Decides.{Decides-eqb, Decides-not, nat_tests}
@@ -8,9 +9,9 @@ use Rattle.std.specs.List.{ends_with}
 use Rattle.std.specs.Prelude.{◌↔◌, ◌⊎◌, ◌==◌, ◌&&◌, ◌||◌, All, Contains, IsTrue, codes, nat_eq, not}
 use Rattle.gixobj_fields.specs.declared.encode.RefNameFault.TheVariants as fault
 use Rattle.gixobj_hash.specs.Bytes.{slash}
-use Rattle.gixobj_tag.proofs.Names.{dot_only, ends_told, lock_only}
+use Rattle.gixobj_tag.proofs.Names.{dot_only, ends_yielded, lock_only}
 use Rattle.gixobj_tag.specs.NameRule.{EndsWith, HasNoFault, Holds, IsForbidden, backslash}
-use Rattle.gixobj_tag.specs.PlainNames.{IsDotted, IsDottedBehind, IsPlainName, dot, is_plain_byte, may_follow}
+use Rattle.gixobj_tag.specs.PlainNames.{IsDotted, IsDottedAfter, IsPlainName, dot, is_plain_byte, may_follow}
 
 -- the byte is plain
 abbrev IsPlainByte : ℕ → Type 0
@@ -18,50 +19,61 @@ IsPlainByte byte = IsTrue (is_plain_byte byte)
 
 -- ---- the walk
 
--- two dots in a row are at the front, or stand further on
+-- two dots in a row are the first two bytes, or occur after the first byte
 doubled_further : (a b : ℕ) (rest : List ℕ) → Holds (codes "..") (a ∷ b ∷ rest) → ((a ≡ dot) × (b ≡ dot)) ⊎ Holds (codes "..") (b ∷ rest)
-doubled_further a b rest ([], behind, joined) = inl (cc joined, cc joined)
-doubled_further a b rest (first ∷ front, behind, joined) = inr (front, behind, cc joined)
+doubled_further a b rest ([], after, joined) = inl (cc joined, cc joined)
+doubled_further a b rest (first ∷ prefix, after, joined) = inr (prefix, after, cc joined)
 
--- one byte is not two
+-- one byte is not two dots
 not_two : (byte : ℕ) → ¬ Holds (codes "..") (byte ∷ [])
-not_two byte (front, rest, joined) = absurd (omega (arith, ap length joined, length-append (front ++ codes "..") rest, length-append front (codes "..")))
+not_two byte (prefix, rest, joined) =
+    absurd (omega (arith, ap length joined, length-append (prefix ++ codes "..") rest, length-append prefix (codes "..")))
 
--- behind one more byte
-holds_behind : (inner : List ℕ) (byte : ℕ) (text : List ℕ) → Holds inner text → Holds inner (byte ∷ text)
-holds_behind inner byte text (front, rest, joined) = (byte ∷ front, rest, ap (λ (it : List ℕ). byte ∷ it) joined)
+-- what occurs in bytes occurs after one more byte
+holds_after : (inner : List ℕ) (byte : ℕ) (content : List ℕ) → Holds inner content → Holds inner (byte ∷ content)
+holds_after inner byte content (prefix, rest, joined) = (byte ∷ prefix, rest, ap (λ (it : List ℕ). byte ∷ it) joined)
 
--- past a plain byte that does not double a dot the walk goes on
-dotted_more : (before byte : ℕ) (rest : List ℕ) → IsPlainByte byte → ¬ ((before ≡ dot) × (byte ≡ dot)) → IsDottedBehind before (byte ∷ rest) ↔ IsDottedBehind byte rest
+-- after a plain byte that doesn't double a dot the walk continues
+dotted_more : (before byte : ℕ) (rest : List ℕ) → IsPlainByte byte → ¬ ((before ≡ dot) × (byte ≡ dot))
+    → IsDottedAfter before (byte ∷ rest) ↔ IsDottedAfter byte rest
 dotted_more before byte rest plain single = (
-  λ dotted. (All-tail IsPlainByte byte rest dotted.0, λ holds. dotted.1 (holds_behind (codes "..") before _ holds)),
-  λ dotted. (All-cons IsPlainByte byte rest plain dotted.0, λ holds. (elim (doubled_further before byte (rest ++ dot ∷ []) holds) [ inl both ↦ single both | inr further ↦ dotted.1 further ])),
+  λ dotted. (All-tail IsPlainByte byte rest dotted.0, λ holds. dotted.1 (holds_after (codes "..") before _ holds)),
+  λ dotted. (
+    All-cons IsPlainByte byte rest plain dotted.0,
+    λ holds. (elim (doubled_further before byte (rest ++ dot ∷ []) holds) [ inl both ↦ single both | inr further ↦ dotted.1 further ]),
+  ),
 )
 
--- it ends at another byte, and where a dot is doubled
-not_dotted : (before byte : ℕ) (rest : List ℕ) → (is_plain_byte byte ≡ false) ⊎ ((before ≡ dot) × (byte ≡ dot)) → ¬ IsDottedBehind before (byte ∷ rest)
+-- the walk stops at a byte that isn't plain, or that doubles a dot
+not_dotted : (before byte : ℕ) (rest : List ℕ) → (is_plain_byte byte ≡ false) ⊎ ((before ≡ dot) × (byte ≡ dot)) → ¬ IsDottedAfter before (byte ∷ rest)
 not_dotted before byte rest (inl other) dotted = false≢true (sym other ∙ All-head IsPlainByte byte rest dotted.0)
 not_dotted before byte rest (inr (first, second)) dotted = dotted.1 ([], rest ++ dot ∷ [], cc (first, second))
 
--- at the end no dot may be the last byte
-dotted_end : (before : ℕ) → (before ≢ dot) ↔ IsDottedBehind before []
+-- at the end, a dot must not be the last byte
+dotted_end : (before : ℕ) → (before ≢ dot) ↔ IsDottedAfter before []
 dotted_end before = (
-  λ other. (All-nil IsPlainByte, λ holds. (elim (doubled_further before dot [] holds) [ inl both ↦ other both.0 | inr further ↦ not_two dot further ])),
+  λ other. (
+    All-nil IsPlainByte,
+    λ holds. (elim (doubled_further before dot [] holds) [ inl both ↦ other both.0 | inr further ↦ not_two dot further ]),
+  ),
   λ dotted same. dotted.1 ([], [], cc same),
 )
 
--- what the test of a byte tells, where it passes and where it fails
+-- what the test of a byte says if it passes, and if it fails
 follows : (before byte : ℕ) → may_follow before byte ≡ true → IsPlainByte byte × ¬ ((before ≡ dot) × (byte ≡ dot))
 follows before byte may =
     let parts = and_parts (is_plain_byte byte) (not (before == dot) || not (byte == dot)) may in (
       parts.0,
       λ both. (
-          let first : (not (dot == dot) || not (byte == dot)) ≡ true = subst (λ (it : ℕ). (not (it == dot) || not (byte == dot)) ≡ true) both.0 parts.1 in
-          let second : (not (dot == dot) || not (dot == dot)) ≡ true = subst (λ (it : ℕ). (not (dot == dot) || not (it == dot)) ≡ true) both.1 first in
+          let first : (not (dot == dot) || not (byte == dot)) ≡ true =
+          subst (λ (it : ℕ). (not (it == dot) || not (byte == dot)) ≡ true) both.0 parts.1 in
+          let second : (not (dot == dot) || not (dot == dot)) ≡ true =
+          subst (λ (it : ℕ). (not (dot == dot) || not (it == dot)) ≡ true) both.1 first in
           false≢true second),
     )
 
-stops_by : (before byte : ℕ) (plain : Bool) → is_plain_byte byte ≡ plain → (plain && (not (before == dot) || not (byte == dot))) ≡ false → (is_plain_byte byte ≡ false) ⊎ ((before ≡ dot) × (byte ≡ dot))
+stops_by : (before byte : ℕ) (plain : Bool) → is_plain_byte byte ≡ plain → (plain && (not (before == dot) || not (byte == dot))) ≡ false
+    → (is_plain_byte byte ≡ false) ⊎ ((before ≡ dot) × (byte ≡ dot))
 stops_by before byte false is may = inl is
 stops_by before byte true is may =
     let parts = or_parts (not (before == dot)) (not (byte == dot)) may in
@@ -73,33 +85,37 @@ stops_by before byte true is may =
       | inr other ↦ absurd (false≢true (sym fails ∙ (Decides-not (byte == dot) (Decides-eqb byte dot)).1 other))
     ]
 
--- the walk at a place in a name: on to the next byte, stopped, and at the end
-pub dotted_step : (name : List ℕ) (k before : ℕ) → k < length name → may_follow before (get_or name k 0) ≡ true → (IsDotted name ↔ IsDottedBehind before (drop k name)) → IsDotted name ↔ IsDottedBehind (get_or name k 0) (drop (k + 1) name)
+-- the walk at a position of the name: it continues, stops, or is at the end
+pub dotted_step : (name : List ℕ) (k before : ℕ) → k < length name → may_follow before (get_or name k 0) ≡ true
+    → (IsDotted name ↔ IsDottedAfter before (drop k name)) → IsDotted name ↔ IsDottedAfter (get_or name k 0) (drop (k + 1) name)
 dotted_step name k before within may sofar =
-    let left : drop k name ≡ get_or name k 0 ∷ drop (k + 1) name = at_drop_more (λ it. it) name k 0 within in
-    let tells = follows before (get_or name k 0) may in
-    let more = dotted_more before (get_or name k 0) (drop (k + 1) name) tells.0 tells.1 in (
-      λ dotted. more.0 (subst (IsDottedBehind before) left (sofar.0 dotted)),
-      λ dotted. sofar.1 (subst (IsDottedBehind before) (sym left) (more.1 dotted)),
+    let remaining : drop k name ≡ get_or name k 0 ∷ drop (k + 1) name = at_drop_more (λ it. it) name k 0 within in
+    let yields = follows before (get_or name k 0) may in
+    let more = dotted_more before (get_or name k 0) (drop (k + 1) name) yields.0 yields.1 in (
+      λ dotted. more.0 (subst (IsDottedAfter before) remaining (sofar.0 dotted)),
+      λ dotted. sofar.1 (subst (IsDottedAfter before) (sym remaining) (more.1 dotted)),
     )
 
-pub dotted_stop : (name : List ℕ) (k before : ℕ) → k < length name → may_follow before (get_or name k 0) ≡ false → (IsDotted name ↔ IsDottedBehind before (drop k name)) → ¬ IsDotted name
+pub dotted_stop : (name : List ℕ) (k before : ℕ) → k < length name → may_follow before (get_or name k 0) ≡ false
+    → (IsDotted name ↔ IsDottedAfter before (drop k name)) → ¬ IsDotted name
 dotted_stop name k before within may sofar dotted =
-    let left : drop k name ≡ get_or name k 0 ∷ drop (k + 1) name = at_drop_more (λ it. it) name k 0 within in
-    not_dotted before (get_or name k 0) (drop (k + 1) name) (stops_by before (get_or name k 0) (is_plain_byte (get_or name k 0)) refl may) (subst (IsDottedBehind before) left (sofar.0 dotted))
+    let remaining : drop k name ≡ get_or name k 0 ∷ drop (k + 1) name = at_drop_more (λ it. it) name k 0 within in
+    not_dotted before (get_or name k 0) (drop (k + 1) name) (stops_by before (get_or name k 0) (is_plain_byte (get_or name k 0)) refl may)
+    (subst (IsDottedAfter before) remaining (sofar.0 dotted))
 
-pub dotted_all : (name : List ℕ) (k before : ℕ) → length name ≤ k → (IsDotted name ↔ IsDottedBehind before (drop k name)) → IsTrue (not (before == dot)) ↔ IsDotted name
+pub dotted_all : (name : List ℕ) (k before : ℕ) → length name ≤ k → (IsDotted name ↔ IsDottedAfter before (drop k name))
+    → IsTrue (not (before == dot)) ↔ IsDotted name
 dotted_all name k before past sofar =
-    let left : drop k name ≡ [] = at_drop_all (λ it. it) name k past in
+    let remaining : drop k name ≡ [] = at_drop_all (λ it. it) name k past in
     let end = dotted_end before in
     let test = Decides-not (before == dot) (Decides-eqb before dot) in (
-      λ passes. sofar.1 (subst (IsDottedBehind before) (sym left) (end.0 (test.0 passes))),
-      λ dotted. test.1 (end.1 (subst (IsDottedBehind before) left (sofar.0 dotted))),
+      λ passes. sofar.1 (subst (IsDottedAfter before) (sym remaining) (end.0 (test.0 passes))),
+      λ dotted. test.1 (end.1 (subst (IsDottedAfter before) remaining (sofar.0 dotted))),
     )
 
--- a test of the end that has to fail
-pub not_ends : (text end : List ℕ) (r : Bool) → r ≡ ends_with nat_eq text end → IsTrue (not r) ↔ (¬ EndsWith end text)
-not_ends text end r is = Decides-not r (ends_told text end r is)
+-- the negated test decides that the bytes don't have this suffix
+pub not_ends : (content end : List ℕ) (r : Bool) → r ≡ ends_with nat_eq content end → IsTrue (not r) ↔ (¬ EndsWith end content)
+not_ends content end r is = Decides-not r (ends_yielded content end r is)
 
 -- ---- no fault
 
@@ -111,18 +127,22 @@ forbidden_not_plain : (byte : ℕ) → IsForbidden byte → is_plain_byte byte �
 forbidden_not_plain byte (inl low) = low_not_plain byte low
 forbidden_not_plain byte (inr (inl same)) = subst (λ (it : ℕ). is_plain_byte it ≡ false) (sym same) refl
 forbidden_not_plain byte (inr (inr among)) =
-    All-contains (λ it. is_plain_byte it ≡ false) (codes " ~^:?*[") byte (All-from_recursion (λ it. is_plain_byte it ≡ false) (codes " ~^:?*[") (search rules)) among
+    All-contains (λ it. is_plain_byte it ≡ false) (codes " ~^:?*[") byte
+    (All-from_recursion (λ it. is_plain_byte it ≡ false) (codes " ~^:?*[") (search rules))
+    among
 
--- plain bytes have no other among them
+-- plain bytes contain no byte that isn't plain
 no_other : (name : List ℕ) (byte : ℕ) → All IsPlainByte name → is_plain_byte byte ≡ false → ¬ Contains name byte
 no_other name byte plain other among = false≢true (sym other ∙ All-contains IsPlainByte name byte plain among)
 
--- so no text with another byte stands in them
+-- bytes with one that isn't plain don't occur in plain bytes
 not_held : (name inner : List ℕ) (byte : ℕ) → All IsPlainByte name → Contains inner byte → is_plain_byte byte ≡ false → ¬ Holds inner name
-not_held name inner byte plain among other (front, rest, joined) =
-    no_other name byte plain other (subst (λ (it : List ℕ). Contains it byte) (sym joined) (Contains-append_left (front ++ inner) rest byte (Contains-append_right front inner byte among)))
+not_held name inner byte plain among other (prefix, rest, joined) =
+    no_other name byte plain other
+    (subst (λ (it : List ℕ). Contains it byte) (sym joined)
+    (Contains-append_left (prefix ++ inner) rest byte (Contains-append_right prefix inner byte among)))
 
--- the name between two dots, in which no others stand in a row
+-- the name between two dots
 abbrev between : List ℕ → List ℕ
 between name = dot ∷ (name ++ dot ∷ [])
 
@@ -137,15 +157,20 @@ plain_no_fault name (dotted, unlocked) fault.LockSuffix has = elim (lock_only na
   | inl ends ↦ unlocked ends
   | inr holds ↦ not_held name (codes ".lock/") slash dotted.0 (5, omega arith, refl) refl holds
 ]
-plain_no_fault name (dotted, unlocked) fault.DoubleDot (front, rest, joined) =
-    let regrouped : dot ∷ ((front ++ codes ".." ++ rest) ++ dot ∷ []) ≡ (dot ∷ front) ++ codes ".." ++ (rest ++ dot ∷ []) = simp append_assoc in
-    dotted.1 (dot ∷ front, rest ++ dot ∷ [], ap between joined ∙ regrouped)
+plain_no_fault name (dotted, unlocked) fault.DoubleDot (prefix, rest, joined) =
+    let regrouped : dot ∷ ((prefix ++ codes ".." ++ rest) ++ dot ∷ []) ≡ (dot ∷ prefix) ++ codes ".." ++ (rest ++ dot ∷ []) = simp append_assoc in
+    dotted.1 (dot ∷ prefix, rest ++ dot ∷ [], ap between joined ∙ regrouped)
 plain_no_fault name (dotted, unlocked) fault.AtBrace holds = not_held name (codes "@{") 64 dotted.0 (0, omega arith, refl) refl holds
 plain_no_fault name (dotted, unlocked) fault.Backslash among = no_other name backslash dotted.0 refl among
-plain_no_fault name (dotted, unlocked) fault.InvalidByte (byte, among, forbidden) = no_other name byte dotted.0 (forbidden_not_plain byte forbidden) among
-plain_no_fault name (dotted, unlocked) fault.BadSlash (inl (rest, begins)) = not_held name (slash ∷ []) slash dotted.0 (0, omega arith, refl) refl ([], rest, begins)
-plain_no_fault name (dotted, unlocked) fault.BadSlash (inr (inl (front, ends))) = not_held name (slash ∷ []) slash dotted.0 (0, omega arith, refl) refl (front, [], ends ∙ sym (append-nil (front ++ slash ∷ [])))
-plain_no_fault name (dotted, unlocked) fault.BadSlash (inr (inr holds)) = not_held name (slash ∷ slash ∷ []) slash dotted.0 (0, omega arith, refl) refl holds
-plain_no_fault name (dotted, unlocked) fault.DotEnd (front, ends) =
-    let regrouped : dot ∷ ((front ++ codes ".") ++ dot ∷ []) ≡ ((dot ∷ front) ++ codes "..") ++ [] = simp (append_assoc, append-nil) in
-    dotted.1 (dot ∷ front, [], ap between ends ∙ regrouped)
+plain_no_fault name (dotted, unlocked) fault.InvalidByte (byte, among, forbidden) =
+    no_other name byte dotted.0 (forbidden_not_plain byte forbidden) among
+plain_no_fault name (dotted, unlocked) fault.BadSlash (inl (rest, begins)) = not_held name (slash ∷ []) slash dotted.0 (0, omega arith, refl) refl
+    ([], rest, begins)
+plain_no_fault name (dotted, unlocked) fault.BadSlash (inr (inl (prefix, ends))) =
+    not_held name (slash ∷ []) slash dotted.0 (0, omega arith, refl) refl
+    (prefix, [], ends ∙ sym (append-nil (prefix ++ slash ∷ [])))
+plain_no_fault name (dotted, unlocked) fault.BadSlash (inr (inr holds)) = not_held name (slash ∷ slash ∷ []) slash dotted.0
+    (0, omega arith, refl) refl holds
+plain_no_fault name (dotted, unlocked) fault.DotEnd (prefix, ends) =
+    let regrouped : dot ∷ ((prefix ++ codes ".") ++ dot ∷ []) ≡ ((dot ∷ prefix) ++ codes "..") ++ [] = simp (append_assoc, append-nil) in
+    dotted.1 (dot ∷ prefix, [], ap between ends ∙ regrouped)

@@ -1,44 +1,52 @@
--- Tags, written step by step: what a step refuses, the whole refuses.
+-- Tags are written step by step, and the error of a step is that of all.
 use Rattle.std.proofs.Common.{ℕ, List, [], ◌∷◌, ◌++◌, Result, ap, inl, inr, refl, ◌∙◌}
 use Rattle.std.proofs.lemmas.List.{append-nil}
 use Rattle.std.specs.Prelude.{codes}
-use Rattle.gixobj_fields.proofs.Puts.{front_first, puts_nothing, puts_or_fails_more}
-use Rattle.gixobj_fields.proofs.Refusals.{says_why_behind}
-use Rattle.gixobj_fields.specs.HeaderText.{field_text}
-use Rattle.gixobj_fields.specs.Streams.{Puts, PutsFront, PutsOrFails, SinkView}
-use Rattle.gixobj_fields.specs.Writing.{Refused, RefusesNothing, RefusesWriting}
+use Rattle.gixobj_fields.proofs.Appends.{prefix_first, nothing_appended, appends_or_fails_more}
+use Rattle.gixobj_fields.proofs.Errors.{writing_error_append}
+use Rattle.gixobj_fields.specs.HeaderFormat.{encode_field}
+use Rattle.gixobj_fields.specs.Streams.{AppendsAll, AppendsPrefix, AppendsOrFails, SinkView}
+use Rattle.gixobj_fields.specs.Writing.{RejectedValue, RejectsNothing, IsWritingError}
 use Rattle.gixobj_fields.specs.declared.encode.Error.{Error}
 use Rattle.gixobj_tag.specs.NameRule.{IsTagName}
-use Rattle.gixobj_tag.specs.TagText.{TagLines, target_text}
-use Rattle.gixobj_tag.specs.TagWriting.{RefusesTagLines, RefusesTagName, RefusesNameLine, RefusesParts}
+use Rattle.gixobj_tag.specs.TagFormat.{TagLines, encode_target}
+use Rattle.gixobj_tag.specs.TagWriting.{IsTagLinesError, IsTagNameError, IsNameLineError, IsTagPartsError}
 
--- a byte is put, and then the rest of a text
-pub byte_front : (a b : SinkView) (byte : ℕ) (rest : List ℕ) → PutsFront a b (byte ∷ []) → PutsFront a b (byte ∷ rest)
-byte_front a b byte rest part = front_first a b (byte ∷ []) rest part
+-- a byte is written, and then the rest
+pub byte_prefix : (a b : SinkView) (byte : ℕ) (rest : List ℕ) → AppendsPrefix a b (byte ∷ []) → AppendsPrefix a b (byte ∷ rest)
+byte_prefix a b byte rest part = prefix_first a b (byte ∷ []) rest part
 
-pub byte_then : {T E : Type 0} (r : Result T E) (a b c : SinkView) (byte : ℕ) (rest : List ℕ) → Puts a b (byte ∷ []) → PutsOrFails r b c rest → PutsOrFails r a c (byte ∷ rest)
-byte_then r a b c byte rest first more = puts_or_fails_more r a b c (byte ∷ []) rest first more
+pub byte_then : {T E : Type 0} (r : Result T E) (a b c : SinkView) (byte : ℕ) (rest : List ℕ) → AppendsAll a b (byte ∷ []) → AppendsOrFails r b c rest
+    → AppendsOrFails r a c (byte ∷ rest)
+byte_then r a b c byte rest first more = appends_or_fails_more r a b c (byte ∷ []) rest first more
 
-pub name_refused : (front name : List ℕ) (Refuses : Refused → List ℕ → Type 0) (value : Refused) (parts : List ℕ) → RefusesNameLine name value parts → RefusesParts front name Refuses value (front ++ parts)
-name_refused front name Refuses value parts (refused, none) = inl (refused, ap (λ (it : List ℕ). front ++ it) none ∙ append-nil front)
+pub name_rejected : (prefix name : List ℕ) (Rejects : RejectedValue → List ℕ → Type 0) (value : RejectedValue) (parts : List ℕ)
+    → IsNameLineError name value parts → IsTagPartsError prefix name Rejects value (prefix ++ parts)
+name_rejected prefix name Rejects value parts (rejected, none) = inl (rejected, ap (λ (it : List ℕ). prefix ++ it) none ∙ append-nil prefix)
 
-pub tagger_refused : (front name : List ℕ) (Refuses : Refused → List ℕ → Type 0) (value : Refused) (parts : List ℕ) → IsTagName name → Refuses value parts → RefusesParts front name Refuses value ((front ++ field_text (codes "tag") name) ++ parts)
-tagger_refused front name Refuses value parts valid refused = inr (valid, (parts, refused, refl))
+pub tagger_rejected : (prefix name : List ℕ) (Rejects : RejectedValue → List ℕ → Type 0) (value : RejectedValue) (parts : List ℕ) → IsTagName name
+    → Rejects value parts → IsTagPartsError prefix name Rejects value ((prefix ++ encode_field (codes "tag") name) ++ parts)
+tagger_rejected prefix name Rejects value parts valid rejected = inr (valid, (parts, rejected, refl))
 
-name_not_refused : (name : List ℕ) (value : Refused) → IsTagName name → RefusesTagName name value → ⊥
-name_not_refused name value valid (inl (fault, first, is)) = valid.0 fault first.here
-name_not_refused name value valid (inr (clean, dash, is)) = valid.1 dash
+name_not_rejected : (name : List ℕ) (value : RejectedValue) → IsTagName name → IsTagNameError name value → ⊥
+name_not_rejected name value valid (inl (fault, first, is)) = valid.0 fault first.here
+name_not_rejected name value valid (inr (clean, dash, is)) = valid.1 dash
 
--- nothing is refused of a name that a tag may have and a tagger that is not refused
-pub none_refused : (front name : List ℕ) (Refuses : Refused → List ℕ → Type 0) → IsTagName name → RefusesNothing Refuses → RefusesNothing (RefusesParts front name Refuses)
-none_refused front name Refuses valid none value parts (inl it) = name_not_refused name value valid it.0
-none_refused front name Refuses valid none value parts (inr (named, (line, refused, is))) = none value line refused
+-- no value is rejected if the name is valid and the tagger isn't rejected
+pub none_rejected : (prefix name : List ℕ) (Rejects : RejectedValue → List ℕ → Type 0) → IsTagName name → RejectsNothing Rejects
+    → RejectsNothing (IsTagPartsError prefix name Rejects)
+none_rejected prefix name Rejects valid none value parts (inl it) = name_not_rejected name value valid it.0
+none_rejected prefix name Rejects valid none value parts (inr (named, (line, rejected, is))) = none value line rejected
 
--- a line of a tagger as it stands is never refused
-lines_refused : (tag : TagLines) (value : Refused) (parts : List ℕ) → RefusesParts (target_text tag) tag.name (λ value line. ⊥) value parts → RefusesTagLines tag value parts
-lines_refused tag value parts (inl refused) = refused
-lines_refused tag value parts (inr (valid, (line, refused, same))) = absurd refused
+-- the unchanged value of a tagger line is never rejected
+lines_rejected : (tag : TagLines) (value : RejectedValue) (parts : List ℕ) → IsTagPartsError (encode_target tag) tag.name (λ value line. ⊥) value parts
+    → IsTagLinesError tag value parts
+lines_rejected tag value parts (inl rejected) = rejected
+lines_rejected tag value parts (inr (valid, (line, rejected, same))) = absurd rejected
 
-pub lines_say_why : (tag : TagLines) (before after : SinkView) (text : List ℕ) (error : Error) → RefusesWriting (RefusesParts (target_text tag) tag.name (λ value line. ⊥)) before after text error → RefusesWriting (RefusesTagLines tag) before after text error
-lines_say_why tag before after text error says =
-    says_why_behind (RefusesParts (target_text tag) tag.name (λ value line. ⊥)) (RefusesTagLines tag) before before after [] text text (puts_nothing before) (lines_refused tag) (λ front. front) error says
+pub lines_say_why : (tag : TagLines) (before after : SinkView) (bytes : List ℕ) (error : Error)
+    → IsWritingError (IsTagPartsError (encode_target tag) tag.name (λ value line. ⊥)) before after bytes error
+    → IsWritingError (IsTagLinesError tag) before after bytes error
+lines_say_why tag before after bytes error says =
+    writing_error_append (IsTagPartsError (encode_target tag) tag.name (λ value line. ⊥)) (IsTagLinesError tag) before before after [] bytes bytes
+    (nothing_appended before) (lines_rejected tag) (λ prefix. prefix) error says

@@ -6,12 +6,12 @@ pub mod Rewriting
 pub mod Signed
 pub mod TagOwned
 pub mod TagSigning
-pub mod TagText
+pub mod TagFormat
 pub mod TagViews
 pub mod TagWriting
 pub use Rattle.gixobj_actor.specs.Actor
 pub use Rattle.gixobj_fields.specs.HeaderReading
-pub use Rattle.gixobj_fields.specs.HeaderText
+pub use Rattle.gixobj_fields.specs.HeaderFormat
 pub use Rattle.gixobj_fields.specs.Runs
 pub use Rattle.gixobj_hash.specs.Hash
 pub use Rattle.gixobj_hash.specs.Kind

@@ -1,5 +1,5 @@
--- Which names a tag may have (git-check-ref-format, "DESCRIPTION"; git-tag, "<tagname>"). A name is what
--- stands behind `refs/tags/` in that of the reference, so `@` alone is one.
+-- The names that a tag may have (git-check-ref-format, "DESCRIPTION"; git-tag, "<tagname>"). A name is what follows
+-- `refs/tags/` in that of the reference, so `@` alone is one.
 use Rattle.std.specs.Prelude.{◌≡◌, ◌<◌, ◌⊎◌, ℕ, List, [], ◌∷◌, ◌++◌, All, Contains, codes}
 use Rattle.gixobj_fields.specs.declared.encode.Error.{Error as WriterError}
 use Rattle.gixobj_fields.specs.declared.encode.Error.TheVariants as writer
@@ -8,46 +8,48 @@ use Rattle.gixobj_fields.specs.declared.encode.RefNameFault.TheVariants as fault
 use Rattle.gixobj_tag.specs.declared.name.Error.{Error}
 use Rattle.gixobj_tag.specs.declared.name.Error.TheVariants.{InvalidRefName, StartsWithDash}
 use Rattle.gixobj_hash.specs.Bytes.{slash}
-use Rattle.gixobj_hash.specs.Texts.{IsFree}
+use Rattle.gixobj_hash.specs.ByteStrings.{IsByteFree}
 
--- ---- texts in a text
+-- ---- occurrences and parts
 
--- the text begins with this front
+-- the bytes begin with this prefix
 abbrev pub BeginsWith : List ℕ → List ℕ → Type 0
-BeginsWith front text = (rest : List ℕ) × (text ≡ front ++ rest)
+BeginsWith prefix bytes = (rest : List ℕ) × (bytes ≡ prefix ++ rest)
 
--- the text ends with this end
+-- the bytes end with this suffix
 abbrev pub EndsWith : List ℕ → List ℕ → Type 0
-EndsWith end text = (front : List ℕ) × (text ≡ front ++ end)
+EndsWith end bytes = (prefix : List ℕ) × (bytes ≡ prefix ++ end)
 
--- the inner text stands somewhere in the text
+-- the inner bytes occur in the bytes
 abbrev pub Holds : List ℕ → List ℕ → Type 0
-Holds inner text = (front rest : List ℕ) × (text ≡ front ++ inner ++ rest)
+Holds inner bytes = (prefix rest : List ℕ) × (bytes ≡ prefix ++ inner ++ rest)
 
 -- a part of the name: it has no slash in it, and a slash or an end of the name on either side
 pub record IsPart (name part : List ℕ) : Type 0 where
   pub before : List ℕ
-  pub behind : List ℕ
-  pub joined : name ≡ before ++ part ++ behind
+  pub following : List ℕ
+  pub joined : name ≡ before ++ part ++ following
   pub opens : (before ≡ []) ⊎ EndsWith (slash ∷ []) before
-  pub closes : (behind ≡ []) ⊎ BeginsWith (slash ∷ []) behind
-  pub one : IsFree slash part
+  pub closes : (following ≡ []) ⊎ BeginsWith (slash ∷ []) following
+  pub one : IsByteFree slash part
 
 -- ---- faults
 
+-- the byte of a backslash
 abbrev pub backslash : ℕ
 backslash = 92
 
+-- the control character DEL
 abbrev pub delete : ℕ
 delete = 127
 
--- the byte is a control character, a space, or one that git reads in revisions, refspecs and patterns
+-- the byte is a control character, a space, or one with a meaning in git's revisions, refspecs and patterns
 abbrev pub IsForbidden : ℕ → Type 0
 IsForbidden byte = (byte < 32) ⊎ (byte ≡ delete) ⊎ Contains (codes " ~^:?*[") byte
 
 -- the name has this fault
 abbrev pub HasFault : RefNameFault → List ℕ → Type 0
--- it has no byte
+-- it is empty
 HasFault fault.Empty name = name ≡ []
 -- a part begins with a dot
 HasFault fault.DotStart name = (part : List ℕ) × IsPart name part × BeginsWith (codes ".") part
@@ -55,22 +57,24 @@ HasFault fault.DotStart name = (part : List ℕ) × IsPart name part × BeginsWi
 HasFault fault.LockSuffix name = (part : List ℕ) × IsPart name part × EndsWith (codes ".lock") part
 -- two dots follow each other
 HasFault fault.DoubleDot name = Holds (codes "..") name
--- an at sign stands before an opening brace
+-- an at sign precedes an opening brace
 HasFault fault.AtBrace name = Holds (codes "@{") name
 -- there is a backslash
 HasFault fault.Backslash name = Contains name backslash
--- there is a byte that is forbidden
+-- there is a forbidden byte
 HasFault fault.InvalidByte name = (byte : ℕ) × Contains name byte × IsForbidden byte
 -- a slash is first or last, or two follow each other
-HasFault fault.BadSlash name = BeginsWith (slash ∷ []) name ⊎ EndsWith (slash ∷ []) name ⊎ Holds (slash ∷ slash ∷ []) name
+HasFault fault.BadSlash name = BeginsWith (slash ∷ []) name ⊎ EndsWith (slash ∷ []) name
+    ⊎ Holds (slash ∷ slash ∷ []) name
 -- the last byte is a dot
 HasFault fault.DotEnd name = EndsWith (codes ".") name
 
--- the faults, in the order in which they are looked for
+-- the faults, in the order in which they are tested
 abbrev pub faults : List RefNameFault
-faults = fault.Empty ∷ fault.DotStart ∷ fault.LockSuffix ∷ fault.DoubleDot ∷ fault.AtBrace ∷ fault.Backslash ∷ fault.InvalidByte ∷ fault.BadSlash ∷ fault.DotEnd ∷ []
+faults = fault.Empty ∷ fault.DotStart ∷ fault.LockSuffix ∷ fault.DoubleDot ∷ fault.AtBrace ∷ fault.Backslash
+    ∷ fault.InvalidByte ∷ fault.BadSlash ∷ fault.DotEnd ∷ []
 
--- the first of them that the name has
+-- the first fault that the name has
 pub record IsFirstFault (name : List ℕ) (first : RefNameFault) : Type 0 where
   pub before : List RefNameFault
   pub after : List RefNameFault
@@ -78,7 +82,7 @@ pub record IsFirstFault (name : List ℕ) (first : RefNameFault) : Type 0 where
   pub none : All (λ earlier. ¬ HasFault earlier name) before
   pub here : HasFault first name
 
--- the name has none of them
+-- the name has no fault
 abbrev pub HasNoFault : List ℕ → Type 0
 HasNoFault name = (each : RefNameFault) → ¬ HasFault each name
 
@@ -88,16 +92,16 @@ HasNoFault name = (each : RefNameFault) → ¬ HasFault each name
 abbrev pub BeginsWithDash : List ℕ → Type 0
 BeginsWithDash name = BeginsWith (codes "-") name
 
--- a tag may have this name: it has no fault and no dash at its front
+-- a tag may have this name: it has no fault and doesn't begin with a dash
 abbrev pub IsTagName : List ℕ → Type 0
 IsTagName name = HasNoFault name × ¬ BeginsWithDash name
 
--- why no tag may have it: its first fault, or where it has none the dash
-abbrev pub RefusesTagName : List ℕ → Error → Type 0
-RefusesTagName name (InvalidRefName first) = IsFirstFault name first
-RefusesTagName name StartsWithDash = HasNoFault name × BeginsWithDash name
+-- the error of a name: its first fault or, without one, the dash
+abbrev pub IsTagNameError : List ℕ → Error → Type 0
+IsTagNameError name (InvalidRefName first) = IsFirstFault name first
+IsTagNameError name StartsWithDash = HasNoFault name × BeginsWithDash name
 
--- that refusal as a writer's
+-- the error of writing for the error of a name
 abbrev pub writer_error : Error → WriterError
 writer_error StartsWithDash = writer.StartsWithDash
 writer_error (InvalidRefName first) = writer.InvalidRefName first

@@ -1,24 +1,24 @@
--- Tags that are read and written back.
+-- Tags that are decoded and encoded again.
 use Rattle.std.specs.Prelude.{◌≡◌, ◌⊎◌, ℕ, List, IsFalse, Option, None, Some}
 use Rattle.std.specs.Str.{str_to_ascii_lowercase}
 use Rattle.gixobj_actor.specs.ActorWriting.{IsCanonical, IsUnwritable}
-use Rattle.gixobj_fields.specs.Streams.{PutsFront, SinkView}
+use Rattle.gixobj_fields.specs.Streams.{AppendsPrefix, SinkView}
 use Rattle.gixobj_fields.specs.declared.encode.Error.{Error}
 use Rattle.gixobj_fields.specs.declared.encode.Error.TheVariants as error
 use Rattle.gixobj_tag.specs.NameRule.{BeginsWithDash, HasNoFault, IsFirstFault}
-use Rattle.gixobj_tag.specs.TagText.{TagLines, are_newlines}
+use Rattle.gixobj_tag.specs.TagFormat.{TagLines, are_newlines}
 
--- the tag is written as it was read: it is unsigned, or its message is more than newlines
-abbrev pub KeepsBody : TagLines → Type 0
-KeepsBody tag = (tag.signature ≡ None) ⊎ IsFalse (are_newlines tag.message)
+-- the tag is encoded as it was decoded: it is unsigned, or its message isn't newlines alone
+abbrev pub PreservesBody : TagLines → Type 0
+PreservesBody tag = (tag.signature ≡ None) ⊎ IsFalse (are_newlines tag.message)
 
--- the tagger of the line as it is written, or none without a line
+-- the value of the tagger line as an owned tag writes it, or none without a line
 pub data IsCanonicalTagger : Option (List ℕ) → Option (List ℕ) → Type 0 where
   no_tagger : IsCanonicalTagger None None
   canonical_tagger : (line written : List ℕ) → IsCanonical line written → IsCanonicalTagger (Some line) (Some written)
 
--- the parts of a tag as its owned form has them: the id in lower case, the tagger as it is written, all else as it is
-pub record AreOwnPartsOfTag (tag own : TagLines) : Type 0 where
+-- the fields of a tag's owned form: the id in lower case, the tagger as it is written, the others unchanged
+pub record AreNormalizedPartsOfTag (tag own : TagLines) : Type 0 where
   pub target : own.target ≡ str_to_ascii_lowercase tag.target
   pub target_kind : own.target_kind ≡ tag.target_kind
   pub name : own.name ≡ tag.name
@@ -30,10 +30,10 @@ pub record AreOwnPartsOfTag (tag own : TagLines) : Type 0 where
 abbrev pub HasUnwritableTagger : TagLines → Type 0
 HasUnwritableTagger tag = (line : List ℕ) × (tag.tagger ≡ Some line) × IsUnwritable line
 
--- why the owned form of a tag is not written: there was no room for the text, the name is none of a tag, or the tagger can't be written
-abbrev pub RefusesOwnFormOfTag : TagLines → SinkView → SinkView → List ℕ → Error → Type 0
-RefusesOwnFormOfTag tag before after text (error.Writer cause) = PutsFront before after text
-RefusesOwnFormOfTag tag before after text (error.InvalidRefName fault) = IsFirstFault tag.name fault
-RefusesOwnFormOfTag tag before after text error.StartsWithDash = HasNoFault tag.name × BeginsWithDash tag.name
-RefusesOwnFormOfTag tag before after text error.IllegalActor = HasUnwritableTagger tag
-RefusesOwnFormOfTag tag before after text _ = ⊥
+-- the error of writing a tag's owned form: the sink failed after a prefix, or the name or the tagger isn't valid in it
+abbrev pub IsNormalizedTagError : TagLines → SinkView → SinkView → List ℕ → Error → Type 0
+IsNormalizedTagError tag before after bytes (error.Writer cause) = AppendsPrefix before after bytes
+IsNormalizedTagError tag before after bytes (error.InvalidRefName fault) = IsFirstFault tag.name fault
+IsNormalizedTagError tag before after bytes error.StartsWithDash = HasNoFault tag.name × BeginsWithDash tag.name
+IsNormalizedTagError tag before after bytes error.IllegalActor = HasUnwritableTagger tag
+IsNormalizedTagError tag before after bytes _ = ⊥

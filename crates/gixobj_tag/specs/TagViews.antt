@@ -1,16 +1,16 @@
--- Tags as their readers see them, wherever they lie.
+-- Tags as contracts see them, borrowed or owned.
 use Rattle.std.specs.Prelude.{ℕ, List, Option, Some, None}
 use Rattle.bstr.specs.BStr.{bstr_bytes}
 use Rattle.bstr.specs.Owned.{bstring_bytes}
-use Rattle.gixobj_actor.specs.ActorWriting.{owned_text}
+use Rattle.gixobj_actor.specs.ActorWriting.{encode_owned_actor}
 use Rattle.gixobj_actor.specs.declared.actor.Signature.{Signature}
-use Rattle.gixobj_hash.specs.Hash.{hex_text}
-use Rattle.gixobj_tag.specs.TagText.{TagLines}
+use Rattle.gixobj_hash.specs.Hash.{encode_id_hex}
+use Rattle.gixobj_tag.specs.TagFormat.{TagLines}
 use Rattle.gixobj_tag.specs.declared.tag.Tag.{Tag}
 use Rattle.gixobj_tag.specs.declared.tag.TagRef.{TagRef}
 use Rattle.gixobj_hash.specs.Optional.{bytes_if_some, owned_bytes_if_some}
 
--- what a borrowed tag holds
+-- the fields of a borrowed tag
 abbrev pub tag_lines : TagRef → TagLines
 tag_lines tag = record {
   target = bstr_bytes tag.target;
@@ -21,15 +21,15 @@ tag_lines tag = record {
   signature = bytes_if_some tag.signature;
 }
 
--- the line of an owned tagger as it is written
+-- the value of the tagger line that an owned tagger writes
 abbrev pub owned_tagger : Option Signature → Option (List ℕ)
 owned_tagger None = None
-owned_tagger (Some actor) = Some (owned_text actor)
+owned_tagger (Some actor) = Some (encode_owned_actor actor)
 
--- what an owned tag holds: its id in lower case, its tagger and the time as they are written
+-- the fields of an owned tag: its id in lower case, its tagger and the time as they are written
 abbrev pub owned_tag_lines : Tag → TagLines
 owned_tag_lines tag = record {
-  target = hex_text tag.target;
+  target = encode_id_hex tag.target;
   target_kind = tag.target_kind;
   name = bstring_bytes tag.name;
   tagger = owned_tagger tag.tagger;

@@ -1,7 +1,8 @@
-//! Laws of tags: most functions do nothing, and their contract is the law.
+//! Laws of tags. Most of these functions do nothing, and their contract is the law.
 
 mod tags;
 
 pub use tags::{
-    owned_tags_have_the_parts, tag_has_one_reading, tag_reads_and_writes, tag_writes_back,
+    owned_tag_has_same_parts, tag_decode_encode_agree, tag_decodes_uniquely,
+    tag_reencodes_identically,
 };

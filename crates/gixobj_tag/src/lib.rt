@@ -1,5 +1,5 @@
-//! Tags, read whole, copied, signed and written; and the names that they may have (gitdatamodel,
-//! "tag objects"; git-check-ref-format, "DESCRIPTION").
+//! Decoding, copying, signing and writing of tags, and the names that tags may have (gitdatamodel, "tag
+//! objects"; git-check-ref-format, "DESCRIPTION").
 #![tactic(auto)]
 
 pub mod laws;

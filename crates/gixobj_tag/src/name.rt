@@ -1,7 +1,7 @@
 //! The names that tags may have (git-check-ref-format, "DESCRIPTION").
 ghost use Rattle.std.specs.Prelude.{◌≡◌, ◌↔◌, IfErr, IfOk, IsOk};
 ghost use Rattle.bstr.specs.BStr.{bstr_bytes};
-ghost use Rattle.gixobj_tag.specs.NameRule.{IsTagName, RefusesTagName};
+ghost use Rattle.gixobj_tag.specs.NameRule.{IsTagName, IsTagNameError};
 
 mod faults;
 
@@ -9,13 +9,13 @@ use bstr::BStr;
 use faults::first_fault;
 use gixobj_fields::encode::{self, RefNameFault};
 
-/// The refusal of [`validated_name`].
+/// The error of [`validated_name`].
 #[derive(Clone, Copy, Debug, PartialEq, Eq, thiserror::Error)]
 pub enum Error {
     /// The name begins with `-`.
     #[error("the name of a tag begins with `-`")]
     StartsWithDash,
-    /// The name can't be that of a reference.
+    /// The name isn't valid for a reference. The payload is its first fault.
     #[error("the name of a tag: {0}")]
     InvalidRefName(RefNameFault),
 }
@@ -23,25 +23,30 @@ pub enum Error {
 impl From<Error> for encode::Error {
     ghost use Rattle.gixobj_tag.specs.NameRule.{writer_error};
 
-    ghost from_gives = { λ refusal error. error ≡ writer_error refusal };
+    ghost from_gives = { λ failure error. error ≡ writer_error failure };
 
-    fn from(refusal: Error) -> encode::Error {
-        match refusal {
+    fn from(failure: Error) -> encode::Error {
+        match failure {
             Error::StartsWithDash => encode::Error::StartsWithDash,
             Error::InvalidRefName(fault) => encode::Error::InvalidRefName(fault),
         }
     }
 }
 
-/// The name, where a tag may have it (git-check-ref-format, "DESCRIPTION"; git-tag, "<tagname>").
+/// Returns the name if a tag may have it (git-check-ref-format, "DESCRIPTION"; git-tag, "<tagname>").
 ///
-/// `InvalidRefName` has the first fault of the name, in the order of [`RefNameFault`]. A name without
-/// a fault is refused by `StartsWithDash` where its first byte is `-`: a command takes it for an
-/// option. It takes no memory.
+/// Allocates nothing.
+///
+/// # Errors
+///
+/// - [`Error::InvalidRefName`], with the first fault of the name in the order of [`RefNameFault`], if it has
+///   one.
+/// - [`Error::StartsWithDash`] if a name without a fault begins with `-`, which a command parses as an
+///   option.
 pub fn validated_name(name: BStr<'_>) -> Result<BStr<'_>, Error>
     ensures accepted { IsOk result ↔ IsTagName (bstr_bytes name.entry) }
     ensures same { IfOk result (λ it. bstr_bytes it ≡ bstr_bytes name.entry) }
-    ensures refusal { IfErr result (RefusesTagName (bstr_bytes name.entry)) }
+    ensures error { IfErr result (IsTagNameError (bstr_bytes name.entry)) }
 {
     let bytes = name.as_bytes();
     if let Some(fault) = first_fault(bytes) {

@@ -1,10 +1,10 @@
-//! Tags (gitdatamodel, "tag objects").
+//! Borrowed and owned tags (gitdatamodel, "tag objects").
 ghost use Rattle.std.specs.Prelude.{◌≡◌, IfErr, IfOk};
 ghost use Rattle.bstr.specs.BStr.{bstr_bytes};
-ghost use Rattle.gixobj_hash.specs.Hash.{IsHexOfAnId, Spells};
+ghost use Rattle.gixobj_hash.specs.Hash.{IsIdHex, DecodesToId};
 ghost use Rattle.gixobj_hash.specs.declared.decode.Error.TheVariants.{Malformed};
 ghost use Rattle.gixobj_tag.specs.Signed.{IsSignature};
-ghost use Rattle.gixobj_tag.specs.TagOwned.{IsBadTagger, IsOwnedFormOfTag, IsTrimmedTagger, RefusesOwningTag};
+ghost use Rattle.gixobj_tag.specs.TagOwned.{IsBadTagger, IsOwnedFormOfTag, IsTrimmedTagger, IsIntoOwnedTagError};
 ghost use Rattle.gixobj_tag.specs.TagViews.{owned_tag_lines, tag_lines};
 ghost use Rattle.gixobj_hash.specs.Optional.{bytes_if_some};
 
@@ -25,60 +25,75 @@ use gixobj_text::signature;
 use gixobj_text::signature::Format;
 use std::alloc::Global;
 
-/// A tag, borrowed: its fields as they stand in its text.
+/// A borrowed tag, with its fields as they are encoded. [`TagRef::from_bytes`] decodes one.
 #[derive(Clone, Copy, Debug, PartialEq, Eq, PartialOrd, Ord, Hash)]
 pub struct TagRef<'a> {
-    /// The hex text of the id of the object that is tagged. [`TagRef::target`] is the id.
+    /// The id of the tagged object in hex. [`TagRef::target`] decodes it.
     pub target: BStr<'a>,
-    /// The kind of that object.
+    /// The kind of the tagged object.
     pub target_kind: Kind,
     /// The name of the tag, such as `v1.0`.
     pub name: BStr<'a>,
-    /// The line of the tagger, white space and all, or none. [`TagRef::tagger`] takes it apart.
+    /// The value of the tagger line with all its white space, or `None` without that line. [`TagRef::tagger`]
+    /// decodes it.
     pub tagger: Option<BStr<'a>>,
     /// The message, without the newline before the signature, if there is one.
     pub message: BStr<'a>,
-    /// The signature at the end of the tag, from its marker on, or none. [`TagRef::signature`] says of
-    /// which format it is.
+    /// The signature at the end of the tag, from its marker on, or `None`. [`TagRef::signature`] detects its
+    /// format.
     pub signature: Option<BStr<'a>>,
 }
 
-/// A tag, owned.
+/// An owned tag. [`TagRef::into_owned`] makes one.
 #[derive(Clone, Debug, Drop, PartialEq, Eq, PartialOrd, Ord, Hash)]
 pub struct Tag {
-    /// The id of the object that is tagged.
+    /// The id of the tagged object.
     pub target: ObjectId,
-    /// The kind of that object.
+    /// The kind of the tagged object.
     pub target_kind: Kind,
     /// The name of the tag, such as `v1.0`.
     pub name: BString,
-    /// Who made the tag, or none.
+    /// Who made the tag and when, or `None`.
     pub tagger: Option<Signature>,
     /// The message, without the newline before the signature, if there is one.
     pub message: BString,
-    /// The signature, which is written behind the message and a newline, or none.
+    /// The signature, which is written after the message and a newline, or `None`.
     pub signature: Option<BString>,
 }
 
 /// Access
 impl<'a> TagRef<'a> {
-    /// The id of the object that is tagged. It takes no memory.
+    /// Returns the id of the tagged object. Allocates nothing.
     ///
-    /// The hex field `target` must be an id, as that of every tag that was read is.
+    /// The field `target` must be an id in hex, as it is in each tag that [`TagRef::from_bytes`] returns.
     pub fn target(&self) -> ObjectId
-        requires { IsHexOfAnId (tag_lines self.now).target }
-        ensures { Spells (tag_lines self.now).target result }
+        requires { IsIdHex (tag_lines self.now).target }
+        ensures { DecodesToId (tag_lines self.now).target result }
     {
         id_of_hex(self.target)
     }
 
-    /// Who made the tag, without white space at the ends of name, email and time, or none where the tag
-    /// has no line of a tagger.
+    /// Decodes the tagger, or returns `None` without a tagger line. Allocates nothing.
     ///
-    /// `Malformed` where bytes follow the actor of that line, or it is none. It takes no memory.
+    /// Name, email and time have no white space at their ends.
+    ///
+    /// # Errors
+    ///
+    /// [`Error::Malformed`] if the tagger line is no actor, or if bytes follow the actor.
+    ///
+    /// # Examples
+    ///
+    /// ```rust
+    /// pub fn tagger_email(bytes: &[u8]) -> Result<Option<BStr<'_>>, decode::Error> {
+    ///     match TagRef::from_bytes(bytes, HashKind::Sha1)?.tagger()? {
+    ///         Some(tagger) => Ok(Some(tagger.email)),
+    ///         None => Ok(None),
+    ///     }
+    /// }
+    /// ```
     pub fn tagger(&self) -> Result<Option<SignatureRef<'a>>, Error>
         ensures found { IfOk result (IsTrimmedTagger (tag_lines self.now).tagger) }
-        ensures refusal { IfErr result (λ e. (e ≡ Malformed)
+        ensures error { IfErr result (λ e. (e ≡ Malformed)
             × IsBadTagger (tag_lines self.now).tagger) }
     {
         match self.tagger {
@@ -87,8 +102,9 @@ impl<'a> TagRef<'a> {
         }
     }
 
-    /// The signature and its format, or none where there is no signature or no marker begins it
-    /// (gitformat-signature, "DESCRIPTION"). It takes no memory.
+    /// Returns the signature with its format (gitformat-signature, "DESCRIPTION"). Allocates nothing.
+    ///
+    /// Returns `None` without a signature, or if it begins with no known marker.
     pub fn signature(&self) -> Option<signature::SignatureRef<'a>>
         ensures { IsSignature (tag_lines self.now).signature result }
     {
@@ -98,17 +114,20 @@ impl<'a> TagRef<'a> {
 
 /// Conversion
 impl TagRef<'_> {
-    /// The same tag, with parts of its own: the id, the tagger as it stands with its time, and copies of
-    /// the rest. The time is the start of 1970 in UTC where its text says none.
+    /// Copies the tag to an owned one.
     ///
-    /// The hex field `target` must be an id, as that of every tag that was read is.
+    /// The id is decoded, and the tagger is not trimmed. A time that doesn't decode becomes the start of 1970
+    /// in UTC. The field `target` must be an id in hex, as it is in each tag that [`TagRef::from_bytes`]
+    /// returns. Allocates the copies.
     ///
-    /// `Malformed` where bytes follow the actor of the tagger's line, or it is none, and else
-    /// `OutOfMemory` where memory runs out.
+    /// # Errors
+    ///
+    /// - [`Error::Malformed`] if the tagger line is no actor, or if bytes follow the actor.
+    /// - [`Error::OutOfMemory`] if an allocation fails, and the tagger line, if there is one, is valid.
     pub fn into_owned(self, alloc: Global) -> Result<Tag, Error>
-        requires { IsHexOfAnId (tag_lines self).target }
+        requires { IsIdHex (tag_lines self).target }
         ensures owned { IfOk result (IsOwnedFormOfTag (tag_lines self.entry)) }
-        ensures refusal { IfErr result (RefusesOwningTag (tag_lines self.entry)) }
+        ensures error { IfErr result (IsIntoOwnedTagError (tag_lines self.entry)) }
     {
         let tagger = owned::actor(self.tagger)?;
         Ok(owned::copy(alloc, &self, tagger)?)
@@ -117,8 +136,9 @@ impl TagRef<'_> {
 
 /// Access
 impl Tag {
-    /// The signature and its format, or none where there is no signature or no marker begins it
-    /// (gitformat-signature, "DESCRIPTION"). It takes no memory.
+    /// Returns the signature with its format (gitformat-signature, "DESCRIPTION"). Allocates nothing.
+    ///
+    /// Returns `None` without a signature, or if it begins with no known marker.
     pub fn signature(&self) -> Option<signature::SignatureRef<'_>>
         ensures { IsSignature (owned_tag_lines self.now).signature result }
     {
@@ -126,7 +146,7 @@ impl Tag {
     }
 }
 
-/// The signature with its format, or none without bytes or without a marker.
+/// Returns the signature with its format, or `None` without bytes or a known marker.
 fn with_format(bytes: Option<BStr<'_>>) -> Option<signature::SignatureRef<'_>>
     ensures { IsSignature (bytes_if_some bytes.entry) result }
 {

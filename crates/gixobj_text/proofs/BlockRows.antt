@@ -1,11 +1,11 @@
--- The rows of trailer blocks, of the definitions.
+-- Worked examples of trailer blocks, checked against the definitions.
 use Rattle.std.proofs.Common.{◌≡◌, inl, inr, ◌∷◌, arith, refl, ℕ, List, [], codes, length, lit<, lit≤}
 use Rattle.std.proofs.lemmas.List.Elements.{All-cons, All-nil}
 use Rattle.std.specs.Prelude.{false, IsFalse, IsTrue}
 use Rattle.bstr.proofs.Computing.{computing}
 use Rattle.bstr.specs.Text.{lines_of}
 use Rattle.gixobj_text.specs.BodyLines.{is_blank}
-use Rattle.gixobj_text.specs.TrailerBlocks.{IsTrailerBlock, IsBlockStart, others, trailers_in}
+use Rattle.gixobj_text.specs.TrailerBlocks.{IsTrailerBlock, IsBlockStart, count_others, trailers_in}
 use Rattle.gixobj_text.proofs.LastRuns.{no_block, parts_of}
 
 abbrev F : List ℕ → Type 0
@@ -17,7 +17,7 @@ B line = IsTrue (is_blank line)
 abbrev two : List (List ℕ)
 two = codes "A: 1\n" ∷ codes "B: 2\n" ∷ []
 
--- two trailers behind a line and a blank one
+-- two trailers after a line and a blank line
 two_trailers : IsBlockStart (codes "m\n\nA: 1\nB: 2\n") 1
 unfolding computing
 two_trailers = inl (record {
@@ -35,7 +35,7 @@ two_trailers = inl (record {
   starts = inr (inr ([], codes "m\n", codes "\n", refl, refl));
 })
 
--- a sign-off makes a block of lines of which one is no trailer
+-- a sign-off makes a trailer block of lines with another line among them
 with_a_note : IsBlockStart (codes "Signed-off-by: A\nnote\nB: 2\n") 0
 unfolding computing
 with_a_note = inl (record {
@@ -45,7 +45,8 @@ with_a_note = inl (record {
   last = record {
     joined = refl;
     some = λ none. cc none;
-    none_blank = All-cons F (codes "Signed-off-by: A\n") (codes "note\n" ∷ codes "B: 2\n" ∷ []) refl (All-cons F (codes "note\n") (codes "B: 2\n" ∷ []) refl (All-cons F (codes "B: 2\n") [] refl (All-nil F)));
+    none_blank = All-cons F (codes "Signed-off-by: A\n") (codes "note\n" ∷ codes "B: 2\n" ∷ []) refl
+        (All-cons F (codes "note\n") (codes "B: 2\n" ∷ []) refl (All-cons F (codes "B: 2\n") [] refl (All-nil F)));
     all_blank = All-nil B;
     ends = inl refl;
   };
@@ -56,15 +57,15 @@ with_a_note = inl (record {
 abbrev long : List ℕ
 long = codes "text\n\nSigned-off-by: A <a@b>\nnot a trailer\nnot a trailer\nnot a trailer\nnot a trailer\n"
 
--- one trailer, four others
+-- one trailer and four other lines
 abbrev IsOneOfFive : List (List ℕ) → Type 0
-IsOneOfFive run = (trailers_in run ≡ 1) × (others false run ≡ 4)
+IsOneOfFive run = (trailers_in run ≡ 1) × (count_others false run ≡ 4)
 
 none_of_five : (run : List (List ℕ)) → IsOneOfFive run → ¬ IsTrailerBlock run
 none_of_five run five (inl (some, none)) = omega arith
 none_of_five run five (inr (known, few)) = omega arith
 
--- with four others there is none
+-- the last run of `long` has one trailer and four other lines
 five_lines : IsOneOfFive (parts_of (lines_of long)).run
 unfolding computing
 five_lines = (refl, refl)

@@ -1,10 +1,10 @@
--- The rows of blocks of messages, of the definitions.
+-- Worked examples of message blocks, checked against the definitions; no proof uses them.
 use Rattle.std.proofs.Common.{◌∷◌, refl, List, [], ℕ, codes}
 use Rattle.std.proofs.lemmas.List.Elements.{All-cons, All-nil}
 use Rattle.bstr.proofs.Computing.{computing}
 use Rattle.gixobj_text.specs.Blocks.{AreBlocksFrom, BlockView}
 use Rattle.gixobj_text.specs.Blocks.AreBlocksFrom.{block, none}
-use Rattle.gixobj_text.specs.Steps.{GoesOn, NoTrailer}
+use Rattle.gixobj_text.specs.Steps.{ContinuesTrailer, NoTrailer}
 
 abbrev of : List ℕ → List ℕ → BlockView
 of message trailers = record { message = message; trailers = trailers }
@@ -16,11 +16,11 @@ one_block = block 0 (codes "m\nA: 1\nB: 2\n") (of (codes "m\n") (codes "A: 1\nB:
     (record {
       some = λ is. cc is;
       skipped = codes "m\n" ∷ [];
-      taken = codes "A: 1\n" ∷ codes "B: 2\n" ∷ [];
+      consumed = codes "A: 1\n" ∷ codes "B: 2\n" ∷ [];
       lines = record {
         split = refl;
         message = All-cons NoTrailer (codes "m\n") [] refl (All-nil NoTrailer);
-        trailers = (refl, All-cons GoesOn (codes "B: 2\n") [] refl (All-nil GoesOn));
+        trailers = (refl, All-cons ContinuesTrailer (codes "B: 2\n") [] refl (All-nil ContinuesTrailer));
         none = λ is. cc is;
         ends = tt;
       };
@@ -29,18 +29,18 @@ one_block = block 0 (codes "m\nA: 1\nB: 2\n") (of (codes "m\n") (codes "A: 1\nB:
     })
     (none 0)
 
--- the block of trailers starts at the end of a line's text: the line breaks belong to the message
-behind_text : AreBlocksFrom 1 (codes "m\n\nA: 1\n") (of (codes "m\n\n") (codes "A: 1\n") ∷ [])
+-- the trailer block starts after the content of a line: the line breaks belong to the message
+after_bytes : AreBlocksFrom 1 (codes "m\n\nA: 1\n") (of (codes "m\n\n") (codes "A: 1\n") ∷ [])
 unfolding computing
-behind_text = block 1 (codes "m\n\nA: 1\n") (of (codes "m\n\n") (codes "A: 1\n")) [] []
+after_bytes = block 1 (codes "m\n\nA: 1\n") (of (codes "m\n\n") (codes "A: 1\n")) [] []
     (record {
       some = λ is. cc is;
       skipped = codes "\n" ∷ codes "\n" ∷ [];
-      taken = codes "A: 1\n" ∷ [];
+      consumed = codes "A: 1\n" ∷ [];
       lines = record {
         split = refl;
         message = All-cons NoTrailer (codes "\n") (codes "\n" ∷ []) refl (All-cons NoTrailer (codes "\n") [] refl (All-nil NoTrailer));
-        trailers = (refl, All-nil GoesOn);
+        trailers = (refl, All-nil ContinuesTrailer);
         none = λ is. cc is;
         ends = tt;
       };
@@ -49,18 +49,18 @@ behind_text = block 1 (codes "m\n\nA: 1\n") (of (codes "m\n\n") (codes "A: 1\n")
     })
     (none 0)
 
--- the second message begins behind the trailers of the first
+-- the second message begins after the trailers of the first
 second_block : AreBlocksFrom 0 (codes "n\nB: 2\n") (of (codes "n\n") (codes "B: 2\n") ∷ [])
 unfolding computing
 second_block = block 0 (codes "n\nB: 2\n") (of (codes "n\n") (codes "B: 2\n")) [] []
     (record {
       some = λ is. cc is;
       skipped = codes "n\n" ∷ [];
-      taken = codes "B: 2\n" ∷ [];
+      consumed = codes "B: 2\n" ∷ [];
       lines = record {
         split = refl;
         message = All-cons NoTrailer (codes "n\n") [] refl (All-nil NoTrailer);
-        trailers = (refl, All-nil GoesOn);
+        trailers = (refl, All-nil ContinuesTrailer);
         none = λ is. cc is;
         ends = tt;
       };
@@ -75,11 +75,11 @@ two_blocks = block 0 (codes "m\nA: 1\nn\nB: 2\n") (of (codes "m\n") (codes "A: 1
     (record {
       some = λ is. cc is;
       skipped = codes "m\n" ∷ [];
-      taken = codes "A: 1\n" ∷ [];
+      consumed = codes "A: 1\n" ∷ [];
       lines = record {
         split = refl;
         message = All-cons NoTrailer (codes "m\n") [] refl (All-nil NoTrailer);
-        trailers = (refl, All-nil GoesOn);
+        trailers = (refl, All-nil ContinuesTrailer);
         none = λ is. cc is;
         ends = refl;
       };

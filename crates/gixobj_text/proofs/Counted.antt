@@ -1,9 +1,9 @@
--- The counts of a run with a line more.
+-- The counts of a run after one more line.
 use Rattle.std.proofs.Common.{◌≡◌, ◌++◌, ◌∷◌, ◌∙◌, ◌+◌, ap, sym, refl, ℕ, Bool, true, false, cond, List, []}
 use Rattle.std.specs.Prelude.{◌||◌, count_by, fold}
-use Rattle.gixobj_text.specs.Counting.{Counts, other_of}
+use Rattle.gixobj_text.specs.Counting.{Counts, other_count_of}
 use Rattle.gixobj_text.specs.BodyLines.{is_indented, is_recognised}
-use Rattle.gixobj_text.specs.TrailerBlocks.{is_trailing, others}
+use Rattle.gixobj_text.specs.TrailerBlocks.{is_trailing, count_others}
 use Rattle.gixobj_text.specs.declared.commit.message.body.run.Run.{Run}
 use Rattle.gixobj_text.proofs.OneLine.{above_more, any_more, others_more}
 
@@ -18,16 +18,17 @@ adding_more p start (first ∷ run) line = adding_more p (start + counted p firs
 count_more : (p : List ℕ → Bool) (run : List (List ℕ)) (line : List ℕ) → count_by p (run ++ line ∷ []) ≡ count_by p run + counted p line
 count_more p run line = adding_more p 0 run line
 
--- so the counts with a line more are those of the longer run
+-- the counts after one more line are those of the longer run
 pub counts_more : (run : List (List ℕ)) (line : List ℕ) (old new : Run) → Counts run old
     → new.trailers ≡ old.trailers + cond (is_trailing line) 1 0
-    → new.others ≡ old.others + other_of old.above line
+    → new.others ≡ old.others + other_count_of old.above line
     → new.recognised ≡ (old.recognised || is_recognised line)
     → new.above ≡ cond (is_trailing line) true (cond (is_indented line) old.above false)
     → Counts (run ++ line ∷ []) new
 counts_more run line old new it trailers other recognised above = record {
   trailers = trailers ∙ ap (λ (n : ℕ). n + cond (is_trailing line) 1 0) it.trailers ∙ sym (count_more is_trailing run line);
-  others = other ∙ ap (λ (n : ℕ). n + other_of old.above line) it.others ∙ ap (λ (b : Bool). others false run + other_of b line) it.above ∙ sym (others_more false run line);
+  others = other ∙ ap (λ (n : ℕ). n + other_count_of old.above line) it.others ∙ ap (λ (b : Bool). count_others false run + other_count_of b line) it.above
+      ∙ sym (others_more false run line);
   recognised = recognised ∙ ap (λ (b : Bool). b || is_recognised line) it.recognised ∙ sym (any_more is_recognised run line);
   above = above ∙ ap (λ (b : Bool). cond (is_trailing line) true (cond (is_indented line) b false)) it.above ∙ sym (above_more false run line);
 }

@@ -1,4 +1,4 @@
--- Texts that begin with no white space begin with no line that belongs to a trailer.
+-- Bytes begin with a continuation line only if they begin with white space.
 use Rattle.std.proofs.Common.{◌≡◌, ◌<◌, ◌∙◌, ◌∷◌, ◌&&◌, ◌==◌, Bool, List, [], ap, arith, cond, false, not, refl, suc, take, drop, true, zero, ℕ}
 use Rattle.std.proofs.lemmas.Bool.Decides.{nat_tests}
 use Rattle.std.specs.Char.{is_ascii_whitespace}
@@ -15,7 +15,7 @@ no_newline byte is = grind (arith, nat_tests)
 no_return : (byte : ℕ) → is_ascii_whitespace byte ≡ false → (byte == 13) ≡ false
 no_return byte is = grind (arith, nat_tests)
 
-first_kept : (last byte : ℕ) (rest : List ℕ) → (byte == last) ≡ false → (left : List ℕ) × (without_last_byte last (byte ∷ rest) ≡ byte ∷ left)
+first_kept : (last byte : ℕ) (rest : List ℕ) → (byte == last) ≡ false → (remaining : List ℕ) × (without_last_byte last (byte ∷ rest) ≡ byte ∷ remaining)
 first_kept last byte [] other = ([], ap (λ (b : Bool). cond b [] (byte ∷ [])) other)
 first_kept last byte (next ∷ rest) other = (without_last_byte last (next ∷ rest), refl)
 
@@ -29,7 +29,7 @@ not_both : (a b : Bool) → b ≡ false → (not a && b) ≡ false
 not_both true b is = refl
 not_both false b is = is
 
-first_taken : (count byte : ℕ) (rest : List ℕ) → 0 < count → (left : List ℕ) × (take count (byte ∷ rest) ≡ byte ∷ left)
+first_taken : (count byte : ℕ) (rest : List ℕ) → 0 < count → (remaining : List ℕ) × (take count (byte ∷ rest) ≡ byte ∷ remaining)
 first_taken zero byte rest some = absurd (omega (arith, some))
 first_taken (suc count) byte rest some = (take count rest, refl)
 
@@ -43,6 +43,6 @@ none_folded byte rest is =
     ap (take_while is_folded) (lines-step (byte ∷ rest) (omega arith))
     ∙ taken_by false (take (line_len (byte ∷ rest)) (byte ∷ rest)) (lines_of (drop (line_len (byte ∷ rest)) (byte ∷ rest))) (first_unfolded byte rest is)
 
-pub begins_unfolded : (text : List ℕ) → begins_indented text ≡ false → are_some (take_while is_folded (lines_of text)) ≡ false
+pub begins_unfolded : (bytes : List ℕ) → begins_indented bytes ≡ false → are_some (take_while is_folded (lines_of bytes)) ≡ false
 begins_unfolded [] is = ap are_some (folded_nothing [] refl)
 begins_unfolded (byte ∷ rest) is = ap are_some (none_folded byte rest is)

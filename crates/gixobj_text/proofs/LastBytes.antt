@@ -1,13 +1,13 @@
--- The last byte of a text, dropped.
+-- The last byte of bytes is dropped or kept.
 use Rattle.std.proofs.Common.{◌≡◌, ◌≢◌, ◌++◌, ◌∷◌, ◌==◌, ◌∙◌, ap, sym, ℕ, Bool, true, false, cond, List, [], refl, arith}
 use Rattle.std.proofs.lemmas.Bool.Decides.{nat_tests}
 use Rattle.gixobj_text.specs.BodyLines.{without_last_byte}
 
-chosen : (b : Bool) (byte : ℕ) (front : List ℕ) → b ≡ true → cond b front (front ++ byte ∷ []) ≡ front
-chosen true byte front is = refl
-chosen false byte front is = cc is
+chosen : (b : Bool) (byte : ℕ) (prefix : List ℕ) → b ≡ true → cond b prefix (prefix ++ byte ∷ []) ≡ prefix
+chosen true byte prefix is = refl
+chosen false byte prefix is = cc is
 
-at_end : (last byte : ℕ) (front : List ℕ) → without_last_byte last (front ++ byte ∷ []) ≡ cond (byte == last) front (front ++ byte ∷ [])
+at_end : (last byte : ℕ) (prefix : List ℕ) → without_last_byte last (prefix ++ byte ∷ []) ≡ cond (byte == last) prefix (prefix ++ byte ∷ [])
 at_end last byte [] = refl
 at_end last byte (first ∷ []) = onto first (byte == last)
   where
@@ -16,7 +16,8 @@ at_end last byte (first ∷ []) = onto first (byte == last)
     onto first false = refl
 at_end last byte (first ∷ next ∷ rest) = ap (λ (xs : List ℕ). first ∷ xs) (at_end last byte (next ∷ rest)) ∙ onto first (byte == last)
   where
-    onto : (first : ℕ) (b : Bool) → first ∷ cond b (next ∷ rest) ((next ∷ rest) ++ byte ∷ []) ≡ cond b (first ∷ next ∷ rest) (first ∷ (next ∷ rest) ++ byte ∷ [])
+    onto : (first : ℕ) (b : Bool) → first ∷ cond b (next ∷ rest) ((next ∷ rest) ++ byte ∷ []) ≡ cond b (first ∷ next ∷ rest)
+        (first ∷ (next ∷ rest) ++ byte ∷ [])
     onto first true = refl
     onto first false = refl
 
@@ -26,10 +27,10 @@ same_test byte last same = grind (arith, nat_tests)
 other_test : (byte last : ℕ) → byte ≢ last → (byte == last) ≡ false
 other_test byte last other = grind (arith, nat_tests)
 
-pub dropped : (last byte : ℕ) (front bytes : List ℕ) → bytes ≡ front ++ byte ∷ [] → byte ≡ last → front ≡ without_last_byte last bytes
-dropped last byte front bytes is same =
-    sym (ap (without_last_byte last) is ∙ at_end last byte front ∙ ap (λ (b : Bool). cond b front (front ++ byte ∷ [])) (same_test byte last same))
+pub dropped : (last byte : ℕ) (prefix bytes : List ℕ) → bytes ≡ prefix ++ byte ∷ [] → byte ≡ last → prefix ≡ without_last_byte last bytes
+dropped last byte prefix bytes is same =
+    sym (ap (without_last_byte last) is ∙ at_end last byte prefix ∙ ap (λ (b : Bool). cond b prefix (prefix ++ byte ∷ [])) (same_test byte last same))
 
-pub kept : (last byte : ℕ) (front bytes : List ℕ) → bytes ≡ front ++ byte ∷ [] → byte ≢ last → bytes ≡ without_last_byte last bytes
-kept last byte front bytes is other =
-    is ∙ sym (ap (without_last_byte last) is ∙ at_end last byte front ∙ ap (λ (b : Bool). cond b front (front ++ byte ∷ [])) (other_test byte last other))
+pub kept : (last byte : ℕ) (prefix bytes : List ℕ) → bytes ≡ prefix ++ byte ∷ [] → byte ≢ last → bytes ≡ without_last_byte last bytes
+kept last byte prefix bytes is other =
+    is ∙ sym (ap (without_last_byte last) is ∙ at_end last byte prefix ∙ ap (λ (b : Bool). cond b prefix (prefix ++ byte ∷ [])) (other_test byte last other))

@@ -1,4 +1,4 @@
--- A list of lines has one last run.
+-- Lines have at most one last run.
 use Rattle.std.proofs.Common.{◌++◌, ◌∙◌, ◌∷◌, ◌≡◌, ◌≢◌, All, Bool, List, [], ap, append_assoc, cond, false, inl, inr, not, refl, subst, sym, true, ℕ}
 use Rattle.std.proofs.lemmas.List.Elements.{All-head, All-tail}
 use Rattle.std.specs.Prelude.{◌&&◌}
@@ -6,7 +6,7 @@ use Rattle.gixobj_text.specs.BodyLines.{is_blank}
 use Rattle.gixobj_text.specs.TrailerBlocks.{EndsBlank, HasNoBlock, IsTrailerBlock, IsLastRun}
 use Rattle.gixobj_text.proofs.OneLine.{Blank, Filled, Lines}
 
--- what stands before the last run, the run, and what stands behind it
+-- the lines before the last run, the run, and the lines after it
 pub record Parts : Type 0 where
   pub before : Lines
   pub run : Lines
@@ -16,20 +16,22 @@ abbrev is_none : Lines → Bool
 is_none [] = true
 is_none (line ∷ lines) = false
 
--- one line more in front, which is blank or not
-abbrev pub in_front : List ℕ → Bool → Parts → Parts
-in_front line blank it =
+-- the parts with one more line at the start, which is blank or not
+abbrev pub before_it : List ℕ → Bool → Parts → Parts
+before_it line blank it =
     cond (is_none it.run)
     (cond blank (record { before = []; run = []; after = line ∷ it.after }) (record { before = []; run = line ∷ []; after = it.after }))
-    (cond (is_none it.before && not blank) (record { before = []; run = line ∷ it.run; after = it.after }) (record { before = line ∷ it.before; run = it.run; after = it.after }))
+    (cond (is_none it.before && not blank) (record { before = []; run = line ∷ it.run; after = it.after })
+    (record { before = line ∷ it.before; run = it.run; after = it.after }))
 
 abbrev pub parts_of : Lines → Parts
 parts_of [] = record { before = []; run = []; after = [] }
-parts_of (line ∷ lines) = in_front line (is_blank line) (parts_of lines)
+parts_of (line ∷ lines) = before_it line (is_blank line) (parts_of lines)
 
 in_so : (line : List ℕ) (b : Bool) (before run after lines : Lines) → is_blank line ≡ b → parts_of lines ≡ record { before = before; run = run; after = after }
-    → parts_of (line ∷ lines) ≡ in_front line b (record { before = before; run = run; after = after })
-in_so line b before run after lines blank is = ap (λ (it : Parts). in_front line (is_blank line) it) is ∙ ap (λ (c : Bool). in_front line c (record { before = before; run = run; after = after })) blank
+    → parts_of (line ∷ lines) ≡ before_it line b (record { before = before; run = run; after = after })
+in_so line b before run after lines blank is = ap (λ (it : Parts). before_it line (is_blank line) it) is
+    ∙ ap (λ (c : Bool). before_it line c (record { before = before; run = run; after = after })) blank
 
 of_blank : (after : Lines) → All Blank after → parts_of after ≡ record { before = []; run = []; after = after }
 of_blank [] all = refl
@@ -42,26 +44,28 @@ of_run (line ∷ next ∷ run) after some filled blank =
     in_so line false [] (next ∷ run) after ((next ∷ run) ++ after) (All-head Filled line (next ∷ run) filled)
     (of_run (next ∷ run) after (λ none. cc none) (All-tail Filled line (next ∷ run) filled) blank)
 
--- where lines end in a blank one, so do those behind the first
-ends_behind : (first next : List ℕ) (lines : Lines) → EndsBlank (first ∷ next ∷ lines) → EndsBlank (next ∷ lines)
-ends_behind first next lines (inl none) = cc none
-ends_behind first next lines (inr ([], last, is, blank)) = cc is
-ends_behind first next lines (inr (one ∷ front, last, is, blank)) = inr (front, last, cc is, blank)
+-- lines that end in a blank line still do without their first line
+ends_after : (first next : List ℕ) (lines : Lines) → EndsBlank (first ∷ next ∷ lines) → EndsBlank (next ∷ lines)
+ends_after first next lines (inl none) = cc none
+ends_after first next lines (inr ([], last, is, blank)) = cc is
+ends_after first next lines (inr (one ∷ prefix, last, is, blank)) = inr (prefix, last, cc is, blank)
 
 last_blank : (line : List ℕ) → EndsBlank (line ∷ []) → Blank line
 last_blank line (inl none) = cc none
 last_blank line (inr ([], last, is, blank)) = let same : last ≡ line = cc is in subst Blank same blank
 last_blank line (inr (one ∷ [], last, is, blank)) = cc is
-last_blank line (inr (one ∷ two ∷ front, last, is, blank)) = cc is
+last_blank line (inr (one ∷ two ∷ prefix, last, is, blank)) = cc is
 
-of_all : (before run after : Lines) → EndsBlank before → run ≢ [] → All Filled run → All Blank after → parts_of (before ++ (run ++ after)) ≡ record { before = before; run = run; after = after }
+of_all : (before run after : Lines) → EndsBlank before → run ≢ [] → All Filled run → All Blank after → parts_of (before ++ (run ++ after)) ≡ record
+    { before = before; run = run; after = after }
 of_all [] run after ends some filled blank = of_run run after some filled blank
 of_all (line ∷ []) [] after ends some filled blank = absurd (some refl)
 of_all (line ∷ []) (first ∷ run) after ends some filled blank =
     in_so line true [] (first ∷ run) after ((first ∷ run) ++ after) (last_blank line ends) (of_run (first ∷ run) after some filled blank)
 of_all (line ∷ next ∷ before) [] after ends some filled blank = absurd (some refl)
 of_all (line ∷ next ∷ before) (first ∷ run) after ends some filled blank =
-    in_so line (is_blank line) (next ∷ before) (first ∷ run) after ((next ∷ before) ++ ((first ∷ run) ++ after)) refl (of_all (next ∷ before) (first ∷ run) after (ends_behind line next before ends) some filled blank)
+    in_so line (is_blank line) (next ∷ before) (first ∷ run) after ((next ∷ before) ++ ((first ∷ run) ++ after)) refl
+    (of_all (next ∷ before) (first ∷ run) after (ends_after line next before ends) some filled blank)
 
 -- the parts of lines are those of their last run
 pub parts_are : (lines before run after : Lines) → IsLastRun lines before run after → parts_of lines ≡ record { before = before; run = run; after = after }

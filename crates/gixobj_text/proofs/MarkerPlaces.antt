@@ -1,4 +1,4 @@
--- A text has one marker place at most, and is cut there.
+-- Bytes have at most one marker position, and split there.
 use Rattle.std.proofs.Common.{◌≡◌, ◌≤◌, ℕ, List, ◌++◌, arith, ap, cond, drop, eqb, get_or, length, length-append, refl, subst, sym, take, ◌∙◌}
 use Rattle.std.proofs.Math.Seq.{drop-append_seam, take-append_seam}
 use Rattle.std.proofs.lemmas.List.{take-append-drop}
@@ -8,52 +8,53 @@ use Rattle.gixobj_text.specs.declared.signature.Format.TheVariants as format
 
 -- ---- one format
 
--- the format that the thirteenth byte of a marker tells: the `G` of `PGP`, the `I` of `SIGNED` or the second `S` of `SSH`
-abbrev told_by : ℕ → Format
-told_by byte = cond (eqb byte 71) format.OpenPgp (cond (eqb byte 73) format.X509 format.Ssh)
+-- the format by the thirteenth byte of a marker: the `G` of `PGP`, the `I` of `SIGNED` or the second `S` of `SSH`
+abbrev known_by : ℕ → Format
+known_by byte = cond (eqb byte 71) format.OpenPgp (cond (eqb byte 73) format.X509 format.Ssh)
 
-told : (format : Format) (marker rest : List ℕ) → IsMarkerOf format marker → told_by (get_or (marker ++ rest) 12 0) ≡ format
-told format marker rest pgp_signature = refl
-told format marker rest pgp_message = refl
-told format marker rest signed_message = refl
-told format marker rest ssh_signature = refl
+marker_known : (format : Format) (marker rest : List ℕ) → IsMarkerOf format marker → known_by (get_or (marker ++ rest) 12 0) ≡ format
+marker_known format marker rest pgp_signature = refl
+marker_known format marker rest pgp_message = refl
+marker_known format marker rest signed_message = refl
+marker_known format marker rest ssh_signature = refl
 
 pub one_format : (bytes : List ℕ) (f g : Format) → BeginsWithMarker f bytes → BeginsWithMarker g bytes → f ≡ g
 one_format bytes f g first second =
-    sym (told f first.marker first.rest first.known) ∙ ap (λ (it : List ℕ). told_by (get_or it 12 0)) (sym first.joined ∙ second.joined) ∙ told g second.marker second.rest second.known
+    sym (marker_known f first.marker first.rest first.known) ∙ ap (λ (it : List ℕ). known_by (get_or it 12 0)) (sym first.joined ∙ second.joined)
+    ∙ marker_known g second.marker second.rest second.known
 
--- ---- one place
+-- ---- one position
 
-front_of_place : (bytes : List ℕ) (place : ℕ) (f : Format) → (here : MarksPlace bytes place f) → take place bytes ≡ here.front
-front_of_place bytes place f here =
-    let cut : take (length here.front) bytes ≡ here.front = ap (take (length here.front)) here.joined ∙ take-append_seam here.front here.rest in
+prefix_of_place : (bytes : List ℕ) (place : ℕ) (f : Format) → (here : MarksPlace bytes place f) → take place bytes ≡ here.prefix
+prefix_of_place bytes place f here =
+    let cut : take (length here.prefix) bytes ≡ here.prefix = ap (take (length here.prefix)) here.joined ∙ take-append_seam here.prefix here.rest in
     ap (λ (it : ℕ). take it bytes) (sym here.as_long) ∙ cut
 
 rest_of_place : (bytes : List ℕ) (place : ℕ) (f : Format) → (here : MarksPlace bytes place f) → drop place bytes ≡ here.rest
 rest_of_place bytes place f here =
-    let cut : drop (length here.front) bytes ≡ here.rest = ap (drop (length here.front)) here.joined ∙ drop-append_seam here.front here.rest in
+    let cut : drop (length here.prefix) bytes ≡ here.rest = ap (drop (length here.prefix)) here.joined ∙ drop-append_seam here.prefix here.rest in
     ap (λ (it : ℕ). drop it bytes) (sym here.as_long) ∙ cut
 
-pub marked_behind : (bytes : List ℕ) (place : ℕ) (f : Format) → MarksPlace bytes place f → BeginsWithMarker f (drop place bytes)
-marked_behind bytes place f here = subst (BeginsWithMarker f) (sym (rest_of_place bytes place f here)) here.marked
+pub marked_after : (bytes : List ℕ) (place : ℕ) (f : Format) → MarksPlace bytes place f → BeginsWithMarker f (drop place bytes)
+marked_after bytes place f here = subst (BeginsWithMarker f) (sym (rest_of_place bytes place f here)) here.marked
 
-pub starts_behind : (bytes : List ℕ) (place : ℕ) (f : Format) → MarksPlace bytes place f → StartsLine (take place bytes)
-starts_behind bytes place f here = subst StartsLine (sym (front_of_place bytes place f here)) here.starts
+pub starts_after : (bytes : List ℕ) (place : ℕ) (f : Format) → MarksPlace bytes place f → StartsLine (take place bytes)
+starts_after bytes place f here = subst StartsLine (sym (prefix_of_place bytes place f here)) here.starts
 
 pub place_within : (bytes : List ℕ) (place : ℕ) (f : Format) → MarksPlace bytes place f → place ≤ length bytes
-place_within bytes place f here = omega (arith, here.as_long, ap length here.joined, length-append here.front here.rest)
+place_within bytes place f here = omega (arith, here.as_long, ap length here.joined, length-append here.prefix here.rest)
 
 pub one_marker_place : (bytes : List ℕ) (a b : ℕ) (f g : Format) → IsMarkerPlace bytes a f → IsMarkerPlace bytes b g → (a ≡ b) × (f ≡ g)
 one_marker_place bytes a b f g first second =
     let same : a ≡ b = omega (arith, second.last a f first.here, first.last b g second.here) in
     let P : ℕ → Type 0 = λ it. BeginsWithMarker g (drop it bytes) in
-    (same, one_format (drop a bytes) f g (marked_behind bytes a f first.here) (subst P (sym same) (marked_behind bytes b g second.here)))
+    (same, one_format (drop a bytes) f g (marked_after bytes a f first.here) (subst P (sym same) (marked_after bytes b g second.here)))
 
 pub not_both : (bytes : List ℕ) (a : ℕ) (f : Format) → IsMarkerPlace bytes a f → HasNoMarker bytes → ⊥
 not_both bytes a f is none = none a f is.here
 
--- the parts at the place
+-- the parts at the position
 pub split_at_place : (bytes : List ℕ) (place : ℕ) (f : Format) → IsMarkerPlace bytes place f
     → (bytes ≡ take place bytes ++ drop place bytes) × StartsLine (take place bytes) × BeginsWithMarker f (drop place bytes) × (place ≤ length bytes)
 split_at_place bytes place f is =
-    (sym (take-append-drop place bytes), starts_behind bytes place f is.here, marked_behind bytes place f is.here, place_within bytes place f is.here)
+    (sym (take-append-drop place bytes), starts_after bytes place f is.here, marked_after bytes place f is.here, place_within bytes place f is.here)

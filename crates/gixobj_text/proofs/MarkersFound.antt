@@ -1,4 +1,4 @@
--- A marker is found by its bytes.
+-- Bytes that have a marker as a prefix begin with that marker.
 use Rattle.std.proofs.Common.{◌≡◌, ℕ, List, length, drop, refl, sym, true}
 use Rattle.std.proofs.lemmas.Bool.Decides.{Decides-eqb}
 use Rattle.std.proofs.lemmas.Slice.Eq.{starts_is}
@@ -10,7 +10,12 @@ use Rattle.gixobj_text.specs.declared.signature.Format.TheVariants as format
 
 marker_found : (format : Format) (marker bytes : List ℕ) → IsMarkerOf format marker → true ≡ starts_with nat_eq bytes marker → BeginsWithMarker format bytes
 marker_found format marker bytes is same =
-    record { marker = marker; rest = drop (length marker) bytes; known = is; joined = (starts_is Decides-eqb bytes marker (starts_with nat_eq bytes marker) refl).0 (sym same) }
+    record {
+      marker = marker;
+      rest = drop (length marker) bytes;
+      known = is;
+      joined = (starts_is Decides-eqb bytes marker (starts_with nat_eq bytes marker) refl).0 (sym same);
+    }
 
 pub pgp_signature_found : (bytes : List ℕ) → true ≡ starts_with nat_eq bytes (codes "-----BEGIN PGP SIGNATURE-----") → BeginsWithMarker format.OpenPgp bytes
 pgp_signature_found bytes = marker_found _ _ bytes pgp_signature

@@ -1,14 +1,15 @@
--- A message has one title, one body and one list of trailers; a body has one block start.
+-- A message has at most one title, one body and one list of trailers, and a body at most one block start; the laws of
+-- messages use these lemmas.
 use Rattle.std.proofs.Common.{◌++◌, ◌+◌, ◌∙◌, ◌∷◌, ◌≡◌, ◌≢◌, ◌≤◌, List, None, Option, Some, [], ap, append_assoc, arith, drop, inl, inr, length, length-append, refl, subst, sym, zero-add, ℕ}
 use Rattle.std.specs.List.{concat}
 use Rattle.bstr.specs.Text.{lines_of}
-use Rattle.gixobj_text.specs.Breaks.{behind_two}
-use Rattle.gixobj_text.specs.BodyLines.{text_of}
+use Rattle.gixobj_text.specs.Breaks.{after_two_breaks}
+use Rattle.gixobj_text.specs.BodyLines.{trimmed_line}
 use Rattle.gixobj_text.specs.MessageTrailers.{BodyHasTrailers, HasTrailers}
-use Rattle.gixobj_text.specs.Titles.{HasBreaks, IsBreak, IsCut, SplitsTitle}
+use Rattle.gixobj_text.specs.Titles.{HasBreaks, IsBreak, IsSplitAtBreaks, SplitsTitle}
 use Rattle.gixobj_text.specs.Titles.IsBreak.{alone, after_return}
-use Rattle.gixobj_text.specs.TrailerBlocks.{HasBlock, IsBlockStart, StartsBehind}
-use Rattle.gixobj_text.specs.Trailers.{TrailerView, trailers_of_text}
+use Rattle.gixobj_text.specs.TrailerBlocks.{HasBlock, IsBlockStart, StartsAfter}
+use Rattle.gixobj_text.specs.Trailers.{TrailerView, trailers_of_bytes}
 use Rattle.gixobj_text.proofs.LastRuns.{Parts, parts_are}
 
 abbrev Lines : Type 0
@@ -16,38 +17,40 @@ Lines = List (List ℕ)
 
 -- ---- title and body
 
-same_front : (a b x y : List ℕ) → length a ≡ length b → a ++ x ≡ b ++ y → (a ≡ b) × (x ≡ y)
-same_front [] [] x y long is = (refl, is)
-same_front [] (byte ∷ b) x y long is = absurd (omega arith)
-same_front (byte ∷ a) [] x y long is = absurd (omega arith)
-same_front (byte ∷ a) (other ∷ b) x y long is =
-    let tails : (a ≡ b) × (x ≡ y) = same_front a b x y (omega arith) (cc is) in
+same_prefix : (a b x y : List ℕ) → length a ≡ length b → a ++ x ≡ b ++ y → (a ≡ b) × (x ≡ y)
+same_prefix [] [] x y long is = (refl, is)
+same_prefix [] (byte ∷ b) x y long is = absurd (omega arith)
+same_prefix (byte ∷ a) [] x y long is = absurd (omega arith)
+same_prefix (byte ∷ a) (other ∷ b) x y long is =
+    let tails : (a ≡ b) × (x ≡ y) = same_prefix a b x y (omega arith) (cc is) in
     let heads : byte ≡ other = cc is in
     (ap (λ (n : ℕ). n ∷ a) heads ∙ ap (λ (bytes : List ℕ). other ∷ bytes) tails.0, tails.1)
 
-behind : (first second rest : List ℕ) → IsBreak first → IsBreak second → behind_two (first ++ second ++ rest) ≡ Some rest
-behind first second rest alone alone = refl
-behind first second rest alone after_return = refl
-behind first second rest after_return alone = refl
-behind first second rest after_return after_return = refl
+after_two : (first second rest : List ℕ) → IsBreak first → IsBreak second → after_two_breaks (first ++ second ++ rest) ≡ Some rest
+after_two first second rest alone alone = refl
+after_two first second rest alone after_return = refl
+after_two first second rest after_return alone = refl
+after_two first second rest after_return after_return = refl
 
 regrouped : (message title body : List ℕ) → (it : HasBreaks message title body) → message ≡ title ++ (it.first ++ it.second ++ body)
 regrouped message title body it =
     it.joined ∙ append_assoc (title ++ it.first) it.second body ∙ append_assoc title it.first (it.second ++ body)
     ∙ ap (λ (bytes : List ℕ). title ++ bytes) (sym (append_assoc it.first it.second body))
 
-one_cut : (message title body title2 body2 : List ℕ) → IsCut message title body → IsCut message title2 body2 → (title ≡ title2) × (body ≡ body2)
+one_cut : (message title body title2 body2 : List ℕ) → IsSplitAtBreaks message title body → IsSplitAtBreaks message title2 body2 → (title ≡ title2)
+    × (body ≡ body2)
 one_cut message title body title2 body2 one other =
-    let few : length title ≤ length title2 = one.least title2 body2 other.here in
-    let few2 : length title2 ≤ length title = other.least title body one.here in
-    let fronts = same_front title title2 (one.here.first ++ one.here.second ++ body) (other.here.first ++ other.here.second ++ body2) (omega arith)
+    let few : length title ≤ length title2 = one.minimum title2 body2 other.here in
+    let few2 : length title2 ≤ length title = other.minimum title body one.here in
+    let prefixes = same_prefix title title2 (one.here.first ++ one.here.second ++ body) (other.here.first ++ other.here.second ++ body2) (omega arith)
     (sym (regrouped message title body one.here) ∙ regrouped message title2 body2 other.here) in
     let bodies : Some body ≡ Some body2 =
-    sym (behind one.here.first one.here.second body one.here.breaks.0 one.here.breaks.1) ∙ ap behind_two fronts.1
-    ∙ behind other.here.first other.here.second body2 other.here.breaks.0 other.here.breaks.1 in
-    (fronts.0, cc bodies)
+    sym (after_two one.here.first one.here.second body one.here.breaks.0 one.here.breaks.1) ∙ ap after_two_breaks prefixes.1
+    ∙ after_two other.here.first other.here.second body2 other.here.breaks.0 other.here.breaks.1 in
+    (prefixes.0, cc bodies)
 
-pub one_split : (message title title2 : List ℕ) (body body2 : Option (List ℕ)) → SplitsTitle message title body → SplitsTitle message title2 body2 → (title ≡ title2) × (body ≡ body2)
+pub one_split : (message title title2 : List ℕ) (body body2 : Option (List ℕ)) → SplitsTitle message title body → SplitsTitle message title2 body2
+    → (title ≡ title2) × (body ≡ body2)
 one_split message title title2 (Some body) (Some body2) (one, some) (other, some2) =
     let same = one_cut message title body title2 body2 one other in (same.0, ap (λ (it : List ℕ). Some it) same.1)
 one_split message title title2 (Some body) None (one, some) (inl other) = absurd (some (one_cut message title body title2 [] one other).1)
@@ -64,7 +67,7 @@ one_split message title title2 None None (inr (all, none)) (inr (all2, none2)) =
 start_of : Lines → ℕ
 start_of [] = 0
 start_of (line ∷ []) = 0
-start_of (line ∷ blank ∷ []) = length (text_of line)
+start_of (line ∷ blank ∷ []) = length (trimmed_line line)
 start_of (line ∷ next ∷ more ∷ lines) = length line + start_of (next ∷ more ∷ lines)
 
 step : (line next : List ℕ) (lines : Lines) → lines ≢ [] → start_of (line ∷ next ∷ lines) ≡ length line + start_of (next ∷ lines)
@@ -72,30 +75,35 @@ unfolding start_of
 step line next [] some = absurd (some refl)
 step line next (more ∷ lines) some = refl
 
-two_more : (front : Lines) (line blank : List ℕ) → front ++ line ∷ blank ∷ [] ≢ []
+two_more : (prefix : Lines) (line blank : List ℕ) → prefix ++ line ∷ blank ∷ [] ≢ []
 two_more [] line blank = λ is. cc is
-two_more (first ∷ front) line blank = λ is. cc is
+two_more (first ∷ prefix) line blank = λ is. cc is
 
-ends_at : (front : Lines) (line blank : List ℕ) → start_of (front ++ line ∷ blank ∷ []) ≡ length (concat front) + length (text_of line)
+ends_at : (prefix : Lines) (line blank : List ℕ) → start_of (prefix ++ line ∷ blank ∷ []) ≡ length (concat prefix) + length (trimmed_line line)
 unfolding start_of
-ends_at [] line blank = sym (zero-add (length (text_of line)))
+ends_at [] line blank = sym (zero-add (length (trimmed_line line)))
 ends_at (first ∷ []) line blank =
     let long : length (concat (first ∷ [])) ≡ length first + 0 = length-append first [] in omega arith
-ends_at (first ∷ second ∷ front) line blank =
-    let later : start_of ((second ∷ front) ++ line ∷ blank ∷ []) ≡ length (concat (second ∷ front)) + length (text_of line) = ends_at (second ∷ front) line blank in
-    let here : start_of (first ∷ second ∷ (front ++ line ∷ blank ∷ [])) ≡ length first + start_of (second ∷ (front ++ line ∷ blank ∷ [])) = step first second (front ++ line ∷ blank ∷ []) (two_more front line blank) in
-    let long : length (concat (first ∷ second ∷ front)) ≡ length first + length (concat (second ∷ front)) = length-append first (concat (second ∷ front)) in
+ends_at (first ∷ second ∷ prefix) line blank =
+    let later : start_of ((second ∷ prefix) ++ line ∷ blank ∷ []) ≡ length (concat (second ∷ prefix)) + length (trimmed_line line) =
+    ends_at (second ∷ prefix) line blank in
+    let here : start_of (first ∷ second ∷ (prefix ++ line ∷ blank ∷ [])) ≡ length first + start_of (second ∷ (prefix ++ line ∷ blank ∷ [])) =
+    step first second (prefix ++ line ∷ blank ∷ []) (two_more prefix line blank) in
+    let long : length (concat (first ∷ second ∷ prefix)) ≡ length first + length (concat (second ∷ prefix)) =
+    length-append first (concat (second ∷ prefix)) in
     omega arith
 
-start_is : (before : Lines) (start : ℕ) → StartsBehind before start → start ≡ start_of before
+start_is : (before : Lines) (start : ℕ) → StartsAfter before start → start ≡ start_of before
 unfolding start_of
 start_is before start (inl (none, is)) = is ∙ sym (ap start_of none)
 start_is before start (inr (inl (blank, one, is))) = is ∙ sym (ap start_of one)
-start_is before start (inr (inr (front, line, blank, joined, is))) = is ∙ sym (ends_at front line blank) ∙ sym (ap start_of joined)
+start_is before start (inr (inr (prefix, line, blank, joined, is))) = is ∙ sym (ends_at prefix line blank) ∙ sym (ap start_of joined)
 
 same_start : (lines : Lines) (start start2 : ℕ) → HasBlock lines start → HasBlock lines start2 → start ≡ start2
 same_start lines start start2 one other =
-    let same : one.before ≡ other.before = ap (λ (it : Parts). it.before) (sym (parts_are lines one.before one.run one.after one.last) ∙ parts_are lines other.before other.run other.after other.last) in
+    let same : one.before ≡ other.before =
+    ap (λ (it : Parts). it.before)
+    (sym (parts_are lines one.before one.run one.after one.last) ∙ parts_are lines other.before other.run other.after other.last) in
     start_is one.before start one.starts ∙ ap start_of same ∙ sym (start_is other.before start2 other.starts)
 
 pub one_start : (body : List ℕ) (start start2 : ℕ) → IsBlockStart body start → IsBlockStart body start2 → start ≡ start2
@@ -106,12 +114,14 @@ one_start body start start2 (inr (none, is)) (inr (none2, is2)) = is ∙ sym is2
 
 -- ---- the trailers of a message
 
-of_body : (body : Option (List ℕ)) (trailers trailers2 : List TrailerView) → BodyHasTrailers body trailers → BodyHasTrailers body trailers2 → trailers ≡ trailers2
+of_body : (body : Option (List ℕ)) (trailers trailers2 : List TrailerView) → BodyHasTrailers body trailers → BodyHasTrailers body trailers2
+    → trailers ≡ trailers2
 of_body None trailers trailers2 one other = one ∙ sym other
 of_body (Some body) trailers trailers2 (start, at, is) (start2, at2, is2) =
-    is ∙ ap (λ (n : ℕ). trailers_of_text (drop n body)) (one_start body start start2 at at2) ∙ sym is2
+    is ∙ ap (λ (n : ℕ). trailers_of_bytes (drop n body)) (one_start body start start2 at at2) ∙ sym is2
 
-pub one_list : (message : List ℕ) (trailers trailers2 : List TrailerView) → HasTrailers message trailers → HasTrailers message trailers2 → trailers ≡ trailers2
+pub one_list : (message : List ℕ) (trailers trailers2 : List TrailerView) → HasTrailers message trailers → HasTrailers message trailers2
+    → trailers ≡ trailers2
 one_list message trailers trailers2 one other =
     let same : one.body ≡ other.body = (one_split message one.title other.title one.body other.body one.split other.split).1 in
     of_body other.body trailers trailers2 (subst (λ (body : Option (List ℕ)). BodyHasTrailers body trailers) same one.has) other.has

@@ -1,4 +1,4 @@
--- A body has one list of blocks.
+-- A body has at most one list of blocks; the law `blocks_are_unique` uses it.
 use Rattle.std.proofs.Common.{◌++◌, ◌∙◌, ◌∷◌, ◌≡◌, All, Bool, List, [], ap, append_assoc, cond, drop, false, refl, subst, sym, take, true, ℕ}
 use Rattle.std.proofs.lemmas.List.Elements.{All-cons, All-head, All-nil, All-tail}
 use Rattle.std.specs.Prelude.{◌||◌}
@@ -8,65 +8,66 @@ use Rattle.bstr.proofs.lemmas.RestLemmas.{concat-lines_of}
 use Rattle.gixobj_text.specs.Blocks.{AreBlocksFrom, AreTrailers, BlockView, EndsTrailers, IsBlockOfLines, IsFirstBlock}
 use Rattle.gixobj_text.specs.Blocks.AreBlocksFrom.{block, none}
 use Rattle.gixobj_text.specs.BodyLines.{is_folded, is_trailer_line}
-use Rattle.gixobj_text.specs.Steps.{BeginsTrailer, GoesOn, NoTrailer}
+use Rattle.gixobj_text.specs.Steps.{BeginsTrailer, ContinuesTrailer, NoTrailer}
 
 abbrev Lines : Type 0
 Lines = List (List ℕ)
 
-abbrev goes_on : List ℕ → Bool
-goes_on line = is_trailer_line line || is_folded line
+abbrev continues_trailer : List ℕ → Bool
+continues_trailer line = is_trailer_line line || is_folded line
 
--- ---- the parts of lines, read from the front
+-- ---- the parts of lines, by recursion
 
--- the lines before the first trailer's line, and those from it on
+-- the lines before the first trailer line, and those from it on
 abbrev skipped_of : Lines → Lines
 skipped_of [] = []
 skipped_of (line ∷ lines) = cond (is_trailer_line line) [] (line ∷ skipped_of lines)
 
-abbrev behind_skipped : Lines → Lines
-behind_skipped [] = []
-behind_skipped (line ∷ lines) = cond (is_trailer_line line) (line ∷ lines) (behind_skipped lines)
+abbrev after_skipped : Lines → Lines
+after_skipped [] = []
+after_skipped (line ∷ lines) = cond (is_trailer_line line) (line ∷ lines) (after_skipped lines)
 
--- the lines of trailers at the front, and those behind them
+-- the consecutive trailers at the start, and the lines after them
 abbrev taken_of : Lines → Lines
 taken_of [] = []
-taken_of (line ∷ lines) = cond (goes_on line) (line ∷ taken_of lines) []
+taken_of (line ∷ lines) = cond (continues_trailer line) (line ∷ taken_of lines) []
 
-abbrev behind_taken : Lines → Lines
-behind_taken [] = []
-behind_taken (line ∷ lines) = cond (goes_on line) (behind_taken lines) (line ∷ lines)
+abbrev after_taken : Lines → Lines
+after_taken [] = []
+after_taken (line ∷ lines) = cond (continues_trailer line) (after_taken lines) (line ∷ lines)
 
-skipped_is : (skipped rest : Lines) → All NoTrailer skipped → BeginsTrailer rest → (skipped_of (skipped ++ rest) ≡ skipped) × (behind_skipped (skipped ++ rest) ≡ rest)
+skipped_is : (skipped rest : Lines) → All NoTrailer skipped → BeginsTrailer rest → (skipped_of (skipped ++ rest) ≡ skipped)
+    × (after_skipped (skipped ++ rest) ≡ rest)
 skipped_is [] [] all begins = (refl, refl)
 skipped_is [] (line ∷ rest) all begins =
-    (ap (λ (b : Bool). cond b [] (line ∷ skipped_of rest)) begins, ap (λ (b : Bool). cond b (line ∷ rest) (behind_skipped rest)) begins)
+    (ap (λ (b : Bool). cond b [] (line ∷ skipped_of rest)) begins, ap (λ (b : Bool). cond b (line ∷ rest) (after_skipped rest)) begins)
 skipped_is (line ∷ skipped) rest all begins =
     let here = All-head NoTrailer line skipped all in
     let later = skipped_is skipped rest (All-tail NoTrailer line skipped all) begins in (
       ap (λ (b : Bool). cond b [] (line ∷ skipped_of (skipped ++ rest))) here ∙ ap (λ (ls : Lines). line ∷ ls) later.0,
-      ap (λ (b : Bool). cond b (line ∷ (skipped ++ rest)) (behind_skipped (skipped ++ rest))) here ∙ later.1,
+      ap (λ (b : Bool). cond b (line ∷ (skipped ++ rest)) (after_skipped (skipped ++ rest))) here ∙ later.1,
     )
 
-taken_is : (taken rest : Lines) → All GoesOn taken → EndsTrailers rest → (taken_of (taken ++ rest) ≡ taken) × (behind_taken (taken ++ rest) ≡ rest)
+taken_is : (taken rest : Lines) → All ContinuesTrailer taken → EndsTrailers rest → (taken_of (taken ++ rest) ≡ taken) × (after_taken (taken ++ rest) ≡ rest)
 taken_is [] [] all ends = (refl, refl)
 taken_is [] (line ∷ rest) all ends =
-    (ap (λ (b : Bool). cond b (line ∷ taken_of rest) []) ends, ap (λ (b : Bool). cond b (behind_taken rest) (line ∷ rest)) ends)
+    (ap (λ (b : Bool). cond b (line ∷ taken_of rest) []) ends, ap (λ (b : Bool). cond b (after_taken rest) (line ∷ rest)) ends)
 taken_is (line ∷ taken) rest all ends =
-    let here = All-head GoesOn line taken all in
-    let later = taken_is taken rest (All-tail GoesOn line taken all) ends in (
+    let here = All-head ContinuesTrailer line taken all in
+    let later = taken_is taken rest (All-tail ContinuesTrailer line taken all) ends in (
       ap (λ (b : Bool). cond b (line ∷ taken_of (taken ++ rest)) []) here ∙ ap (λ (ls : Lines). line ∷ ls) later.0,
-      ap (λ (b : Bool). cond b (behind_taken (taken ++ rest)) (line ∷ (taken ++ rest))) here ∙ later.1,
+      ap (λ (b : Bool). cond b (after_taken (taken ++ rest)) (line ∷ (taken ++ rest))) here ∙ later.1,
     )
 
--- ---- so they are one
+-- ---- the parts are unique
 
 either : (a b : Bool) → a ≡ true → (a || b) ≡ true
 either true b is = refl
 either false b is = cc is
 
-all_go_on : (taken : Lines) → AreTrailers taken → All GoesOn taken
-all_go_on [] trailers = All-nil GoesOn
-all_go_on (line ∷ taken) trailers = All-cons GoesOn line taken (either (is_trailer_line line) (is_folded line) trailers.0) trailers.1
+all_go_on : (taken : Lines) → AreTrailers taken → All ContinuesTrailer taken
+all_go_on [] trailers = All-nil ContinuesTrailer
+all_go_on (line ∷ taken) trailers = All-cons ContinuesTrailer line taken (either (is_trailer_line line) (is_folded line) trailers.0) trailers.1
 
 begins : (taken rest : Lines) → AreTrailers taken → (taken ≡ [] → rest ≡ []) → BeginsTrailer (taken ++ rest)
 begins [] rest trailers last = subst BeginsTrailer (sym (last refl)) tt
@@ -74,19 +75,19 @@ begins (line ∷ taken) rest trailers last = trailers.0
 
 record IsCutSo (lines skipped taken rest : Lines) : Type 0 where
   skipped_is : skipped ≡ skipped_of lines
-  taken_is : taken ≡ taken_of (behind_skipped lines)
-  rest_is : rest ≡ behind_taken (behind_skipped lines)
+  taken_is : taken ≡ taken_of (after_skipped lines)
+  rest_is : rest ≡ after_taken (after_skipped lines)
 
 cut_so : (lines skipped taken rest : Lines) → IsBlockOfLines lines skipped taken rest → IsCutSo lines skipped taken rest
 cut_so lines skipped taken rest it =
     let joined : lines ≡ skipped ++ (taken ++ rest) = it.split ∙ append_assoc skipped taken rest in
     let first = skipped_is skipped (taken ++ rest) it.message (begins taken rest it.trailers it.none) in
     let second = taken_is taken rest (all_go_on taken it.trailers) it.ends in
-    let behind : behind_skipped lines ≡ taken ++ rest = ap behind_skipped joined ∙ first.1 in
+    let after : after_skipped lines ≡ taken ++ rest = ap after_skipped joined ∙ first.1 in
     record {
       skipped_is = sym (ap skipped_of joined ∙ first.0);
-      taken_is = sym (ap taken_of behind ∙ second.0);
-      rest_is = sym (ap behind_taken behind ∙ second.1);
+      taken_is = sym (ap taken_of after ∙ second.0);
+      rest_is = sym (ap after_taken after ∙ second.1);
     }
 
 abbrev view : List ℕ → List ℕ → BlockView
@@ -96,24 +97,26 @@ view_is : (one other : BlockView) → one.message ≡ other.message → one.trai
 view_is one other message trailers =
     ap (λ (it : List ℕ). view it one.trailers) message ∙ ap (λ (it : List ℕ). view other.message it) trailers
 
-one_first : (start : ℕ) (text : List ℕ) (one other : BlockView) (rest rest2 : List ℕ) → IsFirstBlock start text one rest → IsFirstBlock start text other rest2 → (one ≡ other) × (rest ≡ rest2)
-one_first start text one other rest rest2 it it2 =
-    let first = cut_so (lines_of (drop start text)) it.skipped it.taken (lines_of rest) it.lines in
-    let second = cut_so (lines_of (drop start text)) it2.skipped it2.taken (lines_of rest2) it2.lines in
+one_first : (start : ℕ) (bytes : List ℕ) (one other : BlockView) (rest rest2 : List ℕ) → IsFirstBlock start bytes one rest
+    → IsFirstBlock start bytes other rest2 → (one ≡ other) × (rest ≡ rest2)
+one_first start bytes one other rest rest2 it it2 =
+    let first = cut_so (lines_of (drop start bytes)) it.skipped it.consumed (lines_of rest) it.lines in
+    let second = cut_so (lines_of (drop start bytes)) it2.skipped it2.consumed (lines_of rest2) it2.lines in
     let skipped : it.skipped ≡ it2.skipped = first.skipped_is ∙ sym second.skipped_is in
-    let taken : it.taken ≡ it2.taken = first.taken_is ∙ sym second.taken_is in
-    let behind : lines_of rest ≡ lines_of rest2 = first.rest_is ∙ sym second.rest_is in (
+    let taken : it.consumed ≡ it2.consumed = first.taken_is ∙ sym second.taken_is in
+    let after : lines_of rest ≡ lines_of rest2 = first.rest_is ∙ sym second.rest_is in (
       view_is one other
-          (it.message ∙ ap (λ (ls : Lines). take start text ++ concat ls) skipped ∙ sym it2.message)
+          (it.message ∙ ap (λ (ls : Lines). take start bytes ++ concat ls) skipped ∙ sym it2.message)
           (it.trailers ∙ ap (λ (ls : Lines). concat ls) taken ∙ sym it2.trailers),
-      sym (concat-lines_of rest) ∙ ap (λ (ls : Lines). concat ls) behind ∙ concat-lines_of rest2,
+      sym (concat-lines_of rest) ∙ ap (λ (ls : Lines). concat ls) after ∙ concat-lines_of rest2,
     )
 
-pub one_list : (start : ℕ) (body : List ℕ) (blocks blocks2 : List BlockView) → AreBlocksFrom start body blocks → AreBlocksFrom start body blocks2 → blocks ≡ blocks2
+pub one_list : (start : ℕ) (body : List ℕ) (blocks blocks2 : List BlockView) → AreBlocksFrom start body blocks → AreBlocksFrom start body blocks2
+    → blocks ≡ blocks2
 one_list start body blocks blocks2 (none _) (none _) = refl
 one_list start body blocks blocks2 (none _) (block _ _ one rest later it more) = absurd (it.some refl)
 one_list start body blocks blocks2 (block _ _ one rest later it more) (none _) = absurd (it.some refl)
 one_list start body blocks blocks2 (block _ _ one rest later it more) (block _ _ other rest2 later2 it2 more2) =
     let same = one_first start body one other rest rest2 it it2 in
     ap (λ (b : BlockView). b ∷ later) same.0
-    ∙ ap (λ (bs : List BlockView). other ∷ bs) (one_list 0 rest later later2 more (subst (λ (text : List ℕ). AreBlocksFrom 0 text later2) (sym same.1) more2))
+    ∙ ap (λ (bs : List BlockView). other ∷ bs) (one_list 0 rest later later2 more (subst (λ (bytes : List ℕ). AreBlocksFrom 0 bytes later2) (sym same.1) more2))

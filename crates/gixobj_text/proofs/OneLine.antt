@@ -1,12 +1,13 @@
--- A line more behind lines: their last run, and the counts of a run.
+-- One more line after lines: their last run, and the counts of a run; `Scans`, `Counted`, `LastRuns` and `Steps` use
+-- these lemmas.
 use Rattle.std.proofs.Common.{◌++◌, ◌+◌, ◌∙◌, ◌∷◌, ◌≡◌, ◌≢◌, All, Bool, List, [], ap, append-nil, append_assoc, arith, cond, false, inr, refl, sym, true, ℕ}
 use Rattle.std.proofs.lemmas.List.Elements.{All-cons, All-head, All-nil, All-tail}
 use Rattle.std.specs.Prelude.{IsFalse, IsTrue, ◌||◌}
 use Rattle.std.specs.List.{list_any}
-use Rattle.gixobj_text.specs.Counting.{other_of}
+use Rattle.gixobj_text.specs.Counting.{other_count_of}
 use Rattle.gixobj_text.specs.BodyLines.{is_blank, is_indented}
-use Rattle.gixobj_text.specs.Scanning.{above_behind}
-use Rattle.gixobj_text.specs.TrailerBlocks.{EndsBlank, IsLastRun, is_trailing, others}
+use Rattle.gixobj_text.specs.Scanning.{is_below_trailer_after}
+use Rattle.gixobj_text.specs.TrailerBlocks.{EndsBlank, IsLastRun, is_trailing, count_others}
 
 abbrev pub Lines : Type 0
 Lines = List (List ℕ)
@@ -19,7 +20,8 @@ Filled line = IsFalse (is_blank line)
 
 pub all_more : (P : List ℕ → Type 0) (lines : Lines) (line : List ℕ) → All P lines → P line → All P (lines ++ line ∷ [])
 all_more P [] line all it = All-cons P line [] it (All-nil P)
-all_more P (first ∷ lines) line all it = All-cons P first (lines ++ line ∷ []) (All-head P first lines all) (all_more P lines line (All-tail P first lines all) it)
+all_more P (first ∷ lines) line all it = All-cons P first (lines ++ line ∷ []) (All-head P first lines all)
+    (all_more P lines line (All-tail P first lines all) it)
 
 not_none : (run : Lines) (line : List ℕ) → run ++ line ∷ [] ≢ []
 not_none [] line = λ is. cc is
@@ -27,8 +29,9 @@ not_none (first ∷ run) line = λ is. cc is
 
 -- ---- the last run
 
--- a blank line stands behind the run
-pub blank_more : (lines before run after : Lines) (line : List ℕ) → Blank line → IsLastRun lines before run after → IsLastRun (lines ++ line ∷ []) before run (after ++ line ∷ [])
+-- a blank line follows the run
+pub blank_more : (lines before run after : Lines) (line : List ℕ) → Blank line → IsLastRun lines before run after
+    → IsLastRun (lines ++ line ∷ []) before run (after ++ line ∷ [])
 blank_more lines before run after line blank last = record {
   joined = ap (λ (ls : Lines). ls ++ line ∷ []) last.joined ∙ append_assoc (before ++ run) after (line ∷ []);
   some = last.some;
@@ -37,17 +40,19 @@ blank_more lines before run after line blank last = record {
   ends = last.ends;
 }
 
--- another line goes on with the run, where none stands behind it
-pub filled_more : (lines before run : Lines) (line : List ℕ) → Filled line → IsLastRun lines before run [] → IsLastRun (lines ++ line ∷ []) before (run ++ line ∷ []) []
+-- another line continues the run, if no line follows the run yet
+pub filled_more : (lines before run : Lines) (line : List ℕ) → Filled line → IsLastRun lines before run []
+    → IsLastRun (lines ++ line ∷ []) before (run ++ line ∷ []) []
 filled_more lines before run line filled last = record {
-  joined = ap (λ (ls : Lines). ls ++ line ∷ []) (last.joined ∙ append-nil (before ++ run)) ∙ append_assoc before run (line ∷ []) ∙ sym (append-nil (before ++ (run ++ line ∷ [])));
+  joined = ap (λ (ls : Lines). ls ++ line ∷ []) (last.joined ∙ append-nil (before ++ run)) ∙ append_assoc before run (line ∷ [])
+      ∙ sym (append-nil (before ++ (run ++ line ∷ [])));
   some = not_none run line;
   none_blank = all_more Filled run line last.none_blank filled;
   all_blank = last.all_blank;
   ends = last.ends;
 }
 
--- and begins a run behind lines that end in a blank one
+-- another line begins a run after lines that end in a blank line
 pub filled_first : (lines : Lines) (line : List ℕ) → Filled line → EndsBlank lines → IsLastRun (lines ++ line ∷ []) lines (line ∷ []) []
 filled_first lines line filled ends = record {
   joined = sym (append-nil (lines ++ line ∷ []));
@@ -62,7 +67,8 @@ ends_blank lines line blank = inr (lines, line, refl, blank)
 
 -- ---- counts
 
-one_line : (t i above : Bool) → cond t (others true []) (cond i (cond above 0 1 + others above []) (1 + others false [])) ≡ cond t 0 (cond i (cond above 0 1) 1)
+one_line : (t i above : Bool) → cond t (count_others true []) (cond i (cond above 0 1 + count_others above []) (1 + count_others false [])) ≡ cond t 0
+    (cond i (cond above 0 1) 1)
 one_line true i above = refl
 one_line false true true = refl
 one_line false true false = refl
@@ -74,29 +80,35 @@ plus_so k c f w is = grind (arith)
 from_none : (a b : ℕ) → a ≡ b → a ≡ 0 + b
 from_none a b is = grind (arith)
 
-behind_first : (t i above : Bool) (a b c d e f : ℕ) (x y z : Bool) (line : List ℕ) → a ≡ d + other_of x line → b ≡ e + other_of y line → c ≡ f + other_of z line
-    → cond t a (cond i (cond above 0 1 + b) (1 + c)) ≡ cond t d (cond i (cond above 0 1 + e) (1 + f)) + other_of (cond t x (cond i y z)) line
-behind_first true i above a b c d e f x y z line first second third = first
-behind_first false true true a b c d e f x y z line first second third = plus_so 0 b e (other_of y line) second
-behind_first false true false a b c d e f x y z line first second third = plus_so 1 b e (other_of y line) second
-behind_first false false above a b c d e f x y z line first second third = plus_so 1 c f (other_of z line) third
+after_first : (t i above : Bool) (a b c d e f : ℕ) (x y z : Bool) (line : List ℕ) → a ≡ d + other_count_of x line → b ≡ e + other_count_of y line
+    → c ≡ f + other_count_of z line
+    → cond t a (cond i (cond above 0 1 + b) (1 + c)) ≡ cond t d (cond i (cond above 0 1 + e) (1 + f)) + other_count_of (cond t x (cond i y z)) line
+after_first true i above a b c d e f x y z line first second third = first
+after_first false true true a b c d e f x y z line first second third = plus_so 0 b e (other_count_of y line) second
+after_first false true false a b c d e f x y z line first second third = plus_so 1 b e (other_count_of y line) second
+after_first false false above a b c d e f x y z line first second third = plus_so 1 c f (other_count_of z line) third
 
-pub others_more : (above : Bool) (run : Lines) (line : List ℕ) → others above (run ++ line ∷ []) ≡ others above run + other_of (above_behind above run) line
-others_more above [] line = from_none (others above (line ∷ [])) (other_of above line) (one_line (is_trailing line) (is_indented line) above)
+pub others_more : (above : Bool) (run : Lines) (line : List ℕ) → count_others above (run ++ line ∷ []) ≡ count_others above run + other_count_of
+    (is_below_trailer_after above run) line
+others_more above [] line = from_none (count_others above (line ∷ [])) (other_count_of above line) (one_line (is_trailing line) (is_indented line) above)
 others_more above (first ∷ run) line =
-    behind_first (is_trailing first) (is_indented first) above _ _ _ _ _ _ (above_behind true run) (above_behind above run) (above_behind false run) line
+    after_first (is_trailing first) (is_indented first) above _ _ _ _ _ _ (is_below_trailer_after true run) (is_below_trailer_after above run)
+    (is_below_trailer_after false run) line
     (others_more true run line) (others_more above run line) (others_more false run line)
 
-above_first : (t i : Bool) (a b c x y z : Bool) (t2 i2 : Bool) → a ≡ cond t2 true (cond i2 x false) → b ≡ cond t2 true (cond i2 y false) → c ≡ cond t2 true (cond i2 z false)
+above_first : (t i : Bool) (a b c x y z : Bool) (t2 i2 : Bool) → a ≡ cond t2 true (cond i2 x false) → b ≡ cond t2 true (cond i2 y false)
+    → c ≡ cond t2 true (cond i2 z false)
     → cond t a (cond i b c) ≡ cond t2 true (cond i2 (cond t x (cond i y z)) false)
 above_first true i a b c x y z t2 i2 first second third = first
 above_first false true a b c x y z t2 i2 first second third = second
 above_first false false a b c x y z t2 i2 first second third = third
 
-pub above_more : (above : Bool) (run : Lines) (line : List ℕ) → above_behind above (run ++ line ∷ []) ≡ cond (is_trailing line) true (cond (is_indented line) (above_behind above run) false)
+pub above_more : (above : Bool) (run : Lines) (line : List ℕ) → is_below_trailer_after above (run ++ line ∷ []) ≡ cond (is_trailing line) true
+    (cond (is_indented line) (is_below_trailer_after above run) false)
 above_more above [] line = refl
 above_more above (first ∷ run) line =
-    above_first (is_trailing first) (is_indented first) _ _ _ (above_behind true run) (above_behind above run) (above_behind false run) (is_trailing line) (is_indented line)
+    above_first (is_trailing first) (is_indented first) _ _ _ (is_below_trailer_after true run) (is_below_trailer_after above run)
+    (is_below_trailer_after false run) (is_trailing line) (is_indented line)
     (above_more true run line) (above_more above run line) (above_more false run line)
 
 or_apart : (a b c : Bool) → a || (b || c) ≡ (a || b) || c

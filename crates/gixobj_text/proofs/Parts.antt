@@ -1,4 +1,4 @@
--- The parts of a body: its messages and their trailers, joined, are the body.
+-- The messages of a body and their trailers append to the body.
 use Rattle.std.proofs.Common.{◌++◌, ◌∙◌, ◌∷◌, ◌≡◌, List, [], ap, append_assoc, drop, refl, sym, take, ℕ}
 use lib.ListN.{take-append-drop}
 use Rattle.std.specs.List.{concat}
@@ -15,13 +15,15 @@ concat_three : (a b c : List (List ℕ)) → concat ((a ++ b) ++ c) ≡ concat a
 concat_three a b c =
     concat_two (a ++ b) c ∙ ap (λ (bytes : List ℕ). bytes ++ concat c) (concat_two a b) ∙ append_assoc (concat a) (concat b) (concat c)
 
--- so are those of a text
-pub of_text : (start : ℕ) (text : List ℕ) (blocks : List BlockView) → AreBlocksFrom start text blocks → joined_parts blocks ≡ text
-of_text start text blocks (none _) = refl
-of_text start text blocks (block _ _ one rest later it more) =
+-- the parts of the blocks of bytes append to these bytes
+pub of_bytes : (start : ℕ) (content : List ℕ) (blocks : List BlockView) → AreBlocksFrom start content blocks → joined_parts blocks ≡ content
+of_bytes start content blocks (none _) = refl
+of_bytes start content blocks (block _ _ one rest later it more) =
     ap (λ (bytes : List ℕ). bytes ++ (one.trailers ++ joined_parts later)) it.message
-    ∙ append_assoc (take start text) (concat it.skipped) (one.trailers ++ joined_parts later)
-    ∙ ap (λ (bytes : List ℕ). take start text ++ (concat it.skipped ++ (bytes ++ joined_parts later))) it.trailers
-    ∙ ap (λ (bytes : List ℕ). take start text ++ (concat it.skipped ++ (concat it.taken ++ bytes))) (of_text 0 rest later more ∙ sym (concat-lines_of rest))
-    ∙ ap (λ (bytes : List ℕ). take start text ++ bytes) (sym (ap concat it.lines.split ∙ concat_three it.skipped it.taken (lines_of rest)) ∙ concat-lines_of (drop start text))
-    ∙ take-append-drop start text
+    ∙ append_assoc (take start content) (concat it.skipped) (one.trailers ++ joined_parts later)
+    ∙ ap (λ (bytes : List ℕ). take start content ++ (concat it.skipped ++ (bytes ++ joined_parts later))) it.trailers
+    ∙ ap (λ (bytes : List ℕ). take start content ++ (concat it.skipped ++ (concat it.consumed ++ bytes)))
+    (of_bytes 0 rest later more ∙ sym (concat-lines_of rest))
+    ∙ ap (λ (bytes : List ℕ). take start content ++ bytes) (sym (ap concat it.lines.split ∙ concat_three it.skipped it.consumed (lines_of rest))
+    ∙ concat-lines_of (drop start content))
+    ∙ take-append-drop start content

@@ -1,4 +1,5 @@
--- Reading trailers line by line.
+-- Trailer lines and their values are decoded line by line; the functions of `trailer_lines` and `trailers` use these
+-- lemmas.
 use Rattle.std.proofs.Common.{◌++◌, ◌+◌, ◌-◌, ◌<◌, ◌∙◌, ◌∷◌, ◌≡◌, ◌≢◌, ◌≤◌, Bool, List, None, Option, Some, [], ap, append-nil, append_assoc, arith, cond, false, filter, length, length-append, map, refl, suc, sym, take, true, ℕ}
 use Rattle.std.proofs.lemmas.Bool.Decides.{nat_tests}
 use Rattle.std.proofs.lemmas.List.Sums.{take_while-cons}
@@ -9,10 +10,10 @@ use Rattle.bstr.specs.Owned.{joined}
 use Rattle.bstr.specs.Text.{lines_of}
 use Rattle.bstr.proofs.lemmas.LineLemmas.{lines-nil}
 use Rattle.gixobj_text.specs.FirstLines.{IsFirstLine}
-use Rattle.gixobj_text.specs.BodyLines.{TrailerParts, begins_indented, behind_gap, is_blank, is_folded, is_indented, is_token_byte, one_more, parts_of_line, rest_of_token, text_of, trailer_parts, with_value}
-use Rattle.gixobj_text.specs.Scanning.{behind_token}
-use Rattle.gixobj_text.specs.Trailers.{trailers_of, trailers_of_text, unfolded, with_trailer}
-use Rattle.gixobj_hash.specs.Texts.{is_filled, trimmed}
+use Rattle.gixobj_text.specs.BodyLines.{TrailerParts, begins_indented, after_gap, is_blank, is_folded, is_indented, is_token_byte, token_byte_step, parts_of_line, rest_of_token, trimmed_line, trailer_parts, with_value}
+use Rattle.gixobj_text.specs.Scanning.{after_token}
+use Rattle.gixobj_text.specs.Trailers.{trailers_of, trailers_of_bytes, unfolded, with_trailer}
+use Rattle.gixobj_hash.specs.ByteStrings.{is_filled, trimmed}
 use Rattle.gixobj_text.specs.Unfolding.{IsNextTrailer, are_some, first_is_folded, with_folded, with_piece, with_pieces}
 
 abbrev Lines : Type 0
@@ -20,15 +21,17 @@ Lines = List (List ℕ)
 
 -- ---- the parts of a line
 
-within_by : (b : Bool) (byte : ℕ) (rest : List ℕ) → length (behind_token rest) ≤ length rest → length (cond b (behind_token rest) (byte ∷ rest)) ≤ length (byte ∷ rest)
+within_by : (b : Bool) (byte : ℕ) (rest : List ℕ) → length (after_token rest) ≤ length rest
+    → length (cond b (after_token rest) (byte ∷ rest)) ≤ length
+    (byte ∷ rest)
 within_by true byte rest is = omega arith
 within_by false byte rest is = omega arith
 
-pub within : (text : List ℕ) → length (behind_token text) ≤ length text
+pub within : (bytes : List ℕ) → length (after_token bytes) ≤ length bytes
 within [] = omega arith
 within (byte ∷ rest) = within_by (is_token_byte byte) byte rest (within rest)
 
-value_more : (byte : ℕ) (token : List ℕ) (found : Option (List ℕ)) → one_more byte (with_value token found) ≡ with_value (byte ∷ token) found
+value_more : (byte : ℕ) (token : List ℕ) (found : Option (List ℕ)) → token_byte_step byte (with_value token found) ≡ with_value (byte ∷ token) found
 value_more byte token None = refl
 value_more byte token (Some value) = refl
 
@@ -38,34 +41,41 @@ take_more n m byte rest few = ap (λ (k : ℕ). take k (byte ∷ rest)) (let is 
 take_none : (n : ℕ) (rest : List ℕ) → take (n - n) rest ≡ []
 take_none n rest = ap (λ (k : ℕ). take k rest) (let is : n - n ≡ 0 = omega arith in is)
 
-rest_by : (b : Bool) (byte : ℕ) (rest : List ℕ) → rest_of_token rest ≡ with_value (take (length rest - length (behind_token rest)) rest) (behind_gap (behind_token rest))
-    → cond b (one_more byte (rest_of_token rest)) (with_value [] (behind_gap (byte ∷ rest)))
-    ≡ with_value (take (suc (length rest) - length (cond b (behind_token rest) (byte ∷ rest))) (byte ∷ rest)) (behind_gap (cond b (behind_token rest) (byte ∷ rest)))
+rest_by : (b : Bool) (byte : ℕ) (rest : List ℕ) → rest_of_token rest ≡ with_value (take (length rest - length (after_token rest)) rest)
+    (after_gap (after_token rest))
+    → cond b (token_byte_step byte (rest_of_token rest)) (with_value [] (after_gap (byte ∷ rest)))
+    ≡ with_value (take (suc (length rest) - length (cond b (after_token rest) (byte ∷ rest))) (byte ∷ rest))
+    (after_gap (cond b (after_token rest) (byte ∷ rest)))
 rest_by true byte rest later =
-    ap (one_more byte) later ∙ value_more byte (take (length rest - length (behind_token rest)) rest) (behind_gap (behind_token rest))
-    ∙ sym (ap (λ (token : List ℕ). with_value token (behind_gap (behind_token rest))) (take_more (length rest) (length (behind_token rest)) byte rest (within rest)))
-rest_by false byte rest later = sym (ap (λ (token : List ℕ). with_value token (behind_gap (byte ∷ rest))) (take_none (suc (length rest)) (byte ∷ rest)))
+    ap (token_byte_step byte) later ∙ value_more byte (take (length rest - length (after_token rest)) rest) (after_gap (after_token rest))
+    ∙ sym (ap (λ (token : List ℕ). with_value token (after_gap (after_token rest)))
+    (take_more (length rest) (length (after_token rest)) byte rest (within rest)))
+rest_by false byte rest later =
+    sym (ap (λ (token : List ℕ). with_value token (after_gap (byte ∷ rest))) (take_none (suc (length rest)) (byte ∷ rest)))
 
-rest_parts : (text : List ℕ) → rest_of_token text ≡ with_value (take (length text - length (behind_token text)) text) (behind_gap (behind_token text))
+rest_parts : (bytes : List ℕ) → rest_of_token bytes ≡ with_value (take (length bytes - length (after_token bytes)) bytes)
+    (after_gap (after_token bytes))
 rest_parts [] = refl
 rest_parts (byte ∷ rest) = rest_by (is_token_byte byte) byte rest (rest_parts rest)
 
 pub parts_is : (byte : ℕ) (rest : List ℕ) → is_token_byte byte ≡ true
-    → trailer_parts (byte ∷ rest) ≡ with_value (take (length (byte ∷ rest) - length (behind_token rest)) (byte ∷ rest)) (behind_gap (behind_token rest))
+    → trailer_parts (byte ∷ rest) ≡ with_value (take (length (byte ∷ rest) - length (after_token rest)) (byte ∷ rest)) (after_gap (after_token rest))
 parts_is byte rest is =
-    ap (λ (b : Bool). cond b (one_more byte (rest_of_token rest)) None) is
-    ∙ ap (one_more byte) (rest_parts rest) ∙ value_more byte (take (length rest - length (behind_token rest)) rest) (behind_gap (behind_token rest))
-    ∙ sym (ap (λ (token : List ℕ). with_value token (behind_gap (behind_token rest))) (take_more (length rest) (length (behind_token rest)) byte rest (within rest)))
+    ap (λ (b : Bool). cond b (token_byte_step byte (rest_of_token rest)) None) is
+    ∙ ap (token_byte_step byte) (rest_parts rest) ∙ value_more byte (take (length rest - length (after_token rest)) rest)
+    (after_gap (after_token rest))
+    ∙ sym (ap (λ (token : List ℕ). with_value token (after_gap (after_token rest)))
+    (take_more (length rest) (length (after_token rest)) byte rest (within rest)))
 
 pub parts_none : (byte : ℕ) (rest : List ℕ) → is_token_byte byte ≡ false → trailer_parts (byte ∷ rest) ≡ None
-parts_none byte rest is = ap (λ (b : Bool). cond b (one_more byte (rest_of_token rest)) None) is
+parts_none byte rest is = ap (λ (b : Bool). cond b (token_byte_step byte (rest_of_token rest)) None) is
 
--- ---- lines that belong to a trailer are none themselves
+-- ---- continuation lines aren't trailer lines
 
 space_no_token : (byte : ℕ) → is_ascii_whitespace byte ≡ true → is_token_byte byte ≡ false
 space_no_token byte is = grind (arith, nat_tests)
 
-indented_none : (text : List ℕ) → begins_indented text ≡ true → trailer_parts text ≡ None
+indented_none : (bytes : List ℕ) → begins_indented bytes ≡ true → trailer_parts bytes ≡ None
 indented_none [] is = refl
 indented_none (byte ∷ rest) is = parts_none byte rest (space_no_token byte is)
 
@@ -74,86 +84,104 @@ second true b is = cc is
 second false b is = is
 
 pub folded_none : (line : List ℕ) → is_folded line ≡ true → parts_of_line line ≡ None
-folded_none line is = indented_none (text_of line) (second (is_blank line) (is_indented line) is)
+folded_none line is = indented_none (trimmed_line line) (second (is_blank line) (is_indented line) is)
 
--- ---- past a line that is no trailer's
+-- ---- skipping a line that isn't a trailer line
 
-pub trailers_past : (text line rest : List ℕ) → IsFirstLine text line rest → parts_of_line line ≡ None → trailers_of_text text ≡ trailers_of_text rest
-trailers_past text line rest first none =
-    ap trailers_of first.lines ∙ ap (λ (parts : Option TrailerParts). with_trailer parts (take_while is_folded (lines_of rest)) (trailers_of_text rest)) none
+pub trailers_past : (bytes line rest : List ℕ) → IsFirstLine bytes line rest → parts_of_line line ≡ None
+    → trailers_of_bytes bytes ≡ trailers_of_bytes rest
+trailers_past bytes line rest first none =
+    ap trailers_of first.lines
+    ∙ ap (λ (parts : Option TrailerParts). with_trailer parts (take_while is_folded (lines_of rest)) (trailers_of_bytes rest)) none
 
-pub folded_past : (text line rest : List ℕ) → IsFirstLine text line rest → parts_of_line line ≡ None → first_is_folded (lines_of text) ≡ first_is_folded (lines_of rest)
-folded_past text line rest first none =
-    ap first_is_folded first.lines ∙ ap (λ (parts : Option TrailerParts). cond (is_some parts) (are_some (take_while is_folded (lines_of rest))) (first_is_folded (lines_of rest))) none
+pub folded_past : (bytes line rest : List ℕ) → IsFirstLine bytes line rest → parts_of_line line ≡ None
+    → first_is_folded (lines_of bytes) ≡ first_is_folded
+    (lines_of rest)
+folded_past bytes line rest first none =
+    ap first_is_folded first.lines ∙ ap (λ (parts : Option TrailerParts). cond (is_some parts) (are_some (take_while is_folded (lines_of rest)))
+    (first_is_folded (lines_of rest))) none
 
-pub shorter : (text line rest : List ℕ) → IsFirstLine text line rest → length rest < length text
-shorter text line rest first = by_line text line rest first.joined first.some
+pub shorter : (bytes line rest : List ℕ) → IsFirstLine bytes line rest → length rest < length bytes
+shorter bytes line rest first = by_line bytes line rest first.joined first.some
   where
-    by_line : (text line rest : List ℕ) → text ≡ line ++ rest → line ≢ [] → length rest < length text
-    by_line text [] rest joined some = absurd (some refl)
-    by_line text (byte ∷ line) rest joined some =
-        let is : length text ≡ length (byte ∷ line) + length rest = ap length joined ∙ length-append (byte ∷ line) rest in omega arith
+    by_line : (bytes line rest : List ℕ) → bytes ≡ line ++ rest → line ≢ [] → length rest < length bytes
+    by_line bytes [] rest joined some = absurd (some refl)
+    by_line bytes (byte ∷ line) rest joined some =
+        let is : length bytes ≡ length (byte ∷ line) + length rest = ap length joined ∙ length-append (byte ∷ line) rest in omega arith
 
-pub trailer_here : (whole text line rest token first : List ℕ) → trailers_of_text text ≡ trailers_of_text whole → first_is_folded (lines_of text) ≡ first_is_folded (lines_of whole) → length text ≤ length whole
-    → IsFirstLine text line rest → Some (token, first) ≡ parts_of_line line → IsNextTrailer whole token first rest
-trailer_here whole text line rest token first trailers folded few one is =
-    let less : length rest < length text = shorter text line rest one in
+pub trailer_here : (entire bytes line rest token first : List ℕ) → trailers_of_bytes bytes ≡ trailers_of_bytes entire
+    → first_is_folded (lines_of bytes) ≡ first_is_folded (lines_of entire) → length bytes ≤ length entire
+    → IsFirstLine bytes line rest → Some (token, first) ≡ parts_of_line line → IsNextTrailer entire token first rest
+trailer_here entire bytes line rest token first trailers folded few one is =
+    let less : length rest < length bytes = shorter bytes line rest one in
     record {
-      trailers = sym trailers ∙ ap trailers_of one.lines ∙ ap (λ (parts : Option TrailerParts). with_trailer parts (take_while is_folded (lines_of rest)) (trailers_of_text rest)) (sym is);
+      trailers = sym trailers ∙ ap trailers_of one.lines
+          ∙ ap (λ (parts : Option TrailerParts). with_trailer parts (take_while is_folded (lines_of rest)) (trailers_of_bytes rest)) (sym is);
       folded = sym folded ∙ ap first_is_folded one.lines
-          ∙ ap (λ (parts : Option TrailerParts). cond (is_some parts) (are_some (take_while is_folded (lines_of rest))) (first_is_folded (lines_of rest))) (sym is);
+          ∙ ap (λ (parts : Option TrailerParts). cond (is_some parts) (are_some (take_while is_folded (lines_of rest)))
+          (first_is_folded (lines_of rest)))
+          (sym is);
       shorter = omega arith;
     }
 
-pub none_left : (text : List ℕ) → text ≡ [] → trailers_of_text text ≡ []
-none_left text none = ap trailers_of (ap lines_of none ∙ lines-nil)
+pub none_remaining : (bytes : List ℕ) → bytes ≡ [] → trailers_of_bytes bytes ≡ []
+none_remaining bytes none = ap trailers_of (ap lines_of none ∙ lines-nil)
 
--- ---- a value's lines
+-- ---- the lines of a value
 
-pub folded_nothing : (text : List ℕ) → text ≡ [] → take_while is_folded (lines_of text) ≡ []
-folded_nothing text none = ap (take_while is_folded) (ap lines_of none ∙ lines-nil)
+pub folded_nothing : (bytes : List ℕ) → bytes ≡ [] → take_while is_folded (lines_of bytes) ≡ []
+folded_nothing bytes none = ap (take_while is_folded) (ap lines_of none ∙ lines-nil)
 
-pub taken_by : (b : Bool) (line : List ℕ) (lines : Lines) → is_folded line ≡ b → take_while is_folded (line ∷ lines) ≡ cond b (line ∷ take_while is_folded lines) []
+pub taken_by : (b : Bool) (line : List ℕ) (lines : Lines) → is_folded line ≡ b → take_while is_folded (line ∷ lines) ≡ cond b
+    (line ∷ take_while is_folded lines) []
 taken_by b line lines is = take_while-cons is_folded line lines ∙ ap (λ (c : Bool). cond c (line ∷ take_while is_folded lines) []) is
 
-pub folded_more : (items text line rest : List ℕ) → IsFirstLine text line rest → is_folded line ≡ true → with_folded items (lines_of text) ≡ with_folded (with_piece items (trimmed (text_of line))) (lines_of rest)
-folded_more items text line rest first is =
-    ap (λ (ls : Lines). with_pieces items (map trimmed (map text_of ls))) (ap (take_while is_folded) first.lines ∙ taken_by true line (lines_of rest) is)
+pub folded_more : (items bytes line rest : List ℕ) → IsFirstLine bytes line rest → is_folded line ≡ true
+    → with_folded items (lines_of bytes) ≡ with_folded
+    (with_piece items (trimmed (trimmed_line line))) (lines_of rest)
+folded_more items bytes line rest first is =
+    ap (λ (ls : Lines). with_pieces items (map trimmed (map trimmed_line ls)))
+    (ap (take_while is_folded) first.lines ∙ taken_by true line (lines_of rest) is)
 
-pub folded_ends : (items text line rest : List ℕ) → IsFirstLine text line rest → is_folded line ≡ false → with_folded items (lines_of text) ≡ items
-folded_ends items text line rest first is =
-    ap (λ (ls : Lines). with_pieces items (map trimmed (map text_of ls))) (ap (take_while is_folded) first.lines ∙ taken_by false line (lines_of rest) is)
+pub folded_ends : (items bytes line rest : List ℕ) → IsFirstLine bytes line rest → is_folded line ≡ false → with_folded items (lines_of bytes) ≡ items
+folded_ends items bytes line rest first is =
+    ap (λ (ls : Lines). with_pieces items (map trimmed (map trimmed_line ls)))
+    (ap (take_while is_folded) first.lines ∙ taken_by false line (lines_of rest) is)
 
-pub folded_all : (items text : List ℕ) → text ≡ [] → with_folded items (lines_of text) ≡ items
-folded_all items text none = ap (λ (ls : Lines). with_pieces items (map trimmed (map text_of ls))) (folded_nothing text none)
+pub folded_all : (items bytes : List ℕ) → bytes ≡ [] → with_folded items (lines_of bytes) ≡ items
+folded_all items bytes none = ap (λ (ls : Lines). with_pieces items (map trimmed (map trimmed_line ls))) (folded_nothing bytes none)
 
--- ---- unfolded
+-- ---- the unfolded value
 
 abbrev spaced : Lines → List ℕ
 spaced pieces = flat_map (λ (it : List ℕ). (32 ∷ []) ++ it) pieces
 
-behind_filled : (byte : ℕ) (items : List ℕ) (pieces : Lines) → with_pieces (byte ∷ items) pieces ≡ (byte ∷ items) ++ spaced (filter is_filled pieces)
-behind_filled byte items [] = sym (append-nil (byte ∷ items))
-behind_filled byte items ([] ∷ pieces) = behind_filled byte items pieces
-behind_filled byte items ((one ∷ piece) ∷ pieces) =
-    behind_filled byte (items ++ 32 ∷ one ∷ piece) pieces ∙ append_assoc (byte ∷ items) (32 ∷ one ∷ piece) (spaced (filter is_filled pieces))
+after_filled : (byte : ℕ) (items : List ℕ) (pieces : Lines) → with_pieces (byte ∷ items) pieces ≡ (byte ∷ items) ++ spaced (filter is_filled pieces)
+after_filled byte items [] = sym (append-nil (byte ∷ items))
+after_filled byte items ([] ∷ pieces) = after_filled byte items pieces
+after_filled byte items ((one ∷ piece) ∷ pieces) =
+    after_filled byte (items ++ 32 ∷ one ∷ piece) pieces ∙ append_assoc (byte ∷ items) (32 ∷ one ∷ piece) (spaced (filter is_filled pieces))
 
 from_nothing : (pieces : Lines) → with_pieces [] pieces ≡ joined (32 ∷ []) (filter is_filled pieces)
 from_nothing [] = refl
 from_nothing ([] ∷ pieces) = from_nothing pieces
-from_nothing ((byte ∷ piece) ∷ pieces) = behind_filled byte piece pieces
+from_nothing ((byte ∷ piece) ∷ pieces) = after_filled byte piece pieces
 
-unfolded_by : (first : List ℕ) (lines : Lines) → are_some lines ≡ true → with_pieces (with_piece [] (trimmed first)) (map trimmed (map text_of lines)) ≡ unfolded first (map text_of lines)
+unfolded_by : (first : List ℕ) (lines : Lines) → are_some lines ≡ true → with_pieces (with_piece [] (trimmed first))
+    (map trimmed (map trimmed_line lines))
+    ≡ unfolded first (map trimmed_line lines)
 unfolded_by first [] some = cc some
-unfolded_by first (line ∷ lines) some = from_nothing (map trimmed (first ∷ map text_of (line ∷ lines)))
+unfolded_by first (line ∷ lines) some = from_nothing (map trimmed (first ∷ map trimmed_line (line ∷ lines)))
 
-pub unfolded_is : (first : List ℕ) (lines : Lines) → are_some (take_while is_folded lines) ≡ true → with_folded (with_piece [] (trimmed first)) lines ≡ unfolded first (map text_of (take_while is_folded lines))
+pub unfolded_is : (first : List ℕ) (lines : Lines) → are_some (take_while is_folded lines) ≡ true
+    → with_folded (with_piece [] (trimmed first)) lines ≡ unfolded first (map trimmed_line (take_while is_folded lines))
 unfolded_is first lines some = unfolded_by first (take_while is_folded lines) some
 
 -- the value of one line
-trimmed_by : (first : List ℕ) (lines : Lines) → are_some lines ≡ false → unfolded first (map text_of lines) ≡ trimmed first
+trimmed_by : (first : List ℕ) (lines : Lines) → are_some lines ≡ false → unfolded first (map trimmed_line lines) ≡ trimmed first
 trimmed_by first [] none = refl
 trimmed_by first (line ∷ lines) none = cc none
 
-pub trimmed_is : (first : List ℕ) (lines : Lines) → are_some (take_while is_folded lines) ≡ false → unfolded first (map text_of (take_while is_folded lines)) ≡ trimmed first
+pub trimmed_is : (first : List ℕ) (lines : Lines) → are_some (take_while is_folded lines) ≡ false
+    → unfolded first (map trimmed_line (take_while is_folded lines)) ≡ trimmed first
 trimmed_is first lines none = trimmed_by first (take_while is_folded lines) none

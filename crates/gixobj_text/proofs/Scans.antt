@@ -1,4 +1,4 @@
--- A walk over lines to their last run: a line more, and its end.
+-- A scan over lines to their last run, one more line and its end; the functions of `scan` use these lemmas.
 use Rattle.std.proofs.Common.{◌*◌, ◌++◌, ◌+◌, ◌<◌, ◌∙◌, ◌∷◌, ◌≡◌, ◌≢◌, ◌≤◌, ◌⊎◌, All, Bool, List, [], ap, append-nil, append_assoc, arith, false, inl, inr, length, length-append, refl, subst, sym, true, ℕ}
 use Rattle.std.proofs.lemmas.List.Elements.{All-head, All-tail}
 use Rattle.std.proofs.lemmas.List.Folds.{concat-append}
@@ -8,15 +8,15 @@ use Rattle.bstr.specs.Text.{lines_of}
 use Rattle.bstr.proofs.lemmas.LineLemmas.{lines-nil}
 use Rattle.gixobj_text.specs.Counting.{Counts}
 use Rattle.gixobj_text.specs.FirstLines.{IsFirstLine}
-use Rattle.gixobj_text.specs.BodyLines.{is_blank, text_of}
-use Rattle.gixobj_text.specs.Scanned.{EndsBehind, HasRun, IsWalked, Scanned}
-use Rattle.gixobj_text.specs.TrailerBlocks.{EndsBlank, IsTrailerBlock, IsBlockStart, IsLastRun, StartsBehind, others, trailers_in}
+use Rattle.gixobj_text.specs.BodyLines.{is_blank, trimmed_line}
+use Rattle.gixobj_text.specs.Scanned.{EndsAfter, HasRun, IsWalked, Scanned}
+use Rattle.gixobj_text.specs.TrailerBlocks.{EndsBlank, IsTrailerBlock, IsBlockStart, IsLastRun, StartsAfter, count_others, trailers_in}
 use Rattle.gixobj_text.specs.declared.commit.message.body.run.Run.{Run}
 use Rattle.gixobj_text.specs.declared.commit.message.body.scan.Scan.{Scan}
 use Rattle.gixobj_text.proofs.LastRuns.{Parts, parts_are}
 use Rattle.gixobj_text.proofs.OneLine.{Blank, Filled, Lines, all_more, blank_more, ends_blank, filled_first, filled_more}
 
--- ---- a line more
+-- ---- one more line
 
 place_more : (lines : Lines) (line : List ℕ) (place : ℕ) → place ≡ length (concat lines) → place + length line ≡ length (concat (lines ++ line ∷ []))
 place_more lines line place is =
@@ -25,45 +25,53 @@ place_more lines line place is =
     let second : length (line ++ []) ≡ length line + 0 = length-append line [] in
     omega arith
 
--- a block behind a blank line starts behind the text before it
-starts_more : (lines : Lines) (blank : List ℕ) (end : ℕ) → EndsBehind lines end → StartsBehind (lines ++ blank ∷ []) end
+-- a block after a blank line starts after the content of the line before it
+starts_more : (lines : Lines) (blank : List ℕ) (end : ℕ) → EndsAfter lines end → StartsAfter (lines ++ blank ∷ []) end
 starts_more lines blank end (inl (none, is)) = inr (inl (blank, ap (λ (ls : Lines). ls ++ blank ∷ []) none, is))
-starts_more lines blank end (inr (front, line, joined, is)) =
-    inr (inr (front, line, blank, ap (λ (ls : Lines). ls ++ blank ∷ []) joined ∙ append_assoc front (line ∷ []) (blank ∷ []), is))
+starts_more lines blank end (inr (prefix, line, joined, is)) =
+    inr (inr (prefix, line, blank, ap (λ (ls : Lines). ls ++ blank ∷ []) joined ∙ append_assoc prefix (line ∷ []) (blank ∷ []), is))
 
-ends_more : (lines : Lines) (line : List ℕ) (place end : ℕ) → place ≡ length (concat lines) → end ≡ place + length (text_of line) → EndsBehind (lines ++ line ∷ []) end
-ends_more lines line place end at is = inr (lines, line, refl, is ∙ ap (λ (n : ℕ). n + length (text_of line)) at)
+ends_more : (lines : Lines) (line : List ℕ) (place end : ℕ) → place ≡ length (concat lines) → end ≡ place + length (trimmed_line line)
+    → EndsAfter (lines ++ line ∷ []) end
+ends_more lines line place end at is = inr (lines, line, refl, is ∙ ap (λ (n : ℕ). n + length (trimmed_line line)) at)
 
-run_behind_blank : (lines : Lines) (line : List ℕ) (old new : Scan) → Blank line → HasRun lines old → new.going ≡ false → new.start ≡ old.start → new.run ≡ old.run → HasRun (lines ++ line ∷ []) new
-run_behind_blank lines line old new blank it going start run = record {
+run_after_blank : (lines : Lines) (line : List ℕ) (old new : Scan) → Blank line → HasRun lines old → new.going ≡ false → new.start ≡ old.start
+    → new.run ≡ old.run → HasRun (lines ++ line ∷ []) new
+run_after_blank lines line old new blank it going start run = record {
   before = it.before;
   run = it.run;
   after = it.after ++ line ∷ [];
   last = blank_more lines it.before it.run it.after line blank it.last;
   going = λ is. cc (going, is);
-  starts = subst (λ (n : ℕ). StartsBehind it.before n) (sym start) it.starts;
+  starts = subst (λ (n : ℕ). StartsAfter it.before n) (sym start) it.starts;
   counts = subst (λ (r : Run). Counts it.run r) (sym run) it.counts;
 }
 
 pub scanned_blank : (lines : Lines) (line : List ℕ) (old new : Scan) → Scanned lines old → Blank line
-    → new.place ≡ old.place + length line → new.last ≡ old.place + length (text_of line) → new.next ≡ old.last → new.start ≡ old.start → new.going ≡ false → new.some ≡ old.some → new.run ≡ old.run
+    → new.place ≡ old.place + length line → new.last ≡ old.place + length (trimmed_line line) → new.next ≡ old.last → new.start ≡ old.start
+    → new.going ≡ false
+    → new.some ≡ old.some → new.run ≡ old.run
     → Scanned (lines ++ line ∷ []) new
 scanned_blank lines line old new it blank place last next start going some run = record {
   place = place ∙ place_more lines line old.place it.place;
   last = ends_more lines line old.place new.last it.place last;
-  next = λ is. (subst (λ (n : ℕ). StartsBehind (lines ++ line ∷ []) n) (sym next) (starts_more lines line old.last it.last), ends_blank lines line blank);
+  next = λ is. (
+    subst (λ (n : ℕ). StartsAfter (lines ++ line ∷ []) n) (sym next) (starts_more lines line old.last it.last),
+    ends_blank lines line blank,
+  );
   none = λ is. (all_more Blank lines line (it.none (sym some ∙ is)).0 blank, going);
-  some = λ is. run_behind_blank lines line old new blank (it.some (sym some ∙ is)) going start run;
+  some = λ is. run_after_blank lines line old new blank (it.some (sym some ∙ is)) going start run;
 }
 
-run_goes_on : (lines : Lines) (line : List ℕ) (old new : Scan) → Filled line → (it : HasRun lines old) → it.after ≡ [] → new.start ≡ old.start → Counts (it.run ++ line ∷ []) new.run → HasRun (lines ++ line ∷ []) new
+run_goes_on : (lines : Lines) (line : List ℕ) (old new : Scan) → Filled line → (it : HasRun lines old) → it.after ≡ [] → new.start ≡ old.start
+    → Counts (it.run ++ line ∷ []) new.run → HasRun (lines ++ line ∷ []) new
 run_goes_on lines line old new filled it none start counts = record {
   before = it.before;
   run = it.run ++ line ∷ [];
   after = [];
   last = filled_more lines it.before it.run line filled (subst (λ (after : Lines). IsLastRun lines it.before it.run after) none it.last);
   going = λ is. refl;
-  starts = subst (λ (n : ℕ). StartsBehind it.before n) (sym start) it.starts;
+  starts = subst (λ (n : ℕ). StartsAfter it.before n) (sym start) it.starts;
   counts = counts;
 }
 
@@ -72,7 +80,8 @@ is_some true going none is = refl
 is_some false going none is = cc (none refl, is)
 
 pub scanned_next : (lines : Lines) (line : List ℕ) (old new : Scan) → Scanned lines old → Filled line → old.going ≡ true
-    → new.place ≡ old.place + length line → new.last ≡ old.place + length (text_of line) → new.start ≡ old.start → new.going ≡ true → new.some ≡ true
+    → new.place ≡ old.place + length line → new.last ≡ old.place + length (trimmed_line line) → new.start ≡ old.start → new.going ≡ true
+    → new.some ≡ true
     → ((run : Lines) → Counts run old.run → Counts (run ++ line ∷ []) new.run)
     → Scanned (lines ++ line ∷ []) new
 scanned_next lines line old new it filled goes place last start going some counts =
@@ -85,19 +94,21 @@ scanned_next lines line old new it filled goes place last start going some count
       some = λ is. run_goes_on lines line old new filled was (was.going goes) start (counts was.run was.counts);
     }
 
-run_begins : (lines : Lines) (line : List ℕ) (old new : Scan) → Filled line → StartsBehind lines old.next → EndsBlank lines → new.start ≡ old.next → Counts (line ∷ []) new.run → HasRun (lines ++ line ∷ []) new
+run_begins : (lines : Lines) (line : List ℕ) (old new : Scan) → Filled line → StartsAfter lines old.next → EndsBlank lines → new.start ≡ old.next
+    → Counts (line ∷ []) new.run → HasRun (lines ++ line ∷ []) new
 run_begins lines line old new filled starts ends start counts = record {
   before = lines;
   run = line ∷ [];
   after = [];
   last = filled_first lines line filled ends;
   going = λ is. refl;
-  starts = subst (λ (n : ℕ). StartsBehind lines n) (sym start) starts;
+  starts = subst (λ (n : ℕ). StartsAfter lines n) (sym start) starts;
   counts = counts;
 }
 
 pub scanned_first : (lines : Lines) (line : List ℕ) (old new : Scan) → Scanned lines old → Filled line → old.going ≡ false
-    → new.place ≡ old.place + length line → new.last ≡ old.place + length (text_of line) → new.start ≡ old.next → new.going ≡ true → new.some ≡ true
+    → new.place ≡ old.place + length line → new.last ≡ old.place + length (trimmed_line line) → new.start ≡ old.next → new.going ≡ true
+    → new.some ≡ true
     → Counts (line ∷ []) new.run
     → Scanned (lines ++ line ∷ []) new
 scanned_first lines line old new it filled goes place last start going some counts = record {
@@ -108,7 +119,7 @@ scanned_first lines line old new it filled goes place last start going some coun
   some = λ is. run_begins lines line old new filled (it.next goes).0 (it.next goes).1 start counts;
 }
 
--- ---- the walk
+-- ---- the scan
 
 pub walked_first : (body : List ℕ) (it : Scan) → Scanned [] it → it.place ≡ 0 → it.run.trailers ≤ 0 → it.run.others ≤ 0 → IsWalked body body it
 walked_first body it scanned place trailers other = record {
@@ -120,13 +131,13 @@ walked_first body it scanned place trailers other = record {
   others = omega arith;
 }
 
-pub walked_more : (body text line rest : List ℕ) (old new : Scan) → IsWalked body text old → IsFirstLine text line rest
+pub walked_more : (body bytes line rest : List ℕ) (old new : Scan) → IsWalked body bytes old → IsFirstLine bytes line rest
     → ((lines : Lines) → Scanned lines old → Scanned (lines ++ line ∷ []) new)
     → new.place ≡ old.place + length line → new.run.trailers ≤ new.place → new.run.others ≤ new.place
     → IsWalked body rest new
-walked_more body text line rest old new it first step place trailers other =
-    let joined : length text ≡ length line + length rest = ap length first.joined ∙ length-append line rest in
-    let before : old.place + length text ≡ length body = it.place in
+walked_more body bytes line rest old new it first step place trailers other =
+    let joined : length bytes ≡ length line + length rest = ap length first.joined ∙ length-append line rest in
+    let before : old.place + length bytes ≡ length body = it.place in
     record {
       lines = it.lines ++ line ∷ [];
       joined = it.joined ∙ ap (λ (ls : Lines). it.lines ++ ls) first.lines ∙ sym (append_assoc it.lines (line ∷ []) (lines_of rest));
@@ -138,34 +149,55 @@ walked_more body text line rest old new it first step place trailers other =
 
 pub walked_all : (body rest : List ℕ) (it : Scan) → IsWalked body rest it → rest ≡ [] → Scanned (lines_of body) it
 walked_all body rest it walked none =
-    subst (λ (ls : Lines). Scanned ls it) (sym (walked.joined ∙ ap (λ (text : List ℕ). walked.lines ++ lines_of text) none ∙ ap (λ (ls : Lines). walked.lines ++ ls) lines-nil ∙ append-nil walked.lines)) walked.scanned
+    subst (λ (ls : Lines). Scanned ls it)
+    (sym (walked.joined ∙ ap (λ (bytes : List ℕ). walked.lines ++ lines_of bytes) none ∙ ap (λ (ls : Lines). walked.lines ++ ls) lines-nil
+    ∙ append-nil walked.lines)) walked.scanned
 
--- ---- its end
+-- ---- the end of the scan
 
--- what the counts say of a run
+-- the counts describe a trailer block
 abbrev SaysBlock : Run → Type 0
 SaysBlock it = ((0 < it.trailers) × (it.others ≡ 0)) ⊎ (IsTrue it.recognised × (it.others ≤ 3 * it.trailers))
 
 to_block : (run : Lines) (it : Run) → Counts run it → SaysBlock it → IsTrailerBlock run
 to_block run it counts (inl (some, none)) = inl (subst (λ (n : ℕ). 0 < n) counts.trailers some, sym counts.others ∙ none)
 to_block run it counts (inr (is, few)) =
-    inr (sym counts.recognised ∙ is, subst (λ (n : ℕ). n ≤ 3 * trailers_in run) counts.others (subst (λ (n : ℕ). it.others ≤ 3 * n) counts.trailers few))
+    inr (
+      sym counts.recognised ∙ is,
+      subst (λ (n : ℕ). n ≤ 3 * trailers_in run) counts.others
+          (subst (λ (n : ℕ). it.others ≤ 3 * n) counts.trailers few),
+    )
 
 from_block : (run : Lines) (it : Run) → Counts run it → IsTrailerBlock run → SaysBlock it
 from_block run it counts (inl (some, none)) = inl (subst (λ (n : ℕ). 0 < n) (sym counts.trailers) some, counts.others ∙ none)
 from_block run it counts (inr (is, few)) =
-    inr (counts.recognised ∙ is, subst (λ (n : ℕ). n ≤ 3 * it.trailers) (sym counts.others) (subst (λ (n : ℕ). others false run ≤ 3 * n) (sym counts.trailers) few))
+    inr (
+      counts.recognised ∙ is,
+      subst (λ (n : ℕ). n ≤ 3 * it.trailers) (sym counts.others)
+          (subst (λ (n : ℕ). count_others false run ≤ 3 * n) (sym counts.trailers) few),
+    )
 
-pub block_here : (body : List ℕ) (it : Scan) (is : Bool) → Scanned (lines_of body) it → it.some ≡ true → (IsTrue is ↔ SaysBlock it.run) → is ≡ true → IsBlockStart body it.start
+pub block_here : (body : List ℕ) (it : Scan) (is : Bool) → Scanned (lines_of body) it → it.some ≡ true → (IsTrue is ↔ SaysBlock it.run) → is ≡ true
+    → IsBlockStart body it.start
 block_here body it is scanned some says so =
     let has : HasRun (lines_of body) it = scanned.some some in
-    inl (record { before = has.before; run = has.run; after = has.after; last = has.last; block = to_block has.run it.run has.counts (says.0 so); starts = has.starts })
+    inl (record {
+      before = has.before;
+      run = has.run;
+      after = has.after;
+      last = has.last;
+      block = to_block has.run it.run has.counts (says.0 so);
+      starts = has.starts;
+    })
 
--- no other last run
+-- lines have at most one last run
 same_run : (lines before run after before2 run2 after2 : Lines) → IsLastRun lines before run after → IsLastRun lines before2 run2 after2 → run2 ≡ run
-same_run lines before run after before2 run2 after2 one other = ap (λ (it : Parts). it.run) (sym (parts_are lines before2 run2 after2 other) ∙ parts_are lines before run after one)
+same_run lines before run after before2 run2 after2 one other =
+    ap (λ (it : Parts). it.run) (sym (parts_are lines before2 run2 after2 other) ∙ parts_are lines before run after one)
 
-pub no_block_here : (body : List ℕ) (it : Scan) (is : Bool) → Scanned (lines_of body) it → it.some ≡ true → (IsTrue is ↔ SaysBlock it.run) → is ≡ false → IsBlockStart body (length body)
+pub no_block_here : (body : List ℕ) (it : Scan) (is : Bool) → Scanned (lines_of body) it → it.some ≡ true → (IsTrue is ↔ SaysBlock it.run)
+    → is ≡ false
+    → IsBlockStart body (length body)
 no_block_here body it is scanned some says not =
     let has : HasRun (lines_of body) it = scanned.some some in
     inr (
@@ -183,8 +215,13 @@ in_blank [] (line ∷ run) after some filled blank =
     let is : is_blank line ≡ true = All-head Blank line (run ++ after) blank in
     let not : is_blank line ≡ false = All-head Filled line run filled in
     cc (is, not)
-in_blank (one ∷ before) (line ∷ run) after some filled blank = in_blank before (line ∷ run) after some filled (All-tail Blank one (before ++ (line ∷ run) ++ after) blank)
+in_blank (one ∷ before) (line ∷ run) after some filled blank = in_blank before (line ∷ run) after some filled
+    (All-tail Blank one (before ++ (line ∷ run) ++ after) blank)
 
 pub no_run_here : (body : List ℕ) (it : Scan) → Scanned (lines_of body) it → it.some ≡ false → IsBlockStart body (length body)
 no_run_here body it scanned none =
-    inr (λ before run after last block. in_blank before run after last.some last.none_blank (subst (λ (ls : Lines). All Blank ls) last.joined (scanned.none none).0), refl)
+    inr (
+      λ before run after last block. in_blank before run after last.some last.none_blank
+          (subst (λ (ls : Lines). All Blank ls) last.joined (scanned.none none).0),
+      refl,
+    )

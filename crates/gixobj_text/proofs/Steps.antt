@@ -1,4 +1,5 @@
--- Going over the lines of a text to the blocks of a body.
+-- Steps over the lines of a body to its message blocks; `at_trailer`, `skip_trailers` and the iterator over blocks use
+-- these lemmas.
 use Rattle.std.proofs.Common.{◌++◌, ◌+◌, ◌-◌, ◌<◌, ◌==◌, ◌∙◌, ◌∷◌, ◌≡◌, ◌≢◌, ◌≤◌, All, Bool, List, [], ap, append-nil, append_assoc, arith, drop, false, length, length-append, length-drop, not, refl, subst, sym, take, take-append-drop, true, ℕ}
 use Rattle.std.proofs.lemmas.List.Elements.{All-nil, All-tail}
 use Rattle.std.proofs.lemmas.List.Folds.{concat-append}
@@ -7,104 +8,118 @@ use Rattle.std.specs.List.{concat}
 use Rattle.bstr.specs.Text.{lines_of}
 use Rattle.bstr.proofs.lemmas.LineLemmas.{lines-nil}
 use Rattle.bstr.proofs.lemmas.RestLemmas.{concat-lines_of}
-use Rattle.gixobj_text.proofs.Cuts.{front_is}
+use Rattle.gixobj_text.proofs.SplitTitles.{prefix_is}
 use Rattle.gixobj_text.specs.FirstLines.{IsFirstLine}
 use Rattle.gixobj_text.specs.Blocks.{AreTrailers, EndsTrailers, IsBlockOfLines, IsFirstBlock}
 use Rattle.gixobj_text.specs.BodyLines.{is_folded, is_trailer_line}
-use Rattle.gixobj_text.specs.Steps.{BeginsTrailer, GoesOn, IsAtTrailer, IsBehindTrailers, IsPast, NoTrailer}
+use Rattle.gixobj_text.specs.Steps.{BeginsTrailer, ContinuesTrailer, IsAtTrailer, IsAfterTrailers, IsPast, NoTrailer}
 use Rattle.gixobj_text.proofs.OneLine.{all_more}
 
 abbrev Lines : Type 0
 Lines = List (List ℕ)
 
-pub past_none : (P : List ℕ → Type 0) (text : List ℕ) → IsPast P text text
-past_none P text = record { taken = []; joined = refl; lines = refl; all = All-nil P }
+pub past_none : (P : List ℕ → Type 0) (content : List ℕ) → IsPast P content content
+past_none P content = record { consumed = []; joined = refl; lines = refl; all = All-nil P }
 
-past_more : (P : List ℕ → Type 0) (whole text line rest : List ℕ) → IsPast P whole text → IsFirstLine text line rest → P line → IsPast P whole rest
-past_more P whole text line rest it first is = record {
-  taken = it.taken ++ line ∷ [];
-  joined = it.joined ∙ ap (λ (bytes : List ℕ). concat it.taken ++ bytes) first.joined ∙ sym (append_assoc (concat it.taken) line rest)
-      ∙ ap (λ (bytes : List ℕ). bytes ++ rest) (ap (λ (bytes : List ℕ). concat it.taken ++ bytes) (sym (append-nil line)) ∙ sym (concat-append it.taken (line ∷ [])));
-  lines = it.lines ∙ ap (λ (ls : Lines). it.taken ++ ls) first.lines ∙ sym (append_assoc it.taken (line ∷ []) (lines_of rest));
-  all = all_more P it.taken line it.all is;
+past_more : (P : List ℕ → Type 0) (entire content line rest : List ℕ) → IsPast P entire content → IsFirstLine content line rest → P line
+    → IsPast P entire rest
+past_more P entire content line rest it first is = record {
+  consumed = it.consumed ++ line ∷ [];
+  joined = it.joined ∙ ap (λ (bytes : List ℕ). concat it.consumed ++ bytes) first.joined ∙ sym (append_assoc (concat it.consumed) line rest)
+      ∙ ap (λ (bytes : List ℕ). bytes ++ rest) (ap (λ (bytes : List ℕ). concat it.consumed ++ bytes) (sym (append-nil line))
+      ∙ sym (concat-append it.consumed (line ∷ [])));
+  lines = it.lines ∙ ap (λ (ls : Lines). it.consumed ++ ls) first.lines ∙ sym (append_assoc it.consumed (line ∷ []) (lines_of rest));
+  all = all_more P it.consumed line it.all is;
 }
 
-pub no_trailer_more : (whole text line rest : List ℕ) → IsPast NoTrailer whole text → IsFirstLine text line rest → is_trailer_line line ≡ false → IsPast NoTrailer whole rest
-no_trailer_more whole text line rest it first is = past_more NoTrailer whole text line rest it first is
+pub no_trailer_more : (entire content line rest : List ℕ) → IsPast NoTrailer entire content → IsFirstLine content line rest
+    → is_trailer_line line ≡ false
+    → IsPast NoTrailer entire rest
+no_trailer_more entire content line rest it first is = past_more NoTrailer entire content line rest it first is
 
-pub trailer_more : (whole text line rest : List ℕ) → IsPast GoesOn whole text → IsFirstLine text line rest → (is_trailer_line line || is_folded line) ≡ true → IsPast GoesOn whole rest
-trailer_more whole text line rest it first is = past_more GoesOn whole text line rest it first is
+pub trailer_more : (entire content line rest : List ℕ) → IsPast ContinuesTrailer entire content → IsFirstLine content line rest
+    → (is_trailer_line line || is_folded line) ≡ true → IsPast ContinuesTrailer entire rest
+trailer_more entire content line rest it first is = past_more ContinuesTrailer entire content line rest it first is
 
-lines_none : (text : List ℕ) → text ≡ [] → lines_of text ≡ []
-lines_none text nothing = ap lines_of nothing ∙ lines-nil
+lines_none : (content : List ℕ) → content ≡ [] → lines_of content ≡ []
+lines_none content nothing = ap lines_of nothing ∙ lines-nil
 
-pub at_end : (whole text : List ℕ) → IsPast NoTrailer whole text → text ≡ [] → IsAtTrailer whole text
-at_end whole text it nothing = record { past = it; begins = subst BeginsTrailer (sym (lines_none text nothing)) tt }
+pub at_end : (entire content : List ℕ) → IsPast NoTrailer entire content → content ≡ [] → IsAtTrailer entire content
+at_end entire content it nothing = record { past = it; begins = subst BeginsTrailer (sym (lines_none content nothing)) tt }
 
-pub at_line : (whole text line rest : List ℕ) → IsPast NoTrailer whole text → IsFirstLine text line rest → is_trailer_line line ≡ true → IsAtTrailer whole text
-at_line whole text line rest it first is = record { past = it; begins = subst BeginsTrailer (sym first.lines) is }
+pub at_line : (entire content line rest : List ℕ) → IsPast NoTrailer entire content → IsFirstLine content line rest → is_trailer_line line ≡ true
+    → IsAtTrailer entire content
+at_line entire content line rest it first is = record { past = it; begins = subst BeginsTrailer (sym first.lines) is }
 
-pub behind_end : (whole text : List ℕ) → IsPast GoesOn whole text → text ≡ [] → IsBehindTrailers whole text
-behind_end whole text it nothing = record { past = it; ends = subst EndsTrailers (sym (lines_none text nothing)) tt }
+pub after_end : (entire content : List ℕ) → IsPast ContinuesTrailer entire content → content ≡ [] → IsAfterTrailers entire content
+after_end entire content it nothing = record { past = it; ends = subst EndsTrailers (sym (lines_none content nothing)) tt }
 
-pub behind_line : (whole text line rest : List ℕ) → IsPast GoesOn whole text → IsFirstLine text line rest → (is_trailer_line line || is_folded line) ≡ false → IsBehindTrailers whole text
-behind_line whole text line rest it first is = record { past = it; ends = subst EndsTrailers (sym first.lines) is }
+pub after_line : (entire content line rest : List ℕ) → IsPast ContinuesTrailer entire content → IsFirstLine content line rest
+    → (is_trailer_line line || is_folded line) ≡ false → IsAfterTrailers entire content
+after_line entire content line rest it first is = record { past = it; ends = subst EndsTrailers (sym first.lines) is }
 
 -- ---- a block
 
-are_trailers : (taken rest : Lines) → BeginsTrailer (taken ++ rest) → All GoesOn taken → AreTrailers taken
+are_trailers : (taken rest : Lines) → BeginsTrailer (taken ++ rest) → All ContinuesTrailer taken → AreTrailers taken
 are_trailers [] rest begins all = tt
-are_trailers (line ∷ taken) rest begins all = (begins, All-tail GoesOn line taken all)
+are_trailers (line ∷ taken) rest begins all = (begins, All-tail ContinuesTrailer line taken all)
 
-none_behind_none : (rest : Lines) → BeginsTrailer rest → EndsTrailers rest → rest ≡ []
-none_behind_none [] begins ends = refl
-none_behind_none (line ∷ rest) begins ends = by_tests (is_trailer_line line) (is_folded line) begins ends
+none_after_none : (rest : Lines) → BeginsTrailer rest → EndsTrailers rest → rest ≡ []
+none_after_none [] begins ends = refl
+none_after_none (line ∷ rest) begins ends = by_tests (is_trailer_line line) (is_folded line) begins ends
   where
     by_tests : (a b : Bool) → a ≡ true → (a || b) ≡ false → line ∷ rest ≡ []
     by_tests true b is not = cc not
     by_tests false b is not = cc is
 
 none_taken : (taken rest : Lines) → BeginsTrailer (taken ++ rest) → EndsTrailers rest → taken ≡ [] → rest ≡ []
-none_taken [] rest begins ends is = none_behind_none rest begins ends
+none_taken [] rest begins ends is = none_after_none rest begins ends
 none_taken (line ∷ taken) rest begins ends is = cc is
 
-is_block : (from trailers rest : List ℕ) (at : IsAtTrailer from trailers) (behind : IsBehindTrailers trailers rest) → IsBlockOfLines (lines_of from) at.past.taken behind.past.taken (lines_of rest)
-is_block from trailers rest at behind =
-    let begins : BeginsTrailer (behind.past.taken ++ lines_of rest) = subst BeginsTrailer behind.past.lines at.begins in
+is_block : (from trailers rest : List ℕ) (at : IsAtTrailer from trailers) (after : IsAfterTrailers trailers rest)
+    → IsBlockOfLines (lines_of from) at.past.consumed after.past.consumed (lines_of rest)
+is_block from trailers rest at after =
+    let begins : BeginsTrailer (after.past.consumed ++ lines_of rest) = subst BeginsTrailer after.past.lines at.begins in
     record {
-      split = at.past.lines ∙ ap (λ (ls : Lines). at.past.taken ++ ls) behind.past.lines ∙ sym (append_assoc at.past.taken behind.past.taken (lines_of rest));
+      split = at.past.lines ∙ ap (λ (ls : Lines). at.past.consumed ++ ls) after.past.lines
+          ∙ sym (append_assoc at.past.consumed after.past.consumed (lines_of rest));
       message = at.past.all;
-      trailers = are_trailers behind.past.taken (lines_of rest) begins behind.past.all;
-      none = none_taken behind.past.taken (lines_of rest) begins behind.ends;
-      ends = behind.ends;
+      trailers = are_trailers after.past.consumed (lines_of rest) begins after.past.all;
+      none = none_taken after.past.consumed (lines_of rest) begins after.ends;
+      ends = after.ends;
     }
 
-pub first_block : (start : ℕ) (text from trailers rest message taken : List ℕ) → text ≢ [] → from ≡ drop start text → IsAtTrailer from trailers → IsBehindTrailers trailers rest
-    → message ≡ take (length text - length trailers) text → taken ≡ take (length trailers - length rest) trailers
-    → IsFirstBlock start text (record { message = message; trailers = taken }) rest
-first_block start text from trailers rest message taken some is at behind first second =
-    let joined : text ≡ (take start text ++ concat at.past.taken) ++ trailers =
-    sym (take-append-drop start text) ∙ ap (λ (bytes : List ℕ). take start text ++ bytes) (sym is ∙ at.past.joined) ∙ sym (append_assoc (take start text) (concat at.past.taken) trailers) in
+pub first_block : (start : ℕ) (content from trailers rest message taken : List ℕ) → content ≢ [] → from ≡ drop start content
+    → IsAtTrailer from trailers
+    → IsAfterTrailers trailers rest
+    → message ≡ take (length content - length trailers) content → taken ≡ take (length trailers - length rest) trailers
+    → IsFirstBlock start content (record { message = message; trailers = taken }) rest
+first_block start content from trailers rest message taken some is at after first second =
+    let joined : content ≡ (take start content ++ concat at.past.consumed) ++ trailers =
+    sym (take-append-drop start content) ∙ ap (λ (bytes : List ℕ). take start content ++ bytes) (sym is ∙ at.past.joined)
+    ∙ sym (append_assoc (take start content) (concat at.past.consumed) trailers) in
     record {
       some = some;
-      skipped = at.past.taken;
-      taken = behind.past.taken;
-      lines = subst (λ (bytes : List ℕ). IsBlockOfLines (lines_of bytes) at.past.taken behind.past.taken (lines_of rest)) is (is_block from trailers rest at behind);
-      message = first ∙ front_is (take start text ++ concat at.past.taken) trailers text joined;
-      trailers = second ∙ front_is (concat behind.past.taken) rest trailers behind.past.joined;
+      skipped = at.past.consumed;
+      consumed = after.past.consumed;
+      lines = subst (λ (bytes : List ℕ). IsBlockOfLines (lines_of bytes) at.past.consumed after.past.consumed (lines_of rest)) is
+          (is_block from trailers rest at after);
+      message = first ∙ prefix_is (take start content ++ concat at.past.consumed) trailers content joined;
+      trailers = second ∙ prefix_is (concat after.past.consumed) rest trailers after.past.joined;
     }
 
 not_empty : (line : List ℕ) → is_trailer_line line ≡ true → 0 < length line
 not_empty [] is = cc is
 not_empty (byte ∷ line) is = omega arith
 
-some_text : (text : List ℕ) → text ≢ [] → 0 < length text
-some_text [] some = absurd (some refl)
-some_text (byte ∷ text) some = omega arith
+some_content : (content : List ℕ) → content ≢ [] → 0 < length content
+some_content [] some = absurd (some refl)
+some_content (byte ∷ content) some = omega arith
 
-taken_shorter : (taken : Lines) (trailers rest : List ℕ) (n : ℕ) → 0 < n → length trailers ≤ n → trailers ≡ concat taken ++ rest → BeginsTrailer (taken ++ lines_of rest) → EndsTrailers (lines_of rest) → length rest < n
+taken_shorter : (taken : Lines) (trailers rest : List ℕ) (n : ℕ) → 0 < n → length trailers ≤ n → trailers ≡ concat taken ++ rest
+    → BeginsTrailer (taken ++ lines_of rest) → EndsTrailers (lines_of rest) → length rest < n
 taken_shorter [] trailers rest n some few joined begins ends =
-    let nothing : rest ≡ [] = sym (concat-lines_of rest) ∙ ap concat (none_behind_none (lines_of rest) begins ends) in
+    let nothing : rest ≡ [] = sym (concat-lines_of rest) ∙ ap concat (none_after_none (lines_of rest) begins ends) in
     let is : length rest ≡ 0 = ap length nothing in
     omega arith
 taken_shorter (line ∷ taken) trailers rest n some few joined begins ends =
@@ -114,24 +129,31 @@ taken_shorter (line ∷ taken) trailers rest n some few joined begins ends =
     let inner : length (line ++ concat taken) ≡ length line + length (concat taken) = length-append line (concat taken) in
     omega arith
 
-pub block_shorter : (start : ℕ) (text from trailers rest : List ℕ) → text ≢ [] → from ≡ drop start text → IsAtTrailer from trailers → IsBehindTrailers trailers rest → length rest < length text
-block_shorter start text from trailers rest some is at behind =
-    let some_bytes : 0 < length text = some_text text some in
-    let drops : length from ≡ length text - start = ap length is ∙ length-drop start text in
-    let all : length from ≡ length (concat at.past.taken) + length trailers = ap length at.past.joined ∙ length-append (concat at.past.taken) trailers in
-    taken_shorter behind.past.taken trailers rest (length text) some_bytes (omega arith) behind.past.joined (subst BeginsTrailer behind.past.lines at.begins) behind.ends
+pub block_shorter : (start : ℕ) (content from trailers rest : List ℕ) → content ≢ [] → from ≡ drop start content → IsAtTrailer from trailers
+    → IsAfterTrailers trailers rest → length rest < length content
+block_shorter start content from trailers rest some is at after =
+    let some_bytes : 0 < length content = some_content content some in
+    let drops : length from ≡ length content - start = ap length is ∙ length-drop start content in
+    let all : length from ≡ length (concat at.past.consumed) + length trailers = ap length at.past.joined
+    ∙ length-append (concat at.past.consumed) trailers in
+    taken_shorter after.past.consumed trailers rest (length content) some_bytes (omega arith) after.past.joined
+    (subst BeginsTrailer after.past.lines at.begins)
+    after.ends
 
-pub trailers_within : (start : ℕ) (text from trailers : List ℕ) → from ≡ drop start text → IsAtTrailer from trailers → length trailers ≤ length text
-trailers_within start text from trailers is at =
-    let drops : length from ≡ length text - start = ap length is ∙ length-drop start text in
-    let all : length from ≡ length (concat at.past.taken) + length trailers = ap length at.past.joined ∙ length-append (concat at.past.taken) trailers in
+pub trailers_within : (start : ℕ) (content from trailers : List ℕ) → from ≡ drop start content → IsAtTrailer from trailers
+    → length trailers ≤ length content
+trailers_within start content from trailers is at =
+    let drops : length from ≡ length content - start = ap length is ∙ length-drop start content in
+    let all : length from ≡ length (concat at.past.consumed) + length trailers = ap length at.past.joined
+    ∙ length-append (concat at.past.consumed) trailers in
     omega arith
 
-pub rest_within : (trailers rest : List ℕ) → IsBehindTrailers trailers rest → length rest ≤ length trailers
-rest_within trailers rest behind =
-    let all : length trailers ≡ length (concat behind.past.taken) + length rest = ap length behind.past.joined ∙ length-append (concat behind.past.taken) rest in
+pub rest_within : (trailers rest : List ℕ) → IsAfterTrailers trailers rest → length rest ≤ length trailers
+rest_within trailers rest after =
+    let all : length trailers ≡ length (concat after.past.consumed) + length rest = ap length after.past.joined
+    ∙ length-append (concat after.past.consumed) rest in
     omega arith
 
-pub some_is : (text : List ℕ) (b : Bool) → b ≡ false → b ≡ (length text == 0) → text ≢ []
+pub some_is : (content : List ℕ) (b : Bool) → b ≡ false → b ≡ (length content == 0) → content ≢ []
 some_is [] b not is = cc (not, is)
-some_is (byte ∷ text) b not is = λ nothing. cc nothing
+some_is (byte ∷ content) b not is = λ nothing. cc nothing

@@ -1,16 +1,16 @@
--- The rows of titles and bodies, of the definitions.
+-- Worked examples of titles and bodies, checked against the definitions.
 use Rattle.std.proofs.Common.{◌∷◌, inl, inr, refl, [], Some, None, codes}
 use Rattle.bstr.proofs.Computing.{computing}
 use Rattle.gixobj_text.specs.Titles.{SplitsTitle}
 use Rattle.gixobj_text.specs.Titles.IsBreak.{alone, after_return}
-use Rattle.gixobj_text.proofs.Cuts.{least, never}
+use Rattle.gixobj_text.proofs.SplitTitles.{least, never}
 
 both : SplitsTitle (codes "hello\n\nbody") (codes "hello") (Some (codes "body"))
 unfolding computing
 both = (
   record {
     here = record { first = 10 ∷ []; second = 10 ∷ []; breaks = (alone, alone); joined = refl };
-    least = λ front rest it. least 5 (codes "hello\n\nbody") front rest refl it;
+    minimum = λ prefix rest it. least 5 (codes "hello\n\nbody") prefix rest refl it;
   },
   λ none. cc none,
 )
@@ -20,7 +20,7 @@ unfolding computing
 mixed = (
   record {
     here = record { first = 13 ∷ 10 ∷ []; second = 10 ∷ []; breaks = (after_return, alone); joined = refl };
-    least = λ front rest it. least 5 (codes "hello\r\n\n\r\nbody") front rest refl it;
+    minimum = λ prefix rest it. least 5 (codes "hello\r\n\n\r\nbody") prefix rest refl it;
   },
   λ none. cc none,
 )
@@ -29,9 +29,9 @@ no_body : SplitsTitle (codes "hello\n\n") (codes "hello") None
 unfolding computing
 no_body = inl (record {
   here = record { first = 10 ∷ []; second = 10 ∷ []; breaks = (alone, alone); joined = refl };
-  least = λ front rest it. least 5 (codes "hello\n\n") front rest refl it;
+  minimum = λ prefix rest it. least 5 (codes "hello\n\n") prefix rest refl it;
 })
 
 no_breaks : SplitsTitle (codes "hello\nthere\n") (codes "hello\nthere\n") None
 unfolding computing
-no_breaks = inr (refl, λ front rest it. never (codes "hello\nthere\n") front rest refl it)
+no_breaks = inr (refl, λ prefix rest it. never (codes "hello\nthere\n") prefix rest refl it)

@@ -1,15 +1,15 @@
--- Reading a trailer's line from its front.
+-- Steps over the token and the gap of a trailer line.
 use Rattle.std.proofs.Common.{◌≡◌, ◌≢◌, ◌∷◌, ◌∙◌, ◌==◌, ap, arith, refl, ℕ, Bool, true, false, cond, List, [], Option, Some, None}
 use Rattle.std.proofs.lemmas.Bool.Decides.{nat_tests}
 use Rattle.std.specs.Prelude.{is_some}
-use Rattle.gixobj_text.specs.BodyLines.{TrailerParts, behind_gap, is_gap_byte, is_token_byte, one_more, rest_of_token, trailer_parts, with_value}
-use Rattle.gixobj_text.specs.Scanning.{behind_token}
+use Rattle.gixobj_text.specs.BodyLines.{TrailerParts, after_gap, is_gap_byte, is_token_byte, token_byte_step, rest_of_token, trailer_parts, with_value}
+use Rattle.gixobj_text.specs.Scanning.{after_token}
 
-pub token_more : (byte : ℕ) (rest : List ℕ) → is_token_byte byte ≡ true → behind_token (byte ∷ rest) ≡ behind_token rest
-token_more byte rest is = ap (λ (b : Bool). cond b (behind_token rest) (byte ∷ rest)) is
+pub token_more : (byte : ℕ) (rest : List ℕ) → is_token_byte byte ≡ true → after_token (byte ∷ rest) ≡ after_token rest
+token_more byte rest is = ap (λ (b : Bool). cond b (after_token rest) (byte ∷ rest)) is
 
-pub token_ends : (byte : ℕ) (rest : List ℕ) → is_token_byte byte ≡ false → behind_token (byte ∷ rest) ≡ byte ∷ rest
-token_ends byte rest is = ap (λ (b : Bool). cond b (behind_token rest) (byte ∷ rest)) is
+pub token_ends : (byte : ℕ) (rest : List ℕ) → is_token_byte byte ≡ false → after_token (byte ∷ rest) ≡ byte ∷ rest
+token_ends byte rest is = ap (λ (b : Bool). cond b (after_token rest) (byte ∷ rest)) is
 
 other : (a b : ℕ) → a ≢ b → (a == b) ≡ false
 other a b is = grind (arith, nat_tests)
@@ -17,18 +17,20 @@ other a b is = grind (arith, nat_tests)
 same : (a b : ℕ) → a ≡ b → (a == b) ≡ true
 same a b is = grind (arith, nat_tests)
 
-pub gap_colon : (byte : ℕ) (rest : List ℕ) → byte ≡ 58 → behind_gap (byte ∷ rest) ≡ Some rest
-gap_colon byte rest is = ap (λ (b : Bool). cond b (Some rest) (cond (is_gap_byte byte) (behind_gap rest) None)) (same byte 58 is)
+pub gap_colon : (byte : ℕ) (rest : List ℕ) → byte ≡ 58 → after_gap (byte ∷ rest) ≡ Some rest
+gap_colon byte rest is = ap (λ (b : Bool). cond b (Some rest) (cond (is_gap_byte byte) (after_gap rest) None)) (same byte 58 is)
 
-pub gap_more : (byte : ℕ) (rest : List ℕ) → byte ≢ 58 → is_gap_byte byte ≡ true → behind_gap (byte ∷ rest) ≡ behind_gap rest
+pub gap_more : (byte : ℕ) (rest : List ℕ) → byte ≢ 58 → is_gap_byte byte ≡ true → after_gap (byte ∷ rest) ≡ after_gap rest
 gap_more byte rest is gap =
-    ap (λ (b : Bool). cond b (Some rest) (cond (is_gap_byte byte) (behind_gap rest) None)) (other byte 58 is) ∙ ap (λ (b : Bool). cond b (behind_gap rest) None) gap
+    ap (λ (b : Bool). cond b (Some rest) (cond (is_gap_byte byte) (after_gap rest) None)) (other byte 58 is)
+    ∙ ap (λ (b : Bool). cond b (after_gap rest) None) gap
 
-pub gap_ends : (byte : ℕ) (rest : List ℕ) → byte ≢ 58 → is_gap_byte byte ≡ false → behind_gap (byte ∷ rest) ≡ None
+pub gap_ends : (byte : ℕ) (rest : List ℕ) → byte ≢ 58 → is_gap_byte byte ≡ false → after_gap (byte ∷ rest) ≡ None
 gap_ends byte rest is gap =
-    ap (λ (b : Bool). cond b (Some rest) (cond (is_gap_byte byte) (behind_gap rest) None)) (other byte 58 is) ∙ ap (λ (b : Bool). cond b (behind_gap rest) None) gap
+    ap (λ (b : Bool). cond b (Some rest) (cond (is_gap_byte byte) (after_gap rest) None)) (other byte 58 is)
+    ∙ ap (λ (b : Bool). cond b (after_gap rest) None) gap
 
-one_is : (byte : ℕ) (found : Option TrailerParts) → is_some (one_more byte found) ≡ is_some found
+one_is : (byte : ℕ) (found : Option TrailerParts) → is_some (token_byte_step byte found) ≡ is_some found
 one_is byte None = refl
 one_is byte (Some parts) = refl
 
@@ -36,17 +38,19 @@ value_is : (found : Option (List ℕ)) → is_some (with_value [] found) ≡ is_
 value_is None = refl
 value_is (Some value) = refl
 
-rest_by : (byte : ℕ) (rest : List ℕ) (b : Bool) → is_some (rest_of_token rest) ≡ is_some (behind_gap (behind_token rest))
-    → is_some (cond b (one_more byte (rest_of_token rest)) (with_value [] (behind_gap (byte ∷ rest)))) ≡ is_some (behind_gap (cond b (behind_token rest) (byte ∷ rest)))
+rest_by : (byte : ℕ) (rest : List ℕ) (b : Bool) → is_some (rest_of_token rest) ≡ is_some (after_gap (after_token rest))
+    → is_some (cond b (token_byte_step byte (rest_of_token rest)) (with_value [] (after_gap (byte ∷ rest)))) ≡ is_some
+    (after_gap (cond b (after_token rest) (byte ∷ rest)))
 rest_by byte rest true later = one_is byte (rest_of_token rest) ∙ later
-rest_by byte rest false later = value_is (behind_gap (byte ∷ rest))
+rest_by byte rest false later = value_is (after_gap (byte ∷ rest))
 
-rest_is : (text : List ℕ) → is_some (rest_of_token text) ≡ is_some (behind_gap (behind_token text))
+rest_is : (bytes : List ℕ) → is_some (rest_of_token bytes) ≡ is_some (after_gap (after_token bytes))
 rest_is [] = refl
 rest_is (byte ∷ rest) = rest_by byte rest (is_token_byte byte) (rest_is rest)
 
-pub trailer_is : (byte : ℕ) (rest : List ℕ) → is_token_byte byte ≡ true → is_some (trailer_parts (byte ∷ rest)) ≡ is_some (behind_gap (behind_token rest))
-trailer_is byte rest is = ap (λ (b : Bool). is_some (cond b (one_more byte (rest_of_token rest)) None)) is ∙ one_is byte (rest_of_token rest) ∙ rest_is rest
+pub trailer_is : (byte : ℕ) (rest : List ℕ) → is_token_byte byte ≡ true → is_some (trailer_parts (byte ∷ rest)) ≡ is_some (after_gap (after_token rest))
+trailer_is byte rest is = ap (λ (b : Bool). is_some (cond b (token_byte_step byte (rest_of_token rest)) None)) is ∙ one_is byte (rest_of_token rest)
+    ∙ rest_is rest
 
 pub none_is : (byte : ℕ) (rest : List ℕ) → is_token_byte byte ≡ false → is_some (trailer_parts (byte ∷ rest)) ≡ false
-none_is byte rest is = ap (λ (b : Bool). is_some (cond b (one_more byte (rest_of_token rest)) None)) is
+none_is byte rest is = ap (λ (b : Bool). is_some (cond b (token_byte_step byte (rest_of_token rest)) None)) is

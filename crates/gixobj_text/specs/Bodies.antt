@@ -1,4 +1,4 @@
--- A body, in which its block of trailers has been found.
+-- A body with the start of its trailer block.
 use Rattle.std.specs.Prelude.{◌≡◌, ℕ, List, Option, Some}
 use Rattle.bstr.specs.BStr.{bstr_bytes}
 use Rattle.bstr.specs.declared.bstr.BStr.{BStr}
@@ -6,14 +6,14 @@ use Rattle.gixobj_hash.specs.Optional.{bytes_if_some}
 use Rattle.gixobj_text.specs.TrailerBlocks.{IsBlockStart}
 use Rattle.gixobj_text.specs.declared.commit.message.BodyRef.{BodyRef}
 
--- all of its bytes
+-- the bytes of the entire body
 abbrev pub bytes_of_body : BodyRef → List ℕ
 bytes_of_body it = bstr_bytes it.body
 
--- where its block of trailers starts
+-- the start of the trailer block of a body
 abbrev pub start_of_block : BodyRef → ℕ
 start_of_block it = it.trailer_start
 
--- it is the body that a message has, with its block of trailers
+-- the body of a message, with the start of its trailer block
 abbrev pub IsBodyOf : Option BStr → BodyRef → Type 0
 IsBodyOf body it = (bytes_if_some body ≡ Some (bytes_of_body it)) × IsBlockStart (bytes_of_body it) (start_of_block it)

@@ -5,8 +5,8 @@ pub mod Breaks
 pub mod Counting
 pub mod Filters
 pub mod FirstLines
-pub mod GivingBlocks
-pub mod GivingTrailers
+pub mod BlockSteps
+pub mod TrailerSteps
 pub mod LineWalk
 pub mod Markers
 pub mod MessageTrailers

@@ -1,18 +1,19 @@
--- A walk from the back over the lines of a text that begin as all markers do.
+-- The backward walk over the lines that begin with the prefix of all markers.
 use Rattle.std.specs.Prelude.{◌≤◌, ◌<◌, ◌+◌, ℕ, List, ◌∷◌, Option, codes, length, take}
 use Rattle.bstr.specs.Find.{FindsLastNeedle}
 use Rattle.gixobj_text.specs.Markers.{MarksPlace}
 use Rattle.gixobj_text.specs.declared.signature.Format.{Format}
 use Rattle.gixobj_hash.specs.Bytes.{newline}
 
--- a newline and what all markers begin with
-abbrev pub marker_front : List ℕ
-marker_front = newline ∷ codes "-----BEGIN "
+-- a newline and the prefix of all markers
+abbrev pub marker_prefix : List ℕ
+marker_prefix = newline ∷ codes "-----BEGIN "
 
--- the last place before this end where a newline and the front of all markers stand, or none
-abbrev pub IsLastFront : List ℕ → ℕ → Option ℕ → Type 0
-IsLastFront bytes end place = FindsLastNeedle (take end bytes) marker_front place
+-- the last position of a newline and the marker prefix before `end`, or none
+abbrev pub IsLastMarkerPrefix : List ℕ → ℕ → Option ℕ → Type 0
+IsLastMarkerPrefix bytes end place = FindsLastNeedle (take end bytes) marker_prefix place
 
--- each marker behind a newline has its front before this end
-abbrev pub HasFrontsBefore : List ℕ → ℕ → Type 0
-HasFrontsBefore bytes end = (place : ℕ) (format : Format) → MarksPlace bytes place format → 0 < place → place + length (codes "-----BEGIN ") ≤ end
+-- each marker after a newline has its prefix before `end`
+abbrev pub HasMarkerPrefixesBefore : List ℕ → ℕ → Type 0
+HasMarkerPrefixesBefore bytes end = (place : ℕ) (format : Format) → MarksPlace bytes place format → 0 < place
+    → place + length (codes "-----BEGIN ") ≤ end

@@ -1,10 +1,10 @@
--- The markers with which signatures begin, and where in a text they stand (gitformat-signature, "DESCRIPTION", "Tag signatures").
+-- The markers of signatures and their positions at line starts (gitformat-signature, "DESCRIPTION", "Tag signatures").
 use Rattle.std.specs.Prelude.{◌≡◌, ◌≤◌, ℕ, List, [], ◌∷◌, ◌++◌, ◌⊎◌, codes, length}
 use Rattle.gixobj_text.specs.declared.signature.Format.{Format}
 use Rattle.gixobj_text.specs.declared.signature.Format.TheVariants as format
 use Rattle.gixobj_hash.specs.Bytes.{newline}
 
--- the marker with which signatures of this format begin
+-- a marker with which signatures of this format begin
 pub data IsMarkerOf : Format → List ℕ → Type 0 where
   pgp_signature : IsMarkerOf format.OpenPgp (codes "-----BEGIN PGP SIGNATURE-----")
   pgp_message : IsMarkerOf format.OpenPgp (codes "-----BEGIN PGP MESSAGE-----")
@@ -22,20 +22,20 @@ pub record BeginsWithMarker (format : Format) (bytes : List ℕ) : Type 0 where
 abbrev pub BeginsWithNoMarker : List ℕ → Type 0
 BeginsWithNoMarker bytes = (format : Format) → ¬ BeginsWithMarker format bytes
 
--- a line starts behind this front: it is empty, or ends in a newline
+-- a line starts after `head`: it is empty, or ends in a newline
 abbrev pub StartsLine : List ℕ → Type 0
-StartsLine front = (front ≡ []) ⊎ ((lines : List ℕ) × (front ≡ lines ++ newline ∷ []))
+StartsLine head = (head ≡ []) ⊎ ((lines : List ℕ) × (head ≡ lines ++ newline ∷ []))
 
--- at this place, at the start of a line, a marker of this format stands
+-- a marker of this format is at this position, at the start of a line
 pub record MarksPlace (bytes : List ℕ) (place : ℕ) (format : Format) : Type 0 where
-  pub front : List ℕ
+  pub prefix : List ℕ
   pub rest : List ℕ
-  pub joined : bytes ≡ front ++ rest
-  pub as_long : length front ≡ place
-  pub starts : StartsLine front
+  pub joined : bytes ≡ prefix ++ rest
+  pub as_long : length prefix ≡ place
+  pub starts : StartsLine prefix
   pub marked : BeginsWithMarker format rest
 
--- the last such place
+-- the last position of a marker at the start of a line, and its format
 pub record IsMarkerPlace (bytes : List ℕ) (place : ℕ) (format : Format) : Type 0 where
   pub here : MarksPlace bytes place format
   pub last : (other : ℕ) (format' : Format) → MarksPlace bytes other format' → other ≤ place

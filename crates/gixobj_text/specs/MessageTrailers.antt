@@ -2,14 +2,15 @@
 use Rattle.std.specs.Prelude.{◌≡◌, ℕ, List, [], Option, None, Some, drop}
 use Rattle.gixobj_text.specs.Titles.{SplitsTitle}
 use Rattle.gixobj_text.specs.TrailerBlocks.{IsBlockStart}
-use Rattle.gixobj_text.specs.Trailers.{TrailerView, trailers_of_text}
+use Rattle.gixobj_text.specs.Trailers.{TrailerView, trailers_of_bytes}
 
--- those of the block at the end of a body; none without a body
+-- the trailers of the block at the end of a body; none without a body
 abbrev pub BodyHasTrailers : Option (List ℕ) → List TrailerView → Type 0
 BodyHasTrailers None trailers = trailers ≡ []
-BodyHasTrailers (Some body) trailers = (start : ℕ) × IsBlockStart body start × (trailers ≡ trailers_of_text (drop start body))
+BodyHasTrailers (Some body) trailers = (start : ℕ) × IsBlockStart body start
+    × (trailers ≡ trailers_of_bytes (drop start body))
 
--- those of a message's body
+-- the trailers of a message: those of its body
 pub record HasTrailers (message : List ℕ) (trailers : List TrailerView) : Type 0 where
   pub title : List ℕ
   pub body : Option (List ℕ)

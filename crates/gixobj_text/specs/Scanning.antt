@@ -1,20 +1,21 @@
--- What is known of the lines of a run, read from the top.
+-- What a scan knows of the lines of a run and of a trailer line.
 use Rattle.std.specs.Prelude.{Bool, true, false, cond, List, [], ◌∷◌, ℕ, Option, Some, None}
 use Rattle.std.specs.Borrow.{Bor}
 use Rattle.gixobj_text.specs.BodyLines.{TrailerParts, is_indented, is_token_byte}
 use Rattle.gixobj_text.specs.TrailerBlocks.{is_trailing}
 
--- whether, behind these lines, the nearest line that isn't indented is a trailer; `above` says it of what stands before them
-abbrev pub above_behind : Bool → List (List ℕ) → Bool
-above_behind above [] = above
-above_behind above (line ∷ run) = cond (is_trailing line) (above_behind true run) (cond (is_indented line) (above_behind above run) (above_behind false run))
+-- after these lines, the last line that isn't indented counts as a trailer; `above` says so before them
+abbrev pub is_below_trailer_after : Bool → List (List ℕ) → Bool
+is_below_trailer_after above [] = above
+is_below_trailer_after above (line ∷ run) = cond (is_trailing line) (is_below_trailer_after true run)
+    (cond (is_indented line) (is_below_trailer_after above run) (is_below_trailer_after false run))
 
--- what stands behind a token
-abbrev pub behind_token : List ℕ → List ℕ
-behind_token [] = []
-behind_token (byte ∷ rest) = cond (is_token_byte byte) (behind_token rest) (byte ∷ rest)
+-- the bytes after a token
+abbrev pub after_token : List ℕ → List ℕ
+after_token [] = []
+after_token (byte ∷ rest) = cond (is_token_byte byte) (after_token rest) (byte ∷ rest)
 
--- the parts that were read, as lists
+-- the parts of a trailer line, as lists
 abbrev pub read_parts : Option (Bor (List ℕ) × Bor (List ℕ)) → Option TrailerParts
 read_parts None = None
 read_parts (Some it) = Some (it.0.now, it.1.now)

@@ -1,34 +1,36 @@
--- Going over the lines of a text.
+-- Steps over lines to the first trailer line, and over consecutive trailers.
 use Rattle.std.specs.Prelude.{◌≡◌, ◌||◌, ℕ, List, [], ◌∷◌, ◌++◌, All, IsFalse, IsTrue, ⊤}
 use Rattle.std.specs.List.{concat}
 use Rattle.bstr.specs.Text.{lines_of}
 use Rattle.gixobj_text.specs.Blocks.{EndsTrailers}
 use Rattle.gixobj_text.specs.BodyLines.{is_folded, is_trailer_line}
 
--- the text is lines of which each is such a line, and then the rest with its own lines
-pub record IsPast (P : List ℕ → Type 0) (text rest : List ℕ) : Type 0 where
-  pub taken : List (List ℕ)
-  pub joined : text ≡ concat taken ++ rest
-  pub lines : lines_of text ≡ taken ++ lines_of rest
-  pub all : All P taken
+-- the bytes are lines that all satisfy `P`, and then `rest` with its own lines
+pub record IsPast (P : List ℕ → Type 0) (bytes rest : List ℕ) : Type 0 where
+  pub consumed : List (List ℕ)
+  pub joined : bytes ≡ concat consumed ++ rest
+  pub lines : lines_of bytes ≡ consumed ++ lines_of rest
+  pub all : All P consumed
 
+-- the line isn't a trailer line
 abbrev pub NoTrailer : List ℕ → Type 0
 NoTrailer line = IsFalse (is_trailer_line line)
 
-abbrev pub GoesOn : List ℕ → Type 0
-GoesOn line = IsTrue (is_trailer_line line || is_folded line)
+-- a trailer line or a continuation line
+abbrev pub ContinuesTrailer : List ℕ → Type 0
+ContinuesTrailer line = IsTrue (is_trailer_line line || is_folded line)
 
--- nothing, or a trailer's line and others
+-- there is no line, or the first is a trailer line
 abbrev pub BeginsTrailer : List (List ℕ) → Type 0
 BeginsTrailer [] = ⊤
 BeginsTrailer (line ∷ lines) = IsTrue (is_trailer_line line)
 
--- the rest behind lines that are no trailer's
-pub record IsAtTrailer (text rest : List ℕ) : Type 0 where
-  pub past : IsPast NoTrailer text rest
+-- the rest from the first trailer line on
+pub record IsAtTrailer (bytes rest : List ℕ) : Type 0 where
+  pub past : IsPast NoTrailer bytes rest
   pub begins : BeginsTrailer (lines_of rest)
 
--- the rest behind trailers that follow one another
-pub record IsBehindTrailers (text rest : List ℕ) : Type 0 where
-  pub past : IsPast GoesOn text rest
+-- the rest after consecutive trailers
+pub record IsAfterTrailers (bytes rest : List ℕ) : Type 0 where
+  pub past : IsPast ContinuesTrailer bytes rest
   pub ends : EndsTrailers (lines_of rest)

@@ -3,21 +3,24 @@ use Rattle.std.specs.Prelude.{ℕ, Bool, true, false, cond, List, [], ◌∷◌,
 use Rattle.std.specs.Char.{is_whitespace}
 use Rattle.bstr.specs.Trim.{trim_end_by}
 use Rattle.gixobj_hash.specs.Bytes.{space}
-use Rattle.gixobj_text.specs.Titles.{is_nothing, pieces_of, without_trailing}
-use Rattle.gixobj_hash.specs.Texts.{trimmed}
+use Rattle.gixobj_text.specs.Titles.{is_empty_piece, pieces_of, without_trailing}
+use Rattle.gixobj_hash.specs.ByteStrings.{trimmed}
 
--- what the pieces behind make of a summary that has begun: an empty one ends it, and the last of the whole keeps its trailing spaces
-abbrev pub summary_behind : List ℕ → List (List ℕ) → List ℕ
-summary_behind summary [] = summary
-summary_behind summary (piece ∷ []) = cond (is_nothing piece) (trim_end_by is_whitespace summary) (summary ++ space ∷ piece)
-summary_behind summary (piece ∷ next ∷ pieces) = cond (is_nothing piece) (trim_end_by is_whitespace summary) (summary_behind (summary ++ space ∷ without_trailing piece) (next ∷ pieces))
+-- a summary that has begun, with the remaining pieces: an empty piece ends it, and the last piece keeps its trailing
+-- white space
+abbrev pub summary_of_rest : List ℕ → List (List ℕ) → List ℕ
+summary_of_rest summary [] = summary
+summary_of_rest summary (piece ∷ []) = cond (is_empty_piece piece) (trim_end_by is_whitespace summary)
+    (summary ++ space ∷ piece)
+summary_of_rest summary (piece ∷ next ∷ pieces) = cond (is_empty_piece piece) (trim_end_by is_whitespace summary)
+    (summary_of_rest (summary ++ space ∷ without_trailing piece) (next ∷ pieces))
 
--- more than one piece
+-- there is more than one piece
 abbrev pub has_more : List (List ℕ) → Bool
 has_more [] = false
 has_more (piece ∷ []) = false
 has_more (piece ∷ next ∷ pieces) = true
 
--- the text has a newline within
+-- the trimmed bytes have more than one line
 abbrev pub is_of_lines : List ℕ → Bool
-is_of_lines text = has_more (pieces_of (trimmed text))
+is_of_lines bytes = has_more (pieces_of (trimmed bytes))

@@ -5,78 +5,88 @@ use Rattle.std.specs.List.{prefix_len}
 use Rattle.bstr.specs.Owned.{joined}
 use Rattle.gixobj_hash.specs.Bytes.{newline, space, tab}
 use Rattle.gixobj_text.specs.BodyLines.{carriage_return}
-use Rattle.gixobj_hash.specs.Texts.{trimmed}
+use Rattle.gixobj_hash.specs.ByteStrings.{trimmed}
 use Rattle.bstr.specs.Trim.{trim_end_by}
 
 -- ---- title and body
 
--- a break of lines
+-- a line break: a newline, or a carriage return and a newline
 pub data IsBreak : List ℕ → Type 0 where
   alone : IsBreak (newline ∷ [])
   after_return : IsBreak (carriage_return ∷ newline ∷ [])
 
--- two breaks follow each other behind this front, and then the rest
-pub record HasBreaks (message front rest : List ℕ) : Type 0 where
+-- two consecutive line breaks follow this prefix, and then the rest
+pub record HasBreaks (message prefix rest : List ℕ) : Type 0 where
   pub first : List ℕ
   pub second : List ℕ
   pub breaks : IsBreak first × IsBreak second
-  pub joined : message ≡ front ++ first ++ second ++ rest
+  pub joined : message ≡ prefix ++ first ++ second ++ rest
 
--- the message is cut where two breaks first follow each other; an empty body is none
-pub record IsCut (message title body : List ℕ) : Type 0 where
+-- the title ends at the first position of two consecutive line breaks, and the body follows them
+pub record IsSplitAtBreaks (message title body : List ℕ) : Type 0 where
   pub here : HasBreaks message title body
-  pub least : (front rest : List ℕ) → HasBreaks message front rest → length title ≤ length front
+  pub minimum : (prefix rest : List ℕ) → HasBreaks message prefix rest → length title ≤ length prefix
 
--- without such a place all is title
+-- a message splits at its first two consecutive line breaks; without them it is all title; an empty body is none
 abbrev pub SplitsTitle : List ℕ → List ℕ → Option (List ℕ) → Type 0
-SplitsTitle message title None = IsCut message title [] ⊎ ((title ≡ message) × ((front rest : List ℕ) → ¬ HasBreaks message front rest))
-SplitsTitle message title (Some body) = IsCut message title body × (body ≢ [])
+SplitsTitle message title None = IsSplitAtBreaks message title []
+    ⊎ ((title ≡ message) × ((prefix rest : List ℕ) → ¬ HasBreaks message prefix rest))
+SplitsTitle message title (Some body) = IsSplitAtBreaks message title body × (body ≢ [])
 
 -- ---- summaries
 
--- the pieces between newlines
-abbrev pub onto_first : ℕ → List (List ℕ) → List (List ℕ)
-onto_first byte [] = (byte ∷ []) ∷ []
-onto_first byte (piece ∷ pieces) = (byte ∷ piece) ∷ pieces
+-- the pieces with one more byte at the start of the first
+abbrev pub prepended_to_first : ℕ → List (List ℕ) → List (List ℕ)
+prepended_to_first byte [] = (byte ∷ []) ∷ []
+prepended_to_first byte (piece ∷ pieces) = (byte ∷ piece) ∷ pieces
 
+-- the pieces between newlines
 abbrev pub pieces_of : List ℕ → List (List ℕ)
 pieces_of [] = [] ∷ []
-pieces_of (byte ∷ rest) = cond (byte == newline) ([] ∷ pieces_of rest) (onto_first byte (pieces_of rest))
+pieces_of (byte ∷ rest) = cond (byte == newline) ([] ∷ pieces_of rest) (prepended_to_first byte (pieces_of rest))
 
 -- a form feed
 abbrev pub form_feed : ℕ
 form_feed = 12
 
--- a tab, a newline, a form feed, a return or a space
+-- ASCII white space
 abbrev pub is_trailing_space : ℕ → Bool
 is_trailing_space byte = byte == tab || byte == newline || byte == form_feed || byte == carriage_return || byte == space
 
+-- a piece without the ASCII white space at its end
 abbrev pub without_trailing : List ℕ → List ℕ
 without_trailing piece = reverse (drop (prefix_len is_trailing_space (reverse piece)) (reverse piece))
 
--- the pieces up to the first empty one, and whether there is an empty one
-abbrev pub is_nothing : List ℕ → Bool
-is_nothing [] = true
-is_nothing (byte ∷ rest) = false
+-- the piece is empty
+abbrev pub is_empty_piece : List ℕ → Bool
+is_empty_piece [] = true
+is_empty_piece (byte ∷ rest) = false
 
-abbrev pub stops : List (List ℕ) → Bool
-stops [] = false
-stops (piece ∷ pieces) = is_nothing piece || stops pieces
+-- a piece is empty
+abbrev pub has_empty_piece : List (List ℕ) → Bool
+has_empty_piece [] = false
+has_empty_piece (piece ∷ pieces) = is_empty_piece piece || has_empty_piece pieces
 
+-- the pieces before the first empty one, or all
 abbrev pub before_empty : List (List ℕ) → List (List ℕ)
 before_empty [] = []
-before_empty (piece ∷ pieces) = cond (is_nothing piece) [] (piece ∷ before_empty pieces)
+before_empty (piece ∷ pieces) = cond (is_empty_piece piece) [] (piece ∷ before_empty pieces)
 
--- each loses its trailing spaces, but for the last piece of the whole text
+-- each piece without the ASCII white space at its end; the last piece of all is unchanged
 abbrev pub each_without : List (List ℕ) → List (List ℕ)
 each_without [] = []
 each_without (piece ∷ []) = piece ∷ []
 each_without (piece ∷ next ∷ pieces) = without_trailing piece ∷ each_without (next ∷ pieces)
 
+-- `each_without` of the pieces, joined by spaces; or, if a piece after the first is empty, the pieces before it, joined
+-- by spaces and trimmed at the end
 abbrev pub summary_of_pieces : List (List ℕ) → List ℕ
 summary_of_pieces [] = []
 summary_of_pieces (first ∷ pieces) =
-    cond (stops pieces) (trim_end_by is_whitespace (joined (space ∷ []) (map without_trailing (first ∷ before_empty pieces)))) (joined (space ∷ []) (each_without (first ∷ pieces)))
+    cond (has_empty_piece pieces)
+    (trim_end_by is_whitespace (joined (space ∷ []) (map without_trailing (first ∷ before_empty pieces))))
+    (joined (space ∷ []) (each_without (first ∷ pieces)))
 
+-- the summary of the trimmed bytes
 abbrev pub summary_of : List ℕ → List ℕ
-summary_of text = summary_of_pieces (pieces_of (trimmed text))
+summary_of bytes = summary_of_pieces (pieces_of (trimmed bytes))

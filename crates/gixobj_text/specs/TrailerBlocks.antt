@@ -1,16 +1,18 @@
--- The block of trailers at the end of a body (git-interpret-trailers).
+-- The trailer block at the end of a body (git-interpret-trailers).
 use Rattle.std.specs.Prelude.{◌≡◌, ◌≢◌, ◌⊎◌, ◌<◌, ◌≤◌, ◌+◌, ◌*◌, ℕ, Bool, true, false, cond, List, [], ◌∷◌, ◌++◌, ◌||◌, All, IsTrue, IsFalse, count_by, length}
 use Rattle.std.specs.List.{concat, list_any}
 use Rattle.bstr.specs.Text.{lines_of}
-use Rattle.gixobj_text.specs.BodyLines.{is_blank, is_indented, is_recognised, is_trailer_line, text_of}
+use Rattle.gixobj_text.specs.BodyLines.{is_blank, is_indented, is_recognised, is_trailer_line, trimmed_line}
 
 -- ---- the last run
 
--- nothing, or it ends in a blank line
+-- there is no line, or the last is blank
 abbrev pub EndsBlank : List (List ℕ) → Type 0
-EndsBlank lines = (lines ≡ []) ⊎ ((front : List (List ℕ)) × (blank : List ℕ) × (lines ≡ front ++ blank ∷ []) × IsTrue (is_blank blank))
+EndsBlank lines = (lines ≡ [])
+    ⊎ ((prefix : List (List ℕ)) × (blank : List ℕ) × (lines ≡ prefix ++ blank ∷ []) × IsTrue (is_blank blank))
 
--- the last lines that follow one another and aren't blank: what stands before them, and blank lines behind them
+-- the last run: consecutive lines that aren't blank; lines before it end in a blank line, and all lines after it are
+-- blank
 pub record IsLastRun (lines before run after : List (List ℕ)) : Type 0 where
   pub joined : lines ≡ before ++ run ++ after
   pub some : run ≢ []
@@ -18,47 +20,53 @@ pub record IsLastRun (lines before run after : List (List ℕ)) : Type 0 where
   pub all_blank : All (λ line. IsTrue (is_blank line)) after
   pub ends : EndsBlank before
 
--- ---- its lines
+-- ---- the lines of a run
 
--- a line that counts as a trailer
+-- a line that counts as a trailer: git generates it, or it is a trailer line
 abbrev pub is_trailing : List ℕ → Bool
 is_trailing line = is_recognised line || is_trailer_line line
 
--- how many lines are others: those that are neither indented nor count as trailers, and indented ones that no trailer stands above,
--- but for indented lines between; `above` says whether one stands above the first
-abbrev pub others : Bool → List (List ℕ) → ℕ
-others above [] = 0
-others above (line ∷ run) = cond (is_trailing line) (others true run) (cond (is_indented line) (cond above 0 1 + others above run) (1 + others false run))
+-- the number of other lines: those that don't count as trailers, without indented lines that continue a trailer; an
+-- indented line continues a trailer if the last unindented line before it counts as one; `above` is whether this holds
+-- at the first line
+abbrev pub count_others : Bool → List (List ℕ) → ℕ
+count_others above [] = 0
+count_others above (line ∷ run) = cond (is_trailing line) (count_others true run)
+    (cond (is_indented line) (cond above 0 1 + count_others above run) (1 + count_others false run))
 
+-- the number of lines that count as trailers
 abbrev pub trailers_in : List (List ℕ) → ℕ
 trailers_in run = count_by is_trailing run
 
--- trailers and nothing else; or a line that git makes, and at least one trailer to three others
+-- a trailer block: trailers and no other line; or a line that git generates, and at least one trailer for three other
+-- lines
 abbrev pub IsTrailerBlock : List (List ℕ) → Type 0
-IsTrailerBlock run = ((0 < trailers_in run) × (others false run ≡ 0)) ⊎ (IsTrue (list_any is_recognised run) × (others false run ≤ 3 * trailers_in run))
+IsTrailerBlock run = ((0 < trailers_in run) × (count_others false run ≡ 0))
+    ⊎ (IsTrue (list_any is_recognised run) × (count_others false run ≤ 3 * trailers_in run))
 
--- ---- its start
+-- ---- the start of a block
 
--- behind the text of the line before the blank line that ends these; 0 where there is no such line
-abbrev pub StartsBehind : List (List ℕ) → ℕ → Type 0
-StartsBehind before start =
+-- the offset after the content of the line before the final blank line; 0 without such a line
+abbrev pub StartsAfter : List (List ℕ) → ℕ → Type 0
+StartsAfter before start =
     ((before ≡ []) × (start ≡ 0))
     ⊎ ((blank : List ℕ) × (before ≡ blank ∷ []) × (start ≡ 0))
-    ⊎ ((front : List (List ℕ)) × (line blank : List ℕ) × (before ≡ front ++ line ∷ blank ∷ []) × (start ≡ length (concat front) + length (text_of line)))
+    ⊎ ((prefix : List (List ℕ)) × (line blank : List ℕ) × (before ≡ prefix ++ line ∷ blank ∷ [])
+    × (start ≡ length (concat prefix) + length (trimmed_line line)))
 
--- the last run is a block, which starts here
+-- the last run is a trailer block with this start
 pub record HasBlock (lines : List (List ℕ)) (start : ℕ) : Type 0 where
   pub before : List (List ℕ)
   pub run : List (List ℕ)
   pub after : List (List ℕ)
   pub last : IsLastRun lines before run after
   pub block : IsTrailerBlock run
-  pub starts : StartsBehind before start
+  pub starts : StartsAfter before start
 
--- there is no run, or the last one is no block
+-- there is no run, or the last one isn't a trailer block
 abbrev pub HasNoBlock : List (List ℕ) → Type 0
 HasNoBlock lines = (before run after : List (List ℕ)) → IsLastRun lines before run after → ¬ IsTrailerBlock run
 
--- where the block of a body starts; without one behind all of it
+-- the start of a body's trailer block; without a block the length of the body
 abbrev pub IsBlockStart : List ℕ → ℕ → Type 0
 IsBlockStart body start = HasBlock (lines_of body) start ⊎ (HasNoBlock (lines_of body) × (start ≡ length body))

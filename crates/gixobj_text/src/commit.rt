@@ -1,4 +1,4 @@
-//! Commits: their messages (git-commit, "DISCUSSION").
+//! The messages of commits (git-commit, "DISCUSSION").
 
 pub mod message;
 

@@ -1,11 +1,10 @@
-//! Laws of markers and of messages. Each function does nothing: its contract is the law.
+//! Laws of signature markers and of messages. Each function is empty; its contract is the law.
 
 mod markers;
 mod messages;
 
-pub use markers::{signatures_have_one_format, texts_have_one_marker_place};
+pub use markers::{marker_position_is_unique, signature_format_is_unique};
 pub use messages::{
-    bodies_have_one_block_start, bodies_have_one_list_of_blocks, messages_are_split_once,
-    messages_have_one_list_of_trailers, parts_are_the_body, readers_give_all,
-    trailer_lines_are_read,
+    blocks_are_unique, message_split_is_unique, parts_append_to_body, readers_yield_all,
+    trailer_block_start_is_unique, trailer_line_decodes, trailers_are_unique,
 };

@@ -1,5 +1,5 @@
-//! Messages of commits: titles, bodies, summaries, trailers (git-commit, "DISCUSSION"; git-interpret-trailers);
-//! and the formats of signatures, with the markers by which a text has one (gitformat-signature).
+//! Commit messages with title, body, summary and trailers (git-commit, "DISCUSSION"; git-interpret-trailers),
+//! and formats of armored signatures with their markers (gitformat-signature).
 #![tactic(auto)]
 
 pub mod commit;

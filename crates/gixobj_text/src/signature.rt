@@ -1,19 +1,18 @@
-//! Signatures: the format that an armored one begins with, and where in a text one begins
-//! (gitformat-signature, "DESCRIPTION", "Tag signatures").
+//! Formats and marker positions of armored signatures (gitformat-signature, "DESCRIPTION", "Tag signatures").
 ghost use Rattle.std.specs.Prelude.{◌≤◌, IfNone, IfSome, length};
-ghost use Rattle.gixobj_text.specs.LineWalk.{IsLastFront};
+ghost use Rattle.gixobj_text.specs.LineWalk.{IsLastMarkerPrefix};
 ghost use Rattle.gixobj_text.specs.Markers.{HasNoMarker, IsMarkerPlace};
 
 use bstr::{BStr, ByteSlice};
 
-/// How a signature was made (gitformat-signature, "DESCRIPTION").
+/// The format of a signature (gitformat-signature, "DESCRIPTION"). [`Format::from_signature`] finds it.
 #[derive(Clone, Copy, Debug, PartialEq, Eq, PartialOrd, Ord, Hash)]
 pub enum Format {
-    /// By OpenPGP: it begins with `-----BEGIN PGP SIGNATURE-----` or `-----BEGIN PGP MESSAGE-----`.
+    /// OpenPGP: begins with `-----BEGIN PGP SIGNATURE-----` or `-----BEGIN PGP MESSAGE-----`.
     OpenPgp,
-    /// By a certificate of X.509: it begins with `-----BEGIN SIGNED MESSAGE-----`.
+    /// X.509 certificate: begins with `-----BEGIN SIGNED MESSAGE-----`.
     X509,
-    /// By a key of SSH: it begins with `-----BEGIN SSH SIGNATURE-----`.
+    /// SSH key: begins with `-----BEGIN SSH SIGNATURE-----`.
     Ssh,
 }
 
@@ -21,9 +20,9 @@ pub enum Format {
 impl Format {
     ghost use Rattle.gixobj_text.specs.Markers.{BeginsWithMarker, BeginsWithNoMarker};
 
-    /// The format whose marker begins these bytes, or none (gitformat-signature, "DESCRIPTION").
+    /// Returns the format whose marker begins the signature, or `None` (gitformat-signature, "DESCRIPTION").
     ///
-    /// It takes no memory.
+    /// Allocates nothing.
     #[tactic(auto, using(crate::proofs::MarkersFound::pgp_signature_found, crate::proofs::MarkersFound::pgp_message_found, crate::proofs::MarkersFound::signed_message_found, crate::proofs::MarkersFound::ssh_signature_found))]
     pub fn from_signature(signature: &[u8]) -> Option<Format>
         ensures found { IfSome result (λ format. BeginsWithMarker format signature.now) }
@@ -45,25 +44,25 @@ impl Format {
     }
 }
 
-/// An armored signature, borrowed, from its marker on.
+/// A borrowed armored signature, from its marker on. `TagRefIter::signature` makes one.
 #[derive(Clone, Copy, Debug, PartialEq, Eq, PartialOrd, Ord, Hash)]
 pub struct SignatureRef<'a> {
-    /// How it was made.
+    /// The format of the signature.
     pub format: Format,
-    /// Its bytes, the marker's among them.
+    /// The bytes of the signature, with its marker.
     pub bytes: BStr<'a>,
 }
 
-/// The place of the last marker at the start of a line, and its format, or none where no line begins
-/// with a marker (gitformat-signature, "Tag signatures").
+/// Finds the last marker at the start of a line (gitformat-signature, "Tag signatures").
 ///
-/// It goes back from the end over the lines that begin as all markers do, and takes no memory.
+/// Returns its byte offset and its format, or `None` if no line begins with a marker. The search goes
+/// backwards over the lines that begin with the prefix of all markers. Allocates nothing.
 pub fn find(bytes: &[u8]) -> Option<(usize, Format)>
     ensures found { IfSome result (λ it. IsMarkerPlace bytes.now it.0 it.1) }
     ensures none { IfNone result (HasNoMarker bytes.now) }
 {
     let mut end = bytes.len();
-    while let Some(newline) = last_front(bytes, end) {
+    while let Some(newline) = last_prefix(bytes, end) {
         let start = newline + 1;
         if let Some(format) = Format::from_signature(&bytes[start..]) {
             return Some((start, format));
@@ -74,10 +73,10 @@ pub fn find(bytes: &[u8]) -> Option<(usize, Format)>
     Some((0, format))
 }
 
-/// The last place before this end where a newline and the front of all markers stand, or none.
-fn last_front(bytes: &[u8], end: usize) -> Option<usize>
+/// Returns the last offset before `end` of a newline and the prefix of all markers, or `None` without one.
+fn last_prefix(bytes: &[u8], end: usize) -> Option<usize>
     requires within { end ≤ length bytes.now }
-    ensures { IsLastFront bytes.now end result }
+    ensures { IsLastMarkerPrefix bytes.now end result }
 {
     (&bytes[..end]).rfind(b"\n-----BEGIN ")
 }

@@ -1,4 +1,4 @@
--- Each text begins with an entry or with none, and each is that of a tree or of none.
+-- Each input begins with an entry or with none, and all bytes are a tree or malformed; used by `gixobj_directories`.
 use Rattle.std.proofs.Common.{◌≡◌, ◌≢◌, ◌≤◌, ◌⊎◌, inl, inr, ⊎_elim, ℕ, zero, suc, List, [], ◌∷◌, ◌++◌, ap, arith, drop, length, take, refl, subst, sym, ◌∙◌}
 use Rattle.std.proofs.lemmas.Bool.{cases_eq, cases_lt}
 use Rattle.std.proofs.lemmas.List.{length-take-le, take-append-drop}
@@ -6,142 +6,160 @@ use Rattle.std.proofs.lemmas.List.Elements.{All-cons, All-nil}
 use Rattle.std.specs.Char.{digit_value}
 use Rattle.std.specs.Prelude.{get_or}
 use Rattle.std.specs.Str.Parse.{AllDigits}
-use Rattle.gixobj_fields.specs.Runs.{Ending, broken, complete, tells_end, tells_error, tells_piece}
+use Rattle.gixobj_fields.specs.Runs.{Ending, broken, complete, yields_end, yields_error, yields_piece}
 use Rattle.gixobj_hash.specs.Hash.{hash_len, id_bytes, id_from}
 use Rattle.gixobj_hash.specs.declared.hash.kind.Kind.{Kind}
 use Rattle.gixobj_hash.specs.declared.hash.kind.Kind.TheVariants as hash
-use Rattle.gixobj_hash.proofs.Splits.{free_of_cut, one_cut}
-use Rattle.gixobj_hash.specs.Texts.{IsFree, SplitsAt}
-use Rattle.gixobj_mode.proofs.ModeTexts.{octal_free}
+use Rattle.gixobj_hash.proofs.Splits.{free_of_split, one_cut}
+use Rattle.gixobj_hash.specs.ByteStrings.{IsByteFree, SplitsAt}
+use Rattle.gixobj_mode.proofs.EncodedModes.{octal_free}
 use Rattle.gixobj_tree.specs.Entries.{EntryView, entry_of}
-use Rattle.gixobj_mode.specs.Mode.{BeginsWithMode, KeepsByteSix, mode_of_digits}
-use Rattle.gixobj_tree.proofs.EntryRuns.{one_run, read, told}
+use Rattle.gixobj_mode.specs.Mode.{BeginsWithMode, HasSixDigits, mode_of_digits}
+use Rattle.gixobj_tree.proofs.EntryRuns.{one_run, read, test_iff}
 use Rattle.gixobj_tree.proofs.OneEntry.{Parted, entry_of_parts, no_id, no_name, parted, shorter}
-use Rattle.gixobj_tree.specs.TreeReading.{BeginsWithEntry, BeginsWithId, BeginsWithNoEntry, IsNoTreeText, IsTreeText, TellsEntries}
+use Rattle.gixobj_tree.specs.TreeDecoding.{BeginsWithEntry, BeginsWithId, BeginsWithNoEntry, IsMalformedTree, DecodesToTree, YieldsEntries}
 
 -- ---- the parts of an entry
 
--- the text is cut at this byte, or has none
-pub cut_or_free : (byte : ℕ) (text : List ℕ) → ((front : List ℕ) × (rest : List ℕ) × SplitsAt byte text front rest) ⊎ IsFree byte text
-cut_or_free byte [] = inr (All-nil (λ it. it ≢ byte))
-cut_or_free byte (first ∷ text) =
-    ⊎_elim (λ is. inl ([], text, here is))
-    (λ other. ⊎_elim (λ cut. inl (first ∷ cut.0, cut.1, later other cut.2)) (λ free. inr (All-cons (λ it. it ≢ byte) first text other free)) (cut_or_free byte text)) (cases_eq first byte)
+-- bytes split at the first such byte, or have none
+pub split_or_free : (byte : ℕ) (content : List ℕ) → ((prefix : List ℕ) × (rest : List ℕ) × SplitsAt byte content prefix rest) ⊎ IsByteFree byte content
+split_or_free byte [] = inr (All-nil (λ it. it ≢ byte))
+split_or_free byte (first ∷ content) =
+    ⊎_elim (λ is. inl ([], content, here is))
+    (λ other. ⊎_elim (λ cut. inl (first ∷ cut.0, cut.1, later other cut.2)) (λ free. inr (All-cons (λ it. it ≢ byte) first content other free))
+    (split_or_free byte content)) (cases_eq first byte)
   where
-    here : first ≡ byte → SplitsAt byte (first ∷ text) [] text
-    here is = record { joined = ap (λ (it : ℕ). it ∷ text) is; first = All-nil (λ it. it ≢ byte) }
+    here : first ≡ byte → SplitsAt byte (first ∷ content) [] content
+    here is = record { joined = ap (λ (it : ℕ). it ∷ content) is; first = All-nil (λ it. it ≢ byte) }
 
-    later : {front rest : List ℕ} → first ≢ byte → SplitsAt byte text front rest → SplitsAt byte (first ∷ text) (first ∷ front) rest
-    later {front = front} other cut = record { joined = ap (λ (it : List ℕ). first ∷ it) cut.joined; first = All-cons (λ it. it ≢ byte) first front other cut.first }
+    later : {prefix rest : List ℕ} → first ≢ byte → SplitsAt byte content prefix rest → SplitsAt byte (first ∷ content) (first ∷ prefix) rest
+    later {prefix = prefix} other cut =
+        record { joined = ap (λ (it : List ℕ). first ∷ it) cut.joined; first = All-cons (λ it. it ≢ byte) first prefix other cut.first }
 
--- the text is one of octal digits, or not
-octal_or_not : (text : List ℕ) → AllDigits 8 text ⊎ (AllDigits 8 text → ⊥)
+-- bytes are octal digits, or not
+octal_or_not : (content : List ℕ) → AllDigits 8 content ⊎ (AllDigits 8 content → ⊥)
 octal_or_not [] = inl tt
-octal_or_not (first ∷ text) =
-    ⊎_elim (λ octal. ⊎_elim (λ more. inl (octal, more)) (λ other. inr (λ all. other all.1)) (octal_or_not text)) (λ large. inr (λ all. omega (arith, all.0)))
+octal_or_not (first ∷ content) =
+    ⊎_elim (λ octal. ⊎_elim (λ more. inl (octal, more)) (λ other. inr (λ all. other all.1)) (octal_or_not content)) (λ large. inr (λ all. omega (arith, all.0)))
     (cases_lt (digit_value first) 8)
 
--- byte 6 asks for no other digits than these, or it does
-six_or_not : (text digits : List ℕ) → KeepsByteSix text digits ⊎ (KeepsByteSix text digits → ⊥)
-six_or_not text digits =
-    ⊎_elim (λ six. inl (λ is other. six)) (λ not_six. ⊎_elim (λ is. asked not_six is) (λ other. inl (λ is. absurd (other is))) (cases_eq (get_or text 6 0) 32))
+-- byte 6 of the content allows these digits, or not
+six_or_not : (content digits : List ℕ) → HasSixDigits content digits ⊎ (HasSixDigits content digits → ⊥)
+six_or_not content digits =
+    ⊎_elim (λ six. inl (λ is other. six))
+    (λ not_six. ⊎_elim (λ is. asked not_six is) (λ other. inl (λ is. absurd (other is))) (cases_eq (get_or content 6 0) 32))
     (cases_eq (length digits) 6)
   where
-    asked : (length digits ≡ 6 → ⊥) → get_or text 6 0 ≡ 32 → KeepsByteSix text digits ⊎ (KeepsByteSix text digits → ⊥)
+    asked : (length digits ≡ 6 → ⊥) → get_or content 6 0 ≡ 32 → HasSixDigits content digits ⊎ (HasSixDigits content digits → ⊥)
     asked not_six is =
-        ⊎_elim (λ five. inl (λ six other. absurd (other five))) (λ other. inr (λ keeps. not_six (keeps is other))) (cases_eq (get_or text 5 0) 32)
+        ⊎_elim (λ five. inl (λ six other. absurd (other five))) (λ other. inr (λ keeps. not_six (keeps is other))) (cases_eq (get_or content 5 0) 32)
 
--- the text begins with an id where it has as many bytes
-id_in_front : (kind : Kind) (input : List ℕ) → hash_len kind ≤ length input → BeginsWithId kind input (id_from kind (take (hash_len kind) input)) (drop (hash_len kind) input)
-id_in_front hash.Sha1 input enough = (sym (take-append-drop 20 input), (refl, length-take-le 20 input enough))
-id_in_front hash.Sha256 input enough = (sym (take-append-drop 32 input), (refl, length-take-le 32 input enough))
+-- the input begins with an id if it has enough bytes
+id_before : (kind : Kind) (input : List ℕ) → hash_len kind ≤ length input → BeginsWithId kind input (id_from kind (take (hash_len kind) input))
+    (drop (hash_len kind) input)
+id_before hash.Sha1 input enough = (sym (take-append-drop 20 input), (refl, length-take-le 20 input enough))
+id_before hash.Sha256 input enough = (sym (take-append-drop 32 input), (refl, length-take-le 32 input enough))
 
 -- ---- an entry
 
+-- the input begins with an entry
 abbrev AnEntry : Kind → List ℕ → Type 0
 AnEntry kind input = (e : EntryView) × (rest : List ℕ) × BeginsWithEntry kind input e rest
 
--- where a text is cut at its first space, the digits of an entry end
-digits_at_cut : (kind : Kind) (input digits behind : List ℕ) (e : EntryView) (rest : List ℕ) → SplitsAt 32 input digits behind → (p : Parted kind input e rest) → p.digits ≡ digits
-digits_at_cut kind input digits behind e rest split p =
-    (one_cut 32 p.digits (e.name ++ 0 ∷ (id_bytes e.id ++ rest)) digits behind (octal_free p.digits p.mode.octal) split.first (sym p.joined ∙ split.joined)).0
+-- the digits of an entry are the bytes before the first space
+digits_at_cut : (kind : Kind) (input digits after : List ℕ) (e : EntryView) (rest : List ℕ) → SplitsAt 32 input digits after → (p : Parted kind input e rest)
+    → p.digits ≡ digits
+digits_at_cut kind input digits after e rest split p =
+    (one_cut 32 p.digits (e.name ++ 0 ∷ (id_bytes e.id ++ rest)) digits after (octal_free p.digits p.mode.octal) split.first (sym p.joined ∙ split.joined)).0
 
-filled : (front rest : List ℕ) (byte : ℕ) → front ++ byte ∷ rest ≢ []
+filled : (prefix rest : List ℕ) (byte : ℕ) → prefix ++ byte ∷ rest ≢ []
 filled [] rest byte = λ bare. cc bare
-filled (first ∷ front) rest byte = λ bare. cc bare
+filled (first ∷ prefix) rest byte = λ bare. cc bare
 
--- behind the mode
-from_name_on : (kind : Kind) (input behind from_name : List ℕ) (mode : ℕ) → BeginsWithMode input mode behind → behind ≡ 32 ∷ from_name → AnEntry kind input ⊎ BeginsWithNoEntry kind input
-from_name_on kind input behind from_name mode begun spaced =
-    ⊎_elim (λ cut. from_id_on cut.0 cut.1 cut.2) (λ free. inr (no_name kind input behind from_name mode begun spaced free)) (cut_or_free 0 from_name)
+-- an input that begins with a mode and a space begins with an entry or with none
+from_name_on : (kind : Kind) (input after from_name : List ℕ) (mode : ℕ) → BeginsWithMode input mode after → after ≡ 32 ∷ from_name → AnEntry kind input
+    ⊎ BeginsWithNoEntry kind input
+from_name_on kind input after from_name mode begun spaced =
+    ⊎_elim (λ cut. from_id_on cut.0 cut.1 cut.2) (λ free. inr (no_name kind input after from_name mode begun spaced free)) (split_or_free 0 from_name)
   where
     from_id_on : (name from_id : List ℕ) → SplitsAt 0 from_name name from_id → AnEntry kind input ⊎ BeginsWithNoEntry kind input
     from_id_on name from_id split =
         let it = id_from kind (take (hash_len kind) from_id) in
         let rest = drop (hash_len kind) from_id in
-        ⊎_elim (λ short. inr (no_id kind input behind from_name name from_id mode begun spaced split short))
-        (λ enough. inl (entry_of mode name it, rest, entry_of_parts kind input behind from_name name from_id rest mode it begun spaced split (id_in_front kind from_id enough)))
+        ⊎_elim (λ short. inr (no_id kind input after from_name name from_id mode begun spaced split short))
+        (λ enough. inl (
+          entry_of mode name it,
+          rest,
+          entry_of_parts kind input after from_name name from_id rest mode it begun spaced split
+              (id_before kind from_id enough),
+        ))
         (cases_lt (length from_id) (hash_len kind))
 
--- behind a cut at the first space
-module _ (kind : Kind) (input digits behind : List ℕ) (split : SplitsAt 32 input digits behind) where
-  no_entry : (P : List ℕ → Type 0) → ((e : EntryView) (rest : List ℕ) (p : Parted kind input e rest) → P p.digits) → (P digits → ⊥) → BeginsWithNoEntry kind input
+-- an input that is split at its first space
+module _ (kind : Kind) (input digits after : List ℕ) (split : SplitsAt 32 input digits after) where
+  no_entry : (P : List ℕ → Type 0) → ((e : EntryView) (rest : List ℕ) (p : Parted kind input e rest) → P p.digits) → (P digits → ⊥)
+      → BeginsWithNoEntry kind input
   no_entry P holds fails = λ e rest has.
       let p = parted kind input e rest has in
-      fails (subst P (digits_at_cut kind input digits behind e rest split p) (holds e rest p))
+      fails (subst P (digits_at_cut kind input digits after e rest split p) (holds e rest p))
 
-  mode_there : AllDigits 8 digits → length digits ≤ 7 → KeepsByteSix input digits → BeginsWithMode input (mode_of_digits digits) (32 ∷ behind)
+  mode_there : AllDigits 8 digits → length digits ≤ 7 → HasSixDigits input digits → BeginsWithMode input (mode_of_digits digits) (32 ∷ after)
   mode_there octal short six = record {
     digits = digits;
-    some = λ bare. filled digits behind 32 (sym split.joined ∙ bare);
+    some = λ bare. filled digits after 32 (sym split.joined ∙ bare);
     joined = split.joined;
     ends = refl;
-    reads = record { octal = octal; short = short; value = refl };
+    decodes = record { octal = octal; short = short; value = refl };
     byte_six = six;
   }
 
   by_byte_six : AllDigits 8 digits → length digits ≤ 7 → AnEntry kind input ⊎ BeginsWithNoEntry kind input
   by_byte_six octal short =
-      ⊎_elim (λ six. from_name_on kind input (32 ∷ behind) behind (mode_of_digits digits) (mode_there octal short six) refl)
-      (λ other. inr (no_entry (KeepsByteSix input) (λ e rest p. p.byte_six) other)) (six_or_not input digits)
+      ⊎_elim (λ six. from_name_on kind input (32 ∷ after) after (mode_of_digits digits) (mode_there octal short six) refl)
+      (λ other. inr (no_entry (HasSixDigits input) (λ e rest p. p.byte_six) other)) (six_or_not input digits)
 
   by_length : AllDigits 8 digits → AnEntry kind input ⊎ BeginsWithNoEntry kind input
-  by_length octal = ⊎_elim (λ long. inr (no_entry (λ it. length it ≤ 7) (λ e rest p. p.mode.short) (λ short. omega arith))) (by_byte_six octal) (cases_lt 7 (length digits))
+  by_length octal = ⊎_elim (λ long. inr (no_entry (λ it. length it ≤ 7) (λ e rest p. p.mode.short) (λ short. omega arith))) (by_byte_six octal)
+      (cases_lt 7 (length digits))
 
   cut_entry : AnEntry kind input ⊎ BeginsWithNoEntry kind input
   cut_entry = ⊎_elim by_length (λ other. inr (no_entry (AllDigits 8) (λ e rest p. p.mode.octal) other)) (octal_or_not digits)
 
 pub entry_or_none : (kind : Kind) (input : List ℕ) → ((e : EntryView) × (rest : List ℕ) × BeginsWithEntry kind input e rest) ⊎ BeginsWithNoEntry kind input
 entry_or_none kind input =
-    ⊎_elim (λ cut. cut_entry kind input cut.0 cut.1 cut.2) (λ free. inr (λ e rest has. no_space_there e rest free (parted kind input e rest has))) (cut_or_free 32 input)
+    ⊎_elim (λ cut. cut_entry kind input cut.0 cut.1 cut.2) (λ free. inr (λ e rest has. no_space_there e rest free (parted kind input e rest has)))
+    (split_or_free 32 input)
   where
-    no_space_there : (e : EntryView) (rest : List ℕ) → IsFree 32 input → Parted kind input e rest → ⊥
-    no_space_there e rest free p = free_of_cut 32 p.digits (e.name ++ 0 ∷ (id_bytes e.id ++ rest)) (subst (IsFree 32) p.joined free)
+    no_space_there : (e : EntryView) (rest : List ℕ) → IsByteFree 32 input → Parted kind input e rest → ⊥
+    no_space_there e rest free p = free_of_split 32 p.digits (e.name ++ 0 ∷ (id_bytes e.id ++ rest)) (subst (IsByteFree 32) p.joined free)
 
 -- ---- a tree
 
--- the entries of a text are told to its end, or to where none begins
+-- the complete run over the input, with its entries and its ending
 abbrev ARun : Kind → List ℕ → Type 0
-ARun kind input = (entries : List EntryView) × (ending : Ending) × TellsEntries kind input entries ending
+ARun kind input = (entries : List EntryView) × (ending : Ending) × YieldsEntries kind input entries ending
 
 entry_then_run : (kind : Kind) (input : List ℕ) (e : EntryView) (rest : List ℕ) → BeginsWithEntry kind input e rest → ARun kind rest → ARun kind input
-entry_then_run kind input e rest has more = (e ∷ more.0, more.1, tells_piece tt tt input rest e more.0 more.1 has more.2)
+entry_then_run kind input e rest has more = (e ∷ more.0, more.1, yields_piece tt tt input rest e more.0 more.1 has more.2)
 
-left_within : (most : ℕ) (kind : Kind) (input : List ℕ) (e : EntryView) (rest : List ℕ) → BeginsWithEntry kind input e rest → length input ≤ suc most → length rest ≤ most
+left_within : (most : ℕ) (kind : Kind) (input : List ℕ) (e : EntryView) (rest : List ℕ) → BeginsWithEntry kind input e rest → length input ≤ suc most
+    → length rest ≤ most
 left_within most kind input e rest has within = (let less = shorter kind input e rest has in omega (arith, less, within))
 
 run_within : (most : ℕ) (kind : Kind) (input : List ℕ) → length input ≤ most → ARun kind input
-run_within most kind [] within = ([], complete, tells_end tt)
+run_within most kind [] within = ([], complete, yields_end tt)
 run_within zero kind (first ∷ input) within = absurd (omega (arith, within))
 run_within (suc most) kind (first ∷ input) within =
     ⊎_elim
     (λ has. entry_then_run kind (first ∷ input) has.0 has.1 has.2 (run_within most kind has.1 (left_within most kind (first ∷ input) has.0 has.1 has.2 within)))
-    (λ none. ([], broken, tells_error tt (first ∷ input) (λ bare. cc bare) (λ e behind rest has. none e rest has)))
+    (λ none. ([], broken, yields_error tt (first ∷ input) (λ bare. cc bare) (λ e after rest has. none e rest has)))
     (entry_or_none kind (first ∷ input))
 
-pub tree_or_none : (kind : Kind) (text : List ℕ) → ((entries : List EntryView) × IsTreeText kind text entries) ⊎ IsNoTreeText kind text
-tree_or_none kind text = (let run = run_within (length text) kind text (omega arith) in by_ending run.0 run.1 run.2)
+pub tree_or_none : (kind : Kind) (content : List ℕ) → ((entries : List EntryView) × DecodesToTree kind content entries) ⊎ IsMalformedTree kind content
+tree_or_none kind content = (let run = run_within (length content) kind content (omega arith) in by_ending run.0 run.1 run.2)
   where
-    by_ending : (entries : List EntryView) (ending : Ending) → TellsEntries kind text entries ending → ((entries : List EntryView) × IsTreeText kind text entries) ⊎ IsNoTreeText kind text
-    by_ending entries complete run = inl (entries, read kind text entries run)
-    by_ending entries broken run = inr (λ others is. let same = one_run kind text entries others broken complete run (told kind text others is) in cc same.1)
+    by_ending : (entries : List EntryView) (ending : Ending) → YieldsEntries kind content entries ending
+        → ((entries : List EntryView) × DecodesToTree kind content entries) ⊎ IsMalformedTree kind content
+    by_ending entries complete run = inl (entries, read kind content entries run)
+    by_ending entries broken run =
+        inr (λ others is. let same = one_run kind content entries others broken complete run (test_iff kind content others is) in cc same.1)

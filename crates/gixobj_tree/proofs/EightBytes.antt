@@ -1,4 +1,4 @@
--- Eight bytes, four, or two, stand in the order of the number that they spell, the first counting most.
+-- Eight, four or two bytes compare as the big-endian numbers that they encode; used by the proofs of `name_order`.
 use Rattle.std.proofs.Common.{◌≡◌, ◌≢◌, ℕ, zero, suc, ◌+◌, ◌*◌, ◌<◌, ◌≤◌, arith, Bool, true, false, List, [], ◌∷◌, length, get_or, take, drop, refl, sym, ap, ◌∙◌, Less, Equal, Greater, Ordering}
 use mathlib.Core.Bool.{true≢false}
 use Rattle.std.specs.Int.{from_be_bytes, w16, w32, w64}
@@ -9,17 +9,19 @@ use Rattle.std.proofs.lemmas.Cmp.{ranked}
 use Rattle.gixobj_tree.specs.Entries.{name_cmp}
 use Rattle.gixobj_tree.proofs.NameKeys.{decides, more, then_assoc}
 
+-- each element is below 256
 abbrev Bytes : List ℕ → Type 0
 Bytes xs = (k : ℕ) → get_or xs k 0 < 256
 
--- the number of these digits in base 256, behind others
+-- the number in base 256 with these last digits, after a number with the first digits
 abbrev pub value : ℕ → List ℕ → ℕ
 value n [] = n
 value n (x ∷ xs) = value (256 * n + x) xs
 
--- one digit more
+-- numbers compare by their first digits, and then by their last digit
 digit : (m n x y : ℕ) → x < 256 → y < 256 → nat_cmp (256 * m + x) (256 * n + y) ≡ ordering_then (nat_cmp m n) (nat_cmp x y)
-digit m n x y a b = sym (nat_cmp_is (256 * m + x) (256 * n + y) (ordering_then (nat_cmp m n) (nat_cmp x y)) (ranks (nat_cmp m n) (nat_cmp x y) (ranked m n (nat_cmp m n) refl) (ranked x y (nat_cmp x y) refl)))
+digit m n x y a b = sym (nat_cmp_is (256 * m + x) (256 * n + y) (ordering_then (nat_cmp m n) (nat_cmp x y))
+    (ranks (nat_cmp m n) (nat_cmp x y) (ranked m n (nat_cmp m n) refl) (ranked x y (nat_cmp x y) refl)))
   where
     ranks : (o p : Ordering) → MatchOrdering o (m < n) (m ≡ n) (n < m) → MatchOrdering p (x < y) (x ≡ y) (y < x)
         → MatchOrdering (ordering_then o p) (256 * m + x < 256 * n + y) (256 * m + x ≡ 256 * n + y) (256 * n + y < 256 * m + x)
@@ -34,7 +36,8 @@ then_equal Less = refl
 then_equal Equal = refl
 then_equal Greater = refl
 
-ordered : (xs ys : List ℕ) (m n : ℕ) → Bytes xs → Bytes ys → length xs ≡ length ys → nat_cmp (value m xs) (value n ys) ≡ ordering_then (nat_cmp m n) (slice_cmp nat_cmp xs ys)
+ordered : (xs ys : List ℕ) (m n : ℕ) → Bytes xs → Bytes ys → length xs ≡ length ys → nat_cmp (value m xs) (value n ys) ≡ ordering_then (nat_cmp m n)
+    (slice_cmp nat_cmp xs ys)
 ordered [] [] m n a b l = then_equal (nat_cmp m n)
 ordered [] (y ∷ ys) m n a b l = absurd (omega arith)
 ordered (x ∷ xs) [] m n a b l = absurd (omega arith)
@@ -43,7 +46,7 @@ ordered (x ∷ xs) (y ∷ ys) m n a b l =
     ∙ ap (λ o. ordering_then o (slice_cmp nat_cmp xs ys)) (digit m n x y (a 0) (b 0))
     ∙ then_assoc (nat_cmp m n) (nat_cmp x y) (slice_cmp nat_cmp xs ys)
 
--- the rule goes on behind the first so many bytes
+-- the order of names compares the first `n` bytes, and then the rest
 steps : (n : ℕ) (xs ys : List ℕ) (t u : Bool) → n ≤ length xs → n ≤ length ys
     → name_cmp xs t ys u ≡ ordering_then (slice_cmp nat_cmp (take n xs) (take n ys)) (name_cmp (drop n xs) t (drop n ys) u)
 steps zero xs ys t u a b = refl
@@ -53,7 +56,7 @@ steps (suc n) (x ∷ xs) (y ∷ ys) t u a b =
 steps (suc n) [] ys t u a b = absurd (omega arith)
 steps (suc n) (x ∷ xs) [] t u a b = absurd (omega arith)
 
--- eight bytes, four, or two, whatever stands behind them
+-- the first eight, four or two bytes are their number, whatever follows them
 worth : (xs : List ℕ) → 8 ≤ length xs → from_be_bytes w64 (take 8 xs) ≡ value 0 (take 8 xs)
 worth (a ∷ b ∷ c ∷ d ∷ e ∷ f ∷ g ∷ h ∷ rest) l = omega arith
 worth [] l = absurd (omega arith)
@@ -82,15 +85,15 @@ long zero xs l = refl
 long (suc n) [] l = absurd (omega arith)
 long (suc n) (x ∷ xs) l = ap suc (long n xs (omega arith))
 
-front_bytes : (n : ℕ) (xs : List ℕ) → Bytes xs → Bytes (take n xs)
-front_bytes zero xs b k = omega arith
-front_bytes (suc n) [] b k = omega arith
-front_bytes (suc n) (x ∷ xs) b zero = b 0
-front_bytes (suc n) (x ∷ xs) b (suc k) = front_bytes n xs (λ i. b (suc i)) k
+prefix_bytes : (n : ℕ) (xs : List ℕ) → Bytes xs → Bytes (take n xs)
+prefix_bytes zero xs b k = omega arith
+prefix_bytes (suc n) [] b k = omega arith
+prefix_bytes (suc n) (x ∷ xs) b zero = b 0
+prefix_bytes (suc n) (x ∷ xs) b (suc k) = prefix_bytes n xs (λ i. b (suc i)) k
 
 numbered : (n : ℕ) (xs ys : List ℕ) → Bytes xs → Bytes ys → n ≤ length xs → n ≤ length ys
     → nat_cmp (value 0 (take n xs)) (value 0 (take n ys)) ≡ slice_cmp nat_cmp (take n xs) (take n ys)
-numbered n xs ys a b l m = ordered (take n xs) (take n ys) 0 0 (front_bytes n xs a) (front_bytes n ys b) (long n xs l ∙ sym (long n ys m))
+numbered n xs ys a b l m = ordered (take n xs) (take n ys) 0 0 (prefix_bytes n xs a) (prefix_bytes n ys b) (long n xs l ∙ sym (long n ys m))
 
 pub eight : (xs ys : List ℕ) → Bytes xs → Bytes ys → 8 ≤ length xs → 8 ≤ length ys
     → nat_cmp (from_be_bytes w64 (take 8 xs)) (from_be_bytes w64 (take 8 ys)) ≡ slice_cmp nat_cmp (take 8 xs) (take 8 ys)
@@ -110,12 +113,13 @@ two xs ys a b l m =
     ap (λ n. nat_cmp n (from_be_bytes w16 (take 2 ys))) (worth_of_two xs l) ∙ ap (nat_cmp (value 0 (take 2 xs))) (worth_of_two ys m)
     ∙ numbered 2 xs ys a b l m
 
--- what the names compare as where their first bytes are not alike
+-- the first `n` bytes decide the order of names if they differ
 pub settled : (n : ℕ) (xs ys : List ℕ) (t u : Bool) → n ≤ length xs → n ≤ length ys → slice_cmp nat_cmp (take n xs) (take n ys) ≢ Equal
     → slice_cmp nat_cmp (take n xs) (take n ys) ≡ name_cmp xs t ys u
-settled n xs ys t u a b apart = decides (slice_cmp nat_cmp (take n xs) (take n ys)) (name_cmp (drop n xs) t (drop n ys) u) apart ∙ sym (steps n xs ys t u a b)
+settled n xs ys t u a b apart = decides (slice_cmp nat_cmp (take n xs) (take n ys)) (name_cmp (drop n xs) t (drop n ys) u) apart
+    ∙ sym (steps n xs ys t u a b)
 
--- whether an order is a tie
+-- a comparison that finds no difference is a tie
 pub tied : (o : Ordering) → is_ne o ≡ false → o ≡ Equal
 tied Less e = absurd (true≢false e)
 tied Equal e = refl

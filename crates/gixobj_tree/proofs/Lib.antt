@@ -1,4 +1,4 @@
-mod Bisecting
+mod BinarySearch
 pub mod Blocks
 pub mod Deciding
 pub mod EightBytes

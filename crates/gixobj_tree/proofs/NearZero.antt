@@ -1,22 +1,22 @@
--- The first zero byte near the front, by a mask with a bit for each byte.
+-- The first zero byte among the first bytes, by a mask with a bit for each byte.
 use Rattle.std.proofs.Common.{add-one, ◌≡◌, ◌≢◌, ◌<◌, ◌+◌, ◌*◌, ◌∷◌, ℕ, zero, suc, Bool, cond, false, List, [], ap, arith, drop, eqb, map, not, refl, subst, sym, take, ◌∙◌}
 use Rattle.std.proofs.lemmas.Bool.{ne_eqb}
 use Rattle.std.proofs.lemmas.List.Elements.{All-cons, All-nil}
 use Rattle.std.specs.List.{prefix_len}
 use Rattle.std.specs.Simd.Lanes.{mask_l}
-use Rattle.gixobj_hash.specs.Texts.{IsFree, SplitsAt}
+use Rattle.gixobj_hash.specs.ByteStrings.{IsByteFree, SplitsAt}
 
--- a bit for each byte, set where it is zero
+-- the mask: the bit of a byte is set if the byte is zero
 abbrev pub zero_bits : List ℕ → ℕ
 zero_bits bytes = mask_l (map (λ x. eqb x 0) bytes)
 
--- how many bytes stand before the first zero byte
+-- the number of bytes before the first zero byte
 abbrev pub before_zero : List ℕ → ℕ
 before_zero bytes = prefix_len (λ x. not (eqb x 0)) bytes
 
--- among the first m bytes the first zero byte is at n
+-- the first zero byte is at `n`, among the first `m` bytes
 abbrev pub IsNearZero : ℕ → List ℕ → ℕ → Type 0
-IsNearZero m text n = (n < m) × SplitsAt 0 text (take n text) (drop (suc n) text)
+IsNearZero m content n = (n < m) × SplitsAt 0 content (take n content) (drop (suc n) content)
 
 filled : (x : ℕ) → suc x ≡ 0 → ⊥
 filled x e = omega arith
@@ -30,37 +30,42 @@ bits_later x bytes = ap (λ (b : Bool). cond b 1 0 + 2 * zero_bits bytes) (other
 before_later : (x : ℕ) (bytes : List ℕ) → before_zero (suc x ∷ bytes) ≡ 1 + before_zero bytes
 before_later x bytes = ap (λ (b : Bool). cond (not b) (1 + before_zero bytes) 0) (other x)
 
-later : (m x k n : ℕ) (text : List ℕ) → n ≡ 1 + k → IsNearZero m text k → IsNearZero (suc m) (suc x ∷ text) n
-later m x k n text is near =
+later : (m x k n : ℕ) (content : List ℕ) → n ≡ 1 + k → IsNearZero m content k → IsNearZero (suc m) (suc x ∷ content) n
+later m x k n content is near =
     let next : suc k ≡ n = omega arith in
-    let there : IsNearZero (suc m) (suc x ∷ text) (suc k) = (
+    let there : IsNearZero (suc m) (suc x ∷ content) (suc k) = (
       omega (arith, near.0),
-      record { joined = ap (λ (it : List ℕ). suc x ∷ it) near.1.joined; first = All-cons (λ it. it ≢ 0) (suc x) (take k text) (filled x) near.1.first },
+      record {
+        joined = ap (λ (it : List ℕ). suc x ∷ it) near.1.joined;
+        first = All-cons (λ it. it ≢ 0) (suc x) (take k content)
+            (filled x) near.1.first;
+      },
     ) in
-    let P : ℕ → Type 0 = λ it. IsNearZero (suc m) (suc x ∷ text) it in
+    let P : ℕ → Type 0 = λ it. IsNearZero (suc m) (suc x ∷ content) it in
     subst P next there
 
-pub near_zero : (m : ℕ) (text : List ℕ) → 0 < zero_bits (take m text) → IsNearZero m text (before_zero (take m text))
-near_zero zero text some = absurd (omega arith)
+pub near_zero : (m : ℕ) (content : List ℕ) → 0 < zero_bits (take m content) → IsNearZero m content (before_zero (take m content))
+near_zero zero content some = absurd (omega arith)
 near_zero (suc m) [] some = absurd (omega arith)
-near_zero (suc m) (zero ∷ text) some = (omega arith, record { joined = refl; first = All-nil (λ it. it ≢ 0) })
-near_zero (suc m) (suc x ∷ text) some =
-    later m x (before_zero (take m text)) (before_zero (take (suc m) (suc x ∷ text))) text (before_later x (take m text))
-    (near_zero m text (omega (arith, some, bits_later x (take m text))))
+near_zero (suc m) (zero ∷ content) some = (omega arith, record { joined = refl; first = All-nil (λ it. it ≢ 0) })
+near_zero (suc m) (suc x ∷ content) some =
+    later m x (before_zero (take m content)) (before_zero (take (suc m) (suc x ∷ content))) content (before_later x (take m content))
+    (near_zero m content (omega (arith, some, bits_later x (take m content))))
 
-pub no_near_zero : (bytes : List ℕ) → zero_bits bytes ≡ 0 → IsFree 0 bytes
+pub no_near_zero : (bytes : List ℕ) → zero_bits bytes ≡ 0 → IsByteFree 0 bytes
 no_near_zero [] none = All-nil (λ it. it ≢ 0)
 no_near_zero (zero ∷ bytes) none = absurd (omega arith)
 no_near_zero (suc x ∷ bytes) none = All-cons (λ it. it ≢ 0) (suc x) bytes (filled x) (no_near_zero bytes (omega (arith, none, bits_later x bytes)))
 
--- a mask that isn't zero, and the place of its lowest bit
+-- a mask other than zero has a bit
 pub some_bit : (m n : ℕ) → m ≡ n → (m ≡ 0 → ⊥) → 0 < n
 some_bit m zero same some = absurd (some same)
 some_bit m (suc n) same some = omega arith
 
-pub found : (text : List ℕ) (at : ℕ) → 0 < zero_bits (take 32 text) → at ≡ before_zero (take 32 text) → (at < 32) × SplitsAt 0 text (take at text) (drop (at + 1) text)
-found text at some is =
-    let near : IsNearZero 32 text (before_zero (take 32 text)) = near_zero 32 text some in
-    let P : ℕ → Type 0 = λ it. IsNearZero 32 text it in
-    let here : IsNearZero 32 text at = subst P (sym is) near in
+pub found : (content : List ℕ) (at : ℕ) → 0 < zero_bits (take 32 content) → at ≡ before_zero (take 32 content) → (at < 32)
+    × SplitsAt 0 content (take at content) (drop (at + 1) content)
+found content at some is =
+    let near : IsNearZero 32 content (before_zero (take 32 content)) = near_zero 32 content some in
+    let P : ℕ → Type 0 = λ it. IsNearZero 32 content it in
+    let here : IsNearZero 32 content at = subst P (sym is) near in
     rw (add-one at) here

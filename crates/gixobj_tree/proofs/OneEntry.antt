@@ -1,19 +1,19 @@
--- A text begins with one entry at most, and an entry has at least 22 bytes.
+-- An input begins with at most one entry, of at least 22 bytes; used by the proofs of `read_entry` and of lookups.
 use Rattle.std.proofs.Common.{◌≡◌, ◌≢◌, ◌<◌, ◌≤◌, ℕ, List, [], ◌∷◌, ◌++◌, ap, append_assoc, arith, length, length-append, refl, subst, sym, ◌∙◌}
 use Rattle.std.proofs.lemmas.List.{get_or_append_left}
 use Rattle.std.specs.Prelude.{get_or}
-use Rattle.gixobj_fields.specs.HeaderText.{EndsHeader}
+use Rattle.gixobj_fields.specs.HeaderFormat.{EndsHeader}
 use Rattle.gixobj_hash.specs.Hash.{hash_len, id_bytes}
 use Rattle.gixobj_hash.specs.declared.hash.kind.Kind.{Kind}
 use Rattle.gixobj_hash.specs.declared.hash.kind.Kind.TheVariants as hash
 use Rattle.gixobj_hash.specs.declared.hash.object_id.ObjectId.{ObjectId}
 use Rattle.gixobj_hash.specs.declared.hash.object_id.ObjectId.TheVariants as id
-use Rattle.gixobj_hash.proofs.Splits.{free_of_cut, one_cut}
-use Rattle.gixobj_hash.specs.Texts.{IsFree, SplitsAt}
-use Rattle.gixobj_mode.proofs.ModeTexts.{octal_free, one_ending}
+use Rattle.gixobj_hash.proofs.Splits.{free_of_split, one_cut}
+use Rattle.gixobj_hash.specs.ByteStrings.{IsByteFree, SplitsAt}
+use Rattle.gixobj_mode.proofs.EncodedModes.{octal_free, one_ending}
 use Rattle.gixobj_tree.specs.Entries.{EntryView, entry_of}
-use Rattle.gixobj_mode.specs.Mode.{BeginsWithMode, KeepsByteSix, ReadsAsMode, mode_of_digits}
-use Rattle.gixobj_tree.specs.TreeReading.{BeginsWithEntry, BeginsWithId, BeginsWithNoEntry, IsIdOf}
+use Rattle.gixobj_mode.specs.Mode.{BeginsWithMode, HasSixDigits, DecodesToMode, mode_of_digits}
+use Rattle.gixobj_tree.specs.TreeDecoding.{BeginsWithEntry, BeginsWithId, BeginsWithNoEntry, IsIdOf}
 
 -- ---- ids
 
@@ -27,106 +27,121 @@ id_of_bytes kind (id.Sha256 x) (id.Sha256 y) p q same = ap id.Sha256 same
 id_of_bytes kind (id.Sha1 x) (id.Sha256 y) p q same = cc (p.0, q.0)
 id_of_bytes kind (id.Sha256 x) (id.Sha1 y) p q same = cc (p.0, q.0)
 
-same_fronts : (a x b y : List ℕ) → length a ≡ length b → a ++ x ≡ b ++ y → (a ≡ b) × (x ≡ y)
-same_fronts [] x [] y len same = (refl, same)
-same_fronts [] x (second ∷ b) y len same = cc len
-same_fronts (first ∷ a) x [] y len same = cc len
-same_fronts (first ∷ a) x (second ∷ b) y len same =
+same_prefixes : (a x b y : List ℕ) → length a ≡ length b → a ++ x ≡ b ++ y → (a ≡ b) × (x ≡ y)
+same_prefixes [] x [] y len same = (refl, same)
+same_prefixes [] x (second ∷ b) y len same = cc len
+same_prefixes (first ∷ a) x [] y len same = cc len
+same_prefixes (first ∷ a) x (second ∷ b) y len same =
     let lengths : length a ≡ length b = omega (arith, len) in
     let tails : a ++ x ≡ b ++ y = cc same in
-    let rest = same_fronts a x b y lengths tails in
+    let rest = same_prefixes a x b y lengths tails in
     let heads : first ≡ second = cc same in
     (cc (heads, rest.0), rest.1)
 
--- ---- an entry in front of a text, by its parts
+-- ---- an entry at the beginning of an input, by its parts
 
--- the text is these digits, a space, the name, a zero byte, the id, and the rest
+-- the input is these digits, a space, the name, a zero byte, the id, and the rest
 pub record Parted (kind : Kind) (input : List ℕ) (e : EntryView) (rest : List ℕ) : Type 0 where
   pub digits : List ℕ
   pub joined : input ≡ digits ++ 32 ∷ (e.name ++ 0 ∷ (id_bytes e.id ++ rest))
-  pub mode : ReadsAsMode digits e.mode
-  pub byte_six : KeepsByteSix input digits
-  pub name : IsFree 0 e.name
+  pub mode : DecodesToMode digits e.mode
+  pub byte_six : HasSixDigits input digits
+  pub name : IsByteFree 0 e.name
   pub id : IsIdOf kind e.id
 
 regroup : (digits name id rest : List ℕ) → (digits ++ 32 ∷ (name ++ 0 ∷ id)) ++ rest ≡ digits ++ 32 ∷ (name ++ 0 ∷ (id ++ rest))
 regroup digits name id rest = append_assoc digits (32 ∷ (name ++ 0 ∷ id)) rest ∙ ap (λ (it : List ℕ). digits ++ 32 ∷ it) (append_assoc name (0 ∷ id) rest)
 
-text_len : (digits name id : List ℕ) → 20 ≤ length id → 22 ≤ length (digits ++ 32 ∷ (name ++ 0 ∷ id))
-text_len digits name id len = omega (arith, len, length-append digits (32 ∷ (name ++ 0 ∷ id)), length-append name (0 ∷ id))
+encoded_len : (digits name id : List ℕ) → 20 ≤ length id → 22 ≤ length (digits ++ 32 ∷ (name ++ 0 ∷ id))
+encoded_len digits name id len = omega (arith, len, length-append digits (32 ∷ (name ++ 0 ∷ id)), length-append name (0 ∷ id))
 
 id_len : (kind : Kind) (it : ObjectId) → IsIdOf kind it → 20 ≤ length (id_bytes it)
 id_len kind it is = (let some = some_bytes kind in omega (arith, some, is.1))
 
--- byte 6 of the entry and of what begins with it are the same
-six_within : (text rest digits : List ℕ) → 22 ≤ length text → KeepsByteSix text digits → KeepsByteSix (text ++ rest) digits
-six_within text rest digits len six = λ is other.
-    let at_six : get_or (text ++ rest) 6 0 ≡ get_or text 6 0 = get_or_append_left text rest 0 6 (omega (arith, len)) in
-    let at_five : get_or (text ++ rest) 5 0 ≡ get_or text 5 0 = get_or_append_left text rest 0 5 (omega (arith, len)) in
+-- byte 6 of an input that begins with an entry is that of the entry
+six_within : (content rest digits : List ℕ) → 22 ≤ length content → HasSixDigits content digits → HasSixDigits (content ++ rest) digits
+six_within content rest digits len six = λ is other.
+    let at_six : get_or (content ++ rest) 6 0 ≡ get_or content 6 0 = get_or_append_left content rest 0 6 (omega (arith, len)) in
+    let at_five : get_or (content ++ rest) 5 0 ≡ get_or content 5 0 = get_or_append_left content rest 0 5 (omega (arith, len)) in
     six (sym at_six ∙ is) (λ five. other (at_five ∙ five))
 
-six_of : (text rest digits : List ℕ) → 22 ≤ length text → KeepsByteSix (text ++ rest) digits → KeepsByteSix text digits
-six_of text rest digits len six = λ is other.
-    let at_six : get_or (text ++ rest) 6 0 ≡ get_or text 6 0 = get_or_append_left text rest 0 6 (omega (arith, len)) in
-    let at_five : get_or (text ++ rest) 5 0 ≡ get_or text 5 0 = get_or_append_left text rest 0 5 (omega (arith, len)) in
+six_of : (content rest digits : List ℕ) → 22 ≤ length content → HasSixDigits (content ++ rest) digits → HasSixDigits content digits
+six_of content rest digits len six = λ is other.
+    let at_six : get_or (content ++ rest) 6 0 ≡ get_or content 6 0 = get_or_append_left content rest 0 6 (omega (arith, len)) in
+    let at_five : get_or (content ++ rest) 5 0 ≡ get_or content 5 0 = get_or_append_left content rest 0 5 (omega (arith, len)) in
     six (at_six ∙ is) (λ five. other (sym at_five ∙ five))
 
 pub parted : (kind : Kind) (input : List ℕ) (e : EntryView) (rest : List ℕ) → BeginsWithEntry kind input e rest → Parted kind input e rest
-parted kind input e rest (text, joined, is) =
-    let len : 22 ≤ length text = rw (is.joined) (text_len is.digits e.name (id_bytes e.id) (id_len kind e.id is.id)) in
+parted kind input e rest (content, joined, is) =
+    let len : 22 ≤ length content = rw (is.joined) (encoded_len is.digits e.name (id_bytes e.id) (id_len kind e.id is.id)) in
     record {
       digits = is.digits;
       joined = joined ∙ ap (λ (it : List ℕ). it ++ rest) is.joined ∙ regroup is.digits e.name (id_bytes e.id) rest;
       mode = is.mode;
-      byte_six = rw joined (six_within text rest is.digits len is.byte_six);
+      byte_six = rw joined (six_within content rest is.digits len is.byte_six);
       name = is.name;
       id = is.id;
     }
 
 pub begins : (kind : Kind) (input : List ℕ) (e : EntryView) (rest : List ℕ) → Parted kind input e rest → BeginsWithEntry kind input e rest
 begins kind input e rest p =
-    let text = p.digits ++ 32 ∷ (e.name ++ 0 ∷ id_bytes e.id) in
-    let whole : input ≡ text ++ rest = p.joined ∙ sym (regroup p.digits e.name (id_bytes e.id) rest) in
-    let len = text_len p.digits e.name (id_bytes e.id) (id_len kind e.id p.id) in
-    let P : List ℕ → Type 0 = λ it. KeepsByteSix it p.digits in
-    (text, whole, record { digits = p.digits; joined = refl; mode = p.mode; byte_six = six_of text rest p.digits len (subst P whole p.byte_six); name = p.name; id = p.id })
+    let content = p.digits ++ 32 ∷ (e.name ++ 0 ∷ id_bytes e.id) in
+    let entire : input ≡ content ++ rest = p.joined ∙ sym (regroup p.digits e.name (id_bytes e.id) rest) in
+    let len = encoded_len p.digits e.name (id_bytes e.id) (id_len kind e.id p.id) in
+    let P : List ℕ → Type 0 = λ it. HasSixDigits it p.digits in (
+      content,
+      entire,
+      record {
+        digits = p.digits;
+        joined = refl;
+        mode = p.mode;
+        byte_six = six_of content rest p.digits len (subst P entire p.byte_six);
+        name = p.name;
+        id = p.id;
+      },
+    )
 
 -- ---- one entry
 
-pub one_entry : (kind : Kind) (input : List ℕ) (a b : EntryView) (x y : List ℕ) → BeginsWithEntry kind input a x → BeginsWithEntry kind input b y → (a ≡ b) × (x ≡ y)
+pub one_entry : (kind : Kind) (input : List ℕ) (a b : EntryView) (x y : List ℕ) → BeginsWithEntry kind input a x → BeginsWithEntry kind input b y → (a ≡ b)
+    × (x ≡ y)
 one_entry kind input a b x y first second =
     let p = parted kind input a x first in
     let q = parted kind input b y second in
     let cut = one_cut 32 p.digits _ q.digits _ (octal_free p.digits p.mode.octal) (octal_free q.digits q.mode.octal) (sym p.joined ∙ q.joined) in
     let named = one_cut 0 a.name _ b.name _ p.name q.name cut.1 in
     let lengths : length (id_bytes a.id) ≡ length (id_bytes b.id) = p.id.1 ∙ sym q.id.1 in
-    let ids = same_fronts (id_bytes a.id) x (id_bytes b.id) y lengths named.1 in
+    let ids = same_prefixes (id_bytes a.id) x (id_bytes b.id) y lengths named.1 in
     let modes : a.mode ≡ b.mode = p.mode.value ∙ ap mode_of_digits cut.0 ∙ sym q.mode.value in
-    let id : a.id ≡ b.id = id_of_bytes kind a.id b.id p.id q.id ids.0 in
-    (ap (λ (mode : ℕ). entry_of mode a.name a.id) modes ∙ ap (λ (name : List ℕ). entry_of b.mode name a.id) named.0 ∙ ap (λ (it : ObjectId). entry_of b.mode b.name it) id, ids.1)
+    let id : a.id ≡ b.id = id_of_bytes kind a.id b.id p.id q.id ids.0 in (
+      ap (λ (mode : ℕ). entry_of mode a.name a.id) modes ∙ ap (λ (name : List ℕ). entry_of b.mode name a.id) named.0
+          ∙ ap (λ (it : ObjectId). entry_of b.mode b.name it) id,
+      ids.1,
+    )
 
--- ---- what the reader finds
+-- ---- results of the decoder
 
 pub shorter : (kind : Kind) (input : List ℕ) (e : EntryView) (rest : List ℕ) → BeginsWithEntry kind input e rest → length rest < length input
-shorter kind input e rest (text, joined, is) =
-    let len : 22 ≤ length text = rw (is.joined) (text_len is.digits e.name (id_bytes e.id) (id_len kind e.id is.id)) in
-    omega (arith, len, ap length joined, length-append text rest)
+shorter kind input e rest (content, joined, is) =
+    let len : 22 ≤ length content = rw (is.joined) (encoded_len is.digits e.name (id_bytes e.id) (id_len kind e.id is.id)) in
+    omega (arith, len, ap length joined, length-append content rest)
 
--- the parts that were read are those of an entry
-pub entry_of_parts : (kind : Kind) (input behind from_name name from_id rest : List ℕ) (mode : ℕ) (it : ObjectId) → BeginsWithMode input mode behind → behind ≡ 32 ∷ from_name → SplitsAt 0 from_name name from_id
+-- a decoded mode, name and id are an entry
+pub entry_of_parts : (kind : Kind) (input after from_name name from_id rest : List ℕ) (mode : ℕ) (it : ObjectId) → BeginsWithMode input mode after
+    → after ≡ 32 ∷ from_name → SplitsAt 0 from_name name from_id
     → BeginsWithId kind from_id it rest → BeginsWithEntry kind input (entry_of mode name it) rest
-entry_of_parts kind input behind from_name name from_id rest mode it begun spaced split has =
+entry_of_parts kind input after from_name name from_id rest mode it begun spaced split has =
     let tail : from_name ≡ name ++ 0 ∷ (id_bytes it ++ rest) = split.joined ∙ ap (λ (more : List ℕ). name ++ 0 ∷ more) has.0 in
     begins kind input (entry_of mode name it) rest (record {
       digits = begun.digits;
       joined = begun.joined ∙ ap (λ (more : List ℕ). begun.digits ++ more) (spaced ∙ ap (λ (more : List ℕ). 32 ∷ more) tail);
-      mode = begun.reads;
+      mode = begun.decodes;
       byte_six = begun.byte_six;
       name = split.first;
       id = has.1;
     })
 
--- of an entry in front of the text the mode is read
+-- an input that does not begin with a mode does not begin with an entry
 pub no_mode : (kind : Kind) (input : List ℕ) → ((mode : ℕ) (rest : List ℕ) → BeginsWithMode input mode rest → ⊥) → BeginsWithNoEntry kind input
 no_mode kind input none = λ e rest has.
     let p = parted kind input e rest has in
@@ -136,38 +151,52 @@ no_mode kind input none = λ e rest has.
     filled [] tail = λ bare. cc bare
     filled (digit ∷ digits) tail = λ bare. cc bare
 
-    mode_read : (kind : Kind) (input : List ℕ) (e : EntryView) (rest : List ℕ) → Parted kind input e rest → BeginsWithMode input e.mode (32 ∷ (e.name ++ 0 ∷ (id_bytes e.id ++ rest)))
+    mode_read : (kind : Kind) (input : List ℕ) (e : EntryView) (rest : List ℕ) → Parted kind input e rest
+        → BeginsWithMode input e.mode (32 ∷ (e.name ++ 0 ∷ (id_bytes e.id ++ rest)))
     mode_read kind input e rest p =
-        record { digits = p.digits; some = λ bare. filled p.digits _ (sym p.joined ∙ bare); joined = p.joined; ends = refl; reads = p.mode; byte_six = p.byte_six }
+        record {
+          digits = p.digits;
+          some = λ bare. filled p.digits _ (sym p.joined ∙ bare);
+          joined = p.joined;
+          ends = refl;
+          decodes = p.mode;
+          byte_six = p.byte_six;
+        }
 
--- behind the mode of an entry its name stands
-behind_mode : (kind : Kind) (input behind : List ℕ) (mode : ℕ) (e : EntryView) (rest : List ℕ) → BeginsWithMode input mode behind → Parted kind input e rest → behind ≡ 32 ∷ (e.name ++ 0 ∷ (id_bytes e.id ++ rest))
-behind_mode kind input behind mode e rest begun p =
-    (one_ending begun.digits behind p.digits (32 ∷ (e.name ++ 0 ∷ (id_bytes e.id ++ rest))) (octal_free begun.digits begun.reads.octal) (octal_free p.digits p.mode.octal) begun.ends refl (sym begun.joined ∙ p.joined)).1
+-- a space and the name follow the mode of an entry
+after_mode : (kind : Kind) (input after : List ℕ) (mode : ℕ) (e : EntryView) (rest : List ℕ) → BeginsWithMode input mode after → Parted kind input e rest
+    → after ≡ 32 ∷ (e.name ++ 0 ∷ (id_bytes e.id ++ rest))
+after_mode kind input after mode e rest begun p =
+    (one_ending begun.digits after p.digits (32 ∷ (e.name ++ 0 ∷ (id_bytes e.id ++ rest))) (octal_free begun.digits begun.decodes.octal)
+    (octal_free p.digits p.mode.octal) begun.ends refl (sym begun.joined ∙ p.joined)).1
 
 no_space_there : (tail : List ℕ) → EndsHeader (32 ∷ tail) → ⊥
 no_space_there tail ends = ends refl
 
-pub no_space : (kind : Kind) (input behind : List ℕ) (mode : ℕ) → BeginsWithMode input mode behind → EndsHeader behind → BeginsWithNoEntry kind input
-no_space kind input behind mode begun ends = λ e rest has.
-    no_space_there (e.name ++ 0 ∷ (id_bytes e.id ++ rest)) (subst EndsHeader (behind_mode kind input behind mode e rest begun (parted kind input e rest has)) ends)
+pub no_space : (kind : Kind) (input after : List ℕ) (mode : ℕ) → BeginsWithMode input mode after → EndsHeader after → BeginsWithNoEntry kind input
+no_space kind input after mode begun ends = λ e rest has.
+    no_space_there (e.name ++ 0 ∷ (id_bytes e.id ++ rest))
+    (subst EndsHeader (after_mode kind input after mode e rest begun (parted kind input e rest has)) ends)
 
--- what stands behind the space
-from_name_on : (kind : Kind) (input behind from_name : List ℕ) (mode : ℕ) (e : EntryView) (rest : List ℕ) → BeginsWithMode input mode behind → behind ≡ 32 ∷ from_name → Parted kind input e rest
+-- the name, a zero byte, the id and the rest follow the space
+from_name_on : (kind : Kind) (input after from_name : List ℕ) (mode : ℕ) (e : EntryView) (rest : List ℕ) → BeginsWithMode input mode after
+    → after ≡ 32 ∷ from_name → Parted kind input e rest
     → from_name ≡ e.name ++ 0 ∷ (id_bytes e.id ++ rest)
-from_name_on kind input behind from_name mode e rest begun spaced p =
-    let same : 32 ∷ from_name ≡ 32 ∷ (e.name ++ 0 ∷ (id_bytes e.id ++ rest)) = sym spaced ∙ behind_mode kind input behind mode e rest begun p in
+from_name_on kind input after from_name mode e rest begun spaced p =
+    let same : 32 ∷ from_name ≡ 32 ∷ (e.name ++ 0 ∷ (id_bytes e.id ++ rest)) = sym spaced ∙ after_mode kind input after mode e rest begun p in
     cc same
 
-pub no_name : (kind : Kind) (input behind from_name : List ℕ) (mode : ℕ) → BeginsWithMode input mode behind → behind ≡ 32 ∷ from_name → IsFree 0 from_name → BeginsWithNoEntry kind input
-no_name kind input behind from_name mode begun spaced free = λ e rest has.
-    let same = from_name_on kind input behind from_name mode e rest begun spaced (parted kind input e rest has) in
-    free_of_cut 0 e.name (id_bytes e.id ++ rest) (subst (IsFree 0) same free)
-
-pub no_id : (kind : Kind) (input behind from_name name from_id : List ℕ) (mode : ℕ) → BeginsWithMode input mode behind → behind ≡ 32 ∷ from_name → SplitsAt 0 from_name name from_id → length from_id < hash_len kind
+pub no_name : (kind : Kind) (input after from_name : List ℕ) (mode : ℕ) → BeginsWithMode input mode after → after ≡ 32 ∷ from_name → IsByteFree 0 from_name
     → BeginsWithNoEntry kind input
-no_id kind input behind from_name name from_id mode begun spaced split short = λ e rest has.
+no_name kind input after from_name mode begun spaced free = λ e rest has.
+    let same = from_name_on kind input after from_name mode e rest begun spaced (parted kind input e rest has) in
+    free_of_split 0 e.name (id_bytes e.id ++ rest) (subst (IsByteFree 0) same free)
+
+pub no_id : (kind : Kind) (input after from_name name from_id : List ℕ) (mode : ℕ) → BeginsWithMode input mode after → after ≡ 32 ∷ from_name
+    → SplitsAt 0 from_name name from_id → length from_id < hash_len kind
+    → BeginsWithNoEntry kind input
+no_id kind input after from_name name from_id mode begun spaced split short = λ e rest has.
     let p = parted kind input e rest has in
-    let same = from_name_on kind input behind from_name mode e rest begun spaced p in
+    let same = from_name_on kind input after from_name mode e rest begun spaced p in
     let cut = one_cut 0 name from_id e.name (id_bytes e.id ++ rest) split.first p.name (sym split.joined ∙ same) in
     omega (arith, short, p.id.1, ap length cut.1, length-append (id_bytes e.id) rest)

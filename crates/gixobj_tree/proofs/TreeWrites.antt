@@ -1,98 +1,168 @@
--- Writing a tree entry by entry.
+-- The writes and the sizes of entries are those of the tree; used by the proofs of the writers of trees.
 use Rattle.std.proofs.Common.{◌≡◌, ℕ, ◌+◌, ◌*◌, ◌<◌, ◌≤◌, ◌^◌, List, [], ◌∷◌, ◌++◌, length, get_or, take, drop, All, inr, refl, ap, arith, sym, ◌∙◌, append_assoc, length-append}
 use Rattle.std.specs.Prelude.{Contains}
 use Rattle.std.proofs.lemmas.List.{append-nil, take_all, take_more, take-append-drop, drop_more}
 use Rattle.std.proofs.lemmas.List.Elements.{All-contains, All-push, Contains-append_right, Contains-get_or}
 use Rattle.std.proofs.lemmas.List.Concat.{flat_map-append}
 use Rattle.gixobj_tree.specs.Entries.{EntryView}
-use Rattle.gixobj_hash.specs.Texts.{IsFree}
-use Rattle.gixobj_tree.specs.TreeText.{RefusesEntry, RefusesTree, before_name, entry_text, front_text, tree_text, with_ids}
-use Rattle.gixobj_fields.specs.Streams.{Puts, PutsFront, SinkView}
-use Rattle.gixobj_fields.specs.Writing.{Refused, RefusesWriting}
+use Rattle.gixobj_hash.specs.ByteStrings.{IsByteFree}
+use Rattle.gixobj_tree.specs.TreeEncoding.{IsEntryEncodeError, IsTreeEncodeError, before_name, encode_entry, encode_mode_and_name, encode_tree, with_ids}
+use Rattle.gixobj_fields.specs.Streams.{AppendsAll, AppendsPrefix, SinkView}
+use Rattle.gixobj_fields.specs.Writing.{RejectedValue, IsWritingError}
 use Rattle.gixobj_fields.specs.declared.encode.Error.{Error}
 use Rattle.gixobj_fields.specs.declared.encode.Error.TheVariants.{OutOfMemory}
 use Rattle.gixobj_hash.specs.Hash.{id_bytes}
-use Rattle.gixobj_mode.specs.Mode.{mode_text}
-use Rattle.gixobj_fields.proofs.Puts.{front_first, front_more, puts_more}
-use Rattle.gixobj_fields.proofs.Refusals.{says_why_within}
+use Rattle.gixobj_mode.specs.Mode.{encode_mode}
+use Rattle.gixobj_fields.proofs.Appends.{prefix_first, prefix_more, more_appended}
+use Rattle.gixobj_fields.proofs.Errors.{writing_error_within}
 
 -- no name has a zero byte
 abbrev pub AreFree : List EntryView → Type 0
-AreFree entries = All (λ e. IsFree 0 e.name) entries
+AreFree entries = All (λ e. IsByteFree 0 e.name) entries
 
-pub text_more : (items : List EntryView) (i : ℕ) (e : EntryView) → i < length items → e ≡ get_or items i e → tree_text (take (i + 1) items) ≡ tree_text (take i items) ++ entry_text e
-text_more items i e h is = rw (take_more items i e h, ← is) (flat_map-append entry_text (take i items) (e ∷ []) ∙ ap (λ (xs : List ℕ). tree_text (take i items) ++ xs) (append-nil (entry_text e)))
+pub bytes_more : (items : List EntryView) (i : ℕ) (e : EntryView) → i < length items → e ≡ get_or items i e
+    → encode_tree (take (i + 1) items) ≡ encode_tree
+    (take i items) ++ encode_entry e
+bytes_more items i e h is =
+    rw (take_more items i e h, ← is) (flat_map-append encode_entry (take i items) (e ∷ []) ∙ ap (λ (xs : List ℕ). encode_tree (take i items) ++ xs)
+    (append-nil (encode_entry e)))
 
-pub free_more : (items : List EntryView) (i : ℕ) (e : EntryView) → i < length items → e ≡ get_or items i e → AreFree (take i items) → IsFree 0 e.name → AreFree (take (i + 1) items)
-free_more items i e h is front one = rw (take_more items i e h, ← is) (All-push (λ (x : EntryView). IsFree 0 x.name) (take i items) e front one)
+pub free_more : (items : List EntryView) (i : ℕ) (e : EntryView) → i < length items → e ≡ get_or items i e → AreFree (take i items)
+    → IsByteFree 0 e.name
+    → AreFree (take (i + 1) items)
+free_more items i e h is head one = rw (take_more items i e h, ← is) (All-push (λ (x : EntryView). IsByteFree 0 x.name) (take i items) e head one)
 
-pub cut_at : (items : List EntryView) (i : ℕ) (e : EntryView) → i < length items → e ≡ get_or items i e → items ≡ take i items ++ e ∷ drop (i + 1) items
+pub cut_at : (items : List EntryView) (i : ℕ) (e : EntryView) → i < length items → e ≡ get_or items i e
+    → items ≡ take i items ++ e ∷ drop (i + 1) items
 cut_at items i e h is =
     let rest : drop i items ≡ e ∷ drop (i + 1) items = drop_more items i e h ∙ ap (λ (x : EntryView). x ∷ drop (i + 1) items) (sym is) in
     sym (take-append-drop i items) ∙ ap (λ (xs : List EntryView). take i items ++ xs) rest
 
-text_at : (items : List EntryView) (i : ℕ) (e : EntryView) → i < length items → e ≡ get_or items i e → tree_text items ≡ tree_text (take i items) ++ (entry_text e ++ tree_text (drop (i + 1) items))
-text_at items i e h is = ap tree_text (cut_at items i e h is) ∙ flat_map-append entry_text (take i items) (e ∷ drop (i + 1) items)
+bytes_at : (items : List EntryView) (i : ℕ) (e : EntryView) → i < length items → e ≡ get_or items i e
+    → encode_tree items ≡ encode_tree (take i items) ++ (encode_entry e ++ encode_tree (drop (i + 1) items))
+bytes_at items i e h is = ap encode_tree (cut_at items i e h is) ∙ flat_map-append encode_entry (take i items) (e ∷ drop (i + 1) items)
 
-pub none_refused : (items : List EntryView) (value : Refused) (parts : List ℕ) → AreFree items → RefusesTree items value parts → ⊥
-none_refused items value parts free r =
-    let has : Contains items r.entry = rw (r.joined) (Contains-append_right r.front (r.entry ∷ r.back) r.entry (Contains-get_or (r.entry ∷ r.back) 0 r.entry (omega arith))) in
-    All-contains (λ (it : ℕ). it ≡ 0 → ⊥) r.entry.name 0 (All-contains (λ (x : EntryView). IsFree 0 x.name) items r.entry free has) r.refused.0 refl
+pub none_rejected : (items : List EntryView) (value : RejectedValue) (parts : List ℕ) → AreFree items → IsTreeEncodeError items value parts → ⊥
+none_rejected items value parts free r =
+    let has : Contains items r.entry =
+    rw (r.joined) (Contains-append_right r.prefix (r.entry ∷ r.back) r.entry (Contains-get_or (r.entry ∷ r.back) 0 r.entry (omega arith))) in
+    All-contains (λ (it : ℕ). it ≡ 0 → ⊥) r.entry.name 0 (All-contains (λ (x : EntryView). IsByteFree 0 x.name) items r.entry free has)
+    r.error_state.0 refl
 
--- all entries are written
-pub nothing_refused : (items all : List EntryView) (i : ℕ) → items ≡ all → length items ≤ i → AreFree (take i items) → (value : Refused) (parts : List ℕ) → RefusesTree all value parts → ⊥
-nothing_refused items all i same h free value parts r = none_refused items value parts (rw (← take_all i items h) free) (rw same r)
+-- a tree is encodable if all its entries are written
+pub nothing_rejected : (items all : List EntryView) (i : ℕ) → items ≡ all → length items ≤ i → AreFree (take i items)
+    → (value : RejectedValue) (parts : List ℕ)
+    → IsTreeEncodeError all value parts → ⊥
+nothing_rejected items all i same h free value parts r = none_rejected items value parts (rw (← take_all i items h) free) (rw same r)
 
--- an entry that is refused behind entries that are not
-pub refused_at : (a b c : SinkView) (items : List EntryView) (i : ℕ) (e : EntryView) → i < length items → e ≡ get_or items i e
-    → Puts a b (tree_text (take i items)) → AreFree (take i items) → (why : Error) → RefusesWriting (RefusesEntry e) b c (entry_text e) why → RefusesWriting (RefusesTree items) a c (tree_text items) why
-refused_at a b c items i e h is put free why says =
-    rw (text_at items i e h is) (says_why_within (RefusesEntry e) (RefusesTree items) a b c (tree_text (take i items)) (entry_text e) (tree_text (drop (i + 1) items)) put
-    (λ value parts r. record { front = take i items; entry = e; back = drop (i + 1) items; begun = parts; joined = cut_at items i e h is; free = free; refused = r; written = refl })
+-- the error of an entry after accepted entries is an error of the tree
+pub rejected_at : (a b c : SinkView) (items : List EntryView) (i : ℕ) (e : EntryView) → i < length items → e ≡ get_or items i e
+    → AppendsAll a b (encode_tree (take i items)) → AreFree (take i items) → (why : Error)
+    → IsWritingError (IsEntryEncodeError e) b c (encode_entry e) why
+    → IsWritingError (IsTreeEncodeError items) a c (encode_tree items) why
+rejected_at a b c items i e h is write_bytes free why says =
+    rw (bytes_at items i e h is) (writing_error_within (IsEntryEncodeError e) (IsTreeEncodeError items) a b c (encode_tree (take i items))
+    (encode_entry e)
+    (encode_tree (drop (i + 1) items)) write_bytes
+    (λ value parts r. record {
+      prefix = take i items;
+      entry = e;
+      back = drop (i + 1) items;
+      begun = parts;
+      joined = cut_at items i e h is;
+      free = free;
+      error_state = r;
+      written = refl;
+    })
     why says)
 
-front_shorter : (items : List EntryView) (n : ℕ) → length (tree_text (take n items)) ≤ length (tree_text items)
-front_shorter items n =
-    let e : tree_text items ≡ tree_text (take n items) ++ tree_text (drop n items) = ap tree_text (sym (take-append-drop n items)) ∙ flat_map-append entry_text (take n items) (drop n items) in
-    omega (arith, ap length e, length-append (tree_text (take n items)) (tree_text (drop n items)))
+prefix_shorter : (items : List EntryView) (n : ℕ) → length (encode_tree (take n items)) ≤ length (encode_tree items)
+prefix_shorter items n =
+    let e : encode_tree items ≡ encode_tree (take n items) ++ encode_tree (drop n items) = ap encode_tree (sym (take-append-drop n items))
+    ∙ flat_map-append encode_entry (take n items) (drop n items) in
+    omega (arith, ap length e, length-append (encode_tree (take n items)) (encode_tree (drop n items)))
 
--- a tree is as long as a front of it at least
-pub too_long : (items all : List EntryView) (i : ℕ) (e : EntryView) (n : ℕ) → items ≡ all → i < length items → e ≡ get_or items i e → n ≡ length (tree_text (take i items))
-    → (n + length (entry_text e) < 2 ^ 64 → ⊥) → length (tree_text all) < 2 ^ 64 → ⊥
+-- a tree is too long if its first entries are
+pub too_long : (items all : List EntryView) (i : ℕ) (e : EntryView) (n : ℕ) → items ≡ all → i < length items → e ≡ get_or items i e
+    → n ≡ length (encode_tree (take i items))
+    → (n + length (encode_entry e) < 2 ^ 64 → ⊥) → length (encode_tree all) < 2 ^ 64 → ⊥
 too_long items all i e n same h is len over short =
-    over (omega (arith, short, len, ap length (ap tree_text same), ap length (text_more items i e h is), length-append (tree_text (take i items)) (entry_text e), front_shorter items (i + 1)))
+    over (omega (
+      arith,
+      short,
+      len,
+      ap length (ap encode_tree same),
+      ap length (bytes_more items i e h is),
+      length-append (encode_tree (take i items))
+          (encode_entry e),
+      prefix_shorter items (i + 1),
+    ))
 
--- ---- the size, as that of the modes and the names, and of what stands beside them
+-- ---- the size, as that of the modes and the names, and that of the spaces, zero bytes and ids
 
--- beside the mode and the name of an entry stand a space, a zero byte and the id
-entry_len : (e : EntryView) → length (entry_text e) ≡ length (front_text e) + 2 + length (id_bytes e.id)
-entry_len e = omega (arith, length-append (before_name e ++ e.name) (0 ∷ id_bytes e.id), length-append (before_name e) e.name, length-append (mode_text e.mode) (32 ∷ []), length-append (mode_text e.mode) e.name)
+-- an entry has a space, a zero byte and an id next to its mode and its name
+entry_len : (e : EntryView) → length (encode_entry e) ≡ length (encode_mode_and_name e) + 2 + length (id_bytes e.id)
+entry_len e = omega (
+  arith,
+  length-append (before_name e ++ e.name) (0 ∷ id_bytes e.id),
+  length-append (before_name e) e.name,
+  length-append
+      (encode_mode e.mode) (32 ∷ []),
+  length-append (encode_mode e.mode) e.name,
+)
 
-pub size_step : (items : List EntryView) (i : ℕ) (e : EntryView) (size more longer one : ℕ) → i < length items → e ≡ get_or items i e → with_ids size i longer ≡ length (tree_text (take i items))
-    → more ≡ size + length (front_text e) → length (id_bytes e.id) ≡ 20 + 12 * one → with_ids more (i + 1) (longer + one) ≡ length (tree_text (take (i + 1) items))
-size_step items i e size more longer one h is so_far put len =
-    omega (arith, so_far, put, entry_len e, len, ap length (text_more items i e h is), length-append (tree_text (take i items)) (entry_text e))
+pub size_step : (items : List EntryView) (i : ℕ) (e : EntryView) (size more longer one : ℕ) → i < length items → e ≡ get_or items i e
+    → with_ids size i longer ≡ length (encode_tree (take i items))
+    → more ≡ size + length (encode_mode_and_name e) → length (id_bytes e.id) ≡ 20 + 12 * one → with_ids more (i + 1) (longer + one) ≡ length
+    (encode_tree (take (i + 1) items))
+size_step items i e size more longer one h is so_far write_bytes len =
+    omega (
+      arith,
+      so_far,
+      write_bytes,
+      entry_len e,
+      len,
+      ap length (bytes_more items i e h is),
+      length-append (encode_tree (take i items))
+          (encode_entry e),
+    )
 
--- a tree is as long as a front of it at least
-pub size_past : (items all : List EntryView) (i : ℕ) (e : EntryView) (size longer : ℕ) → items ≡ all → i < length items → e ≡ get_or items i e → with_ids size i longer ≡ length (tree_text (take i items))
-    → (size + length (front_text e) < 2 ^ 64 → ⊥) → length (tree_text all) < 2 ^ 64 → ⊥
+-- a tree is too long if the modes and the names of its first entries are
+pub size_past : (items all : List EntryView) (i : ℕ) (e : EntryView) (size longer : ℕ) → items ≡ all → i < length items → e ≡ get_or items i e
+    → with_ids size i longer ≡ length (encode_tree (take i items))
+    → (size + length (encode_mode_and_name e) < 2 ^ 64 → ⊥) → length (encode_tree all) < 2 ^ 64 → ⊥
 size_past items all i e size longer same h is so_far over short =
-    over (omega (arith, short, so_far, entry_len e, ap length (ap tree_text same), ap length (text_more items i e h is), length-append (tree_text (take i items)) (entry_text e), front_shorter items (i + 1)))
+    over (omega (
+      arith,
+      short,
+      so_far,
+      entry_len e,
+      ap length (ap encode_tree same),
+      ap length (bytes_more items i e h is),
+      length-append
+          (encode_tree (take i items)) (encode_entry e),
+      prefix_shorter items (i + 1),
+    ))
 
 -- ---- an entry
 
--- a front of the mode and its space is a front of the entry
-pub mode_front : (a b : SinkView) (e : EntryView) → PutsFront a b (before_name e) → PutsFront a b (entry_text e)
-mode_front a b e part = front_first a b (before_name e ++ e.name) (0 ∷ id_bytes e.id) (front_first a b (before_name e) e.name part)
+-- a proper prefix of the mode and the space is one of the entry
+pub mode_prefix : (a b : SinkView) (e : EntryView) → AppendsPrefix a b (before_name e) → AppendsPrefix a b (encode_entry e)
+mode_prefix a b e part = prefix_first a b (before_name e ++ e.name) (0 ∷ id_bytes e.id) (prefix_first a b (before_name e) e.name part)
 
--- a front of the name and the id stands behind the mode
-pub entry_front : (a b c : SinkView) (e : EntryView) → Puts a b (before_name e) → PutsFront b c (e.name ++ 0 ∷ id_bytes e.id) → PutsFront a c (entry_text e)
-entry_front a b c e put part = rw (append_assoc (before_name e) e.name (0 ∷ id_bytes e.id)) (front_more a b c (before_name e) (e.name ++ 0 ∷ id_bytes e.id) put part)
+-- the mode, the space and a proper prefix of the name and the id are a proper prefix of the entry
+pub entry_prefix : (a b c : SinkView) (e : EntryView) → AppendsAll a b (before_name e) → AppendsPrefix b c (e.name ++ 0 ∷ id_bytes e.id)
+    → AppendsPrefix a c (encode_entry e)
+entry_prefix a b c e write_bytes part = rw (append_assoc (before_name e) e.name (0 ∷ id_bytes e.id))
+    (prefix_more a b c (before_name e) (e.name ++ 0 ∷ id_bytes e.id) write_bytes part)
 
--- the mode, and behind it the name and the id, are the entry
-pub entry_put : (a b c : SinkView) (e : EntryView) → Puts a b (before_name e) → Puts b c (e.name ++ 0 ∷ id_bytes e.id) → Puts a c (entry_text e)
-entry_put a b c e put more = rw (append_assoc (before_name e) e.name (0 ∷ id_bytes e.id)) (puts_more a b c (before_name e) (e.name ++ 0 ∷ id_bytes e.id) put more)
+-- the mode and the space, and then the name and the id, are the entry
+pub entry_appended : (a b c : SinkView) (e : EntryView) → AppendsAll a b (before_name e) → AppendsAll b c (e.name ++ 0 ∷ id_bytes e.id)
+    → AppendsAll a c (encode_entry e)
+entry_appended a b c e write_bytes more = rw (append_assoc (before_name e) e.name (0 ∷ id_bytes e.id))
+    (more_appended a b c (before_name e) (e.name ++ 0 ∷ id_bytes e.id) write_bytes more)
 
--- a name with a zero byte is not copied because memory ran out
-pub no_copy : (a b : SinkView) (e : EntryView) → Contains e.name 0 → Puts a b (before_name e) → RefusesWriting (RefusesEntry e) a b (entry_text e) OutOfMemory
-no_copy a b e has put = (e.name, inr (before_name e, (has, refl, refl), put))
+-- the copy of a name with a zero byte failed to allocate
+pub no_copy : (a b : SinkView) (e : EntryView) → Contains e.name 0 → AppendsAll a b (before_name e)
+    → IsWritingError (IsEntryEncodeError e) a b (encode_entry e) OutOfMemory
+no_copy a b e has write_bytes = (e.name, inr (before_name e, (has, refl, refl), write_bytes))

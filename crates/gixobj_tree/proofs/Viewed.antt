@@ -1,4 +1,4 @@
--- Lists compared element by element, by what is seen of each.
+-- Lists compared element by element, through a view of each.
 use Rattle.std.proofs.Common.{◌≡◌, ◌<◌, ◌≤◌, ◌+◌, ◌++◌, ℕ, Bool, List, [], ◌∷◌, ap, arith, get_or, length, map, refl, sym, take, ◌∙◌}
 use Rattle.std.proofs.lemmas.List.{get_or-map, length-map, take_more}
 use Rattle.std.specs.Cmp.Derive.Mapped.{pointwise-map}
@@ -9,17 +9,19 @@ use Rattle.gixobj_tree.specs.EntryOrder.{same_entry, same_tree}
 use Rattle.gixobj_tree.specs.TreeViews.{entry_view}
 use Rattle.gixobj_tree.specs.declared.tree.borrowed.entry_ref.EntryRef.{EntryRef}
 
-pub compared_as_seen : {X Y : Type 0} (view : X → Y) (R : Y → Y → Ordering) (xs ys : List X) → slice_cmp (on view R) xs ys ≡ slice_cmp R (map view xs) (map view ys)
+pub compared_as_seen : {X Y : Type 0} (view : X → Y) (R : Y → Y → Ordering) (xs ys : List X) → slice_cmp (on view R) xs ys ≡ slice_cmp R (map view xs)
+    (map view ys)
 compared_as_seen view R [] [] = refl
 compared_as_seen view R [] (y ∷ ys) = refl
 compared_as_seen view R (x ∷ xs) [] = refl
 compared_as_seen view R (x ∷ xs) (y ∷ ys) = ap (ordering_then (R (view x) (view y))) (compared_as_seen view R xs ys)
 
--- entries that are found equal one by one are the same tree
-pub equal_as_seen : (xs ys : List EntryRef) (same : Bool) → same ≡ pointwise (λ x y. same_entry (entry_view x) (entry_view y)) xs ys → same ≡ same_tree (map entry_view xs) (map entry_view ys)
+-- entries that are equal one by one are the same tree
+pub equal_as_seen : (xs ys : List EntryRef) (same : Bool) → same ≡ pointwise (λ x y. same_entry (entry_view x) (entry_view y)) xs ys
+    → same ≡ same_tree (map entry_view xs) (map entry_view ys)
 equal_as_seen xs ys same is = is ∙ sym (pointwise-map entry_view same_entry xs ys)
 
--- an element is seen where it stands
+-- the view of an element is the element of the views at its position
 pub seen_there : {X Y : Type 0} (view : X → Y) (xs : List X) (i : ℕ) (x : X) → i < length xs → x ≡ get_or xs i x → view x ≡ get_or (map view xs) i (view x)
 seen_there view xs i x low is = ap view is ∙ sym (get_or-map view xs i x (view x) low)
 
@@ -29,8 +31,9 @@ seen_within view xs i low = omega (arith, low, length-map xs view)
 pub seen_past : {X Y : Type 0} (view : X → Y) (xs : List X) (i : ℕ) → length xs ≤ i → length (map view xs) ≤ i
 seen_past view xs i high = omega (arith, high, length-map xs view)
 
--- one element more is copied
-pub copied_more : {X Y : Type 0} (view : X → Y) (xs : List X) (i : ℕ) (x : X) (copies : List Y) (copy : Y) → i < length xs → x ≡ get_or xs i x → copies ≡ take i (map view xs) → copy ≡ view x → copies ++ copy ∷ [] ≡ take (i + 1) (map view xs)
+-- the copies of the first elements and that of the next are copies of the first elements
+pub copied_more : {X Y : Type 0} (view : X → Y) (xs : List X) (i : ℕ) (x : X) (copies : List Y) (copy : Y) → i < length xs → x ≡ get_or xs i x
+    → copies ≡ take i (map view xs) → copy ≡ view x → copies ++ copy ∷ [] ≡ take (i + 1) (map view xs)
 copied_more {Y = Y} view xs i x copies copy low is copied same =
     let there = seen_there view xs i x low is in
     rw (copied, same) (ap (λ (it : Y). take i (map view xs) ++ it ∷ []) there ∙ sym (take_more (map view xs) i (view x) (seen_within view xs i low)))

@@ -1,4 +1,5 @@
--- Well-formed trees: neighbours in order are all in order, a search by halves among them, and entries of one name.
+-- Well-formed trees: ascending neighbours, binary searches, and entries of one name; used by the proofs of
+-- `is_well_formed`, of directories and of files.
 use Rattle.std.proofs.Common.{◌≡◌, ◌≢◌, ℕ, zero, suc, ◌+◌, ◌<◌, ◌⊎◌, inl, inr, arith, Bool, true, false, not, List, [], ◌∷◌, ◌++◌, length, get_or, All, Contains, MatchBool, HoldsAt, refl, sym, ap, subst, ◌∙◌, Less, Equal, Greater, Ordering, Result, Ok, Err}
 use mathlib.Core.Bool.{true≢false}
 use Rattle.std.specs.Cmp.Lexicographic.{bytes_decides, slice_cmp, texts_ties}
@@ -12,7 +13,7 @@ use Rattle.std.proofs.lemmas.List.Elements.{All-contains, All-from_recursion, Al
 use Rattle.std.proofs.lemmas.List.Sorted.{searchable_from_sorted}
 use Rattle.gixobj_tree.specs.Entries.{ComesBefore, EachLater, EntryView, IsEntryName, entry_key, key_of}
 use Rattle.gixobj_mode.specs.Mode.{is_tree_mode}
-use Rattle.gixobj_hash.specs.Texts.{IsFree}
+use Rattle.gixobj_hash.specs.ByteStrings.{IsByteFree}
 use Rattle.gixobj_tree.specs.WellFormed.{AreApart, HasKey, HasNamesake, HaveEntryNames}
 
 module _ {X : Type 0} (R : X → X → Type 0) where
@@ -35,7 +36,8 @@ module _ {X : Type 0} (R : X → X → Type 0) where
   later_from_next trans (x ∷ y ∷ zs) f =
       let next : R x y = f 0 x (omega arith) in
       let step : AllAdjacentBelow R (y ∷ zs) (length (y ∷ zs)) = λ k d l.
-      let i = k + 1 in subst (λ (n : ℕ). R (get_or (y ∷ zs) k d) (get_or (x ∷ y ∷ zs) n d)) {x = suc k + 1} {y = suc i} (omega arith) (f (suc k) d (omega arith)) in
+      let i = k + 1 in subst (λ (n : ℕ). R (get_or (y ∷ zs) k d) (get_or (x ∷ y ∷ zs) n d)) {x = suc k + 1} {y = suc i} (omega arith)
+      (f (suc k) d (omega arith)) in
       let rest : EachLater R (y ∷ zs) = later_from_next trans (y ∷ zs) step in
       let far : All (R x) zs = All-weaker (R y) (R x) (λ z h. trans x y z next h) zs (All-from_recursion (R y) zs rest.0) in
       ((next, recursion_from_All (R x) zs far), rest)
@@ -43,10 +45,10 @@ module _ {X : Type 0} (R : X → X → Type 0) where
 pub comes_trans : (x y z : EntryView) → ComesBefore x y → ComesBefore y z → ComesBefore x z
 comes_trans x y z = nat_list_cmp_total.trans (entry_key x) (entry_key y) (entry_key z)
 
--- an answer by cases says the same both ways
-pub told : (b : Bool) (P : Type 0) → MatchBool b P (P → ⊥) → (b ≡ true → P) × (P → b ≡ true)
-told true P h = (λ e. h, λ p. refl)
-told false P h = (λ e. absurd (true≢false (sym e)), λ p. absurd (h p))
+-- a decision is true if and only if its statement holds
+pub test_iff : (b : Bool) (P : Type 0) → MatchBool b P (P → ⊥) → (b ≡ true → P) × (P → b ≡ true)
+test_iff true P h = (λ e. h, λ p. refl)
+test_iff false P h = (λ e. absurd (true≢false (sym e)), λ p. absurd (h p))
 
 less : (o : Ordering) → true ≡ is_lt o → o ≡ Less
 less Less e = refl
@@ -58,13 +60,15 @@ not_less Less e = absurd (true≢false (sym e))
 not_less Equal e = λ q. absurd (true≢false (ap is_lt (sym q)))
 not_less Greater e = λ q. absurd (true≢false (ap is_lt (sym q)))
 
--- what `is_sorted_by` answers of the keys
-pub ascending : (entries : List EntryView) (b : Bool) → IsAllAdjacentAnswer (λ x y t. t ≡ is_lt (slice_cmp nat_cmp (entry_key x) (entry_key y))) entries b → MatchBool b (EachLater ComesBefore entries) (EachLater ComesBefore entries → ⊥)
+-- the result of `is_sorted_by` decides whether the keys ascend
+pub ascending : (entries : List EntryView) (b : Bool)
+    → IsAllAdjacentAnswer (λ x y t. t ≡ is_lt (slice_cmp nat_cmp (entry_key x) (entry_key y))) entries b
+    → MatchBool b (EachLater ComesBefore entries) (EachLater ComesBefore entries → ⊥)
 ascending entries true h = later_from_next ComesBefore comes_trans entries (λ k d l. less _ (h k d l))
 ascending [] false h = absurd (omega (arith, h.1))
 ascending (e ∷ es) false h = λ up. not_less _ (h.2 e) (later_at ComesBefore (e ∷ es) up h.0 (h.0 + 1) e (omega arith) h.1)
 
--- the search by halves
+-- the binary search: keys that tie are equal
 pub same_key : (xs ys : List ℕ) → slice_cmp nat_cmp xs ys ≡ Equal → xs ≡ ys
 same_key xs ys e = (bytes_decides xs ys).0 (texts_ties xs ys ∙ ap is_eq e)
 
@@ -74,8 +78,10 @@ tied xs ys e = rw e (tied_itself nat_list_cmp_total ys)
 after : (x y : EntryView) → ComesBefore x y → is_lt (slice_cmp nat_cmp (entry_key y) (entry_key x)) ≡ false
 after x y h = ap is_lt (nat_list_cmp_total.antisymm (entry_key y) (entry_key x) ∙ ap ordering_reverse h)
 
-sorted : (entries : List EntryView) → EachLater ComesBefore entries → IsSortedBy (λ a b. is_lt (slice_cmp nat_cmp (entry_key a) (entry_key b))) entries
-sorted entries up = λ k d low high. after (get_or entries k d) (get_or entries (k + 1) d) (later_at ComesBefore entries up k (k + 1) d (omega arith) high)
+sorted : (entries : List EntryView) → EachLater ComesBefore entries
+    → IsSortedBy (λ a b. is_lt (slice_cmp nat_cmp (entry_key a) (entry_key b))) entries
+sorted entries up = λ k d low high. after (get_or entries k d) (get_or entries (k + 1) d)
+    (later_at ComesBefore entries up k (k + 1) d (omega arith) high)
 
 outside : (o : Ordering) → o ≡ Less → o ≢ Equal
 outside o e q = absurd (true≢false (ap is_lt (sym e ∙ q)))
@@ -83,25 +89,29 @@ outside o e q = absurd (true≢false (ap is_lt (sym e ∙ q)))
 beyond : (o : Ordering) → o ≡ Greater → o ≢ Equal
 beyond o e q = absurd (true≢false (ap is_eq (sym q ∙ e)))
 
-at_key : (entries : List EntryView) (key : List ℕ) (i : ℕ) → i < length entries → HoldsAt (λ e. slice_cmp nat_cmp (entry_key e) key ≡ Equal) entries i → HasKey entries key
+at_key : (entries : List EntryView) (key : List ℕ) (i : ℕ) → i < length entries → HoldsAt (λ e. slice_cmp nat_cmp (entry_key e) key ≡ Equal) entries i
+    → HasKey entries key
 at_key [] key i l h = absurd (omega arith)
 at_key (e ∷ es) key i l h = (get_or (e ∷ es) i e, Contains-get_or (e ∷ es) i e l, same_key _ _ (h e))
 
-nowhere : (entries : List EntryView) (key : List ℕ) (i : ℕ) → IsPartitionPoint (λ e. slice_cmp nat_cmp (entry_key e) key ≡ Less) (λ e. slice_cmp nat_cmp (entry_key e) key ≡ Greater) entries i → HasKey entries key → ⊥
+nowhere : (entries : List EntryView) (key : List ℕ) (i : ℕ) → IsPartitionPoint (λ e. slice_cmp nat_cmp (entry_key e) key ≡ Less)
+    (λ e. slice_cmp nat_cmp (entry_key e) key ≡ Greater) entries i → HasKey entries key → ⊥
 nowhere entries key i split has =
     let there = has.1 in
     let same : slice_cmp nat_cmp (entry_key (get_or entries there.0 has.0)) key ≡ Equal = tied _ _ (ap entry_key there.2 ∙ has.2) in
     elim (leb_tells i there.0) [
-      | inl behind ↦ beyond _ (split.1 there.0 has.0 behind.1 there.1) same
+      | inl following ↦ beyond _ (split.1 there.0 has.0 following.1 there.1) same
       | inr before ↦ outside _ (split.0 there.0 has.0 (omega arith) before.1) same
     ]
 
-pub found : (entries : List EntryView) (key : List ℕ) (r : Result ℕ ℕ) (b : Bool) → b ≡ is_ok r → EachLater ComesBefore entries → IsSearchInRange r (length entries)
+pub found : (entries : List EntryView) (key : List ℕ) (r : Result ℕ ℕ) (b : Bool) → b ≡ is_ok r → EachLater ComesBefore entries
+    → IsSearchInRange r (length entries)
     → IsBinarySearchResult (λ e. slice_cmp nat_cmp (entry_key e) key) entries r → MatchBool b (HasKey entries key) (HasKey entries key → ⊥)
 found entries key (Ok i) true e up range h = at_key entries key i range h
 found entries key (Ok i) false e up range h = absurd (true≢false (sym e))
 found entries key (Err i) true e up range h = absurd (true≢false e)
-found entries key (Err i) false e up range h = nowhere entries key i (h (searchable_from_sorted nat_list_cmp_total entry_key entries key (sorted entries up)))
+found entries key (Err i) false e up range h =
+    nowhere entries key i (h (searchable_from_sorted nat_list_cmp_total entry_key entries key (sorted entries up)))
 
 -- entries of one name
 key_at : (e : EntryView) (is_tree : Bool) → is_tree_mode e.mode ≡ is_tree → entry_key e ≡ key_of e.name is_tree
@@ -110,37 +120,47 @@ key_at e is_tree kind = ap (key_of e.name) kind
 not_before : (x y : EntryView) → is_tree_mode x.mode ≡ is_tree_mode y.mode → x.name ≡ y.name → ComesBefore x y → ⊥
 not_before x y kinds names before = outside _ before (tied _ _ (ap (key_of x.name) kinds ∙ ap (λ n. key_of n (is_tree_mode y.mode)) names))
 
-namesakes : (entries : List EntryView) (x y : EntryView) (t u : Bool) → is_tree_mode x.mode ≡ t → is_tree_mode y.mode ≡ u → x.name ≡ y.name → ComesBefore x y
+namesakes : (entries : List EntryView) (x y : EntryView) (t u : Bool) → is_tree_mode x.mode ≡ t → is_tree_mode y.mode ≡ u → x.name ≡ y.name
+    → ComesBefore x y
     → Contains entries x → Contains entries y → HasNamesake entries x ⊎ HasNamesake entries y
 namesakes entries x y true true p q names before in_x in_y = absurd (not_before x y (p ∙ sym q) names before)
 namesakes entries x y true false p q names before in_x in_y = inl (p, (y, in_y, key_at y false q ∙ sym names))
 namesakes entries x y false true p q names before in_x in_y = inr (q, (x, in_x, key_at x false p ∙ names))
 namesakes entries x y false false p q names before in_x in_y = absurd (not_before x y (p ∙ sym q) names before)
 
-none_apart : (entries : List EntryView) → EachLater ComesBefore entries → AllWithin (λ e. HasNamesake entries e → ⊥) entries 0 (length entries) → AreApart entries
+none_apart : (entries : List EntryView) → EachLater ComesBefore entries → AllWithin (λ e. HasNamesake entries e → ⊥) entries 0 (length entries)
+    → AreApart entries
 none_apart entries up none =
     later_from (λ x y. x.name ≢ y.name) entries (λ i j d low high names.
     let x = get_or entries i d in
     let y = get_or entries j d in
     let early : i < length entries = omega arith in
-    elim (namesakes entries x y _ _ refl refl names (later_at ComesBefore entries up i j d low high) (Contains-get_or entries i d early) (Contains-get_or entries j d high)) [
+    elim (namesakes entries x y _ _ refl refl names (later_at ComesBefore entries up i j d low high) (Contains-get_or entries i d early)
+    (Contains-get_or entries j d high)) [
       | inl h ↦ none i d (omega arith) early h
       | inr h ↦ none j d (omega arith) high h
     ])
 
-pub slash_ends : (name : List ℕ) → IsFree 47 (name ++ 47 ∷ []) → ⊥
+pub slash_ends : (name : List ℕ) → IsByteFree 47 (name ++ 47 ∷ []) → ⊥
 slash_ends name free = All-contains (λ it. it ≢ 47) (name ++ 47 ∷ []) 47 free (Contains-push name 47) refl
 
 kinds_differ : (x y : EntryView) → is_tree_mode x.mode ≡ true → is_tree_mode y.mode ≡ false → x ≢ y
 kinds_differ x y p q e = true≢false (sym p ∙ ap (λ (v : EntryView). is_tree_mode v.mode) e ∙ q)
 
 order : (i j : ℕ) → (i < j) ⊎ ((i ≡ j) ⊎ (j < i))
-order i j = elim (leb_tells i j) [ inl below ↦ elim (leb_tells j i) [ inl above ↦ inr (inl (omega arith)) | inr strict ↦ inl strict.1 ] | inr above ↦ inr (inr above.1) ]
+order i j = elim (leb_tells i j) [
+  | inl below ↦ elim (leb_tells j i) [ inl above ↦ inr (inl (omega arith)) | inr strict ↦ inl strict.1 ]
+  | inr above ↦ inr
+      (inr above.1)
+]
 
--- a tree, and an entry whose key is the tree's name, in a list without two of one name
-together : (entries : List EntryView) → AreApart entries → (tree other : EntryView) (t : Bool) → is_tree_mode other.mode ≡ t → is_tree_mode tree.mode ≡ true → IsEntryName tree.name
+-- no entry's key is the bare name of a tree in a list of distinct names
+together : (entries : List EntryView) → AreApart entries → (tree other : EntryView) (t : Bool) → is_tree_mode other.mode ≡ t
+    → is_tree_mode tree.mode ≡ true
+    → IsEntryName tree.name
     → Contains entries tree → Contains entries other → entry_key other ≡ tree.name → ⊥
-together entries apart tree other true kind is name at_tree at_other same = slash_ends other.name (subst (IsFree 47) (sym same ∙ key_at other true kind) name.one_name)
+together entries apart tree other true kind is name at_tree at_other same =
+    slash_ends other.name (subst (IsByteFree 47) (sym same ∙ key_at other true kind) name.one_name)
 together entries apart tree other false kind is name at_tree at_other same =
     let names : other.name ≡ tree.name = sym (key_at other false kind) ∙ same in
     let at = at_from_Contains entries tree at_tree in
@@ -150,11 +170,12 @@ together entries apart tree other false kind is name at_tree at_other same =
     elim (order at.0 other_at.0) [
       | inl before ↦ later_at (λ x y. x.name ≢ y.name) entries apart at.0 other_at.0 tree before other_at.1 (here ∙ sym names ∙ sym there)
       | inr (inl e) ↦ kinds_differ tree other is kind (sym (at.2 tree) ∙ ap (λ (n : ℕ). get_or entries n tree) e ∙ other_at.2 tree)
-      | inr (inr behind) ↦ later_at (λ x y. x.name ≢ y.name) entries apart other_at.0 at.0 tree behind at.1 (there ∙ names ∙ sym here)
+      | inr (inr following) ↦ later_at (λ x y. x.name ≢ y.name) entries apart other_at.0 at.0 tree following at.1 (there ∙ names ∙ sym here)
     ]
 
 pub apart : (entries : List EntryView) (b : Bool) → HaveEntryNames entries → EachLater ComesBefore entries
-    → MatchBool b ((k : ℕ) × (k < length entries) × HoldsAt (HasNamesake entries) entries k) (AllWithin (λ e. HasNamesake entries e → ⊥) entries 0 (length entries)) → MatchBool (not b) (AreApart entries) (AreApart entries → ⊥)
+    → MatchBool b ((k : ℕ) × (k < length entries) × HoldsAt (HasNamesake entries) entries k)
+    (AllWithin (λ e. HasNamesake entries e → ⊥) entries 0 (length entries)) → MatchBool (not b) (AreApart entries) (AreApart entries → ⊥)
 apart entries false names up h = none_apart entries up h
 apart [] true names up h = absurd (omega (arith, h.1))
 apart (e ∷ es) true names up h = λ are.

@@ -1,72 +1,91 @@
--- Borrowed trees written, and trees written back and read back.
+-- Borrowed trees encoded, and trees that re-encode identically and round-trip.
 use Rattle.std.proofs.Common.{◌≡◌, ◌<◌, ◌+◌, ◌++◌, ◌∷◌, ℕ, List, [], All, ap, append_assoc, arith, get_or, length, length-append, map, refl, subst, sym, take, ◌∙◌}
 use Rattle.std.proofs.lemmas.List.Elements.{All-cons, All-head, All-nil, All-tail}
 use Rattle.std.specs.List.{AllZip, concat}
-use Rattle.gixobj_fields.specs.Writing.{RefusesNothing}
+use Rattle.gixobj_fields.specs.Writing.{RejectsNothing}
 use Rattle.gixobj_hash.specs.Hash.{id_bytes}
 use Rattle.gixobj_hash.specs.declared.hash.kind.Kind.{Kind}
-use Rattle.gixobj_hash.specs.Texts.{IsFree}
+use Rattle.gixobj_hash.specs.ByteStrings.{IsByteFree}
 use Rattle.gixobj_mode.proofs.ByteSix.{six_kept}
-use Rattle.gixobj_mode.proofs.ModesBack.{mode_reads_back}
-use Rattle.gixobj_tree.proofs.TreeWrites.{AreFree, none_refused, text_more}
+use Rattle.gixobj_mode.proofs.ModesRoundTrip.{mode_round_trips}
+use Rattle.gixobj_tree.proofs.TreeWrites.{AreFree, none_rejected, bytes_more}
 use Rattle.gixobj_tree.specs.Entries.{EntryView}
-use Rattle.gixobj_mode.specs.Mode.{KeepsByteSix, mode_text}
-use Rattle.gixobj_tree.specs.TreeText.{RefusesTree, entry_text, tree_text}
+use Rattle.gixobj_mode.specs.Mode.{HasSixDigits, encode_mode}
+use Rattle.gixobj_tree.specs.TreeEncoding.{IsTreeEncodeError, encode_entry, encode_tree}
 use Rattle.gixobj_tree.proofs.Viewed.{seen_there, seen_within}
-use Rattle.gixobj_tree.specs.Rewriting.{HasOwnModes, IsOwnEntryText, ReadsBack}
-use Rattle.gixobj_tree.specs.TreeReading.{IsEntryText, IsTreeText}
+use Rattle.gixobj_tree.specs.Rewriting.{HasCanonicalModes, DecodesToCanonicalEntry, RoundTrips}
+use Rattle.gixobj_tree.specs.TreeDecoding.{DecodesToEntry, DecodesToTree}
 
--- the size with one entry more
-pub size_more : {X : Type 0} (view : X → EntryView) (xs : List X) (i : ℕ) (x : X) (n m : ℕ) → i < length xs → x ≡ get_or xs i x → n ≡ length (tree_text (take i (map view xs))) → m ≡ n + length (entry_text (view x))
-    → m ≡ length (tree_text (take (i + 1) (map view xs)))
+-- the size with the next entry is that of one more entry
+pub size_more : {X : Type 0} (view : X → EntryView) (xs : List X) (i : ℕ) (x : X) (n m : ℕ) → i < length xs → x ≡ get_or xs i x
+    → n ≡ length (encode_tree (take i (map view xs))) → m ≡ n + length (encode_entry (view x))
+    → m ≡ length (encode_tree (take (i + 1) (map view xs)))
 size_more view xs i x n m low is so_far more =
-    let text = text_more (map view xs) i (view x) (seen_within view xs i low) (seen_there view xs i x low is) in
-    omega (arith, so_far, more, ap length text, length-append (tree_text (take i (map view xs))) (entry_text (view x)))
+    let bytes = bytes_more (map view xs) i (view x) (seen_within view xs i low) (seen_there view xs i x low is) in
+    omega (arith, so_far, more, ap length bytes, length-append (encode_tree (take i (map view xs))) (encode_entry (view x)))
 
--- ---- written back
+-- ---- decoded and re-encoded
 
 regrouped : (digits name id : List ℕ) → (digits ++ 32 ∷ []) ++ name ++ 0 ∷ id ≡ digits ++ 32 ∷ (name ++ 0 ∷ id)
 regrouped digits name id = append_assoc (digits ++ 32 ∷ []) name (0 ∷ id) ∙ append_assoc digits (32 ∷ []) (name ++ 0 ∷ id)
 
-own_text : (kind : Kind) (e : EntryView) (text : List ℕ) → IsOwnEntryText kind e text → entry_text e ≡ text
-own_text kind e text it = rw (← it.own) (regrouped it.is.digits e.name (id_bytes e.id)) ∙ sym it.is.joined
+own_bytes : (kind : Kind) (e : EntryView) (bytes : List ℕ) → DecodesToCanonicalEntry kind e bytes → encode_entry e ≡ bytes
+own_bytes kind e bytes it = rw (← it.own) (regrouped it.is.digits e.name (id_bytes e.id)) ∙ sym it.is.joined
 
-all_own : (kind : Kind) (entries : List EntryView) (texts : List (List ℕ)) → AllZip (IsOwnEntryText kind) entries texts → tree_text entries ≡ concat texts
+all_own : (kind : Kind) (entries : List EntryView) (encodings : List (List ℕ)) → AllZip (DecodesToCanonicalEntry kind) entries encodings
+    → encode_tree entries ≡ concat encodings
 all_own kind [] [] are = refl
-all_own kind [] (text ∷ texts) are = absurd are
+all_own kind [] (bytes ∷ encodings) are = absurd are
 all_own kind (e ∷ entries) [] are = absurd are
-all_own kind (e ∷ entries) (text ∷ texts) are = ap (λ (it : List ℕ). it ++ tree_text entries) (own_text kind e text are.0) ∙ ap (λ (it : List ℕ). text ++ it) (all_own kind entries texts are.1)
+all_own kind (e ∷ entries) (bytes ∷ encodings) are = ap (λ (it : List ℕ). it ++ encode_tree entries) (own_bytes kind e bytes are.0)
+    ∙ ap (λ (it : List ℕ). bytes ++ it) (all_own kind entries encodings are.1)
 
-all_texts : (kind : Kind) (entries : List EntryView) (texts : List (List ℕ)) → AllZip (IsOwnEntryText kind) entries texts → AllZip (IsEntryText kind) entries texts
-all_texts kind [] [] are = tt
-all_texts kind [] (text ∷ texts) are = absurd are
-all_texts kind (e ∷ entries) [] are = absurd are
-all_texts kind (e ∷ entries) (text ∷ texts) are = (are.0.is, all_texts kind entries texts are.1)
+all_byte_strings : (kind : Kind) (entries : List EntryView) (encodings : List (List ℕ)) → AllZip (DecodesToCanonicalEntry kind) entries encodings
+    → AllZip (DecodesToEntry kind) entries encodings
+all_byte_strings kind [] [] are = tt
+all_byte_strings kind [] (bytes ∷ encodings) are = absurd are
+all_byte_strings kind (e ∷ entries) [] are = absurd are
+all_byte_strings kind (e ∷ entries) (bytes ∷ encodings) are = (are.0.is, all_byte_strings kind entries encodings are.1)
 
-pub written_back : (kind : Kind) (text : List ℕ) (entries : List EntryView) → HasOwnModes kind text entries → IsTreeText kind text entries × (tree_text entries ≡ text)
-written_back kind text entries (texts, joined, are) = ((texts, joined, all_texts kind entries texts are), all_own kind entries texts are ∙ sym joined)
+pub reencoded : (kind : Kind) (bytes : List ℕ) (entries : List EntryView) → HasCanonicalModes kind bytes entries → DecodesToTree kind bytes entries
+    × (encode_tree entries ≡ bytes)
+reencoded kind bytes entries (encodings, joined, are) =
+    ((encodings, joined, all_byte_strings kind entries encodings are), all_own kind entries encodings are ∙ sym joined)
 
-names_free : (kind : Kind) (entries : List EntryView) (texts : List (List ℕ)) → AllZip (IsEntryText kind) entries texts → AreFree entries
-names_free kind [] [] are = All-nil (λ (e : EntryView). IsFree 0 e.name)
-names_free kind [] (text ∷ texts) are = absurd are
+names_free : (kind : Kind) (entries : List EntryView) (encodings : List (List ℕ)) → AllZip (DecodesToEntry kind) entries encodings → AreFree entries
+names_free kind [] [] are = All-nil (λ (e : EntryView). IsByteFree 0 e.name)
+names_free kind [] (bytes ∷ encodings) are = absurd are
 names_free kind (e ∷ entries) [] are = absurd are
-names_free kind (e ∷ entries) (text ∷ texts) are = All-cons (λ (it : EntryView). IsFree 0 it.name) e entries are.0.name (names_free kind entries texts are.1)
+names_free kind (e ∷ entries) (bytes ∷ encodings) are = All-cons (λ (it : EntryView). IsByteFree 0 it.name) e entries are.0.name
+    (names_free kind entries encodings are.1)
 
--- of a tree that was read no name is refused
-pub nothing_refused : (kind : Kind) (text : List ℕ) (entries : List EntryView) → IsTreeText kind text entries → RefusesNothing (RefusesTree entries)
-nothing_refused kind text entries (texts, joined, are) = λ value parts refused. none_refused entries value parts (names_free kind entries texts are) refused
+-- no name of a decoded tree is rejected
+pub nothing_rejected : (kind : Kind) (bytes : List ℕ) (entries : List EntryView) → DecodesToTree kind bytes entries
+    → RejectsNothing (IsTreeEncodeError entries)
+nothing_rejected kind bytes entries (encodings, joined, are) = λ value parts rejected. none_rejected entries value parts
+    (names_free kind entries encodings are) rejected
 
--- ---- read back
+-- ---- encoded and decoded
 
-own_entry : (kind : Kind) (e : EntryView) → ReadsBack kind e → IsEntryText kind e (entry_text e)
+own_entry : (kind : Kind) (e : EntryView) → RoundTrips kind e → DecodesToEntry kind e (encode_entry e)
 own_entry kind e it =
-    let joined = regrouped (mode_text e.mode) e.name (id_bytes e.id) in
+    let joined = regrouped (encode_mode e.mode) e.name (id_bytes e.id) in
     let six = six_kept e.mode (e.name ++ 0 ∷ id_bytes e.id) it.some in
-    let P : List ℕ → Type 0 = λ text. KeepsByteSix text (mode_text e.mode) in
-    record { digits = mode_text e.mode; joined = joined; mode = mode_reads_back e.mode it.bits it.told_apart; byte_six = subst P (sym joined) six; name = it.name; id = it.id }
+    let P : List ℕ → Type 0 = λ bytes. HasSixDigits bytes (encode_mode e.mode) in
+    record {
+      digits = encode_mode e.mode;
+      joined = joined;
+      mode = mode_round_trips e.mode it.bits it.is_distinguished;
+      byte_six = subst P (sym joined) six;
+      name = it.name;
+      id = it.id;
+    }
 
-pub read_back : (kind : Kind) (entries : List EntryView) → All (ReadsBack kind) entries → IsTreeText kind (tree_text entries) entries
-read_back kind [] all = ([], refl, tt)
-read_back kind (e ∷ entries) all =
-    let (texts, joined, are) = read_back kind entries (All-tail (ReadsBack kind) e entries all) in
-    (entry_text e ∷ texts, ap (λ (it : List ℕ). entry_text e ++ it) joined, (own_entry kind e (All-head (ReadsBack kind) e entries all), are))
+pub decoded_again : (kind : Kind) (entries : List EntryView) → All (RoundTrips kind) entries → DecodesToTree kind (encode_tree entries) entries
+decoded_again kind [] all = ([], refl, tt)
+decoded_again kind (e ∷ entries) all =
+    let (encodings, joined, are) = decoded_again kind entries (All-tail (RoundTrips kind) e entries all) in (
+      encode_entry e ∷ encodings,
+      ap (λ (it : List ℕ). encode_entry e ++ it) joined,
+      (own_entry kind e (All-head (RoundTrips kind) e entries all), are),
+    )

@@ -2,8 +2,8 @@ pub mod Entries
 pub mod EntryOrder
 pub mod EntryOrderLaws
 pub mod Rewriting
-pub mod TreeReading
-pub mod TreeText
+pub mod TreeDecoding
+pub mod TreeEncoding
 pub mod TreeViews
 pub mod WellFormed
 pub use Rattle.gixobj_fields.specs.Runs
@@ -13,4 +13,4 @@ pub use Rattle.gixobj_hash.specs.Decode
 pub use Rattle.gixobj_hash.specs.Encode
 pub use Rattle.gixobj_hash.specs.Hash
 pub use Rattle.gixobj_hash.specs.Kind
-pub use Rattle.gixobj_hash.specs.Texts
+pub use Rattle.gixobj_hash.specs.ByteStrings

@@ -1,4 +1,4 @@
-//! Blobs: the contents of files.
+//! Blobs, which are the contents of files.
 ghost use Rattle.std.specs.Prelude.{◌≡◌, IfOk};
 
 use gixobj_fields::streams::Sink;
@@ -6,7 +6,7 @@ use gixobj_fields::{WriteTo, encode};
 use gixobj_hash::{Kind, OutOfMemory};
 use std::alloc::Global;
 
-/// The content of a file, borrowed.
+/// The content of a file, borrowed. [`BlobRef::from_bytes`] makes one.
 #[derive(Clone, Copy, Debug, PartialEq, Eq, PartialOrd, Ord, Hash)]
 pub struct BlobRef<'a> {
     /// The content.
@@ -14,14 +14,18 @@ pub struct BlobRef<'a> {
 }
 
 impl<'a> BlobRef<'a> {
-    /// The blob of these bytes: all bytes are a blob's.
+    /// Creates the blob of these bytes. All bytes are a valid blob.
     pub fn from_bytes(bytes: &'a [u8]) -> BlobRef<'a>
         ensures { result.bytes.now ≡ bytes.now }
     {
         BlobRef { bytes }
     }
 
-    /// A copy that owns its bytes.
+    /// Copies the blob into an owned [`Blob`].
+    ///
+    /// # Errors
+    ///
+    /// [`OutOfMemory`] if the allocation of the copy failed.
     pub fn into_owned(self, alloc: Global) -> Result<Blob, OutOfMemory>
         ensures { IfOk result (λ blob. blob.bytes.items ≡ self.entry.bytes.now) }
     {
@@ -31,7 +35,7 @@ impl<'a> BlobRef<'a> {
     }
 }
 
-/// The content of a file, owned.
+/// The content of a file, owned. [`BlobRef::into_owned`] makes one.
 #[derive(Clone, Debug, Drop, PartialEq, Eq, PartialOrd, Ord, Hash)]
 pub struct Blob {
     /// The content.
@@ -39,7 +43,7 @@ pub struct Blob {
 }
 
 impl Blob {
-    /// The same blob, borrowed.
+    /// Borrows the blob.
     pub fn to_ref(&self) -> BlobRef<'_>
         ensures { result.bytes.now ≡ self.now.bytes.items }
     {
@@ -49,18 +53,18 @@ impl Blob {
     }
 }
 
-/// A blob is written as its bytes. Nothing is refused.
+/// The encoding of a blob is its bytes. No value is rejected.
 impl WriteTo for BlobRef<'_> {
     ghost use Rattle.gixobj_hash.specs.declared.kind.Kind.TheVariants as kind;
 
     ghost object_kind = { λ _. kind.Blob };
 
-    ghost text = { λ blob. blob.bytes.now };
+    ghost encoding = { λ blob. blob.bytes.now };
 
-    ghost refuses = { λ _ _ _. ⊥ };
+    ghost rejects = { λ _ _ _. ⊥ };
 
     fn write_into<S: Sink>(&self, alloc: Global, sink: &mut S) -> Result<(), encode::Error> {
-        sink.put(self.bytes)?;
+        sink.write_bytes(self.bytes)?;
         Ok(())
     }
 
@@ -73,15 +77,15 @@ impl WriteTo for BlobRef<'_> {
     }
 }
 
-/// A blob is written as its bytes. Nothing is refused.
+/// The encoding of a blob is its bytes. No value is rejected.
 impl WriteTo for Blob {
     ghost use Rattle.gixobj_hash.specs.declared.kind.Kind.TheVariants as kind;
 
     ghost object_kind = { λ _. kind.Blob };
 
-    ghost text = { λ blob. blob.bytes.items };
+    ghost encoding = { λ blob. blob.bytes.items };
 
-    ghost refuses = { λ _ _ _. ⊥ };
+    ghost rejects = { λ _ _ _. ⊥ };
 
     fn write_into<S: Sink>(&self, alloc: Global, sink: &mut S) -> Result<(), encode::Error> {
         self.to_ref().write_into(alloc, sink)

@@ -1,6 +1,7 @@
-//! Laws that tie the readers to the writers. Each function does nothing: its contract is the law.
+//! Laws of the decoders and encoders of trees and modes. The contract of each function is the law, and
+//! its body is empty.
 
 mod trees;
 
-pub use gixobj_mode::laws::mode_reads_back;
-pub use trees::{tree_has_one_reading, tree_reads_back, tree_writes_back};
+pub use gixobj_mode::laws::mode_round_trips;
+pub use trees::{tree_decodes_uniquely, tree_reencodes_identically, tree_round_trips};

@@ -1,4 +1,4 @@
-//! Trees and blobs: entries and their order; made, read whole, compared, copied and written, owned and borrowed
+//! Trees, their entries and blobs, owned and borrowed: decoded, encoded, compared, ordered and copied
 //! (gitdatamodel, "trees").
 #![tactic(auto)]
 

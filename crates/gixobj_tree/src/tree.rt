@@ -1,4 +1,4 @@
-//! Trees (gitdatamodel, "trees").
+//! Trees and their entries (gitdatamodel, "trees").
 ghost use Rattle.std.specs.Prelude.{◌≡◌, []};
 
 mod borrowed;
@@ -15,10 +15,10 @@ pub use order::name_order;
 use std::alloc::Global;
 use std::marker::Model;
 
-/// A tree: the entries of a directory.
+/// A tree: the entries of a directory, owned. [`TreeRef::into_owned`] makes one of a decoded tree.
 #[derive(Clone, Debug, Drop)]
 pub struct Tree {
-    /// The entries. A tree of git's has them in the order of [`name_order`], and each name once.
+    /// The entries. A tree of git has them in the order of [`name_order`], with distinct names.
     pub entries: Vec<Entry>,
 }
 
@@ -32,7 +32,7 @@ impl Model for Tree {
 }
 
 impl Tree {
-    /// A tree without entries. It takes no memory: `alloc` is only kept with the entries.
+    /// Creates a tree without entries. Allocates nothing: the list only keeps `alloc`.
     pub fn empty(alloc: Global) -> Tree
         ensures { result ≡ [] }
     {

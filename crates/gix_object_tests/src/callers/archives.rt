@@ -1,4 +1,4 @@
-//! The tip of a history that is archived.
+//! The tip of an archived history.
 
 use crate::import::samples::{COMMITS, plain_steps};
 use crate::samples::id;
@@ -8,16 +8,16 @@ use gix_object::import::{Imported, Step};
 use gixobj_callers::archive::tip_of;
 use std::alloc::Global;
 
-/// What `git mktree --missing` answers for the root of the last of the three steps.
+/// Id that `git mktree --missing` prints for the root of the last of the three steps.
 const ROOT: &[u8] = b"3c4e9cd789d88d8d89c1073707c3585e41b0e614";
 
-/// Whether this is what the last of the three steps becomes.
+/// Whether the tip is the import of the last of the three steps.
 fn is_last(tip: &Imported) -> bool {
     let [_, _, last] = COMMITS;
     tip.commit == id(last.as_bytes()) && tip.written.id == id(ROOT)
 }
 
-/// Whether a history has the last of the three steps as its tip; of a history without a tip none.
+/// Whether the tip of a history is the last of the three steps. `None` if the history has no tip.
 fn has_last(alloc: Global, steps: &[Step]) -> Option<bool> {
     match tip_of(alloc, Memory::new(alloc), Kind::Sha1, steps) {
         Ok(Some(tip)) => Some(is_last(&tip)),
@@ -26,7 +26,7 @@ fn has_last(alloc: Global, steps: &[Step]) -> Option<bool> {
     }
 }
 
-/// Whether the three steps have the last as their tip.
+/// Whether the tip of the three steps is the last one.
 fn is_archived(alloc: Global) -> bool {
     match plain_steps(alloc) {
         Ok(steps) => has_last(alloc, &steps) == Some(true),
@@ -35,7 +35,7 @@ fn is_archived(alloc: Global) -> bool {
 }
 
 #[test]
-fn archived(rt: HostRuntime) {
+fn returns_last_step_as_tip(rt: HostRuntime) {
     let alloc = rt.alloc();
     assert!(rt; is_archived(alloc));
     assert!(rt; has_last(alloc, &[]).is_none());

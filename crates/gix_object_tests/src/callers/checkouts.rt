@@ -1,4 +1,4 @@
-//! Entries that are put into a directory of the empty root.
+//! Entries inserted into a directory of the empty root.
 
 use super::FIRST;
 use crate::samples::{id, path_of};
@@ -11,7 +11,7 @@ use gix_object::{Tree, encode};
 use gixobj_callers::checkout::{CheckoutError, Planned, with_entries_at};
 use std::alloc::{AllocError, Global};
 
-/// The file of the first id at a path.
+/// A file with the first id at a path.
 fn file_at(alloc: Global, names: &[&str]) -> Result<Planned, AllocError> {
     let path = path_of(alloc, names)?;
     Ok(Planned {
@@ -21,7 +21,7 @@ fn file_at(alloc: Global, names: &[&str]) -> Result<Planned, AllocError> {
     })
 }
 
-/// The files of the first id at these paths.
+/// Files with the first id at these paths.
 fn files_at(alloc: Global, paths: &[&[&str]]) -> Result<Vec<Planned>, AllocError> {
     let mut files = Vec::new(alloc);
     for names in paths {
@@ -40,14 +40,14 @@ fn check_out(
     with_entries_at(root, Never, Kind::Sha1, prefix, entries, out)
 }
 
-/// What `git mktree --missing` answers for the files `a/b/hello.txt` and `a/hello.txt` of the first id.
+/// Id that `git mktree --missing` prints for the files `a/b/hello.txt` and `a/hello.txt` with the first id.
 const CHECKED_OUT: &[u8] = b"3365befd1a144ea91abbebb315dc3f3d7c071db2";
 
-/// What it answers for the file `hello.txt` of the first id alone.
+/// Id that `git mktree --missing` prints for the file `hello.txt` with the first id alone.
 const ALONE: &[u8] = b"aaa96ced2d9a1c8e72c56b253a0e2fe78393feb7";
 
-/// A word for a root: whether it is that of both files, and three trees go out, or that of one file, and it goes out.
-fn word(written: &Written) -> &'static str {
+/// Names a written root: that of both files with three emitted trees, or that of one file with one tree.
+fn root_name(written: &Written) -> &'static str {
     if written.id == id(CHECKED_OUT) && written.trees.len() == 3 {
         "both"
     } else if written.id == id(ALONE) && written.trees.len() == 1 {
@@ -57,10 +57,10 @@ fn word(written: &Written) -> &'static str {
     }
 }
 
-/// A word for what comes of files that are put into a directory.
+/// Names the result of a checkout of files into a directory.
 fn outcome(alloc: Global, prefix: &[BString], entries: &[Planned]) -> &'static str {
     match check_out(alloc, prefix, entries) {
-        Ok(written) => word(&written),
+        Ok(written) => root_name(&written),
         Err(CheckoutError::Edit(Error::EmptyPathComponent)) => "empty name",
         Err(CheckoutError::Edit(Error::SlashInPathComponent)) => "slash in a name",
         Err(CheckoutError::Write(WriteError::Out(_))) => "not written",
@@ -68,7 +68,7 @@ fn outcome(alloc: Global, prefix: &[BString], entries: &[Planned]) -> &'static s
     }
 }
 
-/// A word for what comes of files, put at paths from a directory.
+/// Names the result of a checkout of files at paths below a directory.
 fn outcome_at(alloc: Global, prefix: &[&str], paths: &[&[&str]]) -> &'static str {
     match (path_of(alloc, prefix), files_at(alloc, paths)) {
         (Ok(prefix), Ok(files)) => outcome(alloc, &prefix, &files),
@@ -77,19 +77,19 @@ fn outcome_at(alloc: Global, prefix: &[&str], paths: &[&[&str]]) -> &'static str
 }
 
 #[test]
-fn checked_out(rt: HostRuntime) {
+fn writes_files_below_directory(rt: HostRuntime) {
     let files: [&[&str]; 2] = [&["hello.txt"], &["b", "hello.txt"]];
     assert!(rt; outcome_at(rt.alloc(), &["a"], &files) == "both");
 }
 
-/// The empty prefix is the root itself.
+/// The empty prefix is the root.
 #[test]
-fn checked_out_at_the_root(rt: HostRuntime) {
+fn writes_file_at_root_for_empty_prefix(rt: HostRuntime) {
     assert!(rt; outcome_at(rt.alloc(), &[], &[&["hello.txt"]]) == "alone");
 }
 
 #[test]
-fn not_checked_out(rt: HostRuntime) {
+fn rejects_invalid_names(rt: HostRuntime) {
     let alloc = rt.alloc();
     assert!(rt; outcome_at(alloc, &["a", ""], &[&["x"]]) == "empty name");
     assert!(rt; outcome_at(alloc, &["a"], &[&["x/y"]]) == "slash in a name");

@@ -1,4 +1,4 @@
-//! Objects that come back as they were.
+//! Round trips of trees, and a loose object whose id is verified.
 
 use crate::samples::id;
 use gix_object::hash::Kind;
@@ -7,75 +7,75 @@ use gixobj_callers::planner::{is_tree, read_back};
 use gixobj_callers::store::{TakeError, taken_over, tree_copy_of};
 use std::alloc::Global;
 
-/// The tree of the one file `test.txt`, as `git mktree` writes it.
+/// The encoding of a tree with the file `test.txt`, as `git mktree` writes it.
 const TREE: &[u8] =
     b"100644 test.txt\0\x83\xba\xae\x61\x80\x4e\x65\xcc\x73\xa7\x20\x1a\x72\x52\x75\x0c\x76\x06\x6a\x30";
 
-/// The same without its last byte.
+/// `TREE` without its last byte.
 const CUT: &[u8] =
     b"100644 test.txt\0\x83\xba\xae\x61\x80\x4e\x65\xcc\x73\xa7\x20\x1a\x72\x52\x75\x0c\x76\x06\x6a";
 
-/// A blob, and what `git hash-object` answers for it.
+/// A blob. `HELLO_ID` is the id that `git hash-object` prints for it.
 const HELLO: &[u8] = b"hello\n";
 
 const HELLO_ID: &[u8] = b"ce013625030ba8dba906f756967f9e9ca394464a";
 
-/// The tree of this text.
-fn tree_of(alloc: Global, text: &[u8]) -> Result<Tree, decode::Error> {
-    let tree = TreeRef::from_bytes(alloc, text, Kind::Sha1)?;
+/// Decodes a tree.
+fn tree_of(alloc: Global, bytes: &[u8]) -> Result<Tree, decode::Error> {
+    let tree = TreeRef::from_bytes(alloc, bytes, Kind::Sha1)?;
     Ok(tree.into_owned(alloc)?)
 }
 
-/// Whether a tree that is written and read is the same.
-fn is_read_back(alloc: Global, tree: &Tree) -> bool {
+/// Whether a tree equals its decoded encoding.
+fn round_trips(alloc: Global, tree: &Tree) -> bool {
     match read_back(alloc, tree, Kind::Sha1) {
         Ok(same) => same == *tree,
         Err(_) => false,
     }
 }
 
-/// Whether the tree of this text is the same, written and read.
-fn reads_back(alloc: Global, text: &[u8]) -> bool {
-    match tree_of(alloc, text) {
-        Ok(tree) => is_read_back(alloc, &tree),
+/// Whether a decoded tree equals its decoded encoding.
+fn decoded_tree_round_trips(alloc: Global, bytes: &[u8]) -> bool {
+    match tree_of(alloc, bytes) {
+        Ok(tree) => round_trips(alloc, &tree),
         Err(_) => false,
     }
 }
 
-/// Whether a tree's copy is the same, or none where the text is refused.
-fn is_copied(alloc: Global, text: &[u8]) -> Option<bool> {
-    match tree_copy_of(alloc, text, Kind::Sha1) {
-        Ok(copy) => Some(copy.as_slice() == text),
+/// Whether the copy of a tree has the same bytes. `None` for malformed input.
+fn is_copied(alloc: Global, bytes: &[u8]) -> Option<bool> {
+    match tree_copy_of(alloc, bytes, Kind::Sha1) {
+        Ok(copy) => Some(copy.as_slice() == bytes),
         Err(_) => None,
     }
 }
 
 #[test]
-fn trees_copied(rt: HostRuntime) {
+fn copies_tree_and_rejects_cut_one(rt: HostRuntime) {
     let alloc = rt.alloc();
     assert!(rt; is_tree(TREE, Kind::Sha1));
     assert!(rt; !is_tree(CUT, Kind::Sha1));
     assert!(rt; is_copied(alloc, TREE) == Some(true));
     assert!(rt; is_copied(alloc, CUT).is_none());
-    assert!(rt; reads_back(alloc, TREE));
+    assert!(rt; decoded_tree_round_trips(alloc, TREE));
 }
 
-fn told(is_blob: bool) -> &'static str {
+fn content_name(is_blob: bool) -> &'static str {
     if is_blob { "the blob" } else { "otherwise" }
 }
 
-/// A word for what comes of a loose object that is taken over as the blob.
-fn taken(alloc: Global, loose: &[u8]) -> &'static str {
+/// Names the result of taking over a loose object under the id of the blob.
+fn outcome(alloc: Global, loose: &[u8]) -> &'static str {
     match taken_over(alloc, loose, id(HELLO_ID).as_oid()) {
-        Ok(content) => told(content.as_slice() == HELLO),
+        Ok(content) => content_name(content.as_slice() == HELLO),
         Err(TakeError::Verify(_)) => "another id",
         _ => "otherwise",
     }
 }
 
 #[test]
-fn blob_taken_over(rt: HostRuntime) {
+fn takes_over_blob_only_under_its_id(rt: HostRuntime) {
     let alloc = rt.alloc();
-    assert!(rt; taken(alloc, b"blob 6\0hello\n") == "the blob");
-    assert!(rt; taken(alloc, b"blob 5\0hello") == "another id");
+    assert!(rt; outcome(alloc, b"blob 6\0hello\n") == "the blob");
+    assert!(rt; outcome(alloc, b"blob 5\0hello") == "another id");
 }

@@ -25,12 +25,12 @@ fn import(
     )
 }
 
-/// Whether this is a root of this id, and two trees go out.
+/// Whether the root has this id, with two emitted trees.
 fn is_root(written: &Written, root: &[u8]) -> bool {
     written.id == id(root) && written.trees.len() == 2
 }
 
-/// Whether an import makes a root of this id, and two trees go out.
+/// Whether an import writes the root with this id and emits two trees.
 fn makes(alloc: Global, editor: &mut Editor<Memory>, edits: Vec<Edit>, root: &[u8]) -> bool {
     match import(alloc, editor, edits) {
         Ok(written) => is_root(&written, root),
@@ -38,7 +38,7 @@ fn makes(alloc: Global, editor: &mut Editor<Memory>, edits: Vec<Edit>, root: &[u
     }
 }
 
-/// Whether an import of the edits of these rows makes a root of this id, and two trees go out.
+/// Whether an import of these rows writes the root with this id and emits two trees.
 fn is_imported(alloc: Global, editor: &mut Editor<Memory>, rows: &[Row], root: &[u8]) -> bool {
     match edits_of(alloc, rows) {
         Ok(edits) => makes(alloc, editor, edits, root),
@@ -46,25 +46,25 @@ fn is_imported(alloc: Global, editor: &mut Editor<Memory>, rows: &[Row], root: &
     }
 }
 
-/// What `git mktree --missing` answers for `040000 tree f09792be40f18f537c28b624b7bc7771f25082e1`, a tab and `a`, and
-/// `100644 blob`, the second id, a tab and `c`; the tree `a` is what it answers for `100644 blob`, the first id, a tab
-/// and `b`.
+/// Id that `git mktree --missing` prints for `040000 tree f09792be40f18f537c28b624b7bc7771f25082e1`, a tab
+/// and `a`, and `100644 blob`, the second id, a tab and `c`. It prints the id of `a` for `100644 blob`, the
+/// first id, a tab and `b`.
 const IMPORTED: &[u8] = b"4308448a0c406025f0a267505e3259565bf6351e";
 
-/// What it answers in the same way for the files `a/b` of the first id and `a/d` of the second.
-const GONE_ON: &[u8] = b"ed09f01c0a6d6684b098b8d3591ada3fb12b32f3";
+/// Id that `git mktree --missing` prints for the files `a/b` with the first id and `a/d` with the second.
+const IMPORTED_NEXT: &[u8] = b"ed09f01c0a6d6684b098b8d3591ada3fb12b32f3";
 
 #[test]
-fn imported(rt: HostRuntime) {
+fn imports_two_lists_of_edits(rt: HostRuntime) {
     let alloc = rt.alloc();
     let mut editor = empty_editor(alloc);
     let rows = [Row::File(&["a", "b"], FIRST), Row::File(&["c"], SECOND)];
     assert!(rt; is_imported(alloc, &mut editor, &rows, IMPORTED));
     let rows = [Row::File(&["a", "d"], SECOND), Row::Remove(&["c"])];
-    assert!(rt; is_imported(alloc, &mut editor, &rows, GONE_ON));
+    assert!(rt; is_imported(alloc, &mut editor, &rows, IMPORTED_NEXT));
 }
 
-/// A word for what comes of an import.
+/// Names the result of an import.
 fn outcome(alloc: Global, editor: &mut Editor<Memory>, edits: Vec<Edit>) -> &'static str {
     match import(alloc, editor, edits) {
         Err(ImportError::HoldsWrite) => "holds a write",
@@ -79,8 +79,8 @@ fn outcome(alloc: Global, editor: &mut Editor<Memory>, edits: Vec<Edit>) -> &'st
     }
 }
 
-/// A word for what comes of an import of the edits of these rows.
-fn refusal(alloc: Global, editor: &mut Editor<Memory>, rows: &[Row]) -> &'static str {
+/// Names the result of an import of these rows.
+fn outcome_of_rows(alloc: Global, editor: &mut Editor<Memory>, rows: &[Row]) -> &'static str {
     match edits_of(alloc, rows) {
         Ok(edits) => outcome(alloc, editor, edits),
         Err(_) => "no memory",
@@ -88,12 +88,12 @@ fn refusal(alloc: Global, editor: &mut Editor<Memory>, rows: &[Row]) -> &'static
 }
 
 #[test]
-fn not_imported(rt: HostRuntime) {
+fn rejects_writes_and_invalid_names(rt: HostRuntime) {
     let alloc = rt.alloc();
     let mut editor = empty_editor(alloc);
     let rows = [Row::File(&["c"], SECOND), Row::Write];
-    assert!(rt; refusal(alloc, &mut editor, &rows) == "holds a write");
+    assert!(rt; outcome_of_rows(alloc, &mut editor, &rows) == "holds a write");
     let rows = [Row::File(&["c"], SECOND), Row::File(&["a/b"], FIRST)];
-    assert!(rt; refusal(alloc, &mut editor, &rows) == "slash in the second");
-    assert!(rt; refusal(alloc, &mut editor, &[Row::File(&["\0"], FIRST)]) == "not written");
+    assert!(rt; outcome_of_rows(alloc, &mut editor, &rows) == "slash in the second");
+    assert!(rt; outcome_of_rows(alloc, &mut editor, &[Row::File(&["\0"], FIRST)]) == "not written");
 }

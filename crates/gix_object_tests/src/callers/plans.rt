@@ -1,7 +1,7 @@
-//! An entry that is put into a stored tree, or into the empty one.
+//! An entry that is inserted into a stored tree or into the empty one.
 
 use super::{FIRST, SECOND};
-use crate::samples::{id, path_of, text_of, tree_of};
+use crate::samples::{bytes_of, id, path_of, tree_of};
 use bstr::BString;
 use gix_object::find::Never;
 use gix_object::hash::{Kind as HashKind, ObjectId};
@@ -11,7 +11,7 @@ use gix_object::{Find, Kind, Memory, Tree, encode};
 use gixobj_callers::planner::{PlanError, RootError, with_entry_in_stored};
 use std::alloc::Global;
 
-/// Puts a tree of one entry into a store, and answers its id. None where there is no memory for it.
+/// Stores a tree of one entry and returns its id. `None` if memory runs out.
 fn insert_tree(
     alloc: Global,
     store: &mut Memory,
@@ -20,12 +20,12 @@ fn insert_tree(
     id: ObjectId,
 ) -> Option<ObjectId> {
     let tree = tree_of(alloc, &[(kind, name.as_bytes(), id)]).ok()?;
-    let text = text_of(alloc, &tree).ok()?;
-    store.insert(Kind::Tree, HashKind::Sha1, &text).ok()
+    let bytes = bytes_of(alloc, &tree).ok()?;
+    store.insert(Kind::Tree, HashKind::Sha1, &bytes).ok()
 }
 
-/// A store with the file at the path of these names, the last one first, of the first id, and the id of the tree
-/// above it. None where there is no memory for it.
+/// A store with a file of the first id at the path of `names`, its last name first, and the id of the root.
+/// `None` if memory runs out.
 pub(super) fn stored(alloc: Global, names: &[&str]) -> Option<(Memory, ObjectId)> {
     let mut store = Memory::new(alloc);
     let mut kind = EntryKind::Blob;
@@ -37,7 +37,7 @@ pub(super) fn stored(alloc: Global, names: &[&str]) -> Option<(Memory, ObjectId)
     Some((store, oid))
 }
 
-/// What comes of a file of this id, put at a path into the tree of the root's id.
+/// Inserts a file at a path of the stored root, and writes the tree.
 fn plan<S: Find + Drop>(
     alloc: Global,
     root: ObjectId,
@@ -49,7 +49,7 @@ fn plan<S: Find + Drop>(
     with_entry_in_stored(alloc, root, store, path, EntryKind::Blob, id(file), out)
 }
 
-/// The same by the names of the path. None where there is no memory for it.
+/// Inserts a file at the path of these names, and writes the tree. `None` if memory runs out.
 fn plan_at<S: Find + Drop>(
     alloc: Global,
     root: ObjectId,
@@ -63,7 +63,7 @@ fn plan_at<S: Find + Drop>(
     }
 }
 
-/// What comes of the file of the second id, put at a path into the stored tree of these files, the last name first.
+/// Inserts a file with the second id into the stored tree of the path `files`, its last name first.
 fn plan_in(
     alloc: Global,
     files: &[&str],
@@ -75,8 +75,7 @@ fn plan_in(
     }
 }
 
-/// Whether the file of the second id, put at a path into the stored tree of the file `a/b`, makes a root of this id, and
-/// so many trees go out.
+/// Whether an insertion into the stored tree of the file `a/b` writes this root and emits `count` trees.
 fn is_planned(alloc: Global, names: &[&str], root: &[u8], count: usize) -> bool {
     match plan_in(alloc, &["b", "a"], names) {
         Some(Ok(written)) => written.id == id(root) && written.trees.len() == count,
@@ -84,7 +83,7 @@ fn is_planned(alloc: Global, names: &[&str], root: &[u8], count: usize) -> bool 
     }
 }
 
-/// Whether a file of this name and id, put into the empty tree, makes a root of this id.
+/// Whether an insertion into the empty tree writes the root with this id.
 fn is_planned_alone(alloc: Global, name: &str, file: &[u8], root: &[u8]) -> bool {
     let empty = ObjectId::empty_tree(HashKind::Sha1);
     match plan_at(alloc, empty, Never, &[name], file) {
@@ -93,32 +92,32 @@ fn is_planned_alone(alloc: Global, name: &str, file: &[u8], root: &[u8]) -> bool
     }
 }
 
-/// What `git mktree --missing` answers for the directory `a` alone, of the files `b` of the first id and `x` of the
-/// second.
-const BESIDE: &[u8] = b"42306307596042142f124b5146c180127d63b0d6";
+/// Id that `git mktree --missing` prints for the directory `a` alone, with the files `b` of the first id and
+/// `x` of the second.
+const IN_DIRECTORY: &[u8] = b"42306307596042142f124b5146c180127d63b0d6";
 
-/// What `git mktree --missing` answers for `040000 tree f09792be40f18f537c28b624b7bc7771f25082e1`, a tab and `a`, and
-/// `100644 blob`, the second id, a tab and `x`; the tree `a` is what it answers for `100644 blob`, the first id, a tab
-/// and `b`.
+/// Id that `git mktree --missing` prints for `040000 tree f09792be40f18f537c28b624b7bc7771f25082e1`, a tab
+/// and `a`, and `100644 blob`, the second id, a tab and `x`. It prints the id of `a` for `100644 blob`, the
+/// first id, a tab and `b`.
 const AT_THE_ROOT: &[u8] = b"fa0919f1e8adc1e676ab04434a2d7f5842aeed3e";
 
-/// What it answers in the same way for the file `x` of the second id alone.
+/// Id that `git mktree --missing` prints for the file `x` with the second id alone.
 const X_ALONE: &[u8] = b"5805b676e247eb9a8046ad0c4d249cd2fb2513df";
 
-/// What it answers for the file `hello.txt` of the first id alone.
+/// Id that `git mktree --missing` prints for the file `hello.txt` with the first id alone.
 const HELLO_ALONE: &[u8] = b"aaa96ced2d9a1c8e72c56b253a0e2fe78393feb7";
 
 #[test]
-fn planned(rt: HostRuntime) {
+fn inserts_file_into_stored_and_empty_trees(rt: HostRuntime) {
     let alloc = rt.alloc();
-    assert!(rt; is_planned(alloc, &["a", "x"], BESIDE, 2));
+    assert!(rt; is_planned(alloc, &["a", "x"], IN_DIRECTORY, 2));
     assert!(rt; is_planned(alloc, &["x"], AT_THE_ROOT, 1));
     assert!(rt; is_planned_alone(alloc, "x", SECOND, X_ALONE));
     assert!(rt; is_planned_alone(alloc, "hello.txt", FIRST, HELLO_ALONE));
 }
 
-/// A word for what came of a plan.
-fn word(answer: &Option<Result<Written, PlanError<encode::Error>>>) -> &'static str {
+/// Names the result of a plan.
+fn outcome_name(answer: &Option<Result<Written, PlanError<encode::Error>>>) -> &'static str {
     match answer {
         Some(Err(PlanError::Root(RootError::Find(_)))) => "no root",
         Some(Err(PlanError::Root(RootError::Malformed))) => "malformed root",
@@ -128,22 +127,22 @@ fn word(answer: &Option<Result<Written, PlanError<encode::Error>>>) -> &'static 
     }
 }
 
-/// What comes of the file of the second id, put at a path into the stored tree of these files, the last name first.
-fn refusal(alloc: Global, files: &[&str], names: &[&str]) -> &'static str {
-    word(&plan_in(alloc, files, names))
+/// Names the result of an insertion into the stored tree of the path `files`, its last name first.
+fn outcome_in(alloc: Global, files: &[&str], names: &[&str]) -> &'static str {
+    outcome_name(&plan_in(alloc, files, names))
 }
 
-/// What comes of it where the root's id is the null one.
-fn refusal_without_a_root(alloc: Global) -> &'static str {
+/// Names the result of an insertion into the root with the null id.
+fn outcome_without_root(alloc: Global) -> &'static str {
     let null = ObjectId::null(HashKind::Sha1);
-    word(&plan_at(alloc, null, Never, &["x"], SECOND))
+    outcome_name(&plan_at(alloc, null, Never, &["x"], SECOND))
 }
 
 #[test]
-fn not_planned(rt: HostRuntime) {
+fn rejects_invalid_roots_and_names(rt: HostRuntime) {
     let alloc = rt.alloc();
-    assert!(rt; refusal_without_a_root(alloc) == "no root");
-    assert!(rt; refusal(alloc, &["a/b"], &["x"]) == "malformed root");
-    assert!(rt; refusal(alloc, &["b"], &["x", ""]) == "empty name");
-    assert!(rt; refusal(alloc, &["b"], &["\0"]) == "not written");
+    assert!(rt; outcome_without_root(alloc) == "no root");
+    assert!(rt; outcome_in(alloc, &["a/b"], &["x"]) == "malformed root");
+    assert!(rt; outcome_in(alloc, &["b"], &["x", ""]) == "empty name");
+    assert!(rt; outcome_in(alloc, &["b"], &["\0"]) == "not written");
 }

@@ -1,4 +1,5 @@
-//! Releases signed and audited by a runner that answers only where it is handed the right bytes (gitformat-signature).
+//! Releases that are signed and audited. The runner answers only calls with the expected bytes
+//! (gitformat-signature).
 
 use super::CUT;
 use crate::tasks::runner;
@@ -8,7 +9,7 @@ use gix_object::hash::Kind as HashKind;
 use gix_object::signature::verify::{self, Outcome, TrustLevel};
 use gix_object::signature::{Call, Format, Output, RunError, Runner, sign};
 use gix_object::{Commit, CommitRef, Kind, decode};
-use gixobj_callers::releases::{AuditError, audit, signed_text};
+use gixobj_callers::releases::{AuditError, audit, signed_payload};
 use std::alloc::Global;
 
 const SIGNATURE: &[u8] = b"-----BEGIN PGP SIGNATURE-----\n\nA\n-----END PGP SIGNATURE-----\n";
@@ -20,8 +21,8 @@ const PLAIN: &[u8] = b"tree 4b825dc642cb6eb9a060e54bf8d69288fbee4904\n\
     encoding ISO-8859-1\n\
     \nhi\n";
 
-/// The same with the signature in a last header, each line behind the first with a space in front, as `git commit-tree
-/// -S` writes it.
+/// `PLAIN` with the signature in its last header, as `git commit-tree -S` writes it. Continuation lines
+/// begin with a space.
 const SIGNED: &[u8] = b"tree 4b825dc642cb6eb9a060e54bf8d69288fbee4904\n\
     author A <a@b> 0 +0000\n\
     committer A <a@b> 0 +0000\n\
@@ -39,7 +40,7 @@ const PLAIN_TAG: &[u8] = b"object ce013625030ba8dba906f756967f9e9ca394464a\n\
     tagger A <a@b> 0 +0000\n\
     \nhi\n";
 
-/// The same with the signature behind it.
+/// `PLAIN_TAG` with the signature after its message.
 const SIGNED_TAG: &[u8] = b"object ce013625030ba8dba906f756967f9e9ca394464a\n\
     type commit\n\
     tag v1\n\
@@ -50,23 +51,23 @@ const SIGNED_TAG: &[u8] = b"object ce013625030ba8dba906f756967f9e9ca394464a\n\
     A\n\
     -----END PGP SIGNATURE-----\n";
 
-/// What a program reports of a good signature, and of a bad one.
+/// The reports of a program on a good signature, and on a bad one.
 const GOOD: &[u8] = b"[GNUPG:] GOODSIG K A\n[GNUPG:] TRUST_FULLY\n";
 
 const BAD: &[u8] = b"[GNUPG:] BADSIG K A\n[GNUPG:] TRUST_FULLY\n";
 
-/// A runner that starts no program. It answers only a call whose program reads these bytes, and whose one file, or none,
-/// has these; and it keeps whether it was asked.
+/// A runner that starts no program. It answers a call only if the program's input and its one file, or none,
+/// have the expected bytes. It records whether it was called.
 #[derive(Drop)]
-struct Handed {
+struct ExpectingRunner {
     alloc: Global,
     answers: Same,
     input: &'static [u8],
     file: Option<&'static [u8]>,
-    asked: bool,
+    is_called: bool,
 }
 
-/// Whether these are the files of a call: one with these bytes, or none.
+/// Whether a call has one file with these bytes, or none.
 fn are_files(files: &[BString], wanted: Option<&[u8]>) -> bool {
     match (files, wanted) {
         ([file], Some(wanted)) => file.as_bytes() == wanted,
@@ -75,22 +76,22 @@ fn are_files(files: &[BString], wanted: Option<&[u8]>) -> bool {
     }
 }
 
-/// Whether the program of a call reads these bytes.
-fn is_read(input: &Option<BString>, wanted: &[u8]) -> bool {
+/// Whether the input of a call has these bytes.
+fn is_input(input: &Option<BString>, wanted: &[u8]) -> bool {
     match input {
         Some(input) => input.as_bytes() == wanted,
         None => false,
     }
 }
 
-impl Runner for Handed {
+impl Runner for ExpectingRunner {
     ghost use Rattle.std.specs.Prelude.{⊤};
 
     ghost runs = { λ _ _ _ _. ⊤ };
 
     fn run(&mut self, call: &Call) -> Result<Output, RunError> {
-        self.asked = true;
-        if is_read(&call.input, self.input) && are_files(&call.files, self.file) {
+        self.is_called = true;
+        if is_input(&call.input, self.input) && are_files(&call.files, self.file) {
             self.answers.run(call)
         } else {
             Err(RunError::Spawn(BString::new(Vec::new(self.alloc))))
@@ -98,7 +99,7 @@ impl Runner for Handed {
     }
 }
 
-/// How is signed.
+/// Options of signing.
 fn signing_options(alloc: Global) -> Option<sign::Options> {
     match (
         BString::from_slice(alloc, b"gpg"),
@@ -115,34 +116,34 @@ fn signing_options(alloc: Global) -> Option<sign::Options> {
     }
 }
 
-/// A runner that is handed these bytes to sign, and answers the signature.
-fn signer(alloc: Global, input: &'static [u8]) -> Option<Handed> {
+/// A runner that expects these bytes to sign, and answers with the signature.
+fn signer(alloc: Global, input: &'static [u8]) -> Option<ExpectingRunner> {
     match runner(alloc, SIGNATURE, b"[GNUPG:] SIG_CREATED x\n") {
-        Ok(answers) => Some(Handed {
+        Ok(answers) => Some(ExpectingRunner {
             alloc,
             answers,
             input,
             file: None,
-            asked: false,
+            is_called: false,
         }),
         Err(_) => None,
     }
 }
 
-/// Whether a commit has this text where the runner signs it.
-fn is_written(alloc: Global, commit: Commit, runner: &mut Handed, text: &[u8]) -> bool {
+/// Whether a commit that the runner signs has this encoding.
+fn is_written(alloc: Global, commit: Commit, runner: &mut ExpectingRunner, content: &[u8]) -> bool {
     let Some(options) = signing_options(alloc) else {
         return false;
     };
-    match signed_text(alloc, commit, options, runner) {
-        Ok(written) => written.as_slice() == text,
+    match signed_payload(alloc, commit, options, runner) {
+        Ok(written) => written.as_slice() == content,
         Err(_) => false,
     }
 }
 
-/// The commit of a text, owned.
-fn commit_of(alloc: Global, text: &[u8]) -> Option<Commit> {
-    match CommitRef::from_bytes(alloc, text, HashKind::Sha1) {
+/// Decodes a commit into its owned form.
+fn commit_of(alloc: Global, content: &[u8]) -> Option<Commit> {
+    match CommitRef::from_bytes(alloc, content, HashKind::Sha1) {
         Ok(commit) => match commit.into_owned(alloc) {
             Ok(owned) => Some(owned),
             Err(_) => None,
@@ -151,23 +152,23 @@ fn commit_of(alloc: Global, text: &[u8]) -> Option<Commit> {
     }
 }
 
-/// Whether the commit of a text is written as the other text, once a runner that is handed these bytes has signed it.
-fn is_signed_as(alloc: Global, text: &[u8], payload: &'static [u8], signed: &[u8]) -> bool {
-    match (commit_of(alloc, text), signer(alloc, payload)) {
+/// Whether a commit has the encoding `signed` after a runner that expects `payload` has signed it.
+fn is_signed_as(alloc: Global, content: &[u8], payload: &'static [u8], signed: &[u8]) -> bool {
+    match (commit_of(alloc, content), signer(alloc, payload)) {
         (Some(commit), Some(mut runner)) => is_written(alloc, commit, &mut runner, signed),
         _ => false,
     }
 }
 
 #[test]
-fn signed(rt: HostRuntime) {
+fn signs_payload_without_old_signature(rt: HostRuntime) {
     let alloc = rt.alloc();
     assert!(rt; is_signed_as(alloc, PLAIN, PLAIN, SIGNED));
     assert!(rt; is_signed_as(alloc, SIGNED, PLAIN, SIGNED));
     assert!(rt; !is_signed_as(alloc, PLAIN, SIGNED, SIGNED));
 }
 
-/// How is verified.
+/// Options of verification.
 fn verifying_options(alloc: Global) -> Option<verify::Options> {
     match BString::from_slice(alloc, b"gpg") {
         Ok(program) => Some(verify::Options::OpenPgp {
@@ -180,22 +181,22 @@ fn verifying_options(alloc: Global) -> Option<verify::Options> {
     }
 }
 
-/// A runner that is handed these bytes with the signature, and answers this report.
-fn verifier(alloc: Global, input: &'static [u8], report: &[u8]) -> Option<Handed> {
+/// A runner that expects these bytes with the signature, and answers with this report.
+fn verifier(alloc: Global, input: &'static [u8], report: &[u8]) -> Option<ExpectingRunner> {
     match runner(alloc, report, b"") {
-        Ok(answers) => Some(Handed {
+        Ok(answers) => Some(ExpectingRunner {
             alloc,
             answers,
             input,
             file: Some(SIGNATURE),
-            asked: false,
+            is_called: false,
         }),
         Err(_) => None,
     }
 }
 
-/// A word for an outcome.
-fn word(outcome: &Outcome) -> &'static str {
+/// Names an outcome.
+fn outcome_name(outcome: &Outcome) -> &'static str {
     if outcome.is_valid() {
         "accepted"
     } else {
@@ -203,13 +204,18 @@ fn word(outcome: &Outcome) -> &'static str {
     }
 }
 
-/// A word for what comes of an object's audit by a runner.
-fn audited_by(alloc: Global, kind: Kind, text: &[u8], runner: &mut Handed) -> &'static str {
+/// Names the result of the audit of an object.
+fn audited_by(
+    alloc: Global,
+    kind: Kind,
+    content: &[u8],
+    runner: &mut ExpectingRunner,
+) -> &'static str {
     let Some(options) = verifying_options(alloc) else {
         return "no memory";
     };
-    match audit(alloc, kind, HashKind::Sha1, text, options, runner) {
-        Ok(Some(outcome)) => word(&outcome),
+    match audit(alloc, kind, HashKind::Sha1, content, options, runner) {
+        Ok(Some(outcome)) => outcome_name(&outcome),
         Ok(None) => "no signature",
         Err(AuditError::NoRelease) => "no release",
         Err(AuditError::Read(decode::Error::Malformed)) => "malformed",
@@ -218,32 +224,34 @@ fn audited_by(alloc: Global, kind: Kind, text: &[u8], runner: &mut Handed) -> &'
     }
 }
 
-/// Whether this comes of an object's audit by a runner that is handed these bytes with the signature and answers this
-/// report, and it was asked.
+/// Whether an audit has this result and calls the runner. The runner expects `payload` with the signature,
+/// and answers with this report.
 fn is_audited(
     alloc: Global,
     kind: Kind,
-    text: &[u8],
+    content: &[u8],
     payload: &'static [u8],
     report: &[u8],
     wanted: &str,
 ) -> bool {
     match verifier(alloc, payload, report) {
-        Some(mut runner) => audited_by(alloc, kind, text, &mut runner) == wanted && runner.asked,
+        Some(mut runner) => audited_by(alloc, kind, content, &mut runner) == wanted
+            && runner.is_called,
         None => false,
     }
 }
 
-/// Whether this comes of an object's audit, and no runner was asked.
-fn is_told_unasked(alloc: Global, kind: Kind, text: &[u8], wanted: &str) -> bool {
+/// Whether an audit has this result without a call of the runner.
+fn is_audited_without_call(alloc: Global, kind: Kind, content: &[u8], wanted: &str) -> bool {
     match verifier(alloc, PLAIN, GOOD) {
-        Some(mut runner) => audited_by(alloc, kind, text, &mut runner) == wanted && !runner.asked,
+        Some(mut runner) => audited_by(alloc, kind, content, &mut runner) == wanted
+            && !runner.is_called,
         None => false,
     }
 }
 
 #[test]
-fn audited(rt: HostRuntime) {
+fn audits_signed_commits_and_tags(rt: HostRuntime) {
     let alloc = rt.alloc();
     let (commit, tag) = (Kind::Commit, Kind::Tag);
     assert!(rt; is_audited(alloc, commit, SIGNED, PLAIN, GOOD, "accepted"));
@@ -253,10 +261,10 @@ fn audited(rt: HostRuntime) {
 }
 
 #[test]
-fn not_audited(rt: HostRuntime) {
+fn calls_no_program_without_signed_release(rt: HostRuntime) {
     let alloc = rt.alloc();
-    assert!(rt; is_told_unasked(alloc, Kind::Commit, PLAIN, "no signature"));
-    assert!(rt; is_told_unasked(alloc, Kind::Tag, PLAIN_TAG, "no signature"));
-    assert!(rt; is_told_unasked(alloc, Kind::Blob, SIGNED, "no release"));
-    assert!(rt; is_told_unasked(alloc, Kind::Commit, CUT, "malformed"));
+    assert!(rt; is_audited_without_call(alloc, Kind::Commit, PLAIN, "no signature"));
+    assert!(rt; is_audited_without_call(alloc, Kind::Tag, PLAIN_TAG, "no signature"));
+    assert!(rt; is_audited_without_call(alloc, Kind::Blob, SIGNED, "no release"));
+    assert!(rt; is_audited_without_call(alloc, Kind::Commit, CUT, "malformed"));
 }

@@ -1,6 +1,6 @@
-//! Tags copied, told and found in commits.
+//! Tags that are copied, decoded, and found in commits.
 ghost use Rattle.gix_object.specs.CommitViews.{commit_lines};
-ghost use Rattle.gix_object.specs.Hash.{IsHexOfAnId};
+ghost use Rattle.gix_object.specs.Hash.{IsIdHex};
 
 use super::TREE as TARGET;
 use crate::samples::id;
@@ -15,13 +15,13 @@ use std::alloc::Global;
 /// A tag of the empty tree.
 const TAG: &[u8] = b"object 4b825dc642cb6eb9a060e54bf8d69288fbee4904\ntype tree\ntag v1\n";
 
-/// A commit that merges this tag.
+/// A commit that merges the tag.
 const MERGE: &[u8] = b"tree 4b825dc642cb6eb9a060e54bf8d69288fbee4904\n\
     author A <a@b> 0 +0000\n\
     committer A <a@b> 0 +0000\n\
     mergetag object 4b825dc642cb6eb9a060e54bf8d69288fbee4904\n type tree\n tag v1\n\nhi\n";
 
-/// Whether the tag's copy is the same.
+/// Whether the tag's copy has the same bytes.
 fn is_copied(alloc: Global) -> bool {
     match tag_copy_of(alloc, TAG, Kind::Sha1) {
         Ok(copy) => copy.as_slice() == TAG,
@@ -38,25 +38,25 @@ fn is_named(name: BStr<'_>) -> bool {
 }
 
 #[test]
-fn copied_and_told(rt: HostRuntime) {
+fn copies_tag_and_finds_target_and_name(rt: HostRuntime) {
     assert!(rt; is_copied(rt.alloc()));
     assert!(rt; target_of(TAG, Kind::Sha1) == Some(id(TARGET)));
     assert!(rt; is_named(BStr::new(b"v1")));
 }
 
-/// Whether a text is read both ways, as a tag of this name.
-fn is_told_both_ways(text: &[u8], name: BStr<'_>) -> Option<bool> {
-    let both = read_both_ways(text, Kind::Sha1)?;
+/// Whether both readers decode a tag with this name. `None` for malformed input.
+fn is_decoded_by_both(bytes: &[u8], name: BStr<'_>) -> Option<bool> {
+    let both = read_both_ways(bytes, Kind::Sha1)?;
     Some(both.target == id(TARGET) && both.name == name)
 }
 
 #[test]
-fn told_both_ways(rt: HostRuntime) {
-    assert!(rt; is_told_both_ways(TAG, BStr::new(b"v1")) == Some(true));
-    assert!(rt; is_told_both_ways(b"tag v1\n", BStr::new(b"v1")).is_none());
+fn decodes_tag_with_both_readers(rt: HostRuntime) {
+    assert!(rt; is_decoded_by_both(TAG, BStr::new(b"v1")) == Some(true));
+    assert!(rt; is_decoded_by_both(b"tag v1\n", BStr::new(b"v1")).is_none());
 }
 
-/// Whether this is one tag that is read.
+/// Whether the list is one decoded tag.
 fn is_one_tag<T, E>(tags: &[Result<T, E>]) -> bool {
     match tags {
         [tag] => tag.is_ok(),
@@ -64,9 +64,9 @@ fn is_one_tag<T, E>(tags: &[Result<T, E>]) -> bool {
     }
 }
 
-/// Whether the commit merges one tag that is read.
+/// Whether the commit merges one tag that decodes.
 fn merges_a_tag(alloc: Global, commit: &CommitRef<'_>) -> bool
-    requires { IsHexOfAnId (commit_lines commit.now).tree }
+    requires { IsIdHex (commit_lines commit.now).tree }
 {
     match merged_tags_of(alloc, commit) {
         Ok(tags) => is_one_tag(&tags),
@@ -74,7 +74,7 @@ fn merges_a_tag(alloc: Global, commit: &CommitRef<'_>) -> bool
     }
 }
 
-/// Whether the commit that merges the tag is told so.
+/// Whether the merged tag is found in the commit.
 fn is_merged(alloc: Global) -> bool {
     match CommitRef::from_bytes(alloc, MERGE, Kind::Sha1) {
         Ok(commit) => merges_a_tag(alloc, &commit),
@@ -83,6 +83,6 @@ fn is_merged(alloc: Global) -> bool {
 }
 
 #[test]
-fn merged(rt: HostRuntime) {
+fn finds_merged_tag(rt: HostRuntime) {
     assert!(rt; is_merged(rt.alloc()));
 }

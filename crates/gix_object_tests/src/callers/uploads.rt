@@ -1,4 +1,4 @@
-//! What has to be uploaded for an editor's files, and writes of a script that are compared.
+//! Trees to upload for the files of an editor, and comparisons of two writes of a script.
 
 use super::plans::stored;
 use super::{FIRST, SECOND};
@@ -11,7 +11,7 @@ use gixobj_callers::rebuilder::{CompareError, wrote_the_same};
 use gixobj_callers::upload::{Upload, upload_of};
 use std::alloc::{AllocError, Global};
 
-/// An editor of the stored root of the file `a/b/c` of the first id. None where there is no memory for it.
+/// An editor of the stored root with the file `a/b/c` of the first id. `None` if memory runs out.
 fn deep_editor(alloc: Global) -> Option<Editor<Memory>> {
     let (store, root) = stored(alloc, &["c", "b", "a"])?;
     match root_in(alloc, &store, root) {
@@ -20,7 +20,7 @@ fn deep_editor(alloc: Global) -> Option<Editor<Memory>> {
     }
 }
 
-/// Whether a file is put in, or taken out, at a path.
+/// Whether an upsert or a removal is accepted.
 fn edits(editor: &mut Editor<Memory>, edit: &Edit) -> bool {
     match edit {
         Edit::Upsert { path, kind, id } => editor.try_upsert(path, *kind, *id).is_ok(),
@@ -29,7 +29,7 @@ fn edits(editor: &mut Editor<Memory>, edit: &Edit) -> bool {
     }
 }
 
-/// Whether all edits are done.
+/// Whether all edits are accepted.
 fn edits_all(editor: &mut Editor<Memory>, list: &[Edit]) -> bool {
     for edit in list {
         if !edits(editor, edit) {
@@ -39,7 +39,7 @@ fn edits_all(editor: &mut Editor<Memory>, list: &[Edit]) -> bool {
     true
 }
 
-/// Whether the edits of all rows are done.
+/// Whether the edits of all rows are accepted.
 fn does(alloc: Global, editor: &mut Editor<Memory>, rows: &[Row]) -> bool {
     match edits_of(alloc, rows) {
         Ok(list) => edits_all(editor, &list),
@@ -52,7 +52,7 @@ fn upload(alloc: Global, editor: &mut Editor<Memory>) -> Result<Upload, WriteErr
     upload_of(editor, &mut out)
 }
 
-/// Whether the root of this id has to be uploaded, with so many trees in all, and so many are unchanged.
+/// Whether an upload has this root, `trees` trees, and `unchanged` unchanged directories.
 fn is_upload(
     alloc: Global,
     editor: &mut Editor<Memory>,
@@ -66,28 +66,28 @@ fn is_upload(
     }
 }
 
-/// What `git mktree --missing` answers for the file `a/b/c` of the first id, by one tree in the other.
+/// Id that `git mktree --missing` prints for the file `a/b/c` with the first id, a tree for each directory.
 const DEEP: &[u8] = b"65287d311af712560472fa8404e2cf5180a487ed";
 
-/// What it answers in the same way for the files `a/b/c` of the first id and `a/e` of the second.
-const BESIDE: &[u8] = b"2784f31e56c1497398af04e6c31bc795f5335fbd";
+/// Id that `git mktree --missing` prints for the files `a/b/c` with the first id and `a/e` with the second.
+const WITH_E: &[u8] = b"2784f31e56c1497398af04e6c31bc795f5335fbd";
 
-/// The file `a/b/d` put in and taken out.
+/// The file `a/b/d` inserted and removed.
 const AND_BACK: &[Row] = &[
     Row::File(&["a", "b", "d"], SECOND),
     Row::Remove(&["a", "b", "d"]),
 ];
 
-/// Whether what is put in and taken out needs no upload but the root's, and the file `a/e` does.
+/// Whether a file inserted and removed needs an upload of the root alone, and `a/e` one of two trees.
 fn is_uploaded(alloc: Global, editor: &mut Editor<Memory>) -> bool {
     does(alloc, editor, AND_BACK)
         && is_upload(alloc, editor, DEEP, 1, 2)
         && does(alloc, editor, AND_BACK)
         && does(alloc, editor, &[Row::File(&["a", "e"], SECOND)])
-        && is_upload(alloc, editor, BESIDE, 2, 1)
+        && is_upload(alloc, editor, WITH_E, 2, 1)
 }
 
-/// Whether it is so in an editor of the stored root.
+/// Whether the uploads of an editor of the stored root have these trees.
 fn is_uploaded_from_deep(alloc: Global) -> bool {
     match deep_editor(alloc) {
         Some(mut editor) => is_uploaded(alloc, &mut editor),
@@ -96,31 +96,31 @@ fn is_uploaded_from_deep(alloc: Global) -> bool {
 }
 
 #[test]
-fn uploaded(rt: HostRuntime) {
+fn uploads_only_changed_trees(rt: HostRuntime) {
     assert!(rt; is_uploaded_from_deep(rt.alloc()));
 }
 
-/// Whether an upload is refused as a tree is named.
-fn is_refused(alloc: Global, editor: &mut Editor<Memory>) -> bool {
+/// Whether an upload fails as a tree is emitted.
+fn is_failed(alloc: Global, editor: &mut Editor<Memory>) -> bool {
     match upload(alloc, editor) {
         Err(WriteError::Out(_)) => true,
         _ => false,
     }
 }
 
-/// The file `a/e`, and one of a name that no tree may have.
+/// The file `a/e`, and one with an invalid name.
 const WITH_ZERO: &[Row] = &[Row::File(&["a", "e"], SECOND), Row::File(&["\0"], SECOND)];
 
-/// Whether a name that no tree may have is refused, and the rest is uploaded where it is taken out.
+/// Whether an invalid name fails, and the rest is uploaded after its removal.
 fn is_uploaded_at_last(alloc: Global, editor: &mut Editor<Memory>) -> bool {
     does(alloc, editor, WITH_ZERO)
-        && is_refused(alloc, editor)
+        && is_failed(alloc, editor)
         && does(alloc, editor, &[Row::Remove(&["\0"])])
-        && is_upload(alloc, editor, BESIDE, 2, 0)
+        && is_upload(alloc, editor, WITH_E, 2, 0)
 }
 
-/// Whether it is so in an editor of the stored root.
-fn is_refused_from_deep(alloc: Global) -> bool {
+/// Whether the upload from the stored root fails until the invalid name is removed.
+fn fails_from_deep(alloc: Global) -> bool {
     match deep_editor(alloc) {
         Some(mut editor) => is_uploaded_at_last(alloc, &mut editor),
         None => false,
@@ -128,11 +128,11 @@ fn is_refused_from_deep(alloc: Global) -> bool {
 }
 
 #[test]
-fn not_uploaded(rt: HostRuntime) {
-    assert!(rt; is_refused_from_deep(rt.alloc()));
+fn uploads_rest_after_failed_write(rt: HostRuntime) {
+    assert!(rt; fails_from_deep(rt.alloc()));
 }
 
-/// A file is put in and written, then another beside it, which is taken out again.
+/// Inserts a file and writes, inserts another one next to it and writes, removes it and writes.
 const SCRIPT: &[Row] = &[
     Row::File(&["a", "b"], FIRST),
     Row::Write,
@@ -151,7 +151,7 @@ fn script(alloc: Global) -> Result<Vec<Command>, AllocError> {
     Ok(commands)
 }
 
-/// What is told of the writes of commands at two places.
+/// Compares the writes of commands at two positions.
 fn compare(
     alloc: Global,
     commands: Vec<Command>,
@@ -163,7 +163,7 @@ fn compare(
     wrote_the_same(alloc, store, Kind::Sha1, commands, place, other, out)
 }
 
-/// Whether the writes of the script at two places are the same. None where that is refused.
+/// Whether the writes of the script at two positions are the same. `None` if the comparison fails.
 fn compared(alloc: Global, place: usize, other: usize) -> Option<bool> {
     match script(alloc) {
         Ok(commands) => compare(alloc, commands, place, other).ok(),
@@ -171,7 +171,7 @@ fn compared(alloc: Global, place: usize, other: usize) -> Option<bool> {
     }
 }
 
-/// Which of two places of the script is told to have no write.
+/// The position that the comparison reports as having no write.
 fn without_write(alloc: Global, place: usize, other: usize) -> Option<usize> {
     let Ok(commands) = script(alloc) else {
         return None;
@@ -183,7 +183,7 @@ fn without_write(alloc: Global, place: usize, other: usize) -> Option<usize> {
 }
 
 #[test]
-fn written_twice(rt: HostRuntime) {
+fn compares_writes_at_two_positions(rt: HostRuntime) {
     let alloc = rt.alloc();
     assert!(rt; compared(alloc, 1, 5) == Some(true));
     assert!(rt; compared(alloc, 1, 3) == Some(false));

@@ -1,4 +1,4 @@
-//! Steps, and what several tests ask of an import.
+//! Steps of imports, and checks that several tests share.
 
 use crate::samples::{Row, edits_of, id};
 use bstr::BString;
@@ -10,7 +10,7 @@ use gix_object::tree::editor::Edit;
 use gix_object::{Data, Find, Keep, KeepCommit, Kind, Memory, compute_hash};
 use std::alloc::{AllocError, Global};
 
-/// An actor at the beginning of time.
+/// An actor at the Unix epoch.
 fn actor(alloc: Global, name: &str) -> Result<Signature, AllocError> {
     let name = BString::from_slice(alloc, name.as_bytes())?;
     let email = BString::from_slice(alloc, b"a@b")?;
@@ -21,7 +21,7 @@ fn actor(alloc: Global, name: &str) -> Result<Signature, AllocError> {
     })
 }
 
-/// A step of these edits by this author, committed by `A`, with the message `hi` and a newline.
+/// A step of these edits by `author`, committed by `A`, with the message `hi` and a newline.
 fn signed_step(alloc: Global, author: Signature, edits: Vec<Edit>) -> Result<Step, AllocError> {
     let committer = actor(alloc, "A")?;
     let message = BString::from_slice(alloc, b"hi\n")?;
@@ -33,14 +33,14 @@ fn signed_step(alloc: Global, author: Signature, edits: Vec<Edit>) -> Result<Ste
     })
 }
 
-/// A step of the edits of these rows by this author.
+/// A step of these rows by `author`.
 pub(crate) fn step_by(alloc: Global, author: &str, rows: &[Row]) -> Result<Step, AllocError> {
     let author = actor(alloc, author)?;
     let edits = edits_of(alloc, rows)?;
     signed_step(alloc, author, edits)
 }
 
-/// Steps by `A`, each of the edits of its rows.
+/// Steps by `A`, one for each list of rows.
 pub(crate) fn steps_of(alloc: Global, list: &[&[Row]]) -> Result<Vec<Step>, AllocError> {
     let mut steps = Vec::new(alloc);
     for rows in list {
@@ -55,7 +55,7 @@ const NEW: &[u8] = b"1f7a7a472abf3dd9643fd615f6da379c4acb3e3a";
 
 const OTHER: &[u8] = b"fa49b077972391ad58037050f2a75f74e3671e92";
 
-/// A file; then another one, and a new version of it; then the first version in a directory.
+/// Inserts a file; inserts another and replaces the first; inserts the first version in a directory.
 pub(crate) const STEPS: [&[Row]; 3] = [
     &[Row::File(&["test.txt"], OLD)],
     &[
@@ -75,14 +75,14 @@ pub(crate) fn importer_of(alloc: Global) -> Importer<Memory> {
     Importer::new(alloc, Memory::new(alloc), HashKind::Sha1)
 }
 
-/// What `git commit-tree` answers for the trees of the three steps: the commits.
+/// Ids that `git commit-tree` prints for the trees of the three steps.
 pub(crate) const COMMITS: [&str; 3] = [
     "8101fb84348a61a9b06d3e3c905f1ff7a24b53d9",
     "20167b493033505114eaa28805c52661bd76839e",
     "fe539a6ab0adcb87272ce01296f0adc5e148a1d6",
 ];
 
-/// The number of a refusal.
+/// The number of an import error.
 pub(crate) fn number(error: &ImportError) -> u8 {
     match error {
         ImportError::WriteInStep => 1,
@@ -95,7 +95,8 @@ pub(crate) fn number(error: &ImportError) -> u8 {
     }
 }
 
-/// The size of the commit that the store has under this id, whose digest it is. None where memory ran out too.
+/// The size of the commit that the store has under this id, if the id is its hash. `None` also if memory runs
+/// out.
 pub(crate) fn kept_commit<S: Find>(alloc: Global, store: &S, id: ObjectId) -> Option<usize> {
     let mut buffer = Vec::new(alloc);
     match store.try_find(id.as_oid(), &mut buffer) {
@@ -104,7 +105,7 @@ pub(crate) fn kept_commit<S: Find>(alloc: Global, store: &S, id: ObjectId) -> Op
     }
 }
 
-/// The size of the commit of this id; of anything else none.
+/// The size of a commit with this id. `None` for any other object.
 fn size_of_commit(found: &Data<'_>, id: ObjectId) -> Option<usize> {
     if found.kind == Kind::Commit
         && compute_hash(found.object_hash, found.kind, found.bytes) == id
@@ -115,7 +116,7 @@ fn size_of_commit(found: &Data<'_>, id: ObjectId) -> Option<usize> {
     }
 }
 
-/// Whether these commits have the ids of these hex digits.
+/// Whether the commits have these ids.
 pub(crate) fn are_commits(imported: &[Imported], commits: &[&str]) -> bool {
     if imported.len() != commits.len() {
         return false;
@@ -134,7 +135,7 @@ pub(crate) fn are_first_commits(imported: &[Imported]) -> bool {
     count <= COMMITS.len() && are_commits(imported, COMMITS.split_at(count).0)
 }
 
-/// Whether the store has all commits that were imported.
+/// Whether the store has all imported commits.
 pub(crate) fn has_all<S: Find>(alloc: Global, store: &S, imported: &[Imported]) -> bool {
     for it in imported {
         if kept_commit(alloc, store, it.commit).is_none() {
@@ -144,28 +145,28 @@ pub(crate) fn has_all<S: Find>(alloc: Global, store: &S, imported: &[Imported]) 
     true
 }
 
-/// The number of the refusal of a step, or 0.
-pub(crate) fn told_of<S: Keep + KeepCommit>(importer: &mut Importer<S>, step: &Step) -> u8 {
+/// The number of a step's error. 0 if it is imported.
+pub(crate) fn outcome_of<S: Keep + KeepCommit>(importer: &mut Importer<S>, step: &Step) -> u8 {
     match importer.step(step) {
         Ok(_) => 0,
         Err(error) => number(&error),
     }
 }
 
-/// The number of the refusal of a step of these rows by this author, or 0. None where there is no memory for it.
-pub(crate) fn told_by<S: Keep + KeepCommit>(
+/// The number of the error of a step of these rows, or 0 if it is imported. `None` if memory runs out.
+pub(crate) fn outcome_by<S: Keep + KeepCommit>(
     alloc: Global,
     importer: &mut Importer<S>,
     author: &str,
     rows: &[Row],
 ) -> Option<u8> {
     match step_by(alloc, author, rows) {
-        Ok(step) => Some(told_of(importer, &step)),
+        Ok(step) => Some(outcome_of(importer, &step)),
         Err(_) => None,
     }
 }
 
-/// Where an import of steps comes to a stop.
+/// Where an import of steps stops. `None` if all are imported.
 pub(crate) fn stop_of<S: Keep + KeepCommit>(
     importer: &mut Importer<S>,
     steps: &[Step],
@@ -176,7 +177,7 @@ pub(crate) fn stop_of<S: Keep + KeepCommit>(
     }
 }
 
-/// Where an import of the three steps comes to a stop. None where there is no memory for them.
+/// Where an import of the three steps stops. `None` if all are imported, or memory runs out.
 pub(crate) fn stop_of_plain<S: Keep + KeepCommit>(
     alloc: Global,
     importer: &mut Importer<S>,
@@ -187,7 +188,7 @@ pub(crate) fn stop_of_plain<S: Keep + KeepCommit>(
     }
 }
 
-/// Whether all steps are imported, as these commits.
+/// Whether all steps are imported as these commits.
 pub(crate) fn imports<S: Keep + KeepCommit>(
     importer: &mut Importer<S>,
     steps: &[Step],
@@ -199,7 +200,7 @@ pub(crate) fn imports<S: Keep + KeepCommit>(
     }
 }
 
-/// Whether the three steps are imported, as their commits.
+/// Whether the three steps are imported as their commits.
 pub(crate) fn imports_plain<S: Keep + KeepCommit>(
     alloc: Global,
     importer: &mut Importer<S>,

@@ -1,5 +1,5 @@
-//! A history of 1,000 steps of three edits, as `git fast-import` makes it: `examples/imports.py` has the rule of its steps and
-//! prints the ids. Each commit names the one before it, so the last id alone tells of all of them.
+//! A history of 1,000 steps of three edits, as `git fast-import` makes it. `examples/imports.py` has the rule
+//! of the steps and prints the ids. Each commit names its parent, so that the last id depends on all commits.
 
 use crate::samples::id;
 use bstr::BString;
@@ -62,19 +62,19 @@ const SHA256: (&str, &str) = (
     "eeda10ef318307afc1a34b1613a17f782fc1bfb7510a041fe79af4795eca86e7",
 );
 
-/// Adds a name of a word and a number to a path.
+/// Appends a name of a token and a number to a path.
 fn add_name(
     alloc: Global,
     path: &mut Vec<BString>,
-    word: &str,
+    token: &str,
     number: u32,
 ) -> Result<(), AllocError> {
-    let name = format!(in alloc; "{word}{number}")?;
+    let name = format!(in alloc; "{token}{number}")?;
     path.push(BString::from_slice(alloc, name.as_bytes())?)?;
     Ok(())
 }
 
-/// A file three directories down.
+/// A path of two directories and a file.
 fn file_at(alloc: Global, number: u32) -> Result<Vec<BString>, AllocError> {
     let mut path = Vec::new(alloc);
     add_name(alloc, &mut path, "a", number % 10)?;
@@ -83,20 +83,20 @@ fn file_at(alloc: Global, number: u32) -> Result<Vec<BString>, AllocError> {
     Ok(path)
 }
 
-/// The id of a blob of a number and a newline.
+/// The id of the blob of a number and a newline.
 fn blob_of(alloc: Global, hash: HashKind, number: u32) -> Result<ObjectId, AllocError> {
-    let text = format!(in alloc; "{number}\n")?;
-    Ok(compute_hash(hash, Kind::Blob, text.as_bytes()))
+    let bytes = format!(in alloc; "{number}\n")?;
+    Ok(compute_hash(hash, Kind::Blob, bytes.as_bytes()))
 }
 
-/// Puts a file in.
+/// Inserts a file.
 fn file_edit(alloc: Global, number: u32, id: ObjectId) -> Result<Edit, AllocError> {
     let path = file_at(alloc, number)?;
     let kind = EntryKind::Blob;
     Ok(Edit::Upsert { path, kind, id })
 }
 
-/// Puts a program in.
+/// Inserts an executable file.
 fn program_edit(alloc: Global, number: u32, id: ObjectId) -> Result<Edit, AllocError> {
     let mut path = Vec::new(alloc);
     add_name(alloc, &mut path, "run", number % 25)?;
@@ -104,7 +104,7 @@ fn program_edit(alloc: Global, number: u32, id: ObjectId) -> Result<Edit, AllocE
     Ok(Edit::Upsert { path, kind, id })
 }
 
-/// The three edits of a step: two files with the step's number in them, and a file taken out.
+/// The edits of a step: two files with the step's number, and a removed file.
 fn edits_of(alloc: Global, hash: HashKind, number: u32) -> Result<Vec<Edit>, AllocError> {
     let id = blob_of(alloc, hash, number)?;
     let other = number.wrapping_mul(3).wrapping_add(1);
@@ -122,7 +122,7 @@ fn actor(alloc: Global, name: &[u8], email: &[u8], time: Time) -> Result<Signatu
     Ok(Signature { name, email, time })
 }
 
-/// The time of a step, so many seconds east.
+/// The time of a step, at an offset in seconds east of UTC.
 fn time_of(number: u32, offset: i32) -> Time {
     Time::new(i64::from(number), offset).unwrap_or_default()
 }
@@ -145,7 +145,7 @@ fn step_of(alloc: Global, hash: HashKind, number: u32) -> Result<Step, AllocErro
     })
 }
 
-/// All steps.
+/// All 1,000 steps.
 fn all_steps(alloc: Global, hash: HashKind) -> Result<Vec<Step>, AllocError> {
     let mut steps = Vec::new(alloc);
     for number in 0..1000u32 {
@@ -154,7 +154,7 @@ fn all_steps(alloc: Global, hash: HashKind) -> Result<Vec<Step>, AllocError> {
     Ok(steps)
 }
 
-/// What is imported of steps; nothing where one is refused.
+/// Imports steps. Empty if a step fails.
 fn imported(alloc: Global, hash: HashKind, steps: &[Step]) -> Vec<Imported> {
     let mut importer = Importer::new(alloc, Memory::new(alloc), hash);
     match import_all(&mut importer, steps) {
@@ -163,7 +163,7 @@ fn imported(alloc: Global, hash: HashKind, steps: &[Step]) -> Vec<Imported> {
     }
 }
 
-/// Whether this was imported of a step.
+/// Whether the step has the commit and the tree of the row.
 fn is_row(imported: &[Imported], number: usize, row: (&str, &str)) -> bool {
     match imported.get(number) {
         Some(it) => it.commit == id(row.0.as_bytes()) && it.written.id == id(row.1.as_bytes()),
@@ -171,7 +171,7 @@ fn is_row(imported: &[Imported], number: usize, row: (&str, &str)) -> bool {
     }
 }
 
-/// Whether every hundredth step, of a thousand, has its row.
+/// Whether all steps are imported, and every hundredth one has its row.
 fn are_rows(imported: &[Imported]) -> bool {
     for (index, row) in SHA1.iter().enumerate() {
         let number = index.saturating_mul(100).saturating_add(99);
@@ -182,7 +182,7 @@ fn are_rows(imported: &[Imported]) -> bool {
     imported.len() == 1000
 }
 
-/// Whether all steps are imported, with the rows by SHA-1.
+/// Whether the steps are imported with the rows by SHA-1.
 fn imports_rows(alloc: Global) -> bool {
     match all_steps(alloc, HashKind::Sha1) {
         Ok(steps) => are_rows(&imported(alloc, HashKind::Sha1, &steps)),
@@ -191,16 +191,16 @@ fn imports_rows(alloc: Global) -> bool {
 }
 
 #[test]
-fn a_thousand_steps(rt: HostRuntime) {
+fn imports_thousand_steps(rt: HostRuntime) {
     assert!(rt; imports_rows(rt.alloc()));
 }
 
-/// Whether a thousand steps are there, and the last has its row.
+/// Whether all steps are imported, and the last one has its row.
 fn is_last_row(imported: &[Imported]) -> bool {
     imported.len() == 1000 && is_row(imported, 999, SHA256)
 }
 
-/// Whether all steps are imported, with the row by SHA-256.
+/// Whether the steps are imported with the row by SHA-256.
 fn imports_by_sha256(alloc: Global) -> bool {
     match all_steps(alloc, HashKind::Sha256) {
         Ok(steps) => is_last_row(&imported(alloc, HashKind::Sha256, &steps)),
@@ -209,6 +209,6 @@ fn imports_by_sha256(alloc: Global) -> bool {
 }
 
 #[test]
-fn a_thousand_steps_by_sha256(rt: HostRuntime) {
+fn imports_thousand_steps_by_sha256(rt: HostRuntime) {
     assert!(rt; imports_by_sha256(rt.alloc()));
 }

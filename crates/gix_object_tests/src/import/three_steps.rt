@@ -1,8 +1,8 @@
-//! Three steps, a refused one and one behind it. The ids are those that `git hash-object`, `git mktree` and `git commit-tree`
-//! answer, in a repository of either object format.
+//! Imports of three steps, with a rejected one and one after it. `git hash-object`, `git mktree` and `git
+//! commit-tree` print the ids, in a repository of either object format.
 
 use crate::import::samples::{
-    COMMITS, STEPS, are_commits, importer_of, kept_commit, steps_of, told_by,
+    COMMITS, STEPS, are_commits, importer_of, kept_commit, outcome_by, steps_of,
 };
 use crate::samples::{Row, id};
 use gix_object::Memory;
@@ -10,7 +10,7 @@ use gix_object::hash::Kind as HashKind;
 use gix_object::import::{Imported, Importer, Step, import_all};
 use std::alloc::Global;
 
-/// The trees, how many were handed out, and the size of the commit, of each step.
+/// The tree of each step, the number of emitted trees, and the size of the commit.
 const SHA1: [(&str, usize, usize); 3] = [
     ("d8329fc1cc938780ffdd9f94e0d364e0ea74f579", 1, 99),
     ("0155eb4229851634a0f03eb265b69f5a2d56f341", 1, 147),
@@ -57,7 +57,7 @@ const STEPS_256: [&[Row]; 3] = [
     &[Row::File(&["bak", "test.txt"], OLD)],
 ];
 
-/// Whether the trees are these, and so many were handed out.
+/// Whether the trees are these, with these numbers of emitted trees.
 fn are_trees(imported: &[Imported], rows: &[(&str, usize, usize)]) -> bool {
     for (it, (tree, count, _)) in imported.iter().zip(rows) {
         if it.written.id != id(tree.as_bytes()) || it.written.trees.len() != *count {
@@ -80,8 +80,8 @@ fn imports_steps(
     }
 }
 
-/// Whether the steps of a list are imported as these trees and commits.
-fn imports_so(
+/// Whether the steps of these rows are imported as these trees and commits.
+fn imports_rows(
     alloc: Global,
     importer: &mut Importer<Memory>,
     list: &[&[Row]],
@@ -94,7 +94,7 @@ fn imports_so(
     }
 }
 
-/// Whether a store has these commits, of these sizes.
+/// Whether a store has these commits with these sizes.
 fn has_commits(
     alloc: Global,
     store: &Memory,
@@ -110,19 +110,19 @@ fn has_commits(
 }
 
 #[test]
-fn three_steps_and_two_refused(rt: HostRuntime) {
+fn imports_three_steps_and_rejects_two(rt: HostRuntime) {
     let alloc = rt.alloc();
     let mut importer = importer_of(alloc);
-    assert!(rt; imports_so(alloc, &mut importer, &STEPS, &SHA1, &COMMITS));
-    assert!(rt; told_by(alloc, &mut importer, "A>", &[]) == Some(5));
-    assert!(rt; told_by(alloc, &mut importer, "A", &[]) == Some(7));
+    assert!(rt; imports_rows(alloc, &mut importer, &STEPS, &SHA1, &COMMITS));
+    assert!(rt; outcome_by(alloc, &mut importer, "A>", &[]) == Some(5));
+    assert!(rt; outcome_by(alloc, &mut importer, "A", &[]) == Some(7));
     assert!(rt; has_commits(alloc, importer.store_mut(), &SHA1, &COMMITS));
 }
 
 #[test]
-fn three_steps_by_sha256(rt: HostRuntime) {
+fn imports_three_steps_by_sha256(rt: HostRuntime) {
     let alloc = rt.alloc();
     let mut importer = Importer::new(alloc, Memory::new(alloc), HashKind::Sha256);
-    assert!(rt; imports_so(alloc, &mut importer, &STEPS_256, &SHA256, &COMMITS_256));
+    assert!(rt; imports_rows(alloc, &mut importer, &STEPS_256, &SHA256, &COMMITS_256));
     assert!(rt; has_commits(alloc, importer.store_mut(), &SHA256, &COMMITS_256));
 }

@@ -1,4 +1,4 @@
-//! Worked examples.
+//! Listings of small trees to a depth.
 
 use super::{Listed, files_of};
 use crate::samples::tree_of;
@@ -23,34 +23,34 @@ const FOURTH: ObjectId = ObjectId::Sha1([4; 20]);
 
 const SEVENTH: ObjectId = ObjectId::Sha1([7; 20]);
 
-/// Adds a line of the mode of a file, the names of its path, and the first byte of its id.
-fn show(alloc: Global, text: &mut String, file: &Listed) -> Result<(), AllocError> {
-    text.push_str(file.mode.as_str())?;
+/// Appends the line of a file: mode, path and the first byte of its id.
+fn show(alloc: Global, bytes: &mut String, file: &Listed) -> Result<(), AllocError> {
+    bytes.push_str(file.mode.as_str())?;
     for name in &file.path {
-        text.push_str(&format!(in alloc; " {name}")?)?;
+        bytes.push_str(&format!(in alloc; " {name}")?)?;
     }
-    text.push_str(&format!(in alloc; " {}\n", file.id.as_bytes()[0])?)?;
+    bytes.push_str(&format!(in alloc; " {}\n", file.id.as_bytes()[0])?)?;
     Ok(())
 }
 
-/// Line by line the files.
+/// The lines of the files.
 fn shown(alloc: Global, files: &[Listed]) -> Result<String, AllocError> {
-    let mut text = String::new(alloc);
+    let mut bytes = String::new(alloc);
     for file in files {
-        show(alloc, &mut text, file)?;
+        show(alloc, &mut bytes, file)?;
     }
-    Ok(text)
+    Ok(bytes)
 }
 
-/// Whether these files are shown so.
+/// Whether these files have the lines `wanted`.
 fn are_shown_as(alloc: Global, files: &[Listed], wanted: &str) -> bool {
     match shown(alloc, files) {
-        Ok(text) => text.as_str() == wanted,
+        Ok(bytes) => bytes.as_str() == wanted,
         Err(_) => false,
     }
 }
 
-/// Whether the files to a depth are shown so.
+/// Whether the files of a tree to a depth have the lines `wanted`.
 fn is_shown(
     alloc: Global,
     table: &[(ObjectId, Tree)],
@@ -64,7 +64,7 @@ fn is_shown(
     }
 }
 
-/// Whether these files are shown to these depths.
+/// Whether the files of a tree have these lines to each depth.
 fn are_shown(
     alloc: Global,
     table: &[(ObjectId, Tree)],
@@ -79,7 +79,7 @@ fn are_shown(
     true
 }
 
-/// The entries of a root whose directory `d` is in the table, twice, and whose directory `u` isn't.
+/// A root whose directory `d` is in the table twice, and whose directory `u` isn't.
 fn root() -> [Row; 8] {
     [
         (FILE, b"a", THIRD),
@@ -93,7 +93,7 @@ fn root() -> [Row; 8] {
     ]
 }
 
-/// Its files to each depth.
+/// The lines of the root's files to each depth.
 const TO_A_DEPTH: &[(usize, &str)] = &[
     (0, ""),
     (1, "blob a 3\ntree u 4\nblob v 1\n"),
@@ -101,7 +101,7 @@ const TO_A_DEPTH: &[(usize, &str)] = &[
     (3, "blob a 3\nblob d b 2\ntree u 4\nblob v 1\n"),
 ];
 
-/// The table of these rows, each an id and the entries of a tree.
+/// The table of these rows: an id, and the entries of its tree.
 fn table_of(
     alloc: Global,
     rows: &[(ObjectId, &[Row])],
@@ -113,7 +113,7 @@ fn table_of(
     Ok(table)
 }
 
-/// Whether the files of a tree are shown to these depths, with a table of these rows.
+/// Whether the files of a tree have these lines to each depth, with a table of these rows.
 fn is_listed(
     alloc: Global,
     rows: &[(ObjectId, &[Row])],
@@ -126,27 +126,27 @@ fn is_listed(
     }
 }
 
-/// Two trees of one id: the first one counts.
+/// Two trees of one id. The first one is used.
 const TWICE: &[(ObjectId, &[Row])] = &[
     (FIRST, &[(FILE, b"b", SECOND)]),
     (FIRST, &[(FILE, b"c", SEVENTH)]),
 ];
 
 #[test]
-fn to_a_depth(rt: HostRuntime) {
+fn lists_files_to_each_depth(rt: HostRuntime) {
     assert!(rt; is_listed(rt.alloc(), TWICE, &root(), TO_A_DEPTH));
 }
 
-/// A file, and a directory by the id of this tree.
+/// A tree of a file, and of itself as a directory.
 const IN_ITSELF: &[Row] = &[(FILE, b"a", THIRD), (TREE, b"d", FIRST)];
 
-/// Its files to two depths.
+/// The lines of the files of `IN_ITSELF` to two depths.
 const OF_ITSELF: &[(usize, &str)] = &[
     (1, "blob a 3\n"),
     (3, "blob a 3\nblob d a 3\nblob d d a 3\n"),
 ];
 
 #[test]
-fn a_tree_in_itself(rt: HostRuntime) {
+fn lists_tree_that_contains_itself(rt: HostRuntime) {
     assert!(rt; is_listed(rt.alloc(), &[(FIRST, IN_ITSELF)], IN_ITSELF, OF_ITSELF));
 }

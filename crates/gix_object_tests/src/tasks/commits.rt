@@ -1,11 +1,11 @@
-//! A commit read.
+//! Decodes a commit.
 
 use bstr::BStr;
 use gix_object::hash::{Kind as HashKind, ObjectId};
 use gix_object::{CommitRef, decode};
 use std::alloc::Global;
 
-/// What a log tells of a commit.
+/// The fields of a commit that a log prints.
 #[derive(Drop)]
 pub struct LogLine<'a> {
     pub tree: ObjectId,
@@ -15,8 +15,8 @@ pub struct LogLine<'a> {
     pub title: BStr<'a>,
 }
 
-pub fn log_line(alloc: Global, text: &[u8]) -> Result<LogLine<'_>, decode::Error> {
-    let commit = CommitRef::from_bytes(alloc, text, HashKind::Sha1)?;
+pub fn log_line(alloc: Global, bytes: &[u8]) -> Result<LogLine<'_>, decode::Error> {
+    let commit = CommitRef::from_bytes(alloc, bytes, HashKind::Sha1)?;
     Ok(LogLine {
         tree: commit.tree(),
         parents: commit.parents().collect(alloc)?,

@@ -1,11 +1,11 @@
-//! An editor of a tree that a store has.
+//! Opens an editor on a stored tree.
 
 use gix_object::hash::ObjectId;
 use gix_object::tree::editor::{Editor, Error};
 use gix_object::{Find, FindExt};
 use std::alloc::Global;
 
-/// An editor of the tree of this id.
+/// Looks up a tree in `store` and opens an editor on it.
 pub fn editor_of<S: Find>(alloc: Global, store: &S, id: ObjectId) -> Result<Editor<&S>, Error> {
     let mut buffer = Vec::new(alloc);
     let root = match store.find_tree(alloc, id.as_oid(), &mut buffer) {

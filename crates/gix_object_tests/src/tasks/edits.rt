@@ -1,4 +1,4 @@
-//! A tree edited.
+//! Edits a tree.
 
 use bstr::BString;
 use gix_object::Find;
@@ -6,7 +6,7 @@ use gix_object::hash::ObjectId;
 use gix_object::tree::EntryKind;
 use gix_object::tree::editor::{Editor, Error};
 
-/// Moves a file to another path.
+/// Moves a file from one path to another.
 pub fn rename<S: Find>(
     editor: &mut Editor<S>,
     from: &[BString],
@@ -17,7 +17,7 @@ pub fn rename<S: Find>(
     editor.try_upsert(to, EntryKind::Blob, blob)
 }
 
-/// Puts files into one directory, which is made if need be.
+/// Inserts files into a directory. A missing directory is created.
 pub fn fill<S: Find>(
     editor: &mut Editor<S>,
     directory: &[BString],

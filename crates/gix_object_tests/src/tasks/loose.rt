@@ -1,11 +1,11 @@
-//! What a loose object is.
+//! Decodes a loose object.
 
 use gix_object::decode::{LooseContentError, loose_content};
 use gix_object::hash::{Kind as HashKind, ObjectId};
 use gix_object::{Kind, LooseDecodeError, ObjectRef, compute_hash};
 use std::alloc::Global;
 
-/// The kind, the size and the id of a loose object.
+/// Returns the kind, the size and the id of a loose object.
 pub fn shown(alloc: Global, loose: &[u8]) -> Result<(Kind, usize, ObjectId), LooseContentError> {
     let (kind, content) = loose_content(alloc, loose)?;
     Ok((
@@ -15,7 +15,7 @@ pub fn shown(alloc: Global, loose: &[u8]) -> Result<(Kind, usize, ObjectId), Loo
     ))
 }
 
-/// What a loose object points to first: the tree of a commit, the target of a tag.
+/// Returns the tree of a loose commit or the target of a loose tag. `None` for a tree or a blob.
 pub fn first_link(alloc: Global, loose: &[u8]) -> Result<Option<ObjectId>, LooseDecodeError> {
     match ObjectRef::from_loose(alloc, loose, HashKind::Sha1)? {
         ObjectRef::Commit(commit) => Ok(Some(commit.tree())),

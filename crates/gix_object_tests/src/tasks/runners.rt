@@ -1,8 +1,8 @@
-//! A runner of one's own.
+//! A runner of a caller's own.
 
 use gix_object::signature::{Call, Output, RunError, Runner};
 
-/// A runner that starts no program, and gives each call the same answer.
+/// A runner that starts no program and returns the same output for each call.
 #[derive(Drop)]
 pub struct Same {
     pub answer: Output,

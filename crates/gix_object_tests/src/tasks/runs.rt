@@ -1,11 +1,11 @@
-//! Many edits, kept by a store.
+//! Many edits, with the emitted trees kept by a store.
 
 use gix_object::hash::Kind as HashKind;
 use gix_object::tree::editor::{Command, Edit, Editor, Reply, run};
 use gix_object::{Keep, OutOfMemory, Tree, encode};
 use std::alloc::Global;
 
-/// Does the edits, and then writes, and has the store keep what went out.
+/// Applies the edits and writes the tree. The editor's store keeps the emitted trees.
 pub fn keep_edits<S: Keep>(
     alloc: Global,
     editor: &mut Editor<S>,

@@ -1,4 +1,4 @@
-//! A commit signed.
+//! Signs a commit.
 
 use bstr::BString;
 use gix_object::Commit;
@@ -6,7 +6,7 @@ use gix_object::signature::sign::{Error, Options};
 use gix_object::signature::{Format, Runner};
 use std::alloc::Global;
 
-/// A commit with a signature by this key, in a last header.
+/// Signs a commit with this key. The signature is its last header.
 pub fn signed<R: Runner>(
     alloc: Global,
     commit: Commit,

@@ -1,19 +1,19 @@
-//! A store of one's own.
+//! A store of a caller's own.
 
 use gix_object::hash::{ObjectId, oid};
-use gix_object::laws::an_object_is_put_in;
+use gix_object::laws::object_map_insert;
 use gix_object::{Data, Find, Store, find};
 
-/// A store with one more object in front of it.
+/// A store with one more object, which is looked up first.
 #[derive(Drop)]
-pub struct Front<'a, S> {
+pub struct Overlay<'a, S> {
     pub store: S,
     pub id: ObjectId,
     pub object: Data<'a>,
 }
 
-/// What it means: the store's objects, and at this id this one.
-impl<S: Store> Store for Front<'_, S> {
+/// The model of the store: the objects of `store`, and `object` under `id`.
+impl<S: Store> Store for Overlay<'_, S> {
     ghost use Rattle.gix_object.specs.Stores.{stored};
     ghost use Rattle.std.specs.FinMap as finite;
 
@@ -22,13 +22,13 @@ impl<S: Store> Store for Front<'_, S> {
     ghost may_fail = { λ it. S.may_fail it.store };
 }
 
-impl<S: Find> Find for Front<'_, S> {
+impl<S: Find> Find for Overlay<'_, S> {
     fn try_find<'b>(
         &self,
         id: oid<'_>,
         buffer: &'b mut Vec<u8>,
     ) -> Result<Option<Data<'b>>, find::Error> {
-        an_object_is_put_in();
+        object_map_insert();
         if id.to_owned() != self.id {
             return self.store.try_find(id, buffer);
         }

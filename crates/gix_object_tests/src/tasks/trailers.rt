@@ -1,10 +1,10 @@
-//! Who signed a commit off.
+//! The sign-offs of a commit.
 
 use gix_object::commit::message::body::TrailerRef;
 use gix_object::{CommitRef, OutOfMemory};
 use std::alloc::Global;
 
-/// The trailers `Signed-off-by` of a commit, in order.
+/// Lists the `Signed-off-by` trailers of a commit in order.
 pub fn sign_offs<'a>(
     alloc: Global,
     commit: &CommitRef<'a>,

@@ -1,4 +1,4 @@
-//! The signature of a commit verified.
+//! Verifies the signature of a commit.
 
 use bstr::{BStr, BString};
 use gix_object::hash::Kind as HashKind;
@@ -7,10 +7,10 @@ use gix_object::signature::verify::{Error, Options, Outcome, TrustLevel};
 use gix_object::{CommitRefIter, decode};
 use std::alloc::Global;
 
-/// What a program of OpenPGP says of the signature of a commit. None of a text without one.
+/// Verifies the signature of a commit with an OpenPGP program. `None` if no signature is found.
 pub fn verified<R: Runner>(
     alloc: Global,
-    text: &[u8],
+    bytes: &[u8],
     program: BString,
     runner: &mut R,
 ) -> Result<Option<Outcome>, Error> {
@@ -20,7 +20,7 @@ pub fn verified<R: Runner>(
         environment: Vec::new(alloc),
         minimum_trust: TrustLevel::Marginal,
     };
-    match CommitRefIter::signature(alloc, text, HashKind::Sha1) {
+    match CommitRefIter::signature(alloc, bytes, HashKind::Sha1) {
         Ok(Some((signature, signed))) => {
             let signature = BStr::new(signature.as_slice());
             Ok(Some(signed.verify(alloc, signature, options, runner)?))

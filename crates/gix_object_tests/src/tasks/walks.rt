@@ -1,11 +1,11 @@
-//! A walk from a commit to an ancestor.
+//! Walks from a commit to an ancestor.
 
 use gix_object::find::existing_object::Error;
 use gix_object::hash::ObjectId;
 use gix_object::{Find, FindExt};
 use std::alloc::Global;
 
-/// The commit so many generations before a commit, by first parents, or none.
+/// Returns the ancestor `generations` first parents before a commit, if there is one.
 pub fn ancestor<S: Find>(
     alloc: Global,
     store: &S,

@@ -1,11 +1,11 @@
-//! What an editor hands out.
+//! Writes the trees of an editor.
 
 use gix_object::hash::{Kind as HashKind, ObjectId};
 use gix_object::tree::editor::{Editor, WriteError, Written};
 use gix_object::{Tree, encode};
 use std::alloc::Global;
 
-/// The id of the edited tree, and how many trees have to be stored for it.
+/// Writes the edited tree. Returns its id and the number of trees to store.
 pub fn write<S>(
     alloc: Global,
     editor: &mut Editor<S>,

@@ -1,4 +1,4 @@
-//! Trees, written: names that are refused, writers that fail, and ids.
+//! Written trees: rejected names, failing writers, and ids.
 
 use super::entry;
 use crate::limited::Limited;
@@ -9,7 +9,7 @@ use gixobj_base::{Tree, WriteTo};
 use std::alloc::{AllocError, Global};
 use std::test::Fail;
 
-/// A tree of these entries, all with the id of the empty blob.
+/// Returns a tree of these entries, all with the id of the empty blob.
 fn tree_of(alloc: Global, rows: &[(EntryKind, &[u8])]) -> Result<Tree, AllocError> {
     let oid = ObjectId::empty_blob(Kind::Sha1);
     let mut tree = Tree::empty(alloc);
@@ -19,27 +19,27 @@ fn tree_of(alloc: Global, rows: &[(EntryKind, &[u8])]) -> Result<Tree, AllocErro
     Ok(tree)
 }
 
-/// Three entries. The second and the third have a zero byte in their names.
+/// Three entries. The second and the third name have a zero byte.
 const WITH_A_ZERO_BYTE: &[(EntryKind, &[u8])] = &[
     (EntryKind::Blob, b"a"),
     (EntryKind::Link, b"b\0c"),
     (EntryKind::Blob, b"d\0"),
 ];
 
-/// Whether a tree is refused for this name.
-fn is_refused_for(alloc: Global, tree: &Tree, out: &mut Vec<u8>, name: &[u8]) -> bool {
+/// Returns whether writing a tree fails with `NullbyteInFilename` for this name.
+fn is_rejected_for(alloc: Global, tree: &Tree, out: &mut Vec<u8>, name: &[u8]) -> bool {
     match tree.write_to(alloc, out) {
-        Err(Error::NullbyteInFilename { name: refused }) => refused.as_slice() == name,
+        Err(Error::NullbyteInFilename { name: rejected }) => rejected.as_slice() == name,
         _ => false,
     }
 }
 
-/// A refused name leaves the entry before it, and its own mode and space.
+/// Writes the entry before a rejected name, and its own mode and space.
 #[test]
-fn names_with_a_zero_byte(rt: HostRuntime) -> Result<(), Fail> {
+fn rejects_name_with_zero_byte(rt: HostRuntime) -> Result<(), Fail> {
     let tree = tree_of(rt.alloc(), WITH_A_ZERO_BYTE)?;
     let mut out = Vec::from_slice(rt.alloc(), b"before")?;
-    assert!(rt; is_refused_for(rt.alloc(), &tree, &mut out, b"b\0c"));
+    assert!(rt; is_rejected_for(rt.alloc(), &tree, &mut out, b"b\0c"));
     assert!(rt; out.len() == 6 + 29 + 7);
     assert!(rt; out.starts_with(b"before100644 a\0"));
     assert!(rt; out.ends_with(b"120000 "));
@@ -58,21 +58,21 @@ const OF_EACH_KIND: &[(EntryKind, &[u8])] = &[
 ];
 
 #[test]
-fn writers_that_fail(rt: HostRuntime) -> Result<(), Fail> {
+fn returns_writer_error_after_each_prefix(rt: HostRuntime) -> Result<(), Fail> {
     let tree = tree_of(rt.alloc(), OF_EACH_KIND)?;
-    let mut text = Vec::new(rt.alloc());
-    tree.write_to_vec(rt.alloc(), &mut text)?;
-    assert!(rt; text.len() == 36 + 31 + 37 + 32 + 34 + 34);
-    for room in 0..text.len() {
+    let mut bytes = Vec::new(rt.alloc());
+    tree.write_to_vec(rt.alloc(), &mut bytes)?;
+    assert!(rt; bytes.len() == 36 + 31 + 37 + 32 + 34 + 34);
+    for room in 0..bytes.len() {
         let held = Vec::new(rt.alloc());
         let mut writer = Limited { held, room };
         let outcome = tree.write_to(rt.alloc(), &mut writer);
-        assert!(rt; writer.stopped_at(&outcome, &text, room), "{room}");
+        assert!(rt; writer.stopped_at(&outcome, &bytes, room), "{room}");
     }
     Ok(())
 }
 
-/// The ids that `git mktree` answers for no entries.
+/// The ids that `git mktree` prints for no entries.
 const EMPTY_TREES: &[(Kind, &[u8])] = &[
     (Kind::Sha1, b"4b825dc642cb6eb9a060e54bf8d69288fbee4904"),
     (
@@ -82,7 +82,7 @@ const EMPTY_TREES: &[(Kind, &[u8])] = &[
 ];
 
 #[test]
-fn ids_of_the_empty_tree(rt: HostRuntime) -> Result<(), Fail> {
+fn computes_ids_of_empty_tree(rt: HostRuntime) -> Result<(), Fail> {
     let tree = Tree::empty(rt.alloc());
     for &(kind, hex) in EMPTY_TREES {
         assert!(rt;

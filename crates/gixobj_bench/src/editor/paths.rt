@@ -1,18 +1,18 @@
-//! The paths of files that are put into an editor.
+//! The paths of the files that an editor inserts.
 
 use bstr::BString;
 use std::alloc::{AllocError, Global};
 use std::fmt;
 
-/// Where files lie.
+/// The layout of files.
 #[derive(Clone, Copy)]
 pub(super) enum Shape {
-    /// At this depth: each directory is `d` and a hex digit of the file's number, from the lowest one on, which
-    /// begin anew after eight.
+    /// At this depth. Each directory is `d` and a hex digit of the file's number, from the lowest digit on.
+    /// Digits repeat after eight directories.
     Nested(u32),
-    /// All in the root.
+    /// All files in the root.
     Wide,
-    /// Each in a directory of its own, below the root.
+    /// Each file in its own directory below the root.
     Alone,
 }
 
@@ -26,7 +26,7 @@ impl fmt::Display for Shape {
     }
 }
 
-/// The paths of this many files.
+/// The paths of `files` files.
 pub(super) fn paths_of(
     alloc: Global,
     shape: Shape,
@@ -35,15 +35,15 @@ pub(super) fn paths_of(
     let mut paths = Vec::new(alloc);
     for number in 0..files {
         let mut path = Vec::new(alloc);
-        put_directories(alloc, shape, number, &mut path)?;
+        append_directories(alloc, shape, number, &mut path)?;
         path.push(BString::from(format!(in alloc; "f{number:08}")?))?;
         paths.push(path)?;
     }
     Ok(paths)
 }
 
-/// Puts the directories of a file behind a path.
-fn put_directories(
+/// Appends the directories of a file to a path.
+fn append_directories(
     alloc: Global,
     shape: Shape,
     number: u32,

@@ -1,4 +1,4 @@
-//! Texts and objects, in parts.
+//! Encodings and objects, split into parts.
 ghost use Rattle.std.specs.Prelude.{All, IfOk};
 ghost use Rattle.gixobj_codec.specs.BorrowedObjects.{HasObjectIds, IsReadyToWrite};
 ghost use Rattle.gixobj_bench.specs.Parts.{AllOfParts};
@@ -10,11 +10,11 @@ use gixobj_base::hash::Kind::Sha1;
 use gixobj_codec::{Object, ObjectRef};
 use std::alloc::{AllocError, Global};
 
-/// The sum of the lengths of texts.
-pub(super) fn sum_of_lengths(texts: &[&[u8]]) -> u64 {
+/// The sum of the lengths of encodings.
+pub(super) fn sum_of_lengths(encodings: &[&[u8]]) -> u64 {
     let mut sum = 0u64;
-    for text in texts {
-        sum = sum.saturating_add(text.len() as u64);
+    for bytes in encodings {
+        sum = sum.saturating_add(bytes.len() as u64);
     }
     sum
 }
@@ -39,50 +39,54 @@ fn length_of_part(part: &[ObjectRef<'_>]) -> u64 {
     sum
 }
 
-/// The texts in parts.
+/// Splits encodings into parts.
 pub(super) fn in_parts<'a>(
     alloc: Global,
-    texts: &[&'a [u8]],
+    encodings: &[&'a [u8]],
 ) -> Result<Vec<Vec<&'a [u8]>>, AllocError> {
     let mut parts = Vec::new(alloc);
-    for part in texts.chunks(PART) {
+    for part in encodings.chunks(PART) {
         parts.push(part.to_vec(alloc)?)?;
     }
     Ok(parts)
 }
 
-/// The objects of this kind whose texts these are, in the same parts. `Refused` where one can't be read.
+/// Decodes objects of this kind, in the same parts. `CallFailed` if one is malformed.
 pub(super) fn read_parts<'a>(
     alloc: Global,
     kind: Kind,
-    texts: &[Vec<&'a [u8]>],
+    encodings: &[Vec<&'a [u8]>],
 ) -> Result<Vec<Vec<ObjectRef<'a>>>, Fault>
     ensures ids { IfOk result (λ parts. AllOfParts HasObjectIds parts.items) }
-    ensures ready { IfOk result (λ parts. AllOfParts IsReadyToWrite parts.items) }
+    ensures encodable { IfOk result (λ parts. AllOfParts IsReadyToWrite parts.items) }
 {
     let mut parts = Vec::new(alloc);
-    'all: for part in texts {
+    'all: for part in encodings {
         parts.push(read_part(alloc, kind, part)?)?;
     }
     Ok(parts)
 }
 
-/// The objects of a part.
-fn read_part<'a>(alloc: Global, kind: Kind, texts: &[&'a [u8]]) -> Result<Vec<ObjectRef<'a>>, Fault>
+/// Decodes the objects of a part.
+fn read_part<'a>(
+    alloc: Global,
+    kind: Kind,
+    encodings: &[&'a [u8]],
+) -> Result<Vec<ObjectRef<'a>>, Fault>
     ensures ids { IfOk result (λ objects. All HasObjectIds objects.items) }
-    ensures ready { IfOk result (λ objects. All IsReadyToWrite objects.items) }
+    ensures encodable { IfOk result (λ objects. All IsReadyToWrite objects.items) }
 {
     let mut objects = Vec::new(alloc);
-    'all: for text in texts {
-        let Ok(object) = ObjectRef::from_bytes(alloc, text, kind, Sha1) else {
-            return Err(Fault::Refused);
+    'all: for bytes in encodings {
+        let Ok(object) = ObjectRef::from_bytes(alloc, bytes, kind, Sha1) else {
+            return Err(Fault::CallFailed);
         };
         objects.push(object)?;
     }
     Ok(objects)
 }
 
-/// The same objects, with parts of their own. `Refused` where one can't be copied.
+/// Copies the objects to owned ones, in the same parts. `CallFailed` if a copy fails.
 pub(super) fn own_parts(
     alloc: Global,
     read: &[Vec<ObjectRef<'_>>],
@@ -96,14 +100,14 @@ pub(super) fn own_parts(
     Ok(parts)
 }
 
-/// The objects of a part, with parts of their own.
+/// Copies the objects of a part to owned ones.
 fn own_part(alloc: Global, read: &[ObjectRef<'_>]) -> Result<Vec<Object>, Fault>
     requires { All HasObjectIds read.now }
 {
     let mut objects = Vec::new(alloc);
     for object in read {
         let Ok(own) = object.to_owned(alloc) else {
-            return Err(Fault::Refused);
+            return Err(Fault::CallFailed);
         };
         objects.push(own)?;
     }

@@ -1,4 +1,4 @@
-//! Ids of objects.
+//! Rows of object hashes.
 
 use super::Work;
 use super::reading::first_byte;
@@ -14,8 +14,8 @@ pub(crate) struct Digested {
 }
 
 impl<'a> Work<&'a [u8]> for Digested {
-    fn done(&mut self, _: Global, text: &&'a [u8]) -> Option<u64> {
-        let id = compute_hash(Sha1, self.kind, text);
+    fn done(&mut self, _: Global, bytes: &&'a [u8]) -> Option<u64> {
+        let id = compute_hash(Sha1, self.kind, bytes);
         Some(first_byte(id.as_bytes()))
     }
 }

@@ -1,4 +1,4 @@
-//! Messages, their trailers and their blocks.
+//! Rows of messages, their trailers and their blocks.
 
 use super::Work;
 use super::reading::sum_of_lengths;
@@ -7,7 +7,7 @@ use gixobj_codec::commit::message::BodyRef;
 use gixobj_codec::commit::message::body::Trailers;
 use std::alloc::Global;
 
-/// Cuts the message of a commit into title and body, and reads its summary and its trailers.
+/// Splits the message of a commit into title and body, and decodes its summary and its trailers.
 #[derive(Clone, Copy)]
 pub(crate) struct MessageRead;
 
@@ -24,7 +24,7 @@ impl<'a> Work<ObjectRef<'a>> for MessageRead {
     }
 }
 
-/// The lengths of the trailers' parts, none where one can't be read.
+/// The sum of the lengths of the trailers' parts. `None` if an allocation fails.
 fn weight_of_trailers(trailers: Trailers<'_>) -> Option<u64> {
     let mut sum = 0u64;
     for trailer in trailers {
@@ -36,7 +36,7 @@ fn weight_of_trailers(trailers: Trailers<'_>) -> Option<u64> {
     Some(sum)
 }
 
-/// Finds the block of trailers of a body, and reads its trailers.
+/// Finds the trailer block of a body, and decodes its trailers.
 #[derive(Clone, Copy)]
 pub(crate) struct TrailersRead;
 
@@ -46,7 +46,7 @@ impl<'a> Work<&'a [u8]> for TrailersRead {
     }
 }
 
-/// Finds the block of trailers of a body, and reads its messages, each with the trailers that follow it.
+/// Finds the trailer block of a body, and decodes its messages, each with the trailers after it.
 #[derive(Clone, Copy)]
 pub(crate) struct BlocksRead;
 

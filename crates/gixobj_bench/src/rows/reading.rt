@@ -1,4 +1,4 @@
-//! Objects, read whole.
+//! Rows of decoded objects.
 
 use super::Work;
 use gixobj_base::Kind;
@@ -6,16 +6,16 @@ use gixobj_base::hash::Kind::Sha1;
 use gixobj_codec::{CommitRef, ObjectRef, TagRef, TreeRef};
 use std::alloc::Global;
 
-/// Reads the text of an object of this kind.
+/// Decodes an object of this kind.
 #[derive(Clone, Copy)]
-pub(crate) struct Whole {
+pub(crate) struct Decoded {
     /// The kind of the objects.
     pub(crate) kind: Kind,
 }
 
-impl<'a> Work<&'a [u8]> for Whole {
-    fn done(&mut self, alloc: Global, text: &&'a [u8]) -> Option<u64> {
-        let object = ObjectRef::from_bytes(alloc, text, self.kind, Sha1).ok()?;
+impl<'a> Work<&'a [u8]> for Decoded {
+    fn done(&mut self, alloc: Global, content: &&'a [u8]) -> Option<u64> {
+        let object = ObjectRef::from_bytes(alloc, content, self.kind, Sha1).ok()?;
         Some(weight(&object))
     }
 }
@@ -37,7 +37,7 @@ pub(crate) fn first_byte(id: &[u8]) -> u64 {
     }
 }
 
-/// A number that depends on what was read.
+/// A number that depends on the decoded object.
 fn weight(object: &ObjectRef<'_>) -> u64 {
     match object {
         ObjectRef::Tree(tree) => weight_of_tree(tree),
@@ -47,7 +47,7 @@ fn weight(object: &ObjectRef<'_>) -> u64 {
     }
 }
 
-/// The number of entries, with the last one's name and id.
+/// The number of entries, plus the length of the last name and a byte of the last id.
 fn weight_of_tree(tree: &TreeRef<'_>) -> u64 {
     match tree.entries.last() {
         Some(last) => {
@@ -60,7 +60,7 @@ fn weight_of_tree(tree: &TreeRef<'_>) -> u64 {
     }
 }
 
-/// The lengths of a commit's parts.
+/// The sum of the lengths of a commit's parts.
 fn weight_of_commit(commit: &CommitRef<'_>) -> u64 {
     sum_of_lengths(&[
         commit.tree.as_bytes().len(),
@@ -73,7 +73,7 @@ fn weight_of_commit(commit: &CommitRef<'_>) -> u64 {
     ])
 }
 
-/// The lengths of a tag's parts.
+/// The sum of the lengths of a tag's parts.
 fn weight_of_tag(tag: &TagRef<'_>) -> u64 {
     sum_of_lengths(&[
         tag.target.as_bytes().len(),

@@ -1,4 +1,4 @@
-//! Signatures, found in the texts of objects, and what verifiers report of them.
+//! Rows of signatures in encodings, and of the reports of verifiers.
 
 use super::Work;
 use super::reading::sum_of_lengths;
@@ -12,7 +12,7 @@ use gixobj_signature::signature::verify::{
 use gixobj_text::signature::Format;
 use std::alloc::Global;
 
-/// Finds the signature of a commit or of a tag, and what it signs.
+/// Finds the signature of a commit or of a tag, and the data that it signs.
 #[derive(Clone, Copy)]
 pub(crate) struct SignatureFound {
     /// The kind of the objects.
@@ -20,18 +20,18 @@ pub(crate) struct SignatureFound {
 }
 
 impl<'a> Work<&'a [u8]> for SignatureFound {
-    fn done(&mut self, alloc: Global, text: &&'a [u8]) -> Option<u64> {
+    fn done(&mut self, alloc: Global, content: &&'a [u8]) -> Option<u64> {
         match self.kind {
-            Kind::Commit => weight_of_commit(alloc, text),
-            Kind::Tag => weight_of_tag(text),
+            Kind::Commit => weight_of_commit(alloc, content),
+            Kind::Tag => weight_of_tag(content),
             Kind::Tree | Kind::Blob => Some(0),
         }
     }
 }
 
-/// The length of a commit's signature, 0 without one; none where the commit is refused.
-fn weight_of_commit(alloc: Global, text: &[u8]) -> Option<u64> {
-    match CommitRefIter::signature(alloc, text, Sha1) {
+/// The length of a commit's signature, 0 without one. `None` if the commit is rejected.
+fn weight_of_commit(alloc: Global, content: &[u8]) -> Option<u64> {
+    match CommitRefIter::signature(alloc, content, Sha1) {
         Ok(Some((value, _))) => Some(sum_of_lengths(&[value.as_slice().len()])),
         Ok(None) => Some(0),
         Err(_) => None,
@@ -39,14 +39,14 @@ fn weight_of_commit(alloc: Global, text: &[u8]) -> Option<u64> {
 }
 
 /// The length of a tag's signature, 0 without one.
-fn weight_of_tag(text: &[u8]) -> Option<u64> {
-    match TagRefIter::signature(text) {
+fn weight_of_tag(content: &[u8]) -> Option<u64> {
+    match TagRefIter::signature(content) {
         Some((signature, _)) => Some(sum_of_lengths(&[signature.bytes.as_bytes().len()])),
         None => Some(0),
     }
 }
 
-/// Reads what a program of OpenPGP reports. The call takes its text, so it is copied for each.
+/// Parses a report of an OpenPGP program. The call consumes the report, so that each item is copied.
 #[derive(Clone, Copy)]
 pub(crate) struct GpgReportRead;
 
@@ -59,7 +59,7 @@ impl<'a> Work<&'a [u8]> for GpgReportRead {
     }
 }
 
-/// Reads what a program of SSH reports, likewise.
+/// Parses a report of an SSH program. The call consumes the report, so that each item is copied.
 #[derive(Clone, Copy)]
 pub(crate) struct SshReportRead;
 
@@ -71,9 +71,9 @@ impl<'a> Work<&'a [u8]> for SshReportRead {
     }
 }
 
-/// The lengths of the signer and of the key, 0 without one.
+/// The sum of the lengths of the signer and of the key, 0 for a missing one.
 fn weight_of_outcome(outcome: &Outcome) -> u64 {
-    let signer = outcome.signer.as_ref().map_or(0, |text| text.len());
-    let key = outcome.key.as_ref().map_or(0, |text| text.len());
+    let signer = outcome.signer.as_ref().map_or(0, |bytes| bytes.len());
+    let key = outcome.key.as_ref().map_or(0, |bytes| bytes.len());
     sum_of_lengths(&[signer, key])
 }

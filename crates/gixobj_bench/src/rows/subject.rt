@@ -1,4 +1,4 @@
-//! What a row is about, and how it is printed.
+//! The subject of a row, and its format.
 ghost use Rattle.gixobj_bench.specs.Parts.{AllOfParts};
 
 use super::{Measured, Work, measure};
@@ -8,16 +8,16 @@ use std::io;
 use std::io::Write;
 use std::time::Clock;
 
-/// What a row is about.
+/// The subject of a row.
 #[derive(Clone, Copy)]
 pub(crate) struct Subject {
-    /// The word for the things.
-    pub(crate) word: &'static str,
-    /// How many rounds are timed.
+    /// The name of the items.
+    pub(crate) name: &'static str,
+    /// The number of timed rounds.
     pub(crate) rounds: u32,
-    /// How many things there are.
+    /// The number of items.
     pub(crate) count: usize,
-    /// How many bytes they have.
+    /// The number of their bytes.
     pub(crate) bytes: u64,
 }
 
@@ -33,13 +33,13 @@ impl Subject {
         requires { AllOfParts W.is_ready parts.now }
     {
         let Measured { nanos, sum } = measure(rt, self.rounds, work, parts)?;
-        let (word, objects) = (self.word, self.count);
+        let (name, objects) = (self.name, self.count);
         let count = self.bytes;
         let each = Each { nanos, count };
         let mut out = io::writer(rt);
         writeln!(
             out,
-            "{what} {word} objects {objects} bytes {count} ns/byte {each} sum {sum}"
+            "{what} {name} objects {objects} bytes {count} ns/byte {each} sum {sum}"
         )?;
         Ok(())
     }

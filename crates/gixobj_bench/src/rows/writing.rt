@@ -1,14 +1,14 @@
-//! Objects, written and sized.
+//! Rows of encoded objects and of their sizes.
 
 use super::Work;
 use super::reading::first_byte;
 use gixobj_base::WriteTo;
 use std::alloc::Global;
 
-/// Writes an object to a writer, which is a list with room.
+/// Encodes an object to a writer: a vector with spare capacity.
 #[derive(Drop)]
 pub(crate) struct Written {
-    /// Where the object is written to.
+    /// The output of the object.
     pub(crate) out: Vec<u8>,
 }
 
@@ -22,10 +22,10 @@ impl<T: WriteTo> Work<T> for Written {
     }
 }
 
-/// Writes an object behind a list, which has room.
+/// Appends the encoding of an object to a vector with spare capacity.
 #[derive(Drop)]
 pub(crate) struct WrittenToVec {
-    /// Where the object is written to.
+    /// The output of the object.
     pub(crate) out: Vec<u8>,
 }
 
@@ -39,16 +39,16 @@ impl<T: WriteTo> Work<T> for WrittenToVec {
     }
 }
 
-/// A number that depends on what was written.
-fn weight(text: &[u8]) -> u64 {
-    (text.len() as u64).wrapping_add(first_byte(text))
+/// A number that depends on the written bytes.
+fn weight(bytes: &[u8]) -> u64 {
+    (bytes.len() as u64).wrapping_add(first_byte(bytes))
 }
 
-/// Asks for the size of an object.
+/// Computes the size of an object.
 #[derive(Clone, Copy)]
-pub(crate) struct SizeAsked;
+pub(crate) struct SizeRow;
 
-impl<T: WriteTo> Work<T> for SizeAsked {
+impl<T: WriteTo> Work<T> for SizeRow {
     ghost is_ready = { T.can_write };
 
     fn done(&mut self, _: Global, object: &T) -> Option<u64> {

@@ -1,3 +1,3 @@
-//! Messages of commits (git-commit, "DISCUSSION"; git-interpret-trailers, "DESCRIPTION").
+//! The bodies of commit messages (git-commit, "DISCUSSION"; git-interpret-trailers, "DESCRIPTION").
 
 pub use gixobj_text::commit::message::{BodyRef, body};

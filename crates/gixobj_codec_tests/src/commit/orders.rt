@@ -12,23 +12,23 @@ use std::borrow::CowSlice;
 use std::cmp::Ordering;
 
 /// A commit with a header.
-const TEXT: &[u8] = b"tree 4b825dc642cb6eb9a060e54bf8d69288fbee4904\n\
+const WITH_HEADER: &[u8] = b"tree 4b825dc642cb6eb9a060e54bf8d69288fbee4904\n\
     author A <a@b> 0 +0000\n\
     committer A <a@b> 0 +0000\n\
     x A\n\
     \nhi\n";
 
-/// That commit.
+/// Decodes the commit with a header.
 fn read(alloc: Global) -> Result<CommitRef<'static>, Error> {
-    CommitRef::from_bytes(alloc, TEXT, Kind::Sha1)
+    CommitRef::from_bytes(alloc, WITH_HEADER, Kind::Sha1)
 }
 
-/// A copy of it.
+/// Returns a clone of the decoded commit.
 fn copy(alloc: Global) -> Result<CommitRef<'static>, Error> {
     Ok(read(alloc)?.clone()?)
 }
 
-/// Puts the value of its header elsewhere.
+/// Replaces the value of a commit's header by an owned copy; returns whether this succeeds.
 fn copy_value(alloc: Global, commit: &mut CommitRef<'static>) -> bool {
     commit.extra_headers.clear();
     match Vec::from_slice(alloc, b"A") {
@@ -40,7 +40,7 @@ fn copy_value(alloc: Global, commit: &mut CommitRef<'static>) -> bool {
     }
 }
 
-/// Whether a commit is so in order with the one that is read.
+/// Returns whether a commit compares as wanted with the decoded one.
 fn is_ordered(alloc: Global, commit: &CommitRef<'static>, wanted: Ordering) -> bool {
     match read(alloc) {
         Ok(other) => are_ordered(commit, &other, wanted),
@@ -48,7 +48,7 @@ fn is_ordered(alloc: Global, commit: &CommitRef<'static>, wanted: Ordering) -> b
     }
 }
 
-/// Whether a copy with a value that lies elsewhere is equal.
+/// Returns whether a clone with a copied header value is equal.
 fn is_equal_with_copied_value(alloc: Global) -> bool {
     match copy(alloc) {
         Ok(mut commit) => {
@@ -58,13 +58,13 @@ fn is_equal_with_copied_value(alloc: Global) -> bool {
     }
 }
 
-/// A value is a header's bytes, wherever they lie.
+/// Commits are equal if the bytes of their header values are, at any address.
 #[test]
-fn commits_that_are_equal(rt: HostRuntime) {
+fn commits_equal_by_bytes_of_header_values(rt: HostRuntime) {
     assert!(rt; is_equal_with_copied_value(rt.alloc()));
 }
 
-/// Whether a copy with this message is so in order.
+/// Returns whether a clone with this message compares as wanted.
 fn is_ordered_with(alloc: Global, message: &'static [u8], wanted: Ordering) -> bool {
     match copy(alloc) {
         Ok(mut commit) => {
@@ -76,24 +76,24 @@ fn is_ordered_with(alloc: Global, message: &'static [u8], wanted: Ordering) -> b
 }
 
 #[test]
-fn commits_in_order(rt: HostRuntime) {
+fn commits_compare_by_message(rt: HostRuntime) {
     assert!(rt; is_ordered_with(rt.alloc(), b"hi", Ordering::Less));
 }
 
-/// Whether an owned commit is so in order with that of a text.
-fn is_owned_ordered(alloc: Global, commit: &Commit, text: &[u8], wanted: Ordering) -> bool {
-    match owned_form(alloc, text, Kind::Sha1) {
+/// Returns whether an owned commit compares as wanted with that of an encoding.
+fn is_owned_ordered(alloc: Global, commit: &Commit, bytes: &[u8], wanted: Ordering) -> bool {
+    match owned_form(alloc, bytes, Kind::Sha1) {
         Ok(other) => are_ordered(commit, &other, wanted),
         Err(_) => false,
     }
 }
 
-/// The owned form of the plain commit, by the other name of the call.
+/// Returns the owned form of the plain commit, by `to_owned`.
 fn owned_again(alloc: Global) -> Result<Commit, Error> {
     CommitRef::from_bytes(alloc, PLAIN, Kind::Sha1)?.to_owned(alloc)
 }
 
-/// Whether it is equal to the owned form.
+/// Returns whether `to_owned` of the plain commit returns its owned form.
 fn is_owned_again(alloc: Global) -> bool {
     match owned_again(alloc) {
         Ok(commit) => is_owned_ordered(alloc, &commit, PLAIN, Ordering::Equal),
@@ -102,36 +102,36 @@ fn is_owned_again(alloc: Global) -> bool {
 }
 
 #[test]
-fn plain_commit_owned_twice(rt: HostRuntime) {
+fn to_owned_equals_into_owned(rt: HostRuntime) {
     assert!(rt; is_owned_again(rt.alloc()));
 }
 
-/// A copy of the owned commit.
+/// Returns a clone of the owned commit.
 fn owned_copy(alloc: Global) -> Result<Commit, Error> {
-    Ok(owned_form(alloc, TEXT, Kind::Sha1)?.clone()?)
+    Ok(owned_form(alloc, WITH_HEADER, Kind::Sha1)?.clone()?)
 }
 
-/// Whether it is equal.
+/// Returns whether a clone of the owned commit is equal.
 fn is_copy_equal(alloc: Global) -> bool {
     match owned_copy(alloc) {
-        Ok(commit) => is_owned_ordered(alloc, &commit, TEXT, Ordering::Equal),
+        Ok(commit) => is_owned_ordered(alloc, &commit, WITH_HEADER, Ordering::Equal),
         Err(_) => false,
     }
 }
 
-/// Whether it is greater with a message that comes later.
+/// Returns whether an owned commit is greater with a greater message.
 fn is_later(alloc: Global) -> bool {
     match (owned_copy(alloc), BString::from_slice(alloc, b"ho\n")) {
         (Ok(mut commit), Ok(message)) => {
             commit.message = message;
-            is_owned_ordered(alloc, &commit, TEXT, Ordering::Greater)
+            is_owned_ordered(alloc, &commit, WITH_HEADER, Ordering::Greater)
         }
         _ => false,
     }
 }
 
 #[test]
-fn owned_commits_in_order(rt: HostRuntime) {
+fn owned_commits_compare_by_message(rt: HostRuntime) {
     assert!(rt; is_copy_equal(rt.alloc()));
     assert!(rt; is_later(rt.alloc()));
 }
@@ -145,7 +145,7 @@ const LINES: &[u8] = b"tree 4b825dc642cb6eb9a060e54bf8d69288fbee4904\n\
     \x20B\n\
     \nhi\n";
 
-/// Its tokens, in the order in which they stand.
+/// Returns the tokens of the commit, in order.
 fn tokens(alloc: Global) -> Result<Vec<Token<'static>>, Error> {
     let mut tokens = Vec::new(alloc);
     for token in CommitRefIter::from_bytes(alloc, LINES, Kind::Sha1) {
@@ -154,7 +154,7 @@ fn tokens(alloc: Global) -> Result<Vec<Token<'static>>, Error> {
     Ok(tokens)
 }
 
-/// Whether each token of the text is copied as it is.
+/// Returns whether a clone of each token equals it and has its hash.
 fn are_tokens_copied(alloc: Global) -> bool {
     match tokens(alloc) {
         Ok(tokens) => are_copied(&tokens),
@@ -163,11 +163,11 @@ fn are_tokens_copied(alloc: Global) -> bool {
 }
 
 #[test]
-fn tokens_and_their_copies(rt: HostRuntime) {
+fn cloned_tokens_are_equal(rt: HostRuntime) {
     assert!(rt; are_tokens_copied(rt.alloc()));
 }
 
-/// Whether each token comes before the next one.
+/// Returns whether each token is less than the next one, with another hash.
 fn ascend(tokens: &[Token<'_>]) -> bool {
     for (first, second) in tokens.iter().zip(tokens.iter().skip(1)) {
         if *first >= *second || hash_of(first) == hash_of(second) {
@@ -177,7 +177,7 @@ fn ascend(tokens: &[Token<'_>]) -> bool {
     true
 }
 
-/// Whether the last token is this message.
+/// Returns whether the last token is this message.
 fn end_in(tokens: &[Token<'_>], message: &[u8]) -> bool {
     match tokens.last() {
         Some(last) => *last == Token::Message(BStr::new(message)),
@@ -185,7 +185,7 @@ fn end_in(tokens: &[Token<'_>], message: &[u8]) -> bool {
     }
 }
 
-/// Whether the tokens of the text are so many in order, and the last one is this message.
+/// Returns whether there are `len` tokens in ascending order, of which the last is this message.
 fn are_tokens_in_order(alloc: Global, len: usize, message: &[u8]) -> bool {
     match tokens(alloc) {
         Ok(tokens) => tokens.len() == len && ascend(&tokens) && end_in(&tokens, message),
@@ -194,19 +194,19 @@ fn are_tokens_in_order(alloc: Global, len: usize, message: &[u8]) -> bool {
 }
 
 #[test]
-fn tokens_in_order(rt: HostRuntime) {
+fn tokens_of_commit_ascend(rt: HostRuntime) {
     assert!(rt; are_tokens_in_order(rt.alloc(), 6, b"hi\n"));
 }
 
-/// Whether a token has an id exactly where it is a tree.
+/// Returns whether a token has an id if and only if it is a tree.
 fn has_id_of_a_tree(token: Token<'_>) -> bool {
     let is_tree = matches!(&token, Token::Tree { .. });
     token.id().is_some() == is_tree && token.try_into_id().is_some() == is_tree
 }
 
-/// Whether that is so of each token of a text.
-fn have_ids_of_trees(alloc: Global, text: &[u8]) -> bool {
-    for token in CommitRefIter::from_bytes(alloc, text, Kind::Sha1) {
+/// Returns whether a commit's tokens have ids if and only if they are trees.
+fn have_ids_of_trees(alloc: Global, bytes: &[u8]) -> bool {
+    for token in CommitRefIter::from_bytes(alloc, bytes, Kind::Sha1) {
         match token {
             Ok(token) => {
                 if !has_id_of_a_tree(token) {
@@ -220,6 +220,6 @@ fn have_ids_of_trees(alloc: Global, text: &[u8]) -> bool {
 }
 
 #[test]
-fn ids_of_tokens(rt: HostRuntime) {
+fn only_tree_tokens_have_ids(rt: HostRuntime) {
     assert!(rt; have_ids_of_trees(rt.alloc(), PLAIN));
 }

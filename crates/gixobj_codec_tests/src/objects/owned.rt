@@ -1,18 +1,18 @@
-//! Owned objects of each kind, taken for each kind.
+//! Owned objects of each kind, converted into each kind.
 
-use super::samples::{KINDS, text_of};
+use super::samples::{KINDS, bytes_of};
 use super::{is_before, is_same};
 use gixobj_base::hash::Kind as HashKind;
 use gixobj_base::{Blob, Kind, Tree, decode};
 use gixobj_codec::{Commit, Object, ObjectRef, Tag};
 use std::alloc::Global;
 
-/// The object of this kind.
+/// Returns the owned sample of this kind.
 pub(crate) fn object(alloc: Global, kind: Kind) -> Result<Object, decode::Error> {
-    ObjectRef::from_bytes(alloc, text_of(kind), kind, HashKind::Sha1)?.into_owned(alloc)
+    ObjectRef::from_bytes(alloc, bytes_of(kind), kind, HashKind::Sha1)?.into_owned(alloc)
 }
 
-/// Whether the object is lent as one of this kind.
+/// Returns whether the getter for this kind returns the object's part.
 fn is_lent_as(object: &Object, wanted: Kind) -> bool {
     match wanted {
         Kind::Tree => object.as_tree().is_some(),
@@ -22,7 +22,7 @@ fn is_lent_as(object: &Object, wanted: Kind) -> bool {
     }
 }
 
-/// The object back, or none where it is of this kind.
+/// Returns the object from a failed conversion into this kind; `None` if it succeeds.
 fn back(object: Object, wanted: Kind) -> Option<Object> {
     match wanted {
         Kind::Tree => object.try_into_tree().err(),
@@ -32,7 +32,7 @@ fn back(object: Object, wanted: Kind) -> Option<Object> {
     }
 }
 
-/// The same, by the conversions of std.
+/// Returns the object from a failed conversion of std into this kind; `None` if it succeeds.
 fn converted_back(object: Object, wanted: Kind) -> Option<Object> {
     match wanted {
         Kind::Tree => Tree::try_from(object).err(),
@@ -42,7 +42,7 @@ fn converted_back(object: Object, wanted: Kind) -> Option<Object> {
     }
 }
 
-/// The object of its part.
+/// Rebuilds an object from its part.
 pub(crate) fn made_again(object: Object) -> Object {
     match object.kind() {
         Kind::Tree => Object::from(object.into_tree()),
@@ -52,7 +52,7 @@ pub(crate) fn made_again(object: Object) -> Object {
     }
 }
 
-/// Whether the object of a kind is lent as one of this kind, or isn't, as is wanted.
+/// Returns whether the getter for `wanted` returns the sample's part if and only if the kinds are equal.
 fn is_lent(alloc: Global, kind: Kind, wanted: Kind) -> bool {
     match object(alloc, kind) {
         Ok(object) => is_lent_as(&object, wanted) == (kind == wanted),
@@ -60,7 +60,7 @@ fn is_lent(alloc: Global, kind: Kind, wanted: Kind) -> bool {
     }
 }
 
-/// Whether it is lent as one of its own kind alone.
+/// Returns whether the getters return the sample's part for its own kind only.
 fn is_lent_alone(alloc: Global, kind: Kind) -> bool {
     for wanted in KINDS {
         if !is_lent(alloc, kind, wanted) {
@@ -71,46 +71,46 @@ fn is_lent_alone(alloc: Global, kind: Kind) -> bool {
 }
 
 #[test]
-fn lent(rt: HostRuntime) {
+fn lends_part_of_own_kind_only(rt: HostRuntime) {
     for kind in KINDS {
         assert!(rt; is_lent_alone(rt.alloc(), kind), "{kind:?}");
     }
 }
 
-/// What is given back of the object of a kind, taken for one of this kind.
-fn given(alloc: Global, kind: Kind, wanted: Kind) -> Option<Object> {
+/// Returns the sample from a failed conversion into `wanted`; `None` if it succeeds.
+fn returned(alloc: Global, kind: Kind, wanted: Kind) -> Option<Object> {
     back(object(alloc, kind).ok()?, wanted)
 }
 
-/// The same by the conversions of std.
-fn given_by_conversion(alloc: Global, kind: Kind, wanted: Kind) -> Option<Object> {
+/// Returns the sample from a failed conversion of std into `wanted`; `None` if it succeeds.
+fn returned_by_std(alloc: Global, kind: Kind, wanted: Kind) -> Option<Object> {
     converted_back(object(alloc, kind).ok()?, wanted)
 }
 
-/// Whether the object of a kind is given back, or nothing where it is of this kind.
-fn is_given(alloc: Global, kind: Kind, wanted: Kind) -> bool {
+/// Returns whether the conversion into `wanted` returns the sample if and only if the kinds differ.
+fn is_returned_by_method(alloc: Global, kind: Kind, wanted: Kind) -> bool {
     is_same(
-        &given(alloc, kind, wanted),
+        &returned(alloc, kind, wanted),
         &object(alloc, kind),
         kind != wanted,
     )
 }
 
-/// Whether the conversions of std do the same.
+/// Returns whether the conversion of std into `wanted` returns the sample if and only if the kinds differ.
 fn is_converted(alloc: Global, kind: Kind, wanted: Kind) -> bool {
-    let given = given_by_conversion(alloc, kind, wanted);
-    is_same(&given, &object(alloc, kind), kind != wanted)
+    let returned = returned_by_std(alloc, kind, wanted);
+    is_same(&returned, &object(alloc, kind), kind != wanted)
 }
 
-/// Whether both do.
-fn is_given_back(alloc: Global, kind: Kind, wanted: Kind) -> bool {
-    is_given(alloc, kind, wanted) && is_converted(alloc, kind, wanted)
+/// Returns whether both conversions into `wanted` return the sample if and only if the kinds differ.
+fn is_returned(alloc: Global, kind: Kind, wanted: Kind) -> bool {
+    is_returned_by_method(alloc, kind, wanted) && is_converted(alloc, kind, wanted)
 }
 
-/// Whether it is given back for each kind but its own.
-fn is_given_back_for_others(alloc: Global, kind: Kind) -> bool {
+/// Returns whether each conversion but that into its own kind returns the sample.
+fn is_returned_for_others(alloc: Global, kind: Kind) -> bool {
     for wanted in KINDS {
-        if !is_given_back(alloc, kind, wanted) {
+        if !is_returned(alloc, kind, wanted) {
             return false;
         }
     }
@@ -118,37 +118,37 @@ fn is_given_back_for_others(alloc: Global, kind: Kind) -> bool {
 }
 
 #[test]
-fn given_back(rt: HostRuntime) {
+fn failed_conversion_returns_object(rt: HostRuntime) {
     for kind in KINDS {
-        assert!(rt; is_given_back_for_others(rt.alloc(), kind), "{kind:?}");
+        assert!(rt; is_returned_for_others(rt.alloc(), kind), "{kind:?}");
     }
 }
 
-/// The object of the part of an object of this kind.
+/// Returns the sample of this kind, rebuilt from its part.
 fn made(alloc: Global, kind: Kind) -> Option<Object> {
     Some(made_again(object(alloc, kind).ok()?))
 }
 
-/// Whether the object of a kind is made again of its part.
+/// Returns whether the sample is rebuilt from its part unchanged.
 fn is_made_again(alloc: Global, kind: Kind) -> bool {
     is_same(&made(alloc, kind), &object(alloc, kind), true)
 }
 
 #[test]
-fn of_their_parts(rt: HostRuntime) {
+fn rebuilds_from_part(rt: HostRuntime) {
     for kind in KINDS {
         assert!(rt; is_made_again(rt.alloc(), kind), "{kind:?}");
     }
 }
 
-/// Whether the object of the first kind comes before that of the second.
+/// Returns whether the sample of the first kind is less than that of the second.
 fn is_kind_before(alloc: Global, first: Kind, second: Kind) -> bool {
     is_before(&object(alloc, first), &object(alloc, second))
 }
 
 /// Objects compare by their kinds first.
 #[test]
-fn in_order(rt: HostRuntime) {
+fn objects_compare_by_kind_first(rt: HostRuntime) {
     assert!(rt; is_kind_before(rt.alloc(), Kind::Tree, Kind::Blob));
     assert!(rt; is_kind_before(rt.alloc(), Kind::Blob, Kind::Commit));
     assert!(rt; is_kind_before(rt.alloc(), Kind::Commit, Kind::Tag));

@@ -1,6 +1,6 @@
-//! Calls and answers, as the rows of tests spell them.
+//! Expected calls and scripted answers, in the notation of rows of tests.
 
-use crate::signing::played::Played;
+use crate::signing::scripted::Played;
 use bstr::BString;
 use gixobj_actor::date::Time;
 use gixobj_signature::signature::{Call, Output, RunError, Word};
@@ -9,51 +9,51 @@ use std::alloc::Global;
 /// The program of most calls.
 pub(crate) const PROGRAM: &[u8] = b"signer";
 
-/// What a runner says of each failure.
+/// The message of each failure of a runner.
 pub(crate) const WHY: &[u8] = b"why";
 
-/// What a runner tells of a call.
+/// The scripted answer of a runner to a call.
 #[derive(Clone, Copy)]
-pub(crate) enum Told {
-    /// It ran: whether it succeeded, its standard output and error, and the file that it left.
+pub(crate) enum ScriptedAnswer {
+    /// The program ran: its success, its standard output and error, and the contents of its result file.
     Ran(bool, &'static [u8], &'static [u8], Option<&'static [u8]>),
-    /// No file.
+    /// The runner couldn't make a file.
     NoFile,
-    /// Not started.
+    /// The program wasn't started.
     NotStarted,
-    /// Not talked to.
-    NotTold,
-    /// A time without a text.
+    /// The communication with the program failed.
+    NoCommunication,
+    /// The time couldn't be formatted.
     NoTime,
-    /// No memory.
+    /// Memory ran out.
     NoMemory,
 }
 
-/// A call that is expected, and what is told of it.
+/// An expected call, and its scripted answer.
 #[derive(Clone, Copy)]
 pub(crate) struct Step<'a> {
     /// The program.
     pub(crate) program: &'static [u8],
-    /// Its words, apart by spaces: `@0` and `@1` are files, `@time` is the time.
-    pub(crate) words: &'static str,
-    /// Whether answers in English are asked for.
+    /// The arguments, separated by spaces: `@0` and `@1` are files, `@time` is the time.
+    pub(crate) arguments: &'static str,
+    /// Whether its environment requests output in English.
     pub(crate) in_english: bool,
-    /// What stands in its files.
+    /// The contents of its files.
     pub(crate) files: &'static [&'static [u8]],
-    /// Its input.
+    /// The input of the program.
     pub(crate) input: Option<&'a [u8]>,
-    /// The file whose neighbour is asked for.
+    /// The index of the file next to which the program leaves its result file.
     pub(crate) result: Option<usize>,
-    /// What is told of it.
-    pub(crate) told: Told,
+    /// The scripted answer.
+    pub(crate) answer: ScriptedAnswer,
 }
 
-/// The time that `@time` is.
+/// Returns the time of `@time`.
 pub(crate) fn time() -> Time {
     Time::new(1, 60).unwrap_or_default()
 }
 
-/// The name of a refusal where it has this text, and else that of another one.
+/// Returns the name of an error if its payload is as wanted, and `another` otherwise.
 pub(crate) fn name_with(name: &'static str, why: &BString, wanted: &[u8]) -> &'static str {
     if why.as_bytes() == wanted {
         name
@@ -62,108 +62,108 @@ pub(crate) fn name_with(name: &'static str, why: &BString, wanted: &[u8]) -> &'s
     }
 }
 
-/// What is set for a program.
+/// The environment of a program.
 const HOME: &[(&[u8], &[u8])] = &[(b"HOME", b"keys")];
 
-/// The same where answers in English are asked for.
+/// The environment of a program whose output is requested in English.
 const IN_ENGLISH: &[(&[u8], &[u8])] = &[(b"HOME", b"keys"), (b"LANG", b"C"), (b"LC_ALL", b"C")];
 
-/// What makes the texts of a test. Where a growth is refused it goes on with less, and keeps that it was.
+/// A maker of values for a test. If an allocation fails it continues with less, and records the failure.
 #[derive(Drop)]
 pub(crate) struct Maker {
-    /// Where the memory comes from.
+    /// The allocator.
     pub(crate) alloc: Global,
-    /// Whether a growth was refused.
-    pub(crate) is_refused: bool,
+    /// Whether an allocation failed.
+    pub(crate) is_failed: bool,
 }
 
 impl Maker {
-    /// What has made nothing yet.
+    /// Returns a maker without a failure.
     pub(crate) fn new(alloc: Global) -> Maker {
         Maker {
             alloc,
-            is_refused: false,
+            is_failed: false,
         }
     }
 
-    /// Bytes of one's own.
+    /// Returns an owned copy of bytes.
     pub(crate) fn bytes(&mut self, bytes: &[u8]) -> Vec<u8> {
         match Vec::from_slice(self.alloc, bytes) {
             Ok(copy) => copy,
             Err(_) => {
-                self.is_refused = true;
+                self.is_failed = true;
                 Vec::new(self.alloc)
             }
         }
     }
 
-    /// A text of one's own.
-    pub(crate) fn text(&mut self, bytes: &[u8]) -> BString {
+    /// Returns an owned copy of bytes, as a `BString`.
+    pub(crate) fn bstring(&mut self, bytes: &[u8]) -> BString {
         BString::new(self.bytes(bytes))
     }
 
-    /// A text of one's own, if there is one.
-    pub(crate) fn text_if_some(&mut self, bytes: Option<&[u8]>) -> Option<BString> {
+    /// Returns an owned copy of bytes, as a `BString`, if there are any.
+    pub(crate) fn bstring_if_some(&mut self, bytes: Option<&[u8]>) -> Option<BString> {
         match bytes {
-            Some(bytes) => Some(self.text(bytes)),
+            Some(bytes) => Some(self.bstring(bytes)),
             None => None,
         }
     }
 
-    /// Puts a value behind those of a list.
-    pub(crate) fn put<T: Drop>(&mut self, list: &mut Vec<T>, value: T) {
+    /// Appends a value to a list.
+    pub(crate) fn append<T: Drop>(&mut self, list: &mut Vec<T>, value: T) {
         if list.push(value).is_err() {
-            self.is_refused = true;
+            self.is_failed = true;
         }
     }
 
-    /// Texts of one's own.
-    pub(crate) fn texts(&mut self, texts: &[&[u8]]) -> Vec<BString> {
+    /// Returns owned copies of byte strings.
+    pub(crate) fn bstrings(&mut self, strings: &[&[u8]]) -> Vec<BString> {
         let mut copies = Vec::new(self.alloc);
-        for one in texts {
-            let copy = self.text(one);
-            self.put(&mut copies, copy);
+        for one in strings {
+            let copy = self.bstring(one);
+            self.append(&mut copies, copy);
         }
         copies
     }
 
-    /// What is set for a program.
+    /// Returns the environment of a program.
     pub(crate) fn environment(&mut self, in_english: bool) -> Vec<(BString, BString)> {
         let mut environment = Vec::new(self.alloc);
         for &(name, value) in if in_english { IN_ENGLISH } else { HOME } {
-            let pair = (self.text(name), self.text(value));
-            self.put(&mut environment, pair);
+            let pair = (self.bstring(name), self.bstring(value));
+            self.append(&mut environment, pair);
         }
         environment
     }
 
-    /// The words that a text spells.
-    pub(crate) fn words(&mut self, spelled: &str) -> Vec<Word> {
-        let mut words = Vec::new(self.alloc);
-        for word in spelled.split(' ') {
-            let word = self.word(word);
-            self.put(&mut words, word);
+    /// Parses the arguments of a row, separated by spaces.
+    pub(crate) fn arguments(&mut self, notation: &str) -> Vec<Word> {
+        let mut arguments = Vec::new(self.alloc);
+        for argument in notation.split(' ') {
+            let argument = self.argument(argument);
+            self.append(&mut arguments, argument);
         }
-        words
+        arguments
     }
 
-    /// The word that a text spells.
-    fn word(&mut self, spelled: &str) -> Word {
-        match spelled {
+    /// Parses an argument of a row.
+    fn argument(&mut self, notation: &str) -> Word {
+        match notation {
             "@0" => Word::File(0),
             "@1" => Word::File(1),
             "@time" => Word::VerifyTime(time()),
-            _ => Word::Text(self.text(spelled.as_bytes())),
+            _ => Word::Text(self.bstring(notation.as_bytes())),
         }
     }
 
-    /// Has a runner expect one more call.
+    /// Appends an expected call to those of a runner.
     pub(crate) fn expect(&mut self, runner: &mut Played, step: &Step<'_>) {
-        let step = (self.call(step), self.answer(step.told));
-        self.put(&mut runner.steps, step);
+        let step = (self.call(step), self.answer(step.answer));
+        self.append(&mut runner.steps, step);
     }
 
-    /// The runner that expects these calls.
+    /// Returns the runner that expects these calls.
     pub(crate) fn runner(&mut self, steps: &[Step<'_>]) -> Played {
         let mut runner = Played {
             alloc: self.alloc,
@@ -175,49 +175,49 @@ impl Maker {
         runner
     }
 
-    /// The call of a step.
+    /// Returns the call of a step.
     fn call(&mut self, step: &Step<'_>) -> Call {
         Call {
-            program: self.text(step.program),
-            words: self.words(step.words),
+            program: self.bstring(step.program),
+            words: self.arguments(step.arguments),
             environment: self.environment(step.in_english),
-            files: self.texts(step.files),
-            input: self.text_if_some(step.input),
+            files: self.bstrings(step.files),
+            input: self.bstring_if_some(step.input),
             result: step.result,
         }
     }
 
-    /// What a runner tells.
-    fn answer(&mut self, told: Told) -> Result<Output, RunError> {
-        match told {
-            Told::Ran(success, stdout, stderr, left) => {
-                Ok(self.output(success, stdout, stderr, left))
+    /// Returns the answer of a runner.
+    fn answer(&mut self, answer: ScriptedAnswer) -> Result<Output, RunError> {
+        match answer {
+            ScriptedAnswer::Ran(success, stdout, stderr, result_file) => {
+                Ok(self.output(success, stdout, stderr, result_file))
             }
-            Told::NoFile => Err(RunError::TemporaryFile(self.text(WHY))),
-            Told::NotStarted => Err(RunError::Spawn(self.text(WHY))),
-            Told::NotTold => Err(RunError::Communicate(self.text(WHY))),
-            Told::NoTime => Err(RunError::CommitTime(self.text(WHY))),
-            Told::NoMemory => Err(RunError::OutOfMemory),
+            ScriptedAnswer::NoFile => Err(RunError::TemporaryFile(self.bstring(WHY))),
+            ScriptedAnswer::NotStarted => Err(RunError::Spawn(self.bstring(WHY))),
+            ScriptedAnswer::NoCommunication => Err(RunError::Communicate(self.bstring(WHY))),
+            ScriptedAnswer::NoTime => Err(RunError::CommitTime(self.bstring(WHY))),
+            ScriptedAnswer::NoMemory => Err(RunError::OutOfMemory),
         }
     }
 
-    /// What a program answers that ran.
+    /// Returns the output of a program that ran.
     pub(crate) fn output(
         &mut self,
         success: bool,
         stdout: &[u8],
         stderr: &[u8],
-        left: Option<&[u8]>,
+        result_file: Option<&[u8]>,
     ) -> Output {
         Output {
             success,
             stdout: self.bytes(stdout),
             stderr: self.bytes(stderr),
-            result: self.bytes_if_some(left),
+            result: self.bytes_if_some(result_file),
         }
     }
 
-    /// Bytes of one's own, if there are any.
+    /// Returns an owned copy of bytes, if there are any.
     fn bytes_if_some(&mut self, bytes: Option<&[u8]>) -> Option<Vec<u8>> {
         match bytes {
             Some(bytes) => Some(self.bytes(bytes)),

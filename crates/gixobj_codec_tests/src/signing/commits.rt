@@ -1,8 +1,8 @@
-//! Commits that are signed, and signatures that are found in their texts.
+//! Signed commits, and signatures found in their encodings.
 
-use crate::signing::calls::{Maker, Told};
-use crate::signing::objects::{Comes, Row, gpg, is_object, is_over, is_refusal, runner_of_row};
-use crate::signing::played::Played;
+use crate::signing::calls::{Maker, ScriptedAnswer};
+use crate::signing::objects::{Outcome, Row, gpg, is_error_of, is_object, is_over, runner_of_row};
+use crate::signing::scripted::Played;
 use crate::signing::signing::CREATED;
 use gixobj_commit::{Commit, CommitRef};
 use gixobj_hash::decode;
@@ -19,7 +19,7 @@ const PLAIN: &[u8] = b"tree 4b825dc642cb6eb9a060e54bf8d69288fbee4904\n\
     \n\
     hi\n";
 
-/// The same with a signature, 111 bytes.
+/// The plain commit with a signature, of 111 bytes.
 const SIGNED: &[u8] = b"tree 4b825dc642cb6eb9a060e54bf8d69288fbee4904\n\
     author A <a@b> 0 +0000\n\
     committer A <a@b> 0 +0000\n\
@@ -40,7 +40,7 @@ const TWICE: &[u8] = b"tree 4b825dc642cb6eb9a060e54bf8d69288fbee4904\n\
     \n\
     hi\n";
 
-/// The same without them.
+/// The commit `TWICE` without its signatures.
 const NONE: &[u8] = b"tree 4b825dc642cb6eb9a060e54bf8d69288fbee4904\n\
     author A <a@b> 0 +0000\n\
     committer A <a@b> 0 +0000\n\
@@ -49,7 +49,7 @@ const NONE: &[u8] = b"tree 4b825dc642cb6eb9a060e54bf8d69288fbee4904\n\
     \n\
     hi\n";
 
-/// The same with one, of a text with a return that stays.
+/// The commit `NONE` with one signature, in which a carriage return is unchanged.
 const AGAIN: &[u8] = b"tree 4b825dc642cb6eb9a060e54bf8d69288fbee4904\n\
     author A <a@b> 0 +0000\n\
     committer A <a@b> 0 +0000\n\
@@ -60,7 +60,7 @@ const AGAIN: &[u8] = b"tree 4b825dc642cb6eb9a060e54bf8d69288fbee4904\n\
     \n\
     hi\n";
 
-/// A commit with ids of SHA-256, and a signature for each kind of ids.
+/// A commit with SHA-256 ids, and a signature for each kind of ids.
 const SHA256: &[u8] = b"tree 6ef19b41225c5369f1c104d45d8d85efa9b057b53b14b4b9b939dd74decc5321\n\
     author A <a@b> 0 +0000\n\
     committer A <a@b> 0 +0000\n\
@@ -69,7 +69,7 @@ const SHA256: &[u8] = b"tree 6ef19b41225c5369f1c104d45d8d85efa9b057b53b14b4b9b93
     \n\
     hi\n";
 
-/// The same without the signature of its own kind.
+/// The commit `SHA256` without the signature for its own kind of ids.
 const SHA256_NONE: &[u8] =
     b"tree 6ef19b41225c5369f1c104d45d8d85efa9b057b53b14b4b9b939dd74decc5321\n\
     author A <a@b> 0 +0000\n\
@@ -78,7 +78,7 @@ const SHA256_NONE: &[u8] =
     \n\
     hi\n";
 
-/// The same, signed again.
+/// The commit `SHA256`, signed again.
 const SHA256_AGAIN: &[u8] =
     b"tree 6ef19b41225c5369f1c104d45d8d85efa9b057b53b14b4b9b939dd74decc5321\n\
     author A <a@b> 0 +0000\n\
@@ -88,14 +88,14 @@ const SHA256_AGAIN: &[u8] =
     \n\
     hi\n";
 
-/// A commit whose author's name no owned one may have.
+/// A commit whose author's name is illegal in an owned commit.
 const ILLEGAL: &[u8] = b"tree 4b825dc642cb6eb9a060e54bf8d69288fbee4904\n\
     author A> <a@b> 0 +0000\n\
     committer A <a@b> 0 +0000\n\
     \n\
     hi\n";
 
-/// A commit with an encoding of no byte.
+/// A commit with an empty encoding.
 const NO_ENCODING: &[u8] = b"tree 4b825dc642cb6eb9a060e54bf8d69288fbee4904\n\
     author A <a@b> 0 +0000\n\
     committer A <a@b> 0 +0000\n\
@@ -103,113 +103,116 @@ const NO_ENCODING: &[u8] = b"tree 4b825dc642cb6eb9a060e54bf8d69288fbee4904\n\
     \n\
     hi\n";
 
-/// Commits to be signed, and what comes of it.
+/// Commits to be signed, and their outcomes.
 const ROWS: &[Row] = &[
     Row {
-        text: PLAIN,
+        encoding: PLAIN,
         hash: Sha1,
         key: b"K",
-        call: Some((PLAIN, Told::Ran(true, b"A\r\nB\r\n", CREATED, None))),
-        comes: Comes::Text(SIGNED),
+        call: Some((
+            PLAIN,
+            ScriptedAnswer::Ran(true, b"A\r\nB\r\n", CREATED, None),
+        )),
+        outcome: Outcome::Encoding(SIGNED),
     },
     Row {
-        text: PLAIN,
+        encoding: PLAIN,
         hash: Sha1,
         key: b"K",
-        call: Some((PLAIN, Told::Ran(true, b"A\r\nB\r\n", b"", None))),
-        comes: Comes::Refused("MissingSignatureConfirmation"),
+        call: Some((PLAIN, ScriptedAnswer::Ran(true, b"A\r\nB\r\n", b"", None))),
+        outcome: Outcome::Error("MissingSignatureConfirmation"),
     },
     Row {
-        text: PLAIN,
+        encoding: PLAIN,
         hash: Sha1,
         key: b"",
         call: None,
-        comes: Comes::Refused("MissingSigningKey"),
+        outcome: Outcome::Error("MissingSigningKey"),
     },
     Row {
-        text: TWICE,
+        encoding: TWICE,
         hash: Sha1,
         key: b"K",
-        call: Some((NONE, Told::Ran(true, b"A\rB\r\nC", CREATED, None))),
-        comes: Comes::Text(AGAIN),
+        call: Some((NONE, ScriptedAnswer::Ran(true, b"A\rB\r\nC", CREATED, None))),
+        outcome: Outcome::Encoding(AGAIN),
     },
     Row {
-        text: SHA256,
+        encoding: SHA256,
         hash: Sha256,
         key: b"K",
-        call: Some((SHA256_NONE, Told::Ran(true, b"A", CREATED, None))),
-        comes: Comes::Text(SHA256_AGAIN),
+        call: Some((SHA256_NONE, ScriptedAnswer::Ran(true, b"A", CREATED, None))),
+        outcome: Outcome::Encoding(SHA256_AGAIN),
     },
     Row {
-        text: PLAIN,
+        encoding: PLAIN,
         hash: Sha1,
         key: b"K",
-        call: Some((PLAIN, Told::NoTime)),
-        comes: Comes::Refused("Communicate"),
+        call: Some((PLAIN, ScriptedAnswer::NoTime)),
+        outcome: Outcome::Error("Communicate"),
     },
     Row {
-        text: ILLEGAL,
+        encoding: ILLEGAL,
         hash: Sha1,
         key: b"",
         call: None,
-        comes: Comes::Refused("IllegalActor"),
+        outcome: Outcome::Error("IllegalActor"),
     },
     Row {
-        text: NO_ENCODING,
+        encoding: NO_ENCODING,
         hash: Sha1,
         key: b"K",
         call: None,
-        comes: Comes::Refused("EmptyValue"),
+        outcome: Outcome::Error("EmptyValue"),
     },
 ];
 
-/// Whether this came of signing a commit.
-fn is_so(alloc: Global, came: &Result<Commit, Error>, comes: Comes) -> bool {
-    match came {
-        Ok(commit) => is_object(alloc, commit, comes),
-        Err(error) => is_refusal(error, comes),
+/// Returns whether signing a commit has this outcome.
+fn is_so(alloc: Global, actual: &Result<Commit, Error>, outcome: Outcome) -> bool {
+    match actual {
+        Ok(commit) => is_object(alloc, commit, outcome),
+        Err(error) => is_error_of(error, outcome),
     }
 }
 
-/// The owned form of the commit of a text.
-fn owned_form(alloc: Global, text: &[u8], hash: Kind) -> Result<Commit, decode::Error> {
-    CommitRef::from_bytes(alloc, text, hash)?.into_owned(alloc)
+/// Returns the owned form of a decoded commit.
+fn owned_form(alloc: Global, encoding: &[u8], hash: Kind) -> Result<Commit, decode::Error> {
+    CommitRef::from_bytes(alloc, encoding, hash)?.into_owned(alloc)
 }
 
-/// Whether what is said comes of signing it, by a runner that plays it.
+/// Returns whether signing the owned form of a row's commit by this runner has the row's outcome.
 fn signs(maker: &mut Maker, row: &Row, runner: &mut Played) -> bool {
     let alloc = maker.alloc;
-    match owned_form(alloc, row.text, row.hash) {
+    match owned_form(alloc, row.encoding, row.hash) {
         Ok(commit) => is_so(
             alloc,
             &commit.sign(alloc, gpg(maker, row.key), runner),
-            row.comes,
+            row.outcome,
         ),
         Err(_) => false,
     }
 }
 
-/// Whether what is said comes of signing the owned form of a commit.
+/// Returns whether signing the owned form of a row's commit has the row's outcome, by the row's calls.
 fn is_signed(alloc: Global, row: &Row) -> bool {
     let mut maker = Maker::new(alloc);
     let mut runner = runner_of_row(&mut maker, row);
     signs(&mut maker, row, &mut runner) && is_over(&maker, &runner)
 }
 
-/// Whether what is said comes of signing the commit as it was read, by a runner that plays it.
+/// Returns whether signing a row's decoded commit by this runner has the row's outcome.
 fn read_signs(maker: &mut Maker, row: &Row, runner: &mut Played) -> bool {
     let alloc = maker.alloc;
-    match CommitRef::from_bytes(alloc, row.text, row.hash) {
+    match CommitRef::from_bytes(alloc, row.encoding, row.hash) {
         Ok(commit) => is_so(
             alloc,
             &commit.sign(alloc, gpg(maker, row.key), runner),
-            row.comes,
+            row.outcome,
         ),
         Err(_) => false,
     }
 }
 
-/// Whether what is said comes of signing the commit as it was read.
+/// Returns whether signing a row's decoded commit has the row's outcome, by the row's calls.
 fn is_read_and_signed(alloc: Global, row: &Row) -> bool {
     let mut maker = Maker::new(alloc);
     let mut runner = runner_of_row(&mut maker, row);
@@ -217,7 +220,7 @@ fn is_read_and_signed(alloc: Global, row: &Row) -> bool {
 }
 
 #[test]
-fn signed(rt: HostRuntime) {
+fn signs_commits_or_returns_error(rt: HostRuntime) {
     assert!(rt; PLAIN.len() == 99);
     assert!(rt; SIGNED.len() == 111);
     for (number, row) in ROWS.iter().enumerate() {
@@ -226,41 +229,41 @@ fn signed(rt: HostRuntime) {
     }
 }
 
-/// A commit whose author's line is that of its tree, and what comes of it.
+/// A commit whose author line is replaced by its tree's id, and the outcome of signing it.
 const NO_AUTHOR: &Row = &Row {
-    text: PLAIN,
+    encoding: PLAIN,
     hash: Sha1,
     key: b"",
     call: None,
-    comes: Comes::Refused("Malformed"),
+    outcome: Outcome::Error("Malformed"),
 };
 
-/// Whether what is said comes of signing a commit whose author's line is that of its tree.
+/// Returns whether signing a commit with its tree's id as author line has the row's outcome.
 fn signs_without_author(maker: &mut Maker, row: &Row, runner: &mut Played) -> bool {
     let alloc = maker.alloc;
-    match CommitRef::from_bytes(alloc, row.text, row.hash) {
+    match CommitRef::from_bytes(alloc, row.encoding, row.hash) {
         Ok(mut commit) => {
             commit.author = commit.tree;
             is_so(
                 alloc,
                 &commit.sign(alloc, gpg(maker, row.key), runner),
-                row.comes,
+                row.outcome,
             )
         }
         Err(_) => false,
     }
 }
 
-/// A line of a commit's author that names none is met before any call.
+/// A malformed author is rejected before any call.
 #[test]
-fn not_made_owned(rt: HostRuntime) {
+fn rejects_malformed_author_before_any_call(rt: HostRuntime) {
     let mut maker = Maker::new(rt.alloc());
     let mut runner = runner_of_row(&mut maker, NO_AUTHOR);
     assert!(rt; signs_without_author(&mut maker, NO_AUTHOR, &mut runner));
     assert!(rt; is_over(&maker, &runner));
 }
 
-/// Texts of commits with the kind of their ids, and the signature and what it signs, or none.
+/// Encodings of commits, their kind of ids, and the signature and the bytes that it signs, if any.
 const FOUND: &[(&[u8], Kind, Option<(&[u8], &[u8])>)] = &[
     (PLAIN, Sha1, None),
     (SIGNED, Sha1, Some((b"A\nB\n", PLAIN))),
@@ -268,7 +271,7 @@ const FOUND: &[(&[u8], Kind, Option<(&[u8], &[u8])>)] = &[
     (SHA256_AGAIN, Sha256, Some((b"A", SHA256_NONE))),
 ];
 
-/// Whether data are these bytes.
+/// Returns whether signed data are these bytes.
 pub(crate) fn has_bytes(alloc: Global, data: &SignedData<'_>, bytes: &[u8]) -> bool {
     match data.to_bstring(alloc) {
         Ok(copy) => copy.as_bytes() == bytes,
@@ -276,9 +279,9 @@ pub(crate) fn has_bytes(alloc: Global, data: &SignedData<'_>, bytes: &[u8]) -> b
     }
 }
 
-/// Whether this signature, with what it signs, is found in the text of a commit.
-fn is_found(alloc: Global, text: &[u8], hash: Kind, expected: Option<(&[u8], &[u8])>) -> bool {
-    match (CommitRefIter::signature(alloc, text, hash), expected) {
+/// Returns whether this signature, with the bytes that it signs, is found in a commit's encoding.
+fn is_found(alloc: Global, encoding: &[u8], hash: Kind, expected: Option<(&[u8], &[u8])>) -> bool {
+    match (CommitRefIter::signature(alloc, encoding, hash), expected) {
         (Ok(Some((signature, signed))), Some((value, payload))) => {
             signature.as_slice() == value && has_bytes(alloc, &signed, payload)
         }
@@ -288,49 +291,49 @@ fn is_found(alloc: Global, text: &[u8], hash: Kind, expected: Option<(&[u8], &[u
 }
 
 #[test]
-fn signatures_found(rt: HostRuntime) {
-    for &(text, hash, expected) in FOUND {
-        assert!(rt; is_found(rt.alloc(), text, hash, expected));
+fn finds_signature_and_signed_bytes(rt: HostRuntime) {
+    for &(encoding, hash, expected) in FOUND {
+        assert!(rt; is_found(rt.alloc(), encoding, hash, expected));
     }
 }
 
-/// The headers of the plain commit, with these bytes behind them.
+/// Returns the headers of the plain commit, with these bytes after them.
 fn headers_and(maker: &mut Maker, rest: &[u8]) -> Vec<u8> {
-    let mut text = maker.bytes(&PLAIN[..95]);
-    if text.extend_from_slice(rest).is_err() {
-        maker.is_refused = true;
+    let mut encoding = maker.bytes(&PLAIN[..95]);
+    if encoding.extend_from_slice(rest).is_err() {
+        maker.is_failed = true;
     }
-    text
+    encoding
 }
 
-/// Whether a signature is found between the headers of the plain commit and these bytes, and the rest is signed.
-fn is_found_behind_headers(alloc: Global, rest: &[u8], value: &[u8], signed: &[u8]) -> bool {
+/// Returns whether a signature is found in `rest` after the headers, and signs these and `signed`.
+fn is_found_after_headers(alloc: Global, rest: &[u8], value: &[u8], signed: &[u8]) -> bool {
     let mut maker = Maker::new(alloc);
-    let text = headers_and(&mut maker, rest);
+    let encoding = headers_and(&mut maker, rest);
     let payload = headers_and(&mut maker, signed);
     let expected = Some((value, payload.as_slice()));
-    !maker.is_refused && is_found(alloc, &text, Sha1, expected)
+    !maker.is_failed && is_found(alloc, &encoding, Sha1, expected)
 }
 
-/// The first signature counts, and what stands behind it isn't looked at.
+/// The first signature is found, and the bytes after it are not examined.
 #[test]
-fn first_signatures(rt: HostRuntime) {
+fn finds_first_signature_only(rt: HostRuntime) {
     let (rest, signed) = (b"gpgsig A\ngpgsig B\nno line", b"gpgsig B\nno line");
-    assert!(rt; is_found_behind_headers(rt.alloc(), rest, b"A", signed));
+    assert!(rt; is_found_after_headers(rt.alloc(), rest, b"A", signed));
 }
 
-/// Whether no signature is told of a text, since a line before any is none that may come there.
-fn is_refused(alloc: Global, text: &[u8], hash: Kind) -> bool {
-    match &CommitRefIter::signature(alloc, text, hash) {
+/// Returns whether the search for a signature fails with `Malformed`, at an invalid line.
+fn is_failed(alloc: Global, encoding: &[u8], hash: Kind) -> bool {
+    match &CommitRefIter::signature(alloc, encoding, hash) {
         Err(error) => matches!(error, decode::Error::Malformed),
         Ok(_) => false,
     }
 }
 
 #[test]
-fn broken_lines(rt: HostRuntime) {
-    assert!(rt; is_refused(rt.alloc(), &SIGNED[..94], Sha1));
-    assert!(rt; is_refused(rt.alloc(), &SIGNED[..106], Sha1));
-    assert!(rt; is_refused(rt.alloc(), SIGNED, Sha256));
-    assert!(rt; is_refused(rt.alloc(), b"gpgsig A\n", Sha1));
+fn rejects_malformed_lines(rt: HostRuntime) {
+    assert!(rt; is_failed(rt.alloc(), &SIGNED[..94], Sha1));
+    assert!(rt; is_failed(rt.alloc(), &SIGNED[..106], Sha1));
+    assert!(rt; is_failed(rt.alloc(), SIGNED, Sha256));
+    assert!(rt; is_failed(rt.alloc(), b"gpgsig A\n", Sha1));
 }

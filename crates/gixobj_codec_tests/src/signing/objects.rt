@@ -1,7 +1,7 @@
-//! What the tests of signed commits and tags share: `gpg`, without further words, and what comes of it.
+//! Helpers for tests of signed commits and tags: `gpg` without further arguments, and the outcomes.
 
-use crate::signing::calls::{Maker, Step, Told};
-use crate::signing::played::Played;
+use crate::signing::calls::{Maker, ScriptedAnswer, Step};
+use crate::signing::scripted::Played;
 use crate::signing::signing::name_of;
 use gixobj_fields::{WriteTo, encode};
 use gixobj_hash::decode;
@@ -10,91 +10,91 @@ use gixobj_signature::signature::sign::{Error, Options};
 use gixobj_text::signature::Format;
 use std::alloc::Global;
 
-/// A row of an object that is to be signed.
+/// A row of an object to be signed.
 #[derive(Clone, Copy)]
 pub(crate) struct Row {
-    /// The text of the object.
-    pub(crate) text: &'static [u8],
+    /// The encoding of the object.
+    pub(crate) encoding: &'static [u8],
     /// The kind of its ids.
     pub(crate) hash: Kind,
     /// The name of the key.
     pub(crate) key: &'static [u8],
-    /// The input of the one call and what is told of it, or none where no call is made.
-    pub(crate) call: Option<(&'static [u8], Told)>,
-    /// What comes of it.
-    pub(crate) comes: Comes,
+    /// The input of the one call, and its scripted answer; `None` if no call is made.
+    pub(crate) call: Option<(&'static [u8], ScriptedAnswer)>,
+    /// The expected outcome.
+    pub(crate) outcome: Outcome,
 }
 
-/// What comes of signing an object.
+/// The outcome of signing an object.
 #[derive(Clone, Copy)]
-pub(crate) enum Comes {
-    /// An object with this text.
-    Text(&'static [u8]),
-    /// The refusal of this name.
-    Refused(&'static str),
+pub(crate) enum Outcome {
+    /// An object with this encoding.
+    Encoding(&'static [u8]),
+    /// The error of this name.
+    Error(&'static str),
 }
 
-/// Signing by `gpg` with this key.
+/// Returns the options of signing by `gpg` with this key.
 pub(crate) fn gpg(maker: &mut Maker, key: &[u8]) -> Options {
     Options {
         format: Format::OpenPgp,
-        program: maker.text(b"gpg"),
+        program: maker.bstring(b"gpg"),
         program_arguments: Vec::new(maker.alloc),
-        signing_key: maker.text(key),
+        signing_key: maker.bstring(key),
         environment: maker.environment(false),
     }
 }
 
-/// The runner that expects the call of a row, by the key `K`.
+/// Returns the runner that expects the call of a row, with the key `K`.
 pub(crate) fn runner_of_row(maker: &mut Maker, row: &Row) -> Played {
-    let Some((payload, told)) = row.call else {
+    let Some((payload, answer)) = row.call else {
         return maker.runner(&[]);
     };
     let step = Step {
         program: b"gpg",
-        words: "--status-fd=2 -bsau K",
+        arguments: "--status-fd=2 -bsau K",
         in_english: false,
         files: &[],
         input: Some(payload),
         result: None,
-        told,
+        answer,
     };
     maker.runner(&[step])
 }
 
-/// Whether all texts were made, and all calls that were expected.
+/// Returns whether no allocation failed and all expected calls were made.
 pub(crate) fn is_over(maker: &Maker, runner: &Played) -> bool {
-    !maker.is_refused && runner.steps.is_empty()
+    !maker.is_failed && runner.steps.is_empty()
 }
 
-/// Whether this text came.
-fn is_text(text: &[u8], comes: Comes) -> bool {
-    match comes {
-        Comes::Text(expected) => text == expected,
-        Comes::Refused(_) => false,
+/// Returns whether the outcome is this encoding.
+fn is_encoding(encoding: &[u8], outcome: Outcome) -> bool {
+    match outcome {
+        Outcome::Encoding(expected) => encoding == expected,
+        Outcome::Error(_) => false,
     }
 }
 
-/// Whether this came: an object that was signed, with its text, or why it isn't written.
-pub(crate) fn is_object<T: WriteTo>(alloc: Global, object: &T, comes: Comes) -> bool
+/// Returns whether the outcome is the encoding of this signed object, or the error of writing it.
+pub(crate) fn is_object<T: WriteTo>(alloc: Global, object: &T, outcome: Outcome) -> bool
     requires { T.can_write object.now }
 {
-    let mut text = Vec::new(alloc);
-    match object.write_to(alloc, &mut text) {
-        Ok(()) => is_text(&text, comes),
-        Err(error) => is_refusal(&Error::Encode(error), comes),
+    let mut encoding = Vec::new(alloc);
+    match object.write_to(alloc, &mut encoding) {
+        Ok(()) => is_encoding(&encoding, outcome),
+        Err(error) => is_error_of(&Error::Encode(error), outcome),
     }
 }
 
-/// Whether this refusal came.
-pub(crate) fn is_refusal(error: &Error, comes: Comes) -> bool {
-    match comes {
-        Comes::Refused(expected) => name_of_all(error) == expected,
-        Comes::Text(_) => false,
+/// Returns whether the outcome is this error.
+pub(crate) fn is_error_of(error: &Error, outcome: Outcome) -> bool {
+    match outcome {
+        Outcome::Error(expected) => name_of_all(error) == expected,
+        Outcome::Encoding(_) => false,
     }
 }
 
-/// The name of a refusal, with that of its cause where no call was made.
+/// Returns the name of an error, or of its cause if the error comes before any call.
 fn name_of_all(error: &Error) -> &'static str {
     match error {
         Error::Decode(decode::Error::Malformed) => "Malformed",

@@ -1,84 +1,90 @@
-//! Signing: the words of each call, and what comes of each answer.
+//! Signing: the arguments of each call, and the outcome of each answer.
 
-use crate::signing::calls::{Maker, PROGRAM, Step, Told, WHY, name_with};
+use crate::signing::calls::{Maker, PROGRAM, ScriptedAnswer, Step, WHY, name_with};
 use crate::signing::objects::is_over;
 use bstr::BString;
 use gixobj_signature::signature::sign::{Error, Options, is_literal_ssh_key, sign_payload};
 use gixobj_text::signature::Format::{self, OpenPgp, Ssh, X509};
 use std::alloc::Global;
 
-/// What comes of signing.
+/// The outcome of signing.
 #[derive(Clone, Copy)]
-enum Comes {
+enum Outcome {
     /// This signature.
     Signature(&'static [u8]),
-    /// The refusal of this name.
-    Refused(&'static str),
+    /// The error of this name.
+    Error(&'static str),
 }
 
 /// The confirmation of a signature.
 pub(crate) const CREATED: &[u8] = b"[GNUPG:] SIG_CREATED x\n";
 
-/// Signing by a program of OpenPGP or of X.509: what is told of its call, and what comes of it.
-const GPG: &[(Told, Comes)] = &[
+/// Answers of a program of OpenPGP or of X.509, and the outcomes of signing.
+const GPG: &[(ScriptedAnswer, Outcome)] = &[
     (
-        Told::Ran(true, b"A\r\nB\r\n", CREATED, None),
-        Comes::Signature(b"A\nB\n"),
+        ScriptedAnswer::Ran(true, b"A\r\nB\r\n", CREATED, None),
+        Outcome::Signature(b"A\nB\n"),
     ),
     (
-        Told::Ran(true, b"A\rB\r\r\n\r", CREATED, None),
-        Comes::Signature(b"A\rB\r\n\r"),
+        ScriptedAnswer::Ran(true, b"A\rB\r\r\n\r", CREATED, None),
+        Outcome::Signature(b"A\rB\r\n\r"),
     ),
     (
-        Told::Ran(true, b"", b"x\r\n[GNUPG:] SIG_CREATED ", None),
-        Comes::Signature(b""),
+        ScriptedAnswer::Ran(true, b"", b"x\r\n[GNUPG:] SIG_CREATED ", None),
+        Outcome::Signature(b""),
     ),
     (
-        Told::Ran(true, b"A\n", b"", None),
-        Comes::Refused("MissingSignatureConfirmation"),
+        ScriptedAnswer::Ran(true, b"A\n", b"", None),
+        Outcome::Error("MissingSignatureConfirmation"),
     ),
     (
-        Told::Ran(
+        ScriptedAnswer::Ran(
             true,
             b"A\n",
             b"x [GNUPG:] SIG_CREATED x\n[GNUPG:] SIG_CREATED\n",
             None,
         ),
-        Comes::Refused("MissingSignatureConfirmation"),
+        Outcome::Error("MissingSignatureConfirmation"),
     ),
     (
-        Told::Ran(false, b"A\n", CREATED, None),
-        Comes::Refused("Failed"),
+        ScriptedAnswer::Ran(false, b"A\n", CREATED, None),
+        Outcome::Error("Failed"),
     ),
-    (Told::NoFile, Comes::Refused("TemporaryFile")),
-    (Told::NotStarted, Comes::Refused("Spawn")),
-    (Told::NotTold, Comes::Refused("Communicate")),
-    (Told::NoTime, Comes::Refused("Communicate")),
-    (Told::NoMemory, Comes::Refused("OutOfMemory")),
+    (ScriptedAnswer::NoFile, Outcome::Error("TemporaryFile")),
+    (ScriptedAnswer::NotStarted, Outcome::Error("Spawn")),
+    (
+        ScriptedAnswer::NoCommunication,
+        Outcome::Error("Communicate"),
+    ),
+    (ScriptedAnswer::NoTime, Outcome::Error("Communicate")),
+    (ScriptedAnswer::NoMemory, Outcome::Error("OutOfMemory")),
 ];
 
-/// The same by a program of SSH.
-const SSH: &[(Told, Comes)] = &[
+/// Answers of a program of SSH, and the outcomes of signing.
+const SSH: &[(ScriptedAnswer, Outcome)] = &[
     (
-        Told::Ran(true, b"", b"", Some(b"S\r\nT")),
-        Comes::Signature(b"S\nT"),
+        ScriptedAnswer::Ran(true, b"", b"", Some(b"S\r\nT")),
+        Outcome::Signature(b"S\nT"),
     ),
     (
-        Told::Ran(true, b"S", CREATED, None),
-        Comes::Refused("MissingSshSignature"),
+        ScriptedAnswer::Ran(true, b"S", CREATED, None),
+        Outcome::Error("MissingSshSignature"),
     ),
     (
-        Told::Ran(false, b"", b"why", Some(b"S")),
-        Comes::Refused("Failed"),
+        ScriptedAnswer::Ran(false, b"", b"why", Some(b"S")),
+        Outcome::Error("Failed"),
     ),
-    (Told::NoFile, Comes::Refused("TemporaryFile")),
-    (Told::NotStarted, Comes::Refused("Spawn")),
-    (Told::NotTold, Comes::Refused("Communicate")),
-    (Told::NoTime, Comes::Refused("Communicate")),
-    (Told::NoMemory, Comes::Refused("OutOfMemory")),
+    (ScriptedAnswer::NoFile, Outcome::Error("TemporaryFile")),
+    (ScriptedAnswer::NotStarted, Outcome::Error("Spawn")),
+    (
+        ScriptedAnswer::NoCommunication,
+        Outcome::Error("Communicate"),
+    ),
+    (ScriptedAnswer::NoTime, Outcome::Error("Communicate")),
+    (ScriptedAnswer::NoMemory, Outcome::Error("OutOfMemory")),
 ];
 
-/// A key of SSH, the words and the files of its calls, and the file whose neighbour is asked for.
+/// An SSH key, the arguments and files of its call, and the index of the file next to the result file.
 type Key = (&'static [u8], &'static str, &'static [&'static [u8]], usize);
 
 const KEYS: &[Key] = &[
@@ -109,78 +115,84 @@ const KEYS: &[Key] = &[
     ),
 ];
 
-/// How is signed.
+/// Returns the options of signing.
 fn options_of(maker: &mut Maker, format: Format, key: &[u8]) -> Options {
     Options {
         format,
-        program: maker.text(PROGRAM),
-        program_arguments: maker.texts(&[b"-x"]),
-        signing_key: maker.text(key),
+        program: maker.bstring(PROGRAM),
+        program_arguments: maker.bstrings(&[b"-x"]),
+        signing_key: maker.bstring(key),
         environment: maker.environment(false),
     }
 }
 
-/// The call of a program of OpenPGP or of X.509, of which this is told.
-fn gpg_step(told: Told) -> Step<'static> {
+/// Returns the call of a program of OpenPGP or of X.509, with this answer.
+fn gpg_step(answer: ScriptedAnswer) -> Step<'static> {
     Step {
         program: PROGRAM,
-        words: "-x --status-fd=2 -bsau K",
+        arguments: "-x --status-fd=2 -bsau K",
         in_english: false,
         files: &[],
         input: Some(b"payload"),
         result: None,
-        told,
+        answer,
     }
 }
 
-/// The call of a program of SSH for a key, of which this is told.
-fn ssh_step(key: &Key, told: Told) -> Step<'static> {
-    let (_, words, files, asked) = *key;
+/// Returns the call of a program of SSH for a key, with this answer.
+fn ssh_step(key: &Key, answer: ScriptedAnswer) -> Step<'static> {
+    let (_, arguments, files, result_index) = *key;
     Step {
         program: PROGRAM,
-        words,
+        arguments,
         in_english: false,
         files,
         input: None,
-        result: Some(asked),
-        told,
+        result: Some(result_index),
+        answer,
     }
 }
 
-/// Whether this came of signing.
-fn is_so(came: &Result<BString, Error>, comes: Comes) -> bool {
-    match came {
-        Ok(signature) => is_signature(signature, comes),
-        Err(error) => is_refusal(error, comes),
+/// Returns whether signing has this outcome.
+fn is_so(actual: &Result<BString, Error>, outcome: Outcome) -> bool {
+    match actual {
+        Ok(signature) => is_signature(signature, outcome),
+        Err(error) => is_error_of(error, outcome),
     }
 }
 
-/// Whether this signature came.
-fn is_signature(signature: &BString, comes: Comes) -> bool {
-    match comes {
-        Comes::Signature(expected) => signature.as_bytes() == expected,
-        Comes::Refused(_) => false,
+/// Returns whether the outcome is this signature.
+fn is_signature(signature: &BString, outcome: Outcome) -> bool {
+    match outcome {
+        Outcome::Signature(expected) => signature.as_bytes() == expected,
+        Outcome::Error(_) => false,
     }
 }
 
-/// Whether this refusal came.
-fn is_refusal(error: &Error, comes: Comes) -> bool {
-    match comes {
-        Comes::Refused(expected) => name_of(error) == expected,
-        Comes::Signature(_) => false,
+/// Returns whether the outcome is this error.
+fn is_error_of(error: &Error, outcome: Outcome) -> bool {
+    match outcome {
+        Outcome::Error(expected) => name_of(error) == expected,
+        Outcome::Signature(_) => false,
     }
 }
 
-/// Whether signing with this key comes to this, by exactly these calls.
-fn comes_to(alloc: Global, format: Format, key: &[u8], steps: &[Step<'_>], comes: Comes) -> bool {
+/// Returns whether signing with this key has this outcome, by these calls only.
+fn has_outcome(
+    alloc: Global,
+    format: Format,
+    key: &[u8],
+    steps: &[Step<'_>],
+    outcome: Outcome,
+) -> bool {
     let mut maker = Maker::new(alloc);
     let mut runner = maker.runner(steps);
     let options = options_of(&mut maker, format, key);
-    let came = sign_payload(alloc, b"payload", options, &mut runner);
-    is_so(&came, comes) && is_over(&maker, &runner)
+    let actual = sign_payload(alloc, b"payload", options, &mut runner);
+    is_so(&actual, outcome) && is_over(&maker, &runner)
 }
 
-/// The name of a refusal, where it has what it is to have.
+/// Returns the name of an error, if its payload is as expected.
 pub(crate) fn name_of(error: &Error) -> &'static str {
     match error {
         Error::MissingSigningKey => "MissingSigningKey",
@@ -195,27 +207,28 @@ pub(crate) fn name_of(error: &Error) -> &'static str {
     }
 }
 
-/// Whether signing by a program of this format comes to what a row says.
-fn comes_to_row(alloc: Global, format: Format, row: &(Told, Comes)) -> bool {
-    let (told, comes) = *row;
-    comes_to(alloc, format, b"K", &[gpg_step(told)], comes)
+/// Returns whether signing by a program of this format has the outcome of a row.
+fn has_row_outcome(alloc: Global, format: Format, row: &(ScriptedAnswer, Outcome)) -> bool {
+    let (answer, outcome) = *row;
+    has_outcome(alloc, format, b"K", &[gpg_step(answer)], outcome)
 }
 
 #[test]
-fn by_programs_of_open_pgp_and_x509(rt: HostRuntime) {
+fn signs_by_open_pgp_and_x509(rt: HostRuntime) {
     for (number, row) in GPG.iter().enumerate() {
-        let is_so = comes_to_row(rt.alloc(), OpenPgp, row) && comes_to_row(rt.alloc(), X509, row);
+        let is_so = has_row_outcome(rt.alloc(), OpenPgp, row)
+            && has_row_outcome(rt.alloc(), X509, row);
         assert!(rt; is_so, "{number}");
     }
 }
 
-/// Whether signing with a key comes to what a row says.
-fn signs_row_by_ssh(alloc: Global, key: &Key, row: &(Told, Comes)) -> bool {
-    let (told, comes) = *row;
-    comes_to(alloc, Ssh, key.0, &[ssh_step(key, told)], comes)
+/// Returns whether signing with an SSH key has the outcome of a row.
+fn signs_row_by_ssh(alloc: Global, key: &Key, row: &(ScriptedAnswer, Outcome)) -> bool {
+    let (answer, outcome) = *row;
+    has_outcome(alloc, Ssh, key.0, &[ssh_step(key, answer)], outcome)
 }
 
-/// Whether that is so whatever is told of its call.
+/// Returns whether signing with an SSH key has the outcome of each row.
 fn signs_by_ssh(alloc: Global, key: &Key) -> bool {
     for row in SSH {
         if !signs_row_by_ssh(alloc, key, row) {
@@ -226,7 +239,7 @@ fn signs_by_ssh(alloc: Global, key: &Key) -> bool {
 }
 
 #[test]
-fn by_programs_of_ssh(rt: HostRuntime) {
+fn signs_by_ssh_with_each_key(rt: HostRuntime) {
     for key in KEYS {
         assert!(rt; signs_by_ssh(rt.alloc(), key), "{}", key.1);
     }
@@ -234,22 +247,22 @@ fn by_programs_of_ssh(rt: HostRuntime) {
 
 #[test]
 fn without_a_key_no_call_is_made(rt: HostRuntime) {
-    let refused = Comes::Refused("MissingSigningKey");
+    let missing_key = Outcome::Error("MissingSigningKey");
     for format in [OpenPgp, X509, Ssh] {
         assert!(rt;
-            comes_to(rt.alloc(), format, b"", &[], refused),
+            has_outcome(rt.alloc(), format, b"", &[], missing_key),
             "{format:?}"
         );
     }
 }
 
-/// Whether a key is given by these bytes, or by none.
+/// Returns whether a key is literal with these bytes, or not literal if `bytes` is `None`.
 fn is_literal(key: &[u8], bytes: Option<&[u8]>) -> bool {
     is_literal_ssh_key(key) == bytes
 }
 
 #[test]
-fn keys_given_by_their_bytes(rt: HostRuntime) {
+fn recognizes_literal_ssh_keys(rt: HostRuntime) {
     assert!(rt; is_literal(b"key::k", Some(b"k")));
     assert!(rt; is_literal(b"ssh-k", Some(b"ssh-k")));
     assert!(rt; is_literal(b"Key::k", None));

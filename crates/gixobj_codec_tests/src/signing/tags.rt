@@ -1,9 +1,9 @@
-//! Tags that are signed, and signatures that are found in their texts.
+//! Signed tags, and signatures found in their encodings.
 
-use crate::signing::calls::{Maker, Step, Told};
+use crate::signing::calls::{Maker, ScriptedAnswer, Step};
 use crate::signing::commits::has_bytes;
-use crate::signing::objects::{Comes, Row, gpg, is_object, is_over, is_refusal, runner_of_row};
-use crate::signing::played::Played;
+use crate::signing::objects::{Outcome, Row, gpg, is_error_of, is_object, is_over, runner_of_row};
+use crate::signing::scripted::Played;
 use crate::signing::signing::CREATED;
 use bstr::BStr;
 use gixobj_hash::decode;
@@ -14,7 +14,7 @@ use gixobj_tag::{Tag, TagRef};
 use gixobj_text::signature::{Format, SignatureRef};
 use std::alloc::Global;
 
-/// A signature of OpenPGP.
+/// An OpenPGP signature.
 const PGP: &[u8] = b"-----BEGIN PGP SIGNATURE-----\n";
 
 /// A tag of 65 bytes.
@@ -22,14 +22,14 @@ const BARE: &[u8] = b"object 4b825dc642cb6eb9a060e54bf8d69288fbee4904\n\
     type tree\n\
     tag v1\n";
 
-/// The same with a message of two newlines.
+/// The bare tag with a message of two newlines.
 const NEWLINES: &[u8] = b"object 4b825dc642cb6eb9a060e54bf8d69288fbee4904\n\
     type tree\n\
     tag v1\n\
     \n\
     \n";
 
-/// What is signed of it, 68 bytes.
+/// The bytes that are signed of `NEWLINES`, 68 of them.
 const PAYLOAD: &[u8] = b"object 4b825dc642cb6eb9a060e54bf8d69288fbee4904\n\
     type tree\n\
     tag v1\n\
@@ -37,7 +37,7 @@ const PAYLOAD: &[u8] = b"object 4b825dc642cb6eb9a060e54bf8d69288fbee4904\n\
     \n\
     \n";
 
-/// The same with a signature, 98 bytes.
+/// The tag `NEWLINES` with a signature, of 98 bytes.
 const SIGNED: &[u8] = b"object 4b825dc642cb6eb9a060e54bf8d69288fbee4904\n\
     type tree\n\
     tag v1\n\
@@ -46,7 +46,7 @@ const SIGNED: &[u8] = b"object 4b825dc642cb6eb9a060e54bf8d69288fbee4904\n\
     \n\
     -----BEGIN PGP SIGNATURE-----\n";
 
-/// The same, read and signed again: the message that is read is one newline.
+/// The tag `SIGNED`, decoded and signed again: the decoded message is one newline.
 const SIGNED_AGAIN: &[u8] = b"object 4b825dc642cb6eb9a060e54bf8d69288fbee4904\n\
     type tree\n\
     tag v1\n\
@@ -55,7 +55,7 @@ const SIGNED_AGAIN: &[u8] = b"object 4b825dc642cb6eb9a060e54bf8d69288fbee4904\n\
     -----BEGIN PGP MESSAGE-----\n\
     x\n";
 
-/// A tag with ids of SHA-256, a tagger and a message.
+/// A tag with SHA-256 ids, a tagger and a message.
 const SHA256: &[u8] = b"object 6ef19b41225c5369f1c104d45d8d85efa9b057b53b14b4b9b939dd74decc5321\n\
     type tree\n\
     tag v1\n\
@@ -63,7 +63,7 @@ const SHA256: &[u8] = b"object 6ef19b41225c5369f1c104d45d8d85efa9b057b53b14b4b9b
     \n\
     hi";
 
-/// What is signed of it.
+/// The bytes that are signed of `SHA256`.
 const SHA256_PAYLOAD: &[u8] =
     b"object 6ef19b41225c5369f1c104d45d8d85efa9b057b53b14b4b9b939dd74decc5321\n\
     type tree\n\
@@ -72,7 +72,7 @@ const SHA256_PAYLOAD: &[u8] =
     \n\
     hi\n";
 
-/// The same with a signature.
+/// The tag `SHA256` with a signature.
 const SHA256_SIGNED: &[u8] =
     b"object 6ef19b41225c5369f1c104d45d8d85efa9b057b53b14b4b9b939dd74decc5321\n\
     type tree\n\
@@ -82,113 +82,116 @@ const SHA256_SIGNED: &[u8] =
     hi\n\
     -----BEGIN PGP SIGNATURE-----\n";
 
-/// A tag with a name that no tag may have.
+/// A tag with an invalid name.
 const DASH: &[u8] = b"object 4b825dc642cb6eb9a060e54bf8d69288fbee4904\n\
     type tree\n\
     tag -v\n";
 
-/// A tag with bytes behind its tagger.
+/// A tag with further bytes after its tagger.
 const TAGGER_AND_MORE: &[u8] = b"object 4b825dc642cb6eb9a060e54bf8d69288fbee4904\n\
     type tree\n\
     tag v1\n\
     tagger A <a@b> 0 +0000 x\n";
 
-/// Tags to be signed, and what comes of it.
+/// Tags to be signed, and their outcomes.
 const ROWS: &[Row] = &[
     Row {
-        text: NEWLINES,
+        encoding: NEWLINES,
         hash: Sha1,
         key: b"K",
-        call: Some((PAYLOAD, Told::Ran(true, PGP, CREATED, None))),
-        comes: Comes::Text(SIGNED),
+        call: Some((PAYLOAD, ScriptedAnswer::Ran(true, PGP, CREATED, None))),
+        outcome: Outcome::Encoding(SIGNED),
     },
     Row {
-        text: SIGNED,
+        encoding: SIGNED,
         hash: Sha1,
         key: b"K",
         call: Some((
             NEWLINES,
-            Told::Ran(true, b"-----BEGIN PGP MESSAGE-----\r\nx\r\n", CREATED, None),
+            ScriptedAnswer::Ran(true, b"-----BEGIN PGP MESSAGE-----\r\nx\r\n", CREATED, None),
         )),
-        comes: Comes::Text(SIGNED_AGAIN),
+        outcome: Outcome::Encoding(SIGNED_AGAIN),
     },
     Row {
-        text: SHA256,
+        encoding: SHA256,
         hash: Sha256,
         key: b"K",
-        call: Some((SHA256_PAYLOAD, Told::Ran(true, PGP, CREATED, None))),
-        comes: Comes::Text(SHA256_SIGNED),
+        call: Some((
+            SHA256_PAYLOAD,
+            ScriptedAnswer::Ran(true, PGP, CREATED, None),
+        )),
+        outcome: Outcome::Encoding(SHA256_SIGNED),
     },
     Row {
-        text: NEWLINES,
+        encoding: NEWLINES,
         hash: Sha1,
         key: b"K",
-        call: Some((PAYLOAD, Told::Ran(true, PGP, b"", None))),
-        comes: Comes::Refused("MissingSignatureConfirmation"),
+        call: Some((PAYLOAD, ScriptedAnswer::Ran(true, PGP, b"", None))),
+        outcome: Outcome::Error("MissingSignatureConfirmation"),
     },
     Row {
-        text: NEWLINES,
+        encoding: NEWLINES,
         hash: Sha1,
         key: b"",
         call: None,
-        comes: Comes::Refused("MissingSigningKey"),
+        outcome: Outcome::Error("MissingSigningKey"),
     },
     Row {
-        text: DASH,
+        encoding: DASH,
         hash: Sha1,
         key: b"",
         call: None,
-        comes: Comes::Refused("StartsWithDash"),
+        outcome: Outcome::Error("StartsWithDash"),
     },
 ];
 
-/// Whether this came of signing a tag.
-fn is_so(alloc: Global, came: &Result<Tag, Error>, comes: Comes) -> bool {
-    match came {
-        Ok(tag) => is_object(alloc, tag, comes),
-        Err(error) => is_refusal(error, comes),
+/// Returns whether signing a tag has this outcome.
+fn is_so(alloc: Global, actual: &Result<Tag, Error>, outcome: Outcome) -> bool {
+    match actual {
+        Ok(tag) => is_object(alloc, tag, outcome),
+        Err(error) => is_error_of(error, outcome),
     }
 }
 
-/// The owned form of the tag of a text.
-fn owned_form(alloc: Global, text: &[u8], hash: Kind) -> Result<Tag, decode::Error> {
-    TagRef::from_bytes(text, hash)?.into_owned(alloc)
+/// Returns the owned form of a decoded tag.
+fn owned_form(alloc: Global, encoding: &[u8], hash: Kind) -> Result<Tag, decode::Error> {
+    TagRef::from_bytes(encoding, hash)?.into_owned(alloc)
 }
 
-/// Whether what is said comes of signing it, by a runner that plays it.
+/// Returns whether signing the owned form of a row's tag by this runner has the row's outcome.
 fn signs(maker: &mut Maker, row: &Row, runner: &mut Played) -> bool {
     let alloc = maker.alloc;
-    match owned_form(alloc, row.text, row.hash) {
+    match owned_form(alloc, row.encoding, row.hash) {
         Ok(tag) => is_so(
             alloc,
             &tag.sign(alloc, gpg(maker, row.key), runner),
-            row.comes,
+            row.outcome,
         ),
         Err(_) => false,
     }
 }
 
-/// Whether what is said comes of signing the owned form of a tag.
+/// Returns whether signing the owned form of a row's tag has the row's outcome, by the row's calls.
 fn is_signed(alloc: Global, row: &Row) -> bool {
     let mut maker = Maker::new(alloc);
     let mut runner = runner_of_row(&mut maker, row);
     signs(&mut maker, row, &mut runner) && is_over(&maker, &runner)
 }
 
-/// Whether what is said comes of signing the tag as it was read, by a runner that plays it.
+/// Returns whether signing a row's decoded tag by this runner has the row's outcome.
 fn read_signs(maker: &mut Maker, row: &Row, runner: &mut Played) -> bool {
     let alloc = maker.alloc;
-    match TagRef::from_bytes(row.text, row.hash) {
+    match TagRef::from_bytes(row.encoding, row.hash) {
         Ok(tag) => is_so(
             alloc,
             &tag.sign(alloc, gpg(maker, row.key), runner),
-            row.comes,
+            row.outcome,
         ),
         Err(_) => false,
     }
 }
 
-/// Whether what is said comes of signing the tag as it was read.
+/// Returns whether signing a row's decoded tag has the row's outcome, by the row's calls.
 fn is_read_and_signed(alloc: Global, row: &Row) -> bool {
     let mut maker = Maker::new(alloc);
     let mut runner = runner_of_row(&mut maker, row);
@@ -196,7 +199,7 @@ fn is_read_and_signed(alloc: Global, row: &Row) -> bool {
 }
 
 #[test]
-fn signed(rt: HostRuntime) {
+fn signs_tags_or_returns_error(rt: HostRuntime) {
     assert!(rt; BARE.len() == 65);
     assert!(rt; PAYLOAD.len() == 68);
     assert!(rt; SIGNED.len() == 98);
@@ -206,73 +209,76 @@ fn signed(rt: HostRuntime) {
     }
 }
 
-/// A tag with bytes behind its tagger, and what comes of it.
+/// A tag with further bytes after its tagger, and its outcome.
 const MORE: &Row = &Row {
-    text: TAGGER_AND_MORE,
+    encoding: TAGGER_AND_MORE,
     hash: Sha1,
     key: b"",
     call: None,
-    comes: Comes::Refused("Malformed"),
+    outcome: Outcome::Error("Malformed"),
 };
 
-/// Bytes behind a tagger are met before any call.
+/// Bytes after a tagger are rejected before any call.
 #[test]
-fn not_made_owned(rt: HostRuntime) {
+fn rejects_bytes_after_tagger_before_any_call(rt: HostRuntime) {
     assert!(rt; is_read_and_signed(rt.alloc(), MORE));
 }
 
-/// Signing by a program of SSH with this key.
+/// Returns the options of signing by a program of SSH with this key.
 fn ssh(maker: &mut Maker, key: &[u8]) -> Options {
     Options {
         format: Format::Ssh,
-        program: maker.text(b"ssh-keygen"),
+        program: maker.bstring(b"ssh-keygen"),
         program_arguments: Vec::new(maker.alloc),
-        signing_key: maker.text(key),
+        signing_key: maker.bstring(key),
         environment: maker.environment(false),
     }
 }
 
-/// The call that signs a payload with the key `k`, given by its bytes, and this file that is left.
-fn ssh_step(payload: &'static [&'static [u8]], left: Option<&'static [u8]>) -> Step<'static> {
+/// Returns the call that signs a payload with the literal key `k`, and leaves this result file.
+fn ssh_step(
+    payload: &'static [&'static [u8]],
+    result_file: Option<&'static [u8]>,
+) -> Step<'static> {
     Step {
         program: b"ssh-keygen",
-        words: "-Y sign -n git -f @0 -U @1",
+        arguments: "-Y sign -n git -f @0 -U @1",
         in_english: false,
         files: payload,
         input: None,
         result: Some(1),
-        told: Told::Ran(true, b"", b"", left),
+        answer: ScriptedAnswer::Ran(true, b"", b"", result_file),
     }
 }
 
-/// Whether this comes of signing the tag with newlines, by a runner that plays a program of SSH.
-fn signs_by_ssh(maker: &mut Maker, runner: &mut Played, comes: Comes) -> bool {
+/// Returns whether signing `NEWLINES` by a scripted program of SSH has this outcome.
+fn signs_by_ssh(maker: &mut Maker, runner: &mut Played, outcome: Outcome) -> bool {
     let alloc = maker.alloc;
     match owned_form(alloc, NEWLINES, Sha1) {
         Ok(tag) => is_so(
             alloc,
             &tag.sign(alloc, ssh(maker, b"key::k"), runner),
-            comes,
+            outcome,
         ),
         Err(_) => false,
     }
 }
 
-/// Whether this comes of signing it by a program of SSH that leaves this file.
-fn is_signed_by_ssh(alloc: Global, left: Option<&'static [u8]>, comes: Comes) -> bool {
+/// Returns whether signing by a program of SSH that leaves this file has this outcome.
+fn is_signed_by_ssh(alloc: Global, result_file: Option<&'static [u8]>, outcome: Outcome) -> bool {
     let mut maker = Maker::new(alloc);
-    let mut runner = maker.runner(&[ssh_step(&[b"k", PAYLOAD], left)]);
-    signs_by_ssh(&mut maker, &mut runner, comes) && is_over(&maker, &runner)
+    let mut runner = maker.runner(&[ssh_step(&[b"k", PAYLOAD], result_file)]);
+    signs_by_ssh(&mut maker, &mut runner, outcome) && is_over(&maker, &runner)
 }
 
 #[test]
-fn by_programs_of_ssh(rt: HostRuntime) {
-    let refused = Comes::Refused("MissingSshSignature");
-    assert!(rt; is_signed_by_ssh(rt.alloc(), Some(PGP), Comes::Text(SIGNED)));
-    assert!(rt; is_signed_by_ssh(rt.alloc(), None, refused));
+fn signs_by_ssh_or_returns_error(rt: HostRuntime) {
+    let missing = Outcome::Error("MissingSshSignature");
+    assert!(rt; is_signed_by_ssh(rt.alloc(), Some(PGP), Outcome::Encoding(SIGNED)));
+    assert!(rt; is_signed_by_ssh(rt.alloc(), None, missing));
 }
 
-/// The signature of OpenPGP with these bytes.
+/// Returns the OpenPGP signature with these bytes.
 fn pgp(bytes: &[u8]) -> SignatureRef<'_> {
     SignatureRef {
         format: Format::OpenPgp,
@@ -280,41 +286,41 @@ fn pgp(bytes: &[u8]) -> SignatureRef<'_> {
     }
 }
 
-/// Whether the tag of a text has a message of one newline, and this signature.
-fn has_signature(text: &[u8], signature: SignatureRef<'_>) -> bool {
-    match TagRef::from_bytes(text, Sha1) {
+/// Returns whether a decoded tag has a message of one newline, and this signature.
+fn has_signature(encoding: &[u8], signature: SignatureRef<'_>) -> bool {
+    match TagRef::from_bytes(encoding, Sha1) {
         Ok(tag) => tag.message == BStr::new(b"\n") && tag.signature() == Some(signature),
         Err(_) => false,
     }
 }
 
-/// Whether its owned form has this signature.
-fn is_owned_with_signature(alloc: Global, text: &[u8], signature: SignatureRef<'_>) -> bool {
-    match owned_form(alloc, text, Sha1) {
+/// Returns whether an owned tag has this signature.
+fn is_owned_with_signature(alloc: Global, encoding: &[u8], signature: SignatureRef<'_>) -> bool {
+    match owned_form(alloc, encoding, Sha1) {
         Ok(tag) => tag.signature() == Some(signature),
         Err(_) => false,
     }
 }
 
-/// Whether the tag of a text has no signature.
-fn is_read_without_signature(text: &[u8]) -> bool {
-    match TagRef::from_bytes(text, Sha1) {
+/// Returns whether a decoded tag has no signature.
+fn is_read_without_signature(encoding: &[u8]) -> bool {
+    match TagRef::from_bytes(encoding, Sha1) {
         Ok(tag) => tag.signature().is_none(),
         Err(_) => false,
     }
 }
 
-/// A tag that is read has the signature that is found in its text.
+/// A decoded tag has the signature that is found in its encoding.
 #[test]
-fn read_back(rt: HostRuntime) {
+fn decoded_tag_has_signature_found_in_encoding(rt: HostRuntime) {
     assert!(rt; has_signature(SIGNED, pgp(PGP)));
     assert!(rt; is_owned_with_signature(rt.alloc(), SIGNED, pgp(PGP)));
     assert!(rt; is_read_without_signature(NEWLINES));
 }
 
-/// Whether this signature, with what it signs, is found in the text of a tag.
-fn is_found(alloc: Global, text: &[u8], bytes: &[u8], payload: &[u8]) -> bool {
-    match TagRefIter::signature(text) {
+/// Returns whether this signature, with the bytes that it signs, is found in a tag's encoding.
+fn is_found(alloc: Global, encoding: &[u8], bytes: &[u8], payload: &[u8]) -> bool {
+    match TagRefIter::signature(encoding) {
         Some((signature, signed)) => {
             signature == pgp(bytes) && has_bytes(alloc, &signed, payload)
         }
@@ -322,13 +328,13 @@ fn is_found(alloc: Global, text: &[u8], bytes: &[u8], payload: &[u8]) -> bool {
     }
 }
 
-/// Whether none is found.
-fn is_unsigned(text: &[u8]) -> bool {
-    TagRefIter::signature(text).is_none()
+/// Returns whether no signature is found in an encoding.
+fn is_unsigned(encoding: &[u8]) -> bool {
+    TagRefIter::signature(encoding).is_none()
 }
 
 #[test]
-fn signatures_found(rt: HostRuntime) {
+fn finds_signature_and_signed_bytes(rt: HostRuntime) {
     assert!(rt; is_found(rt.alloc(), SIGNED, PGP, PAYLOAD));
     assert!(rt; is_found(rt.alloc(), SHA256_SIGNED, PGP, SHA256_PAYLOAD));
     assert!(rt; is_found(rt.alloc(), PGP, PGP, b""));

@@ -1,11 +1,11 @@
-//! What is shown of a refused name of a tag.
+//! Error messages for rejected names of tags.
 
 use gixobj_base::encode;
 use gixobj_base::encode::RefNameFault::{DoubleDot, Empty};
 use gixobj_codec::tag::write::Error;
 use std::alloc::Global;
 
-/// A refusal, and what is shown of it, also as a writer's.
+/// Errors and their messages, which are also those of the writer's errors.
 const SHOWN: &[(Error, &str)] = &[
     (Error::StartsWithDash, "the name of a tag begins with `-`"),
     (
@@ -18,23 +18,25 @@ const SHOWN: &[(Error, &str)] = &[
     ),
 ];
 
-/// Whether this is shown of a refusal, also as a writer's.
-fn is_shown(alloc: Global, refusal: Error, text: &str) -> bool {
-    refusal.to_string(alloc).is_ok_and(|it| it.as_str() == text)
-        && is_writer_shown(alloc, refusal, text)
+/// Returns whether an error has this message, also as a writer's error.
+fn is_shown(alloc: Global, error: Error, message: &str) -> bool {
+    error
+        .to_string(alloc)
+        .is_ok_and(|it| it.as_str() == message)
+        && is_writer_shown(alloc, error, message)
 }
 
-/// Whether this is shown of a refusal as a writer's.
-fn is_writer_shown(alloc: Global, refusal: Error, text: &str) -> bool {
-    match encode::Error::from(refusal).to_string(alloc) {
-        Ok(it) => it.as_str() == text,
+/// Returns whether an error has this message as a writer's error.
+fn is_writer_shown(alloc: Global, error: Error, message: &str) -> bool {
+    match encode::Error::from(error).to_string(alloc) {
+        Ok(it) => it.as_str() == message,
         Err(_) => false,
     }
 }
 
 #[test]
-fn refusals_shown(rt: HostRuntime) {
-    for &(refusal, text) in SHOWN {
-        assert!(rt; is_shown(rt.alloc(), refusal, text), "{text}");
+fn errors_print_their_messages(rt: HostRuntime) {
+    for &(error, message) in SHOWN {
+        assert!(rt; is_shown(rt.alloc(), error, message), "{message}");
     }
 }

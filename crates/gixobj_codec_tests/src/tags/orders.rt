@@ -12,15 +12,15 @@ use gixobj_codec::tag::ref_iter::Token;
 use gixobj_codec::{Tag, TagRef};
 use std::alloc::Global;
 
-/// A tag, and others that are greater one after the other: each in a further field, and less in those
-/// behind it.
+/// Returns a tag and six others in ascending order. Each is greater in an earlier field, and less in the
+/// fields after it.
 fn tags_in_a_row(first: TagRef<'_>) -> [TagRef<'_>; 7] {
     let none = BStr::new(b"");
     let signed = TagRef {
         signature: Some(none),
         ..first
     };
-    let told = TagRef {
+    let with_message = TagRef {
         message: BStr::new(b"a"),
         signature: None,
         ..signed
@@ -28,7 +28,7 @@ fn tags_in_a_row(first: TagRef<'_>) -> [TagRef<'_>; 7] {
     let tagged = TagRef {
         tagger: Some(none),
         message: none,
-        ..told
+        ..with_message
     };
     let named = TagRef {
         name: BStr::new(b"v2"),
@@ -45,23 +45,31 @@ fn tags_in_a_row(first: TagRef<'_>) -> [TagRef<'_>; 7] {
         target_kind: Kind::Tree,
         ..of_blob
     };
-    [first, signed, told, tagged, named, of_blob, of_other]
+    [
+        first,
+        signed,
+        with_message,
+        tagged,
+        named,
+        of_blob,
+        of_other,
+    ]
 }
 
-/// Whether the tags in a row are in order.
-fn are_tags_in_order(text: &[u8]) -> bool {
-    match TagRef::from_bytes(text, hash::Kind::Sha1) {
+/// Returns whether a decoded tag and the six greater ones are in order.
+fn are_tags_in_order(bytes: &[u8]) -> bool {
+    match TagRef::from_bytes(bytes, hash::Kind::Sha1) {
         Ok(tag) => are_in_order(&tags_in_a_row(tag)),
         Err(_) => false,
     }
 }
 
 #[test]
-fn tags_in_order(rt: HostRuntime) {
+fn tags_compare_by_fields_in_order(rt: HostRuntime) {
     assert!(rt; are_tags_in_order(BARE));
 }
 
-/// Whether the tags of two texts are equal.
+/// Returns whether the tags of two encodings are equal, with one hash.
 fn are_read_equal(first: &[u8], second: &[u8]) -> bool {
     match (
         TagRef::from_bytes(first, hash::Kind::Sha1),
@@ -72,21 +80,21 @@ fn are_read_equal(first: &[u8], second: &[u8]) -> bool {
     }
 }
 
-/// Whether a tag is equal to that of a copy of its text.
-fn is_equal_elsewhere(alloc: Global, text: &[u8]) -> bool {
-    match Vec::from_slice(alloc, text) {
-        Ok(copy) => are_read_equal(text, &copy),
+/// Returns whether the tag of a copied encoding is equal.
+fn is_equal_elsewhere(alloc: Global, bytes: &[u8]) -> bool {
+    match Vec::from_slice(alloc, bytes) {
+        Ok(copy) => are_read_equal(bytes, &copy),
         Err(_) => false,
     }
 }
 
-/// Parts are their bytes, wherever they lie.
+/// Tags are equal if the bytes of their parts are, at any address.
 #[test]
-fn tags_that_are_equal(rt: HostRuntime) {
+fn tags_equal_at_any_address(rt: HostRuntime) {
     assert!(rt; is_equal_elsewhere(rt.alloc(), BARE));
 }
 
-/// An actor of some tag.
+/// Returns an actor.
 fn actor() -> SignatureRef<'static> {
     SignatureRef {
         name: BStr::new(b"A"),
@@ -95,65 +103,65 @@ fn actor() -> SignatureRef<'static> {
     }
 }
 
-/// The actor, owned, or none where there was no memory for it.
+/// Returns the owned actor; `None` if memory runs out.
 fn own_actor(maker: &mut Maker) -> Option<Signature> {
     match actor().to_owned(maker.alloc) {
         Ok(actor) => Some(actor),
         Err(_) => {
-            maker.is_refused = true;
+            maker.is_failed = true;
             None
         }
     }
 }
 
-/// Makes one field of the bare tag greater, or none at the first place.
+/// Increases one field of the bare tag; at position 0 it leaves the tag unchanged.
 fn change(maker: &mut Maker, tag: &mut Tag, at: usize) {
     match at {
-        1 => tag.signature = Some(maker.text(b"")),
-        2 => tag.message = maker.text(b"a"),
+        1 => tag.signature = Some(maker.bstring(b"")),
+        2 => tag.message = maker.bstring(b"a"),
         3 => tag.tagger = own_actor(maker),
-        4 => tag.name = maker.text(b"v2"),
+        4 => tag.name = maker.bstring(b"v2"),
         5 => tag.target_kind = Kind::Blob,
         6 => tag.target = ObjectId::empty_blob(hash::Kind::Sha1),
         _ => {}
     }
 }
 
-/// The owned form of the bare tag.
+/// Returns the owned form of the bare tag.
 fn owned_tag(alloc: Global) -> Result<Tag, Error> {
     TagRef::from_bytes(BARE, hash::Kind::Sha1)?.into_owned(alloc)
 }
 
-/// Puts the bare tag, or at another place the greater one, behind other tags.
-fn put_tag(maker: &mut Maker, tags: &mut Vec<Tag>, at: usize) {
+/// Appends the bare tag at position 0, and a greater one at the others.
+fn append_tag(maker: &mut Maker, tags: &mut Vec<Tag>, at: usize) {
     match owned_tag(maker.alloc) {
         Ok(mut tag) => {
             change(maker, &mut tag, at);
-            maker.put(tags, tag);
+            maker.append(tags, tag);
         }
-        Err(_) => maker.is_refused = true,
+        Err(_) => maker.is_failed = true,
     }
 }
 
-/// The bare tag and the greater ones, owned.
+/// Returns the bare tag and the greater ones, owned.
 fn owned_tags(maker: &mut Maker) -> Vec<Tag> {
     let mut tags = Vec::new(maker.alloc);
     for at in 0..7usize {
-        put_tag(maker, &mut tags, at);
+        append_tag(maker, &mut tags, at);
     }
     tags
 }
 
 #[test]
-fn owned_tags_in_order(rt: HostRuntime) {
+fn owned_tags_compare_by_fields_in_order(rt: HostRuntime) {
     let mut maker = Maker::new(rt.alloc());
     let tags = owned_tags(&mut maker);
-    assert!(rt; !maker.is_refused && tags.len() == 7);
+    assert!(rt; !maker.is_failed && tags.len() == 7);
     assert!(rt; are_copied(&tags));
     assert!(rt; are_in_order(&tags));
 }
 
-/// The token behind the tagger.
+/// Returns the token after the tagger.
 fn body(message: &'static [u8], signature: Option<BStr<'static>>) -> Token<'static> {
     Token::Body {
         message: BStr::new(message),
@@ -161,7 +169,7 @@ fn body(message: &'static [u8], signature: Option<BStr<'static>>) -> Token<'stat
     }
 }
 
-/// Tokens in order.
+/// Returns tokens in ascending order.
 fn tokens_in_a_row() -> [Token<'static>; 9] {
     let none = BStr::new(b"");
     [
@@ -182,7 +190,7 @@ fn tokens_in_a_row() -> [Token<'static>; 9] {
 }
 
 #[test]
-fn tokens_in_order(rt: HostRuntime) {
+fn tokens_compare_in_order(rt: HostRuntime) {
     let tokens = tokens_in_a_row();
     assert!(rt; are_copied(&tokens));
     assert!(rt; are_in_order(&tokens));

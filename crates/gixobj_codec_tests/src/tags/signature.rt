@@ -1,4 +1,4 @@
-//! Signatures: their formats, and where in a text they begin.
+//! Signatures: their formats, and the positions at which they begin.
 
 use crate::helpers::are_in_order;
 use bstr::BStr;
@@ -6,7 +6,7 @@ use gixobj_text::signature::Format::{self, OpenPgp, Ssh, X509};
 use gixobj_text::signature::{SignatureRef, find};
 use std::alloc::Global;
 
-/// Texts, and the format of the marker with which they begin.
+/// Inputs, and the format of the marker with which they begin.
 const FORMATS: &[(&str, Option<Format>)] = &[
     ("-----BEGIN PGP SIGNATURE-----", Some(OpenPgp)),
     ("-----BEGIN PGP MESSAGE-----", Some(OpenPgp)),
@@ -28,15 +28,15 @@ const FORMATS: &[(&str, Option<Format>)] = &[
 ];
 
 #[test]
-fn formats(rt: HostRuntime) {
-    for &(text, format) in FORMATS {
-        let is_so = Format::from_signature(text.as_bytes()) == format;
-        assert!(rt; is_so, "{text}");
+fn finds_format_of_marker_at_start(rt: HostRuntime) {
+    for &(content, format) in FORMATS {
+        let is_so = Format::from_signature(content.as_bytes()) == format;
+        assert!(rt; is_so, "{content}");
     }
 }
 
-/// Texts, where in them the last signature begins, and its format.
-const PLACES: &[(&str, Option<(usize, Format)>)] = &[
+/// Inputs, the position of the last signature in them, and its format.
+const POSITIONS: &[(&str, Option<(usize, Format)>)] = &[
     ("-----BEGIN PGP SIGNATURE-----", Some((0, OpenPgp))),
     ("-----BEGIN PGP MESSAGE-----", Some((0, OpenPgp))),
     ("-----BEGIN SIGNED MESSAGE-----", Some((0, X509))),
@@ -81,31 +81,31 @@ const PLACES: &[(&str, Option<(usize, Format)>)] = &[
 ];
 
 #[test]
-fn places(rt: HostRuntime) {
-    for &(text, place) in PLACES {
-        assert!(rt; find(text.as_bytes()) == place, "{text}");
+fn finds_position_of_last_signature(rt: HostRuntime) {
+    for &(content, position) in POSITIONS {
+        assert!(rt; find(content.as_bytes()) == position, "{content}");
     }
 }
 
-/// Lines that begin as a marker does, and how many of them make a text without one.
+/// Lines that begin like a marker, and how often they are repeated without making one.
 const LINES: &[(&str, usize)] = &[("-\n", 1_000_000), ("-----BEGIN \n", 100_000)];
 
-/// Whether nothing is found in a line that comes so often.
+/// Returns whether no signature is found in a repeated line.
 fn has_no_marker(alloc: Global, line: &str, count: usize) -> bool {
     match line.repeat(alloc, count) {
-        Ok(text) => find(text.as_bytes()).is_none(),
+        Ok(content) => find(content.as_bytes()).is_none(),
         Err(_) => false,
     }
 }
 
 #[test]
-fn many_lines(rt: HostRuntime) {
+fn finds_no_marker_in_many_lines(rt: HostRuntime) {
     for &(line, count) in LINES {
         assert!(rt; has_no_marker(rt.alloc(), line, count), "{line}");
     }
 }
 
-/// A signature of this format and these bytes.
+/// Returns a signature of this format and these bytes.
 fn signature(format: Format, bytes: &[u8]) -> SignatureRef<'_> {
     SignatureRef {
         format,
@@ -113,9 +113,9 @@ fn signature(format: Format, bytes: &[u8]) -> SignatureRef<'_> {
     }
 }
 
-/// By their formats first.
+/// Signatures compare by their formats first.
 #[test]
-fn order_of_signatures(rt: HostRuntime) {
+fn signatures_compare_by_format_first(rt: HostRuntime) {
     let signatures = [
         signature(OpenPgp, b"b"),
         signature(OpenPgp, b"c"),
@@ -125,6 +125,6 @@ fn order_of_signatures(rt: HostRuntime) {
 }
 
 #[test]
-fn order_of_formats(rt: HostRuntime) {
+fn formats_compare_in_order(rt: HostRuntime) {
     assert!(rt; are_in_order(&[OpenPgp, X509, Ssh]));
 }

@@ -1,105 +1,105 @@
-//! How far the reader of entries is.
+//! Offsets of the reader of entries.
 
-use super::{ENTRY, EXAMPLE, tree_text};
+use super::{ENTRY, EXAMPLE, tree_bytes};
 use gixobj_base::hash::Kind;
-use gixobj_codec::laws::bytes_left_end_the_text;
+use gixobj_codec::laws::remaining_bytes_are_suffix;
 use gixobj_codec::tree::EntryRef;
 use gixobj_codec::{TreeRef, TreeRefIter};
 use std::alloc::{AllocError, Global};
 
-/// Where the next entry begins: at first, and after each call that gives an entry or an error.
-fn offsets(alloc: Global, text: &[u8]) -> Result<Vec<usize>, AllocError> {
-    bytes_left_end_the_text();
+/// Returns the offsets of the next entry: at first, and after each yielded entry or error.
+fn offsets(alloc: Global, input: &[u8]) -> Result<Vec<usize>, AllocError> {
+    remaining_bytes_are_suffix();
     let mut offsets = Vec::new(alloc);
-    let mut told = TreeRefIter::from_bytes(text, Kind::Sha1);
-    offsets.push(told.offset_to_next_entry(text))?;
-    while told.next().is_some() {
-        offsets.push(told.offset_to_next_entry(text))?;
+    let mut seen = TreeRefIter::from_bytes(input, Kind::Sha1);
+    offsets.push(seen.offset_to_next_entry(input))?;
+    while seen.next().is_some() {
+        offsets.push(seen.offset_to_next_entry(input))?;
     }
     Ok(offsets)
 }
 
-/// Whether the next entries of a text begin there.
-fn begin_at(alloc: Global, text: &[u8], wanted: &[usize]) -> bool {
-    match offsets(alloc, text) {
+/// Returns whether the next entries of a tree begin at these offsets.
+fn begin_at(alloc: Global, input: &[u8], wanted: &[usize]) -> bool {
+    match offsets(alloc, input) {
         Ok(offsets) => offsets.as_slice() == wanted,
         Err(_) => false,
     }
 }
 
-/// Where the entries of the tree of the folder `examples` begin, and where the last one ends.
-const PLACES: &[usize] = &[0, 36, 67, 104, 136, 170, 204];
+/// The offsets of the entries in the tree of the folder `examples`, and the end of the last one.
+const OFFSETS: &[usize] = &[0, 36, 67, 104, 136, 170, 204];
 
 #[test]
-fn behind_each_entry(rt: HostRuntime) {
-    assert!(rt; begin_at(rt.alloc(), EXAMPLE, PLACES));
+fn offset_follows_each_entry(rt: HostRuntime) {
+    assert!(rt; begin_at(rt.alloc(), EXAMPLE, OFFSETS));
     assert!(rt; begin_at(rt.alloc(), b"", &[0]));
 }
 
-/// Whether the next entries of the tree of these fronts begin there.
-fn fronts_begin_at(alloc: Global, fronts: &[&str], wanted: &[usize]) -> bool {
-    match tree_text(alloc, fronts) {
-        Ok(text) => begin_at(alloc, &text, wanted),
+/// Returns whether the next entries of the tree of these prefixes begin at these offsets.
+fn prefixes_begin_at(alloc: Global, prefixes: &[&str], wanted: &[usize]) -> bool {
+    match tree_bytes(alloc, prefixes) {
+        Ok(input) => begin_at(alloc, &input, wanted),
         Err(_) => false,
     }
 }
 
-/// Behind an error nothing is left.
+/// After an error no bytes remain.
 #[test]
-fn behind_an_error(rt: HostRuntime) {
-    let fronts = ["100644 a\0", "100648 b\0", "100644 c\0"];
-    assert!(rt; fronts_begin_at(rt.alloc(), &fronts, &[0, 29, 87]));
+fn offset_is_end_after_error(rt: HostRuntime) {
+    let prefixes = ["100644 a\0", "100648 b\0", "100644 c\0"];
+    assert!(rt; prefixes_begin_at(rt.alloc(), &prefixes, &[0, 29, 87]));
 }
 
-/// Whether a reader tells these entries, and then ends.
-fn tells(mut told: TreeRefIter<'_>, entries: &[EntryRef<'_>]) -> bool {
+/// Returns whether a reader yields these entries, and then ends.
+fn yields(mut seen: TreeRefIter<'_>, entries: &[EntryRef<'_>]) -> bool {
     for entry in entries {
-        match told.next() {
+        match seen.next() {
             Some(Ok(it)) if it == *entry => {}
             _ => return false,
         }
     }
-    told.next().is_none()
+    seen.next().is_none()
 }
 
-/// Whether a reader of what stands there tells these entries.
-fn goes_on(text: &[u8], offset: usize, entries: Option<&[EntryRef<'_>]>) -> bool {
-    match (text.get(offset..), entries) {
-        (Some(rest), Some(entries)) => tells(TreeRefIter::from_bytes(rest, Kind::Sha1), entries),
+/// Returns whether a reader of the bytes from this offset yields these entries.
+fn yields_from(input: &[u8], offset: usize, entries: Option<&[EntryRef<'_>]>) -> bool {
+    match (input.get(offset..), entries) {
+        (Some(rest), Some(entries)) => yields(TreeRefIter::from_bytes(rest, Kind::Sha1), entries),
         _ => false,
     }
 }
 
-/// Whether a reader goes on with the next entry at each of these places.
-fn goes_on_at(text: &[u8], offsets: &[usize], entries: &[EntryRef<'_>]) -> bool {
+/// Returns whether a reader continues with the next entry from each of these offsets.
+fn yields_from_each(input: &[u8], offsets: &[usize], entries: &[EntryRef<'_>]) -> bool {
     for (at, offset) in offsets.iter().enumerate() {
-        if !goes_on(text, *offset, entries.get(at..)) {
+        if !yields_from(input, *offset, entries.get(at..)) {
             return false;
         }
     }
     true
 }
 
-/// Whether a reader of a text goes on with the entries that are read whole.
-fn is_resumed(alloc: Global, text: &[u8], offsets: &[usize]) -> bool {
-    match TreeRef::from_bytes(alloc, text, Kind::Sha1) {
-        Ok(tree) => goes_on_at(text, offsets, &tree.entries),
+/// Returns whether a reader continues with the entries of the decoded tree from each of these offsets.
+fn is_resumed(alloc: Global, input: &[u8], offsets: &[usize]) -> bool {
+    match TreeRef::from_bytes(alloc, input, Kind::Sha1) {
+        Ok(tree) => yields_from_each(input, offsets, &tree.entries),
         Err(_) => false,
     }
 }
 
-/// A reader of what stands there goes on with the next entry.
+/// A reader of the bytes from an offset yields the next entry.
 #[test]
-fn resumed(rt: HostRuntime) {
-    assert!(rt; is_resumed(rt.alloc(), EXAMPLE, PLACES));
+fn resumes_from_each_offset(rt: HostRuntime) {
+    assert!(rt; is_resumed(rt.alloc(), EXAMPLE, OFFSETS));
 }
 
-/// A reader is copied with its place.
+/// A copied reader has the position of the first.
 #[test]
-fn copies(rt: HostRuntime) {
-    let mut told = TreeRefIter::from_bytes(ENTRY, Kind::Sha1);
-    let copy = told;
-    assert!(rt; told.next().is_some());
+fn copied_reader_keeps_position(rt: HostRuntime) {
+    let mut seen = TreeRefIter::from_bytes(ENTRY, Kind::Sha1);
+    let copy = seen;
+    assert!(rt; seen.next().is_some());
     assert!(rt; copy.count() == 1);
-    assert!(rt; told.count() == 0);
+    assert!(rt; seen.count() == 0);
 }

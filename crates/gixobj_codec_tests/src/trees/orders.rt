@@ -1,6 +1,6 @@
 //! Orders and hashes of borrowed entries and trees, which are those of the owned ones.
 
-use super::tree_text;
+use super::tree_bytes;
 use crate::helpers::hash_of;
 use crate::signing::calls::Maker;
 use gixobj_base::hash::{Kind, ObjectId};
@@ -10,7 +10,7 @@ use gixobj_codec::tree::EntryRef;
 use std::alloc::Global;
 use std::cmp::Ordering;
 
-/// Kinds and names of entries, and whether the id is that of the empty blob and not the null one.
+/// Kinds and names of entries, and whether the id is the empty blob's and not the null id.
 const ROWS: &[(EntryKind, &[u8], bool)] = &[
     (EntryKind::Blob, b"a", false),
     (EntryKind::Blob, b"a", true),
@@ -22,11 +22,11 @@ const ROWS: &[(EntryKind, &[u8], bool)] = &[
     (EntryKind::Blob, b"a0", false),
 ];
 
-/// An entry of a row.
+/// Returns the entry of a row.
 fn entry(maker: &mut Maker, kind: EntryKind, name: &[u8], is_of_blob: bool) -> Entry {
     Entry {
         mode: kind.into(),
-        filename: maker.text(name),
+        filename: maker.bstring(name),
         oid: if is_of_blob {
             ObjectId::empty_blob(Kind::Sha1)
         } else {
@@ -35,17 +35,17 @@ fn entry(maker: &mut Maker, kind: EntryKind, name: &[u8], is_of_blob: bool) -> E
     }
 }
 
-/// Each entry comes before the next one.
+/// Returns entries in ascending order.
 fn ascending(maker: &mut Maker) -> Vec<Entry> {
     let mut entries = Vec::new(maker.alloc);
     for &(kind, name, is_of_blob) in ROWS {
         let entry = entry(maker, kind, name, is_of_blob);
-        maker.put(&mut entries, entry);
+        maker.append(&mut entries, entry);
     }
     entries
 }
 
-/// Whether two entries are so in order, borrowed as owned.
+/// Returns whether two entries compare as wanted, borrowed and owned.
 fn are_ordered(first: &Entry, second: &Entry, wanted: Ordering) -> bool {
     let left = EntryRef::from(first);
     let right = EntryRef::from(second);
@@ -54,7 +54,7 @@ fn are_ordered(first: &Entry, second: &Entry, wanted: Ordering) -> bool {
         && first.cmp(second) == wanted
 }
 
-/// Whether the entry at this place stands behind those before it, and before those behind it.
+/// Returns whether the entry at this position is greater than those before it, and less than those after it.
 fn is_at(entries: &[Entry], at: usize, entry: &Entry) -> bool {
     for (other_at, other) in entries.iter().enumerate() {
         if !are_ordered(entry, other, at.cmp(&other_at)) {
@@ -65,23 +65,23 @@ fn is_at(entries: &[Entry], at: usize, entry: &Entry) -> bool {
 }
 
 #[test]
-fn entries_in_order(rt: HostRuntime) {
+fn entries_compare_in_tree_order(rt: HostRuntime) {
     let mut maker = Maker::new(rt.alloc());
     let entries = ascending(&mut maker);
-    assert!(rt; !maker.is_refused);
+    assert!(rt; !maker.is_failed);
     for (at, entry) in entries.iter().enumerate() {
         assert!(rt; is_at(&entries, at, entry), "{at}");
     }
 }
 
-/// Whether two borrowed entries are equal and have one hash, or neither, as is wanted.
+/// Returns whether two borrowed entries are equal with one hash if `wanted`, and differ in both otherwise.
 fn are_alike(first: &Entry, second: &Entry, wanted: bool) -> bool {
     let left = EntryRef::from(first);
     let right = EntryRef::from(second);
     (left == right) == wanted && (hash_of(&left) == hash_of(&right)) == wanted
 }
 
-/// Whether the entry at this place is like itself alone.
+/// Returns whether the entry at this position equals only itself, borrowed.
 fn is_like_itself(entries: &[Entry], at: usize, entry: &Entry) -> bool {
     for (other_at, other) in entries.iter().enumerate() {
         if !are_alike(entry, other, at == other_at) {
@@ -92,16 +92,16 @@ fn is_like_itself(entries: &[Entry], at: usize, entry: &Entry) -> bool {
 }
 
 #[test]
-fn entries_are_like_themselves_alone(rt: HostRuntime) {
+fn entries_equal_only_themselves(rt: HostRuntime) {
     let mut maker = Maker::new(rt.alloc());
     let entries = ascending(&mut maker);
-    assert!(rt; !maker.is_refused);
+    assert!(rt; !maker.is_failed);
     for (at, entry) in entries.iter().enumerate() {
         assert!(rt; is_like_itself(&entries, at, entry), "{at}");
     }
 }
 
-/// Whether a borrowed entry has the hash of the owned one, and becomes it.
+/// Returns whether a borrowed entry has the hash of the owned one, and converts into it.
 fn becomes_itself(alloc: Global, entry: &Entry) -> bool {
     let borrowed = EntryRef::from(entry);
     if hash_of(&borrowed) != hash_of(entry) {
@@ -114,16 +114,16 @@ fn becomes_itself(alloc: Global, entry: &Entry) -> bool {
 }
 
 #[test]
-fn borrowed_and_owned(rt: HostRuntime) {
+fn entries_convert_to_owned_unchanged(rt: HostRuntime) {
     let mut maker = Maker::new(rt.alloc());
     let entries = ascending(&mut maker);
-    assert!(rt; !maker.is_refused);
+    assert!(rt; !maker.is_failed);
     for entry in &entries {
         assert!(rt; becomes_itself(rt.alloc(), entry));
     }
 }
 
-/// Fronts of entries. Each tree of them comes before the next one.
+/// Prefixes of entries, for trees in ascending order.
 const TREES: &[&[&str]] = &[
     &[],
     &["100644 a\0"],
@@ -133,7 +133,7 @@ const TREES: &[&[&str]] = &[
     &["100644 b\0"],
 ];
 
-/// Whether the owned forms of two trees are so in order.
+/// Returns whether the owned forms of two trees compare as wanted.
 fn are_owned_ordered(
     alloc: Global,
     left: &TreeRef<'_>,
@@ -146,7 +146,7 @@ fn are_owned_ordered(
     }
 }
 
-/// Whether two trees are so in order, borrowed as owned.
+/// Returns whether two trees compare as wanted, borrowed and owned.
 fn are_trees_ordered(alloc: Global, first: &[u8], second: &[u8], wanted: Ordering) -> bool {
     let Ok(left) = TreeRef::from_bytes(alloc, first, Kind::Sha1) else {
         return false;
@@ -162,18 +162,18 @@ fn are_trees_ordered(alloc: Global, first: &[u8], second: &[u8], wanted: Orderin
     }
 }
 
-/// Whether the trees of these fronts are so in order.
-fn are_fronts_ordered(alloc: Global, first: &[&str], second: &[&str], wanted: Ordering) -> bool {
-    match (tree_text(alloc, first), tree_text(alloc, second)) {
+/// Returns whether the trees of these prefixes compare as wanted.
+fn are_prefixes_ordered(alloc: Global, first: &[&str], second: &[&str], wanted: Ordering) -> bool {
+    match (tree_bytes(alloc, first), tree_bytes(alloc, second)) {
         (Ok(first), Ok(second)) => are_trees_ordered(alloc, &first, &second, wanted),
         _ => false,
     }
 }
 
-/// Whether the tree at this place stands behind those before it, and before those behind it.
-fn is_tree_at(alloc: Global, at: usize, fronts: &[&str]) -> bool {
+/// Returns whether the tree at this position is greater than those before it, and less than those after it.
+fn is_tree_at(alloc: Global, at: usize, prefixes: &[&str]) -> bool {
     for (other_at, other) in TREES.iter().enumerate() {
-        if !are_fronts_ordered(alloc, fronts, other, at.cmp(&other_at)) {
+        if !are_prefixes_ordered(alloc, prefixes, other, at.cmp(&other_at)) {
             return false;
         }
     }
@@ -181,13 +181,13 @@ fn is_tree_at(alloc: Global, at: usize, fronts: &[&str]) -> bool {
 }
 
 #[test]
-fn trees_in_order(rt: HostRuntime) {
-    for (at, fronts) in TREES.iter().enumerate() {
-        assert!(rt; is_tree_at(rt.alloc(), at, fronts), "{at}");
+fn trees_compare_by_entries(rt: HostRuntime) {
+    for (at, prefixes) in TREES.iter().enumerate() {
+        assert!(rt; is_tree_at(rt.alloc(), at, prefixes), "{at}");
     }
 }
 
-/// Whether the owned form of a tree has this hash.
+/// Returns whether the owned form of a tree has this hash.
 fn has_hash(alloc: Global, tree: TreeRef<'_>, hash: u64) -> bool {
     match tree.into_owned(alloc) {
         Ok(tree) => hash_of(&tree) == hash,
@@ -195,9 +195,9 @@ fn has_hash(alloc: Global, tree: TreeRef<'_>, hash: u64) -> bool {
     }
 }
 
-/// Whether a tree has the hash of its owned form and of its copy.
-fn hashes_alike(alloc: Global, text: &[u8]) -> bool {
-    let Ok(tree) = TreeRef::from_bytes(alloc, text, Kind::Sha1) else {
+/// Returns whether a tree has the hash of its owned form and of its clone.
+fn hashes_alike(alloc: Global, bytes: &[u8]) -> bool {
+    let Ok(tree) = TreeRef::from_bytes(alloc, bytes, Kind::Sha1) else {
         return false;
     };
     let hash = hash_of(&tree);
@@ -207,17 +207,17 @@ fn hashes_alike(alloc: Global, text: &[u8]) -> bool {
     }
 }
 
-/// Whether that is so of the tree of these fronts.
-fn fronts_hash_alike(alloc: Global, fronts: &[&str]) -> bool {
-    match tree_text(alloc, fronts) {
-        Ok(text) => hashes_alike(alloc, &text),
+/// Returns whether the tree of these prefixes has the hash of its owned form and of its clone.
+fn prefixes_hash_alike(alloc: Global, prefixes: &[&str]) -> bool {
+    match tree_bytes(alloc, prefixes) {
+        Ok(bytes) => hashes_alike(alloc, &bytes),
         Err(_) => false,
     }
 }
 
 #[test]
-fn hashes_of_trees(rt: HostRuntime) {
-    for (at, fronts) in TREES.iter().enumerate() {
-        assert!(rt; fronts_hash_alike(rt.alloc(), fronts), "{at}");
+fn trees_hash_as_owned_and_cloned(rt: HostRuntime) {
+    for (at, prefixes) in TREES.iter().enumerate() {
+        assert!(rt; prefixes_hash_alike(rt.alloc(), prefixes), "{at}");
     }
 }

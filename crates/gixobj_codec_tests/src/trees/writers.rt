@@ -1,4 +1,4 @@
-//! What is refused of borrowed trees, and writers that fail.
+//! Written borrowed trees: rejected names, sizes, and failing writers.
 
 use super::{ENTRY, EXAMPLE, ONES};
 use crate::helpers::stops;
@@ -11,14 +11,14 @@ use gixobj_codec::TreeRef;
 use gixobj_codec::tree::EntryRef;
 use std::alloc::{AllocError, Global};
 
-/// Kinds and names of three entries. The second and the third have a zero byte in their names.
+/// Kinds and names of three entries. The second and the third name have a zero byte.
 const ROWS: &[(EntryKind, &[u8])] = &[
     (EntryKind::Blob, b"a"),
     (EntryKind::Link, b"b\0c"),
     (EntryKind::Blob, b"d\0"),
 ];
 
-/// The entry of this kind and name, with this id.
+/// Returns the entry of this kind and name, with this id.
 fn entry<'a>(kind: EntryKind, name: &'a [u8], id: &'a ObjectId) -> EntryRef<'a> {
     EntryRef {
         mode: kind.into(),
@@ -27,7 +27,7 @@ fn entry<'a>(kind: EntryKind, name: &'a [u8], id: &'a ObjectId) -> EntryRef<'a> 
     }
 }
 
-/// A tree of those entries with this id.
+/// Returns a tree of the three entries, with this id.
 fn with_a_zero_byte<'a>(alloc: Global, id: &'a ObjectId) -> Result<TreeRef<'a>, AllocError> {
     let mut entries = Vec::new(alloc);
     for &(kind, name) in ROWS {
@@ -36,52 +36,52 @@ fn with_a_zero_byte<'a>(alloc: Global, id: &'a ObjectId) -> Result<TreeRef<'a>, 
     Ok(TreeRef { entries })
 }
 
-/// What is written before the second entry is refused: the first one, and its own mode and space.
+/// The bytes written before the second name is rejected: the first entry, and its own mode and space.
 const BEFORE: &[u8] = b"before100644 a\0\
     \x01\x01\x01\x01\x01\x01\x01\x01\x01\x01\x01\x01\x01\x01\x01\x01\x01\x01\x01\x01\
     120000\x20";
 
-/// Whether this name of an entry is refused behind these bytes.
-fn is_refused_for(alloc: Global, tree: &TreeRef<'_>, name: &[u8], before: &[u8]) -> bool {
+/// Returns whether this name of an entry is rejected after these bytes.
+fn is_rejected_for(alloc: Global, tree: &TreeRef<'_>, name: &[u8], before: &[u8]) -> bool {
     let Ok(mut out) = Vec::from_slice(alloc, b"before") else {
         return false;
     };
     match tree.write_to(alloc, &mut out) {
-        Err(Error::NullbyteInFilename { name: refused }) => {
-            refused.as_slice() == name && out.as_slice() == before
+        Err(Error::NullbyteInFilename { name: rejected }) => {
+            rejected.as_slice() == name && out.as_slice() == before
         }
         _ => false,
     }
 }
 
-/// Whether the tree of those entries is refused for this name behind these bytes, and counted with so many.
-fn is_tree_refused_for(alloc: Global, name: &[u8], before: &[u8], size: u64) -> bool {
+/// Returns whether the tree of three entries is rejected for this name after these bytes, and has this size.
+fn is_tree_rejected_for(alloc: Global, name: &[u8], before: &[u8], size: u64) -> bool {
     match with_a_zero_byte(alloc, &ObjectId::Sha1(ONES)) {
-        Ok(tree) => { is_refused_for(alloc, &tree, name, before) && tree.size() == Some(size) }
+        Ok(tree) => { is_rejected_for(alloc, &tree, name, before) && tree.size() == Some(size) }
         Err(_) => false,
     }
 }
 
-/// A refused name leaves the entry before it, and its own mode and space.
+/// Writes the entry before a rejected name, and its own mode and space.
 #[test]
-fn names_with_a_zero_byte(rt: HostRuntime) {
-    assert!(rt; is_tree_refused_for(rt.alloc(), b"b\0c", BEFORE, 29 + 31 + 30));
+fn rejects_name_with_zero_byte(rt: HostRuntime) {
+    assert!(rt; is_tree_rejected_for(rt.alloc(), b"b\0c", BEFORE, 29 + 31 + 30));
 }
 
-/// Whether writers of the tree of a text stop.
-fn stops_read(alloc: Global, text: &[u8]) -> bool {
-    match TreeRef::from_bytes(alloc, text, Kind::Sha1) {
-        Ok(tree) => stops(alloc, &tree, text),
+/// Returns whether each writer with too little room fails for a decoded tree.
+fn stops_read(alloc: Global, bytes: &[u8]) -> bool {
+    match TreeRef::from_bytes(alloc, bytes, Kind::Sha1) {
+        Ok(tree) => stops(alloc, &tree, bytes),
         Err(_) => false,
     }
 }
 
 #[test]
-fn writers_that_fail(rt: HostRuntime) {
+fn returns_writer_error_after_each_prefix(rt: HostRuntime) {
     assert!(rt; stops_read(rt.alloc(), EXAMPLE));
 }
 
-/// Whether so many bytes are counted and written of a tree.
+/// Returns whether a tree has this size, and as many bytes are written.
 fn has_size(alloc: Global, tree: &TreeRef<'_>, len: usize) -> bool {
     let mut out = Vec::new(alloc);
     match tree.write_to(alloc, &mut out) {
@@ -90,9 +90,10 @@ fn has_size(alloc: Global, tree: &TreeRef<'_>, len: usize) -> bool {
     }
 }
 
-/// Whether so many bytes are counted and written of the tree of a text, with one more entry with this id.
-fn has_size_with(alloc: Global, text: &[u8], id: &ObjectId, len: usize) -> bool {
-    match TreeRef::from_bytes(alloc, text, Kind::Sha1) {
+/// Returns whether a decoded tree with one more entry with this id has this size, and as many bytes are
+/// written.
+fn has_size_with(alloc: Global, bytes: &[u8], id: &ObjectId, len: usize) -> bool {
+    match TreeRef::from_bytes(alloc, bytes, Kind::Sha1) {
         Ok(mut tree) => {
             tree.entries.push(entry(EntryKind::Tree, b"b", id)).is_ok()
                 && has_size(alloc, &tree, len)
@@ -103,7 +104,7 @@ fn has_size_with(alloc: Global, text: &[u8], id: &ObjectId, len: usize) -> bool 
 
 /// Ids of both kinds are counted and written with their own length.
 #[test]
-fn ids_of_both_kinds(rt: HostRuntime) {
+fn counts_ids_of_both_kinds(rt: HostRuntime) {
     let id = ObjectId::null(Kind::Sha256);
     assert!(rt; has_size_with(rt.alloc(), ENTRY, &id, 29 + 40));
 }

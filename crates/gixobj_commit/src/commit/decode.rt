@@ -1,10 +1,10 @@
-//! Commits, read whole (gitdatamodel, "commits").
+//! Decoding of entire commits (gitdatamodel, "commits").
 ghost use Rattle.std.specs.Prelude.{◌≡◌, ◌≤◌, [], IfErr, IfOk, OnOk};
 ghost use Rattle.gixobj_commit.specs.CommitViews.{BorrowsLines, commit_lines};
 ghost use Rattle.gixobj_commit.specs.CommitWriting.{HasIds};
 ghost use Rattle.gixobj_hash.specs.declared.decode.Error.TheVariants.{OutOfMemory};
-ghost use Rattle.gixobj_commit.specs.Commit.{IsCommitText, RefusesCommit};
-ghost use Rattle.gixobj_commit.specs.Gathering.{TakesMemory, gather, nothing};
+ghost use Rattle.gixobj_commit.specs.Commit.{DecodesToCommit, IsCommitDecodeError};
+ghost use Rattle.gixobj_commit.specs.Gathering.{Allocates, gather, empty_commit};
 ghost use Rattle.gixobj_line.specs.Lines.{IsParsedLine, line_view};
 
 use super::CommitRef;
@@ -16,39 +16,52 @@ use smallvec::SmallVec;
 use std::alloc::Global;
 
 impl<'a> CommitRef<'a> {
-    /// The commit that the bytes are, with ids of this kind. Values of headers of one line are borrowed.
+    /// Decodes a commit from its entire encoding, with ids of `hash_kind`.
     ///
-    /// `Malformed` where they are no commit's text, down to the empty line before the message. Memory is
-    /// taken for a second parent, for extra headers and for their values of several lines, and
-    /// `OutOfMemory` comes only where such a parent or header was reached.
+    /// Header values of one line are borrowed. Allocates for a second parent, for extra headers and for their
+    /// values of several lines.
+    ///
+    /// # Errors
+    ///
+    /// - [`Error::Malformed`] if the bytes, down to the empty line before the message, encode no commit.
+    /// - [`Error::OutOfMemory`] if an allocation fails at a second parent or at an extra header.
+    ///
+    /// # Examples
+    ///
+    /// ```rust
+    /// fn tree_of(alloc: Global, bytes: &[u8]) -> Result<ObjectId, decode::Error> {
+    ///     let commit = CommitRef::from_bytes(alloc, bytes, HashKind::Sha1)?;
+    ///     Ok(commit.tree())
+    /// }
+    /// ```
     pub fn from_bytes(
         alloc: Global,
         bytes: &'a [u8],
         hash_kind: Kind,
     ) -> Result<CommitRef<'a>, Error>
         ensures found { IfOk result (λ commit.
-            IsCommitText hash_kind bytes.now (commit_lines commit)) }
+            DecodesToCommit hash_kind bytes.now (commit_lines commit)) }
         ensures has_ids { IfOk result (λ commit. HasIds (commit_lines commit)) }
         ensures borrowed { IfOk result BorrowsLines }
-        ensures refusal { IfErr result (RefusesCommit hash_kind bytes.now) }
+        ensures error { IfErr result (IsCommitDecodeError hash_kind bytes.now) }
     {
         let mut commit = CommitRef::without_lines(alloc);
         let mut state = State::Tree;
         let mut rest = bytes;
         while !matches!(state, State::End) {
-            let (line, behind, after) = read_line(alloc, state, hash_kind, rest)?;
-            commit.put(line)?;
-            state = behind;
+            let (line, following, after) = read_line(alloc, state, hash_kind, rest)?;
+            commit.add_line(line)?;
+            state = following;
             rest = after;
         }
         Ok(commit)
     }
 
-    /// A commit of which no line was read.
+    /// Returns a commit without any line.
     fn without_lines(alloc: Global) -> CommitRef<'a>
-        ensures lines { commit_lines result ≡ nothing }
+        ensures lines { commit_lines result ≡ empty_commit }
         ensures no_headers { result.extra_headers.items ≡ [] }
-        ensures room { 1 ≤ result.parents.capacity }
+        ensures has_capacity { 1 ≤ result.parents.capacity }
     {
         let nothing = BStr::new(b"");
         CommitRef {
@@ -62,22 +75,22 @@ impl<'a> CommitRef<'a> {
         }
     }
 
-    /// Puts a line that was read where it belongs. A second parent and a header take memory.
-    fn put(&mut self, line: Line<'a>) -> Result<(), Error>
+    /// Sets or appends the field of a decoded line. A second parent and an extra header allocate.
+    fn add_line(&mut self, line: Line<'a>) -> Result<(), Error>
         requires { 1 ≤ self.now.parents.capacity }
-        ensures put { OnOk result (commit_lines self.new
+        ensures appended { OnOk result (commit_lines self.new
             ≡ gather (commit_lines self.old) (line_view line.entry)) }
-        ensures room { OnOk result (1 ≤ self.new.parents.capacity) }
+        ensures has_capacity { OnOk result (1 ≤ self.new.parents.capacity) }
         ensures borrowed { OnOk result (BorrowsLines self.old → IsParsedLine line.entry
             → BorrowsLines self.new) }
-        ensures refusal { IfErr result (λ e. (e ≡ OutOfMemory)
-            × TakesMemory (commit_lines self.old) (line_view line.entry)) }
+        ensures error { IfErr result (λ e. (e ≡ OutOfMemory)
+            × Allocates (commit_lines self.old) (line_view line.entry)) }
     {
         match line {
             Line::Tree(hex) => self.tree = hex,
             Line::Parent(hex) => self.parents.push(hex)?,
-            Line::Author(text, _) => self.author = text,
-            Line::Committer(text, _) => self.committer = text,
+            Line::Author(content, _) => self.author = content,
+            Line::Committer(content, _) => self.committer = content,
             Line::Encoding(encoding) => self.encoding = Some(encoding),
             Line::ExtraHeader(header) => self.extra_headers.push(header)?,
             Line::Message(message) => self.message = message,

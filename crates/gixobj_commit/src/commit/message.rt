@@ -1,11 +1,11 @@
-//! The messages of commits: their titles, bodies, summaries and trailers (git-commit, "DISCUSSION";
+//! Titles, bodies, summaries and trailers of commit messages (git-commit, "DISCUSSION";
 //! git-interpret-trailers, "DESCRIPTION").
 ghost use Rattle.std.specs.Prelude.{◌≡◌, IfErr, IfOk, true};
 ghost use Rattle.std.specs.Cow.{cow_slice_items};
 ghost use Rattle.bstr.specs.BStr.{bstr_bytes};
 ghost use Rattle.gixobj_commit.specs.CommitViews.{commit_lines};
 ghost use Rattle.gixobj_text.specs.Filters.{all_of, filter_of};
-ghost use Rattle.gixobj_text.specs.GivingTrailers.{is_owned, trailers_left};
+ghost use Rattle.gixobj_text.specs.TrailerSteps.{is_owned, remaining_trailers};
 ghost use Rattle.gixobj_text.specs.MessageTrailers.{HasTrailers};
 ghost use Rattle.gixobj_text.specs.Summing.{is_of_lines};
 ghost use Rattle.gixobj_text.specs.Titles.{SplitsTitle, summary_of};
@@ -23,7 +23,19 @@ use std::borrow::CowSlice;
 
 /// Messages
 impl<'a> CommitRef<'a> {
-    /// The message, cut into its title and its body (git-commit, "DISCUSSION"). It takes no memory.
+    /// Splits the message into its title and its body (git-commit, "DISCUSSION"). Allocates nothing.
+    ///
+    /// # Examples
+    ///
+    /// ```rust
+    /// Ok(LogLine {
+    ///     tree: commit.tree(),
+    ///     parents: commit.parents().collect(alloc)?,
+    ///     author: commit.author()?.name,
+    ///     seconds: commit.time()?.seconds,
+    ///     title: commit.message().title,
+    /// })
+    /// ```
     pub fn message(&self) -> MessageRef<'a>
         ensures { SplitsTitle (commit_lines self.now).message (bstr_bytes result.title)
             (bytes_if_some result.body) }
@@ -31,73 +43,86 @@ impl<'a> CommitRef<'a> {
         MessageRef::from_bytes(self.message.as_bytes())
     }
 
-    /// The first lines of the message on one line: as [`MessageRef::summary`], but of the whole message, of
-    /// which empty lines at the front are left out and of which an empty line ends the title.
+    /// Returns a summary of the message: its first lines, joined into one.
     ///
-    /// `OutOfMemory` where memory runs out: a message of one line takes none.
+    /// [`MessageRef::summary`] summarizes the title alone. Here leading empty lines of the entire message are
+    /// left out, and an empty line ends the title. Allocates only for a message of several lines.
+    ///
+    /// # Errors
+    ///
+    /// [`OutOfMemory`] if an allocation fails.
     pub fn message_summary(&self, alloc: Global) -> Result<CowSlice<'a, u8>, OutOfMemory>
         ensures value { IfOk result (λ it. cow_slice_items it
             ≡ summary_of (commit_lines self.now).message) }
         ensures owned { IfOk result (λ it. is_owned it
             ≡ is_of_lines (commit_lines self.now).message) }
-        ensures refusal { IfErr result (λ _. is_of_lines (commit_lines self.now).message ≡ true) }
+        ensures error { IfErr result (λ _. is_of_lines (commit_lines self.now).message ≡ true) }
     {
         summary(alloc, self.message.as_bytes())
     }
 
-    /// The trailers at the end of the message's body, in order, none where it has no body. Making the
-    /// reader takes no memory.
+    /// Returns an iterator over the trailers at the end of the message's body, in order; a message without
+    /// body has none. The call itself allocates nothing.
     pub fn message_trailers(&self, alloc: Global) -> Trailers<'a>
-        ensures { HasTrailers (commit_lines self.now).message (trailers_left result) }
+        ensures { HasTrailers (commit_lines self.now).message (remaining_trailers result) }
     {
         message_trailers(alloc, self.message)
     }
 }
 
-/// Trailers of the message by their names, without the case of letters
+/// Trailers of the message by token, with ASCII case ignored
 impl<'a> CommitRef<'a> {
-    /// The trailers `Signed-off-by` of the message (git-commit, `--signoff`).
+    /// Returns an iterator over the `Signed-off-by` trailers of the message (git-commit, `--signoff`).
+    ///
+    /// # Examples
+    ///
+    /// ```rust
+    /// let mut found = Vec::new(alloc);
+    /// for trailer in commit.signed_off_by_trailers(alloc) {
+    ///     found.push(trailer?)?;
+    /// }
+    /// Ok(found)
+    /// ```
     pub fn signed_off_by_trailers(&self, alloc: Global) -> Filtered<'a>
         ensures trailers { HasTrailers (commit_lines self.now).message
-            (trailers_left (all_of result)) }
+            (remaining_trailers (all_of result)) }
         ensures filter { filter_of result ≡ SignedOffBy }
     {
         self.message_trailers(alloc).signed_off_by()
     }
 
-    /// The trailers `Co-authored-by` of the message.
+    /// Returns an iterator over the `Co-authored-by` trailers of the message.
     pub fn co_authored_by_trailers(&self, alloc: Global) -> Filtered<'a>
         ensures trailers { HasTrailers (commit_lines self.now).message
-            (trailers_left (all_of result)) }
+            (remaining_trailers (all_of result)) }
         ensures filter { filter_of result ≡ CoAuthoredBy }
     {
         self.message_trailers(alloc).co_authored_by()
     }
 
-    /// The trailers `Assisted-by` of the message.
+    /// Returns an iterator over the `Assisted-by` trailers of the message.
     pub fn assisted_by_trailers(&self, alloc: Global) -> Filtered<'a>
         ensures trailers { HasTrailers (commit_lines self.now).message
-            (trailers_left (all_of result)) }
+            (remaining_trailers (all_of result)) }
         ensures filter { filter_of result ≡ AssistedBy }
     {
         self.message_trailers(alloc).assisted_by()
     }
 
-    /// The trailers of the message that name who made the change: `Signed-off-by` and `Co-authored-by`.
+    /// Returns an iterator over the trailers that name authors: `Signed-off-by` and `Co-authored-by`.
     pub fn author_trailers(&self, alloc: Global) -> Filtered<'a>
         ensures trailers { HasTrailers (commit_lines self.now).message
-            (trailers_left (all_of result)) }
+            (remaining_trailers (all_of result)) }
         ensures filter { filter_of result ≡ Authors }
     {
         self.message_trailers(alloc).authors()
     }
 
-    /// The trailers of the message that name who had a part in the change: `Signed-off-by`,
-    /// `Co-authored-by`, `Assisted-by`, `Acked-by`, `Reviewed-by` and `Tested-by`. One name may stand there
-    /// more than once.
+    /// Returns an iterator over the trailers that name contributors: `Signed-off-by`, `Co-authored-by`,
+    /// `Assisted-by`, `Acked-by`, `Reviewed-by` and `Tested-by`. A name may occur more than once.
     pub fn attribution_trailers(&self, alloc: Global) -> Filtered<'a>
         ensures trailers { HasTrailers (commit_lines self.now).message
-            (trailers_left (all_of result)) }
+            (remaining_trailers (all_of result)) }
         ensures filter { filter_of result ≡ Attributions }
     {
         self.message_trailers(alloc).attributions()

@@ -1,9 +1,9 @@
-//! Commits with parts of their own, copied from borrowed ones.
+//! Owned copies of borrowed commits.
 ghost use Rattle.std.specs.Prelude.{◌≡◌, ℕ, All, IfOk, List, map};
 ghost use Rattle.bstr.specs.BStr.{bstr_bytes};
 ghost use Rattle.gixobj_actor.specs.Actor.{IsActorOf, IsOwnedActor, actor_view};
 ghost use Rattle.std.specs.List.{AllZip};
-ghost use Rattle.gixobj_hash.specs.Hash.{IsHexOfAnId, Spells};
+ghost use Rattle.gixobj_hash.specs.Hash.{IsIdHex, DecodesToId};
 ghost use Rattle.gixobj_fields.specs.HeaderReading.{header_of, owned_header_of};
 ghost use Rattle.gixobj_commit.specs.CommitOwned.{IsOwnedFormOfCommit};
 ghost use Rattle.gixobj_commit.specs.CommitViews.{commit_lines};
@@ -22,8 +22,7 @@ use smallvec::SmallVec;
 use std::alloc::Global;
 use std::borrow::CowSlice;
 
-/// The same commit, with parts of its own: these actors, which are those of its lines, ids, and copies
-/// of the rest.
+/// Copies a commit, with the actors that its lines name.
 pub(super) fn commit(
     alloc: Global,
     commit: &CommitRef<'_>,
@@ -46,10 +45,10 @@ pub(super) fn commit(
     })
 }
 
-/// The ids that hex texts spell.
+/// Decodes ids from hex.
 fn ids(alloc: Global, hexes: &[BStr<'_>]) -> Result<SmallVec<ObjectId, 1>, OutOfMemory>
-    requires { All IsHexOfAnId (map bstr_bytes hexes.now) }
-    ensures { IfOk result (λ it. AllZip Spells (map bstr_bytes hexes.now) it.items) }
+    requires { All IsIdHex (map bstr_bytes hexes.now) }
+    ensures { IfOk result (λ it. AllZip DecodesToId (map bstr_bytes hexes.now) it.items) }
 {
     let mut ids = SmallVec::new(alloc);
     for hex in hexes {
@@ -58,7 +57,7 @@ fn ids(alloc: Global, hexes: &[BStr<'_>]) -> Result<SmallVec<ObjectId, 1>, OutOf
     Ok(ids)
 }
 
-/// Copies of headers.
+/// Copies headers.
 fn headers(
     alloc: Global,
     headers: &[(BStr<'_>, CowSlice<'_, u8>)],
@@ -72,7 +71,7 @@ fn headers(
     Ok(copies)
 }
 
-/// A copy of a header.
+/// Copies a header.
 fn header(
     alloc: Global,
     header: &(BStr<'_>, CowSlice<'_, u8>),

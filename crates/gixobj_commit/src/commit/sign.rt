@@ -1,13 +1,13 @@
-//! Commits, signed (gitformat-signature, "Commit signatures").
+//! Signing of commits (gitformat-signature, "Commit signatures").
 ghost use Rattle.std.specs.Prelude.{◌≡◌, IfErr, IfOk, OnOk};
 ghost use Rattle.bstr.specs.Owned.{bstring_bytes};
-ghost use Rattle.gixobj_commit.specs.CommitSigning.{GetsCommitSignature, IsSignedCommit, IsSignedCommitCopy, RefusesSigningCommit, RefusesSigningCommitCopy, RefusesWritingCommit, is_header_named, with_last_header, without_headers};
+ghost use Rattle.gixobj_commit.specs.CommitSigning.{GetsCommitSignature, IsSignedCommit, IsSignedCommitCopy, IsCommitSigningError, IsCommitCopySigningError, IsCommitWriteError, is_header_named, with_last_header, without_headers};
 ghost use Rattle.gixobj_commit.specs.CommitViews.{commit_lines, owned_commit_lines};
-ghost use Rattle.gixobj_commit.specs.CommitWriting.{HasIds, RefusesOwnedCommit, commit_text};
+ghost use Rattle.gixobj_commit.specs.CommitWriting.{HasIds, IsOwnedCommitError, encode_commit};
 ghost use Rattle.gixobj_fields.specs.HeaderReading.{owned_header_of};
-ghost use Rattle.gixobj_fields.specs.Writing.{RefusesNothing};
-ghost use Rattle.gixobj_signature.specs.Plans.{Goes};
-ghost use Rattle.gixobj_signature.specs.Signing.{options_view, sign_plan, signer_refusal};
+ghost use Rattle.gixobj_fields.specs.Writing.{RejectsNothing};
+ghost use Rattle.gixobj_signature.specs.Plans.{IsCarriedOut};
+ghost use Rattle.gixobj_signature.specs.Signing.{options_view, sign_plan, signer_error};
 
 use super::{Commit, CommitRef, signature_field_name};
 use bstr::BString;
@@ -19,12 +19,34 @@ use std::alloc::Global;
 
 /// Signing
 impl Commit {
-    /// The same commit with a new signature, in a header that stands last, and without all others of its name: `gpgsig`,
-    /// or `gpgsig-sha256` where the tree's id is of SHA-256 (gitformat-signature). What is signed is the written commit
-    /// without any of that name.
+    /// Signs the commit, and returns it with the new signature as its last header (gitformat-signature).
     ///
-    /// `Encode` where the commit can't be written, before any call; else the refusals of signing, as
-    /// [`gixobj_signature::signature::sign::sign_payload`] has them. The commit is gone then.
+    /// The header is `gpgsig`, or `gpgsig-sha256` if the tree's id is of SHA-256. All other headers of that
+    /// name are removed. The payload is the encoding of the commit without any header of that name. Allocates
+    /// the payload, the call, the signature and its header. An error drops the commit.
+    ///
+    /// # Errors
+    ///
+    /// - [`Error::Encode`] with its cause if the payload can't be written; no call is made.
+    /// - [`Error::MissingSigningKey`] if the key is empty; no call is made.
+    /// - [`Error::TemporaryFile`], [`Error::Spawn`] or [`Error::Communicate`] with the runner's reason.
+    /// - [`Error::Failed`] with the program and its standard error if the program fails.
+    /// - [`Error::MissingSignatureConfirmation`] if a program of OpenPGP or X.509 confirms no signature.
+    /// - [`Error::MissingSshSignature`] if a program of SSH leaves no file with a signature.
+    /// - [`Error::OutOfMemory`] if the call, the signature, its header or the runner fails to allocate.
+    ///
+    /// # Examples
+    ///
+    /// ```rust
+    /// let options = Options {
+    ///     format: Format::OpenPgp,
+    ///     program,
+    ///     program_arguments: Vec::new(alloc),
+    ///     signing_key: key,
+    ///     environment: Vec::new(alloc),
+    /// };
+    /// commit.sign(alloc, options, runner)
+    /// ```
     pub fn sign<R: Runner>(
         self,
         alloc: Global,
@@ -32,7 +54,7 @@ impl Commit {
         runner: &mut R,
     ) -> Result<Commit, Error>
         ensures signed { IfOk result (IsSignedCommit R.runs options self runner.old runner.new) }
-        ensures refusal { IfErr result (RefusesSigningCommit R.runs options self runner.old
+        ensures error { IfErr result (IsCommitSigningError R.runs options self runner.old
             runner.new) }
     {
         let field = signature_field_name(self.tree.kind()).as_bytes();
@@ -46,11 +68,13 @@ impl Commit {
 
 /// Signing
 impl CommitRef<'_> {
-    /// The commit copied, and signed as [`Commit::sign`] does. The hex fields must be ids, as those of every commit that
-    /// was read are.
+    /// Copies the commit, and signs the copy by [`Commit::sign`]. The hex fields have to be ids, as
+    /// [`CommitRef::from_bytes`] ensures.
     ///
-    /// `Decode` where it can't be copied, as [`CommitRef::into_owned`] says, before any call; else what
-    /// [`Commit::sign`] refuses.
+    /// # Errors
+    ///
+    /// - [`Error::Decode`] with the error of [`CommitRef::into_owned`] if the copy fails; no call is made.
+    /// - Otherwise an error of [`Commit::sign`].
     pub fn sign<R: Runner>(
         self,
         alloc: Global,
@@ -60,7 +84,7 @@ impl CommitRef<'_> {
         requires { HasIds (commit_lines self) }
         ensures signed { IfOk result (IsSignedCommitCopy R.runs options (commit_lines self.entry)
             runner.old runner.new) }
-        ensures refusal { IfErr result (RefusesSigningCommitCopy R.runs options
+        ensures error { IfErr result (IsCommitCopySigningError R.runs options
             (commit_lines self.entry) runner.old runner.new) }
     {
         match self.into_owned(alloc) {
@@ -70,19 +94,19 @@ impl CommitRef<'_> {
     }
 }
 
-/// The written bytes of a commit.
+/// Encodes a commit.
 fn payload_of(alloc: Global, commit: &Commit) -> Result<Vec<u8>, encode::Error>
-    ensures text { IfOk result (λ text. text.items ≡ commit_text (owned_commit_lines commit.now)) }
-    ensures writable { OnOk result (RefusesNothing (RefusesOwnedCommit commit.now)) }
-    ensures refusal { IfErr result (RefusesWritingCommit commit.now
-        (commit_text (owned_commit_lines commit.now))) }
+    ensures encoded { IfOk result (λ content. content.items ≡ encode_commit (owned_commit_lines commit.now)) }
+    ensures writable { OnOk result (RejectsNothing (IsOwnedCommitError commit.now)) }
+    ensures error { IfErr result (IsCommitWriteError commit.now
+        (encode_commit (owned_commit_lines commit.now))) }
 {
     let mut payload = Vec::new(alloc);
     commit.write_to_vec(alloc, &mut payload)?;
     Ok(payload)
 }
 
-/// The commit with the signature that a signer gives for these bytes, in a last header of this name.
+/// Returns the commit with the signature of `payload` in a last header named `field`.
 #[tactic(auto, using(crate::proofs::CommitSigned::begun))]
 fn sign_written<R: Runner>(
     alloc: Global,
@@ -94,8 +118,8 @@ fn sign_written<R: Runner>(
 ) -> Result<Commit, Error>
     ensures signed { IfOk result (GetsCommitSignature R.runs options payload.now field.now unsigned
         runner.old runner.new) }
-    ensures refusal { IfErr result (λ error.
-        Goes R.runs (sign_plan (options_view options) payload.now) runner.old (signer_refusal error)
+    ensures error { IfErr result (λ error.
+        IsCarriedOut R.runs (sign_plan (options_view options) payload.now) runner.old (signer_error error)
         runner.new) }
 {
     match sign_payload(alloc, payload, options, runner) {
@@ -107,11 +131,11 @@ fn sign_written<R: Runner>(
     }
 }
 
-/// The commit without the headers of this name.
+/// Removes the headers of this name.
 fn without_headers_of(commit: Commit, name: &[u8]) -> Commit
     ensures lines { owned_commit_lines result
         ≡ without_headers name.now (owned_commit_lines commit) }
-    ensures others { result ≡ record commit { extra_headers = result.extra_headers } }
+    ensures unchanged { result ≡ record commit { extra_headers = result.extra_headers } }
 {
     let mut commit = commit;
     commit
@@ -127,7 +151,7 @@ fn has_name(header: &(BString, BString), name: &[u8]) -> bool
     header.0.as_bytes() == name
 }
 
-/// The commit with one more header, which stands last.
+/// Appends a header to the commit.
 fn with_header(
     alloc: Global,
     commit: Commit,

@@ -1,18 +1,18 @@
-//! Laws that tie the readers of commits to each other and to the writers. Some make the calls, and
-//! their contracts say what the calls answer; the others do nothing, and their contract is the law.
+//! Laws on decoding, copying and encoding commits. [`commit_decode_encode_agree`] encodes, and its contract
+//! states what the call does; the other functions are empty, and their contract is the law.
 ghost use Rattle.std.specs.Prelude.{◌≡◌, ◌≢◌, ◌<◌, ◌+◌, ◌++◌, ℕ, All, IfErr, List, [], OnOk, Some, length, vec_capacity, vec_len};
 ghost use Rattle.std.specs.List.{AllPass};
 ghost use Rattle.gixobj_hash.specs.Hash.{is_lower_hex_digit};
 ghost use Rattle.gixobj_fields.specs.Streams.{SinkView, list_view};
-ghost use Rattle.gixobj_fields.specs.Writing.{FailsAsSink, RefusesNothing, RefusesWriting};
+ghost use Rattle.gixobj_fields.specs.Writing.{FailsAsSink, RejectsNothing, IsWritingError};
 ghost use Rattle.gixobj_fields.specs.declared.encode.Error.{Error};
 ghost use Rattle.gixobj_hash.specs.declared.decode.Error.TheVariants.{Malformed};
 ghost use Rattle.gixobj_hash.specs.declared.hash.kind.Kind.{Kind};
-ghost use Rattle.gixobj_commit.specs.Commit.{CommitLines, IsCommitText};
-ghost use Rattle.gixobj_commit.specs.CommitOwned.{IsOwnedFormOfCommit, RefusesOwningCommit};
+ghost use Rattle.gixobj_commit.specs.Commit.{CommitLines, DecodesToCommit};
+ghost use Rattle.gixobj_commit.specs.CommitOwned.{IsOwnedFormOfCommit, IsIntoOwnedCommitError};
 ghost use Rattle.gixobj_commit.specs.CommitViews.{commit_lines, owned_commit_lines};
-ghost use Rattle.gixobj_commit.specs.CommitWriting.{HasIds, RefusesCommitLines, RefusesOwnedCommit, commit_text, in_lower_case};
-ghost use Rattle.gixobj_commit.specs.Rewriting.{AreOwnPartsOfCommit, RefusesOwnFormOfCommit};
+ghost use Rattle.gixobj_commit.specs.CommitWriting.{HasIds, IsCommitLinesError, IsOwnedCommitError, encode_commit, in_lower_case};
+ghost use Rattle.gixobj_commit.specs.Rewriting.{AreNormalizedPartsOfCommit, IsNormalizedCommitError};
 ghost use Rattle.gixobj_commit.specs.declared.commit.Commit.{Commit};
 
 use crate::CommitRef;
@@ -20,61 +20,68 @@ use gixobj_fields::WriteTo;
 use gixobj_fields::encode::Error;
 use std::alloc::Global;
 
-/// A text is that of one commit at most.
-pub fn commit_has_one_reading()
-    ensures { (kind : Kind) (text : List ℕ) (commit commit' : CommitLines)
-        → IsCommitText kind text commit → IsCommitText kind text commit' → commit ≡ commit' }
+/// Bytes are the encoding of at most one commit.
+pub fn commit_decodes_uniquely()
+    ensures { (kind : Kind) (content : List ℕ) (commit commit' : CommitLines)
+        → DecodesToCommit kind content commit → DecodesToCommit kind content commit' → commit ≡ commit' }
 {}
 
-/// A commit that was read, with its ids in lower case, is written as it was. Of a commit that was read
-/// nothing is refused but an empty encoding.
-pub fn commit_writes_back()
-    ensures same_text { (kind : Kind) (text : List ℕ) (commit : CommitLines)
-        → IsCommitText kind text commit → AllPass is_lower_hex_digit commit.tree
+/// A decoded commit re-encodes identically if its ids are in lower case. Its encoder rejects nothing but an
+/// empty message encoding.
+pub fn commit_reencodes_identically()
+    ensures same_bytes { (kind : Kind) (content : List ℕ) (commit : CommitLines)
+        → DecodesToCommit kind content commit → AllPass is_lower_hex_digit commit.tree
         → All (λ hex. AllPass is_lower_hex_digit hex) commit.parents
-        → commit_text (in_lower_case commit) ≡ text }
-    ensures not_refused { (kind : Kind) (text : List ℕ) (commit : CommitLines)
-        → IsCommitText kind text commit → commit.encoding ≢ Some []
-        → RefusesNothing (RefusesCommitLines (in_lower_case commit)) }
+        → encode_commit (in_lower_case commit) ≡ content }
+    ensures no_error { (kind : Kind) (content : List ℕ) (commit : CommitLines)
+        → DecodesToCommit kind content commit → commit.encoding ≢ Some []
+        → RejectsNothing (IsCommitLinesError (in_lower_case commit)) }
 {}
 
-/// The owned form of a commit has its parts: ids in lower case, actors by their parts, their times as
-/// they are written, all else as it is. A commit that was read finds an owned form unless memory runs
-/// out, and that is written unless the sink fails, an actor has a byte that no owned one may have, or
-/// the encoding is empty.
-pub fn owned_forms_have_the_parts()
+/// An owned copy has the parts of its commit, normalized.
+///
+/// Ids are in lower case, actors and their times are encoded from their parts, and all else is unchanged.
+/// Copying a decoded commit fails only if memory runs out. Encoding the copy fails only if the sink fails, an
+/// actor has a byte that owned actors reject, or the message encoding is empty.
+pub fn owned_commit_has_same_parts()
     ensures parts { (lines : CommitLines) (commit : Commit) → IsOwnedFormOfCommit lines commit
-        → AreOwnPartsOfCommit lines (owned_commit_lines commit) }
-    ensures owned { (kind : Kind) (text : List ℕ) (lines : CommitLines)
-        → IsCommitText kind text lines → ¬ RefusesOwningCommit lines Malformed }
-    ensures refusal { (kind : Kind) (text : List ℕ) (lines : CommitLines) (commit : Commit)
-        (before after : SinkView) (error : Error) → IsCommitText kind text lines
+        → AreNormalizedPartsOfCommit lines (owned_commit_lines commit) }
+    ensures owned { (kind : Kind) (content : List ℕ) (lines : CommitLines)
+        → DecodesToCommit kind content lines → ¬ IsIntoOwnedCommitError lines Malformed }
+    ensures error { (kind : Kind) (content : List ℕ) (lines : CommitLines) (commit : Commit)
+        (before after : SinkView) (error : Error) → DecodesToCommit kind content lines
         → IsOwnedFormOfCommit lines commit
-        → RefusesWriting (RefusesOwnedCommit commit) before after
-        (commit_text (owned_commit_lines commit)) error
-        → RefusesOwnFormOfCommit lines before after (commit_text (owned_commit_lines commit))
+        → IsWritingError (IsOwnedCommitError commit) before after
+        (encode_commit (owned_commit_lines commit)) error
+        → IsNormalizedCommitError lines before after (encode_commit (owned_commit_lines commit))
         error }
 {}
 
-/// A commit is written behind the bytes of a list: where it was read from a text, and its ids were in
-/// lower case, the text is written back. Where it was read and its encoding is not empty, it fails only
-/// as `Writer`, and only where the list has no room for the text, of which it then holds a front.
-pub fn commit_reads_and_writes(
+/// Appends the encoding of a commit to a list.
+///
+/// A commit that was decoded from bytes with lower-case ids appends the same bytes.
+///
+/// # Errors
+///
+/// - [`Error::Writer`] if the list fails to allocate; it then holds a prefix of the encoding. It is the only
+///   error of a decoded commit whose message encoding is absent or not empty.
+/// - Otherwise an error of [`WriteTo::write_to_vec`].
+pub fn commit_decode_encode_agree(
     alloc: Global,
     commit: &CommitRef<'_>,
     out: &mut Vec<u8>,
 ) -> Result<(), Error>
     requires { HasIds (commit_lines commit.now) }
-    ensures same_text { OnOk result ((kind : Kind) (text : List ℕ)
-        → IsCommitText kind text (commit_lines commit.now)
+    ensures same_bytes { OnOk result ((kind : Kind) (content : List ℕ)
+        → DecodesToCommit kind content (commit_lines commit.now)
         → AllPass is_lower_hex_digit (commit_lines commit.now).tree
         → All (λ hex. AllPass is_lower_hex_digit hex) (commit_lines commit.now).parents
-        → out.new.items ≡ out.old.items ++ text) }
-    ensures refusal { IfErr result (λ error. (kind : Kind) (text : List ℕ)
-        → IsCommitText kind text (commit_lines commit.now)
+        → out.new.items ≡ out.old.items ++ content) }
+    ensures error { IfErr result (λ error. (kind : Kind) (content : List ℕ)
+        → DecodesToCommit kind content (commit_lines commit.now)
         → (commit_lines commit.now).encoding ≢ Some []
         → FailsAsSink (list_view out.old) (list_view out.new)
-        (commit_text (in_lower_case (commit_lines commit.now))) error) }
+        (encode_commit (in_lower_case (commit_lines commit.now))) error) }
 {
     match commit.write_to_vec(alloc, out) {
         Ok(()) => Ok(()),

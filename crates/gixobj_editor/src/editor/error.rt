@@ -1,31 +1,32 @@
-//! Why an edit is refused.
+//! Errors of edits by an editor or a cursor.
 use bstr::BString;
 use gixobj_directories::opening;
 use gixobj_find::find::existing_object;
 use std::alloc::AllocError;
 
-/// The refusal of an edit. The editor's files are as they were.
+/// The error of an edit by an [`Editor`](super::Editor) or a [`Cursor`](super::Cursor). The editor's files
+/// are unchanged after it.
 #[derive(Debug, Drop, thiserror::Error)]
 pub enum Error {
     /// A name of the path is empty.
     #[error("an empty name in a path")]
     EmptyPathComponent,
-    /// A name of the path has a `/`.
+    /// A name of the path contains a `/`.
     #[error("a name with `/` in a path")]
     SlashInPathComponent,
-    /// A directory on the path isn't found in the store as a tree.
+    /// The store doesn't have a directory on the path as a tree, or its lookup failed, as the payload says.
     #[error("{0}")]
     FindExistingObject(existing_object::Error),
-    /// A directory was to be removed as a leaf.
+    /// The path of a leaf to remove is that of a directory.
     #[error("`{rela_path}` is a directory")]
     CannotRemoveNonLeaf {
-        /// Its path from the root, with `/` between the names.
+        /// The path of the directory from the root, with `/` between the names.
         rela_path: BString,
     },
-    /// The tree of a directory on the path isn't well-formed.
+    /// The stored tree of a directory on the path isn't well-formed.
     #[error("a tree in the store isn't well-formed")]
     MalformedTree,
-    /// There was no memory, in a lookup or beside it.
+    /// Allocation failed, in a lookup or in the editor.
     #[error("out of memory")]
     OutOfMemory,
 }
@@ -43,9 +44,9 @@ impl From<AllocError> for Error {
 
 impl From<opening::Error> for Error {
     ghost use Rattle.std.specs.Prelude.{◌≡◌};
-    ghost use Rattle.gixobj_editor.specs.Upserts.{edit_refusal};
+    ghost use Rattle.gixobj_editor.specs.Upserts.{edit_error};
 
-    ghost from_gives = { λ cause error. error ≡ edit_refusal cause };
+    ghost from_gives = { λ cause error. error ≡ edit_error cause };
 
     fn from(cause: opening::Error) -> Error {
         match cause {

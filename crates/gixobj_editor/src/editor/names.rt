@@ -1,29 +1,29 @@
-//! Names in the paths of edits.
+//! Validation and joining of the names in the paths of edits.
 ghost use Rattle.std.specs.Prelude.{◌≡◌, ◌≢◌, ◌≤◌, ◌++◌, [], IfErr, IfOk, OnErr, OnOk, drop, length, take};
 ghost use Rattle.bstr.specs.Owned.{bstring_bytes};
 ghost use Rattle.gixobj_tree.specs.Entries.{IsEntryName};
 ghost use Rattle.gixobj_directories.specs.Calls.{AreNames, names_of};
 ghost use Rattle.gixobj_editor.specs.Cursors.{from_root};
-ghost use Rattle.gixobj_editor.specs.Upserts.{IsJudged, RefusesEntryName, RefusesNames, StartsRefused, directory_of};
+ghost use Rattle.gixobj_editor.specs.Upserts.{IsValidated, IsEntryNameError, IsFirstNameError, StartsInvalid, directory_of};
 
 use crate::editor::error::Error;
 use bstr::BString;
-use gixobj_hash::texts::has_byte;
+use gixobj_hash::split::has_byte;
 use std::alloc::{AllocError, Global};
 
-/// The directories that a removal at the path may open, by names that entries may have, and the names from the
-/// first one on that no entry may have.
-pub(crate) fn judged(path: &[BString]) -> (&[BString], &[BString])
-    ensures { IsJudged (names_of path.now) (names_of result.0.now) (names_of result.1.now) }
+/// Splits a path into the directories that a removal may open, by valid names, and the names from the first
+/// invalid one on.
+pub(crate) fn validated(path: &[BString]) -> (&[BString], &[BString])
+    ensures { IsValidated (names_of path.now) (names_of result.0.now) (names_of result.1.now) }
 {
-    let (names, refused) = path.split_at(count_names(path));
-    if refused.is_empty() {
-        return (above(names), refused);
+    let (names, rejected) = path.split_at(count_names(path));
+    if rejected.is_empty() {
+        return (above(names), rejected);
     }
-    (names, refused)
+    (names, rejected)
 }
 
-/// The path of the directory that a path is in.
+/// Returns the path without its last name.
 fn above(path: &[BString]) -> &[BString]
     ensures { names_of result.now ≡ directory_of (names_of path.now) }
 {
@@ -33,10 +33,10 @@ fn above(path: &[BString]) -> &[BString]
     }
 }
 
-/// How many names stand before the first that no entry may have.
+/// Counts the names before the first invalid one.
 fn count_names(path: &[BString]) -> usize
     ensures names { AreNames (names_of (take result path.now)) }
-    ensures refused { StartsRefused (names_of (drop result path.now)) }
+    ensures after_error { StartsInvalid (names_of (drop result path.now)) }
     ensures count { result ≤ length path.now }
 {
     let Some((name, rest)) = path.split_first() else {
@@ -48,7 +48,7 @@ fn count_names(path: &[BString]) -> usize
     1 + count_names(rest)
 }
 
-/// The names of a path behind those of a prefix; a path without names stays without.
+/// Joins a prefix and a path; the result for an empty path is empty.
 pub(crate) fn join_paths(
     alloc: Global,
     prefix: &[BString],
@@ -56,7 +56,7 @@ pub(crate) fn join_paths(
 ) -> Result<Vec<BString>, AllocError>
     ensures joined { IfOk result (λ it. names_of it.items
         ≡ from_root (names_of prefix.now) (names_of path.now)) }
-    ensures taken { OnErr result (names_of path.now ≢ []) }
+    ensures allocates { OnErr result (names_of path.now ≢ []) }
 {
     let mut names = Vec::new(alloc);
     if path.is_empty() {
@@ -67,15 +67,15 @@ pub(crate) fn join_paths(
     Ok(names)
 }
 
-/// Copies of names.
+/// Copies the names.
 pub(crate) fn copy_names(alloc: Global, names: &[BString]) -> Result<Vec<BString>, AllocError>
     ensures copied { IfOk result (λ it. names_of it.items ≡ names_of names.now) }
-    ensures taken { OnErr result (names_of names.now ≢ []) }
+    ensures allocates { OnErr result (names_of names.now ≢ []) }
 {
     join_paths(alloc, &[], names)
 }
 
-/// Copies of the names of a path, behind others.
+/// Appends copies of the names of a path to a list.
 fn push_names(alloc: Global, names: &mut Vec<BString>, path: &[BString]) -> Result<(), AllocError>
     ensures { OnOk result (names_of names.new.items
         ≡ names_of names.old.items ++ names_of path.now) }
@@ -86,10 +86,10 @@ fn push_names(alloc: Global, names: &mut Vec<BString>, path: &[BString]) -> Resu
     Ok(())
 }
 
-/// Refuses the first name that no entry may have.
+/// Rejects the first invalid name.
 pub(crate) fn check_names(path: &[BString]) -> Result<(), Error>
     ensures accepted { OnOk result (AreNames (names_of path.now)) }
-    ensures refusal { IfErr result (RefusesNames (names_of path.now)) }
+    ensures error { IfErr result (IsFirstNameError (names_of path.now)) }
 {
     let Some((name, rest)) = path.split_first() else {
         return Ok(());
@@ -98,10 +98,10 @@ pub(crate) fn check_names(path: &[BString]) -> Result<(), Error>
     check_names(rest)
 }
 
-/// Refuses a name that no entry may have.
+/// Rejects a name that is empty or contains a `/`.
 fn check_name(name: &BString) -> Result<(), Error>
     ensures accepted { OnOk result (IsEntryName (bstring_bytes name.now)) }
-    ensures refusal { IfErr result (RefusesEntryName (bstring_bytes name.now)) }
+    ensures error { IfErr result (IsEntryNameError (bstring_bytes name.now)) }
 {
     if name.is_empty() {
         return Err(Error::EmptyPathComponent);

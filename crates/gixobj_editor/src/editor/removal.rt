@@ -1,4 +1,4 @@
-//! How a removal goes along its path.
+//! Opening of directories and validation of names along the path of a removal.
 ghost use Rattle.std.specs.Prelude.{◌≡◌, ◌⊎◌, ◌∷◌, [], true, false, IfErr, IfOk, List, None, OnErr, OnOk, Some};
 ghost use Rattle.bstr.specs.Owned.{bstring_bytes, joined};
 ghost use Rattle.gixobj_files.specs.Edits.{Opens, counted, entry_at};
@@ -12,54 +12,54 @@ ghost use Rattle.gixobj_hash.specs.declared.hash.object_id.ObjectId.{ObjectId};
 ghost use Rattle.gixobj_hash.specs.Bytes.{slash};
 ghost use Rattle.gixobj_tree.specs.Entries.{EntryView, IsEntryName};
 ghost use Rattle.gixobj_mode.specs.Mode.{is_tree_mode};
-ghost use Rattle.gixobj_editor.specs.Upserts.{IsOpenedInPart, RefusesNames, directory_of};
-ghost use Rattle.gixobj_editor.specs.Removals.{Judges, RefusesDirectoryAt, RefusesRemoval};
+ghost use Rattle.gixobj_editor.specs.Upserts.{IsOpenedInPart, IsFirstNameError, directory_of};
+ghost use Rattle.gixobj_editor.specs.Removals.{ValidatesUpTo, IsLeafDirectoryError, IsRemovalError};
 
 use crate::editor::error::Error;
-use crate::editor::names::{check_names, judged};
+use crate::editor::names::{check_names, validated};
 use bstr::BString;
 use gixobj_directories::open::Open;
-use gixobj_directories::opening::Unasked;
+use gixobj_directories::opening::Vacant;
 use gixobj_object::Find;
 use std::alloc::{AllocError, Global};
 
-/// Opens the directories above a path, as far as there are any, and judges each name that it comes to.
+/// Opens the directories above a path, as far as they exist, and validates each name that it reaches.
 pub(crate) fn open_for_removal<S: Find>(
     alloc: Global,
     root: &mut Open,
     path: &[BString],
-    unasked: Unasked,
+    not_looked_up: Vacant,
     store: &S,
     lookups: &mut u64,
 ) -> Result<(), Error>
     ensures opened { OnOk result (OfTrees (S.objects store.now)
-        (λ trees. (asked : List ObjectId)
-        × Opens (EndsBefore unasked) trees (directory_of (names_of path.now)) (dirs_of root.old)
-        (dirs_of root.new) asked × (lookups.new ≡ counted lookups.old asked)
-        × ((name : List _) → Judges (EndsBefore unasked) trees (dirs_of root.old)
+        (λ trees. (requested : List ObjectId)
+        × Opens (EndsBefore not_looked_up) trees (directory_of (names_of path.now)) (dirs_of root.old)
+        (dirs_of root.new) requested × (lookups.new ≡ counted lookups.old requested)
+        × ((name : List _) → ValidatesUpTo (EndsBefore not_looked_up) trees (dirs_of root.old)
         (names_of path.now) name → IsEntryName name))) }
-    ensures refused { IfErr result (λ error.
+    ensures after_error { IfErr result (λ error.
         OfTrees (S.objects store.now) (λ trees.
-        IsOpenedInPart (EndsBefore unasked) trees (names_of path.now) (dirs_of root.old)
+        IsOpenedInPart (EndsBefore not_looked_up) trees (names_of path.now) (dirs_of root.old)
         (dirs_of root.new) lookups.old lookups.new
-        × RefusesRemoval (EndsBefore unasked) (S.objects store.now) (S.may_fail store.now) trees
+        × IsRemovalError (EndsBefore not_looked_up) (S.objects store.now) (S.may_fail store.now) trees
         (dirs_of root.old) (names_of path.now) error)) }
     ensures still_opened { IsOpened (dirs_of root.old) → IsOpened (dirs_of root.new) }
     ensures bases { (at : Path) → bases_of root.new at
         ≡ opened_bases (dirs_of root.old) (dirs_of root.new) (bases_of root.old) at }
 {
-    let (directory, refused) = judged(path);
-    root.open_along(alloc, directory, unasked, store, lookups)?;
-    check_reached(root, directory, refused)
+    let (directory, rejected) = validated(path);
+    root.open_along(alloc, directory, not_looked_up, store, lookups)?;
+    check_reached(root, directory, rejected)
 }
 
-/// Refuses the first of these names that no entry may have, where the directory above them is open.
+/// Rejects the first of these names that is invalid, if the directory above them is open.
 fn check_reached(root: &Open, directory: &[BString], names: &[BString]) -> Result<(), Error>
     ensures accepted { OnOk result ((dirs_of root.now (names_of directory.now) ≡ None)
         ⊎ AreNames (names_of names.now)) }
-    ensures refusal { IfErr result (λ error. (entries : List EntryView)
+    ensures error { IfErr result (λ error. (entries : List EntryView)
         × (dirs_of root.now (names_of directory.now) ≡ Some entries)
-        × RefusesNames (names_of names.now) error) }
+        × IsFirstNameError (names_of names.now) error) }
 {
     let Some(_reached) = root.tree(directory) else {
         return Ok(());
@@ -67,13 +67,13 @@ fn check_reached(root: &Open, directory: &[BString], names: &[BString]) -> Resul
     check_names(names)
 }
 
-/// Refuses a path at which a directory is.
+/// Rejects a path that leads to a directory.
 pub(crate) fn check_leaf(alloc: Global, root: &Open, path: &[BString]) -> Result<(), Error>
     ensures accepted { OnOk result ((e : EntryView)
         → entry_at (names_of path.now) (dirs_of root.now) ≡ Some e → is_tree_mode e.mode ≡ false) }
-    ensures refusal { IfErr result (λ error. (e : EntryView)
+    ensures error { IfErr result (λ error. (e : EntryView)
         × (entry_at (names_of path.now) (dirs_of root.now) ≡ Some e) × (is_tree_mode e.mode ≡ true)
-        × RefusesDirectoryAt (names_of path.now) error) }
+        × IsLeafDirectoryError (names_of path.now) error) }
 {
     let Some(entry) = root.get(path) else {
         return Ok(());
@@ -85,10 +85,10 @@ pub(crate) fn check_leaf(alloc: Global, root: &Open, path: &[BString]) -> Result
     Err(Error::CannotRemoveNonLeaf { rela_path })
 }
 
-/// The names with a `/` between each two.
+/// Joins the names with a `/` between each two.
 fn join_names(alloc: Global, path: &[BString]) -> Result<BString, AllocError>
     ensures { IfOk result (λ it. bstring_bytes it ≡ joined (slash ∷ []) (names_of path.now)) }
 {
-    let text = bstr::join(alloc, b"/", path)?;
-    Ok(BString::from(text))
+    let bytes = bstr::join(alloc, b"/", path)?;
+    Ok(BString::from(bytes))
 }

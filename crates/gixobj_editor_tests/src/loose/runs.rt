@@ -1,7 +1,7 @@
-//! Whole runs of the program, over readers and writers of memory that may fail.
+//! Runs of the entire program over readers and writers in memory that may fail.
 
 use super::ONE_ENTRY;
-use crate::streams::{Told, answers, answers_reader, fails_at_reader, status_of, words_in};
+use crate::streams::{Expected, answers, answers_reader, arguments_in, fails_at_reader, status_of};
 use gixobj_base_tests::limited::{Limited, Stepping};
 use gixobj_show::engine::run;
 use std::alloc::{AllocError, Global};
@@ -24,14 +24,14 @@ impl Read for Interrupted<'_> {
             return Err(io::Error::from(ErrorKind::Interrupted));
         }
         let count = self.rest.len().min(buf.len()).min(1);
-        let (front, rest) = self.rest.split_at(count);
-        buf[..count].copy_from_slice(front);
+        let (prefix, rest) = self.rest.split_at(count);
+        buf[..count].copy_from_slice(prefix);
         self.rest = rest;
         Ok(count)
     }
 }
 
-/// A writer that has no room.
+/// A writer without room.
 #[derive(Drop)]
 struct Full;
 
@@ -50,7 +50,7 @@ const HELLO: &str = "blob 6 ce013625030ba8dba906f756967f9e9ca394464a\n";
 const HELLO_SHA256: &str =
     "blob 6 2cf8d83d9ee29543b34a87727421fdecb7e3f3a183d337639025de576db9ebb4\n";
 
-/// Words, inputs, and what comes of each: the status, and what is written on standard output and on standard error.
+/// Arguments, inputs, and the expected exit status, standard output and standard error.
 const SHOWN: &[(&str, &[u8], u8, &str, &str)] = &[
     ("show", b"blob 6\0hello\n", 0, HELLO, ""),
     ("show", b"blob 6\0hello\nand more", 0, HELLO, ""),
@@ -91,24 +91,24 @@ const SHOWN: &[(&str, &[u8], u8, &str, &str)] = &[
     ("show sha256 sha256", b"blob 6\0hello\n", 2, "", USAGE),
 ];
 
-/// These words and inputs.
+/// Returns [`SHOWN`].
 fn shown() -> &'static [(&'static str, &'static [u8], u8, &'static str, &'static str)] {
     SHOWN
 }
 
-/// Whether the program answers this to an input.
-fn shows(alloc: Global, line: &str, input: &[u8], status: u8, texts: (&str, &str)) -> bool {
-    let (output, errors) = texts;
-    let told = Told {
+/// Returns whether the program has this result for an input.
+fn shows(alloc: Global, line: &str, input: &[u8], status: u8, outputs: (&str, &str)) -> bool {
+    let (output, errors) = outputs;
+    let expected = Expected {
         status,
         output: output.as_bytes(),
         errors: errors.as_bytes(),
     };
-    answers(alloc, line, input, told)
+    answers(alloc, line, input, expected)
 }
 
 #[test]
-fn show_objects_and_faults(rt: HostRuntime) {
+fn shows_objects_and_reports_faults(rt: HostRuntime) {
     for &(line, input, status, output, errors) in shown() {
         assert!(rt;
             shows(rt.alloc(), line, input, status, (output, errors)),
@@ -117,7 +117,7 @@ fn show_objects_and_faults(rt: HostRuntime) {
     }
 }
 
-/// Inputs of each command, and what is written of each on standard output and on standard error.
+/// Inputs of each command, and the expected bytes on standard output and on standard error.
 const READ: &[(&str, &[u8], &str, &str)] = &[
     (
         "show",
@@ -135,58 +135,61 @@ const READ: &[(&str, &[u8], &str, &str)] = &[
     ("tree", b"tree 6\0hello\n", "", "gixobj: bad tree\n"),
 ];
 
-/// These inputs.
+/// Returns [`READ`].
 fn read() -> &'static [(&'static str, &'static [u8], &'static str, &'static str)] {
     READ
 }
 
-/// What a run comes to that tells these texts: it fails where there is something on standard error.
-fn told_by<'a>(texts: (&'a str, &'a str)) -> Told<'a> {
-    let (output, errors) = texts;
-    Told {
+/// The expected result with these bytes on both outputs: it is a failure if there are bytes on standard
+/// error.
+fn expected_of<'a>(outputs: (&'a str, &'a str)) -> Expected<'a> {
+    let (output, errors) = outputs;
+    Expected {
         status: u8::from(!errors.is_empty()),
         output: output.as_bytes(),
         errors: errors.as_bytes(),
     }
 }
 
-/// Whether the program writes this of an object that is read in steps of so many bytes.
+/// Returns whether the program writes this for an object whose reader yields at most `step` bytes in each
+/// call.
 fn writes_in_steps(
     alloc: Global,
     line: &str,
     object: &[u8],
     step: usize,
-    texts: (&str, &str),
+    outputs: (&str, &str),
 ) -> bool {
     let mut reader = Stepping {
         rest: object,
         step,
         fails: false,
     };
-    answers_reader(alloc, line, &mut reader, told_by(texts))
+    answers_reader(alloc, line, &mut reader, expected_of(outputs))
 }
 
 #[test]
-fn readers_in_steps(rt: HostRuntime) {
+fn reads_in_steps(rt: HostRuntime) {
     let alloc = rt.alloc();
     for &(line, object, output, errors) in read() {
-        let texts = (output, errors);
+        let outputs = (output, errors);
         assert!(rt;
-            writes_in_steps(alloc, line, object, 1, texts),
+            writes_in_steps(alloc, line, object, 1, outputs),
             "{line} {object:?}"
         );
         assert!(rt;
-            writes_in_steps(alloc, line, object, 5, texts),
+            writes_in_steps(alloc, line, object, 5, outputs),
             "{line} {object:?}"
         );
         assert!(rt;
-            writes_in_steps(alloc, line, object, 4096, texts),
+            writes_in_steps(alloc, line, object, 4096, outputs),
             "{line} {object:?}"
         );
     }
 }
 
-/// Whether the program fails where an object is read in steps of so many bytes and the reader fails behind it.
+/// Returns whether the program fails if the reader of an object yields at most `step` bytes in each call and
+/// fails at the end.
 fn fails_in_steps(alloc: Global, line: &str, object: &[u8], step: usize) -> bool {
     let mut reader = Stepping {
         rest: object,
@@ -197,7 +200,7 @@ fn fails_in_steps(alloc: Global, line: &str, object: &[u8], step: usize) -> bool
 }
 
 #[test]
-fn readers_that_fail(rt: HostRuntime) {
+fn fails_if_reader_fails(rt: HostRuntime) {
     let alloc = rt.alloc();
     for &(line, object, _, _) in read() {
         assert!(rt; fails_in_steps(alloc, line, object, 1), "{line} {object:?}");
@@ -209,17 +212,17 @@ fn readers_that_fail(rt: HostRuntime) {
     }
 }
 
-/// Whether the program writes this of an object whose reader is interrupted before each byte.
-fn writes_interrupted(alloc: Global, line: &str, object: &[u8], texts: (&str, &str)) -> bool {
+/// Returns whether the program writes this for an object whose reader is interrupted before each byte.
+fn writes_interrupted(alloc: Global, line: &str, object: &[u8], outputs: (&str, &str)) -> bool {
     let mut reader = Interrupted {
         rest: object,
         is_next: false,
     };
-    answers_reader(alloc, line, &mut reader, told_by(texts))
+    answers_reader(alloc, line, &mut reader, expected_of(outputs))
 }
 
 #[test]
-fn interrupted_readers(rt: HostRuntime) {
+fn reads_on_after_interruptions(rt: HostRuntime) {
     for &(line, object, output, errors) in read() {
         assert!(rt;
             writes_interrupted(rt.alloc(), line, object, (output, errors)),
@@ -228,7 +231,7 @@ fn interrupted_readers(rt: HostRuntime) {
     }
 }
 
-/// Words, inputs, and what comes of each where nothing can be written: the status, and what is told on standard error.
+/// Arguments, inputs, and the expected exit status and standard error if each write to standard output fails.
 const UNWRITTEN: &[(&str, &[u8], u8, &str)] = &[
     ("show", b"blob 6\0hello\n", 1, "gixobj: output failed\n"),
     ("show", b"", 1, "gixobj: bad header\n"),
@@ -238,61 +241,66 @@ const UNWRITTEN: &[(&str, &[u8], u8, &str)] = &[
     ("", b"", 2, USAGE),
 ];
 
-/// These words and inputs.
+/// Returns [`UNWRITTEN`].
 fn unwritten() -> &'static [(&'static str, &'static [u8], u8, &'static str)] {
     UNWRITTEN
 }
 
-/// Whether the program ends with this status where its answer can't be written, and tells this on standard error.
+/// Returns whether the program ends with this status and this on standard error if each write to standard
+/// output fails.
 fn is_unwritten(alloc: Global, line: &str, mut object: &[u8], status: u8, errors: &str) -> bool {
-    let mut refused = Vec::new(alloc);
-    status_of(alloc, line, &mut object, &mut Full, &mut refused) == Ok(status)
-        && refused.as_slice() == errors.as_bytes()
+    let mut reported = Vec::new(alloc);
+    status_of(alloc, line, &mut object, &mut Full, &mut reported) == Ok(status)
+        && reported.as_slice() == errors.as_bytes()
 }
 
-/// Whether it does where nothing can be told either.
-fn is_untold(alloc: Global, line: &str, mut object: &[u8], status: u8) -> bool {
+/// Returns whether the program ends with this status if each write to both outputs fails.
+fn is_unreported(alloc: Global, line: &str, mut object: &[u8], status: u8) -> bool {
     status_of(alloc, line, &mut object, &mut Full, &mut Full) == Ok(status)
 }
 
 #[test]
-fn writers_that_fail(rt: HostRuntime) {
+fn ends_with_status_if_writers_fail(rt: HostRuntime) {
     let alloc = rt.alloc();
     for &(line, object, status, errors) in unwritten() {
         assert!(rt;
             is_unwritten(alloc, line, object, status, errors),
             "{line} {object:?}"
         );
-        assert!(rt; is_untold(alloc, line, object, status), "{line} {object:?}");
+        assert!(rt;
+            is_unreported(alloc, line, object, status),
+            "{line} {object:?}"
+        );
     }
 }
 
-/// What is listed of a tree of one entry.
+/// The listing of a tree of one entry.
 const LINE: &[u8] = b"100644 blob 83baae61804e65cc73a7201a7252750c76066a30 test.txt\n";
 
-/// Whether the program fails in mid-line where there is room for so much, which is written.
+/// Returns whether the program fails in the middle of a line, after it wrote as many bytes as the writer has
+/// room for.
 fn fails_in_mid_line(alloc: Global, room: usize) -> bool {
     let mut object = ONE_ENTRY;
     let mut narrow = Limited {
         held: Vec::new(alloc),
         room,
     };
-    let mut refused = Vec::new(alloc);
-    let status = status_of(alloc, "tree", &mut object, &mut narrow, &mut refused);
+    let mut errors = Vec::new(alloc);
+    let status = status_of(alloc, "tree", &mut object, &mut narrow, &mut errors);
     status == Ok(1)
         && LINE.starts_with(narrow.held.as_slice())
         && narrow.held.len() == room
-        && refused.as_slice() == b"gixobj: output failed\n".as_slice()
+        && errors.as_slice() == b"gixobj: output failed\n".as_slice()
 }
 
 #[test]
-fn a_writer_that_fails_in_mid_line(rt: HostRuntime) {
+fn fails_if_writer_fails_in_mid_line(rt: HostRuntime) {
     assert!(rt; fails_in_mid_line(rt.alloc(), 1));
     assert!(rt; fails_in_mid_line(rt.alloc(), 12));
     assert!(rt; fails_in_mid_line(rt.alloc(), 61));
 }
 
-/// The status of a run of what only shows, by the words of a line.
+/// Runs the program with only `show` by the arguments in a line, and returns the exit status.
 fn shown_alone(
     alloc: Global,
     line: &str,
@@ -300,39 +308,39 @@ fn shown_alone(
     output: &mut Vec<u8>,
     errors: &mut Vec<u8>,
 ) -> Result<u8, AllocError> {
-    let words = words_in(alloc, line)?;
-    Ok(run(alloc, words.as_slice(), input, output, errors))
+    let arguments = arguments_in(alloc, line)?;
+    Ok(run(alloc, arguments.as_slice(), input, output, errors))
 }
 
-/// Whether what only shows reads nothing by these words, and tells how it is used.
+/// Returns whether the program with only `show` reads nothing for these arguments, and reports its usage.
 fn does_nothing(alloc: Global, line: &str) -> bool {
     let mut object = ONE_ENTRY;
-    let mut answered = Vec::new(alloc);
-    let mut refused = Vec::new(alloc);
-    shown_alone(alloc, line, &mut object, &mut answered, &mut refused) == Ok(2)
-        && answered.is_empty()
-        && refused.as_slice() == USAGE.as_bytes()
+    let mut output = Vec::new(alloc);
+    let mut errors = Vec::new(alloc);
+    shown_alone(alloc, line, &mut object, &mut output, &mut errors) == Ok(2)
+        && output.is_empty()
+        && errors.as_slice() == USAGE.as_bytes()
         && object == ONE_ENTRY
 }
 
 #[test]
-fn show_alone_does_nothing_else(rt: HostRuntime) {
+fn show_alone_rejects_other_arguments(rt: HostRuntime) {
     for line in ["tree", "tree sha256", "edit", "show sha1", ""] {
         assert!(rt; does_nothing(rt.alloc(), line), "{line}");
     }
 }
 
-/// Whether what only shows tells of an object in memory.
+/// Returns whether the program with only `show` prints the line of an object in memory.
 fn is_shown_alone(alloc: Global) -> bool {
     let mut object: &[u8] = b"blob 6\0hello\n";
-    let mut answered = Vec::new(alloc);
-    let mut refused = Vec::new(alloc);
-    shown_alone(alloc, "show", &mut object, &mut answered, &mut refused) == Ok(0)
-        && answered.as_slice() == HELLO.as_bytes()
-        && refused.is_empty()
+    let mut output = Vec::new(alloc);
+    let mut errors = Vec::new(alloc);
+    shown_alone(alloc, "show", &mut object, &mut output, &mut errors) == Ok(0)
+        && output.as_slice() == HELLO.as_bytes()
+        && errors.is_empty()
 }
 
 #[test]
-fn over_memory(rt: HostRuntime) {
+fn show_alone_prints_line_of_object(rt: HostRuntime) {
     assert!(rt; is_shown_alone(rt.alloc()));
 }

@@ -1,4 +1,4 @@
-//! What several tests run, and how.
+//! Scripts and commands that several tests run, and functions that run them.
 
 use crate::samples::FILE;
 use bstr::BString;
@@ -12,7 +12,7 @@ use gixobj_find_tests::failing::Failing;
 use gixobj_script::read_script;
 use std::alloc::{AllocError, Global};
 
-/// Edits before and after writes: what a write handed out is looked up again.
+/// Edits before and after writes: an emitted directory is looked up again.
 pub(crate) const TEN_LINES: &str = "upsert blob fa49b077972391ad58037050f2a75f74e3671e92 new.txt
 upsert blob 1f7a7a472abf3dd9643fd615f6da379c4acb3e3a test.txt
 at bak upsert blob 83baae61804e65cc73a7201a7252750c76066a30 test.txt
@@ -25,7 +25,8 @@ write
 upsert blob 83baae61804e65cc73a7201a7252750c76066a30 q//r
 ";
 
-/// An editor of the empty root over a store without objects, with lookups and calls of `keep` that fail.
+/// Returns an editor of the empty root over a store without objects, with lookups and calls of `keep` that
+/// fail.
 pub(crate) fn editor_over(
     alloc: Global,
     lookups_that_fail: &'static [u64],
@@ -40,7 +41,7 @@ pub(crate) fn editor_over(
     Editor::new(Tree::empty(alloc), store, HashKind::Sha1)
 }
 
-/// The commands of a script.
+/// Decodes the commands of a script.
 pub(crate) fn commands_of(alloc: Global, script: &str) -> Result<Vec<Command>, AllocError> {
     match read_script(alloc, script.as_bytes(), HashKind::Sha1) {
         Ok(commands) => Ok(commands),
@@ -48,7 +49,7 @@ pub(crate) fn commands_of(alloc: Global, script: &str) -> Result<Vec<Command>, A
     }
 }
 
-/// A run of commands.
+/// Runs commands on an editor.
 pub(crate) fn run_on(
     alloc: Global,
     editor: &mut Editor<Failing>,
@@ -62,7 +63,7 @@ pub(crate) fn run_on(
     )
 }
 
-/// The replies to a script; or nothing where it isn't run.
+/// Runs a script on an editor, and returns the replies, or `None` after an error.
 pub(crate) fn replies_to(
     alloc: Global,
     editor: &mut Editor<Failing>,
@@ -74,13 +75,13 @@ pub(crate) fn replies_to(
     }
 }
 
-/// Whether the store was asked for so many trees, and the editor counts them.
-pub(crate) fn has_asked(editor: &mut Editor<Failing>, lookups: u64) -> bool {
+/// Returns whether the store and the editor count this number of lookups.
+pub(crate) fn has_lookups(editor: &mut Editor<Failing>, lookups: u64) -> bool {
     editor.lookups() == lookups && editor.store_mut().lookups() == lookups
 }
 
-/// A file of this name is put in.
-pub(crate) fn put(alloc: Global, name: &[u8]) -> Result<Edit, AllocError> {
+/// Builds an edit that inserts a file of this name.
+pub(crate) fn insertion_of(alloc: Global, name: &[u8]) -> Result<Edit, AllocError> {
     let name = BString::from_slice(alloc, name)?;
     Ok(Edit::Upsert {
         path: vec![in alloc; name]?,
@@ -89,24 +90,24 @@ pub(crate) fn put(alloc: Global, name: &[u8]) -> Result<Edit, AllocError> {
     })
 }
 
-/// Puts behind edits that a file of this name is put in.
-pub(crate) fn push_put(
+/// Appends an edit that inserts a file of this name.
+pub(crate) fn push_insert(
     alloc: Global,
     edits: &mut Vec<Edit>,
     name: &[u8],
 ) -> Result<(), AllocError> {
-    edits.push(put(alloc, name)?)?;
+    edits.push(insertion_of(alloc, name)?)?;
     Ok(())
 }
 
-/// Edits in the directory `a`, by one command.
+/// Builds a command of edits in the directory `a`.
 fn in_a(alloc: Global, edits: Vec<Edit>) -> Result<Command, AllocError> {
     let name = BString::from_slice(alloc, b"a")?;
     let prefix = vec![in alloc; name]?;
     Ok(Command::At { prefix, edits })
 }
 
-/// The same, and then the root is written.
+/// Builds a command of edits in the directory `a`, and a write of the root.
 pub(crate) fn in_a_and_written(
     alloc: Global,
     edits: Vec<Edit>,
@@ -115,7 +116,7 @@ pub(crate) fn in_a_and_written(
     Ok(vec![in alloc; at, Command::Edit(Edit::Write)]?)
 }
 
-/// The replies to commands on the empty root, if there are commands.
+/// Runs commands on the empty root, and returns the replies, if there are commands.
 pub(crate) fn replies_on_empty(
     alloc: Global,
     commands: Result<Vec<Command>, AllocError>,

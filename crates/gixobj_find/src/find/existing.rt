@@ -1,17 +1,17 @@
-//! Why no object, or no header, is found.
+//! The error of lookups of objects that have to exist.
 use gixobj_hash::hash::ObjectId;
 use gixobj_object::find;
 
-/// The refusal of [`FindExt::find`](crate::FindExt::find) and [`HeaderExt::header`](crate::HeaderExt::header).
+/// The error of [`FindExt::find`](crate::FindExt::find) and [`HeaderExt::header`](crate::HeaderExt::header).
 #[derive(Debug, Drop, thiserror::Error)]
 pub enum Error {
-    /// The lookup failed.
+    /// The lookup failed; the payload is its error.
     #[error("{0}")]
     Find(find::Error),
-    /// The store has no object of this id.
+    /// The store has no object with this id.
     #[error("no object has the id {oid}")]
     NotFound {
-        /// The id that was asked for.
+        /// The id that was looked up.
         oid: ObjectId,
     },
 }

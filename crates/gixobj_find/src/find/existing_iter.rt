@@ -1,28 +1,28 @@
-//! Why no object is found that is read piece by piece.
+//! The error of lookups that return an iterator over an object.
 use gixobj_hash::Kind;
 use gixobj_hash::hash::ObjectId;
 use gixobj_object::find;
 
-/// The refusal of the lookups of [`FindExt`](crate::FindExt) that give a reader.
+/// The error of the lookups of [`FindExt`](crate::FindExt) that return an iterator.
 #[derive(Debug, Drop, thiserror::Error)]
 pub enum Error {
-    /// The lookup failed.
+    /// The lookup failed; the payload is its error.
     #[error("{0}")]
     Find(find::Error),
-    /// The store has no object of this id.
+    /// The store has no object with this id.
     #[error("no object has the id {oid}")]
     NotFound {
-        /// The id that was asked for.
+        /// The id that was looked up.
         oid: ObjectId,
     },
     /// The object is of another kind.
     #[error("the object {oid} is a {actual}, where a {expected} was asked for")]
     ObjectKind {
-        /// The id that was asked for.
+        /// The id that was looked up.
         oid: ObjectId,
         /// The kind of the object.
         actual: Kind,
-        /// The kind that was asked for.
+        /// The expected kind.
         expected: Kind,
     },
 }

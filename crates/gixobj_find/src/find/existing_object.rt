@@ -1,36 +1,36 @@
-//! Why no object of a kind is found.
+//! The error of lookups that decode an object.
 use gixobj_hash::hash::ObjectId;
 use gixobj_hash::{Kind, decode};
 use gixobj_object::find;
 
-/// The refusal of the lookups of [`FindExt`](crate::FindExt) that give an object.
+/// The error of the lookups of [`FindExt`](crate::FindExt) that return a decoded object.
 #[derive(Debug, Drop, thiserror::Error)]
 pub enum Error {
-    /// The lookup failed.
+    /// The lookup failed; the payload is its error.
     #[error("{0}")]
     Find(find::Error),
-    /// The bytes of the object are no object of its kind, or there was no memory to read them.
+    /// The bytes of the object do not decode as its kind, or an allocation failed while they were decoded.
     #[error("the object {oid}: {source}")]
     Decode {
-        /// The id that was asked for.
+        /// The id that was looked up.
         oid: ObjectId,
-        /// Why they aren't read.
+        /// The error of decoding.
         source: decode::Error,
     },
-    /// The store has no object of this id.
+    /// The store has no object with this id.
     #[error("no object has the id {oid}")]
     NotFound {
-        /// The id that was asked for.
+        /// The id that was looked up.
         oid: ObjectId,
     },
     /// The object is of another kind.
     #[error("the object {oid} is a {actual}, where a {expected} was asked for")]
     ObjectKind {
-        /// The id that was asked for.
+        /// The id that was looked up.
         oid: ObjectId,
         /// The kind of the object.
         actual: Kind,
-        /// The kind that was asked for.
+        /// The expected kind.
         expected: Kind,
     },
 }

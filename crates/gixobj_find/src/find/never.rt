@@ -1,7 +1,7 @@
-//! The store that has nothing.
+//! A store that keeps nothing and finds nothing.
 ghost use Rattle.std.specs.Prelude.{◌≡◌, IfErr, IfOk, IsFalse, None, Ok, false, is_some};
 ghost use Rattle.std.specs.FinMap as map;
-ghost use Rattle.gixobj_object.specs.Stores.{IsFound, RefusesFind, named};
+ghost use Rattle.gixobj_object.specs.Stores.{IsFound, IsFindError, named};
 ghost use Rattle.gixobj_hash.specs.Hash.Borrowed.{borrowed_id};
 
 mod header;
@@ -10,7 +10,7 @@ mod write;
 use gixobj_hash::hash::oid;
 use gixobj_object::{Data, Exists, Find, Store, find};
 
-/// A store that keeps nothing and finds nothing. What is written into it gets its id, by SHA-1.
+/// A store that keeps nothing and finds nothing. An object that is written to it gets its SHA-1 id.
 #[derive(Clone, Copy, Debug)]
 pub struct Never;
 
@@ -20,7 +20,7 @@ impl Store for Never {
     ghost may_fail = { λ store id. false };
 }
 
-/// It finds none, and takes no memory.
+/// Finds no object and never fails. Allocates nothing.
 impl Find for Never {
     #[tactic(auto, using(crate::proofs::Nothing::none_found))]
     fn try_find<'a>(
@@ -29,18 +29,18 @@ impl Find for Never {
         buffer: &'a mut Vec<u8>,
     ) -> Result<Option<Data<'a>>, find::Error>
         ensures found { IfOk result (IsFound map.empty (borrowed_id id.entry)) }
-        ensures refusal { IfErr result (RefusesFind (λ id. false) (borrowed_id id.entry)) }
+        ensures error { IfErr result (IsFindError (λ id. false) (borrowed_id id.entry)) }
         ensures none { result ≡ Ok None }
     {
         Ok(None)
     }
 }
 
-/// None is there.
+/// Returns `false` for each id.
 impl Exists for Never {
     #[tactic(auto, using(crate::proofs::Nothing::not_there))]
     fn exists(&self, id: oid<'_>) -> bool
-        ensures meaning { IsFalse false → result
+        ensures store_model { IsFalse false → result
             ≡ is_some (named map.empty (borrowed_id id.entry)) }
         ensures none { result ≡ false }
     {

@@ -1,22 +1,22 @@
-//! Objects that a store has to have, and that have to be of a kind.
+//! Lookups of objects that have to exist and to be of a kind.
 ghost use Rattle.std.specs.Prelude.{◌≡◌, [], IfErr, IfOk, IsOk};
 ghost use Rattle.gixobj_commit.specs.CommitViews.{commit_lines};
 ghost use Rattle.gixobj_commit.specs.CommitWriting.{HasIds};
-ghost use Rattle.gixobj_object.specs.EntryGiving.{IsAtEntry};
+ghost use Rattle.gixobj_object.specs.EntrySteps.{IsAtEntry};
 ghost use Rattle.gixobj_object.specs.Stores.{Names, stored};
-ghost use Rattle.gixobj_hash.specs.Hash.{IsHexOfAnId};
+ghost use Rattle.gixobj_hash.specs.Hash.{IsIdHex};
 ghost use Rattle.gixobj_hash.specs.Hash.Borrowed.{borrowed_id};
 ghost use Rattle.gixobj_hash.specs.declared.kind.Kind.TheVariants as object;
-ghost use Rattle.gixobj_find.specs.Existing.{IsEmptyId, IsMissing, IsUnread, NamesSuch, NamesText, RefusesExisting, RefusesObject, RefusesReader};
-ghost use Rattle.gixobj_commit.specs.Commit.{IsCommitText};
-ghost use Rattle.gixobj_find.specs.declared.find.existing_iter.Error.TheVariants as told;
+ghost use Rattle.gixobj_find.specs.Existing.{IsEmptyId, IsMissing, FailsToRead, NamesSuch, NamesEncoding, IsExistingError, IsFindObjectError, IsReaderError};
+ghost use Rattle.gixobj_commit.specs.Commit.{DecodesToCommit};
+ghost use Rattle.gixobj_find.specs.declared.find.existing_iter.Error.TheVariants as iter_error;
 ghost use Rattle.gixobj_find.specs.declared.find.existing_object.Error.TheVariants as decoded;
 ghost use Rattle.gixobj_object.specs.BorrowedObjects.{HasObjectIds};
-ghost use Rattle.gixobj_ref_iter.specs.TagTokenGiving.{IsAtStartOfTag};
-ghost use Rattle.gixobj_tag.specs.TagText.{IsTagText};
+ghost use Rattle.gixobj_ref_iter.specs.TagTokenSteps.{IsAtStartOfTag};
+ghost use Rattle.gixobj_tag.specs.TagFormat.{DecodesToTag};
 ghost use Rattle.gixobj_tag.specs.TagViews.{tag_lines};
-ghost use Rattle.gixobj_ref_iter.specs.TokenGiving.{IsAtStartOfCommit};
-ghost use Rattle.gixobj_tree.specs.TreeReading.{IsTreeText};
+ghost use Rattle.gixobj_ref_iter.specs.CommitTokenSteps.{IsAtStartOfCommit};
+ghost use Rattle.gixobj_tree.specs.TreeDecoding.{DecodesToTree};
 ghost use Rattle.gixobj_tree.specs.TreeViews.{tree_entries};
 
 use crate::find::{existing, existing_iter, existing_object};
@@ -29,16 +29,17 @@ use gixobj_tag::TagRef;
 use gixobj_tree::{BlobRef, TreeRef};
 use std::alloc::Global;
 
-/// Lookups of objects that have to be there. Every [`Find`] has them.
+/// Lookups of objects that have to exist. Implemented for every [`Find`].
 ///
-/// Each answers `NotFound` where the id names no object, and `Find` where the lookup fails. Those for one
-/// kind of object answer `ObjectKind` for an object of another kind. Those that give an object read it by
-/// its own kind first, and answer `Decode` where it isn't read; those that give a reader read nothing yet.
-///
-/// `buffer` gets the object's bytes, which the answer borrows; behind an error it may hold anything. Where
-/// memory runs out in a lookup the error is `Find`, where it runs out while an object is read `Decode`.
+/// The object's bytes are written to `buffer`, which the result borrows. After an error `buffer` may hold any
+/// bytes. An allocation failure in the lookup is `Find`, and one while the object is decoded is `Decode`.
 pub trait FindExt: Find {
-    /// The object that the id names, not yet read.
+    /// Looks up the object that `id` names, without decoding it.
+    ///
+    /// # Errors
+    ///
+    /// - [`existing::Error::Find`] with the error of the lookup if it fails.
+    /// - [`existing::Error::NotFound`] if `id` names no object.
     final fn find<'a>(
         &self,
         id: oid<'_>,
@@ -46,7 +47,7 @@ pub trait FindExt: Find {
     ) -> Result<Data<'a>, existing::Error>
         ensures found { IfOk result (λ it.
             Names (Self.objects self.now) (borrowed_id id.entry) (stored it)) }
-        ensures refusal { IfErr result (RefusesExisting (Self.objects self.now)
+        ensures error { IfErr result (IsExistingError (Self.objects self.now)
             (Self.may_fail self.now) (borrowed_id id.entry)) }
     {
         match self.try_find(id, buffer)? {
@@ -55,7 +56,17 @@ pub trait FindExt: Find {
         }
     }
 
-    /// The blob that the id names. That of no bytes is found in every store, which isn't asked for it.
+    /// Looks up and decodes the blob that `id` names.
+    ///
+    /// The empty blob is found in every store, without a lookup.
+    ///
+    /// # Errors
+    ///
+    /// - [`existing_object::Error::Find`] with the error of the lookup if it fails.
+    /// - [`existing_object::Error::NotFound`] if `id` names no object.
+    /// - [`existing_object::Error::Decode`] if the object does not decode as its own kind, or if an
+    ///   allocation fails there.
+    /// - [`existing_object::Error::ObjectKind`] with both kinds if the object is not a blob.
     #[tactic(auto, using(crate::proofs::OfKinds::blob_named))]
     final fn find_blob<'a>(
         &self,
@@ -68,9 +79,9 @@ pub trait FindExt: Find {
             → IfOk result (λ blob. blob.bytes.now ≡ []) }
         ensures found { ¬ IsEmptyId object.Blob (borrowed_id id.entry)
             → IfOk result (λ blob. NamesSuch (Self.objects self.now) (borrowed_id id.entry)
-            object.Blob (λ hash text. blob.bytes.now ≡ text)) }
-        ensures refusal { ¬ IsEmptyId object.Blob (borrowed_id id.entry)
-            → IfErr result (RefusesObject (Self.objects self.now) (Self.may_fail self.now)
+            object.Blob (λ hash content. blob.bytes.now ≡ content)) }
+        ensures error { ¬ IsEmptyId object.Blob (borrowed_id id.entry)
+            → IfErr result (IsFindObjectError (Self.objects self.now) (Self.may_fail self.now)
             object.Blob (borrowed_id id.entry)) }
     {
         if id.to_owned() == ObjectId::empty_blob(id.kind()) {
@@ -82,7 +93,27 @@ pub trait FindExt: Find {
         }
     }
 
-    /// The tree that the id names. That without entries is found in every store, which isn't asked for it.
+    /// Looks up and decodes the tree that `id` names. Allocates its entries.
+    ///
+    /// The empty tree is found in every store, without a lookup.
+    ///
+    /// # Errors
+    ///
+    /// - [`existing_object::Error::Find`] with the error of the lookup if it fails.
+    /// - [`existing_object::Error::NotFound`] if `id` names no object.
+    /// - [`existing_object::Error::Decode`] if the object does not decode as its own kind, or if an
+    ///   allocation fails there.
+    /// - [`existing_object::Error::ObjectKind`] with both kinds if the object is not a tree.
+    ///
+    /// # Examples
+    ///
+    /// ```rust
+    /// let mut buffer = Vec::new(alloc);
+    /// let root = match store.find_tree(alloc, id.as_oid(), &mut buffer) {
+    ///     Ok(tree) => tree.into_owned(alloc),
+    ///     Err(error) => return Err(Error::FindExistingObject(error)),
+    /// };
+    /// ```
     #[tactic(auto, using(crate::proofs::OfKinds::tree_named))]
     final fn find_tree<'a>(
         &self,
@@ -95,9 +126,9 @@ pub trait FindExt: Find {
             → IfOk result (λ tree. tree_entries tree ≡ []) }
         ensures found { ¬ IsEmptyId object.Tree (borrowed_id id.entry)
             → IfOk result (λ tree. NamesSuch (Self.objects self.now) (borrowed_id id.entry)
-            object.Tree (λ hash text. IsTreeText hash text (tree_entries tree))) }
-        ensures refusal { ¬ IsEmptyId object.Tree (borrowed_id id.entry)
-            → IfErr result (RefusesObject (Self.objects self.now) (Self.may_fail self.now)
+            object.Tree (λ hash content. DecodesToTree hash content (tree_entries tree))) }
+        ensures error { ¬ IsEmptyId object.Tree (borrowed_id id.entry)
+            → IfErr result (IsFindObjectError (Self.objects self.now) (Self.may_fail self.now)
             object.Tree (borrowed_id id.entry)) }
     {
         if id.is_empty_tree() {
@@ -109,7 +140,31 @@ pub trait FindExt: Find {
         }
     }
 
-    /// The commit that the id names.
+    /// Looks up and decodes the commit that `id` names. Allocates its parents from the second one on, and its
+    /// extra headers.
+    ///
+    /// # Errors
+    ///
+    /// - [`existing_object::Error::Find`] with the error of the lookup if it fails.
+    /// - [`existing_object::Error::NotFound`] if `id` names no object.
+    /// - [`existing_object::Error::Decode`] if the object does not decode as its own kind, or if an
+    ///   allocation fails there.
+    /// - [`existing_object::Error::ObjectKind`] with both kinds if the object is not a commit.
+    ///
+    /// # Examples
+    ///
+    /// ```rust
+    /// let mut buffer = Vec::new(alloc);
+    /// let mut id = commit;
+    /// for _ in 0..generations {
+    ///     let commit = store.find_commit(alloc, id.as_oid(), &mut buffer)?;
+    ///     match commit.parents().next() {
+    ///         Some(parent) => id = parent,
+    ///         None => return Ok(None),
+    ///     }
+    /// }
+    /// Ok(Some(id))
+    /// ```
     #[tactic(auto, using(crate::proofs::OfKinds::commit_named))]
     final fn find_commit<'a>(
         &self,
@@ -119,9 +174,9 @@ pub trait FindExt: Find {
     ) -> Result<CommitRef<'a>, existing_object::Error>
         ensures found { IfOk result (λ commit.
             NamesSuch (Self.objects self.now) (borrowed_id id.entry) object.Commit
-            (λ hash text. IsCommitText hash text (commit_lines commit))) }
+            (λ hash content. DecodesToCommit hash content (commit_lines commit))) }
         ensures has_ids { IfOk result (λ commit. HasIds (commit_lines commit)) }
-        ensures refusal { IfErr result (RefusesObject (Self.objects self.now)
+        ensures error { IfErr result (IsFindObjectError (Self.objects self.now)
             (Self.may_fail self.now) object.Commit (borrowed_id id.entry)) }
     {
         match decoded(self, alloc, id, buffer)? {
@@ -130,7 +185,15 @@ pub trait FindExt: Find {
         }
     }
 
-    /// The tag that the id names.
+    /// Looks up and decodes the tag that `id` names.
+    ///
+    /// # Errors
+    ///
+    /// - [`existing_object::Error::Find`] with the error of the lookup if it fails.
+    /// - [`existing_object::Error::NotFound`] if `id` names no object.
+    /// - [`existing_object::Error::Decode`] if the object does not decode as its own kind, or if an
+    ///   allocation fails there.
+    /// - [`existing_object::Error::ObjectKind`] with both kinds if the object is not a tag.
     #[tactic(auto, using(crate::proofs::OfKinds::tag_named))]
     final fn find_tag<'a>(
         &self,
@@ -140,9 +203,9 @@ pub trait FindExt: Find {
     ) -> Result<TagRef<'a>, existing_object::Error>
         ensures found { IfOk result (λ tag.
             NamesSuch (Self.objects self.now) (borrowed_id id.entry) object.Tag
-            (λ hash text. IsTagText hash text (tag_lines tag))) }
-        ensures has_id { IfOk result (λ tag. IsHexOfAnId (tag_lines tag).target) }
-        ensures refusal { IfErr result (RefusesObject (Self.objects self.now)
+            (λ hash content. DecodesToTag hash content (tag_lines tag))) }
+        ensures has_id { IfOk result (λ tag. IsIdHex (tag_lines tag).target) }
+        ensures error { IfErr result (IsFindObjectError (Self.objects self.now)
             (Self.may_fail self.now) object.Tag (borrowed_id id.entry)) }
     {
         match decoded(self, alloc, id, buffer)? {
@@ -151,7 +214,13 @@ pub trait FindExt: Find {
         }
     }
 
-    /// A reader that tells the commit that the id names, token by token.
+    /// Looks up the commit that `id` names, and returns an iterator over its tokens. Decodes nothing yet.
+    ///
+    /// # Errors
+    ///
+    /// - [`existing_iter::Error::Find`] with the error of the lookup if it fails.
+    /// - [`existing_iter::Error::NotFound`] if `id` names no object.
+    /// - [`existing_iter::Error::ObjectKind`] with both kinds if the object is not a commit.
     final fn find_commit_iter<'a>(
         &self,
         alloc: Global,
@@ -160,8 +229,8 @@ pub trait FindExt: Find {
     ) -> Result<CommitRefIter<'a>, existing_iter::Error>
         ensures found { IfOk result (λ reader.
             NamesSuch (Self.objects self.now) (borrowed_id id.entry) object.Commit
-            (λ hash text. IsAtStartOfCommit hash text reader)) }
-        ensures refusal { IfErr result (RefusesReader (Self.objects self.now)
+            (λ hash content. IsAtStartOfCommit hash content reader)) }
+        ensures error { IfErr result (IsReaderError (Self.objects self.now)
             (Self.may_fail self.now) object.Commit (borrowed_id id.entry)) }
     {
         let it = undecoded(self, id, buffer)?;
@@ -171,7 +240,21 @@ pub trait FindExt: Find {
         }
     }
 
-    /// A reader that tells the tree that the id names, entry by entry.
+    /// Looks up the tree that `id` names, and returns an iterator over its entries. Decodes nothing yet.
+    ///
+    /// # Errors
+    ///
+    /// - [`existing_iter::Error::Find`] with the error of the lookup if it fails.
+    /// - [`existing_iter::Error::NotFound`] if `id` names no object.
+    /// - [`existing_iter::Error::ObjectKind`] with both kinds if the object is not a tree.
+    ///
+    /// # Examples
+    ///
+    /// ```rust
+    /// let (mut bytes, mut buffer) = (Vec::new(alloc), Vec::new(alloc));
+    /// let tree = store.find_tree_iter(tree.as_oid(), &mut bytes)?;
+    /// Ok(tree.lookup_entry_by_path(alloc, store, &mut buffer, path)?)
+    /// ```
     final fn find_tree_iter<'a>(
         &self,
         id: oid<'_>,
@@ -179,8 +262,8 @@ pub trait FindExt: Find {
     ) -> Result<TreeRefIter<'a>, existing_iter::Error>
         ensures found { IfOk result (λ reader.
             NamesSuch (Self.objects self.now) (borrowed_id id.entry) object.Tree
-            (λ hash text. IsAtEntry hash text reader)) }
-        ensures refusal { IfErr result (RefusesReader (Self.objects self.now)
+            (λ hash content. IsAtEntry hash content reader)) }
+        ensures error { IfErr result (IsReaderError (Self.objects self.now)
             (Self.may_fail self.now) object.Tree (borrowed_id id.entry)) }
     {
         let it = undecoded(self, id, buffer)?;
@@ -190,7 +273,13 @@ pub trait FindExt: Find {
         }
     }
 
-    /// A reader that tells the tag that the id names, token by token.
+    /// Looks up the tag that `id` names, and returns an iterator over its tokens. Decodes nothing yet.
+    ///
+    /// # Errors
+    ///
+    /// - [`existing_iter::Error::Find`] with the error of the lookup if it fails.
+    /// - [`existing_iter::Error::NotFound`] if `id` names no object.
+    /// - [`existing_iter::Error::ObjectKind`] with both kinds if the object is not a tag.
     final fn find_tag_iter<'a>(
         &self,
         id: oid<'_>,
@@ -198,8 +287,8 @@ pub trait FindExt: Find {
     ) -> Result<TagRefIter<'a>, existing_iter::Error>
         ensures found { IfOk result (λ reader.
             NamesSuch (Self.objects self.now) (borrowed_id id.entry) object.Tag
-            (λ hash text. IsAtStartOfTag hash text reader)) }
-        ensures refusal { IfErr result (RefusesReader (Self.objects self.now)
+            (λ hash content. IsAtStartOfTag hash content reader)) }
+        ensures error { IfErr result (IsReaderError (Self.objects self.now)
             (Self.may_fail self.now) object.Tag (borrowed_id id.entry)) }
     {
         let it = undecoded(self, id, buffer)?;
@@ -212,16 +301,16 @@ pub trait FindExt: Find {
 
 impl<T: Find> FindExt for T {}
 
-/// The object that the id names, read by its own kind.
+/// Looks up the object that `id` names, and decodes it as its own kind.
 fn decoded<'a, S: Find>(
     store: &S,
     alloc: Global,
     id: oid<'_>,
     buffer: &'a mut Vec<u8>,
 ) -> Result<ObjectRef<'a>, existing_object::Error>
-    ensures found { IfOk result (NamesText (S.objects store.now) (borrowed_id id.entry)) }
+    ensures found { IfOk result (NamesEncoding (S.objects store.now) (borrowed_id id.entry)) }
     ensures has_ids { IfOk result HasObjectIds }
-    ensures refusal { IfErr result (IsUnread (S.objects store.now) (S.may_fail store.now)
+    ensures error { IfErr result (FailsToRead (S.objects store.now) (S.may_fail store.now)
         (borrowed_id id.entry)) }
 {
     let oid = id.to_owned();
@@ -234,7 +323,7 @@ fn decoded<'a, S: Find>(
     }
 }
 
-/// The object that the id names, not yet read.
+/// Looks up the object that `id` names, without decoding it.
 fn undecoded<'a, S: Find>(
     store: &S,
     id: oid<'_>,
@@ -242,7 +331,7 @@ fn undecoded<'a, S: Find>(
 ) -> Result<Data<'a>, existing_iter::Error>
     ensures found { IfOk result (λ it. Names (S.objects store.now) (borrowed_id id.entry)
         (stored it)) }
-    ensures refusal { IfErr result (IsMissing (S.objects store.now) (S.may_fail store.now)
+    ensures error { IfErr result (IsMissing (S.objects store.now) (S.may_fail store.now)
         (borrowed_id id.entry)) }
 {
     match store.try_find(id, buffer)? {
@@ -251,7 +340,7 @@ fn undecoded<'a, S: Find>(
     }
 }
 
-/// The refusal of an object that was read and is of another kind.
+/// Returns the error for a decoded object of another kind.
 fn of_another_kind(id: oid<'_>, actual: Kind, expected: Kind) -> existing_object::Error
     ensures { result ≡ decoded.ObjectKind (borrowed_id id.entry) actual expected }
 {
@@ -262,9 +351,9 @@ fn of_another_kind(id: oid<'_>, actual: Kind, expected: Kind) -> existing_object
     }
 }
 
-/// The refusal of an object that is of another kind, and wasn't read.
+/// Returns the error for an undecoded object of another kind.
 fn no_reader(id: oid<'_>, actual: Kind, expected: Kind) -> existing_iter::Error
-    ensures { result ≡ told.ObjectKind (borrowed_id id.entry) actual expected }
+    ensures { result ≡ iter_error.ObjectKind (borrowed_id id.entry) actual expected }
 {
     existing_iter::Error::ObjectKind {
         oid: id.to_owned(),

@@ -1,4 +1,4 @@
--- That the order of ids agrees with `==` and with the hash, as the traits ask.
+-- The order of ids is total and agrees with `==` and with the hash, as the traits require.
 use Rattle.std.specs.Prelude.{◌≡◌, Bool, true, false, [], ◌∷◌, refl}
 use Rattle.std.proofs.Common.{ap, sym, ◌∙◌}
 use mathlib.Core.Bool.{true≢false}
@@ -34,11 +34,13 @@ id_cmp_total = then_total (on_texts id_bytes) (on_total (λ id. hash_len (id_kin
 pub id_partial_order : (E : ObjectId → ObjectId → Bool) → ComparesIds E → IsPartialOrder E (as_partial_cmp id_cmp)
 id_partial_order E by = partial_order_from_agreeing_total id_cmp id_cmp_total (λ x y. refl) (id_ties E by)
 
-same_bytes : (E : ObjectId → ObjectId → Bool) → ComparesIds E → (x y : ObjectId) → E x y ≡ true → id_bytes x ≡ id_bytes y
+same_bytes : (E : ObjectId → ObjectId → Bool) → ComparesIds E → (x y : ObjectId) → E x y ≡ true
+    → id_bytes x ≡ id_bytes y
 same_bytes E by (Sha1 a) (Sha1 b) equal = (bytes_decides a b).0 (sym (by.sha1 a b) ∙ equal)
 same_bytes E by (Sha256 a) (Sha256 b) equal = (bytes_decides a b).0 (sym (by.sha256 a b) ∙ equal)
 same_bytes E by (Sha1 a) (Sha256 b) equal = absurd (true≢false (sym equal ∙ by.shorter a b))
 same_bytes E by (Sha256 a) (Sha1 b) equal = absurd (true≢false (sym equal ∙ by.longer a b))
 
-pub id_alike : (E : ObjectId → ObjectId → Bool) → ComparesIds E → (x y : ObjectId) → E x y ≡ true → id_bytes x ∷ [] ≡ id_bytes y ∷ []
+pub id_alike : (E : ObjectId → ObjectId → Bool) → ComparesIds E → (x y : ObjectId) → E x y ≡ true
+    → id_bytes x ∷ [] ≡ id_bytes y ∷ []
 id_alike E by x y equal = ap (λ bytes. bytes ∷ []) (same_bytes E by x y equal)

@@ -1,7 +1,7 @@
-//! Object ids that are borrowed.
+//! Borrowed object ids.
 ghost use Rattle.std.specs.Prelude.{◌≡◌, ◌↔◌, ◌≤◌, ◌⊎◌, [], length, IsSome, IfSome, IsTrue, IsOk, IfErr, OnOk};
 ghost use Rattle.std.specs.Io.KnownBytes.{Appends};
-ghost use Rattle.gixobj_hash.specs.Hash.{IsNull, hash_len, hex_text, id_bytes, id_kind, id_of, is_id_length};
+ghost use Rattle.gixobj_hash.specs.Hash.{IsNull, hash_len, encode_id_hex, id_bytes, id_kind, id_of, is_id_length};
 ghost use Rattle.gixobj_hash.specs.declared.kind.Kind.TheVariants.{Tree};
 
 use super::{Kind, ObjectId, verify};
@@ -9,7 +9,9 @@ use std::hash::{Hash, Hasher};
 use std::io;
 use std::io::Write;
 
-/// An object id whose bytes are borrowed.
+/// A borrowed object id: a slice of the 20 or 32 bytes of a digest.
+///
+/// [`oid::try_from_bytes`] makes one of bytes, [`ObjectId::as_oid`] of an owned id.
 #[derive(Clone, Copy, Debug, PartialEq, Eq, PartialOrd, Ord)]
 pub struct oid<'a> {
     bytes: &'a [u8],
@@ -19,7 +21,7 @@ pub struct oid<'a> {
 impl<'a> oid<'a> {
     ghost use Rattle.gixobj_hash.specs.Hash.Borrowed.{borrowed_id};
 
-    /// The id of 20 or 32 bytes.
+    /// Makes an id of 20 or 32 bytes, which the contract requires.
     pub fn new(bytes: &'a [u8]) -> oid<'a>
         requires { IsTrue (is_id_length (length bytes.now)) }
         ensures { id_bytes (borrowed_id result) ≡ bytes.now }
@@ -27,7 +29,7 @@ impl<'a> oid<'a> {
         oid { bytes }
     }
 
-    /// The id of these bytes, or none where they are neither 20 nor 32.
+    /// Makes an id of these bytes, or returns `None` if their number is neither 20 nor 32.
     pub fn try_from_bytes(bytes: &'a [u8]) -> Option<oid<'a>>
         ensures accepts { IsSome result ↔ IsTrue (is_id_length (length bytes.now)) }
         ensures value { IfSome result (λ id. id_bytes (borrowed_id id) ≡ bytes.now) }
@@ -39,14 +41,14 @@ impl<'a> oid<'a> {
         }
     }
 
-    /// The kind of digest that the id is.
+    /// Returns the hash function of the id.
     pub fn kind(self) -> Kind
         ensures { result ≡ id_kind (borrowed_id self.entry) }
     {
         self.to_owned().kind()
     }
 
-    /// The bytes of the digest: as many as [`Kind::len_in_bytes`] says.
+    /// Returns the bytes of the digest, whose number is [`Kind::len_in_bytes`].
     pub fn as_bytes(self) -> &'a [u8]
         ensures value { result.now ≡ id_bytes (borrowed_id self.entry) }
         ensures len { length result.now ≡ hash_len (id_kind (borrowed_id self.entry)) }
@@ -54,7 +56,7 @@ impl<'a> oid<'a> {
         self.bytes
     }
 
-    /// The same id, owned.
+    /// Copies the id into an owned one. Allocates nothing.
     pub fn to_owned(self) -> ObjectId
         ensures { result ≡ borrowed_id self.entry }
     {
@@ -68,14 +70,14 @@ impl<'a> oid<'a> {
         }
     }
 
-    /// Whether all bytes are zero.
+    /// Returns whether all bytes are zero.
     pub fn is_null(self) -> bool
         ensures { IsTrue result ↔ IsNull (borrowed_id self.entry) }
     {
         self.to_owned().is_null()
     }
 
-    /// Whether this is the id of the tree without entries.
+    /// Returns whether this is the id of the empty tree.
     pub fn is_empty_tree(self) -> bool
         ensures { IsTrue result ↔ (borrowed_id self.entry
             ≡ id_of (id_kind (borrowed_id self.entry)) Tree []) }
@@ -83,25 +85,33 @@ impl<'a> oid<'a> {
         self.to_owned().is_empty_tree()
     }
 
-    /// Writes the id as hex digits in lower case, 40 or 64 of them. The error is the writer's.
+    /// Writes the id as 40 or 64 hex digits in lower case.
+    ///
+    /// # Errors
+    ///
+    /// The error of the writer.
     pub fn write_hex_to<W: Write>(self, out: &mut W) -> io::Result<()>
         ensures { OnOk result (Appends (W.contents out.old) (W.contents out.new)
-            (hex_text (borrowed_id self.entry))) }
+            (encode_id_hex (borrowed_id self.entry))) }
     {
         self.to_owned().write_hex_to(out)
     }
 
-    /// Refuses an id that differs from the expected one, with both.
+    /// Compares the id with the expected one.
+    ///
+    /// # Errors
+    ///
+    /// [`verify::Error`] with both ids, if they differ.
     pub fn verify(self, expected: oid<'_>) -> Result<(), verify::Error>
         ensures accepts { IsOk result ↔ (borrowed_id self.entry ≡ borrowed_id expected.entry) }
-        ensures refusal { IfErr result (λ e. (e.actual ≡ borrowed_id self.entry)
+        ensures error { IfErr result (λ e. (e.actual ≡ borrowed_id self.entry)
             × (e.expected ≡ borrowed_id expected.entry)) }
     {
         self.to_owned().verify(expected)
     }
 }
 
-/// Hashes the bytes, as an owned id does.
+/// Hashes the bytes, so that a borrowed id hashes like its owned form.
 impl Hash for oid<'_> {
     ghost use Rattle.std.specs.Prelude.{◌∷◌};
     ghost use Rattle.gixobj_hash.specs.Hash.Borrowed.{borrowed_id};

@@ -1,4 +1,4 @@
-//! A digest of pieces, of either kind.
+//! An incremental digest, SHA-1 or SHA-256.
 ghost use Rattle.std.specs.Prelude.{◌≡◌, ◌++◌, [], List, ℕ};
 ghost use Rattle.gixobj_hash.specs.Hash.{digest_of, id_from};
 ghost use Rattle.gixobj_hash.specs.Hash.Hasher.{HoldsMessage};
@@ -8,15 +8,18 @@ use super::{Kind, ObjectId};
 use sha1::Sha1;
 use sha2::{Digest, Sha256};
 
-/// A digest in the making.
+/// An incremental digest. [`Hasher::new`] begins one, and [`crate::digest::object_hasher`] one of an
+/// object.
 #[derive(Drop)]
 pub enum Hasher {
+    /// The state of a SHA-1 digest.
     Sha1(Sha1),
+    /// The state of a SHA-256 digest.
     Sha256(Sha256),
 }
 
 impl Hasher {
-    /// The digest of nothing so far.
+    /// Begins a digest of the empty message.
     pub fn new(kind: Kind) -> Hasher
         ensures { HoldsMessage kind result [] }
     {
@@ -26,7 +29,7 @@ impl Hasher {
         }
     }
 
-    /// Adds bytes at the end of the message.
+    /// Appends bytes to the message.
     pub fn update(&mut self, bytes: &[u8])
         ensures { (kind : Kind) (message : List ℕ) → HoldsMessage kind self.old message
             → HoldsMessage kind self.new (message ++ bytes.now) }
@@ -37,7 +40,7 @@ impl Hasher {
         }
     }
 
-    /// The id that the message's digest is.
+    /// Returns the digest of the message as an id.
     pub fn finalize(self) -> ObjectId
         ensures { (kind : Kind) (message : List ℕ) → HoldsMessage kind self message
             → result ≡ id_from kind (digest_of kind message) }

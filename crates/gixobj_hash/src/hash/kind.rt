@@ -1,12 +1,12 @@
-//! The kinds of digest that name objects.
+//! The hash functions that name objects.
 ghost use Rattle.std.specs.Prelude.{◌≡◌, ◌*◌};
 ghost use Rattle.gixobj_hash.specs.Hash.{hash_len};
 
-/// A kind of digest. A repository uses one of them for all its objects (`gitglossary`, "object
-/// format"; `git-init`, `--object-format`).
+/// A hash function. A repository uses one of them for all its objects (`gitglossary`, "object format";
+/// `git-init`, `--object-format`).
 #[derive(Clone, Copy, Debug, Default, PartialEq, Eq, PartialOrd, Ord, Hash)]
 pub enum Kind {
-    /// SHA-1, git's first and default format.
+    /// SHA-1, git's first object format and its default.
     #[default]
     Sha1,
     /// SHA-256.
@@ -14,7 +14,7 @@ pub enum Kind {
 }
 
 impl Kind {
-    /// How many bytes a digest has: 20 or 32.
+    /// Returns the length of a digest in bytes: 20 or 32.
     pub fn len_in_bytes(&self) -> usize
         ensures { result ≡ hash_len self.now }
     {
@@ -24,7 +24,7 @@ impl Kind {
         }
     }
 
-    /// How many hex digits a digest has: 40 or 64.
+    /// Returns the length of a digest in hex digits: 40 or 64.
     pub fn len_in_hex(&self) -> usize
         ensures { result ≡ 2 * hash_len self.now }
     {

@@ -1,10 +1,10 @@
-//! Object ids that are owned.
+//! Owned object ids.
 ghost use Rattle.std.specs.Prelude.{◌≡◌, ◌↔◌, ◌<◌, ◌≤◌, Some, true, ◌*◌, [], length, IsSome, IfSome, IsTrue, IsOk, IfErr, OnOk, refl};
 ghost use Rattle.std.specs.List.{AllPass};
 ghost use Rattle.hex.specs.Hex.{decode_of, hex_digit_value, is_hex_digit};
 ghost use Rattle.std.specs.Io.KnownBytes.{Appends};
 ghost use Rattle.std.proofs.Common.{rules};
-ghost use Rattle.gixobj_hash.specs.Hash.{IsHexOfAnId, IsNull, Spells, hash_len, hex_text, id_bytes, id_kind, id_of, null_id};
+ghost use Rattle.gixobj_hash.specs.Hash.{IsIdHex, IsNull, DecodesToId, hash_len, encode_id_hex, id_bytes, id_kind, id_of, null_id};
 ghost use Rattle.gixobj_hash.specs.Hash.Borrowed.{borrowed_id};
 ghost use Rattle.gixobj_hash.specs.Hash.Order.{id_cmp};
 ghost use Rattle.gixobj_hash.specs.Hash.OrderLaws.{id_alike, id_cmp_total, id_partial_order, id_ties};
@@ -18,6 +18,8 @@ use std::io::Write;
 use std::{fmt, io};
 
 /// The id of an object: the digest of its loose header and its content.
+///
+/// [`crate::compute_hash`] computes one, and [`ObjectId::from_hex`] decodes one.
 #[derive(Clone, Copy, Debug, PartialEq, Eq)]
 pub enum ObjectId {
     /// A SHA-1 digest.
@@ -28,10 +30,21 @@ pub enum ObjectId {
 
 /// Initialization
 impl ObjectId {
-    /// The id that exactly 40 or 64 hex digits spell, in either case, or none.
+    /// Decodes an id from exactly 40 or 64 hex digits, of either case.
+    ///
+    /// Returns `None` for any other input.
+    ///
+    /// # Examples
+    ///
+    /// ```rust
+    /// pub fn in_lower_case<'a>(hex: &[u8], buffer: &'a mut [u8; 64]) -> Option<&'a str> {
+    ///     let id = ObjectId::from_hex(hex)?;
+    ///     Some(id.hex_to_buf(buffer))
+    /// }
+    /// ```
     pub fn from_hex(hex: &[u8]) -> Option<ObjectId>
-        ensures accepts { IsSome result ↔ IsHexOfAnId hex.now }
-        ensures value { IfSome result (Spells hex.now) }
+        ensures accepts { IsSome result ↔ IsIdHex hex.now }
+        ensures value { IfSome result (DecodesToId hex.now) }
     {
         match hex.len() {
             40 => Some(ObjectId::Sha1(bytes_from_hex(hex)?)),
@@ -40,7 +53,7 @@ impl ObjectId {
         }
     }
 
-    /// The id of zero bytes alone, which names no object.
+    /// Returns the null id, whose bytes are all zero. It names no object.
     pub fn null(kind: Kind) -> ObjectId
         ensures value { result ≡ null_id kind }
         ensures null { IsNull result }
@@ -51,7 +64,7 @@ impl ObjectId {
         }
     }
 
-    /// The id of the tree without entries.
+    /// Returns the id of the empty tree.
     pub fn empty_tree(kind: Kind) -> ObjectId
         ensures { result ≡ id_of kind Tree [] }
     {
@@ -61,7 +74,7 @@ impl ObjectId {
         }
     }
 
-    /// The id of the blob without bytes.
+    /// Returns the id of the empty blob.
     pub fn empty_blob(kind: Kind) -> ObjectId
         ensures { result ≡ id_of kind Blob [] }
     {
@@ -74,7 +87,7 @@ impl ObjectId {
 
 /// Access
 impl ObjectId {
-    /// The kind of digest that the id is.
+    /// Returns the hash function of the id.
     pub fn kind(&self) -> Kind
         ensures { result ≡ id_kind self.now }
     {
@@ -84,11 +97,11 @@ impl ObjectId {
         }
     }
 
-    /// The bytes of the digest: as many as [`Kind::len_in_bytes`] says.
+    /// Returns the bytes of the digest, whose number is [`Kind::len_in_bytes`].
     pub fn as_bytes(&self) -> &[u8]
         ensures value { result.now ≡ id_bytes self.now }
         ensures len { length result.now ≡ hash_len (id_kind self.now) }
-        ensures short { length result.now ≤ 32 }
+        ensures max_len { length result.now ≤ 32 }
     {
         match self {
             ObjectId::Sha1(bytes) => bytes,
@@ -96,41 +109,46 @@ impl ObjectId {
         }
     }
 
-    /// The same id, borrowed.
+    /// Borrows the id.
     pub fn as_oid(&self) -> oid<'_>
         ensures { borrowed_id result ≡ self.now }
     {
         oid::new(self.as_bytes())
     }
 
-    /// Whether all bytes are zero.
+    /// Returns whether all bytes are zero.
     pub fn is_null(&self) -> bool
         ensures { IsTrue result ↔ IsNull self.now }
     {
         self.as_bytes().iter().all(|byte| *byte == 0)
     }
 
-    /// Whether this is the id of the tree without entries.
+    /// Returns whether this is the id of the empty tree.
     pub fn is_empty_tree(&self) -> bool
         ensures { IsTrue result ↔ (self.now ≡ id_of (id_kind self.now) Tree []) }
     {
         *self == ObjectId::empty_tree(self.kind())
     }
 
-    /// Writes the id as hex digits in lower case, 40 or 64 of them. The error is the writer's.
+    /// Writes the id as 40 or 64 hex digits in lower case.
+    ///
+    /// # Errors
+    ///
+    /// The error of the writer.
     pub fn write_hex_to<W: Write>(&self, out: &mut W) -> io::Result<()>
         ensures { OnOk result (Appends (W.contents out.old) (W.contents out.new)
-            (hex_text self.now)) }
+            (encode_id_hex self.now)) }
     {
         let mut buffer = [0u8; 64];
         out.write_all(self.hex_bytes(&mut buffer))
     }
 
-    /// The hex digits of the id, in lower case, 40 or 64 of them. The result borrows the buffer, of
-    /// whose bytes nothing is said afterwards.
+    /// Encodes the id as 40 or 64 hex digits in lower case, into a buffer.
+    ///
+    /// The result borrows the buffer. The contract leaves the contents of the buffer unspecified.
     pub fn hex_to_buf<'a>(&self, buffer: &'a mut [u8; 64]) -> &'a str
-        ensures text { result.now ≡ hex_text self.now }
-        ensures short { length result.now ≤ 64 }
+        ensures encoded { result.now ≡ encode_id_hex self.now }
+        ensures max_len { length result.now ≤ 64 }
     {
         match str::from_utf8(self.hex_bytes(buffer)) {
             Ok(digits) => digits,
@@ -138,21 +156,25 @@ impl ObjectId {
         }
     }
 
-    /// The hex digits of the id, in lower case, 40 or 64 of them, as bytes.
+    /// Encodes the id as 40 or 64 hex digits in lower case, as bytes.
     fn hex_bytes<'a>(&self, buffer: &'a mut [u8; 64]) -> &'a [u8]
-        ensures text { result.now ≡ hex_text self.now }
-        ensures short { length result.now ≤ 64 }
+        ensures encoded { result.now ≡ encode_id_hex self.now }
+        ensures max_len { length result.now ≤ 64 }
     {
         let bytes = self.as_bytes();
-        let text = &mut buffer[..2 * bytes.len()];
-        let _ = hex::encode_to_slice(bytes, text);
-        text
+        let input = &mut buffer[..2 * bytes.len()];
+        let _ = hex::encode_to_slice(bytes, input);
+        input
     }
 
-    /// Refuses an id that differs from the expected one, with both.
+    /// Compares the id with the expected one.
+    ///
+    /// # Errors
+    ///
+    /// [`verify::Error`] with both ids, if they differ.
     pub fn verify(&self, expected: oid<'_>) -> Result<(), verify::Error>
         ensures accepts { IsOk result ↔ (self.now ≡ borrowed_id expected.entry) }
-        ensures refusal { IfErr result (λ e. (e.actual ≡ self.now)
+        ensures error { IfErr result (λ e. (e.actual ≡ self.now)
             × (e.expected ≡ borrowed_id expected.entry)) }
     {
         let expected = expected.to_owned();
@@ -167,7 +189,7 @@ impl ObjectId {
     }
 }
 
-/// Compares the bytes. Ids of two kinds differ in length, so the test of the kinds never decides.
+/// Compares the bytes. Ids of two hash functions differ in their bytes, so the lengths never decide.
 impl Ord for ObjectId {
     ghost cmp = { id_cmp };
 
@@ -208,11 +230,11 @@ impl Hash for ObjectId {
     }
 }
 
-/// Shows the hex digits, in lower case.
+/// Formats the id as hex digits in lower case.
 impl fmt::Display for ObjectId {
     ghost use Rattle.std.specs.Prelude.{Some};
 
-    ghost output = { λ id. Some (hex_text id) };
+    ghost output = { λ id. Some (encode_id_hex id) };
 
     fn fmt<W: fmt::Write>(&self, f: &mut fmt::Formatter<W>) -> fmt::Result {
         let mut buffer = [0u8; 64];
@@ -225,13 +247,13 @@ impl Default for ObjectId {
 
     ghost is_default = { λ id. id ≡ null_id Sha1 };
 
-    /// The null id of the default kind.
+    /// Returns the null id of the default hash function.
     fn default() -> ObjectId {
         ObjectId::null(Kind::default())
     }
 }
 
-/// The bytes that `2 * N` hex digits of either case spell, or none.
+/// Decodes `2 * N` hex digits of either case, or returns `None`.
 fn bytes_from_hex<const N: usize>(hex: &[u8]) -> Option<[u8; N]>
     ensures accepts { IsSome result ↔ ((length hex.now ≡ 2 * N) × AllPass is_hex_digit hex.now) }
     ensures value { IfSome result (λ bytes. decode_of hex.now ≡ Ok bytes) }
@@ -249,7 +271,7 @@ fn bytes_from_hex<const N: usize>(hex: &[u8]) -> Option<[u8; N]>
     Some(bytes)
 }
 
-/// The value of a hex digit, in either case.
+/// Returns the value of a hex digit of either case.
 fn value_of(digit: u8) -> u8
     requires { is_hex_digit digit ≡ true }
     ensures value { hex_digit_value digit ≡ Some result }

@@ -1,14 +1,14 @@
-//! The refusal of an id that isn't the expected one.
+//! The error of a comparison with an expected id.
 
 use super::ObjectId;
 use thiserror::Error;
 
-/// An id differs from the one that was expected.
+/// An id differs from the expected one. It is the error of [`ObjectId::verify`].
 #[derive(Clone, Copy, Debug, PartialEq, Eq, Error)]
 #[error("the id is {actual} and not {expected}")]
 pub struct Error {
-    /// The id as it was found.
+    /// The actual id.
     pub actual: ObjectId,
-    /// The id that it should have been.
+    /// The expected id.
     pub expected: ObjectId,
 }

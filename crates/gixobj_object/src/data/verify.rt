@@ -8,7 +8,7 @@ use super::Data;
 use gixobj_hash::hash::{ObjectId, oid};
 use gixobj_hash::{compute_hash, hash};
 
-/// The refusal of [`Data::verify_checksum`].
+/// The error of [`Data::verify_checksum`].
 #[derive(Debug, Drop, thiserror::Error)]
 pub enum Error {
     /// The object has another id than the expected one.
@@ -35,7 +35,7 @@ impl Data<'_> {
         ensures accepts { IsOk result ↔ (checksum (id_kind (borrowed_id expected.entry)) self.now
             ≡ borrowed_id expected.entry) }
         ensures verified { IfOk result (λ id. id ≡ borrowed_id expected.entry) }
-        ensures refusal { IfErr result (HasBothIds
+        ensures error { IfErr result (HasBothIds
             (checksum (id_kind (borrowed_id expected.entry)) self.now)
             (borrowed_id expected.entry)) }
     {

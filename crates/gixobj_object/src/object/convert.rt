@@ -1,4 +1,4 @@
-//! Objects made of trees, blobs, commits and tags, and taken apart into them. Nothing here takes memory.
+//! Conversions of owned objects from and to trees, blobs, commits and tags, which allocate nothing.
 ghost use Rattle.std.specs.Prelude.{◌≡◌, ◌≢◌, MatchOption};
 ghost use Rattle.gixobj_hash.specs.declared.kind.Kind.TheVariants as kind;
 ghost use Rattle.gixobj_object.specs.Objects.{owned_kind};
@@ -13,7 +13,7 @@ use gixobj_tree::{Blob, BlobRef, Tree};
 
 /// Conversion
 impl Object {
-    /// The blob, borrowed, or none where the object is of another kind.
+    /// Returns the blob as a borrowed one, or `None` for an object of another kind.
     pub fn try_into_blob_ref(&self) -> Option<BlobRef<'_>>
         ensures { MatchOption result (owned_kind self.now ≢ Kind.Blob)
             (λ blob. (b : Blob) × (self.now ≡ Object.Blob b) × (blob.bytes.now ≡ b.bytes.items)) }
@@ -24,7 +24,11 @@ impl Object {
         }
     }
 
-    /// The tree, or the object back where it is of another kind.
+    /// Converts the object into its tree.
+    ///
+    /// # Errors
+    ///
+    /// The object, unchanged, if it is of another kind.
     pub fn try_into_tree(self) -> Result<Tree, Object>
         ensures { IsPartOrBack owned_kind Kind.Tree Object.Tree self result }
     {
@@ -34,7 +38,11 @@ impl Object {
         }
     }
 
-    /// The blob, or the object back where it is of another kind.
+    /// Converts the object into its blob.
+    ///
+    /// # Errors
+    ///
+    /// The object, unchanged, if it is of another kind.
     pub fn try_into_blob(self) -> Result<Blob, Object>
         ensures { IsPartOrBack owned_kind Kind.Blob Object.Blob self result }
     {
@@ -44,7 +52,11 @@ impl Object {
         }
     }
 
-    /// The commit, or the object back where it is of another kind.
+    /// Converts the object into its commit.
+    ///
+    /// # Errors
+    ///
+    /// The object, unchanged, if it is of another kind.
     pub fn try_into_commit(self) -> Result<Commit, Object>
         ensures { IsPartOrBack owned_kind Kind.Commit Object.Commit self result }
     {
@@ -54,7 +66,11 @@ impl Object {
         }
     }
 
-    /// The tag, or the object back where it is of another kind.
+    /// Converts the object into its tag.
+    ///
+    /// # Errors
+    ///
+    /// The object, unchanged, if it is of another kind.
     pub fn try_into_tag(self) -> Result<Tag, Object>
         ensures { IsPartOrBack owned_kind Kind.Tag Object.Tag self result }
     {
@@ -64,7 +80,7 @@ impl Object {
         }
     }
 
-    /// The tree that the object is.
+    /// Converts the object into its tree. The object has to be a tree.
     pub fn into_tree(self) -> Tree
         requires { owned_kind self ≡ Kind.Tree }
         ensures { self ≡ Object.Tree result }
@@ -75,7 +91,7 @@ impl Object {
         }
     }
 
-    /// The blob that the object is.
+    /// Converts the object into its blob. The object has to be a blob.
     pub fn into_blob(self) -> Blob
         requires { owned_kind self ≡ Kind.Blob }
         ensures { self ≡ Object.Blob result }
@@ -86,7 +102,7 @@ impl Object {
         }
     }
 
-    /// The commit that the object is.
+    /// Converts the object into its commit. The object has to be a commit.
     pub fn into_commit(self) -> Commit
         requires { owned_kind self ≡ Kind.Commit }
         ensures { self ≡ Object.Commit result }
@@ -97,7 +113,7 @@ impl Object {
         }
     }
 
-    /// The tag that the object is.
+    /// Converts the object into its tag. The object has to be a tag.
     pub fn into_tag(self) -> Tag
         requires { owned_kind self ≡ Kind.Tag }
         ensures { self ≡ Object.Tag result }
@@ -141,7 +157,7 @@ impl From<Tag> for Object {
     }
 }
 
-/// The tree, or the object back where it is of another kind.
+/// Converts the object into its tree; the error is an object of another kind, unchanged.
 impl TryFrom<Object> for Tree {
     type Error = Object;
 
@@ -152,7 +168,7 @@ impl TryFrom<Object> for Tree {
     }
 }
 
-/// The blob, or the object back where it is of another kind.
+/// Converts the object into its blob; the error is an object of another kind, unchanged.
 impl TryFrom<Object> for Blob {
     type Error = Object;
 
@@ -163,7 +179,7 @@ impl TryFrom<Object> for Blob {
     }
 }
 
-/// The commit, or the object back where it is of another kind.
+/// Converts the object into its commit; the error is an object of another kind, unchanged.
 impl TryFrom<Object> for Commit {
     type Error = Object;
 
@@ -174,7 +190,7 @@ impl TryFrom<Object> for Commit {
     }
 }
 
-/// The tag, or the object back where it is of another kind.
+/// Converts the object into its tag; the error is an object of another kind, unchanged.
 impl TryFrom<Object> for Tag {
     type Error = Object;
 

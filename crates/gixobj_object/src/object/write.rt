@@ -1,4 +1,4 @@
-//! Objects of any kind, written.
+//! Encoding of owned objects.
 
 use super::Object;
 use gixobj_fields::WriteTo;
@@ -7,15 +7,15 @@ use gixobj_fields::streams::Sink;
 use gixobj_hash::Kind;
 use std::alloc::Global;
 
-/// An object is written as its tree, its blob, its commit or its tag is, and refused as that is.
+/// Encodes the tree, blob, commit or tag of the object, and fails with the error of that part.
 impl WriteTo for Object {
-    ghost use Rattle.gixobj_object.specs.Objects.{RefusesOwnedObject, owned_kind, owned_object_text};
+    ghost use Rattle.gixobj_object.specs.Objects.{IsOwnedObjectError, owned_kind, encode_owned_object};
 
     ghost object_kind = { owned_kind };
 
-    ghost text = { owned_object_text };
+    ghost encoding = { encode_owned_object };
 
-    ghost refuses = { RefusesOwnedObject };
+    ghost rejects = { IsOwnedObjectError };
 
     fn write_into<S: Sink>(&self, alloc: Global, sink: &mut S) -> Result<(), Error> {
         match self {

@@ -1,11 +1,11 @@
-//! Entries looked up by their names, in one tree or on a path through the trees of a store.
+//! Lookup of tree entries by name, in one tree or along a path through the trees of a store.
 ghost use Rattle.std.specs.Prelude.{◌≡◌, ◌≢◌, ◌∷◌, ℕ, [], IfErr, IfNone, IfOk, IfSome, IsSome, List, MatchBool, None, OnErr, Some, drop, map};
 ghost use Rattle.std.specs.Option.{option_map};
 ghost use Rattle.std.specs.declared.ops.ControlFlow.TheVariants.{Break};
 ghost use Rattle.bstr.specs.Owned.{bstring_bytes};
 ghost use Rattle.gixobj_hash.specs.Bytes.{slash};
-ghost use Rattle.gixobj_object.specs.EntryGiving.{bytes_left};
-ghost use Rattle.gixobj_object.specs.Lookups.{AreNamesOf, HasFirstNamed, HasNoEntryNamed, IsAtPath, IsStep, IsStepInText, Name, RefusesPath, SplitsName, tree_left};
+ghost use Rattle.gixobj_object.specs.EntrySteps.{remaining_tree_bytes};
+ghost use Rattle.gixobj_object.specs.Lookups.{AreNamesOf, HasFirstNamed, HasNoEntryNamed, IsAtPath, IsStep, IsStepInBytes, Name, IsPathError, SplitsName, remaining_tree};
 ghost use Rattle.gixobj_object.specs.Stores.{stored};
 ghost use Rattle.gixobj_hash.specs.declared.kind.Kind.TheVariants as object;
 ghost use Rattle.gixobj_tree.specs.TreeViews.{entry_view};
@@ -16,18 +16,21 @@ use crate::traits::Find;
 use crate::tree::TreeRefIter;
 use bstr::BString;
 use gixobj_hash::hash::ObjectId;
-use gixobj_hash::texts::split_at_byte;
+use gixobj_hash::split::split_at_byte;
 use gixobj_hash::{Kind, OutOfMemory};
 use gixobj_tree::tree::{Entry, EntryRef};
 use std::alloc::Global;
 use std::ops::ControlFlow;
 
-/// One step of a path: the first name of `components` is taken off, and its entry is sought in the tree.
+/// Looks up the first name of `components` in `tree`, and removes the name from `components`.
 ///
-/// It breaks with the entry of the last name, and goes on with the id of an entry where more names
-/// follow, whatever the entry's mode. It breaks with nothing where the object is no tree, and then no name is taken
-/// off; where no name is left; and where no entry has the name. The first entry of a name counts, and
-/// none behind a damaged one. It takes no memory.
+/// The first entry of a name counts, and no entry after a malformed one. Allocates nothing. The result is
+///
+/// - `Continue` with the entry's id if more names follow, whatever the entry's mode;
+/// - `Break` with the entry if the name was the last one;
+/// - `Break(None)` if the object is not a tree, if no name remains, or if no entry has the name.
+///
+/// If the object is not a tree, `components` is unchanged.
 pub fn next_entry<'a>(
     components: &mut &[BString],
     tree: Data<'a>,
@@ -51,12 +54,12 @@ pub fn next_entry<'a>(
 
 /// Access
 impl<'a> TreeRefIter<'a> {
-    /// The first entry of this name that is left, before any damaged one. It takes no memory.
+    /// Returns the first remaining entry of this name before any malformed one. Allocates nothing.
     fn first_named(self, name: &[u8]) -> Option<EntryRef<'a>>
         ensures found { IfSome result (λ entry.
-            HasFirstNamed self.entry.hash_kind (bytes_left self.entry) name.now
+            HasFirstNamed self.entry.hash_kind (remaining_tree_bytes self.entry) name.now
             (entry_view entry)) }
-        ensures none { IfNone result (HasNoEntryNamed self.entry.hash_kind (bytes_left self.entry)
+        ensures none { IfNone result (HasNoEntryNamed self.entry.hash_kind (remaining_tree_bytes self.entry)
             name.now) }
     {
         for item in self {
@@ -69,11 +72,11 @@ impl<'a> TreeRefIter<'a> {
         None
     }
 
-    /// One step of a path by this name: the entry of the last name, or the id of an entry where more names
-    /// follow; or nothing, where no entry has the name.
+    /// Looks up one name of a path: breaks with the last name's entry or `None`, or continues with an entry's
+    /// id.
     fn step_to(self, name: &[u8], is_last: bool) -> ControlFlow<Option<EntryRef<'a>>, ObjectId>
         ensures { (others : List Name) → MatchBool is_last (others ≡ []) (others ≢ [])
-            → IsStep (tree_left self.entry) (name.now ∷ others) result }
+            → IsStep (remaining_tree self.entry) (name.now ∷ others) result }
     {
         let Some(entry) = self.first_named(name) else {
             return ControlFlow::Break(None);
@@ -85,14 +88,20 @@ impl<'a> TreeRefIter<'a> {
         }
     }
 
-    /// The entry to which a path leads, one name after the other: the first name is sought in this tree,
-    /// each other one in the tree that the id of the entry before it names in the store. None where a
-    /// name isn't found, or such an id names no tree in the store, or there is no name.
+    /// Looks up the entry at a path (git-rev-parse, `<rev>:<path>`).
     ///
-    /// In each tree the first entry of a name counts, and none behind a damaged one. `buffer` takes the
-    /// trees of the store. `Store` where the store fails, which may come only where it says so of an id on
-    /// the path; `OutOfMemory` only where the first name was found. Memory is taken for `buffer`, which an
-    /// error may leave with anything in it, and for the answered entry (git-rev-parse, `<rev>:<path>`).
+    /// The first name is looked up in this tree, each later one in the tree that the previous entry's id
+    /// names in `store`. Returns `None` if a name is not found, if such an id names no tree in the store, or
+    /// if `path` is empty.
+    ///
+    /// In each tree the first entry of a name counts, and no entry after a malformed one. `buffer` receives
+    /// the trees of the store; after an error it may hold any bytes. Allocates for `buffer` and for the
+    /// returned entry.
+    ///
+    /// # Errors
+    ///
+    /// - [`Error::Store`] if the store fails for an id on the path whose lookup may fail.
+    /// - [`Error::OutOfMemory`] if an allocation fails; then the first name was found.
     pub fn lookup_entry<S: Find>(
         &self,
         alloc: Global,
@@ -100,10 +109,10 @@ impl<'a> TreeRefIter<'a> {
         buffer: &mut Vec<u8>,
         path: &[BString],
     ) -> Result<Option<Entry>, Error>
-        ensures found { IfOk result (IsAtPath (S.objects store.now) (Some (tree_left self.now))
+        ensures found { IfOk result (IsAtPath (S.objects store.now) (Some (remaining_tree self.now))
             (map bstring_bytes path.now)) }
-        ensures refusal { IfErr result (RefusesPath (S.objects store.now) (S.may_fail store.now)
-            (Some (tree_left self.now)) (map bstring_bytes path.now)) }
+        ensures error { IfErr result (IsPathError (S.objects store.now) (S.may_fail store.now)
+            (Some (remaining_tree self.now)) (map bstring_bytes path.now)) }
     {
         let mut names = path;
         let tree = Data::new(self.bytes, Kind::Tree, self.hash_kind);
@@ -122,9 +131,23 @@ impl<'a> TreeRefIter<'a> {
         }
     }
 
-    /// As [`TreeRefIter::lookup_entry`], with the names of a path that stands in a text: what stands between
-    /// slashes. An empty part is no name; `.` is a name like others. A name is taken where it is
-    /// sought, and so the path takes no memory.
+    /// Looks up the entry at a path of names that are separated by slashes.
+    ///
+    /// Empty parts are skipped; `.` is a name like others. Each name is split off where it is looked up, so
+    /// the path allocates nothing. Results and allocations are those of [`TreeRefIter::lookup_entry`].
+    ///
+    /// # Errors
+    ///
+    /// - [`Error::Store`] if the store fails for an id on the path whose lookup may fail.
+    /// - [`Error::OutOfMemory`] if an allocation fails; then the first name was found.
+    ///
+    /// # Examples
+    ///
+    /// ```rust
+    /// let (mut bytes, mut buffer) = (Vec::new(alloc), Vec::new(alloc));
+    /// let tree = store.find_tree_iter(tree.as_oid(), &mut bytes)?;
+    /// Ok(tree.lookup_entry_by_path(alloc, store, &mut buffer, path)?)
+    /// ```
     pub fn lookup_entry_by_path<S: Find>(
         &self,
         alloc: Global,
@@ -133,14 +156,14 @@ impl<'a> TreeRefIter<'a> {
         path: &[u8],
     ) -> Result<Option<Entry>, Error>
         ensures found { IfOk result (λ found. (names : List Name) × AreNamesOf path.now names
-            × IsAtPath (S.objects store.now) (Some (tree_left self.now)) names found) }
-        ensures refusal { IfErr result (λ error. (names : List Name) × AreNamesOf path.now names
-            × RefusesPath (S.objects store.now) (S.may_fail store.now)
-            (Some (tree_left self.now)) names error) }
+            × IsAtPath (S.objects store.now) (Some (remaining_tree self.now)) names found) }
+        ensures error { IfErr result (λ error. (names : List Name) × AreNamesOf path.now names
+            × IsPathError (S.objects store.now) (S.may_fail store.now)
+            (Some (remaining_tree self.now)) names error) }
     {
         let mut rest = path;
         let tree = Data::new(self.bytes, Kind::Tree, self.hash_kind);
-        let mut id = match next_entry_in_text(&mut rest, tree) {
+        let mut id = match next_entry_in_bytes(&mut rest, tree) {
             ControlFlow::Continue(id) => id,
             ControlFlow::Break(found) => return Ok(owned(alloc, found)?),
         };
@@ -148,7 +171,7 @@ impl<'a> TreeRefIter<'a> {
             let Some(tree) = store.try_find(id.as_oid(), buffer)? else {
                 return Ok(None);
             };
-            id = match next_entry_in_text(&mut rest, tree) {
+            id = match next_entry_in_bytes(&mut rest, tree) {
                 ControlFlow::Continue(next) => next,
                 ControlFlow::Break(found) => return Ok(owned(alloc, found)?),
             };
@@ -156,10 +179,10 @@ impl<'a> TreeRefIter<'a> {
     }
 }
 
-/// A copy of an entry that was found.
+/// Copies a found entry into an owned one.
 fn owned(alloc: Global, found: Option<EntryRef<'_>>) -> Result<Option<Entry>, OutOfMemory>
     ensures same { IfOk result (λ copy. copy ≡ option_map entry_view found.entry) }
-    ensures refusal { OnErr result (IsSome found.entry) }
+    ensures error { OnErr result (IsSome found.entry) }
 {
     match found {
         Some(entry) => Ok(Some(entry.into_owned(alloc)?)),
@@ -167,15 +190,15 @@ fn owned(alloc: Global, found: Option<EntryRef<'_>>) -> Result<Option<Entry>, Ou
     }
 }
 
-/// One step of a path in a text, as [`next_entry`]: its first name is taken off, and its entry is sought in the tree.
-fn next_entry_in_text<'a>(
+/// Looks up the first name of a path in bytes, and removes it from the path, like [`next_entry`].
+fn next_entry_in_bytes<'a>(
     path: &mut &[u8],
     tree: Data<'a>,
 ) -> ControlFlow<Option<EntryRef<'a>>, ObjectId>
     ensures no_tree { tree.entry.kind ≢ object.Tree → (result ≡ Break None)
         × (path.new.now ≡ path.old.now) }
     ensures step { tree.entry.kind ≡ object.Tree
-        → IsStepInText (stored tree.entry) path.old.now path.new.now result }
+        → IsStepInBytes (stored tree.entry) path.old.now path.new.now result }
 {
     let Some(reader) = tree.try_into_tree_iter() else {
         return ControlFlow::Break(None);
@@ -187,8 +210,8 @@ fn next_entry_in_text<'a>(
     reader.step_to(name, rest.is_empty())
 }
 
-/// The first name of a path in a text, and what is left behind it, which has a byte only where other names follow; or
-/// nothing of a path without names.
+/// Splits the first name off a path, or returns `None` for a path without names. The rest has a byte only if
+/// other names follow.
 fn split_name(path: &[u8]) -> Option<(&[u8], &[u8])>
     ensures found { IfSome result (λ it. SplitsName path.now it.0.now it.1.now) }
     ensures none { IfNone result (AreNamesOf path.now []) }
@@ -198,20 +221,20 @@ fn split_name(path: &[u8]) -> Option<(&[u8], &[u8])>
         return None;
     }
     match split_at_byte(names, b'/') {
-        Some((name, behind)) => Some((name, without_slashes(behind))),
+        Some((name, following)) => Some((name, without_slashes(following))),
         None => Some((names, b"")),
     }
 }
 
-/// A path in a text, without the slashes in front of its first name.
+/// Removes the slashes before the first name of a path.
 fn without_slashes(path: &[u8]) -> &[u8]
     ensures names { (names : List Name) → AreNamesOf result.now names
         → AreNamesOf path.now names }
     ensures no_slash { (rest : List ℕ) → result.now ≢ slash ∷ rest }
 {
-    let mut left = path;
-    while let Some(behind) = left.strip_prefix(b"/") {
-        left = behind;
+    let mut remaining = path;
+    while let Some(following) = remaining.strip_prefix(b"/") {
+        remaining = following;
     }
-    left
+    remaining
 }

@@ -1,9 +1,9 @@
-//! What a reader of tokens is asked for.
+//! Searches of a token iterator for the tree, the actors and the message of a commit.
 ghost use Rattle.std.specs.Prelude.{IfErr, IfOk};
 ghost use Rattle.bstr.specs.BStr.{bstr_bytes};
 ghost use Rattle.gixobj_actor.specs.Actor.{actor_view};
-ghost use Rattle.gixobj_ref_iter.specs.TokenGiving.{GivesIdOfCommit};
-ghost use Rattle.gixobj_ref_iter.specs.TokenPassing.{FindsAuthor, FindsCommitter, FindsMessage, FindsNoToken, FindsTokenFault, IsAuthorToken, IsCommitterToken, IsMessageToken};
+ghost use Rattle.gixobj_ref_iter.specs.CommitTokenSteps.{NextIdOfCommit};
+ghost use Rattle.gixobj_ref_iter.specs.TokenSearch.{FindsAuthor, FindsCommitter, FindsMessage, EndsSearch, optional_error, required_error, IsAuthorToken, IsCommitterToken, IsMessageToken};
 
 use super::CommitRefIter;
 use bstr::BStr;
@@ -13,11 +13,23 @@ use gixobj_hash::hash::ObjectId;
 
 /// Access
 impl<'a> CommitRefIter<'a> {
-    /// The id of the next token, which is the tree's at the start.
+    /// Returns the id of the next token, which is the tree's at the start.
     ///
-    /// The error of that token, or `Malformed` where there is none or it has no id.
+    /// # Errors
+    ///
+    /// - [`Error::Malformed`] if the next token is malformed, is missing or has no id.
+    /// - [`Error::OutOfMemory`] if the next token is a header of several lines, and its value fails to
+    ///   allocate.
+    ///
+    /// # Examples
+    ///
+    /// ```rust
+    /// pub fn tree_of(alloc: Global, bytes: &[u8]) -> Result<ObjectId, decode::Error> {
+    ///     CommitRefIter::from_bytes(alloc, bytes, HashKind::Sha1).tree_id()
+    /// }
+    /// ```
     pub fn tree_id(&mut self) -> Result<ObjectId, Error>
-        ensures { GivesIdOfCommit self.old result self.new }
+        ensures { NextIdOfCommit self.old result self.new }
     {
         match self.next() {
             Some(Ok(token)) => match token.try_into_id() {
@@ -29,13 +41,17 @@ impl<'a> CommitRefIter<'a> {
         }
     }
 
-    /// Who made the change: the first author that is told, not trimmed.
+    /// Returns who made the change, and when: the first remaining author, untrimmed.
     ///
-    /// The error that comes before it, or `Malformed` where none comes.
-    #[tactic(auto, using(crate::proofs::CommitRuns::seeks_start, crate::proofs::CommitRuns::seeks_first))]
+    /// # Errors
+    ///
+    /// - [`Error::Malformed`] if a malformed token or the end comes before an author.
+    /// - [`Error::OutOfMemory`] if the value of a header of several lines before the author fails to
+    ///   allocate.
+    #[tactic(auto, using(crate::proofs::CommitRuns::searches_start, crate::proofs::CommitRuns::searches_first))]
     pub fn author(self) -> Result<SignatureRef<'a>, Error>
         ensures found { IfOk result (λ it. FindsAuthor self.entry (actor_view it)) }
-        ensures refusal { IfErr result (FindsNoToken IsAuthorToken self.entry) }
+        ensures error { IfErr result (λ error. EndsSearch IsAuthorToken self.entry (required_error error)) }
     {
         for item in self {
             let token = item?;
@@ -46,13 +62,17 @@ impl<'a> CommitRefIter<'a> {
         Err(Error::Malformed)
     }
 
-    /// Who made the commit: the first committer that is told, not trimmed.
+    /// Returns who made the commit, and when: the first remaining committer, untrimmed.
     ///
-    /// The error that comes before it, or `Malformed` where none comes.
-    #[tactic(auto, using(crate::proofs::CommitRuns::seeks_start, crate::proofs::CommitRuns::seeks_first))]
+    /// # Errors
+    ///
+    /// - [`Error::Malformed`] if a malformed token or the end comes before a committer.
+    /// - [`Error::OutOfMemory`] if the value of a header of several lines before the committer fails to
+    ///   allocate.
+    #[tactic(auto, using(crate::proofs::CommitRuns::searches_start, crate::proofs::CommitRuns::searches_first))]
     pub fn committer(self) -> Result<SignatureRef<'a>, Error>
         ensures found { IfOk result (λ it. FindsCommitter self.entry (actor_view it)) }
-        ensures refusal { IfErr result (FindsNoToken IsCommitterToken self.entry) }
+        ensures error { IfErr result (λ error. EndsSearch IsCommitterToken self.entry (required_error error)) }
     {
         for item in self {
             let token = item?;
@@ -63,13 +83,18 @@ impl<'a> CommitRefIter<'a> {
         Err(Error::Malformed)
     }
 
-    /// The message, all bytes behind the empty line, or nothing where the bytes end before it.
+    /// Returns the message: all bytes after the empty line, or no bytes if the end comes before it. Headers
+    /// of several lines before the message allocate their values.
     ///
-    /// The error that comes before it. Headers of several lines that stand before it take memory.
-    #[tactic(auto, using(crate::proofs::CommitRuns::seeks_start, crate::proofs::CommitRuns::seeks_first))]
+    /// # Errors
+    ///
+    /// - [`Error::Malformed`] if a malformed token comes before the message.
+    /// - [`Error::OutOfMemory`] if the value of a header of several lines before the message fails to
+    ///   allocate.
+    #[tactic(auto, using(crate::proofs::CommitRuns::searches_start, crate::proofs::CommitRuns::searches_first))]
     pub fn message(self) -> Result<BStr<'a>, Error>
         ensures found { IfOk result (λ it. FindsMessage self.entry (bstr_bytes it)) }
-        ensures refusal { IfErr result (FindsTokenFault IsMessageToken self.entry) }
+        ensures error { IfErr result (λ error. EndsSearch IsMessageToken self.entry (optional_error error)) }
     {
         for answer in self {
             let token = answer?;

@@ -1,15 +1,15 @@
-//! Readers of tokens that tell the parents alone, or the actors alone.
+//! Iterators over the parents of a commit alone, or over its actors alone.
 use super::CommitRefIter;
 use gixobj_actor::actor::SignatureRef;
 use gixobj_hash::hash::ObjectId;
 
-/// The parents of a commit. [`CommitRefIter::parent_ids`] makes it.
+/// An iterator over the ids of a commit's parents. [`CommitRefIter::parent_ids`] returns one.
 #[derive(Clone, Copy, Drop)]
 pub struct ParentIds<'a> {
     tokens: CommitRefIter<'a>,
 }
 
-/// The author and the committer of a commit. [`CommitRefIter::signatures`] makes it.
+/// An iterator over the author and the committer of a commit. [`CommitRefIter::signatures`] returns one.
 #[derive(Clone, Copy, Drop)]
 pub struct Signatures<'a> {
     tokens: CommitRefIter<'a>,
@@ -20,15 +20,15 @@ impl<'a> CommitRefIter<'a> {
     ghost use Rattle.std.specs.Prelude.{◌≡◌};
     ghost use Rattle.gixobj_ref_iter.specs.TokenFilters.{actors_reader, parents_reader};
 
-    /// The ids of the parents that are still to be told. Errors are passed over.
+    /// Returns an iterator over the ids of the remaining parents. An error ends it silently.
     pub fn parent_ids(self) -> ParentIds<'a>
         ensures { parents_reader result ≡ self.entry }
     {
         ParentIds { tokens: self }
     }
 
-    /// The actors that are still to be told, not trimmed: the author, then the committer. Errors are
-    /// passed over.
+    /// Returns an iterator over the remaining actors, untrimmed: the author, then the committer. An error
+    /// ends it silently.
     pub fn signatures(self) -> Signatures<'a>
         ensures { actors_reader result ≡ self.entry }
     {
@@ -36,17 +36,17 @@ impl<'a> CommitRefIter<'a> {
     }
 }
 
-/// Tells the next parent. It ends where the tokens do, or at an error.
+/// Yields the next parent. It ends with the tokens or at an error.
 impl<'a> Iterator for ParentIds<'a> {
     type Item = ObjectId;
 
-    ghost use Rattle.gixobj_ref_iter.specs.TokenFilters.{GivesParent, parent_ids_left};
+    ghost use Rattle.gixobj_ref_iter.specs.TokenFilters.{NextParent, remaining_parent_ids};
 
-    ghost next_gives = { GivesParent };
+    ghost next_gives = { NextParent };
 
-    ghost remaining = { parent_ids_left };
+    ghost remaining = { remaining_parent_ids };
 
-    #[tactic(auto, using(crate::proofs::CommitRuns::seeks_start, crate::proofs::CommitRuns::reads_first))]
+    #[tactic(auto, using(crate::proofs::CommitRuns::searches_start, crate::proofs::CommitRuns::reads_first))]
     fn next(&mut self) -> Option<ObjectId> {
         while let Some(item) = self.tokens.next() {
             let Ok(token) = item else {
@@ -60,17 +60,17 @@ impl<'a> Iterator for ParentIds<'a> {
     }
 }
 
-/// Tells the next author or committer. It ends where the tokens do, or at an error.
+/// Yields the next author or committer. It ends with the tokens or at an error.
 impl<'a> Iterator for Signatures<'a> {
     type Item = SignatureRef<'a>;
 
-    ghost use Rattle.gixobj_ref_iter.specs.TokenFilters.{GivesActor, actors_left};
+    ghost use Rattle.gixobj_ref_iter.specs.TokenFilters.{NextActor, remaining_actors};
 
-    ghost next_gives = { GivesActor };
+    ghost next_gives = { NextActor };
 
-    ghost remaining = { actors_left };
+    ghost remaining = { remaining_actors };
 
-    #[tactic(auto, using(crate::proofs::CommitRuns::seeks_start, crate::proofs::CommitRuns::reads_first))]
+    #[tactic(auto, using(crate::proofs::CommitRuns::searches_start, crate::proofs::CommitRuns::reads_first))]
     fn next(&mut self) -> Option<SignatureRef<'a>> {
         while let Some(item) = self.tokens.next() {
             let Ok(token) = item else {

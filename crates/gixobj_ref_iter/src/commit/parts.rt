@@ -1,9 +1,9 @@
-//! Tokens that are looked for.
+//! The parts of tokens that searches look for.
 ghost use Rattle.std.specs.Prelude.{◌≡◌, MatchOption};
 ghost use Rattle.bstr.specs.BStr.{bstr_bytes};
 ghost use Rattle.gixobj_actor.specs.Actor.{actor_view};
 ghost use Rattle.gixobj_ref_iter.specs.CommitTokens.{author_token, committer_token, message_token, parent_token, commit_token_view};
-ghost use Rattle.gixobj_ref_iter.specs.TokenPassing.{IsActorToken, IsActorTokenOf, IsAuthorToken, IsCommitterToken, IsMessageToken, IsParentToken};
+ghost use Rattle.gixobj_ref_iter.specs.TokenSearch.{IsActorToken, IsActorTokenOf, IsAuthorToken, IsCommitterToken, IsMessageToken, IsParentToken};
 
 use super::Token;
 use bstr::BStr;
@@ -11,7 +11,7 @@ use gixobj_actor::actor::SignatureRef;
 use gixobj_hash::hash::ObjectId;
 
 impl<'a> Token<'a> {
-    /// The id of a parent.
+    /// Returns the id of a parent token.
     pub(super) fn as_parent(&self) -> Option<ObjectId>
         ensures { MatchOption result (¬ IsParentToken (commit_token_view self.now))
             (λ id. commit_token_view self.now ≡ parent_token id) }
@@ -22,7 +22,7 @@ impl<'a> Token<'a> {
         }
     }
 
-    /// The actor of an author.
+    /// Returns the actor of an author token.
     pub(super) fn as_author(&self) -> Option<SignatureRef<'a>>
         ensures { MatchOption result (¬ IsAuthorToken (commit_token_view self.now))
             (λ it. commit_token_view self.now ≡ author_token (actor_view it)) }
@@ -33,7 +33,7 @@ impl<'a> Token<'a> {
         }
     }
 
-    /// The actor of a committer.
+    /// Returns the actor of a committer token.
     pub(super) fn as_committer(&self) -> Option<SignatureRef<'a>>
         ensures { MatchOption result (¬ IsCommitterToken (commit_token_view self.now))
             (λ it. commit_token_view self.now ≡ committer_token (actor_view it)) }
@@ -44,7 +44,7 @@ impl<'a> Token<'a> {
         }
     }
 
-    /// The actor of an author or a committer.
+    /// Returns the actor of an author or committer token.
     pub(super) fn as_actor(&self) -> Option<SignatureRef<'a>>
         ensures { MatchOption result (¬ IsActorToken (commit_token_view self.now))
             (λ it. IsActorTokenOf (actor_view it) (commit_token_view self.now)) }
@@ -55,7 +55,7 @@ impl<'a> Token<'a> {
         }
     }
 
-    /// The bytes of a message.
+    /// Returns the bytes of a message token.
     pub(super) fn as_message(&self) -> Option<BStr<'a>>
         ensures { MatchOption result (¬ IsMessageToken (commit_token_view self.now))
             (λ it. commit_token_view self.now ≡ message_token (bstr_bytes it)) }

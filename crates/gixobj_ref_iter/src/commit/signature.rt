@@ -1,8 +1,9 @@
-//! The signature of a commit, found in its text, and what it signs (gitformat-signature, "Commit signatures").
+//! The signature in a commit's encoding, and the data that it signs (gitformat-signature, "Commit
+//! signatures").
 ghost use Rattle.std.specs.Prelude.{◌≡◌, IfErr, IfOk, MatchOption};
 ghost use Rattle.std.specs.Cow.{cow_slice_items};
 ghost use Rattle.gixobj_line.specs.Lines.{header_line, line_view};
-ghost use Rattle.gixobj_ref_iter.specs.Extracting.{GivesSignatureOfCommit, HasNoSignature, HasCommitSignature, IsNamedLine, RefusesCommitSignature};
+ghost use Rattle.gixobj_ref_iter.specs.Extracting.{FindsSignatureOfCommit, HasNoSignature, HasCommitSignature, IsNamedLine, IsCommitSignatureError};
 ghost use Rattle.gixobj_signature.specs.SignedBytes.{signed_bytes};
 
 use super::CommitRefIter;
@@ -16,41 +17,46 @@ use std::borrow::CowSlice;
 
 /// Signatures
 impl<'a> CommitRefIter<'a> {
-    /// The signature of the commit with this text, whose ids are of this kind, and what it signs: all bytes but those
-    /// of the signature's header. None where no header has the name of signatures for this kind.
+    /// Finds the signature in a commit's encoding with ids of `hash_kind`, and the data that it signs: all
+    /// bytes except the signature's header. Returns `None` if no header has the name [`signature_field_name`]
+    /// of `hash_kind`.
     ///
-    /// The first such header counts, and what stands behind it isn't looked at. `Malformed` where a line before it, or
-    /// any line without one, is none that may come there. A header of several lines takes memory, and `OutOfMemory`
-    /// comes for no other line.
+    /// The first header of that name is the signature, and lines after it aren't decoded. Headers of several
+    /// lines allocate their values.
+    ///
+    /// # Errors
+    ///
+    /// - [`Error::Malformed`] if a line before the signature is malformed or, without a signature, any line.
+    /// - [`Error::OutOfMemory`] if the value of a header of several lines fails to allocate.
     pub fn signature(
         alloc: Global,
         bytes: &'a [u8],
         hash_kind: Kind,
     ) -> Result<Option<(CowSlice<'a, u8>, SignedData<'a>)>, Error>
-        ensures found { IfOk result (GivesSignatureOfCommit hash_kind bytes.now) }
-        ensures refusal { IfErr result (RefusesCommitSignature hash_kind bytes.now) }
+        ensures found { IfOk result (FindsSignatureOfCommit hash_kind bytes.now) }
+        ensures error { IfErr result (IsCommitSignatureError hash_kind bytes.now) }
     {
         let field = signature_field_name(hash_kind).as_bytes();
         let mut state = State::Tree;
         let mut rest = bytes;
         let mut place = 0;
         'lines: while !rest.is_empty() {
-            let (line, next, behind) = match read_line(alloc, state, hash_kind, rest) {
+            let (line, next, after) = match read_line(alloc, state, hash_kind, rest) {
                 Ok(read) => read,
                 Err(error) => return Err(error),
             };
             if let Some(value) = value_of_line(line, field) {
-                return Ok(Some((value, SignedData::new(&bytes[..place], behind))));
+                return Ok(Some((value, SignedData::new(&bytes[..place], after))));
             }
-            place += rest.len() - behind.len();
+            place += rest.len() - after.len();
             state = next;
-            rest = behind;
+            rest = after;
         }
         Ok(None)
     }
 }
 
-/// The value of a header of this name, or none of another line.
+/// Returns the value of a header of this name, and `None` for any other line.
 fn value_of_line<'a>(line: Line<'a>, name: &[u8]) -> Option<CowSlice<'a, u8>>
     ensures { MatchOption result (¬ IsNamedLine name.now (line_view line.entry))
         (λ value. line_view line.entry ≡ header_line

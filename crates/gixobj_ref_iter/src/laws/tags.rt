@@ -1,79 +1,79 @@
-//! Laws of the reader of tokens, and of both readers of tags. Each function does nothing: its contract is
-//! the law.
+//! Laws on the token iterator over tags and the decoder of entire tags. Each function is empty, and its
+//! contract is the law.
 ghost use Rattle.std.specs.Prelude.{◌≡◌, ◌++◌, ◌∷◌, [], ℕ, Err, List, None, Ok, Option, Result, Some};
 ghost use Rattle.gixobj_actor.specs.declared.actor.SignatureRef.{SignatureRef};
 ghost use Rattle.gixobj_fields.specs.Runs.{Ending, broken, complete};
-ghost use Rattle.gixobj_hash.specs.Hash.{Spells};
+ghost use Rattle.gixobj_hash.specs.Hash.{DecodesToId};
 ghost use Rattle.gixobj_hash.specs.declared.decode.Error as decode;
 ghost use Rattle.gixobj_hash.specs.declared.hash.kind.Kind.{Kind};
 ghost use Rattle.gixobj_hash.specs.declared.hash.object_id.ObjectId.{ObjectId};
-ghost use Rattle.gixobj_ref_iter.specs.TagReaders.{AreTokensOfTag, EndsBehindItsName, NameCame, TellsTagger};
+ghost use Rattle.gixobj_ref_iter.specs.TagReaders.{AreTokensOfTag, EndsAfterItsName, IsAfterName, IsTokenOfTagger};
 ghost use Rattle.gixobj_ref_iter.specs.TagTokens.{HasTagToken, TagTokenView, tag_token_view};
-ghost use Rattle.gixobj_ref_iter.specs.TagTokenGiving.{AreTagTokenTexts, FindsTagger, GivesIdOfTag, GivesTagToken, HasPassedTagTokens, IsAtStartOfTag, LacksTagger, TellsTag, told_tagger};
+ghost use Rattle.gixobj_ref_iter.specs.TagTokenSteps.{DecodesToTagTokens, FindsTagger, NextIdOfTag, NextTagToken, HasConsumedTagTokens, IsAtStartOfTag, YieldsNoTagger, YieldsTagTokens, token_of_tagger};
 ghost use Rattle.gixobj_ref_iter.specs.declared.tag.State.{State};
 ghost use Rattle.gixobj_ref_iter.specs.declared.tag.State.TheVariants as state;
 ghost use Rattle.gixobj_ref_iter.specs.declared.tag.TagRefIter.{TagRefIter};
 ghost use Rattle.gixobj_ref_iter.specs.declared.tag.Token.{Token};
-ghost use Rattle.gixobj_tag.specs.TagText.{IsTagText, TagLines};
+ghost use Rattle.gixobj_tag.specs.TagFormat.{DecodesToTag, TagLines};
 
-/// A text begins with one token at most in each state of the reader, and it has one run of tokens at most,
-/// and one end of it. Where the run is complete, the text is the join of the texts of its tokens.
-pub fn tag_tokens_have_one_reading()
+/// In each state bytes begin with at most one token, and they have at most one run of tokens, with one
+/// ending. If the run is complete, the bytes are the concatenated encodings of its tokens.
+pub fn tag_tokens_decode_uniquely()
     ensures one_token { (kind : Kind) (before : State) (input : List ℕ)
-        (token token' : TagTokenView) (behind behind' : State) (rest rest' : List ℕ)
-        → HasTagToken kind before input token behind rest
-        → HasTagToken kind before input token' behind' rest' → (token ≡ token') × (behind ≡ behind')
+        (token token' : TagTokenView) (following after' : State) (rest rest' : List ℕ)
+        → HasTagToken kind before input token following rest
+        → HasTagToken kind before input token' after' rest' → (token ≡ token') × (following ≡ after')
         × (rest ≡ rest') }
     ensures one_run { (kind : Kind) (before : State) (input : List ℕ)
         (tokens tokens' : List TagTokenView) (ending ending' : Ending)
-        → TellsTag kind before input tokens ending → TellsTag kind before input tokens' ending'
+        → YieldsTagTokens kind before input tokens ending → YieldsTagTokens kind before input tokens' ending'
         → (tokens ≡ tokens') × (ending ≡ ending') }
     ensures joined { (kind : Kind) (before : State) (input : List ℕ) (tokens : List TagTokenView)
-        → TellsTag kind before input tokens complete → AreTagTokenTexts kind input tokens }
+        → YieldsTagTokens kind before input tokens complete → DecodesToTagTokens kind input tokens }
 {}
 
-/// What a walk through the tokens of a text comes to, call by call: a reader at its start has passed none;
-/// each token that it gives is passed too; where it gives nothing more, those that were passed are told to
-/// the end, and where it gives an error, they are told up to there.
-pub fn tag_tokens_are_passed()
-    ensures starts { (kind : Kind) (text : List ℕ) (reader : TagRefIter)
-        → IsAtStartOfTag kind text reader → HasPassedTagTokens kind text [] reader }
-    ensures goes_on { (kind : Kind) (text : List ℕ) (tokens : List TagTokenView)
-        (at after : TagRefIter) (token : Token) → HasPassedTagTokens kind text tokens at
-        → GivesTagToken at (Some (Ok token)) after
-        → HasPassedTagTokens kind text (tokens ++ tag_token_view token ∷ []) after }
-    ensures ends { (kind : Kind) (text : List ℕ) (tokens : List TagTokenView)
-        (at after : TagRefIter) → HasPassedTagTokens kind text tokens at
-        → GivesTagToken at None after → TellsTag kind state.Target text tokens complete }
-    ensures stops { (kind : Kind) (text : List ℕ) (tokens : List TagTokenView)
-        (at after : TagRefIter) (error : decode.Error) → HasPassedTagTokens kind text tokens at
-        → GivesTagToken at (Some (Err error)) after
-        → TellsTag kind state.Target text tokens broken }
+/// The tokens that an iterator has consumed are a prefix of the tokens of its bytes. At its start it has
+/// consumed none, and each yielded token is consumed too. At its end the consumed tokens are the complete
+/// run; at an error they are the run up to there.
+pub fn consumed_tag_tokens_are_prefix()
+    ensures starts { (kind : Kind) (bytes : List ℕ) (reader : TagRefIter)
+        → IsAtStartOfTag kind bytes reader → HasConsumedTagTokens kind bytes [] reader }
+    ensures continues { (kind : Kind) (bytes : List ℕ) (tokens : List TagTokenView)
+        (at after : TagRefIter) (token : Token) → HasConsumedTagTokens kind bytes tokens at
+        → NextTagToken at (Some (Ok token)) after
+        → HasConsumedTagTokens kind bytes (tokens ++ tag_token_view token ∷ []) after }
+    ensures ends { (kind : Kind) (bytes : List ℕ) (tokens : List TagTokenView)
+        (at after : TagRefIter) → HasConsumedTagTokens kind bytes tokens at
+        → NextTagToken at None after → YieldsTagTokens kind state.Target bytes tokens complete }
+    ensures stops { (kind : Kind) (bytes : List ℕ) (tokens : List TagTokenView)
+        (at after : TagRefIter) (error : decode.Error) → HasConsumedTagTokens kind bytes tokens at
+        → NextTagToken at (Some (Err error)) after
+        → YieldsTagTokens kind state.Target bytes tokens broken }
 {}
 
-/// Both readers read one language. The text of a tag is told to its end, as the tokens of that tag, its
-/// name among them; and a text that is told to its end, and in which a name came, is that of a tag, whose
-/// tokens these are.
-pub fn tag_readers_read_one_language()
-    ensures told { (kind : Kind) (text : List ℕ) (tag : TagLines) → IsTagText kind text tag
-        → (tokens : List TagTokenView) × TellsTag kind state.Target text tokens complete
-        × AreTokensOfTag tag tokens × NameCame tokens }
-    ensures read { (kind : Kind) (text : List ℕ) (tokens : List TagTokenView)
-        → TellsTag kind state.Target text tokens complete → NameCame tokens → (tag : TagLines)
-        × IsTagText kind text tag × AreTokensOfTag tag tokens }
+/// The token iterator and the decoder of entire tags accept the same language. The encoding of a tag yields
+/// the tokens of that tag to the end, its name among them. Bytes that yield tokens to the end, with a name
+/// among them, are the encoding of a tag with these tokens.
+pub fn tag_readers_agree()
+    ensures yields { (kind : Kind) (bytes : List ℕ) (tag : TagLines) → DecodesToTag kind bytes tag
+        → (tokens : List TagTokenView) × YieldsTagTokens kind state.Target bytes tokens complete
+        × AreTokensOfTag tag tokens × IsAfterName tokens }
+    ensures read { (kind : Kind) (bytes : List ℕ) (tokens : List TagTokenView)
+        → YieldsTagTokens kind state.Target bytes tokens complete → IsAfterName tokens → (tag : TagLines)
+        × DecodesToTag kind bytes tag × AreTokensOfTag tag tokens }
 {}
 
-/// Of the text of a tag a reader at its start finds the tag's target and its tagger, or that there is
-/// none; it finds no token that says so only where the text ends behind the name.
-pub fn parts_of_tags_are_found()
-    ensures target { (kind : Kind) (text : List ℕ) (tag : TagLines) (reader : TagRefIter)
-        (result : Result ObjectId decode.Error) → IsTagText kind text tag
-        → IsAtStartOfTag kind text reader → GivesIdOfTag reader result → (id : ObjectId)
-        × (result ≡ Ok id) × Spells tag.target id }
-    ensures tagger { (kind : Kind) (text : List ℕ) (tag : TagLines) (reader : TagRefIter)
-        (tagger : Option SignatureRef) → IsTagText kind text tag → IsAtStartOfTag kind text reader
-        → FindsTagger reader tagger → TellsTagger tag.tagger (told_tagger tagger) }
-    ensures no_token { (kind : Kind) (text : List ℕ) (tag : TagLines) (reader : TagRefIter)
-        (ending : Ending) → IsTagText kind text tag → IsAtStartOfTag kind text reader
-        → LacksTagger reader ending → EndsBehindItsName tag }
+/// A token iterator at the start of a tag's encoding finds the tag's target, and its tagger or that it has
+/// none. It yields no tagger token only if the encoding ends after the name.
+pub fn tag_part_search_complete()
+    ensures target { (kind : Kind) (bytes : List ℕ) (tag : TagLines) (reader : TagRefIter)
+        (result : Result ObjectId decode.Error) → DecodesToTag kind bytes tag
+        → IsAtStartOfTag kind bytes reader → NextIdOfTag reader result → (id : ObjectId)
+        × (result ≡ Ok id) × DecodesToId tag.target id }
+    ensures tagger { (kind : Kind) (bytes : List ℕ) (tag : TagLines) (reader : TagRefIter)
+        (tagger : Option SignatureRef) → DecodesToTag kind bytes tag → IsAtStartOfTag kind bytes reader
+        → FindsTagger reader tagger → IsTokenOfTagger tag.tagger (token_of_tagger tagger) }
+    ensures no_token { (kind : Kind) (bytes : List ℕ) (tag : TagLines) (reader : TagRefIter)
+        (ending : Ending) → DecodesToTag kind bytes tag → IsAtStartOfTag kind bytes reader
+        → YieldsNoTagger reader ending → EndsAfterItsName tag }
 {}

@@ -1,7 +1,7 @@
-//! The signature of a tag, found in its text, and what it signs (gitformat-signature, "Tag signatures").
+//! The signature in a tag's encoding, and the data that it signs (gitformat-signature, "Tag signatures").
 ghost use Rattle.std.specs.Prelude.{IfNone, IfSome};
 ghost use Rattle.gixobj_text.specs.Markers.{HasNoMarker};
-ghost use Rattle.gixobj_ref_iter.specs.TagExtracting.{GivesSignatureOfTag};
+ghost use Rattle.gixobj_ref_iter.specs.TagExtracting.{FindsSignatureOfTag};
 
 use super::TagRefIter;
 use bstr::BStr;
@@ -10,19 +10,20 @@ use gixobj_text::signature::{SignatureRef, find};
 
 /// Signatures
 impl<'a> TagRefIter<'a> {
-    /// The signature of the tag with this text, from the last marker at the start of a line on, and what it signs: all
-    /// bytes before it. None without a marker. What else the text holds isn't looked at.
+    /// Finds the signature in a tag's encoding, and the data that it signs: all bytes before it. The
+    /// signature begins at the last marker at the start of a line; without a marker there is none. The other
+    /// bytes aren't decoded.
     ///
-    /// It takes no memory.
+    /// Allocates nothing.
     pub fn signature(bytes: &'a [u8]) -> Option<(SignatureRef<'a>, SignedData<'a>)>
-        ensures found { IfSome result (GivesSignatureOfTag bytes.now) }
+        ensures found { IfSome result (FindsSignatureOfTag bytes.now) }
         ensures none { IfNone result (HasNoMarker bytes.now) }
     {
         let (place, format) = find(bytes)?;
-        let (before, behind) = bytes.split_at(place);
+        let (before, after) = bytes.split_at(place);
         let signature = SignatureRef {
             format,
-            bytes: BStr::new(behind),
+            bytes: BStr::new(after),
         };
         Some((signature, SignedData::new(before, b"")))
     }

@@ -1,9 +1,9 @@
 //! Answers about signatures that programs verified.
 
-use super::played::Row;
+use super::scripted::Row;
 use super::{Head, Program};
 use crate::recorded::answers::Answer;
-use crate::recorded::texts::fault;
+use crate::recorded::fields::fault;
 use crate::reports::level_of;
 use bstr::{BStr, BString};
 use gixobj_base::date::parse_header;
@@ -12,53 +12,53 @@ use gixobj_signature::signature::SignedData;
 use gixobj_signature::signature::verify::{Error, Options, Outcome};
 use gixobj_text::signature::Format;
 
-/// What comes of verifying the signature of an object.
-pub(super) fn put_verified(
+/// Adds the result of verifying the signature of an object.
+pub(super) fn write_verified(
     head: Head<'_>,
-    text: &[u8],
+    input: &[u8],
     program: Program,
     row: &mut Row<'_>,
     answer: &mut Answer,
 ) {
     let options = options_of(head, program, row, answer);
     match head.object {
-        b"tag" => put_tag(text, options, row, answer),
-        _ => put_commit(head, text, options, row, answer),
+        b"tag" => write_tag(input, options, row, answer),
+        _ => write_commit(head, input, options, row, answer),
     }
 }
 
-/// The same of a tag.
-fn put_tag(text: &[u8], options: Options, row: &mut Row<'_>, answer: &mut Answer) {
-    match TagRefIter::signature(text) {
+/// Adds the result of verifying the signature of a tag.
+fn write_tag(input: &[u8], options: Options, row: &mut Row<'_>, answer: &mut Answer) {
+    match TagRefIter::signature(input) {
         Some((signature, signed)) => {
-            put_outcome(signed, signature.bytes.as_bytes(), options, row, answer);
+            write_outcome(signed, signature.bytes.as_bytes(), options, row, answer);
         }
-        None => answer.put_word("none"),
+        None => answer.write_keyword("none"),
     }
 }
 
-/// The same of a commit.
-fn put_commit(
+/// Adds the result of verifying the signature of a commit.
+fn write_commit(
     head: Head<'_>,
-    text: &[u8],
+    input: &[u8],
     options: Options,
     row: &mut Row<'_>,
     answer: &mut Answer,
 ) {
-    match CommitRefIter::signature(answer.alloc, text, head.ids) {
+    match CommitRefIter::signature(answer.alloc, input, head.ids) {
         Ok(Some((signature, signed))) => {
-            put_outcome(signed, signature.as_slice(), options, row, answer);
+            write_outcome(signed, signature.as_slice(), options, row, answer);
         }
-        Ok(None) => answer.put_word("none"),
-        Err(error) => answer.put_word(fault(&error)),
+        Ok(None) => answer.write_keyword("none"),
+        Err(error) => answer.write_keyword(fault(&error)),
     }
 }
 
-/// Who verifies, and how, by the next three columns.
+/// Options of verification, from the next three columns.
 fn options_of(head: Head<'_>, program: Program, row: &mut Row<'_>, answer: &mut Answer) -> Options {
     let minimum_trust = level_of(head.minimum);
-    let allowed_signers = BString::new(answer.unspelled(row.next()));
-    let revocation_file = file_of(answer.unspelled(row.next()));
+    let allowed_signers = BString::new(answer.unescape(row.next()));
+    let revocation_file = file_of(answer.unescape(row.next()));
     let verify_time = parse_header(row.next()).unwrap_or_default();
     let Program {
         program,
@@ -90,7 +90,7 @@ fn options_of(head: Head<'_>, program: Program, row: &mut Row<'_>, answer: &mut 
     }
 }
 
-/// A file, or none where it is `-`.
+/// A path. `None` for `-`.
 fn file_of(path: Vec<u8>) -> Option<BString> {
     if path.as_slice() == b"-".as_slice() {
         None
@@ -99,8 +99,8 @@ fn file_of(path: Vec<u8>) -> Option<BString> {
     }
 }
 
-/// What comes of verifying a signature of these bytes.
-fn put_outcome(
+/// Adds the result of verifying a signature of these bytes.
+fn write_outcome(
     signed: SignedData<'_>,
     signature: &[u8],
     options: Options,
@@ -108,14 +108,14 @@ fn put_outcome(
     answer: &mut Answer,
 ) {
     match signed.verify(answer.alloc, BStr::new(signature), options, row) {
-        Ok(outcome) => put_told(&outcome, answer),
-        Err(Error::Spawn(asked)) => answer.put_spelled("asked", asked.as_bytes()),
-        Err(error) => answer.put_shown("err", &error),
+        Ok(outcome) => add_outcome(&outcome, answer),
+        Err(Error::Spawn(requested)) => answer.write_escaped("asked", requested.as_bytes()),
+        Err(error) => answer.write_shown("err", &error),
     }
 }
 
-/// An outcome.
-fn put_told(outcome: &Outcome, answer: &mut Answer) {
+/// Adds an outcome.
+fn add_outcome(outcome: &Outcome, answer: &mut Answer) {
     let (status, trust) = (outcome.status, outcome.trust_level);
     answer.push_shown(format_args!("{status:?} | {trust:?}"));
     add_if_some(&outcome.signer, answer);
@@ -129,11 +129,11 @@ fn put_told(outcome: &Outcome, answer: &mut Answer) {
     });
 }
 
-/// A text, or `-`.
-fn add_if_some(text: &Option<BString>, answer: &mut Answer) {
+/// Adds bytes, or `-`.
+fn add_if_some(bytes: &Option<BString>, answer: &mut Answer) {
     answer.add("|");
-    match text {
-        Some(text) => answer.add_spelled(text.as_bytes()),
+    match bytes {
+        Some(bytes) => answer.add_escaped(bytes.as_bytes()),
         None => answer.add("-"),
     }
 }

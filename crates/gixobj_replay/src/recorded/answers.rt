@@ -1,59 +1,68 @@
-//! An answer as it is written: columns apart by tabs, of words and values apart by spaces.
+//! An answer in the format of the tables: columns separated by tabs, of tokens and values separated by
+//! spaces.
 
-use crate::recorded::spelling::unspelled;
+use crate::recorded::escapes::unescape;
 use bstr::BStr;
 use std::alloc::{AllocError, Global};
 use std::fmt::Display;
 
-/// How bytes are written.
+/// The format of bytes.
 #[derive(Clone, Copy)]
 pub(crate) enum Form {
-    /// `x`, and hex digits.
+    /// `x` and hex digits.
     Hex,
-    /// As they are spelled, between quotes.
+    /// Escaped, in quotes.
     Quoted,
 }
 
-/// The text of an answer. It remembers whether memory ran out.
+/// The bytes of an answer. It records whether an allocation failed.
 #[derive(Drop)]
 pub(crate) struct Answer {
     pub(crate) alloc: Global,
-    text: Vec<u8>,
-    is_whole: bool,
+    bytes: Vec<u8>,
+    is_entire: bool,
 }
 
 impl Answer {
-    /// An answer without a text.
+    /// An empty answer.
     pub(crate) fn new(alloc: Global) -> Answer {
         Answer {
             alloc,
-            text: Vec::new(alloc),
-            is_whole: true,
+            bytes: Vec::new(alloc),
+            is_entire: true,
         }
     }
 
-    /// Its text.
+    /// The bytes of the answer.
     pub(crate) fn as_slice(&self) -> &[u8] {
-        self.text.as_slice()
+        self.bytes.as_slice()
     }
 
-    /// Its text, or that memory ran out.
+    /// The bytes of the answer, or an error if an allocation failed.
     pub(crate) fn finish(self) -> Result<Vec<u8>, AllocError> {
-        let Answer { text, is_whole, .. } = self;
-        if is_whole { Ok(text) } else { Err(AllocError) }
+        let Answer {
+            bytes,
+            is_entire,
+            ..
+        } = self;
+        if is_entire {
+            Ok(bytes)
+        } else {
+            Err(AllocError)
+        }
     }
 
-    /// Remembers that memory ran out.
+    /// Records an allocation failure.
     pub(crate) fn fail(&mut self) {
-        self.is_whole = false;
+        self.is_entire = false;
     }
 
-    /// The bytes that a text spells.
-    pub(crate) fn unspelled(&mut self, text: &[u8]) -> Vec<u8> {
-        self.or_fail(unspelled(self.alloc, text))
+    /// Unescapes bytes.
+    pub(crate) fn unescape(&mut self, input: &[u8]) -> Vec<u8> {
+        self.or_fail(unescape(self.alloc, input))
     }
 
-    /// These bytes, or none and it remembers that memory ran out.
+    /// These bytes. Empty after an allocation failure, which is recorded.
     pub(crate) fn or_fail(&mut self, bytes: Result<Vec<u8>, AllocError>) -> Vec<u8> {
         match bytes {
             Ok(bytes) => bytes,
@@ -64,22 +73,22 @@ impl Answer {
         }
     }
 
-    /// Bytes, behind what stands there.
+    /// Appends bytes.
     pub(crate) fn push(&mut self, bytes: &[u8]) {
-        if self.text.extend_from_slice(bytes).is_err() {
+        if self.bytes.extend_from_slice(bytes).is_err() {
             self.fail();
         }
     }
 
-    /// A value as it is shown.
+    /// Appends a value as it is displayed.
     pub(crate) fn push_shown<D: Display + Drop>(&mut self, value: D) {
         match String::format(self.alloc, value) {
-            Ok(text) => self.push(text.as_bytes()),
+            Ok(shown) => self.push(shown.as_bytes()),
             Err(_) => self.fail(),
         }
     }
 
-    /// `x`, and bytes in hex digits.
+    /// Appends `x` and bytes in hex digits.
     pub(crate) fn push_hex(&mut self, bytes: &[u8]) {
         self.push(b"x");
         match hex::encode(self.alloc, bytes) {
@@ -88,14 +97,14 @@ impl Answer {
         }
     }
 
-    /// Bytes as they are spelled.
-    pub(crate) fn push_spelled(&mut self, bytes: &[u8]) {
+    /// Appends bytes, escaped.
+    pub(crate) fn push_escaped(&mut self, bytes: &[u8]) {
         for byte in bytes {
             self.push_byte(*byte);
         }
     }
 
-    /// A byte as it is spelled.
+    /// Appends a byte, escaped.
     fn push_byte(&mut self, byte: u8) {
         match byte {
             b'\n' => self.push(b"\\n"),
@@ -106,32 +115,32 @@ impl Answer {
         }
     }
 
-    /// Bytes as they are spelled, between quotes.
+    /// Appends bytes, escaped and in quotes.
     pub(crate) fn push_quoted(&mut self, bytes: &[u8]) {
         self.push(b"\"");
-        self.push_spelled(bytes);
+        self.push_escaped(bytes);
         self.push(b"\"");
     }
 
-    /// A word behind a space.
-    pub(crate) fn add(&mut self, word: &str) {
+    /// Appends a space and a token.
+    pub(crate) fn add(&mut self, token: &str) {
         self.push(b" ");
-        self.push(word.as_bytes());
+        self.push(token.as_bytes());
     }
 
-    /// A value as it is shown, behind a space.
+    /// Appends a space and a value as it is displayed.
     pub(crate) fn add_shown<D: Display + Drop>(&mut self, value: D) {
         self.push(b" ");
         self.push_shown(value);
     }
 
-    /// `x` and bytes in hex digits, behind a space.
+    /// Appends a space, `x` and bytes in hex digits.
     pub(crate) fn add_hex(&mut self, bytes: &[u8]) {
         self.push(b" ");
         self.push_hex(bytes);
     }
 
-    /// The same of bytes that may be missing, or `-`.
+    /// Appends a space, `x` and bytes in hex digits; `-` for missing bytes.
     pub(crate) fn add_hex_if_some(&mut self, bytes: Option<BStr<'_>>) {
         match bytes {
             Some(bytes) => self.add_hex(bytes.as_bytes()),
@@ -139,19 +148,19 @@ impl Answer {
         }
     }
 
-    /// Bytes as they are spelled, behind a space.
-    pub(crate) fn add_spelled(&mut self, bytes: &[u8]) {
+    /// Appends a space and bytes, escaped.
+    pub(crate) fn add_escaped(&mut self, bytes: &[u8]) {
         self.push(b" ");
-        self.push_spelled(bytes);
+        self.push_escaped(bytes);
     }
 
-    /// Bytes as they are spelled, between quotes and behind a space.
+    /// Appends a space and bytes, escaped and in quotes.
     pub(crate) fn add_quoted(&mut self, bytes: &[u8]) {
         self.push(b" ");
         self.push_quoted(bytes);
     }
 
-    /// A count of bytes behind a space, or `-`.
+    /// Appends a space and a count of bytes, or `-`.
     pub(crate) fn add_size(&mut self, size: Option<u64>) {
         match size {
             Some(size) => self.add_shown(size),
@@ -159,110 +168,110 @@ impl Answer {
         }
     }
 
-    /// The word of each test that holds, behind a space.
+    /// Appends a space and the name of each predicate that holds.
     pub(crate) fn add_holding(&mut self, tests: &[(bool, &str)]) {
-        for (holds, word) in tests {
+        for (holds, token) in tests {
             if *holds {
-                self.add(word);
+                self.add(token);
             }
         }
     }
 }
 
 impl Answer {
-    /// Begins one more column.
-    pub(crate) fn put_column(&mut self) {
-        if !self.text.is_empty() {
+    /// Begins the next column.
+    pub(crate) fn write_column(&mut self) {
+        if !self.bytes.is_empty() {
             self.push(b"\t");
         }
     }
 
-    /// One more column: a word.
-    pub(crate) fn put_word(&mut self, word: &str) {
-        self.put_column();
-        self.push(word.as_bytes());
+    /// Writes a column: a token.
+    pub(crate) fn write_keyword(&mut self, token: &str) {
+        self.write_column();
+        self.push(token.as_bytes());
     }
 
-    /// One more column: a word, and another one behind it.
-    pub(crate) fn put(&mut self, word: &str, value: &str) {
-        self.put_word(word);
+    /// Writes a column: two tokens.
+    pub(crate) fn write_pair(&mut self, token: &str, value: &str) {
+        self.write_keyword(token);
         self.add(value);
     }
 
-    /// One more column: a word, and a value as it is shown.
-    pub(crate) fn put_shown<D: Display + Drop>(&mut self, word: &str, value: D) {
-        self.put_word(word);
+    /// Writes a column: a token, and a value as it is displayed.
+    pub(crate) fn write_shown<D: Display + Drop>(&mut self, token: &str, value: D) {
+        self.write_keyword(token);
         self.add_shown(value);
     }
 
-    /// One more column: a word, and bytes in hex digits.
-    pub(crate) fn put_hex(&mut self, word: &str, bytes: &[u8]) {
-        self.put_word(word);
+    /// Writes a column: a token, and bytes in hex digits.
+    pub(crate) fn write_hex(&mut self, token: &str, bytes: &[u8]) {
+        self.write_keyword(token);
         self.add_hex(bytes);
     }
 
-    /// One more column: a word, and bytes in hex digits or `-`.
-    pub(crate) fn put_hex_if_some(&mut self, word: &str, bytes: Option<BStr<'_>>) {
-        self.put_word(word);
+    /// Writes a column: a token, and bytes in hex digits or `-`.
+    pub(crate) fn write_hex_if_some(&mut self, token: &str, bytes: Option<BStr<'_>>) {
+        self.write_keyword(token);
         self.add_hex_if_some(bytes);
     }
 
-    /// One more column: a word, and bytes as they are spelled.
-    pub(crate) fn put_spelled(&mut self, word: &str, bytes: &[u8]) {
-        self.put_word(word);
-        self.add_spelled(bytes);
+    /// Writes a column: a token, and bytes, escaped.
+    pub(crate) fn write_escaped(&mut self, token: &str, bytes: &[u8]) {
+        self.write_keyword(token);
+        self.add_escaped(bytes);
     }
 
-    /// One more column: a word, and bytes as they are spelled, between quotes.
-    pub(crate) fn put_quoted(&mut self, word: &str, bytes: &[u8]) {
-        self.put_word(word);
+    /// Writes a column: a token, and bytes, escaped and in quotes.
+    pub(crate) fn write_quoted(&mut self, token: &str, bytes: &[u8]) {
+        self.write_keyword(token);
         self.add_quoted(bytes);
     }
 
-    /// One more column: a word, and a count of bytes or `-`.
-    pub(crate) fn put_size(&mut self, word: &str, size: Option<u64>) {
-        self.put_word(word);
+    /// Writes a column: a token, and a count of bytes or `-`.
+    pub(crate) fn write_size(&mut self, token: &str, size: Option<u64>) {
+        self.write_keyword(token);
         self.add_size(size);
     }
 
-    /// One more column for each test that holds: its word.
-    pub(crate) fn put_holding(&mut self, tests: &[(bool, &str)]) {
-        for (holds, word) in tests {
+    /// Writes a column for each predicate that holds: its name.
+    pub(crate) fn write_holding(&mut self, tests: &[(bool, &str)]) {
+        for (holds, token) in tests {
             if *holds {
-                self.put_word(word);
+                self.write_keyword(token);
             }
         }
     }
 
-    /// One more column: a word, and bytes in this form.
-    pub(crate) fn put_in(&mut self, form: Form, word: &str, bytes: &[u8]) {
+    /// Writes a column: a token, and bytes in this format.
+    pub(crate) fn write_in_form(&mut self, form: Form, token: &str, bytes: &[u8]) {
         match form {
-            Form::Hex => self.put_hex(word, bytes),
-            Form::Quoted => self.put_quoted(word, bytes),
+            Form::Hex => self.write_hex(token, bytes),
+            Form::Quoted => self.write_quoted(token, bytes),
         }
     }
 
-    /// The columns of another answer.
-    pub(crate) fn put_columns(&mut self, other: &Answer) {
-        self.put_column();
+    /// Writes the columns of another answer.
+    pub(crate) fn write_columns(&mut self, other: &Answer) {
+        self.write_column();
         self.push_answer(other);
     }
 
-    /// One more column: a word, and `same` where another answer is as wanted, else that answer.
-    pub(crate) fn put_same_or(&mut self, word: &str, other: &Answer, wanted: &Answer) {
-        self.put_word(word);
+    /// Writes a column: a token, and `same` if the other answer equals `wanted`, else the other answer.
+    pub(crate) fn write_same_or(&mut self, token: &str, other: &Answer, wanted: &Answer) {
+        self.write_keyword(token);
         self.push(b" ");
-        if other.text == wanted.text {
+        if other.bytes == wanted.bytes {
             self.push(b"same");
         } else {
             self.push_answer(other);
         }
     }
 
-    /// The text of another answer, and whether memory ran out for it.
+    /// Appends another answer, and records its allocation failure.
     fn push_answer(&mut self, other: &Answer) {
         self.push(other.as_slice());
-        if !other.is_whole {
+        if !other.is_entire {
             self.fail();
         }
     }

@@ -1,26 +1,26 @@
-//! Answers about objects of any kind, as the recorded ones are written.
+//! Columns about objects of any kind, in the format of the recorded ones.
 
 use crate::recorded::answers::Answer;
-use crate::recorded::texts::outcome_word;
+use crate::recorded::fields::outcome_keyword;
 use gixobj_base::WriteTo;
 
-/// The column of what is written of an object, borrowed or owned, under this word.
-pub(crate) fn put_written<T: WriteTo>(word: &str, object: &T, answer: &mut Answer)
+/// The column of an object's encoding, borrowed or owned, with this name.
+pub(crate) fn write_written<T: WriteTo>(token: &str, object: &T, answer: &mut Answer)
     requires { T.can_write object.now }
 {
     let mut out = Vec::new(answer.alloc);
     let outcome = object.write_to(answer.alloc, &mut out);
-    answer.put(word, outcome_word(outcome));
+    answer.write_pair(token, outcome_keyword(outcome));
     answer.add_hex(out.as_slice());
 }
 
-/// The columns of an object's size and of its loose header, under these words.
-pub(crate) fn put_sizes<T: WriteTo>(object: &T, size: &str, loose: &str, answer: &mut Answer)
+/// The columns of an object's size and of its loose header, with these names.
+pub(crate) fn write_sizes<T: WriteTo>(object: &T, size: &str, loose: &str, answer: &mut Answer)
     requires { T.can_write object.now }
 {
-    answer.put_size(size, object.size());
+    answer.write_size(size, object.size());
     match object.loose_header(answer.alloc) {
-        Some(header) => answer.put_hex(loose, header.as_slice()),
-        None => answer.put(loose, "-"),
+        Some(header) => answer.write_hex(loose, header.as_slice()),
+        None => answer.write_pair(loose, "-"),
     }
 }

@@ -7,41 +7,41 @@ use std::io::{ErrorKind, Write};
 use std::rt::Files;
 use std::{fs, io};
 
-/// A file of recorded answers.
+/// A table of recorded answers.
 pub(crate) trait Recorded: Copy {
-    /// The name that is printed, and that of the file.
+    /// The name that is printed, and the path of the file.
     fn names(self) -> (&'static str, &'static str);
 
-    /// What the public calls answer, as the file would have it.
-    fn put_answer(self, question: &[u8], answer: &mut Answer);
+    /// Writes the answer of the public calls in the format of the file.
+    fn write_answer(self, question: &[u8], answer: &mut Answer);
 
-    /// The question of a row and its answer, or none where the line is no row of this table.
+    /// Splits a row into its question and its answer. `None` for a line that isn't a row.
     fn parts<'a>(self, line: &'a [u8]) -> Option<(&'a [u8], &'a [u8])>;
 }
 
-/// The question and the answer of a row that begins with its name and where its answer is from.
+/// Splits a row that begins with its name and its source into question and answer.
 pub(crate) fn named_parts(line: &[u8]) -> Option<(&[u8], &[u8])> {
-    split_at_byte(behind_source(line)?, b'\t')
+    split_at_byte(after_source(line)?, b'\t')
 }
 
-/// What stands behind the name of a row and where its answer is from.
-pub(crate) fn behind_source(line: &[u8]) -> Option<&[u8]> {
+/// The columns after the name of a row and its source.
+pub(crate) fn after_source(line: &[u8]) -> Option<&[u8]> {
     let (_name, line) = split_at_byte(line, b'\t')?;
     let (_from, line) = split_at_byte(line, b'\t')?;
     Some(line)
 }
 
-/// How many answers agree, and how many there are.
+/// The number of answers that agree, and of all answers.
 #[derive(Clone, Copy)]
 struct Count {
-    /// How many agree.
+    /// The answers that agree.
     same: u64,
-    /// How many there are.
+    /// All answers.
     all: u64,
 }
 
-/// Compares the answers of the tables, prints for each how many agree, and each answer that doesn't.
-/// Answers whether all agree.
+/// Compares the answers of all tables, and prints how many agree for each and the rows that differ. Returns
+/// whether all agree.
 pub(crate) fn replay_all<R: Files + Print + AllocGlobal, T: Recorded>(
     rt: &R,
     tables: &[T],
@@ -53,27 +53,27 @@ pub(crate) fn replay_all<R: Files + Print + AllocGlobal, T: Recorded>(
     Ok(agrees)
 }
 
-/// The same for one table.
+/// Compares the answers of one table, and prints how many agree. Returns whether all agree.
 fn replay_one<R: Files + Print + AllocGlobal, T: Recorded>(rt: &R, table: T) -> io::Result<bool> {
-    let (word, path) = table.names();
-    let text = fs::read(rt, path)?;
+    let (token, path) = table.names();
+    let content = fs::read(rt, path)?;
     let mut out = io::writer(rt);
-    let Ok(Count { same, all }) = replay(rt.alloc(), table, text.as_slice(), &mut out) else {
+    let Ok(Count { same, all }) = replay(rt.alloc(), table, content.as_slice(), &mut out) else {
         return Err(io::Error::from(ErrorKind::OutOfMemory));
     };
-    writeln!(out, "{word} {same} of {all}")?;
+    writeln!(out, "{token} {same} of {all}")?;
     Ok(same == all)
 }
 
-/// Compares the answers of a table, and shows each that differs.
+/// Compares the answers of a table, and writes each row that differs.
 fn replay<T: Recorded, W: Write>(
     alloc: Global,
     table: T,
-    text: &[u8],
+    content: &[u8],
     out: &mut W,
 ) -> Result<Count, AllocError> {
     let mut count = Count { same: 0, all: 0 };
-    for line in text.split(|byte| *byte == b'\n') {
+    for line in content.split(|byte| *byte == b'\n') {
         if line.starts_with(b"#") {
             continue;
         }
@@ -81,7 +81,7 @@ fn replay<T: Recorded, W: Write>(
             continue;
         };
         let mut answer = Answer::new(alloc);
-        table.put_answer(question, &mut answer);
+        table.write_answer(question, &mut answer);
         let answer = answer.finish()?;
         count.all = count.all.saturating_add(1);
         if answer.as_slice() == recorded {

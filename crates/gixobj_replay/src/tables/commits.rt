@@ -7,32 +7,32 @@ use crate::recorded::answers::Answer;
 use crate::recorded::tables::{Recorded, named_parts};
 use gixobj_base::parse::split_at_byte;
 
-/// A file of recorded answers about commits and their messages.
+/// A table about commits or their messages.
 #[derive(Clone, Copy)]
 pub(crate) enum CommitTable {
-    /// Commits read whole and written.
+    /// Commits, decoded and encoded.
     Commits,
     /// Sizes of commits.
     CommitSizes,
-    /// Commits read token by token.
+    /// Commits, iterated.
     CommitTokens,
-    /// Messages cut into titles and bodies, and their summaries.
+    /// Messages, split into titles and bodies, and their summaries.
     Messages,
     /// Bodies, their trailers and blocks.
     Bodies,
-    /// Texts of messages and bodies.
-    MessageTexts,
-    /// Trailers of bodies of which git tells.
+    /// Messages and bodies in escaped bytes.
+    MessageRows,
+    /// Trailers of bodies that git lists.
     GitTrailers,
-    /// Commits of which git is asked.
+    /// Commits that git shows.
     GitCommits,
-    /// Commits of which git says something else, or nothing.
+    /// Commits by rule, which git shows otherwise or not at all.
     OddCommits,
-    /// Headers of commits found by their names.
+    /// Headers of commits, searched by name.
     CommitHeaders,
-    /// Beginnings of commits, and damaged ones.
+    /// Prefixes of commits, and damaged commits.
     CommitBeginnings,
-    /// Calls on a commit's reader of tokens.
+    /// Calls on a commit's iterator.
     CommitCalls,
 }
 
@@ -44,7 +44,7 @@ impl Recorded for CommitTable {
             CommitTable::CommitTokens => ("commit tokens", "commit-tokens.tsv"),
             CommitTable::Messages => ("messages", "messages.tsv"),
             CommitTable::Bodies => ("bodies", "bodies.tsv"),
-            CommitTable::MessageTexts => ("message texts", "message-texts.tsv"),
+            CommitTable::MessageRows => ("message texts", "message-texts.tsv"),
             CommitTable::GitTrailers => ("git trailers", "git-trailers.tsv"),
             CommitTable::GitCommits => ("git commits", "git-commits.tsv"),
             CommitTable::OddCommits => ("odd commits", "odd-commits.tsv"),
@@ -54,14 +54,14 @@ impl Recorded for CommitTable {
         }
     }
 
-    fn put_answer(self, question: &[u8], answer: &mut Answer) {
+    fn write_answer(self, question: &[u8], answer: &mut Answer) {
         match self {
             CommitTable::Commits => commit_answer(question, answer),
             CommitTable::CommitSizes => size_answer(question, answer),
             CommitTable::CommitTokens => token_answer(question, answer),
             CommitTable::Messages => message_answer(question, answer),
             CommitTable::Bodies => body_answer(question, answer),
-            CommitTable::MessageTexts | CommitTable::GitTrailers => named_answer(question, answer),
+            CommitTable::MessageRows | CommitTable::GitTrailers => named_answer(question, answer),
             CommitTable::GitCommits | CommitTable::OddCommits => shape_answer(question, answer),
             CommitTable::CommitHeaders => search_answer(question, answer),
             CommitTable::CommitBeginnings => beginning_answer(question, answer),

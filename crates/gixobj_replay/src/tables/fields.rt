@@ -5,44 +5,44 @@ use crate::actors::actor_answer;
 use crate::answers::{header_answer, mode_answer, number_answer, order_answer};
 use crate::entry_modes::entry_mode_answer;
 use crate::header_fields::header_field_answer;
-use crate::header_texts::header_text_answer;
+use crate::header_rows::header_bytes_answer;
 use crate::ids::{id_answer, object_id_answer};
 use crate::kinds::kind_answer;
 use crate::recorded::answers::Answer;
-use crate::recorded::tables::{Recorded, behind_source, named_parts};
+use crate::recorded::tables::{Recorded, after_source, named_parts};
 use crate::times::time_answer;
 use gixobj_base::parse::{split_at_byte, split_at_last_byte};
 
-/// A file of recorded answers about ids, kinds, modes, names, headers, times and actors.
+/// A table about ids, kinds, modes, names, headers, times or actors.
 #[derive(Clone, Copy)]
 pub(crate) enum FieldTable {
-    /// Texts read as modes.
+    /// Modes, decoded from bytes.
     Modes,
-    /// Numbers taken as modes.
+    /// Modes, from numbers.
     ModeNumbers,
-    /// Pairs of names in order.
+    /// The order of pairs of names.
     NameOrder,
-    /// Loose headers read.
+    /// Loose headers, decoded.
     LooseHeaders,
-    /// Actors' lines read, and the actors written.
+    /// Actor lines, decoded and encoded.
     Actors,
-    /// Words of kinds.
+    /// Names of kinds.
     Kinds,
-    /// Modes of texts, numbers and kinds.
+    /// Modes from bytes, from numbers and of kinds.
     EntryModes,
-    /// Near names in order.
+    /// The order of similar names.
     NearNames,
-    /// Ids read, made and written.
+    /// Ids, decoded, built and encoded.
     Ids,
     /// Ids of objects.
     ObjectIds,
-    /// Loose headers written, and what refusals say.
-    HeaderTexts,
-    /// Times read and written.
+    /// Loose headers, encoded, and the messages of their errors.
+    HeaderRows,
+    /// Times, decoded and encoded.
     Times,
-    /// Lines of actors read, and the actors written.
+    /// Actor lines, decoded and encoded.
     ActorLines,
-    /// Header fields read.
+    /// Header fields, decoded.
     HeaderFields,
 }
 
@@ -59,14 +59,14 @@ impl Recorded for FieldTable {
             FieldTable::NearNames => ("near names", "near-names.tsv"),
             FieldTable::Ids => ("ids", "ids.tsv"),
             FieldTable::ObjectIds => ("object ids", "object-ids.tsv"),
-            FieldTable::HeaderTexts => ("header texts", "header-texts.tsv"),
+            FieldTable::HeaderRows => ("header texts", "header-texts.tsv"),
             FieldTable::Times => ("times", "times.tsv"),
             FieldTable::ActorLines => ("actor lines", "actor-lines.tsv"),
             FieldTable::HeaderFields => ("header fields", "header-fields.tsv"),
         }
     }
 
-    fn put_answer(self, question: &[u8], answer: &mut Answer) {
+    fn write_answer(self, question: &[u8], answer: &mut Answer) {
         match self {
             FieldTable::Modes => mode_answer(question, answer),
             FieldTable::ModeNumbers => number_answer(question, answer),
@@ -77,7 +77,7 @@ impl Recorded for FieldTable {
             FieldTable::EntryModes => entry_mode_answer(question, answer),
             FieldTable::Ids => id_answer(question, answer),
             FieldTable::ObjectIds => object_id_answer(question, answer),
-            FieldTable::HeaderTexts => header_text_answer(question, answer),
+            FieldTable::HeaderRows => header_bytes_answer(question, answer),
             FieldTable::Times => time_answer(question, answer),
             FieldTable::ActorLines => actor_line_answer(question, answer),
             FieldTable::HeaderFields => header_field_answer(question, answer),
@@ -87,7 +87,7 @@ impl Recorded for FieldTable {
     fn parts<'a>(self, line: &'a [u8]) -> Option<(&'a [u8], &'a [u8])> {
         match self {
             FieldTable::NameOrder => split_at_last_byte(line, b'\t'),
-            FieldTable::NearNames => split_at_last_byte(behind_source(line)?, b'\t'),
+            FieldTable::NearNames => split_at_last_byte(after_source(line)?, b'\t'),
             FieldTable::Modes
             | FieldTable::ModeNumbers
             | FieldTable::LooseHeaders

@@ -9,22 +9,22 @@ use crate::recorded::tables::{Recorded, named_parts};
 use crate::trees::{tree_answer, tree_token_answer};
 use gixobj_base::parse::split_at_byte;
 
-/// A file of recorded answers about trees and loose objects.
+/// A table about trees or loose objects.
 #[derive(Clone, Copy)]
 pub(crate) enum ObjectTable {
-    /// Trees read whole and written.
+    /// Trees, decoded and encoded.
     Trees,
-    /// Trees read entry by entry.
+    /// Trees, iterated.
     TreeTokens,
-    /// Loose objects read and written.
+    /// Loose objects, decoded and encoded.
     Objects,
-    /// Trees of listed entries, written.
+    /// Trees as lists of entries, encoded.
     ListedTrees,
-    /// Trees of listed entries, judged.
+    /// Trees as lists of entries, well formed or malformed.
     WellFormedTrees,
-    /// Trees that `git` made or reads.
+    /// Trees that `git` writes or reads.
     GitTrees,
-    /// Texts of trees that `git` doesn't write.
+    /// Encodings of trees that `git` doesn't write.
     OddTrees,
     /// Loose objects of each kind.
     GitObjects,
@@ -44,7 +44,7 @@ impl Recorded for ObjectTable {
         }
     }
 
-    fn put_answer(self, question: &[u8], answer: &mut Answer) {
+    fn write_answer(self, question: &[u8], answer: &mut Answer) {
         match self {
             ObjectTable::Trees => tree_answer(question, answer),
             ObjectTable::TreeTokens => tree_token_answer(question, answer),

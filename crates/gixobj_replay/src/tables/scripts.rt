@@ -1,21 +1,21 @@
 //! The tables of scripts of edits.
 
 use crate::recorded::answers::Answer;
-use crate::recorded::tables::{Recorded, behind_source};
+use crate::recorded::tables::{Recorded, after_source};
 use crate::scripts::{command_answer, script_answer};
 use crate::stored_scripts::stored_script_answer;
 use gixobj_base::parse::split_at_last_byte;
 
-/// A file of recorded answers about scripts of edits.
+/// A table about scripts of edits.
 #[derive(Clone, Copy)]
 pub(crate) enum ScriptTable {
     /// Commands of scripts.
     Commands,
-    /// Scripts of edits run.
+    /// Scripts of edits, run on the empty root.
     Scripts,
-    /// The same, drawn at random.
+    /// Random scripts of edits, run on the empty root.
     RandomScripts,
-    /// Scripts of edits run over a store of objects.
+    /// Scripts of edits, run over a store of objects.
     StoredScripts,
 }
 
@@ -29,7 +29,7 @@ impl Recorded for ScriptTable {
         }
     }
 
-    fn put_answer(self, question: &[u8], answer: &mut Answer) {
+    fn write_answer(self, question: &[u8], answer: &mut Answer) {
         match self {
             ScriptTable::Commands => command_answer(question, answer),
             ScriptTable::Scripts | ScriptTable::RandomScripts => script_answer(question, answer),
@@ -38,6 +38,6 @@ impl Recorded for ScriptTable {
     }
 
     fn parts<'a>(self, line: &'a [u8]) -> Option<(&'a [u8], &'a [u8])> {
-        split_at_last_byte(behind_source(line)?, b'\t')
+        split_at_last_byte(after_source(line)?, b'\t')
     }
 }

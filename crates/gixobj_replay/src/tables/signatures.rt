@@ -2,23 +2,23 @@
 
 use crate::programs::program_answer;
 use crate::recorded::answers::Answer;
-use crate::recorded::tables::{Recorded, behind_source};
+use crate::recorded::tables::{Recorded, after_source};
 use crate::reports::{gpg_report_answer, marker_answer, ssh_report_answer, trust_answer};
 use crate::signed_data::signed_data_answer;
 use gixobj_base::parse::{split_at_byte, split_at_last_byte};
 
-/// A file of recorded answers about signatures.
+/// A table about signatures.
 #[derive(Clone, Copy)]
 pub(crate) enum SignatureTable {
     /// Reports of programs of OpenPGP and of X.509.
     GpgReports,
     /// Reports of programs of SSH.
     SshReports,
-    /// Names of levels of trust.
+    /// Names of trust levels.
     TrustLevels,
-    /// The last markers of texts.
+    /// The last markers of inputs.
     Markers,
-    /// Signatures found, and what they sign.
+    /// Signatures and the data that they sign.
     SignedData,
     /// Objects that programs signed and verified.
     Programs,
@@ -36,7 +36,7 @@ impl Recorded for SignatureTable {
         }
     }
 
-    fn put_answer(self, question: &[u8], answer: &mut Answer) {
+    fn write_answer(self, question: &[u8], answer: &mut Answer) {
         match self {
             SignatureTable::GpgReports => gpg_report_answer(question, answer),
             SignatureTable::SshReports => ssh_report_answer(question, answer),
@@ -49,7 +49,7 @@ impl Recorded for SignatureTable {
 
     fn parts<'a>(self, line: &'a [u8]) -> Option<(&'a [u8], &'a [u8])> {
         match self {
-            SignatureTable::Programs => split_at_last_byte(behind_source(line)?, b'\t'),
+            SignatureTable::Programs => split_at_last_byte(after_source(line)?, b'\t'),
             _ => split_at_byte(line, b'\t'),
         }
     }

@@ -6,22 +6,22 @@ use crate::recorded::tables::{Recorded, named_parts};
 use crate::tags::{name_answer, tag_answer, tag_token_answer};
 use gixobj_base::parse::split_at_byte;
 
-/// A file of recorded answers about tags and their names.
+/// A table about tags or their names.
 #[derive(Clone, Copy)]
 pub(crate) enum TagTable {
-    /// Tags read whole and written.
+    /// Tags, decoded and encoded.
     Tags,
-    /// Tags read token by token.
+    /// Tags, iterated.
     TagTokens,
-    /// Names of tags judged.
+    /// Names of tags, validated.
     TagNames,
-    /// Names of tags that git judged.
+    /// Names of tags that git validated.
     GitTagNames,
-    /// Tags of which git tells, read, told and written.
+    /// Tags that git shows: decoded, iterated and encoded.
     GitTags,
-    /// Other texts of tags, read, told and written.
-    TagTexts,
-    /// Tags made of parts, written.
+    /// Other encodings of tags: decoded, iterated and encoded.
+    TagRows,
+    /// Tags built from parts, encoded.
     TagParts,
 }
 
@@ -33,18 +33,18 @@ impl Recorded for TagTable {
             TagTable::TagNames => ("tag names", "tag-names.tsv"),
             TagTable::GitTagNames => ("git tag names", "git-tag-names.tsv"),
             TagTable::GitTags => ("git tags", "git-tags.tsv"),
-            TagTable::TagTexts => ("tag texts", "tag-texts.tsv"),
+            TagTable::TagRows => ("tag texts", "tag-texts.tsv"),
             TagTable::TagParts => ("tag parts", "tag-parts.tsv"),
         }
     }
 
-    fn put_answer(self, question: &[u8], answer: &mut Answer) {
+    fn write_answer(self, question: &[u8], answer: &mut Answer) {
         match self {
             TagTable::Tags => tag_answer(question, answer),
             TagTable::TagTokens => tag_token_answer(question, answer),
             TagTable::TagNames => name_answer(question, answer),
             TagTable::GitTagNames => git_name_answer(question, answer),
-            TagTable::GitTags | TagTable::TagTexts => git_tag_answer(question, answer),
+            TagTable::GitTags | TagTable::TagRows => git_tag_answer(question, answer),
             TagTable::TagParts => tag_parts_answer(question, answer),
         }
     }

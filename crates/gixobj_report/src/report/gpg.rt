@@ -1,47 +1,54 @@
-//! Reports of programs of OpenPGP and of X.509 (gnupg, doc/DETAILS, "Format of the --status-fd output").
+//! Reports of OpenPGP and X.509 programs (gnupg, doc/DETAILS, "Format of the --status-fd output").
 ghost use Rattle.std.specs.Prelude.{◌≡◌, ◌≢◌, [], ◌∷◌, IfOk, None, OnErr, codes};
 ghost use Rattle.std.specs.List.{filter_map};
 ghost use Rattle.std.specs.Option.{option_map};
 ghost use Rattle.bstr.specs.Owned.{bstring_bytes};
-ghost use Rattle.gixobj_report.specs.Fields.{behind, behind_space, either, field_at, fields_of, first_word, unless_empty};
-ghost use Rattle.gixobj_report.specs.GpgReports.{fields_said, gpg_report, names_said, status_of, told_lines, trust_in, trust_said, valid_fields, verdict, with_status};
-ghost use Rattle.gixobj_report.specs.Outcomes.{copied_texts, no_texts, outcome_view};
-ghost use Rattle.gixobj_report.specs.Telling.{HasOneMore, behind_spaces, error_of, said_view, status_view, told_behind, told_status, verdict_of};
+ghost use Rattle.gixobj_report.specs.Fields.{after_prefix, after_space, either, field_at, fields_of, first_token, unless_empty};
+ghost use Rattle.gixobj_report.specs.GpgReports.{reported_fields, gpg_report, reported_names, status_of, status_lines, trust_in, reported_trust, valid_fields, verdict, with_status};
+ghost use Rattle.gixobj_report.specs.Outcomes.{copied_strings, no_strings, outcome_view};
+ghost use Rattle.gixobj_report.specs.StatusLines.{HasOneMore, after_spaces, error_of, reported_view, status_view, status_after, line_status, verdict_of};
 ghost use Rattle.gixobj_report.specs.Trust.{or_undefined, trust_of};
 
 use super::{Outcome, Status, TrustLevel};
 use bstr::{BString, ByteSlice};
 use gixobj_hash::OutOfMemory;
-use gixobj_hash::texts::split_at_byte;
+use gixobj_hash::split::split_at_byte;
 use gixobj_text::signature::Format;
 use std::alloc::Global;
 
-/// What a program of OpenPGP or of X.509 reports, by what it wrote for people and what it wrote for programs. The
-/// second is read: its lines that begin with `[GNUPG:] `.
+/// Decodes the report of an OpenPGP or X.509 program from its output.
 ///
-/// The status is that of the one line that says one, and `Unknown` without one. Of several lines it is `Error`, with
-/// no key and no signer. The trust and the fingerprints are those of the last lines that say them. Nothing is
-/// accepted by reading alone.
+/// `output` is the human-readable output. `raw_output` is the machine-readable output, whose status lines
+/// begin with `[GNUPG:] `:
 ///
-/// `OutOfMemory` where memory runs out for a copy of the key, of the signer or of a fingerprint, and so only where
-/// there is one.
-#[tactic(auto, using(crate::proofs::Taken::verdict_bare, crate::proofs::Taken::fingerprint_bare, crate::proofs::Taken::primary_bare))]
+/// - The status, the key and the signer are those of the single line that reports a status.
+/// - Without such a line the status is `Unknown`. Of several it is `Error`, with no key and no signer.
+/// - The trust and the fingerprints are those of the last lines that report them. The trust is `Undefined`
+///   otherwise.
+///
+/// The outcome isn't valid before `evaluate`. The key, the signer and the fingerprints are allocated copies;
+/// without them nothing is allocated.
+///
+/// # Errors
+///
+/// [`OutOfMemory`] if the allocation for a copy of the key, of the signer or of a fingerprint fails.
+#[tactic(auto, using(crate::proofs::Fields::verdict_bare, crate::proofs::Fields::fingerprint_bare, crate::proofs::Fields::primary_bare))]
 pub fn parse_gpg_output(
     alloc: Global,
     format: Format,
     output: BString,
     raw_output: BString,
 ) -> Result<Outcome, OutOfMemory>
-    ensures told { IfOk result (λ it. outcome_view it
+    ensures reported { IfOk result (λ it. outcome_view it
         ≡ gpg_report format (bstring_bytes output) (bstring_bytes raw_output)) }
-    ensures taken { OnErr result (copied_texts (gpg_report format (bstring_bytes output)
-        (bstring_bytes raw_output)) ≢ no_texts) }
+    ensures allocates { OnErr result (copied_strings (gpg_report format (bstring_bytes output)
+        (bstring_bytes raw_output)) ≢ no_strings) }
 {
-    let told = told_in(raw_output.as_bytes());
-    let said = said_by(alloc, told.statuses)?;
-    let trust_level = trust_level_told(told.trust);
-    let fingerprint = field_told(alloc, told.valid, 0)?;
-    let primary_key_fingerprint = field_told(alloc, told.valid, 9)?;
+    let reported = reported_in(raw_output.as_bytes());
+    let said = said_by(alloc, reported.statuses)?;
+    let trust_level = reported_trust_level(reported.trust);
+    let fingerprint = reported_field(alloc, reported.valid, 0)?;
+    let primary_key_fingerprint = reported_field(alloc, reported.valid, 9)?;
     let Said {
         status,
         key,
@@ -61,7 +68,7 @@ pub fn parse_gpg_output(
     })
 }
 
-/// What is said of a signature.
+/// The status, the key and the signer that status lines report.
 #[derive(Debug, Drop)]
 pub(crate) struct Said {
     pub(crate) status: Status,
@@ -69,72 +76,72 @@ pub(crate) struct Said {
     pub(crate) signer: Option<BString>,
 }
 
-/// The statuses that lines say, as far as they are read.
+/// The statuses that the lines so far report.
 #[derive(Clone, Copy)]
 pub(crate) enum Statuses<'a> {
-    /// No line says one.
+    /// No line reports a status.
     None,
-    /// One line says this one, with this rest behind its word.
+    /// One line reports this status, with these bytes after its keyword.
     One(Status, &'a [u8]),
-    /// More than one line says one.
+    /// More than one line reports a status.
     Several,
 }
 
-/// What lines tell to programs, as far as they are read.
+/// The values that the lines so far report.
 #[derive(Clone, Copy)]
-pub(crate) struct Told<'a> {
+pub(crate) struct Reported<'a> {
     /// The statuses.
     pub(crate) statuses: Statuses<'a>,
-    /// What the last line says of the trust, if one does.
+    /// The bytes after `TRUST_` in the last line that reports the trust.
     pub(crate) trust: Option<&'a [u8]>,
-    /// What the last line says of whose key it is, if one does.
+    /// The bytes after `VALIDSIG ` in the last line that reports the fingerprints.
     pub(crate) valid: Option<&'a [u8]>,
 }
 
-/// What all lines tell, read once.
-#[tactic(auto, using(crate::proofs::Told::statuses_so, crate::proofs::Told::trust_so, crate::proofs::Told::valid_so))]
-fn told_in<'a>(raw: &'a [u8]) -> Told<'a>
+/// Decodes all status lines in one pass.
+#[tactic(auto, using(crate::proofs::StatusesRead::statuses_so, crate::proofs::StatusesRead::trust_so, crate::proofs::StatusesRead::valid_so))]
+fn reported_in<'a>(raw: &'a [u8]) -> Reported<'a>
     ensures statuses { verdict_of result.statuses []
-        ≡ verdict (filter_map status_of (told_lines raw.now)) }
-    ensures trust { trust_said (option_map (λ it. it.now) result.trust)
-        ≡ trust_in (told_lines raw.now) }
-    ensures valid { fields_said (option_map (λ it. it.now) result.valid)
-        ≡ valid_fields (told_lines raw.now) }
+        ≡ verdict (filter_map status_of (status_lines raw.now)) }
+    ensures trust { reported_trust (option_map (λ it. it.now) result.trust)
+        ≡ trust_in (status_lines raw.now) }
+    ensures valid { reported_fields (option_map (λ it. it.now) result.valid)
+        ≡ valid_fields (status_lines raw.now) }
 {
-    let mut told = Told {
+    let mut reported = Reported {
         statuses: Statuses::None,
         trust: None,
         valid: None,
     };
     let mut lines = raw.lines();
     'lines: while let Some(line) = lines.next() {
-        told = with_line(told, line);
+        reported = with_line(reported, line);
     }
-    told
+    reported
 }
 
-/// What is told with this line behind those before.
+/// Returns the values after one more line.
 #[inline(always)]
-fn with_line<'a>(before: Told<'a>, line: &'a [u8]) -> Told<'a>
-    ensures statuses { HasOneMore before.entry.statuses (told_status line.now) result.statuses }
+fn with_line<'a>(before: Reported<'a>, line: &'a [u8]) -> Reported<'a>
+    ensures statuses { HasOneMore before.entry.statuses (line_status line.now) result.statuses }
     ensures trust { option_map (λ it. it.now) result.trust
-        ≡ either (told_behind (codes "TRUST_") line.now)
+        ≡ either (status_after (codes "TRUST_") line.now)
         (option_map (λ it. it.now) before.entry.trust) }
     ensures valid { option_map (λ it. it.now) result.valid
-        ≡ either (told_behind (codes "VALIDSIG ") line.now)
+        ≡ either (status_after (codes "VALIDSIG ") line.now)
         (option_map (λ it. it.now) before.entry.valid) }
 {
     match line.strip_prefix(b"[GNUPG:] ") {
-        Some(said) => Told {
+        Some(said) => Reported {
             statuses: with_status_if_any(before.statuses, status_of_line(said)),
-            trust: behind_here(said, b"TRUST_", before.trust),
+            trust: after_here(said, b"TRUST_", before.trust),
             valid: valid_here(said, before.valid),
         },
         None => before,
     }
 }
 
-/// The statuses with one more, if there is one.
+/// Returns the statuses with one more, if there is one.
 #[inline(always)]
 fn with_status_if_any<'a>(before: Statuses<'a>, found: Option<(Status, &'a [u8])>) -> Statuses<'a>
     ensures { HasOneMore before.entry (option_map status_view found.entry) result }
@@ -146,10 +153,10 @@ fn with_status_if_any<'a>(before: Statuses<'a>, found: Option<(Status, &'a [u8])
     }
 }
 
-/// What the statuses of all lines say together.
+/// Returns what the statuses of all lines report together.
 fn said_by(alloc: Global, statuses: Statuses<'_>) -> Result<Said, OutOfMemory>
-    ensures said { IfOk result (λ it. said_view it ≡ verdict_of statuses.entry []) }
-    ensures taken { OnErr result (names_said (verdict_of statuses.entry []) ≢ (None, None)) }
+    ensures reported_value { IfOk result (λ it. reported_view it ≡ verdict_of statuses.entry []) }
+    ensures allocates { OnErr result (reported_names (verdict_of statuses.entry []) ≢ (None, None)) }
 {
     match statuses {
         Statuses::None => Ok(nothing_but(Status::Unknown)),
@@ -158,9 +165,9 @@ fn said_by(alloc: Global, statuses: Statuses<'_>) -> Result<Said, OutOfMemory>
     }
 }
 
-/// A status without a key and a signer.
+/// Returns a status without a key and a signer.
 fn nothing_but(status: Status) -> Said
-    ensures { said_view result ≡ record { status = status; key = None; signer = None } }
+    ensures { reported_view result ≡ record { status = status; key = None; signer = None } }
 {
     Said {
         status,
@@ -169,15 +176,15 @@ fn nothing_but(status: Status) -> Said
     }
 }
 
-/// What a single line says that says this status, with this rest behind it.
-#[tactic(auto, using(crate::proofs::Taken::key_taken, crate::proofs::Taken::signer_taken))]
+/// Decodes a single reported status from the bytes after its keyword.
+#[tactic(auto, using(crate::proofs::Fields::key_taken, crate::proofs::Fields::signer_taken))]
 fn said_by_one(alloc: Global, status: Status, rest: &[u8]) -> Result<Said, OutOfMemory>
-    ensures said { IfOk result (λ it. said_view it ≡ verdict ((status, rest.now) ∷ [])) }
-    ensures taken { OnErr result (names_said (verdict ((status, rest.now) ∷ [])) ≢ (None, None)) }
+    ensures reported_value { IfOk result (λ it. reported_view it ≡ verdict ((status, rest.now) ∷ [])) }
+    ensures allocates { OnErr result (reported_names (verdict ((status, rest.now) ∷ [])) ≢ (None, None)) }
 {
-    let (word, behind) = cut_at_space(rest);
-    let key = copy_unless_empty(alloc, word)?;
-    let signer = copy_unless_empty(alloc, behind)?;
+    let (keyword, following) = split_at_space(rest);
+    let key = copy_unless_empty(alloc, keyword)?;
+    let signer = copy_unless_empty(alloc, following)?;
     Ok(Said {
         status,
         key,
@@ -185,11 +192,11 @@ fn said_by_one(alloc: Global, status: Status, rest: &[u8]) -> Result<Said, OutOf
     })
 }
 
-/// What stands before the first space and what behind it: all and nothing without one.
-#[tactic(auto, using(crate::proofs::FieldPlaces::word_split, crate::proofs::FieldPlaces::word_alone, crate::proofs::FieldPlaces::behind_split, crate::proofs::FieldPlaces::behind_alone))]
-fn cut_at_space<'a>(line: &'a [u8]) -> (&'a [u8], &'a [u8])
-    ensures word { result.0.now ≡ first_word line.now }
-    ensures rest { result.1.now ≡ behind_space line.now }
+/// Splits the line at the first space. Without one, the second part is empty.
+#[tactic(auto, using(crate::proofs::FieldPlaces::token_split, crate::proofs::FieldPlaces::token_alone, crate::proofs::FieldPlaces::after_split, crate::proofs::FieldPlaces::after_alone))]
+fn split_at_space<'a>(line: &'a [u8]) -> (&'a [u8], &'a [u8])
+    ensures token { result.0.now ≡ first_token line.now }
+    ensures rest { result.1.now ≡ after_space line.now }
 {
     match split_at_byte(line, b' ') {
         Some(parts) => parts,
@@ -197,7 +204,7 @@ fn cut_at_space<'a>(line: &'a [u8]) -> (&'a [u8], &'a [u8])
     }
 }
 
-/// The status that a line says, without the beginning of all lines. Its first byte says which words are sought.
+/// Returns the status that a line without its prefix reports. Its first byte selects the keywords to compare.
 #[inline(always)]
 #[tactic(auto, using(crate::proofs::FirstBytes::good_first, crate::proofs::FirstBytes::bad_first, crate::proofs::FirstBytes::error_first, crate::proofs::FirstBytes::revoked_first, crate::proofs::FirstBytes::other_first, crate::proofs::FirstBytes::no_first))]
 fn status_of_line<'a>(line: &'a [u8]) -> Option<(Status, &'a [u8])>
@@ -213,7 +220,7 @@ fn status_of_line<'a>(line: &'a [u8]) -> Option<(Status, &'a [u8])>
     }
 }
 
-/// The status that a line says whose word begins with `E`.
+/// Returns the status of a line whose keyword begins with `E`.
 #[inline(always)]
 fn error_or_expired<'a>(line: &'a [u8]) -> Option<(Status, &'a [u8])>
     ensures { option_map status_view result ≡ error_of line.now }
@@ -223,35 +230,35 @@ fn error_or_expired<'a>(line: &'a [u8]) -> Option<(Status, &'a [u8])>
     status_or(line, b"ERRSIG ", Status::Error, expired)
 }
 
-/// This status, where the line begins with this text, with what stands behind the text, or else the other one.
+/// Returns this status and the bytes after the keyword if the line begins with it, or `other`.
 #[inline(always)]
 fn status_or<'a>(
     line: &'a [u8],
-    text: &[u8],
+    content: &[u8],
     status: Status,
     other: Option<(Status, &'a [u8])>,
 ) -> Option<(Status, &'a [u8])>
     ensures { option_map status_view result
-        ≡ either (option_map (with_status status) (behind text.now line.now))
+        ≡ either (option_map (with_status status) (after_prefix content.now line.now))
         (option_map status_view other.entry) }
 {
-    match line.strip_prefix(text) {
+    match line.strip_prefix(content) {
         Some(rest) => Some((status, rest)),
         None => other,
     }
 }
 
-/// The trust that this text names, if there is one, by its first word.
-fn trust_level_told(told: Option<&[u8]>) -> TrustLevel
-    ensures { result ≡ trust_said (option_map (λ it. it.now) told.entry) }
+/// Returns the trust level that the first token names, or `Undefined`.
+fn reported_trust_level(reported: Option<&[u8]>) -> TrustLevel
+    ensures { result ≡ reported_trust (option_map (λ it. it.now) reported.entry) }
 {
-    match told {
-        Some(rest) => trust_level_of(first_word_of(rest)),
+    match reported {
+        Some(rest) => trust_level_of(first_token_of(rest)),
         None => TrustLevel::Undefined,
     }
 }
 
-/// The level of this name, and the least for a name that is none's.
+/// Returns the trust level of this name, or `Undefined` for an unknown name.
 fn trust_level_of(name: &[u8]) -> TrustLevel
     ensures { result ≡ or_undefined (trust_of name.now) }
 {
@@ -261,111 +268,112 @@ fn trust_level_of(name: &[u8]) -> TrustLevel
     }
 }
 
-/// The field of this number of this text, if there is one.
-fn field_told(
+/// Returns a copy of the field with this number, counted from 0, if a line reports fields.
+fn reported_field(
     alloc: Global,
-    told: Option<&[u8]>,
+    reported: Option<&[u8]>,
     number: usize,
 ) -> Result<Option<BString>, OutOfMemory>
     ensures field { IfOk result (λ it. option_map bstring_bytes it
-        ≡ field_at number (fields_said (option_map (λ it. it.now) told.entry))) }
-    ensures taken { OnErr result (field_at number
-        (fields_said (option_map (λ it. it.now) told.entry)) ≢ None) }
+        ≡ field_at number (reported_fields (option_map (λ it. it.now) reported.entry))) }
+    ensures allocates { OnErr result (field_at number
+        (reported_fields (option_map (λ it. it.now) reported.entry)) ≢ None) }
 {
-    match told {
+    match reported {
         Some(rest) => field_of(alloc, rest, number),
         None => Ok(None),
     }
 }
 
-/// The field of this number, unless it is missing or empty.
-#[tactic(auto, using(crate::proofs::FieldPlaces::field_so, crate::proofs::Taken::field_taken))]
+/// Returns a copy of the field with this number, unless it is missing or empty.
+#[tactic(auto, using(crate::proofs::FieldPlaces::field_so, crate::proofs::Fields::field_taken))]
 fn field_of(alloc: Global, line: &[u8], number: usize) -> Result<Option<BString>, OutOfMemory>
     ensures field { IfOk result (λ it. option_map bstring_bytes it
         ≡ field_at number (fields_of line.now)) }
-    ensures taken { OnErr result (field_at number (fields_of line.now) ≢ None) }
+    ensures allocates { OnErr result (field_at number (fields_of line.now) ≢ None) }
 {
-    match fields_behind(line, number) {
-        Some(rest) => copy_unless_empty(alloc, first_word_of(rest)),
+    match fields_after(line, number) {
+        Some(rest) => copy_unless_empty(alloc, first_token_of(rest)),
         None => Ok(None),
     }
 }
 
-/// The line from the field of this number on, or none where it has fewer.
+/// Returns the line from the field with this number on, or `None` if it has fewer fields.
 #[tactic(auto, using(crate::proofs::FieldPlaces::some_split, crate::proofs::FieldPlaces::none_alone, crate::proofs::FieldPlaces::spaces_more, crate::proofs::FieldPlaces::spaces_out, crate::proofs::FieldPlaces::spaces_none))]
-fn fields_behind<'a>(line: &'a [u8], number: usize) -> Option<&'a [u8]>
-    ensures { option_map (λ it. it.now) result ≡ behind_spaces number line.now }
+fn fields_after<'a>(line: &'a [u8], number: usize) -> Option<&'a [u8]>
+    ensures { option_map (λ it. it.now) result ≡ after_spaces number line.now }
 {
     if number == 0 {
         return Some(line);
     }
-    let (_, behind) = split_at_byte(line, b' ')?;
-    behind_so_many(behind, number - 1)
+    let (_, following) = split_at_byte(line, b' ')?;
+    after_nth(following, number - 1)
 }
 
-/// What stands behind so many spaces, or none where there are fewer. Fields are short, so all bytes are looked at.
+/// Returns the bytes after `number` spaces, or `None` if there are fewer. Fields are short, so each byte is
+/// tested.
 #[tactic(auto, using(crate::proofs::FieldPlaces::space_more, crate::proofs::FieldPlaces::byte_more, crate::proofs::FieldPlaces::bytes_out, crate::proofs::FieldPlaces::spaces_none))]
-fn behind_so_many<'a>(line: &'a [u8], number: usize) -> Option<&'a [u8]>
-    ensures { option_map (λ it. it.now) result ≡ behind_spaces number line.now }
+fn after_nth<'a>(line: &'a [u8], number: usize) -> Option<&'a [u8]>
+    ensures { option_map (λ it. it.now) result ≡ after_spaces number line.now }
 {
     let mut rest = line;
-    let mut left = number;
-    'bytes: while left > 0 {
-        let (byte, behind) = rest.split_first()?;
+    let mut remaining = number;
+    'bytes: while remaining > 0 {
+        let (byte, following) = rest.split_first()?;
         if *byte == b' ' {
-            left -= 1;
+            remaining -= 1;
         }
-        rest = behind;
+        rest = following;
     }
     Some(rest)
 }
 
-/// What stands before the first space, or all without one.
-#[tactic(auto, using(crate::proofs::FieldPlaces::word_split, crate::proofs::FieldPlaces::word_alone))]
-fn first_word_of<'a>(line: &'a [u8]) -> &'a [u8]
-    ensures { result.now ≡ first_word line.now }
+/// Returns the bytes before the first space, or all without one.
+#[tactic(auto, using(crate::proofs::FieldPlaces::token_split, crate::proofs::FieldPlaces::token_alone))]
+fn first_token_of<'a>(line: &'a [u8]) -> &'a [u8]
+    ensures { result.now ≡ first_token line.now }
 {
     match split_at_byte(line, b' ') {
-        Some((word, _)) => word,
+        Some((keyword, _)) => keyword,
         None => line,
     }
 }
 
-/// A copy of a text, or none of an empty one.
-fn copy_unless_empty(alloc: Global, text: &[u8]) -> Result<Option<BString>, OutOfMemory>
-    ensures copied { IfOk result (λ it. option_map bstring_bytes it ≡ unless_empty text.now) }
-    ensures taken { OnErr result (text.now ≢ []) }
+/// Returns a copy of the bytes, or `None` if they are empty.
+fn copy_unless_empty(alloc: Global, content: &[u8]) -> Result<Option<BString>, OutOfMemory>
+    ensures copied { IfOk result (λ it. option_map bstring_bytes it ≡ unless_empty content.now) }
+    ensures allocates { OnErr result (content.now ≢ []) }
 {
-    if text.is_empty() {
+    if content.is_empty() {
         return Ok(None);
     }
-    Ok(Some(BString::from_slice(alloc, text)?))
+    Ok(Some(BString::from_slice(alloc, content)?))
 }
 
-/// What stands behind a text where the bytes begin with it, or else what was found before.
+/// Returns the bytes after this prefix, or the bytes found before.
 #[inline(always)]
-fn behind_here<'a>(bytes: &'a [u8], text: &[u8], before: Option<&'a [u8]>) -> Option<&'a [u8]>
+fn after_here<'a>(bytes: &'a [u8], content: &[u8], before: Option<&'a [u8]>) -> Option<&'a [u8]>
     ensures { option_map (λ it. it.now) result
-        ≡ either (behind text.now bytes.now) (option_map (λ it. it.now) before.entry) }
+        ≡ either (after_prefix content.now bytes.now) (option_map (λ it. it.now) before.entry) }
 {
-    match bytes.strip_prefix(text) {
+    match bytes.strip_prefix(content) {
         Some(rest) => Some(rest),
         None => before,
     }
 }
 
-/// The same of whose key it is. The first byte of a line tells most others apart.
+/// Returns the bytes after `VALIDSIG `, or those found before. The first byte excludes most other lines.
 #[inline(always)]
 #[tactic(auto, using(crate::proofs::FirstBytes::not_valid, crate::proofs::FirstBytes::no_valid))]
 fn valid_here<'a>(said: &'a [u8], before: Option<&'a [u8]>) -> Option<&'a [u8]>
     ensures { option_map (λ it. it.now) result
-        ≡ either (behind (codes "VALIDSIG ") said.now) (option_map (λ it. it.now) before.entry) }
+        ≡ either (after_prefix (codes "VALIDSIG ") said.now) (option_map (λ it. it.now) before.entry) }
 {
     let Some((first, _)) = said.split_first() else {
         return before;
     };
     if *first == b'V' {
-        return behind_here(said, b"VALIDSIG ", before);
+        return after_here(said, b"VALIDSIG ", before);
     }
     before
 }

@@ -1,34 +1,36 @@
-//! Laws of the definitions. Each function does nothing: its contract is the law.
+//! Laws of runs of scripts. The contract of each function is the law.
 ghost use Rattle.std.specs.Prelude.{◌≡◌, All, List};
 ghost use Rattle.std.specs.FinMap as finite;
 ghost use Rattle.gixobj_editor.specs.declared.command.Command.{Command};
-ghost use Rattle.gixobj_script.specs.Digests.{HaveOwnIds};
-ghost use Rattle.gixobj_tree.specs.TreeText.{IsAnsweredDigest};
-ghost use Rattle.gixobj_script.specs.Edits.{memory_means};
+ghost use Rattle.gixobj_script.specs.Digests.{HaveDistinctIds};
+ghost use Rattle.gixobj_tree.specs.TreeEncoding.{IsAnsweredDigest};
+ghost use Rattle.gixobj_script.specs.Edits.{memory_model};
 ghost use Rattle.gixobj_files.specs.Files.{Table};
 ghost use Rattle.gixobj_files.specs.State.{State};
 ghost use Rattle.gixobj_hash.specs.declared.hash.kind.Kind.{Kind};
-ghost use Rattle.gixobj_editor.specs.Commands.{pairs_handed_out, pairs_kept};
+ghost use Rattle.gixobj_editor.specs.Commands.{emitted_pairs, pairs_kept};
 ghost use Rattle.gixobj_editor.specs.Replies.{IsRun};
 ghost use Rattle.gixobj_editor.specs.RunTables.{AgreesWithRun};
 ghost use Rattle.gixobj_find.specs.Memory.{memory_objects};
 ghost use Rattle.gixobj_find.specs.declared.memory.Memory.{Memory};
-ghost use Rattle.gixobj_tree.specs.Rewriting.{ReadsBack};
+ghost use Rattle.gixobj_tree.specs.Rewriting.{RoundTrips};
 
 use gixobj_editor::Reply;
-use gixobj_editor::laws::{fitting_runs_have_a_table, trees_read_as_themselves};
+use gixobj_editor::laws::{consistent_run_has_table, encodable_tree_decodes_to_itself};
 use gixobj_fields::encode;
 
-/// Some table agrees with a run over a store in memory that has nothing at first, where ids are digests, as long as no two
-/// different trees got one id, and each tree that was kept is read as it is written.
-pub fn runs_by_digests_have_a_table(replies: &[Reply<encode::Error>])
+/// A run over a store in memory that is empty at first, with digests as ids, has a table that agrees with it.
+///
+/// It requires that different emitted trees have different ids, and that the entries of each kept tree
+/// round-trip.
+pub fn digest_run_has_table(replies: &[Reply<encode::Error>])
     ensures { (hash : Kind) (before after : State Memory) (commands : List Command)
         → memory_objects before.store ≡ finite.empty
-        → IsRun memory_means (IsAnsweredDigest hash) before commands replies.now after
-        → HaveOwnIds hash (pairs_handed_out replies.now)
-        → All (λ pair. All (ReadsBack hash) pair.1) (pairs_kept replies.now) → (T : Table)
+        → IsRun memory_model (IsAnsweredDigest hash) before commands replies.now after
+        → HaveDistinctIds hash (emitted_pairs replies.now)
+        → All (λ pair. All (RoundTrips hash) pair.1) (pairs_kept replies.now) → (T : Table)
         × AgreesWithRun T (memory_objects before.store) replies.now }
 {
-    fitting_runs_have_a_table(replies);
-    trees_read_as_themselves();
+    consistent_run_has_table(replies);
+    encodable_tree_decodes_to_itself();
 }

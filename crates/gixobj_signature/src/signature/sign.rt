@@ -1,10 +1,10 @@
-//! Signing (gitformat-signature; git-config, `gpg.format`, `user.signingKey`).
+//! Signing of payloads (gitformat-signature; git-config, `gpg.format`, `user.signingKey`).
 ghost use Rattle.std.specs.Prelude.{◌≡◌, Err, IfOk, MatchOption, ⊤};
 ghost use Rattle.std.specs.Option.{option_map};
 ghost use Rattle.bstr.specs.Owned.{bstring_bytes};
 ghost use Rattle.gixobj_signature.specs.Calls.{answer_view};
-ghost use Rattle.gixobj_signature.specs.Plans.{TakesForCalls};
-ghost use Rattle.gixobj_signature.specs.Signing.{IsFailed, Signs, confirms, gpg_plan, is_return_before, left_signature, literal_key, not_run_view, options_view, sign_plan, sign_view, signer_refusal, ssh_plan, without_returns};
+ghost use Rattle.gixobj_signature.specs.Plans.{AllocatesForCalls};
+ghost use Rattle.gixobj_signature.specs.Signing.{IsFailed, Signs, confirms, gpg_plan, is_return_before, written_signature, literal_key, not_run_view, options_view, sign_plan, sign_view, signer_error, ssh_plan, without_returns};
 
 mod calls;
 
@@ -16,57 +16,57 @@ use gixobj_hash::{OutOfMemory, decode};
 use gixobj_text::signature::Format;
 use std::alloc::Global;
 
-/// Who signs, and how (git-config, `gpg.format`, `gpg.program`, `user.signingKey`).
+/// How [`sign_payload`] signs (git-config, `gpg.format`, `gpg.program`, `user.signingKey`).
 #[derive(Clone, Debug, Drop)]
 pub struct Options {
     /// The format of the signature.
     pub format: Format,
     /// The program that signs.
     pub program: BString,
-    /// Words that stand before those that are fixed.
+    /// The arguments of the program before the fixed ones.
     pub program_arguments: Vec<BString>,
-    /// The name of the key or, for SSH, the path of its file, or the key itself where [`is_literal_ssh_key`] says so.
+    /// The name of the key. For SSH: the path of its file or, by [`is_literal_ssh_key`], the key itself.
     pub signing_key: BString,
-    /// Names and values, set for the program alone.
+    /// Environment variables, as names and values, that are set for the program alone.
     pub environment: Vec<(BString, BString)>,
 }
 
-/// Why nothing is signed.
+/// The error of [`sign_payload`] and of the calls that sign an object.
 #[derive(Debug, Drop, thiserror::Error)]
 pub enum Error {
-    /// A borrowed object couldn't be copied. No call was made.
+    /// A borrowed object couldn't be copied. The runner isn't called.
     #[error("not copied: {0}")]
     Decode(decode::Error),
-    /// What is to be signed couldn't be written. No call was made.
+    /// The payload couldn't be written. The runner isn't called.
     #[error("not written: {0}")]
     Encode(encode::Error),
-    /// The key is empty. No call was made.
+    /// The signing key is empty. The runner isn't called.
     #[error("no signing key")]
     MissingSigningKey,
-    /// A file couldn't be made.
+    /// The runner couldn't create a file; the payload is its message.
     #[error("no temporary file: {0}")]
     TemporaryFile(BString),
-    /// The program couldn't be started.
+    /// The runner couldn't start the program; the payload is its message.
     #[error("not started: {0}")]
     Spawn(BString),
-    /// The program couldn't be talked to.
+    /// The runner couldn't exchange input and output, or format a time; the payload is its message.
     #[error("no communication: {0}")]
     Communicate(BString),
-    /// The program ran, and says that it failed.
+    /// The program ran, and its exit status isn't 0.
     #[error("{program:?} failed: {output:?}")]
     Failed {
         /// The program.
         program: BString,
-        /// What it wrote on its standard error.
+        /// The standard error of the program.
         output: BString,
     },
-    /// A program of OpenPGP or of X.509 succeeded, but no line of its standard error says that it signed.
+    /// An OpenPGP or X.509 program succeeded, but no line of its standard error reports a signature.
     #[error("no confirmation of a signature")]
     MissingSignatureConfirmation,
-    /// A program of SSH succeeded, but left no file with a signature.
+    /// An SSH program succeeded, but wrote no signature file.
     #[error("no file with a signature")]
     MissingSshSignature,
-    /// There was no memory. It may be found out behind the call.
+    /// An allocation failed, perhaps after the call of the program, or the runner ran out of memory.
     #[error("out of memory")]
     OutOfMemory,
 }
@@ -82,10 +82,10 @@ impl From<OutOfMemory> for Error {
     }
 }
 
-/// The key of SSH that is given by its bytes: what stands behind `key::`, or all of it where it begins with `ssh-`.
-/// None for the path of a key's file (git-config, `user.signingKey`).
+/// Returns the literal SSH key of a signing key, or `None` for a file's path (git-config, `user.signingKey`).
 ///
-/// It takes no memory.
+/// The key follows a `key::` prefix. A signing key with the prefix `ssh-` is returned entire. Allocates
+/// nothing.
 pub fn is_literal_ssh_key(key: &[u8]) -> Option<&[u8]>
     ensures { option_map (λ it. it.now) result ≡ literal_key key.now }
 {
@@ -98,14 +98,23 @@ pub fn is_literal_ssh_key(key: &[u8]) -> Option<&[u8]>
     None
 }
 
-/// Has these bytes signed, by one call of the program, and answers the signature, without each return that stands
-/// directly before a newline. All that signs an object depends on it.
+/// Signs a payload with one call of the program and returns the signature.
 ///
-/// `MissingSigningKey` where the key is empty: then no call is made, and `OutOfMemory` never comes in its place.
-/// `TemporaryFile`, `Spawn` and `Communicate` where the runner says so, `Failed` where the program does.
-/// `MissingSignatureConfirmation` where no line that a program of OpenPGP or X.509 wrote on its standard error begins
-/// with `[GNUPG:] SIG_CREATED ` (gnupg, doc/DETAILS), `MissingSshSignature` where one of SSH left no file.
-/// `OutOfMemory` where memory runs out for the call or for the signature, or where the runner wants it.
+/// The signature loses each carriage return directly before a newline. All calls that sign an object use this
+/// one. It allocates the call and the signature.
+///
+/// # Errors
+///
+/// - [`Error::MissingSigningKey`] if the signing key is empty. The runner isn't called, and `OutOfMemory`
+///   never replaces this error.
+/// - [`Error::TemporaryFile`], [`Error::Spawn`] or [`Error::Communicate`], with the runner's message, if the
+///   runner returns that case. [`RunError::CommitTime`] becomes `Communicate`.
+/// - [`Error::Failed`], with the program and its standard error, if the program doesn't succeed.
+/// - [`Error::MissingSignatureConfirmation`] if no line that an OpenPGP or X.509 program wrote to its
+///   standard error begins with `[GNUPG:] SIG_CREATED ` (gnupg, doc/DETAILS).
+/// - [`Error::MissingSshSignature`] if an SSH program wrote no signature file.
+/// - [`Error::OutOfMemory`] if an allocation fails for the call or the signature, or if the runner returns
+///   that case.
 pub fn sign_payload<R: Runner>(
     alloc: Global,
     payload: &[u8],
@@ -114,7 +123,7 @@ pub fn sign_payload<R: Runner>(
 ) -> Result<BString, Error>
     ensures signed { Signs R.runs (sign_plan (options_view options) payload.now) runner.old result
         runner.new }
-    ensures taken { TakesForCalls (sign_plan (options_view options) payload.now)
+    ensures allocates { AllocatesForCalls (sign_plan (options_view options) payload.now)
         (sign_view result) }
 {
     if options.signing_key.is_empty() {
@@ -126,7 +135,7 @@ pub fn sign_payload<R: Runner>(
     }
 }
 
-/// The same by a program of OpenPGP or of X.509, whose output the signature is.
+/// Signs with an OpenPGP or X.509 program, whose standard output is the signature.
 fn sign_gpg<R: Runner>(
     alloc: Global,
     payload: &[u8],
@@ -150,7 +159,7 @@ fn sign_gpg<R: Runner>(
     Ok(without_returns_of(alloc, &output.stdout)?)
 }
 
-/// The same by a program of SSH, which leaves the signature in a file.
+/// Signs with an SSH program, which writes the signature to a file.
 fn sign_ssh<R: Runner>(
     alloc: Global,
     payload: &[u8],
@@ -168,23 +177,23 @@ fn sign_ssh<R: Runner>(
     if !output.success {
         return Err(failed(options.program, output.stderr));
     }
-    left_signature_of(alloc, output.result)
+    written_signature_of(alloc, output.result)
 }
 
-/// The signature in the file that a program of SSH left.
-fn left_signature_of(alloc: Global, left: Option<Vec<u8>>) -> Result<BString, Error>
+/// Returns the signature in the file that an SSH program wrote.
+fn written_signature_of(alloc: Global, remaining: Option<Vec<u8>>) -> Result<BString, Error>
     ensures { MatchOption (sign_view result) ⊤
-        (λ it. it ≡ left_signature (option_map (λ v. v.items) left)) }
+        (λ it. it ≡ written_signature (option_map (λ v. v.items) remaining)) }
 {
-    match left {
+    match remaining {
         Some(bytes) => Ok(without_returns_of(alloc, &bytes)?),
         None => Err(Error::MissingSshSignature),
     }
 }
 
-/// The refusal where the program didn't run to its end.
+/// Converts the error of a program that didn't run to its end.
 fn not_run(error: RunError) -> Error
-    ensures { signer_refusal result ≡ not_run_view (answer_view (Err error)) }
+    ensures { signer_error result ≡ not_run_view (answer_view (Err error)) }
 {
     match error {
         RunError::TemporaryFile(why) => Error::TemporaryFile(why),
@@ -194,7 +203,7 @@ fn not_run(error: RunError) -> Error
     }
 }
 
-/// The refusal where the program says that it failed.
+/// Makes the error of a program that ran and failed.
 fn failed(program: BString, stderr: Vec<u8>) -> Error
     ensures { IsFailed program stderr.items result }
 {
@@ -204,7 +213,7 @@ fn failed(program: BString, stderr: Vec<u8>) -> Error
     }
 }
 
-/// Whether a line of what the program wrote says that it signed.
+/// Whether a line of this standard error reports a signature.
 fn is_confirmed(stderr: &[u8]) -> bool
     ensures { result ≡ confirms stderr.now }
 {
@@ -213,24 +222,24 @@ fn is_confirmed(stderr: &[u8]) -> bool
         .any(|line| line.starts_with(b"[GNUPG:] SIG_CREATED "))
 }
 
-/// A copy of the text without each return that stands directly before a newline.
-fn without_returns_of(alloc: Global, text: &[u8]) -> Result<BString, OutOfMemory>
-    ensures { IfOk result (λ it. bstring_bytes it ≡ without_returns text.now) }
+/// Copies bytes without each carriage return directly before a newline.
+fn without_returns_of(alloc: Global, content: &[u8]) -> Result<BString, OutOfMemory>
+    ensures { IfOk result (λ it. bstring_bytes it ≡ without_returns content.now) }
 {
     let mut kept = Vec::new(alloc);
-    let mut rest = text;
-    'bytes: while let Some((byte, behind)) = rest.split_first() {
-        if !is_dropped(*byte, behind) {
+    let mut rest = content;
+    'bytes: while let Some((byte, after)) = rest.split_first() {
+        if !is_dropped(*byte, after) {
             kept.push(*byte)?;
         }
-        rest = behind;
+        rest = after;
     }
     Ok(BString::new(kept))
 }
 
-/// Whether the byte is a return, and a newline comes next.
-fn is_dropped(byte: u8, behind: &[u8]) -> bool
-    ensures { result ≡ is_return_before byte behind.now }
+/// Whether the byte is a carriage return, and the next one a newline.
+fn is_dropped(byte: u8, after: &[u8]) -> bool
+    ensures { result ≡ is_return_before byte after.now }
 {
-    byte == b'\r' && behind.first() == Some(&b'\n')
+    byte == b'\r' && after.first() == Some(&b'\n')
 }

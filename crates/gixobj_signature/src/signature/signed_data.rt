@@ -1,4 +1,4 @@
-//! What a signature signs.
+//! The bytes of an object that a signature covers.
 ghost use Rattle.std.specs.Prelude.{◌≡◌, ◌++◌, IfOk};
 ghost use Rattle.bstr.specs.Owned.{bstring_bytes};
 ghost use Rattle.gixobj_signature.specs.SignedBytes.{signed_bytes};
@@ -7,8 +7,8 @@ use bstr::BString;
 use gixobj_hash::OutOfMemory;
 use std::alloc::Global;
 
-/// What a signature signs: the bytes of an object but for those of the signature, in two pieces, which it borrows
-/// (gitformat-signature).
+/// The bytes that a signature covers: those of the object without the signature, as two borrowed slices
+/// (gitformat-signature). [`SignedData::new`] makes one.
 #[derive(Clone, Copy, Debug, PartialEq, Eq, Hash)]
 pub struct SignedData<'a> {
     pub(crate) before: &'a [u8],
@@ -16,16 +16,18 @@ pub struct SignedData<'a> {
 }
 
 impl<'a> SignedData<'a> {
-    /// What is signed where these bytes stand before the signature, and those behind it. It takes no memory.
+    /// Makes signed data of the bytes before a signature and the bytes after it. Allocates nothing.
     pub fn new(before: &'a [u8], after: &'a [u8]) -> SignedData<'a>
         ensures { signed_bytes result ≡ before.now ++ after.now }
     {
         SignedData { before, after }
     }
 
-    /// A copy of the bytes, in one piece.
+    /// Copies the signed bytes into one string, which the call allocates.
     ///
-    /// `OutOfMemory` where memory runs out for the copy.
+    /// # Errors
+    ///
+    /// [`OutOfMemory`] if the allocation fails.
     pub fn to_bstring(&self, alloc: Global) -> Result<BString, OutOfMemory>
         ensures { IfOk result (λ it. bstring_bytes it ≡ signed_bytes self.now) }
     {

@@ -1,9 +1,9 @@
-//! Signatures, verified by programs that a runner runs.
+//! Verification of signatures by external programs.
 ghost use Rattle.std.specs.Prelude.{◌≡◌, Some};
 ghost use Rattle.gixobj_signature.specs.SignedBytes.{signed_bytes};
 ghost use Rattle.gixobj_signature.specs.Verifiers.{by_open_pgp, by_ssh, by_x509, options_view, program_of, ssh_of, ssh_program_of, verifier_view};
-ghost use Rattle.gixobj_signature.specs.Plans.{TakesForCalls};
-ghost use Rattle.gixobj_signature.specs.Verifying.{Asked, ComesOf, Verifies, verify_plan, verify_view};
+ghost use Rattle.gixobj_signature.specs.Plans.{AllocatesForCalls};
+ghost use Rattle.gixobj_signature.specs.Verifying.{WasCalled, IsOutcomeOf, Verifies, verify_plan, verify_view};
 ghost use Rattle.gixobj_signature.specs.Calls.{call_view};
 
 mod gpg;
@@ -19,58 +19,58 @@ use gpg::{verify_open_pgp, verify_x509};
 use ssh::verify_if_ssh;
 use std::alloc::Global;
 
-/// Who verifies, and how.
+/// The program, its arguments and the minimum trust with which [`SignedData::verify`] verifies a signature.
 #[derive(Clone, Debug, Drop)]
 pub enum Options {
-    /// A program of OpenPGP.
+    /// An OpenPGP program.
     OpenPgp {
-        /// The program.
+        /// The program that verifies.
         program: BString,
-        /// Words that stand before those that are fixed.
+        /// The arguments of the program before the fixed ones.
         program_arguments: Vec<BString>,
-        /// Names and values, set for the program alone.
+        /// Environment variables, as names and values, that are set for the program alone.
         environment: Vec<(BString, BString)>,
-        /// The least trust in the key with which a signature is accepted.
+        /// The minimum trust in the key with which a signature is valid.
         minimum_trust: TrustLevel,
     },
-    /// A program of X.509.
+    /// An X.509 program.
     X509 {
-        /// The program.
+        /// The program that verifies.
         program: BString,
-        /// Words that stand before those that are fixed.
+        /// The arguments of the program before the fixed ones.
         program_arguments: Vec<BString>,
-        /// Names and values, set for the program alone.
+        /// Environment variables, as names and values, that are set for the program alone.
         environment: Vec<(BString, BString)>,
-        /// The least trust in the key with which a signature is accepted.
+        /// The minimum trust in the key with which a signature is valid.
         minimum_trust: TrustLevel,
     },
-    /// A program of SSH.
+    /// An SSH program.
     Ssh {
-        /// The program.
+        /// The program that verifies.
         program: BString,
-        /// Words that stand before those that are fixed.
+        /// The arguments of the program before the fixed ones.
         program_arguments: Vec<BString>,
-        /// Names and values, set for the program alone, before `LANG` and `LC_ALL`, which are set to `C`: its answers
-        /// are read in English.
+        /// Environment variables, as names and values, that are set for the program alone. `LANG` and
+        /// `LC_ALL` follow them, both `C`, since the output is parsed in English.
         environment: Vec<(BString, BString)>,
-        /// The path of the file of those that may sign (ssh-keygen(1), "ALLOWED SIGNERS").
+        /// The path of the file of allowed signers (ssh-keygen(1), "ALLOWED SIGNERS").
         allowed_signers: BString,
-        /// The path of the file of revoked keys, or none.
+        /// The path of the file of revoked keys, or `None`.
         revocation_file: Option<BString>,
-        /// The time for which the keys have to be good: of a commit that of its committer.
+        /// The time at which the keys have to be valid: for a commit, the time of its committer.
         verify_time: Time,
-        /// The least trust in the key with which a signature is accepted.
+        /// The minimum trust in the key with which a signature is valid.
         minimum_trust: TrustLevel,
     },
 }
 
-/// Why nothing is verified.
+/// The error of [`SignedData::verify`].
 #[derive(Debug, Drop, thiserror::Error)]
 pub enum Error {
-    /// The signature begins with no marker. No call was made.
+    /// The signature begins with no known marker. The runner isn't called.
     #[error("a signature of no known format")]
     UnsupportedFormat,
-    /// The signature is of another format than the program. No call was made.
+    /// The signature has another format than the program. The runner isn't called.
     #[error("a program of {program_format:?} for a signature of {signature_format:?}")]
     FormatMismatch {
         /// The format of the program.
@@ -78,19 +78,19 @@ pub enum Error {
         /// The format of the signature.
         signature_format: Format,
     },
-    /// A file couldn't be made.
+    /// The runner couldn't create a file; the payload is its message.
     #[error("no temporary file: {0}")]
     TemporaryFile(BString),
-    /// The program couldn't be started.
+    /// The runner couldn't start the program; the payload is its message.
     #[error("not started: {0}")]
     Spawn(BString),
-    /// The program couldn't be talked to.
+    /// The runner couldn't exchange input and output; the payload is its message.
     #[error("no communication: {0}")]
     Communicate(BString),
-    /// The time has no text.
+    /// The runner couldn't format the time of [`Options::Ssh`]; the payload is its message.
     #[error("no text of the time: {0}")]
     CommitTime(BString),
-    /// There was no memory. It may be found out behind a call.
+    /// An allocation failed, perhaps after a call of the program, or the runner ran out of memory.
     #[error("out of memory")]
     OutOfMemory,
 }
@@ -108,9 +108,9 @@ impl From<OutOfMemory> for Error {
 
 impl From<RunError> for Error {
     ghost use Rattle.std.specs.Prelude.{◌≡◌};
-    ghost use Rattle.gixobj_signature.specs.Verifying.{refused_run};
+    ghost use Rattle.gixobj_signature.specs.Verifying.{failed_run};
 
-    ghost from_gives = { λ cause error. error ≡ refused_run cause };
+    ghost from_gives = { λ cause error. error ≡ failed_run cause };
 
     fn from(error: RunError) -> Error {
         match error {
@@ -123,7 +123,7 @@ impl From<RunError> for Error {
     }
 }
 
-/// A program of OpenPGP or of X.509, taken out of the options.
+/// An OpenPGP or X.509 program with its options.
 #[derive(Debug, Drop)]
 pub(crate) struct Program {
     pub(crate) program: BString,
@@ -132,7 +132,7 @@ pub(crate) struct Program {
     pub(crate) minimum_trust: TrustLevel,
 }
 
-/// A program of SSH, taken out of the options.
+/// An SSH program with its options.
 #[derive(Debug, Drop)]
 pub(crate) struct SshProgram {
     pub(crate) program: BString,
@@ -144,29 +144,45 @@ pub(crate) struct SshProgram {
     pub(crate) minimum_trust: TrustLevel,
 }
 
-/// Who verifies: the options, with their parts taken out.
+/// The options, with the fields of each program in a struct.
 #[derive(Debug, Drop)]
 pub(crate) enum Verifier {
-    /// A program of OpenPGP.
     OpenPgp(Program),
-    /// A program of X.509.
     X509(Program),
-    /// A program of SSH.
     Ssh(SshProgram),
 }
 
 impl SignedData<'_> {
-    /// Has a signature of these bytes verified by the program of the options, and tells what comes of it.
+    /// Verifies a signature of these bytes with the program of the options and returns the outcome.
     ///
-    /// `UnsupportedFormat` where the signature begins with no marker, and `FormatMismatch` where its marker is not of
-    /// the program's format: then no call is made, and `OutOfMemory` never comes in their place. `TemporaryFile`,
-    /// `Spawn`, `Communicate` and `CommitTime` where the runner says so. `OutOfMemory` where memory runs out for a
-    /// call or for what it answered, or where the runner wants it. A signature that isn't accepted is no error:
-    /// [`Outcome::is_valid`] tells.
+    /// An invalid signature is no error: [`Outcome::is_valid`] reports it. An OpenPGP or X.509 program
+    /// verifies with one call. An SSH program lists the principals of the key, and then verifies for each
+    /// until one is accepted. If none is listed, it checks the signature for any key, and the outcome isn't
+    /// valid (ssh-keygen(1), `-Y find-principals`, `-Y verify`, `-Y check-novalidate`). Allocates the calls
+    /// and the outcome.
     ///
-    /// A program of SSH is asked for the principals of the key, and then for each of them in turn until one is
-    /// accepted. Where none is named it is asked whether the signature holds for any key, and then the outcome isn't
-    /// valid (ssh-keygen(1), `-Y find-principals`, `-Y verify`, `-Y check-novalidate`).
+    /// # Errors
+    ///
+    /// - [`Error::UnsupportedFormat`] if the signature begins with no known marker.
+    /// - [`Error::FormatMismatch`], with both formats, if the marker isn't of the program's format. In these
+    ///   two cases the runner isn't called, and `OutOfMemory` never replaces the error.
+    /// - [`Error::TemporaryFile`], [`Error::Spawn`], [`Error::Communicate`] or [`Error::CommitTime`], with
+    ///   the runner's message, if the runner returns that case.
+    /// - [`Error::OutOfMemory`] if an allocation fails for a call or its output, or if the runner returns
+    ///   that case.
+    ///
+    /// # Examples
+    ///
+    /// ```rust
+    /// match CommitRefIter::signature(alloc, bytes, HashKind::Sha1) {
+    ///     Ok(Some((signature, signed))) => {
+    ///         let signature = BStr::new(signature.as_slice());
+    ///         Ok(Some(signed.verify(alloc, signature, options, runner)?))
+    ///     }
+    ///     Ok(None) | Err(decode::Error::Malformed) => Ok(None),
+    ///     Err(decode::Error::OutOfMemory) => Err(Error::OutOfMemory),
+    /// }
+    /// ```
     pub fn verify<R: Runner>(
         &self,
         alloc: Global,
@@ -183,7 +199,7 @@ impl SignedData<'_> {
     }
 }
 
-/// The same, of a signature of this format.
+/// Verifies a signature of this format.
 fn verify_as<R: Runner>(
     alloc: Global,
     format: Format,
@@ -192,9 +208,9 @@ fn verify_as<R: Runner>(
     options: Options,
     runner: &mut R,
 ) -> Result<Outcome, Error>
-    ensures came { ComesOf R.runs (verify_plan (options_view options) signature.now
+    ensures outcome { IsOutcomeOf R.runs (verify_plan (options_view options) signature.now
         (signed_bytes signed.now) (Some format)) runner.old result runner.new }
-    ensures taken { TakesForCalls (verify_plan (options_view options) signature.now
+    ensures allocates { AllocatesForCalls (verify_plan (options_view options) signature.now
         (signed_bytes signed.now) (Some format)) (verify_view result) }
 {
     match verifier_of(options) {
@@ -204,7 +220,7 @@ fn verify_as<R: Runner>(
     }
 }
 
-/// The program of the options, with all that it is told.
+/// Converts the options to a verifier.
 fn verifier_of(options: Options) -> Verifier
     ensures { verifier_view result ≡ options_view options }
 {
@@ -247,7 +263,7 @@ fn verifier_of(options: Options) -> Verifier
     }
 }
 
-/// A program of these parts.
+/// Makes a program with these options.
 fn program_with(
     program: BString,
     program_arguments: Vec<BString>,
@@ -269,9 +285,9 @@ fn program_with(
     }
 }
 
-/// Makes a call, and hands on what it answered.
+/// Makes a call and returns its output.
 pub(crate) fn ask_one<R: Runner>(call: &Call, runner: &mut R) -> Result<Output, Error>
-    ensures { Asked R.runs (call_view call.now) runner.old result runner.new }
+    ensures { WasCalled R.runs (call_view call.now) runner.old result runner.new }
 {
     Ok(runner.run(call)?)
 }

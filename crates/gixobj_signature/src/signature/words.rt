@@ -1,7 +1,7 @@
-//! The words of calls and what is set for them, copied.
+//! Arguments and environment variables of calls, as owned copies.
 ghost use Rattle.std.specs.Prelude.{◌≡◌, ◌≢◌, ◌++◌, [], ℕ, IfOk, List, OnErr, OnOk, map};
 ghost use Rattle.bstr.specs.Owned.{bstring_bytes};
-ghost use Rattle.gixobj_signature.specs.Calls.{pair_view, text, word_view};
+ghost use Rattle.gixobj_signature.specs.Calls.{pair_view, plain, word_view};
 ghost use Rattle.gixobj_signature.specs.Pieces.{git_words, piece_view};
 
 use crate::signature::Word;
@@ -11,38 +11,43 @@ use gixobj_actor::date::Time;
 use gixobj_hash::OutOfMemory;
 use std::alloc::Global;
 
-/// A word that is fixed, or that is copied from what is given.
+/// A fixed or borrowed argument, which becomes the [`Word`] of the same name.
 #[derive(Clone, Copy)]
 pub(crate) enum Piece<'a> {
-    /// As [`Word::Text`].
     Text(&'a [u8]),
-    /// As [`Word::File`].
     File(usize),
-    /// As [`Word::VerifyTime`].
     VerifyTime(Time),
 }
 
-/// The word of these bytes. `OutOfMemory` where a copy of them finds no memory.
-pub fn text(alloc: Global, bytes: &[u8]) -> Result<Word, OutOfMemory>
-    ensures { IfOk result (λ it. word_view it ≡ text bytes.now) }
+/// Makes an argument of a copy of these bytes.
+///
+/// # Errors
+///
+/// [`OutOfMemory`] if the copy can't be allocated.
+pub fn plain(alloc: Global, bytes: &[u8]) -> Result<Word, OutOfMemory>
+    ensures { IfOk result (λ it. word_view it ≡ plain bytes.now) }
 {
     Ok(Word::Text(BString::from_slice(alloc, bytes)?))
 }
 
-/// A word for each of these texts. `OutOfMemory` where they find no memory, only where there is a text.
-pub fn words_of(alloc: Global, texts: &[BString]) -> Result<Vec<Word>, OutOfMemory>
-    ensures words { IfOk result (λ it. map word_view it.items
-        ≡ map text (map bstring_bytes texts.now)) }
-    ensures taken { OnErr result (texts.now ≢ []) }
+/// Makes an argument of a copy of each of these strings, in order.
+///
+/// # Errors
+///
+/// [`OutOfMemory`] if an allocation fails, and only if there is a string.
+pub fn words_of(alloc: Global, encodings: &[BString]) -> Result<Vec<Word>, OutOfMemory>
+    ensures arguments { IfOk result (λ it. map word_view it.items
+        ≡ map plain (map bstring_bytes encodings.now)) }
+    ensures allocates { OnErr result (encodings.now ≢ []) }
 {
     let mut words = Vec::new(alloc);
-    for one in texts {
-        words.push(text(alloc, one.as_bytes())?)?;
+    for one in encodings {
+        words.push(plain(alloc, one.as_bytes())?)?;
     }
     Ok(words)
 }
 
-/// The first words of a call of `ssh-keygen` for this command over git's signatures, behind these arguments.
+/// Makes the first arguments of an `ssh-keygen` command on signatures of git, after these arguments.
 pub(crate) fn git_words_of(
     alloc: Global,
     arguments: &[BString],
@@ -55,21 +60,21 @@ pub(crate) fn git_words_of(
     words_with(alloc, arguments, &pieces)
 }
 
-/// A word for each of these texts, and behind these a word for each piece.
+/// Makes an argument of each of these strings, and then of each piece.
 pub(crate) fn words_with(
     alloc: Global,
-    texts: &[BString],
+    encodings: &[BString],
     pieces: &[Piece<'_>],
 ) -> Result<Vec<Word>, OutOfMemory>
     ensures { IfOk result (λ it. map word_view it.items
-        ≡ map text (map bstring_bytes texts.now) ++ map piece_view pieces.now) }
+        ≡ map plain (map bstring_bytes encodings.now) ++ map piece_view pieces.now) }
 {
-    let mut words = words_of(alloc, texts)?;
+    let mut words = words_of(alloc, encodings)?;
     push_words(alloc, &mut words, pieces)?;
     Ok(words)
 }
 
-/// Puts a word for each piece behind the words.
+/// Appends an argument for each piece.
 pub(crate) fn push_words(
     alloc: Global,
     words: &mut Vec<Word>,
@@ -79,29 +84,33 @@ pub(crate) fn push_words(
         ≡ map word_view words.old.items ++ map piece_view pieces.now) }
 {
     for piece in pieces {
-        words.push(word_of(alloc, piece)?)?;
+        words.push(keyword_of(alloc, piece)?)?;
     }
     Ok(())
 }
 
-/// The word of a piece.
-fn word_of(alloc: Global, piece: &Piece<'_>) -> Result<Word, OutOfMemory>
+/// Makes an argument of a piece.
+fn keyword_of(alloc: Global, piece: &Piece<'_>) -> Result<Word, OutOfMemory>
     ensures { IfOk result (λ it. word_view it ≡ piece_view piece.now) }
 {
     match piece {
-        Text(bytes) => text(alloc, bytes),
+        Text(bytes) => plain(alloc, bytes),
         File(number) => Ok(Word::File(*number)),
         VerifyTime(time) => Ok(Word::VerifyTime(*time)),
     }
 }
 
-/// Copies of these names and values. `OutOfMemory` where they find no memory, only where there is a name.
+/// Copies environment variables, as names and values.
+///
+/// # Errors
+///
+/// [`OutOfMemory`] if an allocation fails, and only if there is a variable.
 pub fn environment_of(
     alloc: Global,
     environment: &[(BString, BString)],
 ) -> Result<Vec<(BString, BString)>, OutOfMemory>
     ensures copied { IfOk result (λ it. map pair_view it.items ≡ map pair_view environment.now) }
-    ensures taken { OnErr result (environment.now ≢ []) }
+    ensures allocates { OnErr result (environment.now ≢ []) }
 {
     let mut copies = Vec::new(alloc);
     for one in environment {
@@ -110,7 +119,7 @@ pub fn environment_of(
     Ok(copies)
 }
 
-/// A name and its value, copied.
+/// Copies the name and the value of an environment variable.
 pub(crate) fn pair_of(
     alloc: Global,
     name: &[u8],

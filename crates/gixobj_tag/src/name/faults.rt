@@ -1,4 +1,4 @@
-//! The faults of a name (git-check-ref-format, "DESCRIPTION"). No test takes memory.
+//! The faults of a name (git-check-ref-format, "DESCRIPTION"). No test allocates.
 ghost use Rattle.std.specs.Prelude.{◌≡◌, ◌↔◌, IsTrue, MatchOption};
 ghost use Rattle.gixobj_fields.specs.declared.encode.RefNameFault.TheVariants as fault;
 ghost use Rattle.gixobj_tag.specs.NameRule.{HasFault, HasNoFault, IsFirstFault, IsForbidden};
@@ -6,10 +6,10 @@ ghost use Rattle.gixobj_tag.specs.PlainNames.{IsDotted, IsPlainName, is_plain_by
 
 use bstr::ByteSlice;
 use gixobj_fields::encode::RefNameFault;
-use gixobj_hash::texts::has_byte;
+use gixobj_hash::split::has_byte;
 
-/// The first fault of a name, in the order of [`RefNameFault`]. In a plain name, as most are, none is
-/// looked for.
+/// Returns the first fault of a name, in the order of [`RefNameFault`]. Most names are plain, and need no
+/// search.
 #[tactic(auto, using(crate::proofs::PlainNames::plain_no_fault))]
 pub(super) fn first_fault(name: &[u8]) -> Option<RefNameFault>
     ensures { MatchOption result (HasNoFault name.now) (IsFirstFault name.now) }
@@ -21,8 +21,8 @@ pub(super) fn first_fault(name: &[u8]) -> Option<RefNameFault>
     }
 }
 
-/// The first fault that one of nine tests finds. It stands apart, so that a plain name does not pay for
-/// what these searches set up.
+/// Returns the first fault that one of nine tests finds. It isn't inlined, so that a plain name doesn't pay
+/// for the setup of these searches.
 #[inline(never)]
 fn first_found(name: &[u8]) -> Option<RefNameFault>
     ensures { MatchOption result (HasNoFault name.now) (IsFirstFault name.now) }
@@ -57,7 +57,7 @@ fn first_found(name: &[u8]) -> Option<RefNameFault>
     None
 }
 
-/// Whether the name is words apart by single dots, and does not end as a lock file.
+/// Whether the name consists of runs of plain bytes, separated by single dots, and doesn't end with `.lock`.
 #[inline(always)]
 fn is_plain(name: &[u8]) -> bool
     ensures { IsTrue result ↔ IsPlainName name.now }
@@ -65,7 +65,7 @@ fn is_plain(name: &[u8]) -> bool
     is_dotted(name) && !name.ends_with(b".lock")
 }
 
-/// Whether the name is words of plain bytes, apart by single dots.
+/// Whether the name consists of runs of plain bytes, separated by single dots.
 #[inline(always)]
 fn is_dotted(name: &[u8]) -> bool
     ensures { IsTrue result ↔ IsDotted name.now }
@@ -96,7 +96,7 @@ fn is_plain_byte(byte: u8) -> bool
     byte.is_ascii_alphanumeric() || byte == b'-' || byte == b'_' || byte == b'.'
 }
 
-/// Whether a part begins with `.`: the first one, or one behind a slash.
+/// Whether a part begins with `.`: the first one, or one after a slash.
 #[tactic(auto, using(crate::proofs::Names::dot_first))]
 fn has_dot_start(name: &[u8]) -> bool
     ensures { IsTrue result ↔ HasFault fault.DotStart name.now }
@@ -119,28 +119,28 @@ fn has_double_dot(name: &[u8]) -> bool
     name.contains_str(b"..")
 }
 
-/// Whether `@{` stands in the name.
+/// Whether `@{` occurs in the name.
 fn has_at_brace(name: &[u8]) -> bool
     ensures { IsTrue result ↔ HasFault fault.AtBrace name.now }
 {
     name.contains_str(b"@{")
 }
 
-/// Whether there is a backslash.
+/// Whether a backslash occurs in the name.
 fn has_backslash(name: &[u8]) -> bool
     ensures { IsTrue result ↔ HasFault fault.Backslash name.now }
 {
     has_byte(name, b'\\')
 }
 
-/// Whether there is a byte that no name may have.
+/// Whether a forbidden byte occurs in the name.
 fn has_invalid_byte(name: &[u8]) -> bool
     ensures { IsTrue result ↔ HasFault fault.InvalidByte name.now }
 {
     name.iter().any(|byte| is_forbidden(*byte))
 }
 
-/// Whether no name may have this byte.
+/// Whether the byte is forbidden in names: a control character, a space, or one of `~^:?*[`.
 fn is_forbidden(byte: u8) -> bool
     ensures { IsTrue result ↔ IsForbidden byte }
 {

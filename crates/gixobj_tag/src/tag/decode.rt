@@ -1,11 +1,11 @@
-//! Tags, read whole, and their parts, on which readers of tags stand (gitdatamodel, "tag objects").
+//! Decoding of tags, and of their lines and body for other decoders (gitdatamodel, "tag objects").
 ghost use Rattle.std.specs.Prelude.{◌≡◌, ◌∷◌, IfErr, IfNone, IfOk, IfSome, IsFalse, MatchOption};
 ghost use Rattle.bstr.specs.BStr.{bstr_bytes};
-ghost use Rattle.gixobj_hash.specs.Hash.{IsHexOfAnId};
+ghost use Rattle.gixobj_hash.specs.Hash.{IsIdHex};
 ghost use Rattle.gixobj_hash.specs.declared.decode.Error.TheVariants.{Malformed};
 ghost use Rattle.gixobj_tag.specs.LineReading.{HasName, HasNoName, HasNoTagger, HasTagger};
 ghost use Rattle.gixobj_tag.specs.LineViews.{IsParsedTagger, line_if_some};
-ghost use Rattle.gixobj_tag.specs.TagText.{HasNoBody, IsBody, IsNoTagText, IsParted, IsTagText, are_newlines as are_newlines_of};
+ghost use Rattle.gixobj_tag.specs.TagFormat.{HasNoBody, IsBody, IsMalformedTag, IsParted, DecodesToTag, are_newlines as are_newlines_of};
 ghost use Rattle.gixobj_tag.specs.TagViews.{tag_lines};
 ghost use Rattle.gixobj_hash.specs.Bytes.{newline};
 ghost use Rattle.gixobj_hash.specs.Optional.{bytes_if_some};
@@ -20,14 +20,26 @@ use gixobj_hash::hash::Kind;
 use gixobj_text::signature;
 
 impl<'a> TagRef<'a> {
-    /// The tag that the bytes are, whose target has an id of this kind.
+    /// Decodes a tag whose target has an id of this kind. Allocates nothing.
     ///
-    /// `Malformed` where they are no tag's text. A line of a tagger may have bytes behind its actor, and
-    /// then [`TagRef::tagger`] refuses it. It takes no memory.
+    /// The tagger line may have bytes after its actor, which [`TagRef::tagger`] rejects.
+    ///
+    /// # Errors
+    ///
+    /// [`Error::Malformed`] if the bytes are not the encoding of a tag.
+    ///
+    /// # Examples
+    ///
+    /// ```rust
+    /// pub fn named(bytes: &[u8]) -> Result<(BStr<'_>, Kind, ObjectId), decode::Error> {
+    ///     let tag = TagRef::from_bytes(bytes, HashKind::Sha1)?;
+    ///     Ok((tag.name, tag.target_kind, tag.target()))
+    /// }
+    /// ```
     pub fn from_bytes(bytes: &'a [u8], hash_kind: Kind) -> Result<TagRef<'a>, Error>
-        ensures found { IfOk result (λ tag. IsTagText hash_kind bytes.now (tag_lines tag)) }
-        ensures has_id { IfOk result (λ tag. IsHexOfAnId (tag_lines tag).target) }
-        ensures refusal { IfErr result (λ e. (e ≡ Malformed) × IsNoTagText hash_kind bytes.now) }
+        ensures found { IfOk result (λ tag. DecodesToTag hash_kind bytes.now (tag_lines tag)) }
+        ensures has_id { IfOk result (λ tag. IsIdHex (tag_lines tag).target) }
+        ensures error { IfErr result (λ e. (e ≡ Malformed) × IsMalformedTag hash_kind bytes.now) }
     {
         match read_tag(bytes, hash_kind) {
             Some(tag) => Ok(tag),
@@ -36,11 +48,11 @@ impl<'a> TagRef<'a> {
     }
 }
 
-/// The tag that the bytes are, or none.
+/// Decodes a tag, or returns `None` for malformed bytes.
 fn read_tag(bytes: &[u8], hash_kind: Kind) -> Option<TagRef<'_>>
-    ensures found { IfSome result (λ tag. IsTagText hash_kind bytes.now (tag_lines tag)) }
-    ensures has_id { IfSome result (λ tag. IsHexOfAnId (tag_lines tag).target) }
-    ensures none { IfNone result (IsNoTagText hash_kind bytes.now) }
+    ensures found { IfSome result (λ tag. DecodesToTag hash_kind bytes.now (tag_lines tag)) }
+    ensures has_id { IfSome result (λ tag. IsIdHex (tag_lines tag).target) }
+    ensures none { IfNone result (IsMalformedTag hash_kind bytes.now) }
 {
     let (target, rest) = header_id(bytes, b"object", hash_kind)?;
     let (target_kind, rest) = header_kind(rest, b"type")?;
@@ -57,9 +69,9 @@ fn read_tag(bytes: &[u8], hash_kind: Kind) -> Option<TagRef<'_>>
     })
 }
 
-/// The name of the tag, from its line at the front, and what follows that.
+/// Decodes the name line at the beginning of the input, and returns the name and the rest.
 ///
-/// None where no such line comes, or its name is empty. It takes no memory.
+/// Returns `None` if there is no such line, or if the name is empty. Allocates nothing.
 #[tactic(auto, using(crate::proofs::Lines::no_empty_name, crate::proofs::Lines::no_name_line))]
 pub fn name(input: &[u8]) -> Option<(BStr<'_>, &[u8])>
     ensures found { IfSome result (λ it. HasName input.now (bstr_bytes it.0) it.1.now) }
@@ -74,13 +86,13 @@ pub fn name(input: &[u8]) -> Option<(BStr<'_>, &[u8])>
     Some((BStr::new(name), rest))
 }
 
-/// The line of a tagger, and the actor at its front, not trimmed.
+/// The value of a tagger line, and the untrimmed actor with which it begins.
 pub type TaggerLine<'a> = (BStr<'a>, SignatureRef<'a>);
 
-/// The line of the tagger at the front, or none where its name and a space don't stand there, and what
-/// follows.
+/// Decodes the tagger line at the beginning of the input, and returns it and the rest.
 ///
-/// No answer where they stand there and no line with an actor follows. It takes no memory.
+/// The line is `None` if the input doesn't begin with `tagger` and a space. The result is `None` if it does,
+/// but no line with an actor follows. Allocates nothing.
 #[tactic(auto, using(crate::proofs::Lines::no_tagger_line))]
 pub fn tagger(input: &[u8]) -> Option<(Option<TaggerLine<'_>>, &[u8])>
     ensures found { IfSome result (λ it. HasTagger input.now (line_if_some it.0) it.1.now) }
@@ -99,7 +111,7 @@ pub fn tagger(input: &[u8]) -> Option<(Option<TaggerLine<'_>>, &[u8])>
     Some((Some((BStr::new(line), actor)), rest))
 }
 
-/// The line, where there is one.
+/// Returns the value of the tagger line, if there is one.
 fn line_of(tagger: Option<TaggerLine<'_>>) -> Option<BStr<'_>>
     ensures { bytes_if_some result ≡ line_if_some tagger.entry }
 {
@@ -109,11 +121,11 @@ fn line_of(tagger: Option<TaggerLine<'_>>) -> Option<BStr<'_>>
     }
 }
 
-/// The message and the signature of a body.
+/// Decodes a body to its message and its signature.
 ///
-/// A body of newlines alone, or of nothing, is itself the message. Any other begins with a newline, which
-/// is dropped; none where it doesn't. It takes no memory.
-#[tactic(auto, using(crate::proofs::Bodies::is_newlines, crate::proofs::Bodies::is_behind_newline, crate::proofs::Bodies::no_body))]
+/// A body of newlines alone, or an empty one, is itself the message. Any other begins with a newline, which
+/// isn't part of the message. Returns `None` without that newline. Allocates nothing.
+#[tactic(auto, using(crate::proofs::Bodies::is_newlines, crate::proofs::Bodies::is_after_newline, crate::proofs::Bodies::no_body))]
 pub fn body(input: &[u8]) -> Option<(BStr<'_>, Option<BStr<'_>>)>
     ensures found { IfSome result (λ it. IsBody input.now (bstr_bytes it.0) (bytes_if_some it.1)) }
     ensures none { IfNone result (HasNoBody input.now) }
@@ -121,34 +133,34 @@ pub fn body(input: &[u8]) -> Option<(BStr<'_>, Option<BStr<'_>>)>
     if are_newlines(input) {
         return Some((BStr::new(input), None));
     }
-    let Some(text) = after_newline(input) else {
+    let Some(content) = after_newline(input) else {
         return None;
     };
-    let (message, signature) = parted(text);
+    let (message, signature) = parted(content);
     Some((message, signature))
 }
 
-/// The message and the signature of a text: the last marker at the start of a line begins the signature,
-/// and the newline before it belongs to neither.
+/// Splits bytes at the last marker at the start of a line, which begins the signature. The newline before it
+/// is in neither the message nor the signature.
 #[tactic(auto, using(crate::proofs::Bodies::is_unsigned, crate::proofs::Bodies::is_signed_at_once, crate::proofs::Bodies::is_signed))]
-fn parted(text: &[u8]) -> (BStr<'_>, Option<BStr<'_>>)
-    ensures { IsParted text.now (bstr_bytes result.0) (bytes_if_some result.1) }
+fn parted(content: &[u8]) -> (BStr<'_>, Option<BStr<'_>>)
+    ensures { IsParted content.now (bstr_bytes result.0) (bytes_if_some result.1) }
 {
-    let Some((start, _)) = signature::find(text) else {
-        return (BStr::new(text), None);
+    let Some((start, _)) = signature::find(content) else {
+        return (BStr::new(content), None);
     };
     if start == 0 {
-        return (BStr::new(b""), Some(BStr::new(text)));
+        return (BStr::new(b""), Some(BStr::new(content)));
     }
     (
-        BStr::new(&text[..start - 1]),
-        Some(BStr::new(&text[start..])),
+        BStr::new(&content[..start - 1]),
+        Some(BStr::new(&content[start..])),
     )
 }
 
-/// Whether the text is newlines alone, or nothing.
-pub(super) fn are_newlines(text: &[u8]) -> bool
-    ensures { result ≡ are_newlines_of text.now }
+/// Whether all bytes are newlines, also if there are none.
+pub(super) fn are_newlines(content: &[u8]) -> bool
+    ensures { result ≡ are_newlines_of content.now }
 {
-    text.iter().all(|byte| *byte == b'\n')
+    content.iter().all(|byte| *byte == b'\n')
 }

@@ -1,6 +1,6 @@
-//! Tags with parts of their own, copied from borrowed ones.
+//! Copies of borrowed tags.
 ghost use Rattle.std.specs.Prelude.{◌≡◌, ℕ, List, Option, IfErr, IfOk};
-ghost use Rattle.gixobj_hash.specs.Hash.{IsHexOfAnId};
+ghost use Rattle.gixobj_hash.specs.Hash.{IsIdHex};
 ghost use Rattle.gixobj_hash.specs.declared.decode.Error.TheVariants.{Malformed};
 ghost use Rattle.gixobj_tag.specs.TagOwned.{IsBadTagger, IsOwnedFormOfTag, IsOwnedTagger, IsTagger};
 ghost use Rattle.gixobj_tag.specs.TagViews.{tag_lines};
@@ -15,12 +15,11 @@ use gixobj_hash::decode::Error;
 use gixobj_hash::optional::copied;
 use std::alloc::Global;
 
-/// The actor of a tagger's line, as it stands, or none without a line.
-///
-/// `Malformed` where the line is no actor, or bytes follow it.
+/// Decodes the untrimmed actor of a tagger line, if there is one. [`Error::Malformed`] if the line is no
+/// actor, or if bytes follow the actor.
 pub(super) fn actor(line: Option<BStr<'_>>) -> Result<Option<SignatureRef<'_>>, Error>
     ensures found { IfOk result (IsTagger (bytes_if_some line.entry)) }
-    ensures refusal { IfErr result (λ e. (e ≡ Malformed) × IsBadTagger (bytes_if_some line.entry)) }
+    ensures error { IfErr result (λ e. (e ≡ Malformed) × IsBadTagger (bytes_if_some line.entry)) }
 {
     match line {
         Some(line) => Ok(Some(actor_of_line(line)?)),
@@ -28,14 +27,13 @@ pub(super) fn actor(line: Option<BStr<'_>>) -> Result<Option<SignatureRef<'_>>, 
     }
 }
 
-/// The same tag, with parts of its own: this tagger, which is that of its line, its id, and copies of the
-/// rest.
+/// Copies a tag with this tagger, which has to be that of its line.
 pub(super) fn copy(
     alloc: Global,
     tag: &TagRef<'_>,
     tagger: Option<SignatureRef<'_>>,
 ) -> Result<Tag, OutOfMemory>
-    requires id { IsHexOfAnId (tag_lines tag.now).target }
+    requires id { IsIdHex (tag_lines tag.now).target }
     requires tagger { IsTagger (tag_lines tag.now).tagger tagger }
     ensures { IfOk result (IsOwnedFormOfTag (tag_lines tag.now)) }
 {
@@ -49,7 +47,7 @@ pub(super) fn copy(
     })
 }
 
-/// A copy of a tagger, as it stands, with the time that it says.
+/// Copies an untrimmed tagger and decodes its time.
 fn owned_tagger(
     alloc: Global,
     tagger: Option<SignatureRef<'_>>,

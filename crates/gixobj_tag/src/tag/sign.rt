@@ -1,13 +1,13 @@
-//! Tags, signed (gitformat-signature, "Tag signatures").
+//! Signing of tags (gitformat-signature, "Tag signatures").
 ghost use Rattle.std.specs.Prelude.{◌≡◌, ◌++◌, ◌∷◌, [], IfErr, IfOk, OnOk, Some};
 ghost use Rattle.bstr.specs.Owned.{bstring_bytes};
-ghost use Rattle.gixobj_fields.specs.Writing.{RefusesNothing};
-ghost use Rattle.gixobj_hash.specs.Hash.{IsHexOfAnId};
-ghost use Rattle.gixobj_signature.specs.Signing.{options_view, sign_plan, signer_refusal};
-ghost use Rattle.gixobj_signature.specs.Plans.{Goes};
-ghost use Rattle.gixobj_tag.specs.TagSigning.{GetsTagSignature, HasNoPayload, IsSignedTag, IsSignedTagCopy, RefusesSigningTag, RefusesSigningTagCopy, RefusesWritingTag, signed_as, unsigned};
+ghost use Rattle.gixobj_fields.specs.Writing.{RejectsNothing};
+ghost use Rattle.gixobj_hash.specs.Hash.{IsIdHex};
+ghost use Rattle.gixobj_signature.specs.Signing.{options_view, sign_plan, signer_error};
+ghost use Rattle.gixobj_signature.specs.Plans.{IsCarriedOut};
+ghost use Rattle.gixobj_tag.specs.TagSigning.{GetsTagSignature, HasNoPayload, IsSignedTag, IsSignedTagCopy, IsTagSigningError, IsTagCopySigningError, IsTagWriteError, signed_as, unsigned};
 ghost use Rattle.gixobj_tag.specs.TagViews.{owned_tag_lines, tag_lines};
-ghost use Rattle.gixobj_tag.specs.TagWriting.{RefusesOwnedTag, tag_text};
+ghost use Rattle.gixobj_tag.specs.TagWriting.{IsOwnedTagError, encode_tag};
 ghost use Rattle.gixobj_hash.specs.Bytes.{newline};
 
 use super::{Tag, TagRef};
@@ -20,11 +20,19 @@ use std::alloc::Global;
 
 /// Signing
 impl Tag {
-    /// The same tag with a new signature in place of the one that it may have. What is signed is the written tag
-    /// without a signature, and a newline behind it.
+    /// Signs the tag and returns it with the new signature, which replaces any former one.
     ///
-    /// `Encode` where the tag can't be written, before any call; else the refusals of signing, as
-    /// [`gixobj_signature::signature::sign::sign_payload`] has them. The tag is gone then.
+    /// The payload is the encoding of the tag without a signature, followed by a newline. The call consumes
+    /// the tag, also if it fails. It allocates the payload, the call of the program and the signature.
+    ///
+    /// # Errors
+    ///
+    /// - [`Error::Encode`] if the tag without its signature can't be written: an invalid name or tagger, or
+    ///   no capacity for the encoding. The runner isn't called.
+    /// - [`Error::OutOfMemory`] if another allocation fails, or if the runner returns that case.
+    /// - [`Error::MissingSigningKey`], [`Error::TemporaryFile`], [`Error::Spawn`], [`Error::Communicate`],
+    ///   [`Error::Failed`], [`Error::MissingSignatureConfirmation`] or [`Error::MissingSshSignature`] if
+    ///   [`sign_payload`] returns that case.
     pub fn sign<R: Runner>(
         self,
         alloc: Global,
@@ -32,7 +40,7 @@ impl Tag {
         runner: &mut R,
     ) -> Result<Tag, Error>
         ensures signed { IfOk result (IsSignedTag R.runs options self runner.old runner.new) }
-        ensures refusal { IfErr result (RefusesSigningTag R.runs options self runner.old
+        ensures error { IfErr result (IsTagSigningError R.runs options self runner.old
             runner.new) }
     {
         let unsigned = without_signature(self);
@@ -45,20 +53,25 @@ impl Tag {
 
 /// Signing
 impl TagRef<'_> {
-    /// The tag copied, and signed as [`Tag::sign`] does.
+    /// Copies the tag and signs the copy, as [`Tag::sign`] does.
     ///
-    /// `Decode` where it can't be copied, as [`TagRef::into_owned`] says, before any call; else what
-    /// [`Tag::sign`] refuses.
+    /// The field `target` must be an id in hex, as it is in each tag that [`TagRef::from_bytes`] returns.
+    ///
+    /// # Errors
+    ///
+    /// - [`Error::Decode`], with the error of [`TagRef::into_owned`], if the copy fails. The runner isn't
+    ///   called.
+    /// - The errors of [`Tag::sign`] if the copy succeeds.
     pub fn sign<R: Runner>(
         self,
         alloc: Global,
         options: Options,
         runner: &mut R,
     ) -> Result<Tag, Error>
-        requires { IsHexOfAnId (tag_lines self).target }
+        requires { IsIdHex (tag_lines self).target }
         ensures signed { IfOk result (IsSignedTagCopy R.runs options (tag_lines self.entry)
             runner.old runner.new) }
-        ensures refusal { IfErr result (RefusesSigningTagCopy R.runs options (tag_lines self.entry)
+        ensures error { IfErr result (IsTagCopySigningError R.runs options (tag_lines self.entry)
             runner.old runner.new) }
     {
         match self.into_owned(alloc) {
@@ -68,7 +81,7 @@ impl TagRef<'_> {
     }
 }
 
-/// The tag without a signature.
+/// Removes the signature of the tag.
 fn without_signature(tag: Tag) -> Tag
     ensures { result ≡ unsigned tag }
 {
@@ -77,7 +90,7 @@ fn without_signature(tag: Tag) -> Tag
     tag
 }
 
-/// The tag with this signature.
+/// Sets the signature of the tag.
 fn with_signature(tag: Tag, signature: BString) -> Tag
     ensures { owned_tag_lines result ≡ signed_as (Some (bstring_bytes signature))
         (owned_tag_lines tag) }
@@ -87,40 +100,40 @@ fn with_signature(tag: Tag, signature: BString) -> Tag
     tag
 }
 
-/// What is signed of a tag that has no signature.
+/// Encodes the payload of a tag without signature.
 fn payload_of(alloc: Global, tag: &Tag) -> Result<Vec<u8>, Error>
-    ensures text { IfOk result (λ text. text.items
-        ≡ tag_text (owned_tag_lines tag.now) ++ newline ∷ []) }
-    ensures writable { OnOk result (RefusesNothing (RefusesOwnedTag tag.now)) }
-    ensures refusal { IfErr result (HasNoPayload tag.now) }
+    ensures encoded { IfOk result (λ content. content.items
+        ≡ encode_tag (owned_tag_lines tag.now) ++ newline ∷ []) }
+    ensures writable { OnOk result (RejectsNothing (IsOwnedTagError tag.now)) }
+    ensures error { IfErr result (HasNoPayload tag.now) }
 {
     match tag_written(alloc, tag) {
-        Ok(text) => Ok(with_newline(text)?),
+        Ok(content) => Ok(with_newline(content)?),
         Err(error) => Err(Error::Encode(error)),
     }
 }
 
-/// The written bytes of a tag.
+/// Encodes a tag.
 fn tag_written(alloc: Global, tag: &Tag) -> Result<Vec<u8>, encode::Error>
-    ensures text { IfOk result (λ text. text.items ≡ tag_text (owned_tag_lines tag.now)) }
-    ensures writable { OnOk result (RefusesNothing (RefusesOwnedTag tag.now)) }
-    ensures refusal { IfErr result (RefusesWritingTag tag.now) }
+    ensures encoded { IfOk result (λ content. content.items ≡ encode_tag (owned_tag_lines tag.now)) }
+    ensures writable { OnOk result (RejectsNothing (IsOwnedTagError tag.now)) }
+    ensures error { IfErr result (IsTagWriteError tag.now) }
 {
-    let mut text = Vec::new(alloc);
-    tag.write_to_vec(alloc, &mut text)?;
-    Ok(text)
+    let mut content = Vec::new(alloc);
+    tag.write_to_vec(alloc, &mut content)?;
+    Ok(content)
 }
 
-/// The text with a newline behind it.
-fn with_newline(text: Vec<u8>) -> Result<Vec<u8>, OutOfMemory>
-    ensures { IfOk result (λ it. it.items ≡ text.items ++ newline ∷ []) }
+/// Appends a newline.
+fn with_newline(content: Vec<u8>) -> Result<Vec<u8>, OutOfMemory>
+    ensures { IfOk result (λ it. it.items ≡ content.items ++ newline ∷ []) }
 {
-    let mut text = text;
-    text.push(b'\n')?;
-    Ok(text)
+    let mut content = content;
+    content.push(b'\n')?;
+    Ok(content)
 }
 
-/// The tag with the signature that a signer gives for these bytes.
+/// Signs this payload and sets the signature of the tag.
 fn sign_written<R: Runner>(
     alloc: Global,
     unsigned: Tag,
@@ -130,8 +143,8 @@ fn sign_written<R: Runner>(
 ) -> Result<Tag, Error>
     ensures signed { IfOk result (GetsTagSignature R.runs options payload.now unsigned runner.old
         runner.new) }
-    ensures refusal { IfErr result (λ error.
-        Goes R.runs (sign_plan (options_view options) payload.now) runner.old (signer_refusal error)
+    ensures error { IfErr result (λ error.
+        IsCarriedOut R.runs (sign_plan (options_view options) payload.now) runner.old (signer_error error)
         runner.new) }
 {
     match sign_payload(alloc, payload, options, runner) {

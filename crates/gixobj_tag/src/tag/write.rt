@@ -1,15 +1,15 @@
-//! Tags, written (gitdatamodel, "tag objects"; git-check-ref-format, "DESCRIPTION").
+//! Writing of tags (gitdatamodel, "tag objects"; git-check-ref-format, "DESCRIPTION").
 ghost use Rattle.std.specs.Prelude.{◌≡◌, ◌↔◌, ◌<◌, ◌≤◌, ◌+◌, ◌^◌, ◌++◌, ◌∷◌, [], codes, length, IfErr, IfOk, IsOk, OnOk};
 ghost use Rattle.std.specs.Option.{SomeIff};
 ghost use Rattle.bstr.specs.BStr.{bstr_bytes};
-ghost use Rattle.gixobj_fields.specs.HeaderText.{field_text, line_text};
-ghost use Rattle.gixobj_fields.specs.Streams.{Puts, PutsOrFails};
-ghost use Rattle.gixobj_fields.specs.Writing.{AddsSize, IsSize, RefusesNothing, RefusesWriting};
-ghost use Rattle.gixobj_tag.specs.NameRule.{IsTagName, RefusesTagName};
-ghost use Rattle.gixobj_tag.specs.TagText.{front_text};
-ghost use Rattle.gixobj_tag.specs.TagWriting.{RefusesNameLine, RefusesParts, body_text, message_text, parts_text, signature_text};
+ghost use Rattle.gixobj_fields.specs.HeaderFormat.{encode_field, encode_line};
+ghost use Rattle.gixobj_fields.specs.Streams.{AppendsAll, AppendsOrFails};
+ghost use Rattle.gixobj_fields.specs.Writing.{AddsSize, IsSize, RejectsNothing, IsWritingError};
+ghost use Rattle.gixobj_tag.specs.NameRule.{IsTagName, IsTagNameError};
+ghost use Rattle.gixobj_tag.specs.TagFormat.{encode_target_lines};
+ghost use Rattle.gixobj_tag.specs.TagWriting.{IsNameLineError, IsTagPartsError, encode_body, encode_message, encode_tag_parts, encode_signature};
 ghost use Rattle.gixobj_hash.specs.Bytes.{newline};
-ghost use Rattle.gixobj_hash.specs.Kind.{kind_word};
+ghost use Rattle.gixobj_hash.specs.Kind.{kind_name};
 ghost use Rattle.gixobj_hash.specs.Optional.{bytes_if_some};
 
 mod owned;
@@ -21,30 +21,33 @@ use bstr::BStr;
 use gixobj_actor::actor::Signature;
 use gixobj_actor::encode::trusted_header_signature;
 use gixobj_fields::WriteTo;
-use gixobj_fields::encode::{self, size_with_field, size_with_id, trusted_header_id};
+use gixobj_fields::encode::{self, size_plus_field, size_plus_id, trusted_header_id};
 use gixobj_fields::streams::Sink;
 use gixobj_hash::Kind;
 use gixobj_hash::hash::ObjectId;
 use std::alloc::Global;
 use std::io;
 
-/// A tag is written with its target's hex and the line of its tagger as they stand.
+/// Writes the target's hex and the value of the tagger line unchanged. Allocates nothing.
 ///
-/// A name that [`validated_name`] refuses is refused as `InvalidRefName` or `StartsWithDash`, before any
-/// byte of its line. It takes no memory.
+/// # Errors
+///
+/// - [`encode::Error::InvalidRefName`] or [`encode::Error::StartsWithDash`] if [`validated_name`] rejects the
+///   name. The lines before it are then written, and no byte of its own line.
+/// - [`encode::Error::Writer`] if the writer fails.
 impl WriteTo for TagRef<'_> {
     ghost use Rattle.gixobj_hash.specs.declared.kind.Kind.TheVariants as kind;
     ghost use Rattle.gixobj_tag.specs.TagViews.{tag_lines};
-    ghost use Rattle.gixobj_tag.specs.TagWriting.{RefusesTagLines, tag_text};
+    ghost use Rattle.gixobj_tag.specs.TagWriting.{IsTagLinesError, encode_tag};
 
     ghost object_kind = { λ _. kind.Tag };
 
-    ghost text = { λ tag. tag_text (tag_lines tag) };
+    ghost encoding = { λ tag. encode_tag (tag_lines tag) };
 
-    ghost refuses = { λ tag. RefusesTagLines (tag_lines tag) };
+    ghost rejects = { λ tag. IsTagLinesError (tag_lines tag) };
 
     fn write_into<S: Sink>(&self, _alloc: Global, sink: &mut S) -> Result<(), encode::Error> {
-        match put_tag(
+        match write_tag(
             &self.target,
             self.target_kind,
             self.name,
@@ -74,8 +77,8 @@ impl WriteTo for TagRef<'_> {
     }
 }
 
-/// Puts a tag: the lines of the target, its kind and the name, the line of the tagger, and the body.
-fn put_tag<'a, T: Target, A: Tagger, S: Sink>(
+/// Writes the lines of the target, its kind, the name and the tagger, and then the body.
+fn write_tag<'a, T: Target, A: Tagger, S: Sink>(
     target: &T,
     target_kind: Kind,
     name: BStr<'_>,
@@ -84,60 +87,60 @@ fn put_tag<'a, T: Target, A: Tagger, S: Sink>(
     signature: Option<BStr<'a>>,
     sink: &mut S,
 ) -> Result<(), encode::Error>
-    ensures written { OnOk result (Puts (S.view sink.old) (S.view sink.new)
-        (parts_text (T.target_line target.now) target_kind (bstr_bytes name.entry)
-        (A.tagger_line tagger.now) (body_text (bstr_bytes message.entry)
+    ensures written { OnOk result (AppendsAll (S.view sink.old) (S.view sink.new)
+        (encode_tag_parts (T.target_line target.now) target_kind (bstr_bytes name.entry)
+        (A.tagger_line tagger.now) (encode_body (bstr_bytes message.entry)
         (bytes_if_some signature.entry)))) }
-    ensures nothing_refused { OnOk result
-        (RefusesNothing (RefusesParts (front_text (T.target_line target.now) target_kind)
-        (bstr_bytes name.entry) (A.refuses tagger.now))) }
-    ensures refusal { IfErr result (RefusesWriting
-        (RefusesParts (front_text (T.target_line target.now) target_kind) (bstr_bytes name.entry)
-        (A.refuses tagger.now)) (S.view sink.old) (S.view sink.new)
-        (parts_text (T.target_line target.now) target_kind (bstr_bytes name.entry)
-        (A.tagger_line tagger.now) (body_text (bstr_bytes message.entry)
+    ensures no_error { OnOk result
+        (RejectsNothing (IsTagPartsError (encode_target_lines (T.target_line target.now) target_kind)
+        (bstr_bytes name.entry) (A.rejects tagger.now))) }
+    ensures error { IfErr result (IsWritingError
+        (IsTagPartsError (encode_target_lines (T.target_line target.now) target_kind) (bstr_bytes name.entry)
+        (A.rejects tagger.now)) (S.view sink.old) (S.view sink.new)
+        (encode_tag_parts (T.target_line target.now) target_kind (bstr_bytes name.entry)
+        (A.tagger_line tagger.now) (encode_body (bstr_bytes message.entry)
         (bytes_if_some signature.entry)))) }
     ensures same_loan { S.loan sink.new ≡ S.loan sink.old }
 {
-    put_lines(target, target_kind, name, tagger, sink)?;
-    put_body(message, signature, sink)?;
+    write_lines(target, target_kind, name, tagger, sink)?;
+    write_body(message, signature, sink)?;
     Ok(())
 }
 
-/// Puts the lines before the body: those of the target, its kind and the name, and the line of the tagger.
+/// Writes the lines before the body: those of the target, its kind, the name and the tagger.
 #[inline(always)]
-fn put_lines<T: Target, A: Tagger, S: Sink>(
+fn write_lines<T: Target, A: Tagger, S: Sink>(
     target: &T,
     target_kind: Kind,
     name: BStr<'_>,
     tagger: &A,
     sink: &mut S,
 ) -> Result<(), encode::Error>
-    ensures written { OnOk result (Puts (S.view sink.old) (S.view sink.new)
-        (front_text (T.target_line target.now) target_kind ++ field_text (codes "tag")
+    ensures written { OnOk result (AppendsAll (S.view sink.old) (S.view sink.new)
+        (encode_target_lines (T.target_line target.now) target_kind ++ encode_field (codes "tag")
         (bstr_bytes name.entry) ++ A.tagger_line tagger.now)) }
-    ensures nothing_refused { OnOk result
-        (RefusesNothing (RefusesParts (front_text (T.target_line target.now) target_kind)
-        (bstr_bytes name.entry) (A.refuses tagger.now))) }
-    ensures refusal { IfErr result (RefusesWriting
-        (RefusesParts (front_text (T.target_line target.now) target_kind) (bstr_bytes name.entry)
-        (A.refuses tagger.now)) (S.view sink.old) (S.view sink.new)
-        (front_text (T.target_line target.now) target_kind ++ field_text (codes "tag")
+    ensures no_error { OnOk result
+        (RejectsNothing (IsTagPartsError (encode_target_lines (T.target_line target.now) target_kind)
+        (bstr_bytes name.entry) (A.rejects tagger.now))) }
+    ensures error { IfErr result (IsWritingError
+        (IsTagPartsError (encode_target_lines (T.target_line target.now) target_kind) (bstr_bytes name.entry)
+        (A.rejects tagger.now)) (S.view sink.old) (S.view sink.new)
+        (encode_target_lines (T.target_line target.now) target_kind ++ encode_field (codes "tag")
         (bstr_bytes name.entry) ++ A.tagger_line tagger.now)) }
     ensures same_loan { S.loan sink.new ≡ S.loan sink.old }
 {
-    put_target(target, target_kind, sink)?;
-    put_name(name, sink)?;
-    tagger.put_tagger(sink)
+    write_target(target, target_kind, sink)?;
+    write_name(name, sink)?;
+    tagger.write_tagger(sink)
 }
 
-/// How many bytes the words `type` and `tag` have, each with a space and a newline.
-const WORDS_LEN: u64 = 11;
+/// The number of bytes of `type` and `tag`, each with a space and a newline.
+const LABELS_LEN: u64 = 11;
 
-/// How many bytes the word `tagger` has, with a space and a newline.
+/// The number of bytes of `tagger` with a space and a newline.
 const TAGGER_LEN: u64 = 8;
 
-/// How many bytes [`put_tag`] puts without a signature, or none past 64 bits.
+/// The number of bytes that [`write_tag`] writes without a signature, or `None` over 64 bits.
 fn unsigned_size<T: Target, A: Tagger>(
     target: &T,
     target_kind: Kind,
@@ -145,106 +148,106 @@ fn unsigned_size<T: Target, A: Tagger>(
     tagger: &A,
     message: BStr<'_>,
 ) -> Option<u64>
-    ensures { IsSize result (parts_text (T.target_line target.now) target_kind
+    ensures { IsSize result (encode_tag_parts (T.target_line target.now) target_kind
         (bstr_bytes name.entry) (A.tagger_line tagger.now)
-        (message_text (bstr_bytes message.entry))) }
+        (encode_message (bstr_bytes message.entry))) }
 {
-    let with_kind = WORDS_LEN + target_kind.as_bytes().len() as u64;
+    let with_kind = LABELS_LEN + target_kind.as_bytes().len() as u64;
     let targeted = target.size_with_target(with_kind)?;
     let named = targeted.checked_add(name.as_bytes().len() as u64)?;
     let tagged = tagger.size_with_tagger(named)?;
     tagged.checked_add(message.as_bytes().len() as u64 + opening(message).len() as u64)
 }
 
-/// The object that is tagged, in hex or by its id.
+/// The tagged object, by its hex or by its id.
 trait Target {
     ghost use Rattle.std.specs.Prelude.{ℕ, List};
 
-    /// The bytes of its line.
+    /// The encoding of its line.
     ghost target_line: { Self → List ℕ };
 
-    /// Puts its line.
-    fn put_target_line<S: Sink>(&self, sink: &mut S) -> io::Result<()>
-        ensures put { PutsOrFails result (S.view sink.old) (S.view sink.new)
+    /// Writes its line.
+    fn write_target_line<S: Sink>(&self, sink: &mut S) -> io::Result<()>
+        ensures appended { AppendsOrFails result (S.view sink.old) (S.view sink.new)
             (target_line self.now) }
         ensures same_loan { S.loan sink.new ≡ S.loan sink.old };
 
-    /// The size with that of its line, or none past 64 bits.
+    /// Adds the size of its line, or returns `None` over 64 bits.
     fn size_with_target(&self, size: u64) -> Option<u64>
         ensures { AddsSize result size (target_line self.now) };
 }
 
-/// By the hex text of its id.
+/// The target by its id in hex.
 impl Target for BStr<'_> {
     ghost use Rattle.std.specs.Prelude.{codes};
     ghost use Rattle.bstr.specs.BStr.{bstr_bytes};
-    ghost use Rattle.gixobj_fields.specs.HeaderText.{field_text};
+    ghost use Rattle.gixobj_fields.specs.HeaderFormat.{encode_field};
 
-    ghost target_line = { λ hex. field_text (codes "object") (bstr_bytes hex) };
+    ghost target_line = { λ hex. encode_field (codes "object") (bstr_bytes hex) };
 
-    fn put_target_line<S: Sink>(&self, sink: &mut S) -> io::Result<()> {
-        put_line(b"object ", self.as_bytes(), sink)
+    fn write_target_line<S: Sink>(&self, sink: &mut S) -> io::Result<()> {
+        write_line(b"object ", self.as_bytes(), sink)
     }
 
     fn size_with_target(&self, size: u64) -> Option<u64> {
-        size_with_field(size, b"object", self.as_bytes())
+        size_plus_field(size, b"object", self.as_bytes())
     }
 }
 
 impl Target for ObjectId {
     ghost use Rattle.std.specs.Prelude.{codes};
-    ghost use Rattle.gixobj_fields.specs.HeaderText.{field_text};
-    ghost use Rattle.gixobj_hash.specs.Hash.{hex_text};
+    ghost use Rattle.gixobj_fields.specs.HeaderFormat.{encode_field};
+    ghost use Rattle.gixobj_hash.specs.Hash.{encode_id_hex};
 
-    ghost target_line = { λ id. field_text (codes "object") (hex_text id) };
+    ghost target_line = { λ id. encode_field (codes "object") (encode_id_hex id) };
 
-    fn put_target_line<S: Sink>(&self, sink: &mut S) -> io::Result<()> {
+    fn write_target_line<S: Sink>(&self, sink: &mut S) -> io::Result<()> {
         trusted_header_id(b"object", self, sink)
     }
 
     fn size_with_target(&self, size: u64) -> Option<u64> {
-        size_with_id(size, b"object", self)
+        size_plus_id(size, b"object", self)
     }
 }
 
-/// The tagger, by a line or as an actor, or none.
+/// The tagger, by its line or as an actor, if there is one.
 trait Tagger {
     ghost use Rattle.std.specs.Prelude.{ℕ, List};
-    ghost use Rattle.gixobj_fields.specs.Writing.{Refused};
+    ghost use Rattle.gixobj_fields.specs.Writing.{RejectedValue};
 
-    /// The bytes of its line, none without a tagger.
+    /// The encoding of its line, or nothing without a tagger.
     ghost tagger_line: { Self → List ℕ };
 
-    /// Whether this value is refused after exactly these parts of the line.
-    ghost refuses: { Self → Refused → List ℕ → Type 0 };
+    /// Whether this value is rejected after these parts of the line, and no others.
+    ghost rejects: { Self → RejectedValue → List ℕ → Type 0 };
 
-    /// Puts its line.
-    fn put_tagger<S: Sink>(&self, sink: &mut S) -> Result<(), encode::Error>
-        ensures written { OnOk result (Puts (S.view sink.old) (S.view sink.new)
+    /// Writes its line.
+    fn write_tagger<S: Sink>(&self, sink: &mut S) -> Result<(), encode::Error>
+        ensures written { OnOk result (AppendsAll (S.view sink.old) (S.view sink.new)
             (tagger_line self.now)) }
-        ensures nothing_refused { OnOk result (RefusesNothing (refuses self.now)) }
-        ensures refusal { IfErr result (RefusesWriting (refuses self.now) (S.view sink.old)
+        ensures no_error { OnOk result (RejectsNothing (rejects self.now)) }
+        ensures error { IfErr result (IsWritingError (rejects self.now) (S.view sink.old)
             (S.view sink.new) (tagger_line self.now)) }
         ensures same_loan { S.loan sink.new ≡ S.loan sink.old };
 
-    /// The size with that of its line, or none past 64 bits.
+    /// Adds the size of its line, or returns `None` over 64 bits.
     fn size_with_tagger(&self, size: u64) -> Option<u64>
         ensures { AddsSize result size (tagger_line self.now) };
 }
 
-/// By its line.
+/// The tagger by the value of its line.
 impl Tagger for Option<BStr<'_>> {
-    ghost use Rattle.gixobj_tag.specs.TagText.{tagger_text};
+    ghost use Rattle.gixobj_tag.specs.TagFormat.{encode_tagger};
     ghost use Rattle.gixobj_hash.specs.Optional.{bytes_if_some};
 
-    ghost tagger_line = { λ line. tagger_text (bytes_if_some line) };
+    ghost tagger_line = { λ line. encode_tagger (bytes_if_some line) };
 
-    ghost refuses = { λ _ _ _. ⊥ };
+    ghost rejects = { λ _ _ _. ⊥ };
 
-    fn put_tagger<S: Sink>(&self, sink: &mut S) -> Result<(), encode::Error> {
+    fn write_tagger<S: Sink>(&self, sink: &mut S) -> Result<(), encode::Error> {
         match self {
             Some(line) => {
-                put_line(b"tagger ", line.as_bytes(), sink)?;
+                write_line(b"tagger ", line.as_bytes(), sink)?;
                 Ok(())
             }
             None => Ok(()),
@@ -253,22 +256,22 @@ impl Tagger for Option<BStr<'_>> {
 
     fn size_with_tagger(&self, size: u64) -> Option<u64> {
         match self {
-            Some(line) => size_with_field(size, b"tagger", line.as_bytes()),
+            Some(line) => size_plus_field(size, b"tagger", line.as_bytes()),
             None => Some(size),
         }
     }
 }
 
 impl Tagger for Option<Signature> {
-    ghost use Rattle.gixobj_tag.specs.TagText.{tagger_text};
+    ghost use Rattle.gixobj_tag.specs.TagFormat.{encode_tagger};
     ghost use Rattle.gixobj_tag.specs.TagViews.{owned_tagger};
-    ghost use Rattle.gixobj_tag.specs.TagWriting.{RefusesTagger};
+    ghost use Rattle.gixobj_tag.specs.TagWriting.{IsTaggerError};
 
-    ghost tagger_line = { λ tagger. tagger_text (owned_tagger tagger) };
+    ghost tagger_line = { λ tagger. encode_tagger (owned_tagger tagger) };
 
-    ghost refuses = { RefusesTagger };
+    ghost rejects = { IsTaggerError };
 
-    fn put_tagger<S: Sink>(&self, sink: &mut S) -> Result<(), encode::Error> {
+    fn write_tagger<S: Sink>(&self, sink: &mut S) -> Result<(), encode::Error> {
         match self {
             Some(actor) => trusted_header_signature(b"tagger", actor, sink),
             None => Ok(()),
@@ -283,20 +286,20 @@ impl Tagger for Option<Signature> {
     }
 }
 
-/// Puts the lines of the target and of its kind.
-fn put_target<T: Target, S: Sink>(target: &T, kind: Kind, sink: &mut S) -> io::Result<()>
-    ensures put { PutsOrFails result (S.view sink.old) (S.view sink.new)
-        (front_text (T.target_line target.now) kind) }
+/// Writes the lines of the target and of its kind.
+fn write_target<T: Target, S: Sink>(target: &T, kind: Kind, sink: &mut S) -> io::Result<()>
+    ensures appended { AppendsOrFails result (S.view sink.old) (S.view sink.new)
+        (encode_target_lines (T.target_line target.now) kind) }
     ensures same_loan { S.loan sink.new ≡ S.loan sink.old }
 {
-    target.put_target_line(sink)?;
-    sink.put(kind_line(kind))
+    target.write_target_line(sink)?;
+    sink.write_bytes(kind_line(kind))
 }
 
 /// The line of a kind.
 #[inline(always)]
 fn kind_line(kind: Kind) -> &'static [u8]
-    ensures { result.now ≡ field_text (codes "type") (kind_word kind) }
+    ensures { result.now ≡ encode_field (codes "type") (kind_name kind) }
 {
     match kind {
         Kind::Tree => b"type tree\n",
@@ -306,94 +309,98 @@ fn kind_line(kind: Kind) -> &'static [u8]
     }
 }
 
-/// Puts the line of a name that a tag may have.
-#[tactic(auto, using(gixobj_fields::proofs::Puts::puts_nothing))]
-fn put_name<S: Sink>(name: BStr<'_>, sink: &mut S) -> Result<(), encode::Error>
-    ensures written { OnOk result (Puts (S.view sink.old) (S.view sink.new)
-        (field_text (codes "tag") (bstr_bytes name.entry))) }
+/// Writes the line of a name, or rejects the name.
+#[tactic(auto, using(gixobj_fields::proofs::Appends::nothing_appended))]
+fn write_name<S: Sink>(name: BStr<'_>, sink: &mut S) -> Result<(), encode::Error>
+    ensures written { OnOk result (AppendsAll (S.view sink.old) (S.view sink.new)
+        (encode_field (codes "tag") (bstr_bytes name.entry))) }
     ensures valid { OnOk result (IsTagName (bstr_bytes name.entry)) }
-    ensures refusal { IfErr result (RefusesWriting (RefusesNameLine (bstr_bytes name.entry))
-        (S.view sink.old) (S.view sink.new) (field_text (codes "tag") (bstr_bytes name.entry))) }
+    ensures error { IfErr result (IsWritingError (IsNameLineError (bstr_bytes name.entry))
+        (S.view sink.old) (S.view sink.new) (encode_field (codes "tag") (bstr_bytes name.entry))) }
     ensures same_loan { S.loan sink.new ≡ S.loan sink.old }
 {
     let name = validated_name(name)?;
-    put_line(b"tag ", name.as_bytes(), sink)?;
+    write_line(b"tag ", name.as_bytes(), sink)?;
     Ok(())
 }
 
-/// Puts a line: its field's name with the space behind it, the value and a newline.
+/// Writes a line: the name of its field with a space, the value and a newline.
 #[inline(always)]
-fn put_line<S: Sink>(front: &[u8], value: &[u8], sink: &mut S) -> io::Result<()>
-    ensures put { PutsOrFails result (S.view sink.old) (S.view sink.new)
-        (front.now ++ line_text value.now) }
+fn write_line<S: Sink>(prefix: &[u8], value: &[u8], sink: &mut S) -> io::Result<()>
+    ensures appended { AppendsOrFails result (S.view sink.old) (S.view sink.new)
+        (prefix.now ++ encode_line value.now) }
     ensures same_loan { S.loan sink.new ≡ S.loan sink.old }
 {
-    sink.put(front)?;
-    put_value(value, sink)
+    sink.write_bytes(prefix)?;
+    write_value(value, sink)
 }
 
-/// Puts a value and the newline that ends its line.
+/// Writes a value and the newline that ends its line.
 #[inline(always)]
-fn put_value<S: Sink>(value: &[u8], sink: &mut S) -> io::Result<()>
-    ensures put { PutsOrFails result (S.view sink.old) (S.view sink.new) (line_text value.now) }
+fn write_value<S: Sink>(value: &[u8], sink: &mut S) -> io::Result<()>
+    ensures appended { AppendsOrFails result (S.view sink.old) (S.view sink.new) (encode_line value.now) }
     ensures same_loan { S.loan sink.new ≡ S.loan sink.old }
 {
-    sink.put(value)?;
-    sink.put(b"\n")
+    sink.write_bytes(value)?;
+    sink.write_bytes(b"\n")
 }
 
-/// Puts the message and the signature.
+/// Writes the message and the signature.
 #[inline(always)]
-fn put_body<S: Sink>(message: BStr<'_>, signature: Option<BStr<'_>>, sink: &mut S) -> io::Result<()>
-    ensures put { PutsOrFails result (S.view sink.old) (S.view sink.new)
-        (body_text (bstr_bytes message.entry) (bytes_if_some signature.entry)) }
+fn write_body<S: Sink>(
+    message: BStr<'_>,
+    signature: Option<BStr<'_>>,
+    sink: &mut S,
+) -> io::Result<()>
+    ensures appended { AppendsOrFails result (S.view sink.old) (S.view sink.new)
+        (encode_body (bstr_bytes message.entry) (bytes_if_some signature.entry)) }
     ensures same_loan { S.loan sink.new ≡ S.loan sink.old }
 {
-    put_message(message, sink)?;
-    put_signature(signature, sink)
+    write_message(message, sink)?;
+    write_signature(signature, sink)
 }
 
-/// Puts the message.
+/// Writes the message.
 #[inline(always)]
-fn put_message<S: Sink>(message: BStr<'_>, sink: &mut S) -> io::Result<()>
-    ensures put { PutsOrFails result (S.view sink.old) (S.view sink.new)
-        (message_text (bstr_bytes message.entry)) }
+fn write_message<S: Sink>(message: BStr<'_>, sink: &mut S) -> io::Result<()>
+    ensures appended { AppendsOrFails result (S.view sink.old) (S.view sink.new)
+        (encode_message (bstr_bytes message.entry)) }
     ensures same_loan { S.loan sink.new ≡ S.loan sink.old }
 {
-    sink.put(opening(message))?;
-    sink.put(message.as_bytes())
+    sink.write_bytes(opening(message))?;
+    sink.write_bytes(message.as_bytes())
 }
 
-/// Puts the signature behind a newline, or nothing without one.
+/// Writes a newline and the signature, or nothing without one.
 #[inline(always)]
-#[tactic(auto, using(gixobj_fields::proofs::Puts::puts_nothing))]
-fn put_signature<S: Sink>(signature: Option<BStr<'_>>, sink: &mut S) -> io::Result<()>
-    ensures put { PutsOrFails result (S.view sink.old) (S.view sink.new)
-        (signature_text (bytes_if_some signature.entry)) }
+#[tactic(auto, using(gixobj_fields::proofs::Appends::nothing_appended))]
+fn write_signature<S: Sink>(signature: Option<BStr<'_>>, sink: &mut S) -> io::Result<()>
+    ensures appended { AppendsOrFails result (S.view sink.old) (S.view sink.new)
+        (encode_signature (bytes_if_some signature.entry)) }
     ensures same_loan { S.loan sink.new ≡ S.loan sink.old }
 {
     match signature {
-        Some(signature) => put_behind_newline(signature, sink),
+        Some(signature) => write_after_newline(signature, sink),
         None => Ok(()),
     }
 }
 
-/// Puts a newline, and the text behind it.
+/// Writes a newline and then these bytes.
 #[inline(always)]
-fn put_behind_newline<S: Sink>(text: BStr<'_>, sink: &mut S) -> io::Result<()>
-    ensures put { PutsOrFails result (S.view sink.old) (S.view sink.new)
-        (newline ∷ bstr_bytes text.entry) }
+fn write_after_newline<S: Sink>(content: BStr<'_>, sink: &mut S) -> io::Result<()>
+    ensures appended { AppendsOrFails result (S.view sink.old) (S.view sink.new)
+        (newline ∷ bstr_bytes content.entry) }
     ensures same_loan { S.loan sink.new ≡ S.loan sink.old }
 {
-    sink.put(b"\n")?;
-    sink.put(text.as_bytes())
+    sink.write_bytes(b"\n")?;
+    sink.write_bytes(content.as_bytes())
 }
 
-/// The newline before the message, or nothing where it is newlines alone.
+/// The newline before the message, or nothing before a message of newlines alone.
 fn opening(message: BStr<'_>) -> &[u8]
-    ensures text { message_text (bstr_bytes message.entry)
+    ensures encoded { encode_message (bstr_bytes message.entry)
         ≡ result.now ++ bstr_bytes message.entry }
-    ensures short { length result.now ≤ 1 }
+    ensures max_len { length result.now ≤ 1 }
 {
     if are_newlines(message.as_bytes()) {
         b""
@@ -402,11 +409,11 @@ fn opening(message: BStr<'_>) -> &[u8]
     }
 }
 
-/// The size with that of the newline before the signature and of the signature, if there is one, or none
-/// past 64 bits.
+/// Adds the size of the signature and of the newline before it, if there is one, or returns `None` over 64
+/// bits.
 #[inline(always)]
 fn size_with_signature(size: u64, signature: Option<BStr<'_>>) -> Option<u64>
-    ensures { AddsSize result size (signature_text (bytes_if_some signature.entry)) }
+    ensures { AddsSize result size (encode_signature (bytes_if_some signature.entry)) }
 {
     match signature {
         Some(signature) => size.checked_add(1 + signature.as_bytes().len() as u64),

@@ -1,15 +1,15 @@
-//! Messages: a title and a body, the summary, and the body's trailers (git-commit, "DISCUSSION";
+//! Title, body and summary of a commit message, and the trailers of its body (git-commit, "DISCUSSION";
 //! git-interpret-trailers, "DESCRIPTION").
 ghost use Rattle.std.specs.Prelude.{◌≡◌, ◌≤◌, IfErr, IfOk, IfNone, IfSome, None, drop, length, take, true};
 ghost use Rattle.std.specs.Cow.{cow_slice_items};
 ghost use Rattle.bstr.specs.BStr.{bstr_bytes};
 ghost use Rattle.gixobj_hash.specs.Optional.{bytes_if_some};
-ghost use Rattle.gixobj_text.specs.GivingTrailers.{is_owned, trailers_left};
+ghost use Rattle.gixobj_text.specs.TrailerSteps.{is_owned, remaining_trailers};
 ghost use Rattle.gixobj_text.specs.MessageTrailers.{HasTrailers};
 ghost use Rattle.gixobj_text.specs.Summing.{is_of_lines};
 ghost use Rattle.gixobj_text.specs.Titles.{SplitsTitle, summary_of};
 ghost use Rattle.gixobj_text.specs.TrailerBlocks.{IsBlockStart};
-ghost use Rattle.gixobj_text.specs.Trailers.{trailers_of_text};
+ghost use Rattle.gixobj_text.specs.Trailers.{trailers_of_bytes};
 
 pub mod body;
 mod decode;
@@ -23,19 +23,19 @@ use std::alloc::Global;
 use std::borrow::CowSlice;
 use summary::summary;
 
-/// A message, cut into its title and its body (git-commit, "DISCUSSION").
+/// A commit message as title and body (git-commit, "DISCUSSION"). [`MessageRef::from_bytes`] makes one.
 #[derive(Clone, Copy, Debug, PartialEq, Eq, PartialOrd, Ord, Hash)]
 pub struct MessageRef<'a> {
-    /// What stands before the first two line breaks that follow each other, or all of the message where
-    /// no two do. A line break is a newline, or a return and a newline.
+    /// The bytes before the first two consecutive line breaks, or the entire message without them. A line
+    /// break is a newline, or a carriage return and a newline.
     pub title: BStr<'a>,
-    /// What stands behind these two line breaks, none where nothing does.
+    /// The bytes after the first two consecutive line breaks, or `None` if no byte follows.
     pub body: Option<BStr<'a>>,
 }
 
 /// Initialization
 impl<'a> MessageRef<'a> {
-    /// The message with these bytes. It takes no memory.
+    /// Splits a message into its title and its body. Allocates nothing.
     pub fn from_bytes(input: &'a [u8]) -> MessageRef<'a>
         ensures { SplitsTitle input.now (bstr_bytes result.title) (bytes_if_some result.body) }
     {
@@ -48,8 +48,7 @@ impl<'a> MessageRef<'a> {
 impl<'a> MessageRef<'a> {
     ghost use Rattle.gixobj_text.specs.Bodies.{IsBodyOf};
 
-    /// The body, in which the block of trailers has been found, or none where there is no body. It takes
-    /// no memory.
+    /// Returns the body with the start of its trailer block, or `None` without a body. Allocates nothing.
     pub fn body(&self) -> Option<BodyRef<'a>>
         ensures found { IfSome result (IsBodyOf self.now.body) }
         ensures none { IfNone result (self.now.body ≡ None) }
@@ -60,22 +59,26 @@ impl<'a> MessageRef<'a> {
         }
     }
 
-    /// The title on one line (git-log, "PRETTY FORMATS", `%s`): borrowed where it has one line, and else
-    /// its lines joined by spaces, up to the first empty one.
+    /// Returns the title on one line (git-log, "PRETTY FORMATS", `%s`).
     ///
-    /// `OutOfMemory` where memory runs out. A title of one line takes none.
+    /// The title is trimmed. One line is borrowed and allocates nothing. Several lines are joined by spaces
+    /// in an allocated value, up to the first empty line.
+    ///
+    /// # Errors
+    ///
+    /// [`OutOfMemory`] if the allocation for a title of several lines fails.
     pub fn summary(&self, alloc: Global) -> Result<CowSlice<'a, u8>, OutOfMemory>
         ensures value { IfOk result (λ it. cow_slice_items it
             ≡ summary_of (bstr_bytes self.now.title)) }
         ensures owned { IfOk result (λ it. is_owned it ≡ is_of_lines (bstr_bytes self.now.title)) }
-        ensures refusal { IfErr result (λ _. is_of_lines (bstr_bytes self.now.title) ≡ true) }
+        ensures error { IfErr result (λ _. is_of_lines (bstr_bytes self.now.title) ≡ true) }
     {
         summary(alloc, self.title.as_bytes())
     }
 }
 
-/// A body, in which the block of trailers at its end has been found (git-interpret-trailers,
-/// "DESCRIPTION").
+/// The body of a message, with the start of the trailer block at its end (git-interpret-trailers,
+/// "DESCRIPTION"). [`MessageRef::body`] and [`BodyRef::from_bytes`] make one.
 #[derive(Clone, Copy, Debug, PartialEq, Eq, PartialOrd, Ord, Hash)]
 pub struct BodyRef<'a> {
     body: BStr<'a>,
@@ -87,10 +90,10 @@ pub struct BodyRef<'a> {
 impl<'a> BodyRef<'a> {
     ghost use Rattle.gixobj_text.specs.Bodies.{bytes_of_body, start_of_block};
 
-    /// The body with these bytes. It takes no memory.
+    /// Finds the trailer block of a body. Allocates nothing.
     ///
-    /// Its block of trailers is the last paragraph, where that has trailers alone, or a line that git makes
-    /// itself and three other lines to a trailer at most (git-interpret-trailers, "DESCRIPTION").
+    /// The block is the last paragraph, if it consists of trailers. A paragraph with a line that git
+    /// generates may have up to three other lines for each trailer (git-interpret-trailers, "DESCRIPTION").
     #[tactic(auto, using(crate::proofs::Starts::start_within))]
     pub fn from_bytes(body: &'a [u8]) -> BodyRef<'a>
         ensures body { bytes_of_body result ≡ body.now }
@@ -106,36 +109,36 @@ impl<'a> BodyRef<'a> {
 /// Access
 impl<'a> BodyRef<'a> {
     ghost use Rattle.gixobj_text.specs.Bodies.{bytes_of_body, start_of_block};
-    ghost use Rattle.gixobj_text.specs.GivingBlocks.{blocks_text, first_start};
+    ghost use Rattle.gixobj_text.specs.BlockSteps.{remaining_block_bytes, first_start};
 
-    /// The body up to its block of trailers, all of it where there is none. It takes no memory.
+    /// Returns the body before its trailer block, or the entire body without a block. Allocates nothing.
     pub fn without_trailer(&self) -> BStr<'a>
         ensures { bstr_bytes result ≡ take (start_of_block self.now) (bytes_of_body self.now) }
     {
         BStr::new(&self.body.as_bytes()[..self.trailer_start])
     }
 
-    /// The trailers of the block, in order. Making the reader takes no memory.
+    /// Returns an iterator over the trailers of the block, in order. Making the iterator allocates nothing.
     pub fn trailers(&self, alloc: Global) -> Trailers<'a>
-        ensures { trailers_left result ≡ trailers_of_text
+        ensures { remaining_trailers result ≡ trailers_of_bytes
             (drop (start_of_block self.now) (bytes_of_body self.now)) }
     {
         Trailers::new(alloc, &self.body.as_bytes()[self.trailer_start..])
     }
 
-    /// The messages of the body, in order, each with the trailers that follow it: the first goes at least
-    /// up to the block of trailers. It takes no memory.
+    /// Returns an iterator over the messages of the body, in order, each with the trailers that follow it.
+    /// The first message extends at least to the trailer block. Allocates nothing.
     pub fn message_blocks(&self) -> MessageBlocks<'a>
-        ensures text { blocks_text result ≡ bytes_of_body self.now }
+        ensures encoded { remaining_block_bytes result ≡ bytes_of_body self.now }
         ensures start { first_start result ≡ start_of_block self.now }
     {
         MessageBlocks::new(self.body.as_bytes(), self.trailer_start)
     }
 }
 
-/// The trailers of a message's body, none where it has no body. Making the reader takes no memory.
+/// Returns the trailers of a message's body, none without a body. Making the iterator allocates nothing.
 pub fn message_trailers<'a>(alloc: Global, message: BStr<'a>) -> Trailers<'a>
-    ensures { HasTrailers (bstr_bytes message.entry) (trailers_left result) }
+    ensures { HasTrailers (bstr_bytes message.entry) (remaining_trailers result) }
 {
     match MessageRef::from_bytes(message.as_bytes()).body() {
         Some(body) => body.trailers(alloc),

@@ -1,11 +1,11 @@
-//! Laws of messages. Each function does nothing: its contract is the law.
+//! Laws of messages. Each function is empty; its contract is the law.
 ghost use Rattle.std.specs.Prelude.{◌≡◌, ◌↔◌, ◌++◌, ℕ, List, Ok, Option, Some, drop, map, take};
 ghost use Rattle.std.specs.Iterator.{Drains};
 ghost use Rattle.gixobj_text.specs.Blocks.{AreBlocksFrom, BlockView, joined_parts};
-ghost use Rattle.gixobj_text.specs.BodyLines.{IsTrailerText, trailer_parts};
-ghost use Rattle.gixobj_text.specs.Filters.{GivesKept, kept_left};
-ghost use Rattle.gixobj_text.specs.GivingBlocks.{GivesBlock, block_view, blocks_text, first_start};
-ghost use Rattle.gixobj_text.specs.GivingTrailers.{GivesTrailer, trailer_view, trailers_left};
+ghost use Rattle.gixobj_text.specs.BodyLines.{DecodesToTrailer, trailer_parts};
+ghost use Rattle.gixobj_text.specs.Filters.{NextFiltered, remaining_filtered};
+ghost use Rattle.gixobj_text.specs.BlockSteps.{NextBlock, block_view, remaining_block_bytes, first_start};
+ghost use Rattle.gixobj_text.specs.TrailerSteps.{NextTrailer, trailer_view, remaining_trailers};
 ghost use Rattle.gixobj_text.specs.MessageTrailers.{HasTrailers};
 ghost use Rattle.gixobj_text.specs.Titles.{SplitsTitle};
 ghost use Rattle.gixobj_text.specs.TrailerBlocks.{IsBlockStart};
@@ -16,56 +16,54 @@ ghost use Rattle.gixobj_text.specs.declared.commit.message.body.filters.Filtered
 ghost use Rattle.gixobj_text.specs.declared.commit.message.body.trailers.TrailerRef.{TrailerRef};
 ghost use Rattle.gixobj_text.specs.declared.commit.message.body.trailers.Trailers.{Trailers};
 
-/// A message has one title and one body at most.
-pub fn messages_are_split_once()
+/// A message splits into at most one title and one body.
+pub fn message_split_is_unique()
     ensures { (message title title' : List ℕ) (body body' : Option (List ℕ))
         → SplitsTitle message title body → SplitsTitle message title' body' → (title ≡ title')
         × (body ≡ body') }
 {}
 
-/// A trailer's line is read by its definition, and has one token and one value at most.
-pub fn trailer_lines_are_read()
-    ensures { (text token value : List ℕ) → IsTrailerText text token value
-        ↔ (trailer_parts text ≡ Some (token, value)) }
+/// A trailer line decodes to the parts of `trailer_parts`, and so to at most one token and one value.
+pub fn trailer_line_decodes()
+    ensures { (content token value : List ℕ) → DecodesToTrailer content token value
+        ↔ (trailer_parts content ≡ Some (token, value)) }
 {}
 
-/// The block of trailers of a body starts at one place.
-pub fn bodies_have_one_block_start()
+/// A body has at most one start of its trailer block.
+pub fn trailer_block_start_is_unique()
     ensures { (body : List ℕ) (start start' : ℕ) → IsBlockStart body start
         → IsBlockStart body start' → start ≡ start' }
 {}
 
-/// A message has one list of trailers.
-pub fn messages_have_one_list_of_trailers()
+/// A message has at most one list of trailers.
+pub fn trailers_are_unique()
     ensures { (message : List ℕ) (trailers trailers' : List TrailerView)
         → HasTrailers message trailers → HasTrailers message trailers' → trailers ≡ trailers' }
 {}
 
-/// A body has one list of blocks.
-pub fn bodies_have_one_list_of_blocks()
+/// A body has at most one list of blocks.
+pub fn blocks_are_unique()
     ensures { (start : ℕ) (body : List ℕ) (blocks blocks' : List BlockView)
         → AreBlocksFrom start body blocks → AreBlocksFrom start body blocks' → blocks ≡ blocks' }
 {}
 
-/// What stands before the block of trailers and the rest, joined, are the body; so are the messages of a
-/// body and the bytes of their trailers, joined in order.
-pub fn parts_are_the_body()
+/// The parts of a body append to the body: `without_trailer` and the rest, or the blocks in order.
+pub fn parts_append_to_body()
     ensures without_trailer { (start : ℕ) (body : List ℕ)
         → take start body ++ drop start body ≡ body }
     ensures blocks { (start : ℕ) (body : List ℕ) (blocks : List BlockView)
         → AreBlocksFrom start body blocks → joined_parts blocks ≡ body }
 {}
 
-/// A reader that is asked to its end gives the blocks, the trailers or the trailers that are kept, in
-/// order.
-pub fn readers_give_all()
+/// A drained iterator has yielded all blocks, all trailers or all filtered trailers, in order.
+pub fn readers_yield_all()
     ensures blocks { (before : MessageBlocks) (blocks : List MessageBlock)
-        → Drains GivesBlock before blocks
-        → AreBlocksFrom (first_start before) (blocks_text before) (map block_view blocks) }
+        → Drains NextBlock before blocks
+        → AreBlocksFrom (first_start before) (remaining_block_bytes before) (map block_view blocks) }
     ensures trailers { (before : Trailers) (trailers : List TrailerRef)
-        → Drains GivesTrailer before (map (λ it. Ok it) trailers)
-        → map trailer_view trailers ≡ trailers_left before }
-    ensures kept { (before : Filtered) (trailers : List TrailerRef)
-        → Drains GivesKept before (map (λ it. Ok it) trailers)
-        → map trailer_view trailers ≡ kept_left before }
+        → Drains NextTrailer before (map (λ it. Ok it) trailers)
+        → map trailer_view trailers ≡ remaining_trailers before }
+    ensures stored { (before : Filtered) (trailers : List TrailerRef)
+        → Drains NextFiltered before (map (λ it. Ok it) trailers)
+        → map trailer_view trailers ≡ remaining_filtered before }
 {}

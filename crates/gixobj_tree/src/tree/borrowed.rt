@@ -1,9 +1,9 @@
-//! Trees, borrowed (gitdatamodel, "trees").
+//! Borrowed trees, and binary searches in them (gitdatamodel, "trees").
 ghost use Rattle.std.specs.Prelude.{◌≡◌, ◌≢◌, [], Contains, IfErr, IfOk, IfSome, length, MatchOption};
 ghost use Rattle.std.specs.List.Sorted.{IsBinarySearchResult, IsSearchInRange};
 ghost use Rattle.std.specs.declared.cmp.Ordering.TheVariants.{Equal};
 ghost use Rattle.gixobj_hash.specs.Bytes.{slash};
-ghost use Rattle.gixobj_hash.specs.Texts.{IsFree};
+ghost use Rattle.gixobj_hash.specs.ByteStrings.{IsByteFree};
 ghost use Rattle.gixobj_tree.specs.Entries.{IsWellFormed, entry_key, key_of, name_cmp};
 ghost use Rattle.gixobj_mode.specs.Mode.{is_tree_mode};
 ghost use Rattle.gixobj_tree.specs.WellFormed.{HasKey};
@@ -22,16 +22,16 @@ pub use entry_ref::EntryRef;
 use std::alloc::Global;
 use std::cmp::Ordering;
 
-/// A tree, borrowed: the entries of a directory as they stand in its text.
+/// A tree: the entries of a directory, borrowed from its encoding. [`TreeRef::from_bytes`] makes one.
 #[derive(Clone, Debug, Drop)]
 pub struct TreeRef<'a> {
-    /// The entries. A tree of git's has them in the order of [`name_order`], and each name once.
+    /// The entries. A tree of git has them in the order of [`name_order`], with distinct names.
     pub entries: Vec<EntryRef<'a>>,
 }
 
 /// Initialization
 impl TreeRef<'_> {
-    /// A tree without entries. It takes no memory: `alloc` is only kept with the entries.
+    /// Creates a tree without entries. Allocates nothing: the list only keeps `alloc`.
     pub fn empty(alloc: Global) -> TreeRef<'static>
         ensures { tree_entries result ≡ [] }
     {
@@ -43,15 +43,26 @@ impl TreeRef<'_> {
 
 /// Access
 impl<'a> TreeRef<'a> {
-    /// The entry of this name, which is a directory's or not, sought by halves, or none.
+    /// Finds the entry of this name by binary search. `is_dir` says whether it is a directory.
     ///
-    /// In a well-formed tree and for a name without `/` it is the entry with that name and a `/` behind a
-    /// directory's. Else it is some entry that [`name_order`] finds equal, or none. It takes no memory.
+    /// In a well-formed tree, and for a name without `/`, the result is exact: the entry of this name and
+    /// sort, or `None`. Otherwise the result is some entry that [`name_order`] finds equal, or `None`.
+    /// Allocates nothing.
+    ///
+    /// # Examples
+    ///
+    /// ```rust
+    /// let tree = TreeRef::from_bytes(alloc, bytes, HashKind::Sha1)?;
+    /// match tree.bisect_entry(BStr::new(name), false) {
+    ///     Some(entry) => Ok(Some(entry.oid.to_owned())),
+    ///     None => Ok(None),
+    /// }
+    /// ```
     pub fn bisect_entry(&self, name: BStr<'_>, is_dir: bool) -> Option<EntryRef<'a>>
         ensures found { IfSome result (λ e. Contains (tree_entries self.now) (entry_view e)
             × (name_cmp (entry_view e).name (is_tree_mode (entry_view e).mode)
             (bstr_bytes name.entry) is_dir ≡ Equal)) }
-        ensures by_key { IsWellFormed (tree_entries self.now) → IsFree slash (bstr_bytes name.entry)
+        ensures by_key { IsWellFormed (tree_entries self.now) → IsByteFree slash (bstr_bytes name.entry)
             → MatchOption result (¬ HasKey (tree_entries self.now)
             (key_of (bstr_bytes name.entry) is_dir))
             (λ e. entry_key (entry_view e) ≡ key_of (bstr_bytes name.entry) is_dir) }
@@ -63,8 +74,8 @@ impl<'a> TreeRef<'a> {
     }
 }
 
-/// The place of an entry that [`name_order`] finds equal, or else that where one would stand: sought by
-/// halves, and left as soon as it is found.
+/// Finds the position of an entry that [`name_order`] finds equal, or the position to insert one. The
+/// binary search ends at the first such entry.
 #[inline(always)]
 fn place_of(entries: &[EntryRef<'_>], name: &[u8], is_dir: bool) -> Result<usize, usize>
     ensures bound { IsSearchInRange result (length entries.now) }
@@ -84,7 +95,7 @@ fn place_of(entries: &[EntryRef<'_>], name: &[u8], is_dir: bool) -> Result<usize
     Err(low)
 }
 
-/// The order of an entry and one of this name.
+/// Compares an entry with this name.
 #[inline(always)]
 fn order_with(entry: &EntryRef<'_>, name: &[u8], is_dir: bool) -> Ordering
     ensures { result ≡ name_cmp (entry_view entry.now).name

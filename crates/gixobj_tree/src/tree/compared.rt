@@ -1,4 +1,4 @@
-//! Trees compared and hashed, entry by entry.
+//! Comparison and hashing of trees, entry by entry.
 ghost use Rattle.std.specs.Prelude.{refl};
 ghost use Rattle.std.specs.Cmp.{partial_equiv_from_equiv, partial_order_from_agreeing_total};
 ghost use Rattle.std.specs.Ordering.{as_partial_cmp};

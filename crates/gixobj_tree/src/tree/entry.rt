@@ -16,14 +16,16 @@ use std::cmp::Ordering;
 use std::hash::{Hash, Hasher};
 use std::marker::Model;
 
-/// An entry of a tree: the file or the directory of a name.
+/// An entry of a tree: a file or a directory, with its name.
+///
+/// [`EntryRef::into_owned`](super::EntryRef::into_owned) makes one of a borrowed entry.
 #[derive(Clone, Debug, Drop)]
 pub struct Entry {
-    /// The name, one part of a path.
+    /// The name, one component of a path.
     pub filename: BString,
     /// The id of the object.
     pub oid: ObjectId,
-    /// What kind of object the entry names, and a file's permissions.
+    /// The kind of the object, and the permissions of a file.
     pub mode: EntryMode,
 }
 
@@ -42,14 +44,14 @@ impl Model for Entry {
 }
 
 impl Entry {
-    /// The order of the keys alone.
+    /// Compares the keys.
     pub(super) fn key_order(&self, other: &Entry) -> Ordering
         ensures { result ≡ slice_cmp nat_cmp (entry_key self.now) (entry_key other.now) }
     {
         self.key_order_with(other.filename.as_bytes(), other.mode.is_tree())
     }
 
-    /// The order of the key and the key of such a name.
+    /// Compares the key with the key of this name.
     pub(super) fn key_order_with(&self, name: &[u8], is_tree: bool) -> Ordering
         ensures { result ≡ slice_cmp nat_cmp (entry_key self.now) (key_of name.now is_tree) }
     {
@@ -57,7 +59,7 @@ impl Entry {
     }
 }
 
-/// The same mode, name and id.
+/// Entries are equal if their modes, names and ids are.
 impl PartialEq for Entry {
     ghost eq = { same_entry };
 
@@ -74,8 +76,8 @@ impl Eq for Entry {
     ghost laws = { entry_equiv };
 }
 
-/// By the name, with a `/` behind a tree's, as in a tree. Where two of these tie, the mode, the name
-/// and the id decide.
+/// Orders entries as in a tree: by name, with `/` appended to a tree's. Ties are ordered by mode, name
+/// and id.
 impl Ord for Entry {
     ghost cmp = { entry_cmp };
 

@@ -4,27 +4,27 @@ ghost use Rattle.std.specs.Int.{from_be_bytes, w16, w32, w64};
 ghost use Rattle.std.specs.Cmp.Lexicographic.{slice_cmp};
 ghost use Rattle.std.specs.Ordering.{nat_cmp};
 ghost use Rattle.gixobj_tree.specs.Entries.{key_of, name_cmp, next_byte};
-ghost use Rattle.gixobj_hash.specs.Texts.{IsFree};
+ghost use Rattle.gixobj_hash.specs.ByteStrings.{IsByteFree};
 ghost use Rattle.gixobj_hash.specs.Bytes.{slash};
 
 use std::cmp::Ordering;
 
-/// The order of two names in a tree: the common length bytewise, and then the next byte, where a
-/// tree's end counts as `/`, and any other end comes before every byte.
+/// Compares two names by their order in a tree.
 ///
-/// For names without `/` that is the order of the names with a `/` behind a tree's. It takes no
-/// memory.
+/// The common length is compared bytewise, and then the next byte. The end of a tree's name counts as
+/// `/`, and any other end precedes every byte. For names without `/` this is the order of their keys,
+/// which have `/` appended to a tree's name. Allocates nothing.
 #[inline(always)]
 pub fn name_order(left: &[u8], left_is_tree: bool, right: &[u8], right_is_tree: bool) -> Ordering
     ensures rule { result ≡ name_cmp left.now left_is_tree right.now right_is_tree }
-    ensures by_keys { IsFree slash left.now → IsFree slash right.now
+    ensures by_keys { IsByteFree slash left.now → IsByteFree slash right.now
         → result ≡ slice_cmp nat_cmp (key_of left.now left_is_tree)
         (key_of right.now right_is_tree) }
 {
     if left.len() >= 4 && right.len() >= 4 {
-        let fronts = four_order(left, right);
-        if fronts.is_ne() {
-            return fronts;
+        let prefixes = four_order(left, right);
+        if prefixes.is_ne() {
+            return prefixes;
         }
     } else if left.len() >= 2 && right.len() >= 2 {
         let firsts = two_order(left, right);
@@ -32,26 +32,26 @@ pub fn name_order(left: &[u8], left_is_tree: bool, right: &[u8], right_is_tree: 
             return firsts;
         }
     }
-    whole_order(left, left_is_tree, right, right_is_tree)
+    full_order(left, left_is_tree, right, right_is_tree)
 }
 
-/// As [`name_order`]. Most names differ among their first bytes, so this is called seldom, and stands
-/// apart, which keeps a search by halves short.
+/// Computes [`name_order`]. Most names differ in their first bytes, so this call is rare. It is never
+/// inlined, which keeps a binary search short.
 #[inline(never)]
-fn whole_order(left: &[u8], left_is_tree: bool, right: &[u8], right_is_tree: bool) -> Ordering
+fn full_order(left: &[u8], left_is_tree: bool, right: &[u8], right_is_tree: bool) -> Ordering
     ensures { result ≡ name_cmp left.now left_is_tree right.now right_is_tree }
 {
     let common = left.len().min(right.len());
-    let (front, rest) = left.split_at(common);
-    let (other_front, other_rest) = right.split_at(common);
-    let fronts = bytes_order(front, other_front);
-    if fronts.is_ne() {
-        return fronts;
+    let (prefix, rest) = left.split_at(common);
+    let (other_prefix, other_rest) = right.split_at(common);
+    let prefixes = bytes_order(prefix, other_prefix);
+    if prefixes.is_ne() {
+        return prefixes;
     }
     next_byte(rest, left_is_tree).cmp(&next_byte(other_rest, right_is_tree))
 }
 
-/// The order of as many bytes as others. The last four may be in part those before.
+/// Compares byte strings of one length. The last four bytes may overlap those before.
 fn bytes_order(left: &[u8], right: &[u8]) -> Ordering
     requires { length left.now ≡ length right.now }
     ensures { result ≡ slice_cmp nat_cmp left.now right.now }
@@ -63,17 +63,17 @@ fn bytes_order(left: &[u8], right: &[u8]) -> Ordering
     if len < 4 {
         return short_order(left, right);
     }
-    let fronts = four_order(left, right);
-    if fronts.is_ne() {
-        return fronts;
+    let prefixes = four_order(left, right);
+    if prefixes.is_ne() {
+        return prefixes;
     }
     four_order(&left[len - 4..], &right[len - 4..])
 }
 
-/// The order of three bytes at most as of as many others. The last two may be in part those before.
+/// Compares at most three bytes with as many others. The last two may overlap those before.
 fn short_order(left: &[u8], right: &[u8]) -> Ordering
     requires same_length { length left.now ≡ length right.now }
-    requires short { length left.now ≤ 3 }
+    requires max_len { length left.now ≤ 3 }
     ensures { result ≡ slice_cmp nat_cmp left.now right.now }
 {
     let len = left.len();
@@ -87,8 +87,8 @@ fn short_order(left: &[u8], right: &[u8]) -> Ordering
     two_order(&left[len - 2..], &right[len - 2..])
 }
 
-/// The order of eight bytes or more as of as many others, eight at a time. The last eight may be in
-/// part those before.
+/// Compares eight or more bytes with as many others, eight at a time. The last eight may overlap those
+/// before.
 fn long_order(left: &[u8], right: &[u8]) -> Ordering
     requires same_length { length left.now ≡ length right.now }
     requires long { 8 ≤ length left.now }
@@ -106,7 +106,7 @@ fn long_order(left: &[u8], right: &[u8]) -> Ordering
     eight_order(&left[last..], &right[last..])
 }
 
-/// The order of the first eight bytes, which is that of the numbers that they spell.
+/// Compares the first eight bytes, as big-endian numbers.
 fn eight_order(left: &[u8], right: &[u8]) -> Ordering
     requires left { 8 ≤ length left.now }
     requires right { 8 ≤ length right.now }
@@ -115,7 +115,7 @@ fn eight_order(left: &[u8], right: &[u8]) -> Ordering
     first_eight(left).cmp(&first_eight(right))
 }
 
-/// The first eight bytes as a number, whose first digit in base 256 is the first byte.
+/// The first eight bytes as a big-endian number.
 fn first_eight(name: &[u8]) -> u64
     requires { 8 ≤ length name.now }
     ensures { result ≡ from_be_bytes w64 (take 8 name.now) }
@@ -125,7 +125,7 @@ fn first_eight(name: &[u8]) -> u64
     ])
 }
 
-/// The order of the first four bytes.
+/// Compares the first four bytes.
 fn four_order(left: &[u8], right: &[u8]) -> Ordering
     requires left { 4 ≤ length left.now }
     requires right { 4 ≤ length right.now }
@@ -134,7 +134,7 @@ fn four_order(left: &[u8], right: &[u8]) -> Ordering
     first_four(left).cmp(&first_four(right))
 }
 
-/// The first four bytes as a number.
+/// The first four bytes as a big-endian number.
 fn first_four(name: &[u8]) -> u32
     requires { 4 ≤ length name.now }
     ensures { result ≡ from_be_bytes w32 (take 4 name.now) }
@@ -142,7 +142,7 @@ fn first_four(name: &[u8]) -> u32
     u32::from_be_bytes([name[0], name[1], name[2], name[3]])
 }
 
-/// The order of the first two bytes.
+/// Compares the first two bytes.
 fn two_order(left: &[u8], right: &[u8]) -> Ordering
     requires left { 2 ≤ length left.now }
     requires right { 2 ≤ length right.now }
@@ -151,7 +151,7 @@ fn two_order(left: &[u8], right: &[u8]) -> Ordering
     first_two(left).cmp(&first_two(right))
 }
 
-/// The first two bytes as a number.
+/// The first two bytes as a big-endian number.
 fn first_two(name: &[u8]) -> u16
     requires { 2 ≤ length name.now }
     ensures { result ≡ from_be_bytes w16 (take 2 name.now) }
@@ -159,9 +159,9 @@ fn first_two(name: &[u8]) -> u16
     u16::from_be_bytes([name[0], name[1]])
 }
 
-/// The order of the keys of two names, which have a `/` behind a tree's.
+/// Compares the keys of two names, which have `/` appended to a tree's name.
 ///
-/// It differs from [`name_order`] only where a name has a `/`. It takes no memory.
+/// It differs from [`name_order`] only for names with `/`. Allocates nothing.
 pub fn key_order(left: &[u8], left_is_tree: bool, right: &[u8], right_is_tree: bool) -> Ordering
     ensures { result ≡ slice_cmp nat_cmp (key_of left.now left_is_tree)
         (key_of right.now right_is_tree) }
@@ -171,14 +171,14 @@ pub fn key_order(left: &[u8], left_is_tree: bool, right: &[u8], right_is_tree: b
     names.then(lengths)
 }
 
-/// The length of the key: of the name, and one more for a tree.
+/// The length of the key: that of the name, and one more for a tree.
 fn key_len(name: &[u8], is_tree: bool) -> usize
     ensures { result ≡ length (key_of name.now is_tree) }
 {
     name.len() + usize::from(is_tree)
 }
 
-/// The first byte of the rest of a name, where a tree's end counts as `/`.
+/// The first byte of the rest of a name. The end of a tree's name counts as `/`.
 fn next_byte(rest: &[u8], is_tree: bool) -> Option<u8>
     ensures { result ≡ next_byte rest.now is_tree }
 {

@@ -4,13 +4,14 @@ ghost use Rattle.gixobj_tree.specs.Entries.{ComesBefore, EachLater, IsEntryName,
 ghost use Rattle.gixobj_tree.specs.WellFormed.{AreApart, HasKey, HasNamesake, HaveEntryNames};
 
 use super::{Entry, Tree};
-use gixobj_hash::texts::has_byte;
+use gixobj_hash::split::has_byte;
 
 impl Tree {
-    /// Whether each name is filled and without `/`, no name stands twice, and the entries ascend by
-    /// [`name_order`](super::name_order).
+    /// Whether the tree is well-formed.
     ///
-    /// It takes no memory. The name of each directory is sought among the entries by halves.
+    /// Each name is non-empty and without `/`, no two names are equal, and the entries ascend by
+    /// [`name_order`](super::name_order). Allocates nothing. A binary search looks up the name of each
+    /// directory among the entries.
     pub fn is_well_formed(&self) -> bool
         ensures { IsTrue result ↔ IsWellFormed self.now }
     {
@@ -18,6 +19,7 @@ impl Tree {
     }
 }
 
+/// Whether each name is non-empty and without `/`.
 fn have_entry_names(entries: &[Entry]) -> bool
     ensures { IsTrue result ↔ HaveEntryNames entries.now }
 {
@@ -26,21 +28,21 @@ fn have_entry_names(entries: &[Entry]) -> bool
         .all(|entry| is_entry_name(entry.filename.as_bytes()))
 }
 
-/// Whether the name is filled and has no `/`.
+/// Whether the name is non-empty and without `/`.
 fn is_entry_name(name: &[u8]) -> bool
     ensures { IsTrue result ↔ IsEntryName name.now }
 {
     !name.is_empty() && !has_byte(name, b'/')
 }
 
-/// Whether each entry comes before those behind it.
+/// Whether each entry comes before all later ones.
 fn ascend(entries: &[Entry]) -> bool
     ensures { IsTrue result ↔ EachLater ComesBefore entries.now }
 {
     entries.is_sorted_by(|entry, next| entry.key_order(next).is_lt())
 }
 
-/// Whether no name stands twice. Among ascending entries only a file and a directory can share one.
+/// Whether no two names are equal. Among ascending entries only a file and a directory can share a name.
 fn are_apart(entries: &[Entry]) -> bool
     requires names { HaveEntryNames entries.now }
     requires ascending { EachLater ComesBefore entries.now }
@@ -49,7 +51,7 @@ fn are_apart(entries: &[Entry]) -> bool
     !entries.iter().any(|entry| has_namesake(entries, entry))
 }
 
-/// Whether the entry is a directory, and a file has its name.
+/// Whether the entry is a directory that shares its name with a file.
 fn has_namesake(entries: &[Entry], entry: &Entry) -> bool
     requires { EachLater ComesBefore entries.now }
     ensures { IsTrue result ↔ HasNamesake entries.now entry.now }

@@ -1,25 +1,25 @@
--- The parts that are cut off, from the left, are those of an actor line.
+-- The parts that are split from the left are those of an actor line.
 use Rattle.std.proofs.Common.{rules}
-use Rattle.gixobj_actor.proofs.ActorLines.{line_of_cuts, no_first, no_last}
+use Rattle.gixobj_actor.proofs.ActorLines.{line_of_splits, no_first, no_last}
 use Rattle.gixobj_actor.proofs.actor.split_line.Goals as goal
 
-pub returns-in_err-text-clause-none : goal.returns-in_err-text-clause-none
-returns-in_err-text-clause-none c = rw c.from_residual.ensures (no_first _ c.in_err-text.ensures.none)
+pub returns-in_err-content-clause-none : goal.returns-in_err-content-clause-none
+returns-in_err-content-clause-none c = rw c.from_residual.ensures (no_first _ c.in_err-content.ensures.none)
 
 pub returns-in_err-email-clause-none : goal.returns-in_err-email-clause-none
 returns-in_err-email-clause-none c =
-    rw c.from_residual-in_err-email.ensures (no_last _ _ _ c.in_ok-text.ensures.found c.in_err-email.ensures.none)
+    rw c.from_residual-in_err-email.ensures (no_last _ _ _ c.in_ok-content.ensures.found c.in_err-email.ensures.none)
 
 pub returns-clause-found : goal.returns-clause-found
 returns-clause-found c =
-    rw (c.new.ensures, c.new-2.ensures, c.new-3.ensures) (line_of_cuts _ _ _ _ _ record {
-      text = c.in_ok-text.text.now;
-      behind = c.in_ok-text.behind.now;
+    rw (c.new.ensures, c.new-2.ensures, c.new-3.ensures) (line_of_splits _ _ _ _ _ record {
+      name_bytes = c.in_ok-content.content.now;
+      following = c.in_ok-content.after_less_than.now;
       after = c.in_ok-email.after.now;
       gap = c.without_gap.ensures.0;
       tail = c.without_gap.result.now;
       one_line = search rules;
-      first = c.in_ok-text.ensures.found;
+      first = c.in_ok-content.ensures.found;
       last = c.in_ok-email.ensures.found;
       skipped = c.without_gap.ensures.1;
       spaced = c.without_gap.ensures.2;

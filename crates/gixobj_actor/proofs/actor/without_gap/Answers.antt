@@ -1,4 +1,4 @@
--- The space that is skipped is the gap.
+-- The skipped space is the gap.
 use Rattle.std.proofs.Common.{◌∷◌, [], inl, refl, rules}
 use Rattle.gixobj_actor.proofs.actor.without_gap.Goals as goal
 

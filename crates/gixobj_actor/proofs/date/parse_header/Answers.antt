@@ -1,5 +1,5 @@
--- A text without a space is none of a time; else its two parts are those at the first space.
-use Rattle.gixobj_actor.proofs.TimeTexts.{spaceless_is_no_time, time_parts}
+-- Bytes without a space are malformed; else the bytes before and after the first space decode to seconds and offset.
+use Rattle.gixobj_actor.proofs.EncodedTimes.{spaceless_is_no_time, time_parts}
 use Rattle.gixobj_actor.proofs.date.parse_header.Goals as goal
 
 pub returns-in_err-seconds-clause-none : goal.returns-in_err-seconds-clause-none

@@ -3,8 +3,8 @@ use Rattle.std.specs.List.{AllZip}
 use Rattle.std.specs.Prelude.{codes}
 use Rattle.gix_object.specs.CommitViews.{commit_lines}
 use Rattle.gix_object.specs.ExtraHeaders.{hash_kind_of, searched, values_named}
-use Rattle.gix_object.specs.HeadersLeft.{headers_left}
-use Rattle.gix_object.specs.Mergetags.{IsTagOf, mergetag_kind, mergetag_values, mergetags_left}
+use Rattle.gix_object.specs.RemainingHeaders.{remaining_headers}
+use Rattle.gix_object.specs.Mergetags.{IsTagOf, mergetag_kind, mergetag_values, remaining_mergetags}
 use Rattle.gix_object.specs.hash.decode.Error.{Error}
 use Rattle.gix_object.specs.hash.hash.kind.Kind.{Kind}
 use Rattle.gix_object.specs.tag.tag.TagRef.{TagRef}
@@ -13,13 +13,15 @@ use Rattle.gixobj_callers.proofs.auditor.merged_tags_of.Goals as goal
 pub returns : goal.returns
 returns c =
     let tags = c.mergetags.result in
-    let values : mergetags_left headers_left tags ≡ values_named (codes "mergetag") (commit_lines c.args.commit.now).extra_headers =
-    ap (λ name. values_named name (headers_left (searched (mergetag_values tags)))) c.mergetags.ensures.name
-    ∙ ap (values_named (codes "mergetag")) (ap headers_left c.mergetags.ensures.headers ∙ c.extra_headers.ensures.headers) in
+    let values : remaining_mergetags remaining_headers tags ≡ values_named (codes "mergetag") (commit_lines c.args.commit.now).extra_headers =
+    ap (λ name. values_named name (remaining_headers (searched (mergetag_values tags)))) c.mergetags.ensures.name
+    ∙ ap (values_named (codes "mergetag")) (ap remaining_headers c.mergetags.ensures.headers ∙ c.extra_headers.ensures.headers) in
     let (items, (last, yielded, ends), (same, _)) = c.in_ok-tags.ensures.ran in
     let (after, none) = ends tt in
-    let given = c.borrowed_mergetags_are_found.ensures.given tags after items (last, yielded, none) in
-    let of_values = subst (λ (it : List (List ℕ)). AllZip (IsTagOf (mergetag_kind tags)) it items) values given in
-    let of_kind = subst (λ (it : Kind). AllZip (IsTagOf it) (values_named (codes "mergetag") (commit_lines c.args.commit.now).extra_headers) items) c.mergetags.ensures.hash_kind of_values in
-    let of_items = subst (λ (it : List (Result TagRef Error)). AllZip (IsTagOf (hash_kind_of c.extra_headers.result)) (values_named (codes "mergetag") (commit_lines c.args.commit.now).extra_headers) it) (sym same) of_kind in
+    let passed = c.borrowed_mergetag_search_complete.ensures.received tags after items (last, yielded, none) in
+    let of_values = subst (λ (it : List (List ℕ)). AllZip (IsTagOf (mergetag_kind tags)) it items) values passed in
+    let of_kind = subst (λ (it : Kind). AllZip (IsTagOf it) (values_named (codes "mergetag") (commit_lines c.args.commit.now).extra_headers) items)
+    c.mergetags.ensures.hash_kind of_values in
+    let of_items = subst (λ (it : List (Result TagRef Error)). AllZip (IsTagOf (hash_kind_of c.extra_headers.result))
+    (values_named (codes "mergetag") (commit_lines c.args.commit.now).extra_headers) it) (sym same) of_kind in
     (hash_kind_of c.extra_headers.result, c.extra_headers.ensures.hash_kind, of_items)

@@ -1,49 +1,58 @@
--- What a new editor of the root makes of the entries, and the write behind them.
+-- A new editor of the root inserts the entries, and then writes.
 use Rattle.std.proofs.Common.{subst}
 use Rattle.gixobj_callers.specs.Checkouts.{IsFilled, IsNotFilled}
 use Rattle.gixobj_callers.proofs.Planned.{is_started}
-use Rattle.gixobj_callers.proofs.PutIn.{checked_out_files}
+use Rattle.gixobj_callers.proofs.Inserted.{checked_out_files}
 use Rattle.gixobj_callers.proofs.checkout.with_entries_at.Goals as goal
-use Rattle.gix_object.specs.Stores.{Meaning}
+use Rattle.gix_object.specs.Stores.{StoreModel}
 use Rattle.gix_object.specs.Bases.{HasBases}
 use Rattle.gix_object.specs.Calls.{names_of}
 use Rattle.gix_object.specs.Cursors.{prefix_of}
 use Rattle.gix_object.specs.Files.{Files, SameFiles}
 use Rattle.gix_object.specs.State.{EditorFiles, State, open_bases, open_dirs}
 
-pub returns-in-Err-clause-refusal : goal.returns-in-Err-clause-refusal
-returns-in-Err-clause-refusal g c =
-    let means : Meaning g.row.S.Denot = record { objects = g.S.Store.objects; may_fail = g.S.Store.may_fail } in
+pub returns-in-Err-clause-error : goal.returns-in-Err-clause-error
+returns-in-Err-clause-error g c =
+    let means : StoreModel g.row.S.Denot = record { objects = g.S.Store.objects; may_fail = g.S.Store.may_fail } in
     let new = c.new-editor.ensures in
-    let begun = is_started c.new-editor.result c.args.store c.args.object_hash c.args.root new.dirs new.bases new.store new.lookups new.object_hash new.prefix in
-    subst (λ (state : State g.row.S.Denot). IsNotFilled means state (prefix_of (names_of c.args.prefix.now)) c.args.entries.now c.in-Err.error) begun (c.in-Err.ensures {u = tt}).refusal
+    let begun = is_started c.new-editor.result c.args.store c.args.object_hash c.args.root new.dirs new.bases new.store new.lookups new.object_hash
+    new.prefix in
+    subst (λ (state : State g.row.S.Denot). IsNotFilled means state (prefix_of (names_of c.args.prefix.now)) c.args.entries.now c.in-Err.error) begun
+    (c.in-Err.ensures {u = tt}).error
 
 pub returns-in-Ok-clause-files : goal.returns-in-Ok-clause-files
 returns-in-Ok-clause-files g c = λ trees fits T n agrees pairs.
-    let means : Meaning g.row.S.Denot = record { objects = g.S.Store.objects; may_fail = g.S.Store.may_fail } in
+    let means : StoreModel g.row.S.Denot = record { objects = g.S.Store.objects; may_fail = g.S.Store.may_fail } in
     let new = c.new-editor.ensures in
-    let begun = is_started c.new-editor.result c.args.store c.args.object_hash c.args.root new.dirs new.bases new.store new.lookups new.object_hash new.prefix in
-    let filled = subst (λ (state : State g.row.S.Denot). IsFilled means state (prefix_of (names_of c.args.prefix.now)) c.args.entries.now c.put_entries_at.new.editor) begun (c.in_default.ensures {u = tt}).filled in
+    let begun = is_started c.new-editor.result c.args.store c.args.object_hash c.args.root new.dirs new.bases new.store new.lookups new.object_hash
+    new.prefix in
+    let filled = subst (λ (state : State g.row.S.Denot). IsFilled means state (prefix_of (names_of c.args.prefix.now)) c.args.entries.now
+    c.insert_entries_at.new.editor) begun (c.in_default.ensures {u = tt}).filled in
     let (last, wrote) = (c.in-Ok.ensures {u = tt}).written in
     let bases = subst (λ (state : State g.row.S.Denot). HasBases T (open_dirs state) (open_bases state)) begun (new.has_bases T) in
     let files = subst (λ (state : State g.row.S.Denot). SameFiles (EditorFiles T n state) (Files T n c.args.root)) begun (new.files T n) in
-    checked_out_files means (prefix_of (names_of c.args.prefix.now)) trees T n agrees _ c.args.out c.args.store c.args.object_hash c.args.root c.args.entries.now c.in-Ok.written bases files
-    (c.put_entries_at.new.editor, c.write.new.self, last, filled, wrote) fits pairs
+    checked_out_files means (prefix_of (names_of c.args.prefix.now)) trees T n agrees _ c.args.out c.args.store c.args.object_hash c.args.root
+    c.args.entries.now c.in-Ok.written bases files
+    (c.insert_entries_at.new.editor, c.write.new.self, last, filled, wrote) fits pairs
 
 pub returns-in-Ok-clause-done : goal.returns-in-Ok-clause-done
 returns-in-Ok-clause-done g c =
-    let means : Meaning g.row.S.Denot = record { objects = g.S.Store.objects; may_fail = g.S.Store.may_fail } in
+    let means : StoreModel g.row.S.Denot = record { objects = g.S.Store.objects; may_fail = g.S.Store.may_fail } in
     let new = c.new-editor.ensures in
-    let begun = is_started c.new-editor.result c.args.store c.args.object_hash c.args.root new.dirs new.bases new.store new.lookups new.object_hash new.prefix in
-    let filled = subst (λ (state : State g.row.S.Denot). IsFilled means state (prefix_of (names_of c.args.prefix.now)) c.args.entries.now c.put_entries_at.new.editor) begun (c.in_default.ensures {u = tt}).filled in
+    let begun = is_started c.new-editor.result c.args.store c.args.object_hash c.args.root new.dirs new.bases new.store new.lookups new.object_hash
+    new.prefix in
+    let filled = subst (λ (state : State g.row.S.Denot). IsFilled means state (prefix_of (names_of c.args.prefix.now)) c.args.entries.now
+    c.insert_entries_at.new.editor) begun (c.in_default.ensures {u = tt}).filled in
     let (last, wrote) = (c.in-Ok.ensures {u = tt}).written in
-    (c.put_entries_at.new.editor, c.write.new.self, last, filled, wrote)
+    (c.insert_entries_at.new.editor, c.write.new.self, last, filled, wrote)
 
-pub returns-clause-refusal : goal.returns-clause-refusal
-returns-clause-refusal g c =
-    let means : Meaning g.row.S.Denot = record { objects = g.S.Store.objects; may_fail = g.S.Store.may_fail } in
+pub returns-clause-error : goal.returns-clause-error
+returns-clause-error g c =
+    let means : StoreModel g.row.S.Denot = record { objects = g.S.Store.objects; may_fail = g.S.Store.may_fail } in
     let new = c.new-editor.ensures in
-    let begun = is_started c.new-editor.result c.args.store c.args.object_hash c.args.root new.dirs new.bases new.store new.lookups new.object_hash new.prefix in
-    let filled = subst (λ (state : State g.row.S.Denot). IsFilled means state (prefix_of (names_of c.args.prefix.now)) c.args.entries.now c.put_entries_at.new.editor) begun (c.in_default.ensures {u = tt}).filled in
-    let (last, stopped) = (c.in-Err-write.ensures {u = tt}).stopped in
-    (c.put_entries_at.new.editor, last, filled, stopped)
+    let begun = is_started c.new-editor.result c.args.store c.args.object_hash c.args.root new.dirs new.bases new.store new.lookups new.object_hash
+    new.prefix in
+    let filled = subst (λ (state : State g.row.S.Denot). IsFilled means state (prefix_of (names_of c.args.prefix.now)) c.args.entries.now
+    c.insert_entries_at.new.editor) begun (c.in_default.ensures {u = tt}).filled in
+    let (last, stopped) = (c.in-Err-write.ensures {u = tt}).error in
+    (c.insert_entries_at.new.editor, last, filled, stopped)

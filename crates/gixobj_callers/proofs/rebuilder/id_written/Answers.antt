@@ -1,4 +1,4 @@
--- The id that the reply at a place tells of.
+-- The id that the reply at an index reports.
 use Rattle.std.proofs.Common.{rules}
 use Rattle.gixobj_callers.proofs.Rebuilt.{names, names_none, past_end}
 use Rattle.gixobj_callers.proofs.rebuilder.id_written.Goals as goal
@@ -11,4 +11,5 @@ returns-in-Some-id_in-clause-found g c =
     names c.args.replies.now c.args.place c.in-Some.reply.now c.in-Some-id_in.id c.in-Some.ensures.lookup.3.0 c.in-Some.ensures.lookup.1 c.in-Some-id_in.ensures
 
 pub returns-in-None-clause-none : goal.returns-in-None-clause-none
-returns-in-None-clause-none g c = names_none c.args.replies.now c.args.place c.in-Some.reply.now c.in-Some.ensures.lookup.3.0 c.in-Some.ensures.lookup.1 c.in-None.ensures
+returns-in-None-clause-none g c = names_none c.args.replies.now c.args.place c.in-Some.reply.now c.in-Some.ensures.lookup.3.0 c.in-Some.ensures.lookup.1
+    c.in-None.ensures

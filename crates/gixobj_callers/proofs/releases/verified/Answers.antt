@@ -11,5 +11,7 @@ pub returns-clause-accepted : goal.returns-clause-accepted
 returns-clause-accepted g c =
     let options = options_view c.args.options in
     let signed = signed_bytes c.args.signed.now in
-    subst (λ (bytes : List ℕ). IfOk c.verify.result (λ outcome. (outcome_view outcome).valid ≡ true → Vouches g.R.Runner.runs options bytes signed c.args.runner.now (outcome_view outcome) c.verify.new.runner)) c.new.ensures
-    (outcome_accepted g.R.Runner.runs options (bstr_bytes c.new.result) signed c.verify.ensures.format c.args.runner.now c.verify.new.runner c.verify.result c.verify.ensures.went)
+    subst (λ (bytes : List ℕ). IfOk c.verify.result (λ outcome. (outcome_view outcome).valid ≡ true
+    → Vouches g.R.Runner.runs options bytes signed c.args.runner.now (outcome_view outcome) c.verify.new.runner)) c.new.ensures
+    (outcome_accepted g.R.Runner.runs options (bstr_bytes c.new.result) signed c.verify.ensures.format c.args.runner.now c.verify.new.runner c.verify.result
+    c.verify.ensures.called)

@@ -4,7 +4,15 @@ use Rattle.gix_object.specs.Streams.{list_view}
 use Rattle.gix_object.specs.hash.hash.kind.Kind.{Kind}
 use Rattle.gixobj_callers.proofs.store.taken_over.Goals as goal
 
-pub returns-in-Err-write_to_vec-clause-refusal : goal.returns-in-Err-write_to_vec-clause-refusal
-returns-in-Err-write_to_vec-clause-refusal c =
-    let read = subst (λ (k : Kind). IsLooseObject k c.args.loose.now c.in-Ok.object) c.kind.ensures c.in-Ok.ensures.found in
-    (c.in-Ok.object, read, (list_view c.new-text.result, list_view c.write_to_vec.new.out, ap Some c.new-text.ensures.items, c.in-Err-write_to_vec.ensures.refusal))
+pub returns-in-Err-write_to_vec-clause-error : goal.returns-in-Err-write_to_vec-clause-error
+returns-in-Err-write_to_vec-clause-error c =
+    let read = subst (λ (k : Kind). IsLooseObject k c.args.loose.now c.in-Ok.object) c.kind.ensures c.in-Ok.ensures.found in (
+      c.in-Ok.object,
+      read,
+      (
+        list_view c.new-bytes.result,
+        list_view c.write_to_vec.new.out,
+        ap Some c.new-bytes.ensures.items,
+        c.in-Err-write_to_vec.ensures.error,
+      ),
+    )

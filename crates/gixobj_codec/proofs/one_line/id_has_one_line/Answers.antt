@@ -1,5 +1,5 @@
 use Rattle.std.proofs.Common.{ap, length, subst, sym, ◌∙◌}
-use Rattle.gixobj_hash.specs.Hash.{hex_text}
+use Rattle.gixobj_hash.specs.Hash.{encode_id_hex}
 use Rattle.hex.specs.Hex.{IsBytes}
 use Rattle.gixobj_codec.proofs.OwnedFields.{digits_have_one_line}
 use Rattle.gixobj_codec.proofs.one_line.id_has_one_line.Goals as goal
@@ -7,5 +7,5 @@ use Rattle.gixobj_codec.proofs.one_line.id_has_one_line.Goals as goal
 pub returns : goal.returns
 returns c =
     let value = c.as_bytes.ensures.value in
-    digits_have_one_line (hex_text c.args.id.now)
-    (c.hex_reads_back.ensures.lower_case c.args.id.now (ap length (sym value) ∙ c.as_bytes.ensures.len, subst IsBytes value c.are_bytes.ensures))
+    digits_have_one_line (encode_id_hex c.args.id.now)
+    (c.hex_round_trips.ensures.lower_case c.args.id.now (ap length (sym value) ∙ c.as_bytes.ensures.len, subst IsBytes value c.are_bytes.ensures))

@@ -1,7 +1,7 @@
-//! Owned commits, written (gitdatamodel, "commits").
+//! Encoding of owned commits (gitdatamodel, "commits").
 
 use super::super::Commit;
-use super::{ids_size, put_ids, put_rest, size_with_rest};
+use super::{ids_size, size_with_rest, write_ids, write_rest};
 use gixobj_actor::encode::{size_with_signature, trusted_header_signature};
 use gixobj_fields::WriteTo;
 use gixobj_fields::encode::Error;
@@ -10,29 +10,34 @@ use gixobj_hash::Kind;
 use gixobj_hash::optional::borrowed;
 use std::alloc::Global;
 
-/// A commit is written with its actors and their times as these are written.
+/// Encodes a commit from the parts of its actors and times.
 ///
-/// An author whose name or email has a `<`, a `>` or a newline is refused as `IllegalActor` behind
-/// `author` and a space, and so is a committer behind `committer` and a space. An empty encoding is
-/// refused as `EmptyValue`, and one with a newline as `NewlineInHeaderValue`, before any byte of its line.
+/// # Errors
+///
+/// - [`Error::Writer`] with the sink's error; a prefix of the encoding is written.
+/// - [`Error::IllegalActor`] if a name or email has a `<`, a `>` or a newline, after `author` or `committer`
+///   and a space.
+/// - [`Error::EmptyValue`] if the message encoding is empty, before its line.
+/// - [`Error::NewlineInHeaderValue`] with the message encoding if it has a newline, before its line.
+/// - [`Error::OutOfMemory`] if copying the rejected message encoding fails to allocate.
 impl WriteTo for Commit {
     ghost use Rattle.gixobj_hash.specs.declared.kind.Kind.TheVariants as kind;
     ghost use Rattle.gixobj_commit.specs.CommitViews.{owned_commit_lines};
-    ghost use Rattle.gixobj_commit.specs.CommitWriting.{RefusesOwnedCommit, commit_text};
+    ghost use Rattle.gixobj_commit.specs.CommitWriting.{IsOwnedCommitError, encode_commit};
 
     ghost object_kind = { λ _. kind.Commit };
 
-    ghost text = { λ commit. commit_text (owned_commit_lines commit) };
+    ghost encoding = { λ commit. encode_commit (owned_commit_lines commit) };
 
-    ghost refuses = { RefusesOwnedCommit };
+    ghost rejects = { IsOwnedCommitError };
 
     fn write_into<S: Sink>(&self, alloc: Global, sink: &mut S) -> Result<(), Error> {
         let (parents, encoding) = (self.parents.as_slice(), borrowed(&self.encoding));
         let (headers, message) = (self.extra_headers.as_slice(), self.message.as_bytes());
-        put_ids(&self.tree, parents, sink)?;
+        write_ids(&self.tree, parents, sink)?;
         trusted_header_signature(b"author", &self.author, sink)?;
         trusted_header_signature(b"committer", &self.committer, sink)?;
-        put_rest(alloc, encoding, headers, message, sink)
+        write_rest(alloc, encoding, headers, message, sink)
     }
 
     fn kind(&self) -> Kind {

@@ -1,8 +1,8 @@
--- The directory of the name can stand only among those that are left, and the next look is at one of these.
+-- The directory of the name can be at the remaining positions alone, and the next comparison is at one of these.
 use Rattle.std.proofs.Common.{◌<◌, ◌≤◌, ◌-◌, length, true}
 use Rattle.bstr.specs.Owned.{bstring_bytes}
 use Rattle.gixobj_tree.specs.Entries.{key_of}
-use Rattle.gixobj_files.proofs.Halves.{IsNarrowed}
+use Rattle.gixobj_files.proofs.BinarySearch.{IsNarrowed}
 use Rattle.gixobj_directories.proofs.Ordered.{child_key}
 use Rattle.gixobj_directories.proofs.open.child_place.Given as goal
 

@@ -8,11 +8,11 @@ use Rattle.gixobj_directories.proofs.Ordered.{inserted}
 use Rattle.gixobj_directories.proofs.open.insert_child.Goals as goal
 
 pub insert-requires : goal.insert-requires
-insert-requires c = omega (arith, c.requires.place, prefix_short (is_child_before (bstring_bytes c.args.name)) c.args.children.now.items)
+insert-requires c = omega (arith, c.requires.position, prefix_short (is_child_before (bstring_bytes c.args.name)) c.args.children.now.items)
 
 pub returns : goal.returns
 returns c =
     let cs = c.args.children.now.items in
     let child : Child = record { name = c.args.name; «open» = c.args.inner } in
-    let ok : is_ok c.insert.result ≡ true = c.insert.ensures.succeeds (omega (arith, c.requires.room)) in
-    ap parts (rw ok at c.insert.ensures.items) ∙ ap (λ k. parts (insert cs k child)) c.requires.place ∙ inserted cs child
+    let ok : is_ok c.insert.result ≡ true = c.insert.ensures.succeeds (omega (arith, c.requires.has_capacity)) in
+    ap parts (rw ok at c.insert.ensures.items) ∙ ap (λ k. parts (insert cs k child)) c.requires.position ∙ inserted cs child

@@ -1,3 +1,5 @@
+-- Each step of the walk of a write, along entries and into open directories, meets its contract: for `leaves` and
+-- `visit`.
 use Rattle.std.proofs.Common.{◌≡◌, ◌≢◌, ◌∙◌, ◌+◌, ◌<◌, ℕ, [], ◌∷◌, ◌++◌, List, Option, Some, None, Ok, Err, drop, length, refl, rules, sym, ap, subst, arith, append_assoc, append-nil}
 use Rattle.std.specs.Fn.{CalledAt}
 use Rattle.std.specs.Option.{option_copied}
@@ -6,144 +8,204 @@ use denote.Ref.{Bor}
 use Rattle.gixobj_tree.specs.Entries.{EntryView, IsWellFormed, Pair}
 use Rattle.gixobj_hash.specs.declared.hash.object_id.ObjectId.{ObjectId}
 use Rattle.gixobj_directories.specs.Calls.{IsStorable}
-use Rattle.gixobj_directories.specs.Handing.{Stopped, Visits, child_side, kept_with, next_child}
-use Rattle.gixobj_files.specs.HandingOut.{Leaves, entry_with, leaves}
+use Rattle.gixobj_directories.specs.Emitting.{Stopped, Visits, child_side, kept_with, next_child}
+use Rattle.gixobj_files.specs.Emission.{EmitsBelow, entry_with, leaves}
 use Rattle.gixobj_directories.specs.Nested.{Opened, base_side, bases_of, below, dirs_of, entries_side, parts}
-use Rattle.gixobj_files.specs.OwnTrees.{so_far}
-use Rattle.gixobj_directories.specs.Wholes.{Adds, child_wholes, inside_of, wholes}
+use Rattle.gixobj_files.specs.WrittenTrees.{so_far}
+use Rattle.gixobj_directories.specs.LeafTrees.{Adds, child_leaf_trees, inside_of, leaf_trees}
 use Rattle.gixobj_directories.specs.declared.open.Child.{Child}
 use Rattle.gixobj_files.specs.Opening.{Dirs, in_dir}
-use Rattle.gixobj_directories.proofs.Handing.{counts, in_both, raised_then, visit_unchanged, FoldsTo-append, FoldsTo-one, callable_after, err_weaker, is_empty_list, is_filled_list, open_side, stopped_after, stopped_here, visit_emptied, visit_open, visit_shut, visit_written, walk_ends, walk_goes, walk_on, walk_step, walk_storable}
+use Rattle.gixobj_directories.proofs.Emitting.{counts, in_both, raised_then, visit_unchanged, FoldsTo-append, FoldsTo-one, callable_after, err_weaker, is_empty_list, is_filled_list, open_side, stopped_after, stopped_here, visit_emptied, visit_open, visit_unopened, visit_written, walk_ends, walk_goes, walk_on, walk_step, walk_storable}
 use Rattle.gixobj_directories.proofs.Levels.{level_root}
-use Rattle.gixobj_directories.proofs.Alongside.{Ahead, all_ahead, given_fewer, given_size, stepped}
-use Rattle.gixobj_directories.proofs.WholeTrees.{adds_blank, adds_child, adds_given, adds_none, adds_then, none_left, whole_goes, wholes_ahead}
+use Rattle.gixobj_directories.proofs.Alongside.{Ahead, all_ahead, passed_fewer, passed_size, stepped}
+use Rattle.gixobj_directories.proofs.LeafTrees.{adds_blank, adds_child, adds_passed, adds_none, adds_then, none_remaining, leaf_tree_is_emitted, leaf_trees_ahead}
 use Rattle.gixobj_directories.proofs.write.+walk.Goals as goal
 
 pub leaves-loop-entry-init : goal.leaves-loop-entry-init
 leaves-loop-entry-init g t c = record {
-  told = ([], 0, ([], adds_none c.args.pairs.now.items, ap (λ cs. wholes (below (parts cs))) c.deref-left.ensures.value ∙ ap (λ (ds : Opened). wholes (inside_of ds)) c.node.view_is), refl, refl, rw c.new-own.ensures (λ qs own n walk. counts n (0 + n) (omega arith) walk));
+  emits = (
+    [],
+    0,
+    (
+      [],
+      adds_none c.args.pairs.now.items,
+      ap (λ cs. leaf_trees (below (parts cs))) c.deref-remaining.ensures.value
+          ∙ ap (λ (ds : Opened). leaf_trees (inside_of ds)) c.node.view_is,
+    ),
+    refl,
+    refl,
+    rw c.new-own.ensures
+        (λ qs own n walk. counts n (0 + n) (omega arith) walk),
+  );
   callable = c.requires.callable;
-  beside = rw c.new-own.ensures (omega arith);
-  ahead = rw (c.entries_of-entry-items.ensures, c.deref-left.ensures.value) (all_ahead c.args.node.now c.node.inside.tree c.node.inside.base c.node.inside.children.items c.node.view_is c.node.invariant);
+  shares_base = rw c.new-own.ensures (omega arith);
+  ahead = rw (c.entries_of-entry-items.ensures, c.deref-remaining.ensures.value)
+      (all_ahead c.args.node.now c.node.inside.tree c.node.inside.base c.node.inside.children.items c.node.view_is c.node.invariant);
 }
 
 pub leaves-loop-entry-preserved : goal.leaves-loop-entry-preserved
 leaves-loop-entry-preserved g t c =
-    let so = c.loop-entry.invariant.told in
+    let so = c.loop-entry.invariant.emits in
     let e = c.entry-item.result in
     let node = c.args.node.now in
     let dirs = dirs_of node in
     let bases = bases_of node in
     let items = c.entries_of-entry-items.result.now in
-    let go = stepped node items c.loop-entry.entry-index e c.loop-entry.left.now c.loop-entry-test.true c.entry-item.is c.loop-entry.invariant.ahead in
+    let go = stepped node items c.loop-entry.entry-index e c.loop-entry.remaining.now c.loop-entry-test.true c.entry-item.is
+    c.loop-entry.invariant.ahead in
     let next = option_copied c.next_of.result.0 in
     let inside = child_side entries_side next in
-    let same : in_dir e.name dirs ≡ inside = λ i path. (go.here entries_side path ∙ ap (λ (o : Option Child). child_side entries_side o path) (sym c.next_of.ensures.next)) i in
+    let same : in_dir e.name dirs ≡ inside =
+    λ i path. (go.here entries_side path ∙ ap (λ (o : Option Child). child_side entries_side o path) (sym c.next_of.ensures.next)) i in
     let based = child_side base_side next in
-    let base : in_dir e.name bases ≡ based = λ i path. (go.here base_side path ∙ ap (λ (o : Option Child). child_side base_side o path) (sym c.next_of.ensures.next)) i in
+    let base : in_dir e.name bases ≡ based =
+    λ i path. (go.here base_side path ∙ ap (λ (o : Option Child). child_side base_side o path) (sym c.next_of.ensures.next)) i in
     let ok = c.in_ok-id.ensures.ok in
     let kept = c.in_ok-keep_entry.ensures in
-    let left = c.loop-entry.left.now in
-    let ahead : child_wholes next ++ wholes (below (parts c.next_of.result.1.now)) ≡ wholes (below (parts left)) =
-    ap (λ o. child_wholes o ++ wholes (below (parts c.next_of.result.1.now))) c.next_of.ensures.next ∙ ap (λ cs. child_wholes (next_child e.name left) ++ wholes (below (parts cs))) c.next_of.ensures.behind
-    ∙ wholes_ahead e.name left c.loop-entry.invariant.ahead.ordered in
+    let remaining = c.loop-entry.remaining.now in
+    let ahead : child_leaf_trees next ++ leaf_trees (below (parts c.next_of.result.1.now)) ≡ leaf_trees (below (parts remaining)) =
+    ap (λ o. child_leaf_trees o ++ leaf_trees (below (parts c.next_of.result.1.now))) c.next_of.ensures.next
+    ∙ ap (λ cs. child_leaf_trees (next_child e.name remaining) ++ leaf_trees (below (parts cs))) c.next_of.ensures.following
+    ∙ leaf_trees_ahead e.name remaining c.loop-entry.invariant.ahead.ordered in
     record {
-      told = (
+      emits = (
         so.0 ++ ok.0,
         so.1 + ok.1,
         (
-          so.2.0 ++ child_wholes next,
-          adds_then c.args.pairs.now.items c.loop-entry.pairs.items c.visit.new.pairs.items so.2.0 so.0 (child_wholes next) ok.0 so.2.1 ok.4,
-          append_assoc so.2.0 (child_wholes next) _ ∙ ap (λ ts. so.2.0 ++ ts) ahead ∙ so.2.2,
+          so.2.0 ++ child_leaf_trees next,
+          adds_then c.args.pairs.now.items c.loop-entry.pairs.items c.visit.new.pairs.items so.2.0 so.0 (child_leaf_trees next) ok.0 so.2.1 ok.4,
+          append_assoc so.2.0 (child_leaf_trees next) _ ∙ ap (λ ts. so.2.0 ++ ts) ahead ∙ so.2.2,
         ),
         raised_then _ _ _ so.1 ok.1 so.3 ok.3,
         FoldsTo-append (λ f p h. CalledAt g.F.FnMut f p.1 (Ok p.0) h) c.args.out.now so.0 c.loop-entry.out ok.0 c.visit.new.out so.4 ok.5,
-        walk_step dirs bases inside based items c.loop-entry.entry-index e so.0 ok.0 (so_far c.args.base.now c.loop-entry.own) (kept_with e c.in_ok-id.id) so.1 ok.1 c.loop-entry-test.true c.entry-item.is same base ok.2 so.5 (so_far c.args.base.now c.keep_entry.new.own) kept.entries,
+        walk_step dirs bases inside based items c.loop-entry.entry-index e so.0 ok.0 (so_far c.args.base.now c.loop-entry.own)
+            (kept_with e c.in_ok-id.id) so.1 ok.1 c.loop-entry-test.true c.entry-item.is same base ok.2 so.5
+            (so_far c.args.base.now c.keep_entry.new.own)
+            kept.entries,
       );
-      callable = callable_after _ (λ f p h. CalledAt g.F.FnMut f p.1 (Ok p.0) h) c.loop-entry.out ok.0 c.visit.new.out ok.5 c.loop-entry.invariant.callable;
-      beside = kept.beside;
-      ahead = subst (Ahead node (drop (c.loop-entry.entry-index + 1) items)) (sym c.next_of.ensures.behind) go.ahead;
+      callable = callable_after _ (λ f p h. CalledAt g.F.FnMut f p.1 (Ok p.0) h) c.loop-entry.out ok.0 c.visit.new.out ok.5
+          c.loop-entry.invariant.callable;
+      shares_base = kept.shares_base;
+      ahead = subst (Ahead node (drop (c.loop-entry.entry-index + 1) items)) (sym c.next_of.ensures.following) go.ahead;
     }
 
 pub leaves-visit-requires : goal.leaves-visit-requires
 leaves-visit-requires g t c =
     let node = c.args.node.now in
     let items = c.entries_of-entry-items.result.now in
-    let go = stepped node items c.loop-entry.entry-index c.entry-item.result c.loop-entry.left.now c.loop-entry-test.true c.entry-item.is c.loop-entry.invariant.ahead in
-    let smaller : given_size c.next_of.result.0 < length node = given_fewer node c.next_of.result.0 _ c.next_of.ensures.next go.fewer (omega (arith, c.loop-entry.invariant.ahead.fewer)) in
+    let go = stepped node items c.loop-entry.entry-index c.entry-item.result c.loop-entry.remaining.now c.loop-entry-test.true c.entry-item.is
+    c.loop-entry.invariant.ahead in
+    let smaller : passed_size c.next_of.result.0 < length node = passed_fewer node c.next_of.result.0 _ c.next_of.ensures.next go.fewer
+    (omega (arith, c.loop-entry.invariant.ahead.fewer)) in
     λ κs lives. (omega (arith, smaller, c.decreases), (search rules, (search rules, c.loop-entry.invariant.callable)))
 
-pub leaves-returns-in_err-id-clause-stopped : goal.leaves-returns-in_err-id-clause-stopped
-leaves-returns-in_err-id-clause-stopped g t c =
-    let so = c.loop-entry.invariant.told in
+pub leaves-returns-in_err-id-clause-error : goal.leaves-returns-in_err-id-clause-error
+leaves-returns-in_err-id-clause-error g t c =
+    let so = c.loop-entry.invariant.emits in
     let e = c.entry-item.result in
     let node = c.args.node.now in
     let dirs = dirs_of node in
     let bases = bases_of node in
     let items = c.entries_of-entry-items.result.now in
-    let go = stepped node items c.loop-entry.entry-index e c.loop-entry.left.now c.loop-entry-test.true c.entry-item.is c.loop-entry.invariant.ahead in
+    let go = stepped node items c.loop-entry.entry-index e c.loop-entry.remaining.now c.loop-entry-test.true c.entry-item.is
+    c.loop-entry.invariant.ahead in
     let next = option_copied c.next_of.result.0 in
     let inside = child_side entries_side next in
-    let same : in_dir e.name dirs ≡ inside = λ i path. (go.here entries_side path ∙ ap (λ (o : Option Child). child_side entries_side o path) (sym c.next_of.ensures.next)) i in
+    let same : in_dir e.name dirs ≡ inside =
+    λ i path. (go.here entries_side path ∙ ap (λ (o : Option Child). child_side entries_side o path) (sym c.next_of.ensures.next)) i in
     let based = child_side base_side next in
-    let base : in_dir e.name bases ≡ based = λ i path. (go.here base_side path ∙ ap (λ (o : Option Child). child_side base_side o path) (sym c.next_of.ensures.next)) i in
-    let root : dirs [] ≡ Some items = level_root node c.node.inside.tree (parts c.node.inside.children.items) c.node.view_is ∙ ap Some (sym c.entries_of-entry-items.ensures) in
+    let base : in_dir e.name bases ≡ based =
+    λ i path. (go.here base_side path ∙ ap (λ (o : Option Child). child_side base_side o path) (sym c.next_of.ensures.next)) i in
+    let root : dirs [] ≡ Some items = level_root node c.node.inside.tree (parts c.node.inside.children.items) c.node.view_is
+    ∙ ap Some (sym c.entries_of-entry-items.ensures) in
     let rest = walk_on node (drop (c.loop-entry.entry-index + 1) items) in
     err_weaker c.from_residual.result _ _ c.from_residual.ensures.1
-    (λ error is. subst (Stopped (λ f p h. CalledAt g.F.FnMut f p.1 (Ok p.0) h) (λ f tree x h. CalledAt g.F.FnMut f tree (Err x) h) (λ ps. (own : List EntryView) × (n : ℕ) × Leaves dirs bases ps own n) c.args.out.now c.visit.new.out) (sym is)
-    (stopped_after (λ f p h. CalledAt g.F.FnMut f p.1 (Ok p.0) h) (λ f tree x h. CalledAt g.F.FnMut f tree (Err x) h) (λ inner. (kept : List EntryView) × (n : ℕ) × Visits inside based e inner kept n) (λ ps. (own : List EntryView) × (n : ℕ) × Leaves dirs bases ps own n)
+    (λ error is. subst (Stopped (λ f p h. CalledAt g.F.FnMut f p.1 (Ok p.0) h) (λ f tree x h. CalledAt g.F.FnMut f tree (Err x) h)
+    (λ ps. (own : List EntryView) × (n : ℕ) × EmitsBelow dirs bases ps own n) c.args.out.now c.visit.new.out) (sym is)
+    (stopped_after (λ f p h. CalledAt g.F.FnMut f p.1 (Ok p.0) h) (λ f tree x h. CalledAt g.F.FnMut f tree (Err x) h)
+    (λ inner. (kept : List EntryView) × (n : ℕ) × Visits inside based e inner kept n)
+    (λ ps. (own : List EntryView) × (n : ℕ) × EmitsBelow dirs bases ps own n)
     c.args.out.now c.loop-entry.out c.visit.new.out so.0 so.4
-    (λ qs seen. (rest.0, (so_far c.args.base.now c.loop-entry.own ++ (seen.0 ++ rest.1), so.1 + (seen.1 + rest.2), leaves dirs bases items _ _ _ root (walk_goes dirs bases inside based items c.loop-entry.entry-index e so.0 qs (so_far c.args.base.now c.loop-entry.own) seen.0 so.1 seen.1 c.loop-entry-test.true c.entry-item.is same base seen.2 so.5 rest.0 rest.1 rest.2 rest.3))))
-    c.in_err-id.field-0.0 c.in_err-id.ensures.stopped))
+    (λ qs seen. (
+      rest.0,
+      (
+        so_far c.args.base.now c.loop-entry.own ++ (seen.0 ++ rest.1),
+        so.1 + (seen.1 + rest.2),
+        leaves dirs bases items _ _ _ root
+            (walk_goes dirs bases inside based items c.loop-entry.entry-index e so.0 qs (so_far c.args.base.now c.loop-entry.own) seen.0 so.1 seen.1
+            c.loop-entry-test.true c.entry-item.is same base seen.2 so.5 rest.0 rest.1 rest.2 rest.3),
+      ),
+    ))
+    c.in_err-id.field-0.0 c.in_err-id.ensures.error))
 
-pub leaves-returns-in_err-keep_entry-clause-stopped : goal.leaves-returns-in_err-keep_entry-clause-stopped
-leaves-returns-in_err-keep_entry-clause-stopped g t c =
-    let so = c.loop-entry.invariant.told in
+pub leaves-returns-in_err-keep_entry-clause-error : goal.leaves-returns-in_err-keep_entry-clause-error
+leaves-returns-in_err-keep_entry-clause-error g t c =
+    let so = c.loop-entry.invariant.emits in
     let e = c.entry-item.result in
     let node = c.args.node.now in
     let dirs = dirs_of node in
     let bases = bases_of node in
     let items = c.entries_of-entry-items.result.now in
-    let go = stepped node items c.loop-entry.entry-index e c.loop-entry.left.now c.loop-entry-test.true c.entry-item.is c.loop-entry.invariant.ahead in
+    let go = stepped node items c.loop-entry.entry-index e c.loop-entry.remaining.now c.loop-entry-test.true c.entry-item.is
+    c.loop-entry.invariant.ahead in
     let next = option_copied c.next_of.result.0 in
     let inside = child_side entries_side next in
-    let same : in_dir e.name dirs ≡ inside = λ i path. (go.here entries_side path ∙ ap (λ (o : Option Child). child_side entries_side o path) (sym c.next_of.ensures.next)) i in
+    let same : in_dir e.name dirs ≡ inside =
+    λ i path. (go.here entries_side path ∙ ap (λ (o : Option Child). child_side entries_side o path) (sym c.next_of.ensures.next)) i in
     let based = child_side base_side next in
-    let base : in_dir e.name bases ≡ based = λ i path. (go.here base_side path ∙ ap (λ (o : Option Child). child_side base_side o path) (sym c.next_of.ensures.next)) i in
-    let root : dirs [] ≡ Some items = level_root node c.node.inside.tree (parts c.node.inside.children.items) c.node.view_is ∙ ap Some (sym c.entries_of-entry-items.ensures) in
+    let base : in_dir e.name bases ≡ based =
+    λ i path. (go.here base_side path ∙ ap (λ (o : Option Child). child_side base_side o path) (sym c.next_of.ensures.next)) i in
+    let root : dirs [] ≡ Some items = level_root node c.node.inside.tree (parts c.node.inside.children.items) c.node.view_is
+    ∙ ap Some (sym c.entries_of-entry-items.ensures) in
     let ok = c.in_ok-id.ensures.ok in
     let kept = kept_with e c.in_ok-id.id in
     let acc = so_far c.args.base.now c.loop-entry.own in
     let rest = walk_on node (drop (c.loop-entry.entry-index + 1) items) in
     err_weaker c.from_residual-in_err-keep_entry.result _ _ c.from_residual-in_err-keep_entry.ensures.1
-    (stopped_here (λ f p h. CalledAt g.F.FnMut f p.1 (Ok p.0) h) (λ f tree x h. CalledAt g.F.FnMut f tree (Err x) h) (λ ps. (own : List EntryView) × (n : ℕ) × Leaves dirs bases ps own n) c.args.out.now c.visit.new.out (so.0 ++ ok.0) rest.0
-    (FoldsTo-append (λ f p h. CalledAt g.F.FnMut f p.1 (Ok p.0) h) c.args.out.now so.0 c.loop-entry.out ok.0 c.visit.new.out so.4 ok.5)
-    ((acc ++ kept) ++ rest.1, so.1 + ok.1 + rest.2, leaves dirs bases items _ _ _ root (walk_step dirs bases inside based items c.loop-entry.entry-index e so.0 ok.0 acc kept so.1 ok.1 c.loop-entry-test.true c.entry-item.is same base ok.2 so.5 (acc ++ kept) refl rest.0 rest.1 rest.2 rest.3)))
+    (stopped_here (λ f p h. CalledAt g.F.FnMut f p.1 (Ok p.0) h) (λ f tree x h. CalledAt g.F.FnMut f tree (Err x) h)
+    (λ ps. (own : List EntryView) × (n : ℕ) × EmitsBelow dirs bases ps own n) c.args.out.now c.visit.new.out (so.0 ++ ok.0) rest.0
+    (FoldsTo-append (λ f p h. CalledAt g.F.FnMut f p.1 (Ok p.0) h) c.args.out.now so.0 c.loop-entry.out ok.0 c.visit.new.out so.4 ok.5) (
+      (acc ++ kept) ++ rest.1,
+      so.1 + ok.1 + rest.2,
+      leaves dirs bases items _ _ _ root
+          (walk_step dirs bases inside based items c.loop-entry.entry-index e so.0 ok.0 acc kept so.1 ok.1 c.loop-entry-test.true c.entry-item.is same
+          base ok.2
+          so.5 (acc ++ kept) refl rest.0 rest.1 rest.2 rest.3),
+    ))
 
 pub leaves-returns-clause-ok : goal.leaves-returns-clause-ok
 leaves-returns-clause-ok g t c =
-    let so = c.loop-entry.invariant.told in
+    let so = c.loop-entry.invariant.emits in
     let node = c.args.node.now in
     let dirs = dirs_of node in
     let items = c.entries_of-entry-items.result.now in
-    let root : dirs [] ≡ Some items = level_root node c.node.inside.tree (parts c.node.inside.children.items) c.node.view_is ∙ ap Some (sym c.entries_of-entry-items.ensures) in
+    let root : dirs [] ≡ Some items = level_root node c.node.inside.tree (parts c.node.inside.children.items) c.node.view_is
+    ∙ ap Some (sym c.entries_of-entry-items.ensures) in
     let bases = bases_of node in
     let own = so_far c.args.base.now c.loop-entry.own in
-    let none = none_left node _ _ (drop_all c.loop-entry.entry-index items c.loop-entry-test.false) c.loop-entry.invariant.ahead in
-    let all : so.2.0 ≡ wholes (inside_of node) = sym (append-nil so.2.0) ∙ ap (λ cs. so.2.0 ++ wholes (below (parts cs))) (sym none) ∙ so.2.2 in
-    let adds = subst (λ ts. Adds c.args.pairs.now.items c.loop-entry.pairs.items ts so.0) all so.2.1 in
-    (so.0, so.1, leaves dirs bases items so.0 own so.1 root (walk_ends dirs bases items c.loop-entry.entry-index so.0 own so.1 c.loop-entry-test.false so.5), so.3, adds, so.4)
+    let none = none_remaining node _ _ (drop_all c.loop-entry.entry-index items c.loop-entry-test.false) c.loop-entry.invariant.ahead in
+    let all : so.2.0 ≡ leaf_trees (inside_of node) = sym (append-nil so.2.0) ∙ ap (λ cs. so.2.0 ++ leaf_trees (below (parts cs))) (sym none)
+    ∙ so.2.2 in
+    let adds = subst (λ ts. Adds c.args.pairs.now.items c.loop-entry.pairs.items ts so.0) all so.2.1 in (
+      so.0,
+      so.1,
+      leaves dirs bases items so.0 own so.1 root (walk_ends dirs bases items c.loop-entry.entry-index so.0 own so.1 c.loop-entry-test.false so.5),
+      so.3,
+      adds,
+      so.4,
+    )
 
 pub leaves-returns-clause-storable : goal.leaves-returns-clause-storable
 leaves-returns-clause-storable g t c =
-    let so = c.loop-entry.invariant.told in
+    let so = c.loop-entry.invariant.emits in
     let dirs = dirs_of c.args.node.now in
     let items = c.entries_of-entry-items.result.now in
     let bases = bases_of c.args.node.now in
     let own = so_far c.args.base.now c.loop-entry.own in
-    walk_storable dirs bases items so.0 own so.1 (walk_ends dirs bases items c.loop-entry.entry-index so.0 own so.1 c.loop-entry-test.false so.5) (subst IsWellFormed (sym c.entries_of-entry-items.ensures) c.node.invariant.formed)
+    walk_storable dirs bases items so.0 own so.1 (walk_ends dirs bases items c.loop-entry.entry-index so.0 own so.1 c.loop-entry-test.false so.5)
+    (subst IsWellFormed (sym c.entries_of-entry-items.ensures) c.node.invariant.formed)
 
--- of two lists
+-- equal options have equal lists
 same_some : (xs ys : List EntryView) → Some xs ≡ Some ys → xs ≡ ys
 same_some xs ys is = cc is
 
@@ -152,55 +214,77 @@ visit-returns-in_default-clause-ok g t c =
     let e = c.args.entry.now in
     let inside = child_side entries_side (option_copied c.args.child) in
     let based = child_side base_side (option_copied c.args.child) in
-    let none : inside [] ≡ None = ap (λ o. child_side entries_side (option_copied o) []) c.in_default.is in
-    ([], 0, subst (λ id. Visits inside based e [] (entry_with e id) 0) (sym (ap (λ (x : EntryView). x.id) c.entry.view_is)) (visit_shut inside based e none), refl, subst (λ (o : Option (Bor Child)). Adds c.args.pairs.now.items c.args.pairs.now.items (child_wholes (option_copied o)) []) (sym c.in_default.is) (adds_none c.args.pairs.now.items), refl)
+    let none : inside [] ≡ None = ap (λ o. child_side entries_side (option_copied o) []) c.in_default.is in (
+      [],
+      0,
+      subst (λ id. Visits inside based e [] (entry_with e id) 0) (sym (ap (λ (x : EntryView). x.id) c.entry.view_is))
+          (visit_unopened inside based e none),
+      refl,
+      subst
+          (λ (o : Option (Bor Child)). Adds c.args.pairs.now.items c.args.pairs.now.items (child_leaf_trees (option_copied o)) [])
+          (sym c.in_default.is)
+          (adds_none c.args.pairs.now.items),
+      refl,
+    )
 
-pub visit-returns-in-Some-whole-clause-ok : goal.visit-returns-in-Some-whole-clause-ok
-visit-returns-in-Some-whole-clause-ok g t c =
+pub visit-returns-in-Some-leaf_tree-clause-ok : goal.visit-returns-in-Some-leaf_tree-clause-ok
+visit-returns-in-Some-leaf_tree-clause-ok g t c =
     let e = c.args.entry.now in
     let inside = child_side entries_side (option_copied c.args.child) in
     let based = child_side base_side (option_copied c.args.child) in
     let child = c.in-Some.child.now in
     let there = open_side entries_side c.args.child c.in-Some.child c.in-Some.is in
     let base = open_side base_side c.args.child c.in-Some.child c.in-Some.is in
-    let tree = c.in-Some-whole.tree.now in
-    let some = c.in-Some-whole.ensures.some in
-    let goes = whole_goes child.open tree some.0 some.1 some.2 in
-    let found : Leaves inside based [] tree 0 = in_both _ _ inside based there base [] tree 0 goes.found in
+    let tree = c.in-Some-leaf_tree.tree.now in
+    let some = c.in-Some-leaf_tree.ensures.some in
+    let goes = leaf_tree_is_emitted child.open tree some.0 some.1 some.2 in
+    let found : EmitsBelow inside based [] tree 0 = in_both _ _ inside based there base [] tree 0 goes.found in
     let changed : based [] ≢ Some tree = λ is. goes.changed (same_some _ _ (sym is ∙ sym (ap (λ (d : Dirs). d []) base) ∙ goes.based)) in
-    let handed = c.in_ok-given.ensures.ok in
-    let id = c.in_ok-given.given in
+    let emitted = c.in_ok-passed.ensures.ok in
+    let id = c.in_ok-passed.passed in
     let gave = λ (f : g.row.F.Denot) (p : Pair) (h : g.row.F.Denot). CalledAt g.F.FnMut f p.1 (Ok p.0) h in (
       (id, tree) ∷ [],
       0,
       visit_written inside based e [] tree 0 id goes.filled changed found,
       refl,
-      adds_child c.args.child c.in-Some.child c.in-Some.is (tree ∷ []) goes.adds c.args.pairs.now.items c.hand_whole.new.pairs.items ((id, tree) ∷ []) (adds_blank c.args.pairs.now.items c.hand_whole.new.pairs.items (id, []) tree refl handed.0),
-      FoldsTo-one gave c.args.out.now (id, tree) c.hand_whole.new.out handed.1,
+      adds_child c.args.child c.in-Some.child c.in-Some.is (tree ∷ []) goes.adds c.args.pairs.now.items c.emit_leaf_tree.new.pairs.items
+          ((id, tree) ∷ [])
+          (adds_blank c.args.pairs.now.items c.emit_leaf_tree.new.pairs.items (id, []) tree refl emitted.0),
+      FoldsTo-one gave c.args.out.now (id, tree) c.emit_leaf_tree.new.out emitted.1,
     )
 
-pub visit-returns-in_err-given-clause-stopped : goal.visit-returns-in_err-given-clause-stopped
-visit-returns-in_err-given-clause-stopped g t c =
+pub visit-returns-in_err-passed-clause-error : goal.visit-returns-in_err-passed-clause-error
+visit-returns-in_err-passed-clause-error g t c =
     let e = c.args.entry.now in
     let inside = child_side entries_side (option_copied c.args.child) in
     let based = child_side base_side (option_copied c.args.child) in
     let child = c.in-Some.child.now in
     let there = open_side entries_side c.args.child c.in-Some.child c.in-Some.is in
     let base = open_side base_side c.args.child c.in-Some.child c.in-Some.is in
-    let tree = c.in-Some-whole.tree.now in
-    let some = c.in-Some-whole.ensures.some in
-    let goes = whole_goes child.open tree some.0 some.1 some.2 in
-    let found : Leaves inside based [] tree 0 = in_both _ _ inside based there base [] tree 0 goes.found in
+    let tree = c.in-Some-leaf_tree.tree.now in
+    let some = c.in-Some-leaf_tree.ensures.some in
+    let goes = leaf_tree_is_emitted child.open tree some.0 some.1 some.2 in
+    let found : EmitsBelow inside based [] tree 0 = in_both _ _ inside based there base [] tree 0 goes.found in
     let changed : based [] ≢ Some tree = λ is. goes.changed (same_some _ _ (sym is ∙ sym (ap (λ (d : Dirs). d []) base) ∙ goes.based)) in
     err_weaker c.from_residual.result _ _ c.from_residual.ensures.1
-    (λ error is. subst (Stopped (λ f p h. CalledAt g.F.FnMut f p.1 (Ok p.0) h) (λ f tree x h. CalledAt g.F.FnMut f tree (Err x) h) (λ inner. (kept : List EntryView) × (n : ℕ) × Visits inside based e inner kept n) c.args.out.now c.hand_whole.new.out) (sym is)
-    (stopped_after (λ f p h. CalledAt g.F.FnMut f p.1 (Ok p.0) h) (λ f tree x h. CalledAt g.F.FnMut f tree (Err x) h) (λ ps. (id : ObjectId) × (ps ≡ (id, tree) ∷ [])) (λ inner. (kept : List EntryView) × (n : ℕ) × Visits inside based e inner kept n)
-    c.args.out.now c.args.out.now c.hand_whole.new.out [] refl
-    (λ qs one. ([], (entry_with e one.0, 0, subst (λ ps. Visits inside based e ps (entry_with e one.0) 0) (sym (append-nil qs ∙ one.1)) (visit_written inside based e [] tree 0 one.0 goes.filled changed found))))
-    c.in_err-given.field-0.0 c.in_err-given.ensures.stopped))
+    (λ error is. subst (Stopped (λ f p h. CalledAt g.F.FnMut f p.1 (Ok p.0) h) (λ f tree x h. CalledAt g.F.FnMut f tree (Err x) h)
+    (λ inner. (kept : List EntryView) × (n : ℕ) × Visits inside based e inner kept n) c.args.out.now c.emit_leaf_tree.new.out) (sym is)
+    (stopped_after (λ f p h. CalledAt g.F.FnMut f p.1 (Ok p.0) h) (λ f tree x h. CalledAt g.F.FnMut f tree (Err x) h)
+    (λ ps. (id : ObjectId) × (ps ≡ (id, tree) ∷ [])) (λ inner. (kept : List EntryView) × (n : ℕ) × Visits inside based e inner kept n)
+    c.args.out.now c.args.out.now c.emit_leaf_tree.new.out [] refl
+    (λ qs one. (
+      [],
+      (
+        entry_with e one.0,
+        0,
+        subst (λ ps. Visits inside based e ps (entry_with e one.0) 0) (sym (append-nil qs ∙ one.1))
+            (visit_written inside based e [] tree 0 one.0 goes.filled changed found),
+      ),
+    ))
+    c.in_err-passed.field-0.0 c.in_err-passed.ensures.error))
 
-pub visit-returns-in_err-own-clause-stopped : goal.visit-returns-in_err-own-clause-stopped
-visit-returns-in_err-own-clause-stopped g t c =
+pub visit-returns-in_err-own-clause-error : goal.visit-returns-in_err-own-clause-error
+visit-returns-in_err-own-clause-error g t c =
     let e = c.args.entry.now in
     let inside = child_side entries_side (option_copied c.args.child) in
     let based = child_side base_side (option_copied c.args.child) in
@@ -208,11 +292,16 @@ visit-returns-in_err-own-clause-stopped g t c =
     let there = open_side entries_side c.args.child c.in-Some.child c.in-Some.is in
     let base = open_side base_side c.args.child c.in-Some.child c.in-Some.is in
     err_weaker c.from_residual-in_err-own.result _ _ c.from_residual-in_err-own.ensures.1
-    (λ error is. subst (Stopped (λ f p h. CalledAt g.F.FnMut f p.1 (Ok p.0) h) (λ f tree x h. CalledAt g.F.FnMut f tree (Err x) h) (λ inner. (kept : List EntryView) × (n : ℕ) × Visits inside based e inner kept n) c.args.out.now c.leaves.new.out) (sym is)
-    (stopped_after (λ f p h. CalledAt g.F.FnMut f p.1 (Ok p.0) h) (λ f tree x h. CalledAt g.F.FnMut f tree (Err x) h) (λ ps. (own : List EntryView) × (n : ℕ) × Leaves (dirs_of child.open) (bases_of child.open) ps own n) (λ inner. (kept : List EntryView) × (n : ℕ) × Visits inside based e inner kept n)
+    (λ error is. subst (Stopped (λ f p h. CalledAt g.F.FnMut f p.1 (Ok p.0) h) (λ f tree x h. CalledAt g.F.FnMut f tree (Err x) h)
+    (λ inner. (kept : List EntryView) × (n : ℕ) × Visits inside based e inner kept n) c.args.out.now c.leaves.new.out) (sym is)
+    (stopped_after (λ f p h. CalledAt g.F.FnMut f p.1 (Ok p.0) h) (λ f tree x h. CalledAt g.F.FnMut f tree (Err x) h)
+    (λ ps. (own : List EntryView) × (n : ℕ) × EmitsBelow (dirs_of child.open) (bases_of child.open) ps own n)
+    (λ inner. (kept : List EntryView) × (n : ℕ)
+    × Visits inside based e inner kept n)
     c.args.out.now c.args.out.now c.leaves.new.out [] refl
-    (λ qs found. let seen = visit_open inside based e qs found.0 found.1 (in_both _ _ inside based there base qs found.0 found.1 found.2) in (seen.0, (seen.1, seen.2, seen.3)))
-    c.in_err-own.field-0.0 c.in_err-own.ensures.stopped))
+    (λ qs found. let seen = visit_open inside based e qs found.0 found.1 (in_both _ _ inside based there base qs found.0 found.1 found.2) in
+    (seen.0, (seen.1, seen.2, seen.3)))
+    c.in_err-own.field-0.0 c.in_err-own.ensures.error))
 
 pub visit-returns-then-is_bare-clause-ok : goal.visit-returns-then-is_bare-clause-ok
 visit-returns-then-is_bare-clause-ok g t c =
@@ -224,9 +313,16 @@ visit-returns-then-is_bare-clause-ok g t c =
     let base = open_side base_side c.args.child c.in-Some.child c.in-Some.is in
     let ok = c.in_ok-own.ensures.ok in
     let own = so_far c.base_of-base.result.now c.in_ok-own.own in
-    let found : Leaves inside based ok.0 own ok.1 = in_both _ _ inside based there base ok.0 own ok.1 ok.2 in
-    let bare = is_empty_list own (c.if-is_bare.ensures {u = tt} c.base_of-base.result.now c.in_ok-own.ensures.beside) in
-    (ok.0, ok.1, visit_emptied inside based e ok.0 own ok.1 bare found, ok.3, adds_child c.args.child c.in-Some.child c.in-Some.is _ c.in_default-whole.ensures.none c.args.pairs.now.items _ ok.0 ok.4, ok.5)
+    let found : EmitsBelow inside based ok.0 own ok.1 = in_both _ _ inside based there base ok.0 own ok.1 ok.2 in
+    let bare = is_empty_list own (c.if-is_bare.ensures {u = tt} c.base_of-base.result.now c.in_ok-own.ensures.shares_base) in (
+      ok.0,
+      ok.1,
+      visit_emptied inside based e ok.0 own ok.1 bare found,
+      ok.3,
+      adds_child c.args.child c.in-Some.child c.in-Some.is _
+          c.in_default-leaf_tree.ensures.none c.args.pairs.now.items _ ok.0 ok.4,
+      ok.5,
+    )
 
 pub visit-returns-then-is_base-clause-ok : goal.visit-returns-then-is_base-clause-ok
 visit-returns-then-is_base-clause-ok g t c =
@@ -238,14 +334,23 @@ visit-returns-then-is_base-clause-ok g t c =
     let base = open_side base_side c.args.child c.in-Some.child c.in-Some.is in
     let ok = c.in_ok-own.ensures.ok in
     let own = so_far c.base_of-base.result.now c.in_ok-own.own in
-    let found : Leaves inside based ok.0 own ok.1 = in_both _ _ inside based there base ok.0 own ok.1 ok.2 in
-    let filled = is_filled_list own (c.if-is_bare.ensures {u = tt} c.base_of-base.result.now c.in_ok-own.ensures.beside) in
-    let is_same : based [] ≡ Some own = sym (ap (λ (d : Dirs). d []) base) ∙ c.base_of-base.ensures ∙ ap Some (sym ((c.if-is_base.ensures {u = tt}).0 refl)) in
-    let kept = subst (λ id. Visits inside based e ok.0 (entry_with e id) (ok.1 + 1)) (sym (ap (λ (x : EntryView). x.id) c.entry.view_is)) (visit_unchanged inside based e ok.0 own ok.1 filled is_same found) in
-    (ok.0, ok.1 + 1, kept, raised_then _ _ _ ok.1 1 ok.3 c.count.ensures, adds_child c.args.child c.in-Some.child c.in-Some.is _ c.in_default-whole.ensures.none c.args.pairs.now.items _ ok.0 ok.4, ok.5)
+    let found : EmitsBelow inside based ok.0 own ok.1 = in_both _ _ inside based there base ok.0 own ok.1 ok.2 in
+    let filled = is_filled_list own (c.if-is_bare.ensures {u = tt} c.base_of-base.result.now c.in_ok-own.ensures.shares_base) in
+    let is_same : based [] ≡ Some own = sym (ap (λ (d : Dirs). d []) base) ∙ c.base_of-base.ensures
+    ∙ ap Some (sym ((c.if-is_base.ensures {u = tt}).0 refl)) in
+    let kept = subst (λ id. Visits inside based e ok.0 (entry_with e id) (ok.1 + 1)) (sym (ap (λ (x : EntryView). x.id) c.entry.view_is))
+    (visit_unchanged inside based e ok.0 own ok.1 filled is_same found) in (
+      ok.0,
+      ok.1 + 1,
+      kept,
+      raised_then _ _ _ ok.1 1 ok.3 c.count.ensures,
+      adds_child c.args.child c.in-Some.child c.in-Some.is _ c.in_default-leaf_tree.ensures.none
+          c.args.pairs.now.items _ ok.0 ok.4,
+      ok.5,
+    )
 
-pub visit-returns-in_err-tree-clause-stopped : goal.visit-returns-in_err-tree-clause-stopped
-visit-returns-in_err-tree-clause-stopped g t c =
+pub visit-returns-in_err-tree-clause-error : goal.visit-returns-in_err-tree-clause-error
+visit-returns-in_err-tree-clause-error g t c =
     let e = c.args.entry.now in
     let inside = child_side entries_side (option_copied c.args.child) in
     let based = child_side base_side (option_copied c.args.child) in
@@ -254,19 +359,23 @@ visit-returns-in_err-tree-clause-stopped g t c =
     let base = open_side base_side c.args.child c.in-Some.child c.in-Some.is in
     let ok = c.in_ok-own.ensures.ok in
     let own = so_far c.base_of-base.result.now c.in_ok-own.own in
-    let found : Leaves inside based ok.0 own ok.1 = in_both _ _ inside based there base ok.0 own ok.1 ok.2 in
+    let found : EmitsBelow inside based ok.0 own ok.1 = in_both _ _ inside based there base ok.0 own ok.1 ok.2 in
     let seen = visit_open inside based e ok.0 own ok.1 found in
     err_weaker c.from_residual-in_err-tree.result _ _ c.from_residual-in_err-tree.ensures.1
-    (stopped_here (λ f p h. CalledAt g.F.FnMut f p.1 (Ok p.0) h) (λ f tree x h. CalledAt g.F.FnMut f tree (Err x) h) (λ inner. (kept : List EntryView) × (n : ℕ) × Visits inside based e inner kept n) c.args.out.now c.leaves.new.out ok.0 seen.0 ok.5 (seen.1, seen.2, seen.3))
+    (stopped_here (λ f p h. CalledAt g.F.FnMut f p.1 (Ok p.0) h) (λ f tree x h. CalledAt g.F.FnMut f tree (Err x) h)
+    (λ inner. (kept : List EntryView) × (n : ℕ)
+    × Visits inside based e inner kept n) c.args.out.now c.leaves.new.out ok.0 seen.0 ok.5 (seen.1, seen.2, seen.3))
 
-pub visit-hand-requires-clause-callable : goal.visit-hand-requires-clause-callable
-visit-hand-requires-clause-callable g t c = let ok = c.in_ok-own.ensures.ok in callable_after _ (λ f p h. CalledAt g.F.FnMut f p.1 (Ok p.0) h) c.args.out.now ok.0 c.leaves.new.out ok.5 c.requires.callable
+pub visit-emit_tree-requires-clause-callable : goal.visit-emit_tree-requires-clause-callable
+visit-emit_tree-requires-clause-callable g t c = let ok =
+    c.in_ok-own.ensures.ok in callable_after _ (λ f p h. CalledAt g.F.FnMut f p.1 (Ok p.0) h) c.args.out.now ok.0 c.leaves.new.out ok.5
+    c.requires.callable
 
-pub visit-hand-requires-clause-storable : goal.visit-hand-requires-clause-storable
-visit-hand-requires-clause-storable g t c = subst IsStorable (sym c.in_ok-tree.ensures.tree) c.in_ok-own.ensures.storable
+pub visit-emit_tree-requires-clause-storable : goal.visit-emit_tree-requires-clause-storable
+visit-emit_tree-requires-clause-storable g t c = subst IsStorable (sym c.in_ok-tree.ensures.tree) c.in_ok-own.ensures.storable
 
-pub visit-returns-in_err-id-clause-stopped : goal.visit-returns-in_err-id-clause-stopped
-visit-returns-in_err-id-clause-stopped g t c =
+pub visit-returns-in_err-id-clause-error : goal.visit-returns-in_err-id-clause-error
+visit-returns-in_err-id-clause-error g t c =
     let e = c.args.entry.now in
     let inside = child_side entries_side (option_copied c.args.child) in
     let based = child_side base_side (option_copied c.args.child) in
@@ -275,17 +384,28 @@ visit-returns-in_err-id-clause-stopped g t c =
     let base = open_side base_side c.args.child c.in-Some.child c.in-Some.is in
     let ok = c.in_ok-own.ensures.ok in
     let own = so_far c.base_of-base.result.now c.in_ok-own.own in
-    let found : Leaves inside based ok.0 own ok.1 = in_both _ _ inside based there base ok.0 own ok.1 ok.2 in
-    let filled = is_filled_list own (c.if-is_bare.ensures {u = tt} c.base_of-base.result.now c.in_ok-own.ensures.beside) in
-    let changed : based [] ≢ Some own = λ is. let so = (c.if-is_base.ensures {u = tt}).1 (same_some _ _ (sym is ∙ sym (ap (λ (d : Dirs). d []) base) ∙ c.base_of-base.ensures)) in absurd (cc so) in
+    let found : EmitsBelow inside based ok.0 own ok.1 = in_both _ _ inside based there base ok.0 own ok.1 ok.2 in
+    let filled = is_filled_list own (c.if-is_bare.ensures {u = tt} c.base_of-base.result.now c.in_ok-own.ensures.shares_base) in
+    let changed : based [] ≢ Some own = λ is. let so =
+    (c.if-is_base.ensures {u = tt}).1 (same_some _ _ (sym is ∙ sym (ap (λ (d : Dirs). d []) base) ∙ c.base_of-base.ensures)) in absurd (cc so) in
     let tree = c.in_ok-tree.tree in
     let made : own ≡ tree = sym c.in_ok-tree.ensures.tree in
     err_weaker c.from_residual-in_err-id.result _ _ c.from_residual-in_err-id.ensures.1
-    (λ error is. subst (Stopped (λ f p h. CalledAt g.F.FnMut f p.1 (Ok p.0) h) (λ f tree x h. CalledAt g.F.FnMut f tree (Err x) h) (λ inner. (kept : List EntryView) × (n : ℕ) × Visits inside based e inner kept n) c.args.out.now c.hand.new.out) (sym is)
-    (stopped_after (λ f p h. CalledAt g.F.FnMut f p.1 (Ok p.0) h) (λ f tree x h. CalledAt g.F.FnMut f tree (Err x) h) (λ ps. (id : ObjectId) × (ps ≡ (id, tree) ∷ [])) (λ inner. (kept : List EntryView) × (n : ℕ) × Visits inside based e inner kept n)
-    c.args.out.now c.leaves.new.out c.hand.new.out ok.0 ok.5
-    (λ qs one. ([], (entry_with e one.0, ok.1, subst (λ ps. Visits inside based e (ok.0 ++ ps) (entry_with e one.0) ok.1) (ap (λ t'. (one.0, t') ∷ []) made ∙ sym (append-nil qs ∙ one.1)) (visit_written inside based e ok.0 own ok.1 one.0 filled changed found))))
-    c.in_err-id.field-0.0 c.in_err-id.ensures.stopped))
+    (λ error is. subst (Stopped (λ f p h. CalledAt g.F.FnMut f p.1 (Ok p.0) h) (λ f tree x h. CalledAt g.F.FnMut f tree (Err x) h)
+    (λ inner. (kept : List EntryView) × (n : ℕ) × Visits inside based e inner kept n) c.args.out.now c.emit_tree.new.out) (sym is)
+    (stopped_after (λ f p h. CalledAt g.F.FnMut f p.1 (Ok p.0) h) (λ f tree x h. CalledAt g.F.FnMut f tree (Err x) h)
+    (λ ps. (id : ObjectId) × (ps ≡ (id, tree) ∷ [])) (λ inner. (kept : List EntryView) × (n : ℕ) × Visits inside based e inner kept n)
+    c.args.out.now c.leaves.new.out c.emit_tree.new.out ok.0 ok.5
+    (λ qs one. (
+      [],
+      (
+        entry_with e one.0,
+        ok.1,
+        subst (λ ps. Visits inside based e (ok.0 ++ ps) (entry_with e one.0) ok.1)
+            (ap (λ t'. (one.0, t') ∷ []) made ∙ sym (append-nil qs ∙ one.1)) (visit_written inside based e ok.0 own ok.1 one.0 filled changed found),
+      ),
+    ))
+    c.in_err-id.field-0.0 c.in_err-id.ensures.error))
 
 pub visit-returns-clause-ok : goal.visit-returns-clause-ok
 visit-returns-clause-ok g t c =
@@ -297,18 +417,23 @@ visit-returns-clause-ok g t c =
     let base = open_side base_side c.args.child c.in-Some.child c.in-Some.is in
     let ok = c.in_ok-own.ensures.ok in
     let own = so_far c.base_of-base.result.now c.in_ok-own.own in
-    let found : Leaves inside based ok.0 own ok.1 = in_both _ _ inside based there base ok.0 own ok.1 ok.2 in
-    let filled = is_filled_list own (c.if-is_bare.ensures {u = tt} c.base_of-base.result.now c.in_ok-own.ensures.beside) in
-    let changed : based [] ≢ Some own = λ is. let so = (c.if-is_base.ensures {u = tt}).1 (same_some _ _ (sym is ∙ sym (ap (λ (d : Dirs). d []) base) ∙ c.base_of-base.ensures)) in absurd (cc so) in
+    let found : EmitsBelow inside based ok.0 own ok.1 = in_both _ _ inside based there base ok.0 own ok.1 ok.2 in
+    let filled = is_filled_list own (c.if-is_bare.ensures {u = tt} c.base_of-base.result.now c.in_ok-own.ensures.shares_base) in
+    let changed : based [] ≢ Some own = λ is. let so =
+    (c.if-is_base.ensures {u = tt}).1 (same_some _ _ (sym is ∙ sym (ap (λ (d : Dirs). d []) base) ∙ c.base_of-base.ensures)) in absurd (cc so) in
     let tree = c.in_ok-tree.tree in
     let made : own ≡ tree = sym c.in_ok-tree.ensures.tree in
-    let handed = c.in_ok-id.ensures.ok in
+    let emitted = c.in_ok-id.ensures.ok in
     let gave = λ (f : g.row.F.Denot) (p : Pair) (h : g.row.F.Denot). CalledAt g.F.FnMut f p.1 (Ok p.0) h in (
       ok.0 ++ (c.in_ok-id.id, tree) ∷ [],
       ok.1,
-      subst (λ t'. Visits inside based e (ok.0 ++ (c.in_ok-id.id, t') ∷ []) (entry_with e c.in_ok-id.id) ok.1) made (visit_written inside based e ok.0 own ok.1 c.in_ok-id.id filled changed found),
+      subst (λ t'. Visits inside based e (ok.0 ++ (c.in_ok-id.id, t') ∷ []) (entry_with e c.in_ok-id.id) ok.1) made
+          (visit_written inside based e ok.0 own ok.1 c.in_ok-id.id filled changed found),
       ok.3,
-      adds_child c.args.child c.in-Some.child c.in-Some.is _ (c.in_default-whole.ensures.none ∙ sym (append-nil _)) c.args.pairs.now.items c.hand.new.pairs.items (ok.0 ++ (c.in_ok-id.id, tree) ∷ [])
-          (adds_then c.args.pairs.now.items c.leaves.new.pairs.items c.hand.new.pairs.items _ ok.0 [] ((c.in_ok-id.id, tree) ∷ []) ok.4 (adds_given _ _ (c.in_ok-id.id, tree) (λ none. filled (made ∙ none)) handed.0)),
-      FoldsTo-append gave c.args.out.now ok.0 c.leaves.new.out ((c.in_ok-id.id, tree) ∷ []) c.hand.new.out ok.5 (FoldsTo-one gave c.leaves.new.out (c.in_ok-id.id, tree) c.hand.new.out handed.1),
+      adds_child c.args.child c.in-Some.child c.in-Some.is _ (c.in_default-leaf_tree.ensures.none ∙ sym (append-nil _)) c.args.pairs.now.items
+          c.emit_tree.new.pairs.items (ok.0 ++ (c.in_ok-id.id, tree) ∷ [])
+          (adds_then c.args.pairs.now.items c.leaves.new.pairs.items c.emit_tree.new.pairs.items _ ok.0 [] ((c.in_ok-id.id, tree) ∷ []) ok.4
+          (adds_passed _ _ (c.in_ok-id.id, tree) (λ none. filled (made ∙ none)) emitted.0)),
+      FoldsTo-append gave c.args.out.now ok.0 c.leaves.new.out ((c.in_ok-id.id, tree) ∷ []) c.emit_tree.new.out ok.5
+          (FoldsTo-one gave c.leaves.new.out (c.in_ok-id.id, tree) c.emit_tree.new.out emitted.1),
     )

@@ -3,26 +3,30 @@ use Rattle.std.specs.Fn.{CalledAt}
 use Rattle.std.specs.List.{FoldsTo}
 use Rattle.gixobj_tree.specs.Entries.{EntryView, Pair}
 use Rattle.gixobj_files.specs.Edits.{raised}
-use Rattle.gixobj_files.specs.HandingOut.{Walks}
+use Rattle.gixobj_files.specs.Emission.{Walks}
 use Rattle.gixobj_directories.specs.Calls.{IsCallableOnTrees}
 use Rattle.gixobj_directories.specs.Nested.{bases_of, below, dirs_of, parts}
-use Rattle.gixobj_files.specs.OwnTrees.{IsBeside, so_far}
-use Rattle.gixobj_directories.specs.Wholes.{Adds, inside_of, wholes}
-use Rattle.gixobj_directories.proofs.Alongside.{Ahead, given_size}
+use Rattle.gixobj_files.specs.WrittenTrees.{SharesBase, so_far}
+use Rattle.gixobj_directories.specs.LeafTrees.{Adds, inside_of, leaf_trees}
+use Rattle.gixobj_directories.proofs.Alongside.{Ahead, passed_size}
 use Rattle.gixobj_directories.proofs.write.+walk.Given as goal
 
 abbrev pub decreases-leaves : goal.decreases-leaves
 decreases-leaves g l = 2 * length l.node.now
 
 abbrev pub decreases-visit : goal.decreases-visit
-decreases-visit g l = 2 * given_size l.child + 1
+decreases-visit g l = 2 * passed_size l.child + 1
 
--- what went out so far, and whatever goes out for the entries to come, are together what goes out
+-- what was emitted so far, followed by whatever the remaining entries emit, is what the directory emits
 abbrev pub invariant-leaves-loop-entry : goal.invariant-leaves-loop-entry
 invariant-leaves-loop-entry g l = record {
-  told : (ps : List Pair) × (count : ℕ) × ((ts : List (List EntryView)) × Adds l.fn.pairs.items l.pairs.items ts ps × (ts ++ wholes (below (parts l.left)) ≡ wholes (inside_of l.fn.node))) × (l.saved ≡ raised l.fn.saved count) × FoldsTo (λ f p h. CalledAt g.F.FnMut f p.1 (Ok p.0) h) l.fn.out ps l.out
-      × ((qs : List Pair) (own : List EntryView) (n : ℕ) → Walks (dirs_of l.fn.node) (bases_of l.fn.node) (drop l.entry-index l.entry-items) qs own n → Walks (dirs_of l.fn.node) (bases_of l.fn.node) l.entry-items (ps ++ qs) (so_far l.base l.own ++ own) (count + n));
+  emits : (ps : List Pair) × (count : ℕ)
+      × ((ts : List (List EntryView)) × Adds l.fn.pairs.items l.pairs.items ts ps
+      × (ts ++ leaf_trees (below (parts l.remaining)) ≡ leaf_trees (inside_of l.fn.node))) × (l.saved ≡ raised l.fn.saved count)
+      × FoldsTo (λ f p h. CalledAt g.F.FnMut f p.1 (Ok p.0) h) l.fn.out ps l.out
+      × ((qs : List Pair) (own : List EntryView) (n : ℕ) → Walks (dirs_of l.fn.node) (bases_of l.fn.node) (drop l.entry-index l.entry-items) qs own n
+      → Walks (dirs_of l.fn.node) (bases_of l.fn.node) l.entry-items (ps ++ qs) (so_far l.base l.own ++ own) (count + n));
   callable : IsCallableOnTrees (λ f tree. g.F.FnMut.pre f (tree, tt)) (λ f p h. CalledAt g.F.FnMut f p.1 (Ok p.0) h) l.out;
-  beside : IsBeside l.base l.own;
-  ahead : Ahead l.fn.node (drop l.entry-index l.entry-items) l.left;
+  shares_base : SharesBase l.base l.own;
+  ahead : Ahead l.fn.node (drop l.entry-index l.entry-items) l.remaining;
 }

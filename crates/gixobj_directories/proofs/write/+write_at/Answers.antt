@@ -1,17 +1,19 @@
+-- A write at a path meets its contract: at the directory itself by `write_all`, and below by the directory of the first
+-- name.
 use Rattle.std.proofs.Common.{◌≡◌, ◌∙◌, ◌∷◌, Ok, Err, refl, rules, sym, ap, subst}
 use Rattle.std.specs.Fn.{CalledAt}
 use Rattle.std.proofs.lemmas.Result.{MatchResult-weaker}
 use Rattle.bstr.specs.Owned.{bstring_bytes}
 use Rattle.gixobj_files.specs.Edits.{only}
 use Rattle.gixobj_files.specs.Files.{Path}
-use Rattle.gixobj_files.specs.HandingOut.{Saves}
+use Rattle.gixobj_files.specs.Emission.{Saves}
 use Rattle.gixobj_files.specs.Opening.{Dirs, in_path}
 use Rattle.gixobj_directories.specs.Calls.{names_of}
 use Rattle.gixobj_directories.specs.Nested.{Opened, bases_of, dirs_of, in_part, parts}
-use Rattle.gixobj_directories.proofs.Handing.{in_both, stopped_same}
+use Rattle.gixobj_directories.proofs.Emitting.{in_both, stopped_same}
 use Rattle.gixobj_directories.proofs.Levels.{found, level_set, set_becomes}
 use Rattle.gixobj_directories.proofs.OpeningSteps.{names_none, only_is}
-use Rattle.gixobj_directories.proofs.Steps.{path_based, path_down, place_down, place_shut, written_deeper}
+use Rattle.gixobj_directories.proofs.Steps.{path_based, path_down, place_down, place_unopened, written_deeper}
 use Rattle.gixobj_files.specs.Bases.{base_edited}
 use Rattle.gixobj_directories.proofs.BaseSteps.{editing, set_moved}
 use Rattle.gixobj_directories.proofs.Ordered.{level_apart}
@@ -30,25 +32,32 @@ returns-in_default-clause-ok g t c = MatchResult-weaker c.write_all.result c.wri
       λ at. rw none (ap (λ (ds : Opened). dirs_of ds at) ok.6.1 ∙ ap (λ (d : Dirs). d at) (only_is ok.1)),
     )) (λ _ u. u)
 
-pub returns-in_default-clause-stopped : goal.returns-in_default-clause-stopped
-returns-in_default-clause-stopped g t c = MatchResult-weaker c.write_all.result c.write_all.ensures.stopped (λ _ u. u) (λ error stopped.
+pub returns-in_default-clause-error : goal.returns-in_default-clause-error
+returns-in_default-clause-error g t c = MatchResult-weaker c.write_all.result c.write_all.ensures.error (λ _ u. u) (λ error stopped.
     let none = names_none c.args.path.now c.in_default.ensures.cases in
     let dirs = dirs_of c.args.node.now in
-    stopped_same (λ f p h. CalledAt g.F.FnMut f p.1 (Ok p.0) h) (λ f tree x h. CalledAt g.F.FnMut f tree (Err x) h) dirs (in_path (names_of c.args.path.now) dirs) (bases_of c.args.node.now) (in_path (names_of c.args.path.now) (bases_of c.args.node.now))
-    (sym (ap (λ (p : Path). in_path p dirs) none)) (sym (ap (λ (p : Path). in_path p (bases_of c.args.node.now)) none)) c.args.out.now c.write_all.new.out error stopped)
+    stopped_same (λ f p h. CalledAt g.F.FnMut f p.1 (Ok p.0) h) (λ f tree x h. CalledAt g.F.FnMut f tree (Err x) h) dirs
+    (in_path (names_of c.args.path.now) dirs) (bases_of c.args.node.now) (in_path (names_of c.args.path.now) (bases_of c.args.node.now))
+    (sym (ap (λ (p : Path). in_path p dirs) none)) (sym (ap (λ (p : Path). in_path p (bases_of c.args.node.now)) none)) c.args.out.now c.write_all.new.out error
+    stopped)
 
 pub invariant_of-node : goal.invariant_of-node
-invariant_of-node g t c = level_set c.node.inside.tree c.node.inside.children.items c.in-Some-child_at.place c.index_mut-child.result.now _ c.index_mut-child.ensures.value refl c.node.invariant
+invariant_of-node g t c = level_set c.node.inside.tree c.node.inside.children.items c.in-Some-child_at.place c.index_mut-child.result.now _
+    c.index_mut-child.ensures.value refl c.node.invariant
 
 pub write_at-requires : goal.write_at-requires
 write_at-requires g t c =
-    let there = place_down c.args.node.now c.node.inside.tree c.node.inside.children.items c.deref.result.now c.node.view_is (level_apart c.node.invariant) (names_of c.args.path.now) (bstring_bytes c.in-Some.name.now) (names_of c.in-Some.rest.now) (ap names_of c.in-Some.ensures.cases.0) c.deref.ensures.value
+    let there = place_down c.args.node.now c.node.inside.tree c.node.inside.children.items c.deref.result.now c.node.view_is (level_apart c.node.invariant)
+    (names_of c.args.path.now) (bstring_bytes c.in-Some.name.now) (names_of c.in-Some.rest.now)
+    (ap names_of c.in-Some.ensures.cases.0) c.deref.ensures.value
     c.in-Some-child_at.place c.index_mut-child.result.now (c.in-Some-child_at.ensures {u = tt}) c.index_mut-child.ensures.value in
     λ κs lives. (search rules, (search rules, (search rules, (c.requires.callable, λ none. c.requires.is_open (there ∙ none)))))
 
 pub unreachable-requires : goal.unreachable-requires
 unreachable-requires g t c = c.requires.is_open
-    (place_shut c.args.node.now c.node.inside.tree c.node.inside.children.items c.deref.result.now c.node.view_is (level_apart c.node.invariant) (names_of c.args.path.now) (bstring_bytes c.in-Some.name.now) (names_of c.in-Some.rest.now) (ap names_of c.in-Some.ensures.cases.0) c.deref.ensures.value
+    (place_unopened c.args.node.now c.node.inside.tree c.node.inside.children.items c.deref.result.now c.node.view_is (level_apart c.node.invariant)
+    (names_of c.args.path.now) (bstring_bytes c.in-Some.name.now) (names_of c.in-Some.rest.now)
+    (ap names_of c.in-Some.ensures.cases.0) c.deref.ensures.value
     (c.in_default-child_at.ensures {u = tt}))
 
 pub returns-clause-ok : goal.returns-clause-ok
@@ -59,12 +68,16 @@ returns-clause-ok g t c = MatchResult-weaker c.write_at.result c.write_at.ensure
     let path : names_of c.args.path.now ≡ name ∷ rest = ap names_of c.in-Some.ensures.cases.0 in
     let child = c.index_mut-child.result.now in
     let here = c.in-Some-child_at.ensures {u = tt} in
-    let level = level_set c.node.inside.tree cs c.in-Some-child_at.place child (record { name = child.name; «open» = c.write_at.new.node }) c.index_mut-child.ensures.value refl c.node.invariant in
-    let was : in_part name (parts cs) ≡ dirs_of child.open = λ i at. found name cs c.deref.result.now c.in-Some-child_at.place child c.deref.ensures.value here c.index_mut-child.ensures.value at i in
+    let level = level_set c.node.inside.tree cs c.in-Some-child_at.place child (record { name = child.name; «open» = c.write_at.new.node })
+    c.index_mut-child.ensures.value refl c.node.invariant in
+    let was : in_part name (parts cs) ≡ dirs_of child.open = λ i at. found name cs c.deref.result.now c.in-Some-child_at.place child c.deref.ensures.value here
+    c.index_mut-child.ensures.value at i in
     let same : in_path (names_of c.args.path.now) (dirs_of c.args.node.now) ≡ in_path rest (dirs_of child.open) =
-    λ i at. path_down c.args.node.now c.node.inside.tree cs c.deref.result.now c.node.view_is (level_apart c.node.invariant) (names_of c.args.path.now) name rest path c.deref.ensures.value c.in-Some-child_at.place child here c.index_mut-child.ensures.value at i in
+    λ i at. path_down c.args.node.now c.node.inside.tree cs c.deref.result.now c.node.view_is (level_apart c.node.invariant)
+    (names_of c.args.path.now) name rest path c.deref.ensures.value c.in-Some-child_at.place child here c.index_mut-child.ensures.value at i in
     let same_bases : in_path (names_of c.args.path.now) (bases_of c.args.node.now) ≡ in_path rest (bases_of child.open) =
-    λ i at. path_based c.args.node.now c.node.inside.tree cs c.deref.result.now c.node.view_is (level_apart c.node.invariant) (names_of c.args.path.now) name rest path c.deref.ensures.value c.in-Some-child_at.place child here c.index_mut-child.ensures.value at i in (
+    λ i at. path_based c.args.node.now c.node.inside.tree cs c.deref.result.now c.node.view_is (level_apart c.node.invariant)
+    (names_of c.args.path.now) name rest path c.deref.ensures.value c.in-Some-child_at.place child here c.index_mut-child.ensures.value at i in (
       ok.0,
       ok.1,
       (ok.2.0, in_both _ _ _ _ (sym same) (sym same_bases) ok.0 ok.1 ok.2.0 ok.2.1, ok.2.2),
@@ -72,23 +85,28 @@ returns-clause-ok g t c = MatchResult-weaker c.write_at.result c.write_at.ensure
       ok.4,
       ok.5,
       rw path
-          (written_deeper c.args.node.now c.node.inside.tree c.node.inside.tree (parts cs) _ c.node.view_is (level_apart c.node.invariant) (level_apart level) name (dirs_of c.write_at.new.node)
+          (written_deeper c.args.node.now c.node.inside.tree c.node.inside.tree (parts cs) _ c.node.view_is (level_apart c.node.invariant)
+          (level_apart level) name (dirs_of c.write_at.new.node)
           (set_becomes name cs c.deref.result.now c.in-Some-child_at.place child _ c.deref.ensures.value here c.index_mut-child.ensures.value refl)
           rest (only ok.1) refl (λ at. rw was (ok.6 at))),
     )) (λ _ u. u)
 
-pub returns-clause-stopped : goal.returns-clause-stopped
-returns-clause-stopped g t c = MatchResult-weaker c.write_at.result c.write_at.ensures.stopped (λ _ u. u) (λ error stopped.
+pub returns-clause-error : goal.returns-clause-error
+returns-clause-error g t c = MatchResult-weaker c.write_at.result c.write_at.ensures.error (λ _ u. u) (λ error stopped.
     let child = c.index_mut-child.result.now in
     let rest = names_of c.in-Some.rest.now in
     let same : in_path rest (dirs_of child.open) ≡ in_path (names_of c.args.path.now) (dirs_of c.args.node.now) =
-    λ i at. sym (path_down c.args.node.now c.node.inside.tree c.node.inside.children.items c.deref.result.now c.node.view_is (level_apart c.node.invariant) (names_of c.args.path.now) (bstring_bytes c.in-Some.name.now) rest (ap names_of c.in-Some.ensures.cases.0) c.deref.ensures.value
+    λ i at. sym (path_down c.args.node.now c.node.inside.tree c.node.inside.children.items c.deref.result.now c.node.view_is (level_apart c.node.invariant)
+    (names_of c.args.path.now) (bstring_bytes c.in-Some.name.now) rest (ap names_of c.in-Some.ensures.cases.0) c.deref.ensures.value
     c.in-Some-child_at.place child (c.in-Some-child_at.ensures {u = tt}) c.index_mut-child.ensures.value at) i in
     let same_bases : in_path rest (bases_of child.open) ≡ in_path (names_of c.args.path.now) (bases_of c.args.node.now) =
-    λ i at. sym (path_based c.args.node.now c.node.inside.tree c.node.inside.children.items c.deref.result.now c.node.view_is (level_apart c.node.invariant) (names_of c.args.path.now) (bstring_bytes c.in-Some.name.now) rest (ap names_of c.in-Some.ensures.cases.0) c.deref.ensures.value
+    λ i at. sym (path_based c.args.node.now c.node.inside.tree c.node.inside.children.items c.deref.result.now c.node.view_is (level_apart c.node.invariant)
+    (names_of c.args.path.now) (bstring_bytes c.in-Some.name.now) rest (ap names_of c.in-Some.ensures.cases.0) c.deref.ensures.value
     c.in-Some-child_at.place child (c.in-Some-child_at.ensures {u = tt}) c.index_mut-child.ensures.value at) i in
-    stopped_same (λ f p h. CalledAt g.F.FnMut f p.1 (Ok p.0) h) (λ f tree x h. CalledAt g.F.FnMut f tree (Err x) h) (in_path rest (dirs_of child.open)) (in_path (names_of c.args.path.now) (dirs_of c.args.node.now))
-    (in_path rest (bases_of child.open)) (in_path (names_of c.args.path.now) (bases_of c.args.node.now)) same same_bases c.args.out.now c.write_at.new.out error stopped)
+    stopped_same (λ f p h. CalledAt g.F.FnMut f p.1 (Ok p.0) h) (λ f tree x h. CalledAt g.F.FnMut f tree (Err x) h) (in_path rest (dirs_of child.open))
+    (in_path (names_of c.args.path.now) (dirs_of c.args.node.now))
+    (in_path rest (bases_of child.open)) (in_path (names_of c.args.path.now) (bases_of c.args.node.now)) same same_bases c.args.out.now c.write_at.new.out error
+    stopped)
 
 pub returns-clause-bases : goal.returns-clause-bases
 returns-clause-bases g t c = MatchResult-weaker c.write_at.result c.write_at.ensures.bases (λ _ bases.
@@ -96,5 +114,8 @@ returns-clause-bases g t c = MatchResult-weaker c.write_at.result c.write_at.ens
     let cs = c.node.inside.children.items in
     let child = c.index_mut-child.result.now in
     let here = c.in-Some-child_at.ensures {u = tt} in
-    let level = level_set c.node.inside.tree cs c.in-Some-child_at.place child (record { name = child.name; «open» = c.write_at.new.node }) c.index_mut-child.ensures.value refl c.node.invariant in
-    set_moved base_edited editing c.args.node.now c.node.inside.tree cs c.deref.result.now c.node.view_is (level_apart c.node.invariant) name c.in-Some-child_at.place child _ (level_apart level) c.deref.ensures.value here c.index_mut-child.ensures.value refl bases) (λ _ u. u)
+    let level = level_set c.node.inside.tree cs c.in-Some-child_at.place child (record { name = child.name; «open» = c.write_at.new.node })
+    c.index_mut-child.ensures.value refl c.node.invariant in
+    set_moved base_edited editing c.args.node.now c.node.inside.tree cs c.deref.result.now c.node.view_is
+    (level_apart c.node.invariant) name c.in-Some-child_at.place child _ (level_apart level) c.deref.ensures.value here c.index_mut-child.ensures.value refl
+    bases) (λ _ u. u)

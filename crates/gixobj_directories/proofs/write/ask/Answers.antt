@@ -2,18 +2,19 @@ use Rattle.std.proofs.Common.{rules, ◌≡◌, [], ◌∷◌, Ok, Err, refl}
 use Rattle.std.specs.Fn.{CalledAt}
 use Rattle.gixobj_hash.specs.declared.hash.object_id.ObjectId.{ObjectId}
 use Rattle.gixobj_hash.specs.declared.hash.object_id.ObjectId.TheVariants.{Sha1}
-use Rattle.gixobj_directories.proofs.Handing.{err_weaker, stopped_here}
+use Rattle.gixobj_directories.proofs.Emitting.{err_weaker, stopped_here}
 use Rattle.gixobj_directories.proofs.write.ask.Goals as goal
 
-pub returns-in_err-reserve-clause-stopped : goal.returns-in_err-reserve-clause-stopped
-returns-in_err-reserve-clause-stopped g c =
+pub returns-in_err-reserve-clause-error : goal.returns-in_err-reserve-clause-error
+returns-in_err-reserve-clause-error g c =
     err_weaker c.from_residual.result _ _ c.from_residual.ensures.1
-    (stopped_here (λ f p h. CalledAt g.F.FnMut f p.1 (Ok p.0) h) (λ f tree e h. CalledAt g.F.FnMut f tree (Err e) h) (λ ps. (id : ObjectId) × (ps ≡ (id, c.args.tree.now) ∷ [])) c.args.out.now c.args.out.now [] ((Sha1 [], c.args.tree.now) ∷ []) refl (Sha1 [], refl))
+    (stopped_here (λ f p h. CalledAt g.F.FnMut f p.1 (Ok p.0) h) (λ f tree e h. CalledAt g.F.FnMut f tree (Err e) h)
+    (λ ps. (id : ObjectId) × (ps ≡ (id, c.args.tree.now) ∷ [])) c.args.out.now c.args.out.now [] ((Sha1 [], c.args.tree.now) ∷ []) refl (Sha1 [], refl))
 
 pub out-requires : goal.out-requires
 out-requires g c = c.requires.callable [] c.args.out.now refl _ c.requires.storable
 
-pub returns-in-Err-clause-stopped : goal.returns-in-Err-clause-stopped
-returns-in-Err-clause-stopped g c =
-    let asked : CalledAt g.F.FnMut c.args.out.now c.args.tree.now (Err c.in-Err.error) c.out.new.self = search rules in
-    ([], c.args.tree.now, c.args.out.now, refl, asked, λ id. ([], (id, refl)))
+pub returns-in-Err-clause-error : goal.returns-in-Err-clause-error
+returns-in-Err-clause-error g c =
+    let requested : CalledAt g.F.FnMut c.args.out.now c.args.tree.now (Err c.in-Err.error) c.out.new.self = search rules in
+    ([], c.args.tree.now, c.args.out.now, refl, requested, λ id. ([], (id, refl)))

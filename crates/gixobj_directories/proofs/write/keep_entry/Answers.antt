@@ -1,6 +1,6 @@
 use Rattle.std.proofs.Common.{◌∙◌, append-nil, sym}
 use Rattle.gixobj_files.proofs.NullIds.{null_tested}
-use Rattle.gixobj_files.specs.OwnTrees.{so_far}
+use Rattle.gixobj_files.specs.WrittenTrees.{so_far}
 use Rattle.gixobj_directories.proofs.write.keep_entry.Goals as goal
 
 pub returns-then-is_null-clause-entries : goal.returns-then-is_null-clause-entries

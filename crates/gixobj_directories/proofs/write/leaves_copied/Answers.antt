@@ -2,45 +2,50 @@ use Rattle.std.proofs.Common.{◌∙◌, ℕ, [], List, Some, Ok, Err, refl, sym
 use Rattle.std.specs.Fn.{CalledAt}
 use Rattle.gixobj_tree.specs.Entries.{EntryView}
 use Rattle.gixobj_directories.specs.Calls.{IsStorable}
-use Rattle.gixobj_files.specs.HandingOut.{Leaves}
+use Rattle.gixobj_files.specs.Emission.{EmitsBelow}
 use Rattle.gixobj_directories.specs.Nested.{Opened, bases_of, dirs_of}
-use Rattle.gixobj_files.specs.OwnTrees.{so_far}
-use Rattle.gixobj_directories.specs.Wholes.{Adds, inside_of, wholes}
-use Rattle.gixobj_directories.proofs.Handing.{err_weaker, stopped_here}
+use Rattle.gixobj_files.specs.WrittenTrees.{so_far}
+use Rattle.gixobj_directories.specs.LeafTrees.{Adds, inside_of, leaf_trees}
+use Rattle.gixobj_directories.proofs.Emitting.{err_weaker, stopped_here}
 use Rattle.gixobj_directories.proofs.Levels.{level_root}
-use Rattle.gixobj_directories.proofs.WholeTrees.{adds_none, whole_goes}
+use Rattle.gixobj_directories.proofs.LeafTrees.{adds_none, leaf_tree_is_emitted}
 use Rattle.gixobj_directories.proofs.write.leaves_copied.Goals as goal
 
-pub returns-in_err-entries-clause-stopped : goal.returns-in_err-entries-clause-stopped
-returns-in_err-entries-clause-stopped g c =
+pub returns-in_err-entries-clause-error : goal.returns-in_err-entries-clause-error
+returns-in_err-entries-clause-error g c =
     let some = (c.in-Some.ensures {u = tt}).some in
-    let goes = whole_goes c.args.node.now c.in-Some.tree.now some.0 some.1 some.2 in
+    let goes = leaf_tree_is_emitted c.args.node.now c.in-Some.tree.now some.0 some.1 some.2 in
     err_weaker c.from_residual.result _ _ c.from_residual.ensures.1
-    (stopped_here (λ f p h. CalledAt g.F.FnMut f p.1 (Ok p.0) h) (λ f tree x h. CalledAt g.F.FnMut f tree (Err x) h) (λ ps. (own : List EntryView) × (n : ℕ) × Leaves (dirs_of c.args.node.now) (bases_of c.args.node.now) ps own n) c.args.out.now c.args.out.now [] [] refl
+    (stopped_here (λ f p h. CalledAt g.F.FnMut f p.1 (Ok p.0) h) (λ f tree x h. CalledAt g.F.FnMut f tree (Err x) h)
+    (λ ps. (own : List EntryView) × (n : ℕ) × EmitsBelow (dirs_of c.args.node.now) (bases_of c.args.node.now) ps own n) c.args.out.now c.args.out.now []
+    [] refl
     (c.in-Some.tree.now, 0, goes.found))
 
 pub returns-in-Some-clause-ok : goal.returns-in-Some-clause-ok
 returns-in-Some-clause-ok g c =
     let some = (c.in-Some.ensures {u = tt}).some in
-    let goes = whole_goes c.args.node.now c.in-Some.tree.now some.0 some.1 some.2 in
+    let goes = leaf_tree_is_emitted c.args.node.now c.in-Some.tree.now some.0 some.1 some.2 in
     let pairs = c.args.pairs.now.items in
-    let adds = subst (λ ts. Adds pairs pairs ts []) (sym (ap (λ (ds : Opened). wholes (inside_of ds)) some.1)) (adds_none pairs) in
+    let adds = subst (λ ts. Adds pairs pairs ts []) (sym (ap (λ (ds : Opened). leaf_trees (inside_of ds)) some.1)) (adds_none pairs) in
     ([], 0, rw ((c.in_ok-entries.ensures {u = tt}) ∙ c.deref.ensures.value ∙ c.tree.view_is) goes.found, refl, adds, refl)
 
 pub returns-in-Some-clause-storable : goal.returns-in-Some-clause-storable
-returns-in-Some-clause-storable g c = subst IsStorable (sym ((c.in_ok-entries.ensures {u = tt}) ∙ c.deref.ensures.value ∙ c.tree.view_is)) (c.in-Some.ensures {u = tt}).storable
+returns-in-Some-clause-storable g c = subst IsStorable (sym ((c.in_ok-entries.ensures {u = tt}) ∙ c.deref.ensures.value ∙ c.tree.view_is))
+    (c.in-Some.ensures {u = tt}).storable
 
-pub returns-in-Some-clause-stands : goal.returns-in-Some-clause-stands
-returns-in-Some-clause-stands g c = λ _.
+pub returns-in-Some-clause-is_at : goal.returns-in-Some-clause-is_at
+returns-in-Some-clause-is_at g c = λ _.
     let some = (c.in-Some.ensures {u = tt}).some in
     level_root c.args.node.now c.in-Some.tree.now [] (sym some.1) ∙ ap Some (sym ((c.in_ok-entries.ensures {u = tt}) ∙ c.deref.ensures.value ∙ c.tree.view_is))
 
-pub returns-in_err-tree-clause-stopped : goal.returns-in_err-tree-clause-stopped
-returns-in_err-tree-clause-stopped g c =
+pub returns-in_err-tree-clause-error : goal.returns-in_err-tree-clause-error
+returns-in_err-tree-clause-error g c =
     let ok = (c.in_ok-own.ensures {u = tt}).ok in
     let own = so_far c.base_of-base.result.now c.in_ok-own.own in
     err_weaker c.from_residual-in_err-tree.result _ _ c.from_residual-in_err-tree.ensures.1
-    (stopped_here (λ f p h. CalledAt g.F.FnMut f p.1 (Ok p.0) h) (λ f tree x h. CalledAt g.F.FnMut f tree (Err x) h) (λ ps. (own : List EntryView) × (n : ℕ) × Leaves (dirs_of c.args.node.now) (bases_of c.args.node.now) ps own n) c.args.out.now c.leaves.new.out ok.0 [] ok.5
+    (stopped_here (λ f p h. CalledAt g.F.FnMut f p.1 (Ok p.0) h) (λ f tree x h. CalledAt g.F.FnMut f tree (Err x) h)
+    (λ ps. (own : List EntryView) × (n : ℕ) × EmitsBelow (dirs_of c.args.node.now) (bases_of c.args.node.now) ps own n) c.args.out.now c.leaves.new.out ok.0
+    [] ok.5
     (own, ok.1, rw append-nil ok.2))
 
 pub returns-clause-ok : goal.returns-clause-ok

@@ -1,73 +1,86 @@
+-- A write of a directory meets its contract: the pairs with their moved trees, the directory after the write, and each
+-- error.
 use Rattle.std.proofs.Common.{arith, ◌≡◌, ◌≢◌, ◌∙◌, ◌++◌, ℕ, length, [], ◌∷◌, List, Ok, Err, refl, sym, ap, subst, append-nil}
 use Rattle.std.specs.Fn.{CalledAt}
 use Rattle.gixobj_tree.specs.Entries.{EachLater, EntryView, Pair}
 use Rattle.gixobj_hash.specs.declared.hash.object_id.ObjectId.{ObjectId}
-use Rattle.gixobj_directories.specs.Handing.{Stopped}
-use Rattle.gixobj_files.specs.HandingOut.{HandsOutSome, Leaves}
+use Rattle.gixobj_directories.specs.Emitting.{Stopped}
+use Rattle.gixobj_files.specs.Emission.{EmitsSome, EmitsBelow}
 use Rattle.gixobj_directories.specs.Nested.{Opened, bases_of, below, dirs_of, opened, parts}
-use Rattle.gixobj_directories.proofs.Handing.{FoldsTo-append, FoldsTo-one, callable_after, err_weaker, hands_more, stopped_after, stopped_here}
+use Rattle.gixobj_directories.proofs.Emitting.{FoldsTo-append, FoldsTo-one, callable_after, err_weaker, emits_more, stopped_after, stopped_here}
 use Rattle.std.specs.Prelude.{reverse}
 use Rattle.std.specs.declared.vec.Vec.{Vec}
 use Rattle.std.specs.declared.alloc.Global.{Global}
 use Rattle.std.proofs.lemmas.List.{reverse-reverse, with_items_is}
-use Rattle.gixobj_directories.specs.Wholes.{Fills, inside_of, wholes}
+use Rattle.gixobj_directories.specs.LeafTrees.{Fills, inside_of, leaf_trees}
 use Rattle.gixobj_files.specs.Bases.{base_edited}
 use Rattle.gixobj_directories.specs.declared.open.Child.{Child}
 use Rattle.gixobj_directories.proofs.BaseSteps.{written_base}
 use Rattle.gixobj_directories.proofs.Levels.{based_root, level_root}
 use Rattle.gixobj_directories.proofs.Ordered.{level_apart}
-use Rattle.gixobj_files.proofs.SiftedEntries.{leaves_sifted}
-use Rattle.gixobj_directories.proofs.WholeTrees.{fewer_wholes, some_is}
+use Rattle.gixobj_files.proofs.FilteredEntries.{leaves_filtered}
+use Rattle.gixobj_directories.proofs.LeafTrees.{fewer_leaf_trees, some_is}
 use Rattle.gixobj_directories.proofs.write.write_all.Goals as goal
 
-pub returns-in_err-own-clause-stopped : goal.returns-in_err-own-clause-stopped
-returns-in_err-own-clause-stopped g c =
+pub returns-in_err-own-clause-error : goal.returns-in_err-own-clause-error
+returns-in_err-own-clause-error g c =
     let dirs = dirs_of c.args.node.now in
     let bases = bases_of c.args.node.now in
     err_weaker c.from_residual.result _ _ c.from_residual.ensures.1
-    (λ error is. subst (Stopped (λ f p h. CalledAt g.F.FnMut f p.1 (Ok p.0) h) (λ f tree x h. CalledAt g.F.FnMut f tree (Err x) h) (HandsOutSome dirs bases) c.args.out.now c.leaves_copied.new.out) (sym is)
-    (stopped_after (λ f p h. CalledAt g.F.FnMut f p.1 (Ok p.0) h) (λ f tree x h. CalledAt g.F.FnMut f tree (Err x) h) (λ ps. (own : List EntryView) × (n : ℕ) × Leaves dirs bases ps own n) (HandsOutSome dirs bases)
-    c.args.out.now c.args.out.now c.leaves_copied.new.out [] refl (λ qs found. hands_more dirs bases qs found.0 found.1 found.2) c.in_err-own.field-0.0 (c.in_err-own.ensures {u = tt}).stopped))
+    (λ error is. subst (Stopped (λ f p h. CalledAt g.F.FnMut f p.1 (Ok p.0) h) (λ f tree x h. CalledAt g.F.FnMut f tree (Err x) h)
+    (EmitsSome dirs bases) c.args.out.now c.leaves_copied.new.out) (sym is)
+    (stopped_after (λ f p h. CalledAt g.F.FnMut f p.1 (Ok p.0) h) (λ f tree x h. CalledAt g.F.FnMut f tree (Err x) h)
+    (λ ps. (own : List EntryView) × (n : ℕ) × EmitsBelow dirs bases ps own n) (EmitsSome dirs bases)
+    c.args.out.now c.args.out.now c.leaves_copied.new.out [] refl (λ qs found. emits_more dirs bases qs found.0 found.1 found.2) c.in_err-own.field-0.0
+    (c.in_err-own.ensures {u = tt}).error))
 
-pub returns-in_err-wholes-clause-stopped : goal.returns-in_err-wholes-clause-stopped
-returns-in_err-wholes-clause-stopped g c =
+pub returns-in_err-complete_trees-clause-error : goal.returns-in_err-complete_trees-clause-error
+returns-in_err-complete_trees-clause-error g c =
     let dirs = dirs_of c.args.node.now in
     let bases = bases_of c.args.node.now in
     let ok = (c.in_ok-own.ensures {u = tt}).ok in
-    let more = hands_more dirs bases ok.0 c.in_ok-own.own ok.1 ok.2 in
-    err_weaker c.from_residual-in_err-wholes.result _ _ c.from_residual-in_err-wholes.ensures.1
-    (stopped_here (λ f p h. CalledAt g.F.FnMut f p.1 (Ok p.0) h) (λ f tree x h. CalledAt g.F.FnMut f tree (Err x) h) (HandsOutSome dirs bases) c.args.out.now c.leaves_copied.new.out ok.0 more.0 ok.5 more.1)
+    let more = emits_more dirs bases ok.0 c.in_ok-own.own ok.1 ok.2 in
+    err_weaker c.from_residual-in_err-complete_trees.result _ _ c.from_residual-in_err-complete_trees.ensures.1
+    (stopped_here (λ f p h. CalledAt g.F.FnMut f p.1 (Ok p.0) h) (λ f tree x h. CalledAt g.F.FnMut f tree (Err x) h)
+    (EmitsSome dirs bases) c.args.out.now c.leaves_copied.new.out ok.0 more.0 ok.5 more.1)
 
-pub returns-in_err-id-clause-stopped : goal.returns-in_err-id-clause-stopped
-returns-in_err-id-clause-stopped g c =
+pub returns-in_err-id-clause-error : goal.returns-in_err-id-clause-error
+returns-in_err-id-clause-error g c =
     let dirs = dirs_of c.args.node.now in
     let bases = bases_of c.args.node.now in
     let ok = (c.in_ok-own.ensures {u = tt}).ok in
     let own = c.in_ok-own.own in
     err_weaker c.from_residual-in_err-id.result _ _ c.from_residual-in_err-id.ensures.1
-    (λ error is. subst (Stopped (λ f p h. CalledAt g.F.FnMut f p.1 (Ok p.0) h) (λ f tree x h. CalledAt g.F.FnMut f tree (Err x) h) (HandsOutSome dirs bases) c.args.out.now c.ask.new.out) (sym is)
-    (stopped_after (λ f p h. CalledAt g.F.FnMut f p.1 (Ok p.0) h) (λ f tree x h. CalledAt g.F.FnMut f tree (Err x) h) (λ ps. (id : ObjectId) × (ps ≡ (id, own) ∷ [])) (HandsOutSome dirs bases)
-    c.args.out.now c.leaves_copied.new.out c.ask.new.out ok.0 ok.5 (λ qs one. ([], (ok.1, ok.0, one.0, own, ok.2, ap (λ ps. ok.0 ++ ps) (append-nil qs ∙ one.1)))) c.in_err-id.field-0.0 (c.in_err-id.ensures {u = tt}).stopped))
+    (λ error is. subst (Stopped (λ f p h. CalledAt g.F.FnMut f p.1 (Ok p.0) h) (λ f tree x h. CalledAt g.F.FnMut f tree (Err x) h)
+    (EmitsSome dirs bases) c.args.out.now c.ask.new.out) (sym is)
+    (stopped_after (λ f p h. CalledAt g.F.FnMut f p.1 (Ok p.0) h) (λ f tree x h. CalledAt g.F.FnMut f tree (Err x) h)
+    (λ ps. (id : ObjectId) × (ps ≡ (id, own) ∷ [])) (EmitsSome dirs bases)
+    c.args.out.now c.leaves_copied.new.out c.ask.new.out ok.0 ok.5
+    (λ qs one. ([], (ok.1, ok.0, one.0, own, ok.2, ap (λ ps. ok.0 ++ ps) (append-nil qs ∙ one.1)))) c.in_err-id.field-0.0
+    (c.in_err-id.ensures {u = tt}).error))
 
 pub returns-clause-ok : goal.returns-clause-ok
 returns-clause-ok g c =
     let ok = (c.in_ok-own.ensures {u = tt}).ok in
     let own = c.in_ok-own.own in
-    let handed = (c.in_ok-id.ensures {u = tt}).ok in
-    let room = c.push.ensures.succeeds (c.in_ok-id.ensures {u = tt}).room in
+    let emitted = (c.in_ok-id.ensures {u = tt}).ok in
+    let room = c.push.ensures.succeeds (c.in_ok-id.ensures {u = tt}).has_capacity in
     let node = c.args.node.now in
-    let all = wholes (inside_of node) in
-    let inside : wholes (below (parts c.node.inside.children.items)) ≡ all = ap (λ (ds : Opened). wholes (inside_of ds)) c.node.view_is in
-    let given : c.ask.new.pairs.items ≡ ok.4.0 = c.ask.ensures.items ∙ ok.4.1 ∙ ap (λ ps. ps ++ ok.4.0) c.new-trees.ensures.items in
-    let was : wholes (below (parts c.replace-children.result.items)) ≡ all = ap (λ (cs : Vec Child Global). wholes (below (parts cs.items))) c.replace-children.ensures.value ∙ inside in
-    let taken : reverse c.take_wholes.new.trees.items ≡ all =
-    ap reverse (c.take_wholes.ensures.items ∙ ap (λ l. l ++ reverse (wholes (below (parts c.replace-children.result.items)))) (c.in_ok-wholes.ensures {u = tt}).items)
-    ∙ reverse-reverse (wholes (below (parts c.replace-children.result.items))) ∙ was in
-    let fills : Fills ok.4.0 (reverse c.take_wholes.new.trees.items) ok.0 = subst (λ ts. Fills ok.4.0 ts ok.0) (sym taken) ok.4.2 in
-    let filled : c.fill.new.pairs ≡ ok.0 = c.fill.ensures ok.0 (subst (λ us. Fills us (reverse c.take_wholes.new.trees.items) ok.0) (sym (c.deref_mut.ensures.value ∙ given)) fills) in
+    let all = leaf_trees (inside_of node) in
+    let inside : leaf_trees (below (parts c.node.inside.children.items)) ≡ all = ap (λ (ds : Opened). leaf_trees (inside_of ds)) c.node.view_is in
+    let passed : c.ask.new.pairs.items ≡ ok.4.0 = c.ask.ensures.items ∙ ok.4.1 ∙ ap (λ ps. ps ++ ok.4.0) c.new-trees.ensures.items in
+    let was : leaf_trees (below (parts c.replace-children.result.items)) ≡ all =
+    ap (λ (cs : Vec Child Global). leaf_trees (below (parts cs.items))) c.replace-children.ensures.value ∙ inside in
+    let taken : reverse c.take_leaf_trees.new.trees.items ≡ all =
+    ap reverse (c.take_leaf_trees.ensures.items ∙ ap (λ l. l ++ reverse (leaf_trees (below (parts c.replace-children.result.items))))
+    (c.in_ok-complete_trees.ensures {u = tt}).items)
+    ∙ reverse-reverse (leaf_trees (below (parts c.replace-children.result.items))) ∙ was in
+    let fills : Fills ok.4.0 (reverse c.take_leaf_trees.new.trees.items) ok.0 = subst (λ ts. Fills ok.4.0 ts ok.0) (sym taken) ok.4.2 in
+    let filled : c.fill.new.pairs ≡ ok.0 =
+    c.fill.ensures ok.0 (subst (λ us. Fills us (reverse c.take_leaf_trees.new.trees.items) ok.0) (sym (c.deref_mut.ensures.value ∙ passed)) fills) in
     let back = with_items_is c.ask.new.pairs c.fill.new.pairs (c.fill.auto.pairs ∙ c.deref_mut.ensures.len) in
     let pushed = (rw room at c.push.ensures.items) ∙ ap (λ ps. ps ++ (c.in_ok-id.id, own) ∷ []) (back ∙ filled) in
-    let left : opened c.become_own.new.tree c.node.inside.base (parts c.replace-children.new.dest.items) ≡ opened own c.node.inside.base [] =
+    let remaining : opened c.become_own.new.tree c.node.inside.base (parts c.replace-children.new.dest.items) ≡ opened own c.node.inside.base [] =
     ap (λ (es : List EntryView). opened es c.node.inside.base (parts c.replace-children.new.dest.items)) c.become_own.ensures
     ∙ ap (λ (cs : Vec Child Global). opened own c.node.inside.base (parts cs.items)) c.replace-children.ensures.after
     ∙ ap (λ (cs : List Child). opened own c.node.inside.base (parts cs)) c.new.ensures.items in
@@ -76,47 +89,54 @@ returns-clause-ok g c =
       own,
       (ok.1, ok.2, ok.3),
       pushed,
-      FoldsTo-append gave c.args.out.now ok.0 c.leaves_copied.new.out ((c.in_ok-id.id, own) ∷ []) c.ask.new.out ok.5 (FoldsTo-one gave c.leaves_copied.new.out (c.in_ok-id.id, own) c.ask.new.out handed),
+      FoldsTo-append gave c.args.out.now ok.0 c.leaves_copied.new.out ((c.in_ok-id.id, own) ∷ []) c.ask.new.out ok.5
+          (FoldsTo-one gave c.leaves_copied.new.out (c.in_ok-id.id, own) c.ask.new.out emitted),
       (c.in_ok-own.ensures {u = tt}).storable,
-      (c.node.inside.base, left),
+      (c.node.inside.base, remaining),
     )
 
 pub ask-requires-clause-callable : goal.ask-requires-clause-callable
-ask-requires-clause-callable g c = let ok = (c.in_ok-own.ensures {u = tt}).ok in callable_after _ (λ f p h. CalledAt g.F.FnMut f p.1 (Ok p.0) h) c.args.out.now ok.0 c.leaves_copied.new.out ok.5 c.requires
+ask-requires-clause-callable g c = let ok = (c.in_ok-own.ensures {u = tt}).ok in callable_after _ (λ f p h. CalledAt g.F.FnMut f p.1 (Ok p.0) h) c.args.out.now
+    ok.0 c.leaves_copied.new.out ok.5 c.requires
 
 pub returns-clause-bases : goal.returns-clause-bases
 returns-clause-bases g c =
     let own = c.in_ok-own.own in
     let node = c.args.node.now in
-    let left : opened c.become_own.new.tree c.node.inside.base (parts c.replace-children.new.dest.items) ≡ opened own c.node.inside.base [] =
+    let remaining : opened c.become_own.new.tree c.node.inside.base (parts c.replace-children.new.dest.items) ≡ opened own c.node.inside.base [] =
     ap (λ (es : List EntryView). opened es c.node.inside.base (parts c.replace-children.new.dest.items)) c.become_own.ensures
     ∙ ap (λ (cs : Vec Child Global). opened own c.node.inside.base (parts cs.items)) c.replace-children.ensures.after
     ∙ ap (λ (cs : List Child). opened own c.node.inside.base (parts cs)) c.new.ensures.items in
     let ps = parts c.node.inside.children.items in
-    λ at. subst (λ (ds : Opened). bases_of ds at ≡ base_edited (dirs_of node at) (dirs_of ds at) (bases_of node at)) (sym left)
-    (written_base node c.node.inside.tree own c.node.inside.base (level_root node c.node.inside.tree ps c.node.view_is) (based_root node c.node.inside.tree ps c.node.view_is) at)
+    λ at. subst (λ (ds : Opened). bases_of ds at ≡ base_edited (dirs_of node at) (dirs_of ds at) (bases_of node at)) (sym remaining)
+    (written_base node c.node.inside.tree own c.node.inside.base (level_root node c.node.inside.tree ps c.node.view_is)
+    (based_root node c.node.inside.tree ps c.node.view_is) at)
 
-pub become_own-requires-clause-sifted : goal.become_own-requires-clause-sifted
-become_own-requires-clause-sifted g c =
+pub become_own-requires-clause-filtered : goal.become_own-requires-clause-filtered
+become_own-requires-clause-filtered g c =
     let ok = (c.in_ok-own.ensures {u = tt}).ok in
-    leaves_sifted (dirs_of c.args.node.now) (bases_of c.args.node.now) ok.0 c.in_ok-own.own ok.1 c.node.inside.tree ok.2 (level_root c.args.node.now c.node.inside.tree (parts c.node.inside.children.items) c.node.view_is)
+    leaves_filtered (dirs_of c.args.node.now) (bases_of c.args.node.now) ok.0 c.in_ok-own.own ok.1 c.node.inside.tree ok.2
+    (level_root c.args.node.now c.node.inside.tree (parts c.node.inside.children.items) c.node.view_is)
 
 pub become_own-requires-clause-filled : goal.become_own-requires-clause-filled
 become_own-requires-clause-filled g c = (c.in_ok-own.ensures {u = tt}).storable.no_nulls
 
-pub become_own-requires-clause-stands : goal.become_own-requires-clause-stands
-become_own-requires-clause-stands g c = λ stands.
+pub become_own-requires-clause-is_at : goal.become_own-requires-clause-is_at
+become_own-requires-clause-is_at g c = λ placed.
     let node = c.args.node.now in
-    some_is c.in_ok-own.own c.node.inside.tree (sym ((c.in_ok-own.ensures {u = tt}).stands stands) ∙ level_root node c.node.inside.tree (parts c.node.inside.children.items) c.node.view_is)
+    some_is c.in_ok-own.own c.node.inside.tree (sym ((c.in_ok-own.ensures {u = tt}).is_at placed) ∙ level_root node c.node.inside.tree
+    (parts c.node.inside.children.items) c.node.view_is)
 
-pub take_wholes-requires-clause-apart : goal.take_wholes-requires-clause-apart
-take_wholes-requires-clause-apart g c = subst (λ (cs : Vec Child Global). EachLater (λ x y. x.0 ≢ y.0) (parts cs.items)) (sym c.replace-children.ensures.value) (level_apart c.node.invariant)
+pub take_leaf_trees-requires-clause-apart : goal.take_leaf_trees-requires-clause-apart
+take_leaf_trees-requires-clause-apart g c = subst (λ (cs : Vec Child Global). EachLater (λ x y. x.0 ≢ y.0) (parts cs.items))
+    (sym c.replace-children.ensures.value) (level_apart c.node.invariant)
 
-pub take_wholes-requires-clause-room : goal.take_wholes-requires-clause-room
-take_wholes-requires-clause-room g c =
+pub take_leaf_trees-requires-clause-has_capacity : goal.take_leaf_trees-requires-clause-has_capacity
+take_leaf_trees-requires-clause-has_capacity g c =
     let ok = (c.in_ok-own.ensures {u = tt}).ok in
-    let fewer = fewer_wholes ok.4.0 (wholes (inside_of c.args.node.now)) ok.0 ok.4.2 in
+    let fewer = fewer_leaf_trees ok.4.0 (leaf_trees (inside_of c.args.node.now)) ok.0 ok.4.2 in
     let pairs = ap length (ok.4.1 ∙ ap (λ ps. ps ++ ok.4.0) c.new-trees.ensures.items) in
-    let trees = ap (λ (cs : Vec Child Global). length (wholes (below (parts cs.items)))) c.replace-children.ensures.value ∙ ap (λ (ds : Opened). length (wholes (inside_of ds))) c.node.view_is in
-    let made = c.in_ok-wholes.ensures {u = tt} in
+    let trees = ap (λ (cs : Vec Child Global). length (leaf_trees (below (parts cs.items)))) c.replace-children.ensures.value
+    ∙ ap (λ (ds : Opened). length (leaf_trees (inside_of ds))) c.node.view_is in
+    let made = c.in_ok-complete_trees.ensures {u = tt} in
     omega (arith, fewer, pairs, trees, made.exact, made.len, c.len.ensures, c.leaves_copied.new.pairs.ok.0)

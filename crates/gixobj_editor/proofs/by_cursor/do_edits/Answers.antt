@@ -2,7 +2,7 @@ use Rattle.std.proofs.Common.{length, List, arith, ap, refl, Result, subst, ◌�
 use Rattle.std.specs.Fn.{FnReturnsAt}
 use Rattle.gixobj_files.specs.Files.{Path}
 use Rattle.gixobj_hash.specs.declared.hash.object_id.ObjectId.{ObjectId}
-use Rattle.gixobj_object.specs.Stores.{Meaning}
+use Rattle.gixobj_object.specs.Stores.{StoreModel}
 use Rattle.gixobj_tree.specs.Entries.{EntryView}
 use Rattle.gixobj_editor.specs.Commands.{at_cursor}
 use Rattle.gixobj_editor.specs.Replies.{IsEditReply}
@@ -11,12 +11,14 @@ use Rattle.gixobj_editor.proofs.by_cursor.do_edits.Goals as goal
 
 pub loop-edit-preserved : goal.loop-edit-preserved
 loop-edit-preserved g c =
-    let means : Meaning g.row.S.Denot = record { objects = g.S.Store.objects; may_fail = g.S.Store.may_fail } in
+    let means : StoreModel g.row.S.Denot = record { objects = g.S.Store.objects; may_fail = g.S.Store.may_fail } in
     let answers = λ (tree : List EntryView) (answer : Result ObjectId g.row.E.Denot). FnReturnsAt g.F.Fn c.args.out.now tree answer in
     let steps = c.in-Some.ensures.steps in
-    let one = subst (λ (p : Path). IsEditReply means answers (at_cursor p) c.loop-edit.cursor.editor.now c.in-Some.edit c.do_edit_by-reply.result c.do_edit_by-reply.new.cursor.editor.now) c.loop-edit.invariant.prefix c.do_edit_by-reply.ensures.replied in
+    let one = subst (λ (p : Path). IsEditReply means answers (at_cursor p) c.loop-edit.cursor.editor.now c.in-Some.edit c.do_edit_by-reply.result
+    c.do_edit_by-reply.new.cursor.editor.now) c.loop-edit.invariant.prefix c.do_edit_by-reply.ensures.replied in
     record {
-      told = λ replies new h. one_more_edit means answers (at_cursor c.args.cursor.now.editor.now.prefix) c.loop-edit.cursor.editor.now _ _ _ _ _ _ _ _ _ _ _ one steps.0 c.push_reserved.ensures.items c.loop-edit.invariant.told h;
+      so_far = λ replies new h. one_more_edit means answers (at_cursor c.args.cursor.now.editor.now.prefix) c.loop-edit.cursor.editor.now _ _ _ _ _ _ _ _ _ _ _
+          one steps.0 c.push_reserved.ensures.items c.loop-edit.invariant.so_far h;
       room = let e = ap length steps.0 in grind (arith, c.loop-edit.invariant.room);
       same = refl;
       same_reference = c.do_edit_by-reply.ensures.same_reference ∙ c.loop-edit.invariant.same_reference;
@@ -25,6 +27,7 @@ loop-edit-preserved g c =
 
 pub returns-clause-replied : goal.returns-clause-replied
 returns-clause-replied g c =
-    let means : Meaning g.row.S.Denot = record { objects = g.S.Store.objects; may_fail = g.S.Store.may_fail } in
+    let means : StoreModel g.row.S.Denot = record { objects = g.S.Store.objects; may_fail = g.S.Store.may_fail } in
     let answers = λ (tree : List EntryView) (answer : Result ObjectId g.row.E.Denot). FnReturnsAt g.F.Fn c.args.out.now tree answer in
-    no_more_edits means answers (at_cursor c.args.cursor.now.editor.now.prefix) _ _ _ _ _ (omega (arith, c.in-None.ensures.steps.0, c.loop-edit.edit-iterator.rest.ok.0)) c.loop-edit.invariant.told
+    no_more_edits means answers (at_cursor c.args.cursor.now.editor.now.prefix) _ _ _ _ _
+    (omega (arith, c.in-None.ensures.steps.0, c.loop-edit.edit-iterator.rest.ok.0)) c.loop-edit.invariant.so_far

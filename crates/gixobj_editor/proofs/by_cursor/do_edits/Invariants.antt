@@ -3,19 +3,20 @@ use Rattle.std.specs.Fn.{FnReturnsAt}
 use Rattle.std.specs.Vec.Iter.{into_iter_items}
 use Rattle.gixobj_files.specs.State.{State}
 use Rattle.gixobj_hash.specs.declared.hash.object_id.ObjectId.{ObjectId}
-use Rattle.gixobj_object.specs.Stores.{Meaning}
+use Rattle.gixobj_object.specs.Stores.{StoreModel}
 use Rattle.gixobj_tree.specs.Entries.{EntryView}
 use Rattle.gixobj_editor.specs.Commands.{at_cursor}
 use Rattle.gixobj_editor.specs.Replies.{AreEditReplies}
 use Rattle.gixobj_editor.specs.declared.reply.EditReply.{EditReply}
 use Rattle.gixobj_editor.proofs.by_cursor.do_edits.Given as goal
 
--- the replies so far and those to what is left are replies to all
+-- the replies so far, with replies to the remaining edits, are replies to all edits
 abbrev pub invariant-loop-edit : goal.invariant-loop-edit
 invariant-loop-edit g l =
-    let means : Meaning g.row.S.Denot = record { objects = g.S.Store.objects; may_fail = g.S.Store.may_fail } in
+    let means : StoreModel g.row.S.Denot = record { objects = g.S.Store.objects; may_fail = g.S.Store.may_fail } in
     let answers = (λ (tree : List EntryView) (answer : Result ObjectId g.row.E.Denot). FnReturnsAt g.F.Fn l.fn.out tree answer) in record {
-      told : (replies : List (EditReply g.row.E.Denot)) (new : State g.row.S.Denot) → AreEditReplies means answers (at_cursor l.fn.cursor.editor.now.prefix) l.cursor.editor.now (into_iter_items l.edit-iterator) replies new
+      so_far : (replies : List (EditReply g.row.E.Denot)) (new : State g.row.S.Denot)
+          → AreEditReplies means answers (at_cursor l.fn.cursor.editor.now.prefix) l.cursor.editor.now (into_iter_items l.edit-iterator) replies new
           → AreEditReplies means answers (at_cursor l.fn.cursor.editor.now.prefix) l.fn.cursor.editor.now l.fn.edits.items (l.replies.items ++ replies) new;
       room : vec_len l.replies + length (into_iter_items l.edit-iterator) ≤ vec_capacity l.replies;
       same : l.out ≡ l.fn.out;

@@ -3,11 +3,11 @@ use Rattle.std.specs.Fn.{FnReturnsAt}
 use Rattle.gixobj_directories.specs.Calls.{names_of}
 use Rattle.gixobj_directories.specs.Openings.{OfTrees}
 use Rattle.gixobj_editor.specs.Cursors.{prefix_of}
-use Rattle.gixobj_editor.specs.Upserts.{IsForAName, IsRefused}
+use Rattle.gixobj_editor.specs.Upserts.{IsForAName, IsEditFailure}
 use Rattle.gixobj_files.specs.State.{State}
 use Rattle.gixobj_files.specs.Unopened.{inside}
 use Rattle.gixobj_hash.specs.declared.hash.object_id.ObjectId.{ObjectId}
-use Rattle.gixobj_object.specs.Stores.{Meaning}
+use Rattle.gixobj_object.specs.Stores.{StoreModel}
 use Rattle.gixobj_tree.specs.Entries.{EntryView}
 use Rattle.gixobj_editor.specs.Replies.{IsReplyAt}
 use Rattle.gixobj_editor.specs.declared.reply.Reply.TheVariants as reply
@@ -16,17 +16,21 @@ use Rattle.gixobj_editor.proofs.by_cursor.do_edits_in.Goals as goal
 
 pub returns-in-Ok : goal.returns-in-Ok
 returns-in-Ok g c =
-    let means : Meaning g.row.S.Denot = record { objects = g.S.Store.objects; may_fail = g.S.Store.may_fail } in
+    let means : StoreModel g.row.S.Denot = record { objects = g.S.Store.objects; may_fail = g.S.Store.may_fail } in
     let answers = λ (tree : List EntryView) (answer : Result ObjectId g.row.E.Denot). FnReturnsAt g.F.Fn c.args.out.now tree answer in
     let made = c.in-Ok.ensures {u = tt} in
-    let left = c.do_edits.new.cursor.editor.now in
-    let done : (new : State g.row.S.Denot) → new ≡ left → IsReplyAt means answers (prefix_of (names_of c.args.prefix.now)) c.args.editor.now c.args.edits.items (reply.At c.do_edits.result) new =
-    λ new outside. done_at means answers (prefix_of (names_of c.args.prefix.now)) c.in-Ok.cursor.editor.now.prefix c.args.editor.now c.in-Ok.cursor.editor.now left new c.args.edits.items c.do_edits.result
-    made.prefix made.assured c.do_edits.ensures.replied outside in
+    let pending = c.do_edits.new.cursor.editor.now in
+    let done : (new : State g.row.S.Denot) → new ≡ pending
+    → IsReplyAt means answers (prefix_of (names_of c.args.prefix.now)) c.args.editor.now c.args.edits.items (reply.At c.do_edits.result) new =
+    λ new outside. done_at means answers (prefix_of (names_of c.args.prefix.now)) c.in-Ok.cursor.editor.now.prefix c.args.editor.now c.in-Ok.cursor.editor.now
+    pending new c.args.edits.items c.do_edits.result
+    made.prefix made.ensured c.do_edits.ensures.replied outside in
     record { replied = done _ (search rules) }
 
 pub returns-in-Err : goal.returns-in-Err
 returns-in-Err g c =
-    let left = c.cursor_at.follows.lender-at-none in
-    let refused : OfTrees (g.S.Store.objects c.args.editor.now.store) (λ trees. IsRefused trees c.args.editor.now (inside (prefix_of (names_of c.args.prefix.now))) left) × (IsForAName c.in-Err.error → left ≡ c.args.editor.now) = search rules in
-    record { replied = inr (record { left = refused.0; refusal = (c.in-Err.ensures {u = tt}).refusal }, refused.1) }
+    let pending = c.cursor_at.follows.lender-at-none in
+    let rejected : OfTrees (g.S.Store.objects c.args.editor.now.store)
+    (λ trees. IsEditFailure trees c.args.editor.now (inside (prefix_of (names_of c.args.prefix.now))) pending)
+    × (IsForAName c.in-Err.error → pending ≡ c.args.editor.now) = search rules in
+    record { replied = inr (record { remaining = rejected.0; cause = (c.in-Err.ensures {u = tt}).error }, rejected.1) }

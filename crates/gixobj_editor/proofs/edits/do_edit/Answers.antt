@@ -1,7 +1,7 @@
 use Rattle.std.proofs.Common.{List, Result}
 use Rattle.std.specs.Fn.{FnReturnsAt}
 use Rattle.gixobj_hash.specs.declared.hash.object_id.ObjectId.{ObjectId}
-use Rattle.gixobj_object.specs.Stores.{Meaning}
+use Rattle.gixobj_object.specs.Stores.{StoreModel}
 use Rattle.gixobj_tree.specs.Entries.{EntryView}
 use Rattle.gixobj_editor.specs.Commands.{at_root}
 use Rattle.gixobj_editor.proofs.Replied.{leaf_removal_replied, removal_replied, upsert_replied}
@@ -9,30 +9,36 @@ use Rattle.gixobj_editor.proofs.edits.do_edit.Goals as goal
 
 pub returns-in-Upsert : goal.returns-in-Upsert
 returns-in-Upsert g c =
-    let means : Meaning g.row.S.Denot = record { objects = g.S.Store.objects; may_fail = g.S.Store.may_fail } in
+    let means : StoreModel g.row.S.Denot = record { objects = g.S.Store.objects; may_fail = g.S.Store.may_fail } in
     let answers = λ (tree : List EntryView) (answer : Result ObjectId g.row.E.Denot). FnReturnsAt g.F.Fn c.args.out.now tree answer in
     let call = c.try_upsert in
     record {
-      replied = rw (c.in-Upsert.is, c.reply_to_edit.ensures.reply) (upsert_replied means answers at_root c.args.editor.now call.new.self c.in-Upsert.path c.deref.result.now c.deref.ensures.value c.in-Upsert.kind c.in-Upsert.id call.result
-          call.ensures.upserted call.ensures.refused call.ensures.refusal call.ensures.unasked);
+      replied = rw (c.in-Upsert.is, c.reply_to_edit.ensures.reply)
+          (upsert_replied means answers at_root c.args.editor.now call.new.self c.in-Upsert.path c.deref.result.now c.deref.ensures.value c.in-Upsert.kind
+          c.in-Upsert.id call.result
+          call.ensures.upserted call.ensures.after_error call.ensures.error call.ensures.not_looked_up);
     }
 
 pub returns-in-Remove : goal.returns-in-Remove
 returns-in-Remove g c =
-    let means : Meaning g.row.S.Denot = record { objects = g.S.Store.objects; may_fail = g.S.Store.may_fail } in
+    let means : StoreModel g.row.S.Denot = record { objects = g.S.Store.objects; may_fail = g.S.Store.may_fail } in
     let answers = λ (tree : List EntryView) (answer : Result ObjectId g.row.E.Denot). FnReturnsAt g.F.Fn c.args.out.now tree answer in
     let call = c.try_remove in
     record {
-      replied = rw (c.in-Remove.is, c.reply_to_edit-in-Remove.ensures.reply) (removal_replied means answers at_root c.args.editor.now call.new.self c.in-Remove.path c.deref-in-Remove.result.now c.deref-in-Remove.ensures.value call.result
-          call.ensures.removed call.ensures.refused call.ensures.refusal);
+      replied = rw (c.in-Remove.is, c.reply_to_edit-in-Remove.ensures.reply)
+          (removal_replied means answers at_root c.args.editor.now call.new.self c.in-Remove.path c.deref-in-Remove.result.now c.deref-in-Remove.ensures.value
+          call.result
+          call.ensures.removed call.ensures.after_error call.ensures.error);
     }
 
 pub returns-in-RemoveLeaf : goal.returns-in-RemoveLeaf
 returns-in-RemoveLeaf g c =
-    let means : Meaning g.row.S.Denot = record { objects = g.S.Store.objects; may_fail = g.S.Store.may_fail } in
+    let means : StoreModel g.row.S.Denot = record { objects = g.S.Store.objects; may_fail = g.S.Store.may_fail } in
     let answers = λ (tree : List EntryView) (answer : Result ObjectId g.row.E.Denot). FnReturnsAt g.F.Fn c.args.out.now tree answer in
     let call = c.try_remove_leaf in
     record {
-      replied = rw (c.in-RemoveLeaf.is, c.reply_to_edit-in-RemoveLeaf.ensures.reply) (leaf_removal_replied means answers at_root c.args.editor.now call.new.self c.in-RemoveLeaf.path c.deref-in-RemoveLeaf.result.now c.deref-in-RemoveLeaf.ensures.value call.result
-          call.ensures.removed call.ensures.refused call.ensures.refusal);
+      replied = rw (c.in-RemoveLeaf.is, c.reply_to_edit-in-RemoveLeaf.ensures.reply)
+          (leaf_removal_replied means answers at_root c.args.editor.now call.new.self c.in-RemoveLeaf.path c.deref-in-RemoveLeaf.result.now
+          c.deref-in-RemoveLeaf.ensures.value call.result
+          call.ensures.removed call.ensures.after_error call.ensures.error);
     }

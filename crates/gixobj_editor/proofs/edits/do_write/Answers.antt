@@ -1,9 +1,9 @@
 use Rattle.std.proofs.Common.{List, Result, ap, refl}
 use Rattle.std.specs.Fn.{FnReturnsAt}
-use Rattle.gixobj_files.specs.HandingOut.{HandsOutSome}
+use Rattle.gixobj_files.specs.Emission.{EmitsSome}
 use Rattle.gixobj_files.specs.State.{State, open_bases, open_dirs}
 use Rattle.gixobj_hash.specs.declared.hash.object_id.ObjectId.{ObjectId}
-use Rattle.gixobj_object.specs.Stores.{Meaning}
+use Rattle.gixobj_object.specs.Stores.{StoreModel}
 use Rattle.gixobj_tree.specs.Entries.{EntryView}
 use Rattle.gixobj_editor.specs.Commands.{at_root}
 use Rattle.gixobj_editor.proofs.Calling.{callable, stopped, written}
@@ -11,24 +11,40 @@ use Rattle.gixobj_editor.proofs.Kept.{kept_all, not_kept}
 use Rattle.gixobj_editor.proofs.edits.do_write.Goals as goal
 
 pub write-requires : goal.write-requires
-write-requires g c = callable g.F.Fn _ c.args.out _ c.requires.callable (λ asked tree answer answered it. (it.met.1, it.met.0))
+write-requires g c = callable g.F.Fn _ c.args.out _ c.requires.callable (λ requested tree answer answered it. (it.met.1, it.met.0))
 
 pub returns-in-Err : goal.returns-in-Err
 returns-in-Err g c =
     let done = c.in-Err.ensures {u = tt} in
-    record { replied = record { stopped = stopped g.F.Fn _ c.args.out (HandsOutSome (open_dirs c.args.editor.now) (open_bases c.args.editor.now)) c.in-Err.error done.stopped (λ asked tree answer answered it. (it.met.1, it.met.0)); unchanged = done.unchanged } }
+    record {
+      replied = record {
+        stopped = stopped g.F.Fn _ c.args.out (EmitsSome (open_dirs c.args.editor.now) (open_bases c.args.editor.now)) c.in-Err.error done.error
+            (λ requested tree answer answered it. (it.met.1, it.met.0));
+        unchanged = done.unchanged;
+      };
+    }
 
 pub returns-in-Ok-keep_all : goal.returns-in-Ok-keep_all
 returns-in-Ok-keep_all g c =
-    let means : Meaning g.row.S.Denot = record { objects = g.S.Store.objects; may_fail = g.S.Store.may_fail } in
+    let means : StoreModel g.row.S.Denot = record { objects = g.S.Store.objects; may_fail = g.S.Store.may_fail } in
     let answers = λ (tree : List EntryView) (answer : Result ObjectId g.row.E.Denot). FnReturnsAt g.F.Fn c.args.out.now tree answer in
-    let wrote = written g.F.Fn _ c.args.out c.args.editor.now c.write.new.self c.in-Ok.written (c.in-Ok.ensures {u = tt}).written (λ asked tree answer answered it. (it.met.1, it.met.0)) in
+    let wrote = written g.F.Fn _ c.args.out c.args.editor.now c.write.new.self c.in-Ok.written (c.in-Ok.ensures {u = tt}).written
+    (λ requested tree answer answered it. (it.met.1, it.met.0)) in
     let kept = c.in-Ok-keep_all.ensures {u = tt} in
-    record { replied = kept_all means answers at_root c.args.editor.now c.write.new.self _ c.store_mut.result.now c.keep_all.new.store c.in-Ok.written c.deref.result.now wrote (ap (λ (s : State g.row.S.Denot). s.store) wrote.rest) c.store_mut.ensures.value c.deref.ensures.value refl c.keep_all.ensures.may_fail kept.kept kept.have_texts }
+    record {
+      replied = kept_all means answers at_root c.args.editor.now c.write.new.self _ c.store_mut.result.now c.keep_all.new.store c.in-Ok.written
+          c.deref.result.now wrote (ap (λ (s : State g.row.S.Denot). s.store) wrote.rest) c.store_mut.ensures.value c.deref.ensures.value refl
+          c.keep_all.ensures.fallible kept.stored kept.have_encodings;
+    }
 
 pub returns-in-Err-keep_all : goal.returns-in-Err-keep_all
 returns-in-Err-keep_all g c =
-    let means : Meaning g.row.S.Denot = record { objects = g.S.Store.objects; may_fail = g.S.Store.may_fail } in
+    let means : StoreModel g.row.S.Denot = record { objects = g.S.Store.objects; may_fail = g.S.Store.may_fail } in
     let answers = λ (tree : List EntryView) (answer : Result ObjectId g.row.E.Denot). FnReturnsAt g.F.Fn c.args.out.now tree answer in
-    let wrote = written g.F.Fn _ c.args.out c.args.editor.now c.write.new.self c.in-Ok.written (c.in-Ok.ensures {u = tt}).written (λ asked tree answer answered it. (it.met.1, it.met.0)) in
-    record { replied = not_kept means answers at_root c.args.editor.now c.write.new.self _ c.store_mut.result.now c.keep_all.new.store c.in-Ok.written c.deref.result.now wrote (ap (λ (s : State g.row.S.Denot). s.store) wrote.rest) c.store_mut.ensures.value c.deref.ensures.value refl c.keep_all.ensures.may_fail c.in-Err-keep_all.count c.in-Err-keep_all.error (c.in-Err-keep_all.ensures {u = tt}).stopped }
+    let wrote = written g.F.Fn _ c.args.out c.args.editor.now c.write.new.self c.in-Ok.written (c.in-Ok.ensures {u = tt}).written
+    (λ requested tree answer answered it. (it.met.1, it.met.0)) in
+    record {
+      replied = not_kept means answers at_root c.args.editor.now c.write.new.self _ c.store_mut.result.now c.keep_all.new.store c.in-Ok.written
+          c.deref.result.now wrote (ap (λ (s : State g.row.S.Denot). s.store) wrote.rest) c.store_mut.ensures.value c.deref.ensures.value refl
+          c.keep_all.ensures.fallible c.in-Err-keep_all.count c.in-Err-keep_all.error (c.in-Err-keep_all.ensures {u = tt}).error;
+    }

@@ -4,7 +4,7 @@ use Rattle.bstr.specs.declared.bstring.BString.{BString}
 use Rattle.gixobj_directories.specs.Calls.{names_of}
 use Rattle.gixobj_editor.specs.Cursors.{prefix_of}
 use Rattle.gixobj_hash.specs.declared.hash.object_id.ObjectId.{ObjectId}
-use Rattle.gixobj_object.specs.Stores.{Meaning}
+use Rattle.gixobj_object.specs.Stores.{StoreModel}
 use Rattle.gixobj_tree.specs.Entries.{EntryView}
 use Rattle.gixobj_editor.specs.Replies.{IsReplyAt}
 use Rattle.gixobj_editor.proofs.Replied.{root_set}
@@ -12,10 +12,18 @@ use Rattle.gixobj_editor.proofs.running.do_command.Goals as goal
 
 pub returns-in-At : goal.returns-in-At
 returns-in-At g c =
-    let means : Meaning g.row.S.Denot = record { objects = g.S.Store.objects; may_fail = g.S.Store.may_fail } in
+    let means : StoreModel g.row.S.Denot = record { objects = g.S.Store.objects; may_fail = g.S.Store.may_fail } in
     let answers = λ (tree : List EntryView) (answer : Result ObjectId g.row.E.Denot). FnReturnsAt g.F.Fn c.args.out.now tree answer in
-    record { replied = rw c.in-At.is (subst (λ (l : List BString). IsReplyAt means answers (prefix_of (names_of l)) c.args.editor.now c.in-At.edits.items c.do_edits_at.result c.do_edits_at.new.editor) c.deref.ensures.value c.do_edits_at.ensures.replied) }
+    record {
+      replied = rw c.in-At.is
+          (subst (λ (l : List BString). IsReplyAt means answers (prefix_of (names_of l)) c.args.editor.now c.in-At.edits.items c.do_edits_at.result
+          c.do_edits_at.new.editor) c.deref.ensures.value c.do_edits_at.ensures.replied);
+    }
 
 pub returns-then-is_well_formed : goal.returns-then-is_well_formed
 returns-then-is_well_formed g c =
-    record { replied = rw c.in-SetRoot.is (root_set c.args.editor.now _ c.set_root.result.now c.in-SetRoot.root (search rules) (c.is_well_formed.ensures.0 c.if-is_well_formed.true) c.set_root.ensures.state c.set_root.ensures.files c.set_root.ensures.has_bases) }
+    record {
+      replied = rw c.in-SetRoot.is
+          (root_set c.args.editor.now _ c.set_root.result.now c.in-SetRoot.root (search rules) (c.is_well_formed.ensures.0 c.if-is_well_formed.true)
+          c.set_root.ensures.state c.set_root.ensures.files c.set_root.ensures.has_bases);
+    }

@@ -1,38 +1,43 @@
 use Rattle.std.proofs.Common.{length, List, arith, ap, refl, Result}
 use Rattle.std.specs.Fn.{FnReturnsAt}
 use Rattle.gixobj_hash.specs.declared.hash.object_id.ObjectId.{ObjectId}
-use Rattle.gixobj_object.specs.Stores.{Meaning}
+use Rattle.gixobj_object.specs.Stores.{StoreModel}
 use Rattle.gixobj_tree.specs.Entries.{EntryView}
 use Rattle.gixobj_editor.proofs.Named.{names_history}
-use Rattle.gixobj_editor.proofs.OneId.{ids_tell_files}
+use Rattle.gixobj_editor.proofs.OneId.{ids_determine_files}
 use Rattle.gixobj_editor.proofs.OneMore.{no_more, one_more}
 use Rattle.gixobj_editor.proofs.running.run.Goals as goal
 
 pub loop-command-preserved : goal.loop-command-preserved
 loop-command-preserved g c =
-    let means : Meaning g.row.S.Denot = record { objects = g.S.Store.objects; may_fail = g.S.Store.may_fail } in
+    let means : StoreModel g.row.S.Denot = record { objects = g.S.Store.objects; may_fail = g.S.Store.may_fail } in
     let answers = λ (tree : List EntryView) (answer : Result ObjectId g.row.E.Denot). FnReturnsAt g.F.Fn c.args.out tree answer in
     let steps = c.in-Some.ensures.steps in
     record {
-      told = λ replies new h. one_more means answers c.loop-command.editor _ _ _ _ _ _ _ _ _ _ _ c.do_command-reply.ensures.replied steps.0 c.push_reserved.ensures.items c.loop-command.invariant.told h;
+      so_far = λ replies new h. one_more means answers c.loop-command.editor _ _ _ _ _ _ _ _ _ _ _ c.do_command-reply.ensures.replied steps.0
+          c.push_reserved.ensures.items c.loop-command.invariant.so_far h;
       room = let e = ap length steps.0 in grind (arith, c.loop-command.invariant.room);
       same = refl;
     }
 
 pub returns-clause-replies : goal.returns-clause-replies
 returns-clause-replies g c =
-    let means : Meaning g.row.S.Denot = record { objects = g.S.Store.objects; may_fail = g.S.Store.may_fail } in
+    let means : StoreModel g.row.S.Denot = record { objects = g.S.Store.objects; may_fail = g.S.Store.may_fail } in
     let answers = λ (tree : List EntryView) (answer : Result ObjectId g.row.E.Denot). FnReturnsAt g.F.Fn c.args.out tree answer in
-    no_more means answers _ _ _ _ _ (omega (arith, c.in-None.ensures.steps.0, c.loop-command.command-iterator.rest.ok.0)) c.loop-command.invariant.told
+    no_more means answers _ _ _ _ _ (omega (arith, c.in-None.ensures.steps.0, c.loop-command.command-iterator.rest.ok.0)) c.loop-command.invariant.so_far
 
 pub returns-clause-headline : goal.returns-clause-headline
 returns-clause-headline g c =
-    let means : Meaning g.row.S.Denot = record { objects = g.S.Store.objects; may_fail = g.S.Store.may_fail } in
+    let means : StoreModel g.row.S.Denot = record { objects = g.S.Store.objects; may_fail = g.S.Store.may_fail } in
     let answers = λ (tree : List EntryView) (answer : Result ObjectId g.row.E.Denot). FnReturnsAt g.F.Fn c.args.out tree answer in
-    λ T n k written is agrees pairs has. names_history means answers T n _ _ _ _ (no_more means answers _ _ _ _ _ (omega (arith, c.in-None.ensures.steps.0, c.loop-command.command-iterator.rest.ok.0)) c.loop-command.invariant.told) k written is agrees pairs has
+    λ T n k written is agrees pairs has. names_history means answers T n _ _ _ _
+    (no_more means answers _ _ _ _ _ (omega (arith, c.in-None.ensures.steps.0, c.loop-command.command-iterator.rest.ok.0)) c.loop-command.invariant.so_far) k
+    written is agrees pairs has
 
 pub returns-clause-one_id : goal.returns-clause-one_id
 returns-clause-one_id g c =
-    let means : Meaning g.row.S.Denot = record { objects = g.S.Store.objects; may_fail = g.S.Store.may_fail } in
+    let means : StoreModel g.row.S.Denot = record { objects = g.S.Store.objects; may_fail = g.S.Store.may_fail } in
     let answers = λ (tree : List EntryView) (answer : Result ObjectId g.row.E.Denot). FnReturnsAt g.F.Fn c.args.out tree answer in
-    λ T m plain. ids_tell_files means answers T _ _ _ _ (no_more means answers _ _ _ _ _ (omega (arith, c.in-None.ensures.steps.0, c.loop-command.command-iterator.rest.ok.0)) c.loop-command.invariant.told) m plain
+    λ T m plain. ids_determine_files means answers T _ _ _ _
+    (no_more means answers _ _ _ _ _ (omega (arith, c.in-None.ensures.steps.0, c.loop-command.command-iterator.rest.ok.0)) c.loop-command.invariant.so_far) m
+    plain

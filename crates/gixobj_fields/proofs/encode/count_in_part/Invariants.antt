@@ -1,4 +1,4 @@
--- The newlines before the byte in hand are counted.
+-- The newlines before the current byte are counted.
 use Rattle.std.proofs.Common.{◌≡◌, take}
 use Rattle.gixobj_fields.specs.FieldWriting.{newlines}
 use Rattle.gixobj_fields.proofs.encode.count_in_part.Given as goal

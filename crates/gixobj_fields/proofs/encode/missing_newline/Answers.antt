@@ -1,4 +1,4 @@
--- No byte follows a newline, so the last byte tells whether there is one.
+-- No byte follows a newline, so the last byte decides whether the line ends in one.
 use Rattle.std.proofs.Common.{Some, ap, sym, ◌∙◌}
 use Rattle.std.proofs.lemmas.List.{append-nil}
 use Rattle.gixobj_fields.proofs.FieldWrites.{folded_ended, folded_open}

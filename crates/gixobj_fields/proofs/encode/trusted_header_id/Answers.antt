@@ -1,5 +1,5 @@
 use Rattle.std.proofs.Common.{rules}
 use Rattle.gixobj_fields.proofs.encode.trusted_header_id.Goals as goal
 
-pub returns-clause-put : goal.returns-clause-put
-returns-clause-put g c = search rules
+pub returns-clause-appended : goal.returns-clause-appended
+returns-clause-appended g c = search rules

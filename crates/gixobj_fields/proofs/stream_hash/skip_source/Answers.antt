@@ -1,7 +1,7 @@
--- A piece is one part more of what is read, and a refusal of what is missing is one of the whole.
+-- A piece extends the prefix that was read, and an error of the missing bytes is an error of all.
 use Rattle.std.proofs.Common.{◌∙◌, refl}
 use Rattle.std.proofs.lemmas.Result.{err_from_is_err_and}
-use Rattle.gixobj_fields.proofs.StreamReads.{all_skipped, nothing_skipped, piece_skipped, refused_skipping}
+use Rattle.gixobj_fields.proofs.StreamReads.{all_skipped, nothing_skipped, piece_skipped, rejected_skipping}
 use Rattle.gixobj_fields.proofs.stream_hash.skip_source.Goals as goal
 
 pub loop-missing-init : goal.loop-missing-init
@@ -12,15 +12,15 @@ loop-missing-preserved g c =
     let before = c.loop-missing.invariant in
     let read = c.in_ok-count.ensures in
     record {
-      skipping = piece_skipped _ _ _ _ _ c.in_ok-count.count _ before.skipping read.taken read.bound.1 read.count.1;
-      lasting = λ may. before.lasting (read.lasting may);
+      skipping = piece_skipped _ _ _ _ _ c.in_ok-count.count _ before.skipping read.allocates read.bound.1 read.count.1;
+      lasting = λ may. before.lasting (read.stays_valid may);
       same_loan = read.same_loan ∙ before.same_loan;
     }
 
-pub returns-in_err-count-clause-refusal : goal.returns-in_err-count-clause-refusal
-returns-in_err-count-clause-refusal g c =
+pub returns-in_err-count-clause-error : goal.returns-in_err-count-clause-error
+returns-in_err-count-clause-error g c =
     let p = err_from_is_err_and c.from_residual.result c.from_residual.ensures.1 in
-    rw (p.1, p.2) (refused_skipping _ _ _ _ _ _ _ _ c.loop-missing.invariant.skipping c.loop-missing.invariant.lasting (c.in_err-count.ensures).refusal)
+    rw (p.1, p.2) (rejected_skipping _ _ _ _ _ _ _ _ c.loop-missing.invariant.skipping c.loop-missing.invariant.lasting (c.in_err-count.ensures).error)
 
 pub returns-clause-read : goal.returns-clause-read
 returns-clause-read g c = all_skipped _ _ _ _ c.loop-missing.invariant.skipping c.loop-missing-test.false

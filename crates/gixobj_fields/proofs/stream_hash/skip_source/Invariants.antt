@@ -1,4 +1,4 @@
--- A front of the bytes is read, of the same loan.
+-- A prefix of the bytes is read, and the loan is unchanged.
 use Rattle.std.proofs.Common.{◌≡◌}
 use Rattle.gixobj_fields.proofs.StreamReads.{Skipping}
 use Rattle.gixobj_fields.proofs.stream_hash.skip_source.Given as goal

@@ -1,4 +1,4 @@
--- A front of the content is read and digested, of the same loan.
+-- A prefix of the content is read and digested, and the loan is unchanged.
 use Rattle.std.proofs.Common.{◌≡◌}
 use Rattle.gixobj_fields.proofs.StreamReads.{Digesting}
 use Rattle.gixobj_fields.proofs.stream_hash.update_from.Given as goal

@@ -1,7 +1,7 @@
--- An entry of the key can stand only among those that are left, and the next look is at one of these.
+-- An entry with the key can be at the remaining positions alone, and the next comparison is at one of these.
 use Rattle.std.proofs.Common.{◌<◌, ◌≤◌, ◌-◌, length}
 use Rattle.gixobj_tree.specs.Entries.{entry_key, key_of}
-use Rattle.gixobj_files.proofs.Halves.{IsNarrowed}
+use Rattle.gixobj_files.proofs.BinarySearch.{IsNarrowed}
 use Rattle.gixobj_files.proofs.places.place_by_key.Given as goal
 
 abbrev pub invariant-loop-low : goal.invariant-loop-low

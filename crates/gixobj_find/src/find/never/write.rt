@@ -1,9 +1,9 @@
-//! What is written into the store that has nothing.
+//! Writes to the store that keeps nothing.
 ghost use Rattle.std.specs.Prelude.{◌≡◌, IfErr, IfOk, Ok, Some, length};
 ghost use Rattle.gixobj_fields.specs.StreamHash.{ReadsObject, SkipsExactly};
 ghost use Rattle.gixobj_hash.specs.Hash.{id_of};
 ghost use Rattle.gixobj_hash.specs.declared.hash.kind.Kind.TheVariants.{Sha1};
-ghost use Rattle.gixobj_find.specs.Nothing.{AnswersId, AnswersKnownId, RefusesRead};
+ghost use Rattle.gixobj_find.specs.Nothing.{AnswersId, AnswersKnownId, IsReadError};
 ghost use Rattle.gixobj_find.specs.Writers.{CannotEncode, IsWrittenObject};
 
 use super::Never;
@@ -16,29 +16,33 @@ use gixobj_hash::{Kind, compute_hash, hash};
 use std::alloc::Global;
 use std::io::Read;
 
-/// Each call answers the id by SHA-1, or the one that is handed in.
+/// Each call returns the SHA-1 id of the object, or the id that the caller knows.
 impl Write for Never {
     ghost answers = { λ store. AnswersId };
 
     ghost answers_known = { λ store. AnswersKnownId };
 
-    /// `Encode` where the object can't be written, and nothing else.
+    /// Returns the SHA-1 id of the object. Allocates its encoding.
+    ///
+    /// # Errors
+    ///
+    /// [`Error::Encode`] if the object cannot be encoded, or if an allocation fails.
     fn write<T: WriteTo>(&self, alloc: Global, object: &T) -> Result<ObjectId, Error>
         requires { T.can_write object.now }
         ensures written { IsWrittenObject AnswersId (T.object_kind object.now)
-            (T.refuses object.now) (T.text object.now) result }
+            (T.rejects object.now) (T.encoding object.now) result }
         ensures id { IfOk result (λ id. id
-            ≡ id_of Sha1 (T.object_kind object.now) (T.text object.now)) }
-        ensures refusal { IfErr result (λ _.
-            CannotEncode (T.refuses object.now) (T.text object.now) result) }
+            ≡ id_of Sha1 (T.object_kind object.now) (T.encoding object.now)) }
+        ensures error { IfErr result (λ _.
+            CannotEncode (T.rejects object.now) (T.encoding object.now) result) }
     {
-        let mut text = Vec::new(alloc);
-        object.write_to_vec(alloc, &mut text)?;
-        Ok(compute_hash(hash::Kind::Sha1, object.kind(), &text))
+        let mut content = Vec::new(alloc);
+        object.write_to_vec(alloc, &mut content)?;
+        Ok(compute_hash(hash::Kind::Sha1, object.kind(), &content))
     }
 
-    /// It is never refused, and takes no memory.
-    #[tactic(auto, using(crate::proofs::Nothing::answers_whole))]
+    /// Returns the SHA-1 id of the object. Never fails. Allocates nothing.
+    #[tactic(auto, using(crate::proofs::Nothing::answers_entire))]
     fn write_buf(&self, alloc: Global, kind: Kind, from: &[u8]) -> Result<ObjectId, Error>
         ensures answer { AnswersId kind (length from.now) (Some from.now) result }
         ensures id { result ≡ Ok (id_of Sha1 kind from.now) }
@@ -46,7 +50,7 @@ impl Write for Never {
         Ok(compute_hash(hash::Kind::Sha1, kind, from))
     }
 
-    /// It is never refused, and takes no memory.
+    /// Returns the known id. Never fails. Allocates nothing.
     #[tactic(auto, using(crate::proofs::Nothing::answers_known))]
     fn write_buf_with_known_id(
         &self,
@@ -61,7 +65,11 @@ impl Write for Never {
         Ok(id)
     }
 
-    /// Exactly `size` bytes are read. `Read` where the stream fails, or ends before them. It takes no memory.
+    /// Reads exactly `size` bytes, and returns the SHA-1 id of the object. Allocates nothing.
+    ///
+    /// # Errors
+    ///
+    /// [`Error::Read`] if the stream fails, or if it ends before `size` bytes.
     fn write_stream<R: Read>(
         &self,
         alloc: Global,
@@ -72,13 +80,17 @@ impl Write for Never {
         ensures answer { AnswersId kind size (R.remaining from.old) result }
         ensures read { IfOk result (ReadsObject Sha1 kind (R.remaining from.old)
             (R.remaining from.new) size) }
-        ensures refusal { IfErr result (RefusesRead (R.remaining from.old) (R.remaining from.new)
+        ensures error { IfErr result (IsReadError (R.remaining from.old) (R.remaining from.new)
             size) }
     {
         Ok(compute_stream_hash(hash::Kind::Sha1, kind, from, size)?)
     }
 
-    /// Exactly `size` bytes are read. `Read` where the stream fails, or ends before them. It takes no memory.
+    /// Reads exactly `size` bytes, and returns the known id. Allocates nothing.
+    ///
+    /// # Errors
+    ///
+    /// [`Error::Read`] if the stream fails, or if it ends before `size` bytes.
     fn write_stream_with_known_id<R: Read>(
         &self,
         alloc: Global,
@@ -91,7 +103,7 @@ impl Write for Never {
         ensures id { IfOk result (λ it. it ≡ known) }
         ensures read { IfOk result (λ _.
             SkipsExactly (R.remaining from.old) (R.remaining from.new) size) }
-        ensures refusal { IfErr result (RefusesRead (R.remaining from.old) (R.remaining from.new)
+        ensures error { IfErr result (IsReadError (R.remaining from.old) (R.remaining from.new)
             size) }
     {
         skip_stream(from, size)?;

@@ -1,4 +1,4 @@
-//! A store that is borrowed answers as the store does.
+//! The trait [`Write`](crate::Write) of a borrowed store, with the results of the store.
 
 use crate::traits::Write;
 use crate::write::Error;

@@ -2,45 +2,49 @@ use Rattle.std.proofs.Common.{ap, refl, subst, ◌∙◌, ℕ, List}
 use Rattle.gixobj_hash.specs.Hash.{id_of}
 use Rattle.gixobj_hash.specs.declared.kind.Kind.TheVariants.{Commit}
 use Rattle.gixobj_hash.specs.declared.hash.object_id.ObjectId.{ObjectId}
-use Rattle.gixobj_find.specs.Keeping.{RefusesKeepCommit, with_commit}
-use Rattle.gixobj_import.specs.Commits.{step_text}
+use Rattle.gixobj_find.specs.Keeping.{IsKeepCommitError, with_commit}
+use Rattle.gixobj_import.specs.Commits.{encode_step}
 use Rattle.gixobj_import.proofs.Digests.{hex_of_id, kind_of_digest}
-use Rattle.gixobj_import.proofs.Legal.{step_text_reads}
-use Rattle.gixobj_import.proofs.Stepping.{text_refused}
+use Rattle.gixobj_import.proofs.Legal.{step_encoding_decodes}
+use Rattle.gixobj_import.proofs.Stepping.{encoding_failed}
 use Rattle.gixobj_import.proofs.commits.keep_commit_of.Goals as goal
-use Rattle.gixobj_object.specs.Stores.{meaning}
+use Rattle.gixobj_object.specs.Stores.{store_model}
 
-pub returns-in-Ok-keep_commit-clause-kept : goal.returns-in-Ok-keep_commit-clause-kept
-returns-in-Ok-keep_commit-clause-kept g c =
-    let means = meaning g.S.Store.objects g.S.Store.may_fail in
+pub returns-in-Ok-keep_commit-clause-stored : goal.returns-in-Ok-keep_commit-clause-stored
+returns-in-Ok-keep_commit-clause-stored g c =
+    let means = store_model g.S.Store.objects g.S.Store.may_fail in
     let commit = c.compute_hash-commit.result in
-    let text = step_text c.args.step.now c.args.tree c.args.parent in
+    let content = encode_step c.args.step.now c.args.tree c.args.parent in
     record {
       author = c.names_actor.ensures;
       committer = c.names_actor-2.ensures;
-      id = c.compute_hash-commit.ensures ∙ ap (λ (bytes : List ℕ). id_of c.args.hash Commit bytes) (c.deref.ensures.value ∙ c.in-Ok.ensures.text);
-      hex = hex_of_id c.args.hash commit c.hex_reads_back.ensures.read c.hex_reads_back.ensures.same_id c.is_an_id.ensures (kind_of_digest c.args.hash Commit c.deref.result.now commit c.compute_hash-commit.ensures);
-      text = λ hex. step_text_reads c.args.hash c.args.step.now c.args.tree c.args.parent c.names_actor.ensures c.names_actor-2.ensures hex;
+      id = c.compute_hash-commit.ensures ∙ ap (λ (bytes : List ℕ). id_of c.args.hash Commit bytes) (c.deref.ensures.value ∙ c.in-Ok.ensures.encoded);
+      hex = hex_of_id c.args.hash commit c.hex_round_trips.ensures.read c.hex_round_trips.ensures.same_id c.is_an_id.ensures
+          (kind_of_digest c.args.hash Commit c.deref.result.now commit c.compute_hash-commit.ensures);
+      decodes = λ hex. step_encoding_decodes c.args.hash c.args.step.now c.args.tree c.args.parent c.names_actor.ensures c.names_actor-2.ensures hex;
       rest = refl;
-      kept = c.in-Ok-keep_commit.ensures.kept ∙ ap (λ (bytes : List ℕ). with_commit commit bytes (means.objects c.store_mut.result.now)) (c.deref-2.ensures.value ∙ c.in-Ok.ensures.text)
-          ∙ ap (λ (s : g.row.S.Denot). with_commit commit text (means.objects s)) c.store_mut.ensures.value;
-      may_fail = λ id. c.keep_commit.ensures.may_fail id ∙ ap (λ (s : g.row.S.Denot). means.may_fail s id) c.store_mut.ensures.value;
+      stored = c.in-Ok-keep_commit.ensures.stored ∙ ap (λ (bytes : List ℕ). with_commit commit bytes (means.objects c.store_mut.result.now))
+          (c.deref-2.ensures.value ∙ c.in-Ok.ensures.encoded)
+          ∙ ap (λ (s : g.row.S.Denot). with_commit commit content (means.objects s)) c.store_mut.ensures.value;
+      may_fail = λ id. c.keep_commit.ensures.fallible id ∙ ap (λ (s : g.row.S.Denot). means.may_fail s id) c.store_mut.ensures.value;
     }
 
-pub returns-in-Err-clause-refusal : goal.returns-in-Err-clause-refusal
-returns-in-Err-clause-refusal g c =
-    text_refused (meaning g.S.Store.objects g.S.Store.may_fail) c.args.hash c.args.step.now c.args.tree c.args.parent c.args.editor.now c.args.editor.now c.in-Err.error c.in-Err.ensures.refusal refl
+pub returns-in-Err-clause-error : goal.returns-in-Err-clause-error
+returns-in-Err-clause-error g c =
+    encoding_failed (store_model g.S.Store.objects g.S.Store.may_fail) c.args.hash c.args.step.now c.args.tree c.args.parent c.args.editor.now c.args.editor.now
+    c.in-Err.error c.in-Err.ensures.error refl
 
-pub returns-clause-refusal : goal.returns-clause-refusal
-returns-clause-refusal g c =
-    let means = meaning g.S.Store.objects g.S.Store.may_fail in
+pub returns-clause-error : goal.returns-clause-error
+returns-clause-error g c =
+    let means = store_model g.S.Store.objects g.S.Store.may_fail in
     let commit = c.compute_hash-commit.result in
     record {
-      refusal =
-          subst (λ (id : ObjectId). RefusesKeepCommit (means.may_fail c.args.editor.now.store) id c.in-Err-keep_commit.error)
-          (c.compute_hash-commit.ensures ∙ ap (λ (bytes : List ℕ). id_of c.args.hash Commit bytes) (c.deref.ensures.value ∙ c.in-Ok.ensures.text))
-          (subst (λ (s : g.row.S.Denot). RefusesKeepCommit (means.may_fail s) commit c.in-Err-keep_commit.error) c.store_mut.ensures.value c.in-Err-keep_commit.ensures.refusal);
+      cause =
+          subst (λ (id : ObjectId). IsKeepCommitError (means.may_fail c.args.editor.now.store) id c.in-Err-keep_commit.error)
+          (c.compute_hash-commit.ensures ∙ ap (λ (bytes : List ℕ). id_of c.args.hash Commit bytes) (c.deref.ensures.value ∙ c.in-Ok.ensures.encoded))
+          (subst (λ (s : g.row.S.Denot). IsKeepCommitError (means.may_fail s) commit c.in-Err-keep_commit.error) c.store_mut.ensures.value
+          c.in-Err-keep_commit.ensures.error);
       rest = refl;
       unchanged = c.in-Err-keep_commit.ensures.unchanged ∙ ap (λ (s : g.row.S.Denot). means.objects s) c.store_mut.ensures.value;
-      may_fail = λ id. c.keep_commit.ensures.may_fail id ∙ ap (λ (s : g.row.S.Denot). means.may_fail s id) c.store_mut.ensures.value;
+      may_fail = λ id. c.keep_commit.ensures.fallible id ∙ ap (λ (s : g.row.S.Denot). means.may_fail s id) c.store_mut.ensures.value;
     }

@@ -1,27 +1,30 @@
-use Rattle.gixobj_import.proofs.Doing.{all_done, no_write_at, one_more_done, refused_at}
+use Rattle.gixobj_import.proofs.Doing.{all_done, no_write_at, one_more_done, rejected_at}
 use Rattle.gixobj_import.proofs.edits.do_edits.Goals as goal
-use Rattle.gixobj_object.specs.Stores.{meaning}
+use Rattle.gixobj_object.specs.Stores.{store_model}
 
 pub do_edit-requires : goal.do_edit-requires
-do_edit-requires g c = no_write_at c.args.edits.now c.loop-index.index c.index-edits-index.result c.loop-index-test.true c.index-edits-index.is c.requires.no_write
+do_edit-requires g c = no_write_at c.args.edits.now c.loop-index.index c.index-edits-index.result c.loop-index-test.true c.index-edits-index.is
+    c.requires.no_write
 
 pub loop-index-preserved : goal.loop-index-preserved
 loop-index-preserved g c =
-    let means = meaning g.S.Store.objects g.S.Store.may_fail in
-    one_more_done means c.args.editor.now c.loop-index.editor c.do_edit.new.editor c.args.edits.now c.loop-index.index c.index-edits-index.result c.loop-index-test.true c.index-edits-index.is c.loop-index.invariant c.in-Ok.ensures
+    let means = store_model g.S.Store.objects g.S.Store.may_fail in
+    one_more_done means c.args.editor.now c.loop-index.editor c.do_edit.new.editor c.args.edits.now c.loop-index.index c.index-edits-index.result
+    c.loop-index-test.true c.index-edits-index.is c.loop-index.invariant c.in-Ok.ensures
 
 pub returns-in-Err : goal.returns-in-Err
 returns-in-Err g c =
-    let means = meaning g.S.Store.objects g.S.Store.may_fail in
+    let means = store_model g.S.Store.objects g.S.Store.may_fail in
     record {
       done = tt;
-      refused = refused_at means c.args.editor.now c.loop-index.editor c.do_edit.new.editor c.args.edits.now c.loop-index.index c.index-edits-index.result c.in-Err.error c.loop-index-test.true c.index-edits-index.is c.loop-index.invariant c.in-Err.ensures;
+      after_error = rejected_at means c.args.editor.now c.loop-index.editor c.do_edit.new.editor c.args.edits.now c.loop-index.index c.index-edits-index.result
+          c.in-Err.error c.loop-index-test.true c.index-edits-index.is c.loop-index.invariant c.in-Err.ensures;
     }
 
 pub returns : goal.returns
 returns g c =
-    let means = meaning g.S.Store.objects g.S.Store.may_fail in
+    let means = store_model g.S.Store.objects g.S.Store.may_fail in
     record {
       done = all_done means c.args.editor.now c.loop-index.editor c.args.edits.now c.loop-index.index c.loop-index-test.false c.loop-index.invariant;
-      refused = tt;
+      after_error = tt;
     }

@@ -1,3 +1,4 @@
+-- An import meets its contract, after its last step and at the first that fails: for callers, by that contract alone.
 use Rattle.std.proofs.Common.{◌+◌, ◌∷◌, ◌∙◌, [], arith, ap, inr, length, refl, subst, sym, take, List}
 use Rattle.std.proofs.lemmas.List.{length-append}
 use Rattle.gixobj_import.specs.Steps.{AreImported, Stops}
@@ -10,15 +11,17 @@ use Rattle.gixobj_import.proofs.Known.{OfStores}
 use Rattle.gixobj_import.proofs.Stepping.{all_imported, one_more_imported, stopped_at}
 use Rattle.gixobj_import.proofs.Stopping.{commits_of_stopped, files_of_stopped, stopped_adds}
 use Rattle.gixobj_import.proofs.import.import_all.Goals as goal
-use Rattle.gixobj_object.specs.Stores.{meaning}
+use Rattle.gixobj_object.specs.Stores.{store_model}
 
 pub loop-step-preserved : goal.loop-step-preserved
 loop-step-preserved g c =
-    let means = meaning g.S.Store.objects g.S.Store.may_fail in
+    let means = store_model g.S.Store.objects g.S.Store.may_fail in
     let inv = c.loop-step.invariant in
     record {
-      imported = subst (λ (is : List Imported). AreImported means c.args.importer.now (take (c.loop-step.step-index + 1) c.args.steps.now) is c.step.new.self) (sym c.push_reserved.ensures.items)
-          (one_more_imported means c.args.importer.now c.loop-step.importer c.step.new.self c.args.steps.now c.loop-step.imported.items c.loop-step.step-index c.step-item.result c.in-Ok-step.it
+      imported = subst (λ (is : List Imported). AreImported means c.args.importer.now (take (c.loop-step.step-index + 1) c.args.steps.now) is c.step.new.self)
+          (sym c.push_reserved.ensures.items)
+          (one_more_imported means c.args.importer.now c.loop-step.importer c.step.new.self c.args.steps.now c.loop-step.imported.items c.loop-step.step-index
+          c.step-item.result c.in-Ok-step.it
           c.loop-step-test.true c.step-item.is inv.imported (c.in-Ok-step.ensures {u = tt}).imported);
       count = ap length c.push_reserved.ensures.items ∙ length-append c.loop-step.imported.items (c.in-Ok-step.it ∷ []) ∙ ap (λ n. n + 1) inv.count;
       as_many = c.push_reserved.ensures.len ∙ ap (λ n. n + 1) inv.as_many;
@@ -27,18 +30,23 @@ loop-step-preserved g c =
 
 pub returns-in-Err : goal.returns-in-Err
 returns-in-Err g c =
-    let means = meaning g.S.Store.objects g.S.Store.may_fail in
+    let means = store_model g.S.Store.objects g.S.Store.may_fail in
     let laws : OfStores = record {
-      trees_of = c.every_store_names_trees.ensures;
-      put_in = record { there = c.an_object_is_put_in.ensures.there; elsewhere = c.an_object_is_put_in.ensures.elsewhere; same_or_not = c.ids_are_the_same_or_not.ensures };
+      trees_of = c.store_has_tree_map.ensures;
+      inserted = record {
+        there = c.object_map_insert.ensures.there;
+        elsewhere = c.object_map_insert.ensures.elsewhere;
+        same_or_not = c.id_equality_is_decidable.ensures;
+      };
     } in
     let old = c.args.importer.now in
     let done = c.no_list.result.done.items in
     let error = c.no_list.result.error in
-    let stops : Stops means old c.args.steps.now done error old = inr (record { nothing = c.no_list.ensures.done; memory = c.no_list.ensures.error; unchanged = refl }) in
+    let stops : Stops means old c.args.steps.now done error old =
+    inr (record { nothing = c.no_list.ensures.done; memory = c.no_list.ensures.error; unchanged = refl }) in
     record {
       imported = tt;
-      stopped = stops;
+      error = stops;
       adds = stopped_adds means laws old old c.args.steps.now done error stops;
       commits = tt;
       files = tt;
@@ -48,18 +56,23 @@ returns-in-Err g c =
 
 pub returns-in-Err-step : goal.returns-in-Err-step
 returns-in-Err-step g c =
-    let means = meaning g.S.Store.objects g.S.Store.may_fail in
+    let means = store_model g.S.Store.objects g.S.Store.may_fail in
     let laws : OfStores = record {
-      trees_of = c.every_store_names_trees.ensures;
-      put_in = record { there = c.an_object_is_put_in.ensures.there; elsewhere = c.an_object_is_put_in.ensures.elsewhere; same_or_not = c.ids_are_the_same_or_not.ensures };
+      trees_of = c.store_has_tree_map.ensures;
+      inserted = record {
+        there = c.object_map_insert.ensures.there;
+        elsewhere = c.object_map_insert.ensures.elsewhere;
+        same_or_not = c.id_equality_is_decidable.ensures;
+      };
     } in
     let inv = c.loop-step.invariant in
     let done = c.loop-step.imported.items in
-    let stops = stopped_at means c.args.importer.now c.loop-step.importer c.step.new.self c.args.steps.now done c.loop-step.step-index c.step-item.result c.in-Err-step.error
-    c.loop-step-test.true c.step-item.is inv.imported inv.count (c.in-Err-step.ensures {u = tt}).refused in
+    let stops = stopped_at means c.args.importer.now c.loop-step.importer c.step.new.self c.args.steps.now done c.loop-step.step-index c.step-item.result
+    c.in-Err-step.error
+    c.loop-step-test.true c.step-item.is inv.imported inv.count (c.in-Err-step.ensures {u = tt}).after_error in
     record {
       imported = tt;
-      stopped = stops;
+      error = stops;
       adds = stopped_adds means laws c.args.importer.now c.step.new.self c.args.steps.now done c.in-Err-step.error stops;
       commits = tt;
       files = tt;
@@ -69,10 +82,14 @@ returns-in-Err-step g c =
 
 pub returns : goal.returns
 returns g c =
-    let means = meaning g.S.Store.objects g.S.Store.may_fail in
+    let means = store_model g.S.Store.objects g.S.Store.may_fail in
     let laws : OfStores = record {
-      trees_of = c.every_store_names_trees.ensures;
-      put_in = record { there = c.an_object_is_put_in.ensures.there; elsewhere = c.an_object_is_put_in.ensures.elsewhere; same_or_not = c.ids_are_the_same_or_not.ensures };
+      trees_of = c.store_has_tree_map.ensures;
+      inserted = record {
+        there = c.object_map_insert.ensures.there;
+        elsewhere = c.object_map_insert.ensures.elsewhere;
+        same_or_not = c.id_equality_is_decidable.ensures;
+      };
     } in
     let old = c.args.importer.now in
     let new = c.loop-step.importer in
@@ -81,7 +98,7 @@ returns g c =
     let final = means.objects new.editor.store in
     record {
       imported = all;
-      stopped = tt;
+      error = tt;
       adds = steps_add means laws old new c.args.steps.now imported all;
       commits = λ is. commits_of_new means laws old new c.args.steps.now imported all is final (adds_none final final refl);
       files = files_of_new means laws old new c.args.steps.now imported all;

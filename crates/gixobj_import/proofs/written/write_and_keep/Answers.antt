@@ -2,28 +2,31 @@ use Rattle.std.proofs.Common.{refl}
 use Rattle.gixobj_import.proofs.Digests.{hex_of_id, root_kind}
 use Rattle.gixobj_import.proofs.Kept.{kept_all, not_kept}
 use Rattle.gixobj_import.proofs.written.write_and_keep.Goals as goal
-use Rattle.gixobj_object.specs.Stores.{meaning}
+use Rattle.gixobj_object.specs.Stores.{store_model}
 
 pub returns-in-Ok-keep_all-clause-written : goal.returns-in-Ok-keep_all-clause-written
 returns-in-Ok-keep_all-clause-written g c =
-    let means = meaning g.S.Store.objects g.S.Store.may_fail in
+    let means = store_model g.S.Store.objects g.S.Store.may_fail in
     let kept = c.in-Ok-keep_all.ensures {u = tt} in
-    kept_all means c.args.hash c.args.editor.now c.write_by_digests.new.editor _ c.store_mut.result.now c.keep_all.new.store c.in-Ok.written c.deref.result.now (c.in-Ok.ensures {u = tt}).written
-    c.store_mut.ensures.value c.deref.ensures.value refl c.keep_all.ensures.may_fail kept.kept kept.have_texts
+    kept_all means c.args.hash c.args.editor.now c.write_by_digests.new.editor _ c.store_mut.result.now c.keep_all.new.store c.in-Ok.written c.deref.result.now
+    (c.in-Ok.ensures {u = tt}).written
+    c.store_mut.ensures.value c.deref.ensures.value refl c.keep_all.ensures.fallible kept.stored kept.have_encodings
 
 pub returns-in-Ok-keep_all-clause-root : goal.returns-in-Ok-keep_all-clause-root
 returns-in-Ok-keep_all-clause-root g c =
-    hex_of_id c.args.hash c.in-Ok.written.id c.hex_reads_back.ensures.read c.hex_reads_back.ensures.same_id c.is_an_id.ensures
+    hex_of_id c.args.hash c.in-Ok.written.id c.hex_round_trips.ensures.read c.hex_round_trips.ensures.same_id c.is_an_id.ensures
     (root_kind c.args.hash c.args.editor.now c.write_by_digests.new.editor c.in-Ok.written (c.in-Ok.ensures {u = tt}).written)
 
-pub returns-in-Err-keep_all-clause-refusal : goal.returns-in-Err-keep_all-clause-refusal
-returns-in-Err-keep_all-clause-refusal g c =
-    let means = meaning g.S.Store.objects g.S.Store.may_fail in (
+pub returns-in-Err-keep_all-clause-error : goal.returns-in-Err-keep_all-clause-error
+returns-in-Err-keep_all-clause-error g c =
+    let means = store_model g.S.Store.objects g.S.Store.may_fail in (
       c.in-Ok.written,
       c.in-Err-keep_all._count,
-      not_kept means c.args.hash c.args.editor.now c.write_by_digests.new.editor _ c.store_mut.result.now c.keep_all.new.store c.in-Ok.written c.deref.result.now (c.in-Ok.ensures {u = tt}).written
-          c.store_mut.ensures.value c.deref.ensures.value refl c.keep_all.ensures.may_fail c.in-Err-keep_all._count c.in-Err-keep_all.error (c.in-Err-keep_all.ensures {u = tt}).stopped,
+      not_kept means c.args.hash c.args.editor.now c.write_by_digests.new.editor _ c.store_mut.result.now c.keep_all.new.store c.in-Ok.written
+          c.deref.result.now (c.in-Ok.ensures {u = tt}).written
+          c.store_mut.ensures.value c.deref.ensures.value refl c.keep_all.ensures.fallible c.in-Err-keep_all._count c.in-Err-keep_all.error
+          (c.in-Err-keep_all.ensures {u = tt}).error,
     )
 
-pub returns-in-Err-clause-refusal : goal.returns-in-Err-clause-refusal
-returns-in-Err-clause-refusal g c = record { stopped = (c.in-Err.ensures {u = tt}).stopped; unchanged = (c.in-Err.ensures {u = tt}).unchanged }
+pub returns-in-Err-clause-error : goal.returns-in-Err-clause-error
+returns-in-Err-clause-error g c = record { stopped = (c.in-Err.ensures {u = tt}).error; unchanged = (c.in-Err.ensures {u = tt}).unchanged }

@@ -5,9 +5,9 @@ use Rattle.gixobj_mode.proofs.entry_mode.are_octal.Goals as goal
 
 pub returns : goal.returns
 returns c =
-    let text = c.args.digits.now in
-    let found : c.all.result ≡ true → AllPass is_octal text = search rules in
-    let only : AllPass is_octal text → c.all.result ≡ true = search rules in (
-      λ passes. AllDigits-from_pass 8 is_octal octal_from_test text (found passes),
-      λ digits. only (pass-from_AllDigits 8 is_octal test_from_octal text digits),
+    let content = c.args.digits.now in
+    let found : c.all.result ≡ true → AllPass is_octal content = search rules in
+    let only : AllPass is_octal content → c.all.result ≡ true = search rules in (
+      λ passes. AllDigits-from_pass 8 is_octal octal_from_test content (found passes),
+      λ digits. only (pass-from_AllDigits 8 is_octal test_from_octal content digits),
     )

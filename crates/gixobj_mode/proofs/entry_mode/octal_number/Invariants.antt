@@ -2,7 +2,7 @@ use Rattle.std.proofs.Common.{◌≡◌, ◌<◌, ◌%◌, drop}
 use Rattle.std.specs.Str.Parse.{AllDigits, digits_value, digits_value_after}
 use Rattle.gixobj_mode.proofs.entry_mode.octal_number.Given as goal
 
--- the digits that are left go on from the number so far
+-- the number and the remaining digits have the value of all digits, modulo 65536
 abbrev pub invariant-loop-digit : goal.invariant-loop-digit
 invariant-loop-digit l =
     record {

@@ -1,7 +1,7 @@
-//! Borrowed objects made of trees, blobs, commits and tags, taken apart into them, and copied.
+//! Conversions of borrowed objects from and to trees, blobs, commits and tags, and to owned objects.
 ghost use Rattle.std.specs.Prelude.{◌≡◌, IfErr, IfOk};
 ghost use Rattle.gixobj_hash.specs.declared.kind.Kind.TheVariants as kind;
-ghost use Rattle.gixobj_object.specs.BorrowedObjects.{HasObjectIds, IsOwnedObject, RefusesOwningObject, borrowed_kind};
+ghost use Rattle.gixobj_object.specs.BorrowedObjects.{HasObjectIds, IsOwnedObject, IsIntoOwnedObjectError, borrowed_kind};
 ghost use Rattle.gixobj_object.specs.Parts.{IsPartOrBack};
 ghost use Rattle.gixobj_object.specs.declared.object.borrowed.ObjectRef.TheVariants as object;
 
@@ -16,22 +16,34 @@ use std::alloc::Global;
 
 /// Conversion
 impl ObjectRef<'_> {
-    /// The same object, with parts of its own.
+    /// Converts the object into an owned one. Allocates copies of its parts.
     ///
-    /// `Malformed` where a line of an actor is none, and else `OutOfMemory` where memory runs out.
+    /// # Errors
+    ///
+    /// - [`Error::Malformed`] if the line of an author, a committer or a tagger is not the encoding of an
+    ///   actor.
+    /// - [`Error::OutOfMemory`] if an allocation fails; then all lines of actors are valid. An empty tree
+    ///   allocates nothing.
     pub fn into_owned(self, alloc: Global) -> Result<Object, Error>
         requires { HasObjectIds self }
         ensures owned { IfOk result (IsOwnedObject self.entry) }
-        ensures refusal { IfErr result (RefusesOwningObject self.entry) }
+        ensures error { IfErr result (IsIntoOwnedObjectError self.entry) }
     {
         self.to_owned(alloc)
     }
 
-    /// A copy of the object, with parts of its own: what [`ObjectRef::into_owned`] gives.
+    /// Copies the object into an owned one. Allocates copies of its parts.
+    ///
+    /// # Errors
+    ///
+    /// - [`Error::Malformed`] if the line of an author, a committer or a tagger is not the encoding of an
+    ///   actor.
+    /// - [`Error::OutOfMemory`] if an allocation fails; then all lines of actors are valid. An empty tree
+    ///   allocates nothing.
     pub fn to_owned(&self, alloc: Global) -> Result<Object, Error>
         requires { HasObjectIds self.now }
         ensures owned { IfOk result (IsOwnedObject self.now) }
-        ensures refusal { IfErr result (RefusesOwningObject self.now) }
+        ensures error { IfErr result (IsIntoOwnedObjectError self.now) }
     {
         match self {
             ObjectRef::Tree(tree) => Ok(Object::Tree(tree.to_owned(alloc)?)),
@@ -74,7 +86,7 @@ impl<'a> From<TagRef<'a>> for ObjectRef<'a> {
     }
 }
 
-/// The tree, or the object back where it is of another kind.
+/// Converts the object into its tree; the error is an object of another kind, unchanged.
 impl<'a> TryFrom<ObjectRef<'a>> for TreeRef<'a> {
     type Error = ObjectRef<'a>;
 
@@ -88,7 +100,7 @@ impl<'a> TryFrom<ObjectRef<'a>> for TreeRef<'a> {
     }
 }
 
-/// The blob, or the object back where it is of another kind.
+/// Converts the object into its blob; the error is an object of another kind, unchanged.
 impl<'a> TryFrom<ObjectRef<'a>> for BlobRef<'a> {
     type Error = ObjectRef<'a>;
 
@@ -102,7 +114,7 @@ impl<'a> TryFrom<ObjectRef<'a>> for BlobRef<'a> {
     }
 }
 
-/// The commit, or the object back where it is of another kind.
+/// Converts the object into its commit; the error is an object of another kind, unchanged.
 impl<'a> TryFrom<ObjectRef<'a>> for CommitRef<'a> {
     type Error = ObjectRef<'a>;
 
@@ -116,7 +128,7 @@ impl<'a> TryFrom<ObjectRef<'a>> for CommitRef<'a> {
     }
 }
 
-/// The tag, or the object back where it is of another kind.
+/// Converts the object into its tag; the error is an object of another kind, unchanged.
 impl<'a> TryFrom<ObjectRef<'a>> for TagRef<'a> {
     type Error = ObjectRef<'a>;
 

@@ -1,10 +1,10 @@
-//! Objects of any kind, read by their kind, or as loose objects (gitformat-loose, "Loose object format").
+//! Decoding of objects by their kind, or as loose objects (gitformat-loose, "Loose object format").
 ghost use Rattle.std.specs.Prelude.{◌≡◌, IfErr, IfOk};
 ghost use Rattle.gixobj_hash.specs.declared.decode.LooseContentError.TheVariants.{Short};
 ghost use Rattle.gixobj_object.specs.BorrowedObjects.{HasObjectIds, IsReadyToWrite};
-ghost use Rattle.gixobj_object.specs.LooseObjects.{IsContentRefusal, IsLooseObject, RefusesLooseObject};
-ghost use Rattle.gixobj_object.specs.ObjectReading.{IsObjectText, RefusesObjectText};
-ghost use Rattle.gixobj_object.specs.declared.object.borrowed.decode.LooseDecodeError.TheVariants as refusal;
+ghost use Rattle.gixobj_object.specs.LooseObjects.{ConvertsContentError, IsLooseObject, IsLooseObjectError};
+ghost use Rattle.gixobj_object.specs.ObjectReading.{DecodesToObject, IsObjectDecodeError};
+ghost use Rattle.gixobj_object.specs.declared.object.borrowed.decode.LooseDecodeError.TheVariants as loose_error;
 
 use super::ObjectRef;
 use gixobj_commit::CommitRef;
@@ -14,25 +14,25 @@ use gixobj_tag::TagRef;
 use gixobj_tree::{BlobRef, TreeRef};
 use std::alloc::Global;
 
-/// The refusal of [`ObjectRef::from_loose`].
+/// The error of [`ObjectRef::from_loose`].
 #[derive(Debug, Drop, thiserror::Error)]
 pub enum LooseDecodeError {
-    /// The input begins with no loose header, or has fewer bytes behind it than the header says.
+    /// The input begins with no loose header, or has fewer bytes after it than the header says.
     #[error("{0}")]
     InvalidHeader(LooseHeaderDecodeError),
-    /// The content is no object of the kind that the header says, or there was no memory for it.
+    /// The content is malformed for the kind in the header, or an allocation failed.
     #[error("{0}")]
     InvalidContent(Error),
-    /// The header says a size that no address reaches. With addresses of 64 bits it never comes.
+    /// The header has a size that no `usize` holds. With a 64-bit `usize` this error never occurs.
     #[error("no room for an object of {size} bytes")]
     OutOfMemory {
-        /// The size that the header says.
+        /// The size in the header, in bytes.
         size: u64,
     },
 }
 
 impl From<LooseHeaderDecodeError> for LooseDecodeError {
-    ghost from_gives = { λ error it. it ≡ refusal.InvalidHeader error };
+    ghost from_gives = { λ error it. it ≡ loose_error.InvalidHeader error };
 
     fn from(error: LooseHeaderDecodeError) -> LooseDecodeError {
         LooseDecodeError::InvalidHeader(error)
@@ -40,7 +40,7 @@ impl From<LooseHeaderDecodeError> for LooseDecodeError {
 }
 
 impl From<LooseContentError> for LooseDecodeError {
-    ghost from_gives = { λ error it. IsContentRefusal error it };
+    ghost from_gives = { λ error it. ConvertsContentError error it };
 
     fn from(error: LooseContentError) -> LooseDecodeError {
         match error {
@@ -51,7 +51,7 @@ impl From<LooseContentError> for LooseDecodeError {
 }
 
 impl From<Error> for LooseDecodeError {
-    ghost from_gives = { λ error it. it ≡ refusal.InvalidContent error };
+    ghost from_gives = { λ error it. it ≡ loose_error.InvalidContent error };
 
     fn from(error: Error) -> LooseDecodeError {
         LooseDecodeError::InvalidContent(error)
@@ -60,11 +60,30 @@ impl From<Error> for LooseDecodeError {
 
 /// Initialization
 impl<'a> ObjectRef<'a> {
-    /// The loose object with which the input begins, with ids of this kind: a header, and then as many bytes as
-    /// it says. Bytes behind these are ignored.
+    /// Decodes the loose object at the start of `input`, with ids of `hash_kind`.
     ///
-    /// `InvalidHeader` where the input begins with no header, or fewer bytes follow than it says;
-    /// `InvalidContent` where the bytes are no object of its kind, or memory ran out for one.
+    /// A loose object is a header and a content of the size in the header, in bytes. Bytes after it are
+    /// ignored. Allocates the entries of a tree, the parents of a commit from the second one on, its extra
+    /// headers, and copies in errors.
+    ///
+    /// # Errors
+    ///
+    /// - [`LooseDecodeError::InvalidHeader`] if the input begins with no header, or if fewer bytes follow
+    ///   than its size and a `usize` holds the size. Its payload is `OutOfMemory` if an allocation for the
+    ///   header's error fails.
+    /// - [`LooseDecodeError::OutOfMemory`] if fewer bytes follow than its size and no `usize` holds it.
+    /// - [`LooseDecodeError::InvalidContent`] with [`Error::Malformed`] if the content does not decode as its
+    ///   kind, or with [`Error::OutOfMemory`] if an allocation fails for a tree or a commit.
+    ///
+    /// # Examples
+    ///
+    /// ```rust
+    /// match ObjectRef::from_loose(alloc, loose, HashKind::Sha1)? {
+    ///     ObjectRef::Commit(commit) => Ok(Some(commit.tree())),
+    ///     ObjectRef::Tag(tag) => Ok(Some(tag.target())),
+    ///     _ => Ok(None),
+    /// }
+    /// ```
     pub fn from_loose(
         alloc: Global,
         input: &'a [u8],
@@ -72,27 +91,32 @@ impl<'a> ObjectRef<'a> {
     ) -> Result<ObjectRef<'a>, LooseDecodeError>
         ensures found { IfOk result (IsLooseObject hash_kind input.now) }
         ensures has_ids { IfOk result HasObjectIds }
-        ensures ready { IfOk result IsReadyToWrite }
-        ensures refusal { IfErr result (RefusesLooseObject hash_kind input.now) }
+        ensures encodable { IfOk result IsReadyToWrite }
+        ensures error { IfErr result (IsLooseObjectError hash_kind input.now) }
     {
         let (kind, content) = loose_content(alloc, input)?;
         Ok(ObjectRef::from_bytes(alloc, content, kind, hash_kind)?)
     }
 
-    /// The object of this kind that the bytes are, with ids of this kind.
+    /// Decodes `bytes` as an object of this kind, with ids of `hash_kind`.
     ///
-    /// `Malformed` where they are no such object's text. `OutOfMemory` comes only for a tree or a commit,
-    /// as their own readers say; a blob is never refused.
+    /// Allocates the entries of a tree, the parents of a commit from the second one on, and its extra
+    /// headers.
+    ///
+    /// # Errors
+    ///
+    /// - [`Error::Malformed`] if `bytes` is not the encoding of an object of this kind. A blob never fails.
+    /// - [`Error::OutOfMemory`] if an allocation fails, for a tree or a commit only.
     pub fn from_bytes(
         alloc: Global,
         bytes: &'a [u8],
         kind: Kind,
         hash_kind: hash::Kind,
     ) -> Result<ObjectRef<'a>, Error>
-        ensures found { IfOk result (IsObjectText hash_kind kind bytes.now) }
+        ensures found { IfOk result (DecodesToObject hash_kind kind bytes.now) }
         ensures has_ids { IfOk result HasObjectIds }
-        ensures ready { IfOk result IsReadyToWrite }
-        ensures refusal { IfErr result (RefusesObjectText hash_kind kind bytes.now) }
+        ensures encodable { IfOk result IsReadyToWrite }
+        ensures error { IfErr result (IsObjectDecodeError hash_kind kind bytes.now) }
     {
         match kind {
             Kind::Blob => Ok(ObjectRef::Blob(BlobRef::from_bytes(bytes))),
@@ -101,7 +125,7 @@ impl<'a> ObjectRef<'a> {
     }
 }
 
-/// The object of this kind that the bytes are. It is called, so that what a blob doesn't need isn't set up for one.
+/// Decodes an object of any kind, in a call of its own that keeps the setup away from blobs.
 #[inline(never)]
 fn parsed<'a>(
     alloc: Global,
@@ -109,10 +133,10 @@ fn parsed<'a>(
     kind: Kind,
     hash_kind: hash::Kind,
 ) -> Result<ObjectRef<'a>, Error>
-    ensures found { IfOk result (IsObjectText hash_kind kind bytes.now) }
+    ensures found { IfOk result (DecodesToObject hash_kind kind bytes.now) }
     ensures has_ids { IfOk result HasObjectIds }
-    ensures ready { IfOk result IsReadyToWrite }
-    ensures refusal { IfErr result (RefusesObjectText hash_kind kind bytes.now) }
+    ensures encodable { IfOk result IsReadyToWrite }
+    ensures error { IfErr result (IsObjectDecodeError hash_kind kind bytes.now) }
 {
     match kind {
         Kind::Tree => Ok(ObjectRef::Tree(TreeRef::from_bytes(alloc, bytes, hash_kind)?)),
@@ -122,9 +146,9 @@ fn parsed<'a>(
     }
 }
 
-/// The refusal of an object with fewer bytes than this size, which its header says.
+/// Returns the error for an object with fewer bytes than the size in its header.
 fn short(size: u64) -> LooseDecodeError
-    ensures { IsContentRefusal (Short size) result }
+    ensures { ConvertsContentError (Short size) result }
 {
     match usize::try_from(size) {
         Ok(_) => {

@@ -1,6 +1,6 @@
-//! Borrowed objects of any kind, written.
+//! Encoding of borrowed objects.
 ghost use Rattle.gixobj_fields.specs.Writing.{IsSize};
-ghost use Rattle.gixobj_object.specs.BorrowedObjects.{IsReadyToWrite, borrowed_object_text};
+ghost use Rattle.gixobj_object.specs.BorrowedObjects.{IsReadyToWrite, encode_borrowed_object};
 
 use super::ObjectRef;
 use gixobj_fields::WriteTo;
@@ -9,17 +9,17 @@ use gixobj_fields::streams::Sink;
 use gixobj_hash::Kind;
 use std::alloc::Global;
 
-/// An object is written as its tree, its blob, its commit or its tag is, and refused as that is.
+/// Encodes the tree, blob, commit or tag of the object, and fails with the error of that part.
 impl WriteTo for ObjectRef<'_> {
-    ghost use Rattle.gixobj_object.specs.BorrowedObjects.{IsReadyToWrite, RefusesBorrowedObject, borrowed_kind, borrowed_object_text};
+    ghost use Rattle.gixobj_object.specs.BorrowedObjects.{IsReadyToWrite, IsBorrowedObjectError, borrowed_kind, encode_borrowed_object};
 
     ghost can_write = { IsReadyToWrite };
 
     ghost object_kind = { borrowed_kind };
 
-    ghost text = { borrowed_object_text };
+    ghost encoding = { encode_borrowed_object };
 
-    ghost refuses = { RefusesBorrowedObject };
+    ghost rejects = { IsBorrowedObjectError };
 
     fn write_into<S: Sink>(&self, alloc: Global, sink: &mut S) -> Result<(), Error> {
         match self {
@@ -38,16 +38,16 @@ impl WriteTo for ObjectRef<'_> {
     fn size(&self) -> Option<u64> {
         match self {
             ObjectRef::Blob(blob) => blob.size(),
-            _ => Some(text_size(self)?),
+            _ => Some(bytes_size(self)?),
         }
     }
 }
 
-/// The size of any object, apart so that a blob's is answered with no jump and no test of this answer.
+/// Returns the size of any object, in a call of its own so that a blob's size needs no jump and no test.
 #[inline(never)]
-fn text_size(object: &ObjectRef<'_>) -> Option<u64>
+fn bytes_size(object: &ObjectRef<'_>) -> Option<u64>
     requires { IsReadyToWrite object.now }
-    ensures { IsSize result (borrowed_object_text object.now) }
+    ensures { IsSize result (encode_borrowed_object object.now) }
 {
     match object {
         ObjectRef::Tree(tree) => tree.size(),

@@ -2,13 +2,13 @@ use Rattle.std.proofs.Common.{List, ap, subst, ◌∙◌}
 use Rattle.gixobj_files.specs.State.{root_alone}
 use Rattle.gixobj_find.specs.Memory.{memory_objects}
 use Rattle.gixobj_tree.specs.Entries.{EntryView}
-use Rattle.gixobj_tree.specs.TreeText.{IsAnsweredDigest}
+use Rattle.gixobj_tree.specs.TreeEncoding.{IsAnsweredDigest}
 use Rattle.gixobj_script.specs.Edits.{IsNewEditor}
-use Rattle.gixobj_script.proofs.Told.{is_edit}
+use Rattle.gixobj_script.proofs.Reported.{is_edit}
 use Rattle.gixobj_script.proofs.editing.edit.Goals as goal
 
-pub returns-clause-told : goal.returns-clause-told
-returns-clause-told c =
+pub returns-clause-reported : goal.returns-clause-reported
+returns-clause-reported c =
     let begun : IsNewEditor c.args.hash c.new-editor.result = record {
       root = c.new-editor.ensures.dirs ∙ ap root_alone c.empty.ensures;
       bases = c.new-editor.ensures.bases;
@@ -17,4 +17,4 @@ returns-clause-told c =
       object_hash = c.new-editor.ensures.object_hash;
     } in
     is_edit _ _ c.args.hash c.args.script.now c.new-editor.result _ c.edit_on.result
-    (λ tree answer said. subst (λ (t : List EntryView). IsAnsweredDigest c.args.hash t answer) said.shows said.says.met) begun c.edit_on.ensures.told
+    (λ tree answer said. subst (λ (t : List EntryView). IsAnsweredDigest c.args.hash t answer) said.shows said.says.met) begun c.edit_on.ensures.reported

@@ -1,6 +1,6 @@
--- What a list refuses, over the streams themselves.
+-- The errors of a list, over the streams themselves.
 use Rattle.std.proofs.Common.{rules}
-use Rattle.gixobj_script.proofs.RefusedTrees.{unlisted_by}
+use Rattle.gixobj_script.proofs.TreeErrors.{unlisted_by}
 use Rattle.gixobj_script.proofs.tree.list_read.Goals as goal
 
 pub returns-clause-unlisted : goal.returns-clause-unlisted

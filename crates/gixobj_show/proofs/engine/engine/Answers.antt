@@ -1,4 +1,4 @@
--- The answers of the whole program.
+-- The results of the program.
 use Rattle.std.proofs.Common.{rules}
 use Rattle.gixobj_show.proofs.engine.engine.Goals as goal
 

@@ -1,6 +1,6 @@
--- What no answer says.
+-- A run that fails reports its error.
 use Rattle.std.proofs.Common.{rules}
 use Rattle.gixobj_show.proofs.engine.run.Goals as goal
 
-pub returns-in-Ok-clause-refusal : goal.returns-in-Ok-clause-refusal
-returns-in-Ok-clause-refusal g c = search rules
+pub returns-in-Ok-clause-error : goal.returns-in-Ok-clause-error
+returns-in-Ok-clause-error g c = search rules

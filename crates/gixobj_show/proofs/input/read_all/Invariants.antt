@@ -1,4 +1,4 @@
--- What was read is what was taken, and with each turn less memory is left.
+-- The consumed bytes are those of the list, whose length increases in each iteration.
 use Rattle.std.proofs.Common.{◌≡◌, ◌-◌, ◌^◌, vec_len}
 use Rattle.std.specs.Io.KnownBytes.{Consumes}
 use Rattle.gixobj_show.proofs.input.read_all.Given as goal

@@ -1,4 +1,4 @@
-//! The calls by which programs are asked to sign (gpg(1), `--detach-sign`; ssh-keygen(1), `-Y sign`).
+//! The calls of programs that sign (gpg(1), `--detach-sign`; ssh-keygen(1), `-Y sign`).
 ghost use Rattle.std.specs.Prelude.{◌≡◌, IfOk, map};
 ghost use Rattle.bstr.specs.Owned.{bstring_bytes};
 ghost use Rattle.gixobj_signature.specs.Calls.{call_view, word_view};
@@ -12,7 +12,7 @@ use bstr::{BString, ByteSlice};
 use gixobj_hash::OutOfMemory;
 use std::alloc::Global;
 
-/// The call of a program of OpenPGP or of X.509, which reads what it signs.
+/// Makes the call of an OpenPGP or X.509 program, whose input is the payload.
 pub fn gpg_call_of(alloc: Global, payload: &[u8], options: &Options) -> Result<Call, OutOfMemory>
     ensures { IfOk result (λ it. call_view it ≡ gpg_call (options_view options.now) payload.now) }
 {
@@ -29,7 +29,7 @@ pub fn gpg_call_of(alloc: Global, payload: &[u8], options: &Options) -> Result<C
     })
 }
 
-/// The call of a program of SSH, which signs a file.
+/// Makes the call of an SSH program, which signs a file with the payload.
 pub fn ssh_call_of(alloc: Global, payload: &[u8], options: &Options) -> Result<Call, OutOfMemory>
     ensures { IfOk result (λ it. call_view it ≡ ssh_call (options_view options.now) payload.now) }
 {
@@ -39,7 +39,7 @@ pub fn ssh_call_of(alloc: Global, payload: &[u8], options: &Options) -> Result<C
     }
 }
 
-/// The call where the key stands in a file of the caller's.
+/// Makes the SSH call for a key in a file of the caller.
 fn path_call_of(alloc: Global, payload: &[u8], options: &Options) -> Result<Call, OutOfMemory>
     ensures { IfOk result (λ it. call_view it ≡ path_call (options_view options.now) payload.now) }
 {
@@ -50,7 +50,7 @@ fn path_call_of(alloc: Global, payload: &[u8], options: &Options) -> Result<Call
     call_of(alloc, options, words, files, 0)
 }
 
-/// The call where the key is given by its bytes, which get a file too.
+/// Makes the SSH call for a literal key, which is written to a file too.
 fn literal_call_of(
     alloc: Global,
     key: &[u8],
@@ -70,7 +70,7 @@ fn literal_call_of(
     call_of(alloc, options, words, files, 1)
 }
 
-/// A call of these words and files, which may leave a signature beside the file of this number.
+/// Makes a call with these arguments and files, which may write a signature next to the file of this index.
 fn call_of(
     alloc: Global,
     options: &Options,

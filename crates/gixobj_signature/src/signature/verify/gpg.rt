@@ -1,4 +1,4 @@
-//! Signatures of OpenPGP and of X.509, verified by one call (gpg(1), `--verify`).
+//! Verification of OpenPGP and X.509 signatures by one call (gpg(1), `--verify`).
 ghost use Rattle.std.specs.Prelude.{◌≡◌, IfOk, Some, map};
 ghost use Rattle.std.specs.Option.{option_map};
 ghost use Rattle.bstr.specs.Owned.{bstring_bytes};
@@ -7,9 +7,9 @@ ghost use Rattle.gixobj_report.specs.Outcomes.{outcome_view};
 ghost use Rattle.gixobj_text.specs.declared.signature.Format.TheVariants as format;
 ghost use Rattle.gixobj_signature.specs.SignedBytes.{signed_bytes};
 ghost use Rattle.gixobj_signature.specs.Verifiers.{by_open_pgp, by_x509, program_of};
-ghost use Rattle.gixobj_signature.specs.VerifyingCalls.{open_pgp_call, open_pgp_words, whole_call, x509_call, x509_words};
-ghost use Rattle.gixobj_signature.specs.Plans.{TakesForCalls};
-ghost use Rattle.gixobj_signature.specs.Verifying.{ComesOf, gpg_verified, gpg_verify_plan, reported, verify_plan, verify_view};
+ghost use Rattle.gixobj_signature.specs.VerifyingCalls.{open_pgp_call, open_pgp_words, full_call, x509_call, x509_words};
+ghost use Rattle.gixobj_signature.specs.Plans.{AllocatesForCalls};
+ghost use Rattle.gixobj_signature.specs.Verifying.{IsOutcomeOf, gpg_verified, gpg_verify_plan, reported, verify_plan, verify_view};
 
 use super::{Error, Program, ask_one};
 use crate::signature::words::Piece::{File, Text};
@@ -17,11 +17,11 @@ use crate::signature::words::{environment_of, words_with};
 use crate::signature::{Call, Output, Runner, SignedData, Word};
 use bstr::{BString, ByteSlice};
 use gixobj_hash::OutOfMemory;
-use gixobj_report::report::{Outcome, judge, parse_gpg_output};
+use gixobj_report::report::{Outcome, evaluate, parse_gpg_output};
 use gixobj_text::signature::Format;
 use std::alloc::Global;
 
-/// Verifies by a program of OpenPGP, where the signature is of that format.
+/// Verifies with an OpenPGP program, and rejects a signature of another format.
 pub(crate) fn verify_open_pgp<R: Runner>(
     alloc: Global,
     by: &Program,
@@ -30,9 +30,9 @@ pub(crate) fn verify_open_pgp<R: Runner>(
     signed: &SignedData<'_>,
     runner: &mut R,
 ) -> Result<Outcome, Error>
-    ensures came { ComesOf R.runs (verify_plan (by_open_pgp (program_of by.now)) signature.now
+    ensures outcome { IsOutcomeOf R.runs (verify_plan (by_open_pgp (program_of by.now)) signature.now
         (signed_bytes signed.now) (Some format)) runner.old result runner.new }
-    ensures taken { TakesForCalls (verify_plan (by_open_pgp (program_of by.now)) signature.now
+    ensures allocates { AllocatesForCalls (verify_plan (by_open_pgp (program_of by.now)) signature.now
         (signed_bytes signed.now) (Some format)) (verify_view result) }
 {
     match format {
@@ -44,7 +44,7 @@ pub(crate) fn verify_open_pgp<R: Runner>(
     }
 }
 
-/// Verifies by a program of X.509, where the signature is of that format.
+/// Verifies with an X.509 program, and rejects a signature of another format.
 pub(crate) fn verify_x509<R: Runner>(
     alloc: Global,
     by: &Program,
@@ -53,9 +53,9 @@ pub(crate) fn verify_x509<R: Runner>(
     signed: &SignedData<'_>,
     runner: &mut R,
 ) -> Result<Outcome, Error>
-    ensures came { ComesOf R.runs (verify_plan (by_x509 (program_of by.now)) signature.now
+    ensures outcome { IsOutcomeOf R.runs (verify_plan (by_x509 (program_of by.now)) signature.now
         (signed_bytes signed.now) (Some format)) runner.old result runner.new }
-    ensures taken { TakesForCalls (verify_plan (by_x509 (program_of by.now)) signature.now
+    ensures allocates { AllocatesForCalls (verify_plan (by_x509 (program_of by.now)) signature.now
         (signed_bytes signed.now) (Some format)) (verify_view result) }
 {
     match format {
@@ -67,7 +67,7 @@ pub(crate) fn verify_x509<R: Runner>(
     }
 }
 
-/// Makes the call of a program of OpenPGP, and reads its report.
+/// Makes the call of an OpenPGP program and parses its output.
 fn by_open_pgp_call<R: Runner>(
     alloc: Global,
     by: &Program,
@@ -75,7 +75,7 @@ fn by_open_pgp_call<R: Runner>(
     signed: &SignedData<'_>,
     runner: &mut R,
 ) -> Result<Outcome, Error>
-    ensures { ComesOf R.runs (gpg_verify_plan format.OpenPgp (program_of by.now)
+    ensures { IsOutcomeOf R.runs (gpg_verify_plan format.OpenPgp (program_of by.now)
         (open_pgp_call (program_of by.now) signature.now (signed_bytes signed.now))) runner.old
         result runner.new }
 {
@@ -84,7 +84,7 @@ fn by_open_pgp_call<R: Runner>(
     Ok(outcome_of(alloc, Format::OpenPgp, by, output)?)
 }
 
-/// Makes the call of a program of X.509, and reads its report.
+/// Makes the call of an X.509 program and parses its output.
 fn by_x509_call<R: Runner>(
     alloc: Global,
     by: &Program,
@@ -92,7 +92,7 @@ fn by_x509_call<R: Runner>(
     signed: &SignedData<'_>,
     runner: &mut R,
 ) -> Result<Outcome, Error>
-    ensures { ComesOf R.runs (gpg_verify_plan format.X509 (program_of by.now)
+    ensures { IsOutcomeOf R.runs (gpg_verify_plan format.X509 (program_of by.now)
         (x509_call (program_of by.now) signature.now (signed_bytes signed.now))) runner.old result
         runner.new }
 {
@@ -101,7 +101,7 @@ fn by_x509_call<R: Runner>(
     Ok(outcome_of(alloc, Format::X509, by, output)?)
 }
 
-/// The outcome that the call's answer makes.
+/// Makes the outcome of an output.
 fn outcome_of(
     alloc: Global,
     format: Format,
@@ -112,13 +112,13 @@ fn outcome_of(
         ≡ gpg_verified format (program_of by.now) (output_view output)) }
 {
     let success = output.success;
-    let told = BString::new(output.stderr);
+    let seen = BString::new(output.stderr);
     let raw = BString::new(output.stdout);
-    let report = parse_gpg_output(alloc, format, told, raw)?;
-    Ok(judge(report, success, by.minimum_trust))
+    let report = parse_gpg_output(alloc, format, seen, raw)?;
+    Ok(evaluate(report, success, by.minimum_trust))
 }
 
-/// The call of a program of OpenPGP, which reads what is signed.
+/// Makes the call of an OpenPGP program, whose input is the signed data.
 #[tactic(auto, unfolding(crate::specs::VerifyingCalls::open_pgp_call))]
 fn open_pgp_call_of(
     alloc: Global,
@@ -135,7 +135,7 @@ fn open_pgp_call_of(
     call_of(alloc, by, words, files, input)
 }
 
-/// Its words.
+/// Makes the arguments of an OpenPGP program.
 fn open_pgp_words_of(alloc: Global, by: &Program) -> Result<Vec<Word>, OutOfMemory>
     ensures { IfOk result (λ it. map word_view it.items ≡ open_pgp_words (program_of by.now)) }
 {
@@ -150,7 +150,7 @@ fn open_pgp_words_of(alloc: Global, by: &Program) -> Result<Vec<Word>, OutOfMemo
     Ok(words)
 }
 
-/// The call of a program of X.509, for which what is signed stands in a file.
+/// Makes the call of an X.509 program, with the signed data in a file.
 #[tactic(auto, unfolding(crate::specs::VerifyingCalls::x509_call))]
 fn x509_call_of(
     alloc: Global,
@@ -169,7 +169,7 @@ fn x509_call_of(
     call_of(alloc, by, words, files, None)
 }
 
-/// Its words.
+/// Makes the arguments of an X.509 program.
 fn x509_words_of(alloc: Global, by: &Program) -> Result<Vec<Word>, OutOfMemory>
     ensures { IfOk result (λ it. map word_view it.items ≡ x509_words (program_of by.now)) }
 {
@@ -178,7 +178,7 @@ fn x509_words_of(alloc: Global, by: &Program) -> Result<Vec<Word>, OutOfMemory>
     Ok(words)
 }
 
-/// A call of these words, files and input.
+/// Makes a call with these arguments, files and input.
 fn call_of(
     alloc: Global,
     by: &Program,
@@ -187,7 +187,7 @@ fn call_of(
     input: Option<BString>,
 ) -> Result<Call, OutOfMemory>
     ensures { IfOk result (λ it. call_view it
-        ≡ whole_call (program_of by.now) (map word_view words.items) (map bstring_bytes files.items)
+        ≡ full_call (program_of by.now) (map word_view words.items) (map bstring_bytes files.items)
         (option_map bstring_bytes input)) }
 {
     let environment = environment_of(alloc, &by.environment)?;

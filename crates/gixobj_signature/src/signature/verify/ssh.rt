@@ -1,4 +1,4 @@
-//! Signatures of SSH, verified by several calls (ssh-keygen(1), `-Y`).
+//! Verification of SSH signatures by several calls (ssh-keygen(1), `-Y`).
 ghost use Rattle.std.specs.Prelude.{◌≡◌, ◌++◌, ◌∷◌, [], IfOk, None, OnOk, Some, filter, map};
 ghost use Rattle.std.specs.Option.{option_map};
 ghost use Rattle.bstr.specs.Owned.{bstring_bytes};
@@ -8,9 +8,9 @@ ghost use Rattle.gixobj_report.specs.declared.report.TrustLevel.TheVariants as t
 ghost use Rattle.gixobj_signature.specs.SignedBytes.{signed_bytes};
 ghost use Rattle.gixobj_signature.specs.Verifiers.{by_ssh, ssh_of, ssh_program_of};
 ghost use Rattle.gixobj_signature.specs.VerifyingCalls.{novalidate_call, principal_call, principals_call};
-ghost use Rattle.gixobj_signature.specs.Plans.{TakesForCalls};
-ghost use Rattle.gixobj_signature.specs.Verifying.{Asked, ComesOf, accepts, human, lossy, principals_in, reported, rest_plan, ssh_verified, ssh_verify_plan, tries, verify_plan, verify_view};
-ghost use Rattle.gixobj_hash.specs.Texts.{is_filled};
+ghost use Rattle.gixobj_signature.specs.Plans.{AllocatesForCalls};
+ghost use Rattle.gixobj_signature.specs.Verifying.{WasCalled, IsOutcomeOf, accepts, human, lossy, principals_in, reported, rest_plan, ssh_verified, ssh_verify_plan, tries, verify_plan, verify_view};
+ghost use Rattle.gixobj_hash.specs.ByteStrings.{is_filled};
 
 mod calls;
 
@@ -19,11 +19,11 @@ use crate::signature::{Output, Runner, SignedData};
 use bstr::{BString, ByteSlice};
 use calls::{novalidate_call_of, principal_call_of, principals_call_of};
 use gixobj_hash::OutOfMemory;
-use gixobj_report::report::{Outcome, TrustLevel, judge, parse_ssh_output};
+use gixobj_report::report::{Outcome, TrustLevel, evaluate, parse_ssh_output};
 use gixobj_text::signature::Format;
 use std::alloc::Global;
 
-/// Verifies by a program of SSH, where the signature is of that format.
+/// Verifies with an SSH program, and rejects a signature of another format.
 pub(crate) fn verify_if_ssh<R: Runner>(
     alloc: Global,
     by: &SshProgram,
@@ -32,9 +32,9 @@ pub(crate) fn verify_if_ssh<R: Runner>(
     signed: &SignedData<'_>,
     runner: &mut R,
 ) -> Result<Outcome, Error>
-    ensures came { ComesOf R.runs (verify_plan (by_ssh (ssh_program_of by.now) (ssh_of by.now))
+    ensures outcome { IsOutcomeOf R.runs (verify_plan (by_ssh (ssh_program_of by.now) (ssh_of by.now))
         signature.now (signed_bytes signed.now) (Some format)) runner.old result runner.new }
-    ensures taken { TakesForCalls (verify_plan (by_ssh (ssh_program_of by.now) (ssh_of by.now))
+    ensures allocates { AllocatesForCalls (verify_plan (by_ssh (ssh_program_of by.now) (ssh_of by.now))
         signature.now (signed_bytes signed.now) (Some format)) (verify_view result) }
 {
     match format {
@@ -46,7 +46,7 @@ pub(crate) fn verify_if_ssh<R: Runner>(
     }
 }
 
-/// Asks for the principals of the key, and then for each of them.
+/// Lists the principals of the key, and then verifies for each of them.
 fn verify_ssh<R: Runner>(
     alloc: Global,
     by: &SshProgram,
@@ -54,7 +54,7 @@ fn verify_ssh<R: Runner>(
     signed: &SignedData<'_>,
     runner: &mut R,
 ) -> Result<Outcome, Error>
-    ensures { ComesOf R.runs (ssh_verify_plan (ssh_program_of by.now) (ssh_of by.now) signature.now
+    ensures { IsOutcomeOf R.runs (ssh_verify_plan (ssh_program_of by.now) (ssh_of by.now) signature.now
         (signed_bytes signed.now)) runner.old result runner.new }
 {
     let found = ask_principals(alloc, by, signature, runner)?;
@@ -65,21 +65,21 @@ fn verify_ssh<R: Runner>(
     try_each(alloc, by, &principals, signature, signed, runner)
 }
 
-/// Asks for the principals of the key.
+/// Lists the principals of the key.
 fn ask_principals<R: Runner>(
     alloc: Global,
     by: &SshProgram,
     signature: &[u8],
     runner: &mut R,
 ) -> Result<Output, Error>
-    ensures { Asked R.runs (principals_call (ssh_program_of by.now) (ssh_of by.now) signature.now)
+    ensures { WasCalled R.runs (principals_call (ssh_program_of by.now) (ssh_of by.now) signature.now)
         runner.old result runner.new }
 {
     let call = principals_call_of(alloc, by, signature)?;
     ask_one(&call, runner)
 }
 
-/// Asks for each principal in turn, until one is accepted.
+/// Verifies for each principal in turn, until one is accepted.
 fn try_each<R: Runner>(
     alloc: Global,
     by: &SshProgram,
@@ -88,7 +88,7 @@ fn try_each<R: Runner>(
     signed: &SignedData<'_>,
     runner: &mut R,
 ) -> Result<Outcome, Error>
-    ensures { ComesOf R.runs (tries (ssh_program_of by.now) (ssh_of by.now) signature.now
+    ensures { IsOutcomeOf R.runs (tries (ssh_program_of by.now) (ssh_of by.now) signature.now
         (signed_bytes signed.now) (map bstring_bytes principals.now) None) runner.old result
         runner.new }
 {
@@ -103,7 +103,7 @@ fn try_each<R: Runner>(
     end_with(alloc, by, last, signature, signed, runner)
 }
 
-/// Asks for one principal.
+/// Verifies for one principal.
 fn ask_for<R: Runner>(
     alloc: Global,
     by: &SshProgram,
@@ -112,14 +112,14 @@ fn ask_for<R: Runner>(
     signed: &SignedData<'_>,
     runner: &mut R,
 ) -> Result<Output, Error>
-    ensures { Asked R.runs (principal_call (ssh_program_of by.now) (ssh_of by.now) signature.now
+    ensures { WasCalled R.runs (principal_call (ssh_program_of by.now) (ssh_of by.now) signature.now
         (signed_bytes signed.now) (bstring_bytes principal.now)) runner.old result runner.new }
 {
     let call = principal_call_of(alloc, by, principal.as_bytes(), signature, signed)?;
     ask_one(&call, runner)
 }
 
-/// The outcome of a call that accepted this principal, who is the signer then.
+/// Makes the outcome of a call that accepted this principal, who is the signer.
 fn accepted_by(
     alloc: Global,
     by: &SshProgram,
@@ -135,7 +135,7 @@ fn accepted_by(
     outcome_of(alloc, by, success, TrustLevel::Fully, Some(signer), output)
 }
 
-/// The outcome where no principal was accepted: of the last call for one or, where none was made, of one more call.
+/// Makes the outcome without an accepted principal, from the last call or else from one for any key.
 fn end_with<R: Runner>(
     alloc: Global,
     by: &SshProgram,
@@ -144,7 +144,7 @@ fn end_with<R: Runner>(
     signed: &SignedData<'_>,
     runner: &mut R,
 ) -> Result<Outcome, Error>
-    ensures { ComesOf R.runs (rest_plan (ssh_program_of by.now) (ssh_of by.now) signature.now
+    ensures { IsOutcomeOf R.runs (rest_plan (ssh_program_of by.now) (ssh_of by.now) signature.now
         (signed_bytes signed.now) (option_map output_view last)) runner.old result runner.new }
 {
     if let Some(output) = last {
@@ -154,7 +154,7 @@ fn end_with<R: Runner>(
     Ok(outcome_of(alloc, by, false, TrustLevel::Undefined, None, output)?)
 }
 
-/// The outcome of a call that accepted no principal.
+/// Makes the outcome of a call that accepted no principal.
 fn rejected_by(alloc: Global, by: &SshProgram, output: Output) -> Result<Outcome, OutOfMemory>
     ensures { IfOk result (λ it. reported (outcome_view it)
         ≡ ssh_verified (ssh_program_of by.now) output.success trust.Fully None
@@ -164,7 +164,7 @@ fn rejected_by(alloc: Global, by: &SshProgram, output: Output) -> Result<Outcome
     outcome_of(alloc, by, success, TrustLevel::Fully, None, output)
 }
 
-/// Asks whether the signature holds, whoever made it.
+/// Checks the signature for any key.
 fn ask_without<R: Runner>(
     alloc: Global,
     by: &SshProgram,
@@ -172,7 +172,7 @@ fn ask_without<R: Runner>(
     signed: &SignedData<'_>,
     runner: &mut R,
 ) -> Result<Output, Error>
-    ensures { Asked R.runs (novalidate_call (ssh_program_of by.now) (ssh_of by.now) signature.now
+    ensures { WasCalled R.runs (novalidate_call (ssh_program_of by.now) (ssh_of by.now) signature.now
         (signed_bytes signed.now)) runner.old result runner.new }
 {
     let call = novalidate_call_of(alloc, by, signature, signed)?;
@@ -186,7 +186,7 @@ fn is_accepted(output: &Output) -> bool
     output.success && output.stdout.starts_with(b"Good")
 }
 
-/// The outcome that a call's answer makes, with this success, this trust and this signer.
+/// Makes the outcome of an output, with this success, trust and signer.
 fn outcome_of(
     alloc: Global,
     by: &SshProgram,
@@ -199,21 +199,21 @@ fn outcome_of(
         ≡ ssh_verified (ssh_program_of by.now) success trust (option_map bstring_bytes signer)
         (output_view output)) }
 {
-    let told = human_of(output)?;
-    let report = parse_ssh_output(alloc, told, signer, trust)?;
-    Ok(judge(report, success, by.minimum_trust))
+    let seen = human_of(output)?;
+    let report = parse_ssh_output(alloc, seen, signer, trust)?;
+    Ok(evaluate(report, success, by.minimum_trust))
 }
 
-/// What people are told: the standard output and then the standard error.
+/// Joins the standard output and the standard error, for people.
 fn human_of(output: Output) -> Result<BString, OutOfMemory>
     ensures { IfOk result (λ it. bstring_bytes it ≡ human (output_view output)) }
 {
-    let mut text = output.stdout;
-    text.extend_from_slice(&output.stderr)?;
-    Ok(BString::new(text))
+    let mut bytes = output.stdout;
+    bytes.extend_from_slice(&output.stderr)?;
+    Ok(BString::new(bytes))
 }
 
-/// The principals that are named, one on each line.
+/// Returns the principals of this standard output, one on each line.
 fn principals_of(alloc: Global, stdout: &[u8]) -> Result<Vec<BString>, OutOfMemory>
     ensures { IfOk result (λ it. map bstring_bytes it.items ≡ principals_in stdout.now) }
 {
@@ -225,7 +225,7 @@ fn principals_of(alloc: Global, stdout: &[u8]) -> Result<Vec<BString>, OutOfMemo
     Ok(principals)
 }
 
-/// Puts one more at the end, unless it is empty.
+/// Appends the principal of a line, unless the line is empty.
 fn push_principal(
     alloc: Global,
     line: &[u8],
@@ -237,7 +237,7 @@ fn push_principal(
     if line.is_empty() {
         return Ok(());
     }
-    let text = line.to_str_lossy(alloc)?;
-    principals.push(BString::from_slice(alloc, text.as_str().as_bytes())?)?;
+    let bytes = line.to_str_lossy(alloc)?;
+    principals.push(BString::from_slice(alloc, bytes.as_str().as_bytes())?)?;
     Ok(())
 }

@@ -1,10 +1,10 @@
-//! Owned tags, written (gitdatamodel, "tag objects").
+//! Writing of owned tags (gitdatamodel, "tag objects").
 ghost use Rattle.std.specs.Prelude.{◌≡◌, length};
 ghost use Rattle.gixobj_hash.specs.Optional.{owned_bytes_if_some};
-ghost use Rattle.gixobj_tag.specs.TagWriting.{signature_text};
+ghost use Rattle.gixobj_tag.specs.TagWriting.{encode_signature};
 
 use super::super::Tag;
-use super::{put_tag, unsigned_size};
+use super::{unsigned_size, write_tag};
 use bstr::BString;
 use gixobj_fields::streams::Sink;
 use gixobj_fields::{WriteTo, encode};
@@ -12,24 +12,28 @@ use gixobj_hash::Kind;
 use gixobj_hash::optional::borrowed;
 use std::alloc::Global;
 
-/// A tag is written with its tagger and the time as these are written.
+/// Writes the tagger and the time in the form of an owned actor. Allocates nothing.
 ///
-/// A name that [`super::validated_name`] refuses is refused as `InvalidRefName` or `StartsWithDash`,
-/// before any byte of its line. A tagger whose name or email has a `<`, a `>` or a newline is refused as
-/// `IllegalActor` behind `tagger` and a space. It takes no memory.
+/// # Errors
+///
+/// - [`encode::Error::InvalidRefName`] or [`encode::Error::StartsWithDash`] if [`super::validated_name`]
+///   rejects the name. The lines before it are then written, and no byte of its own line.
+/// - [`encode::Error::IllegalActor`] if the name or email of the tagger has a `<`, a `>` or a newline. The
+///   lines before the tagger are then written, and `tagger` and a space.
+/// - [`encode::Error::Writer`] if the writer fails.
 impl WriteTo for Tag {
     ghost use Rattle.gixobj_hash.specs.declared.kind.Kind.TheVariants as kind;
     ghost use Rattle.gixobj_tag.specs.TagViews.{owned_tag_lines};
-    ghost use Rattle.gixobj_tag.specs.TagWriting.{RefusesOwnedTag, tag_text};
+    ghost use Rattle.gixobj_tag.specs.TagWriting.{IsOwnedTagError, encode_tag};
 
     ghost object_kind = { λ _. kind.Tag };
 
-    ghost text = { λ tag. tag_text (owned_tag_lines tag) };
+    ghost encoding = { λ tag. encode_tag (owned_tag_lines tag) };
 
-    ghost refuses = { RefusesOwnedTag };
+    ghost rejects = { IsOwnedTagError };
 
     fn write_into<S: Sink>(&self, _alloc: Global, sink: &mut S) -> Result<(), encode::Error> {
-        put_tag(
+        write_tag(
             &self.target,
             self.target_kind,
             self.name.as_bstr(),
@@ -56,17 +60,17 @@ impl WriteTo for Tag {
     }
 }
 
-/// How many bytes the newline before a signature and the signature have, or 0 without one.
+/// The number of bytes of a signature and the newline before it, or 0 without one.
 ///
-/// Some length is read in either case, that of the other text without a signature: so no branch is guessed.
+/// Without a signature the length of the other string is loaded, so that no branch has to be predicted.
 #[inline(always)]
 fn signature_len(signature: &Option<BString>, other: &BString) -> u64
-    ensures { result ≡ length (signature_text (owned_bytes_if_some signature.now)) }
+    ensures { result ≡ length (encode_signature (owned_bytes_if_some signature.now)) }
 {
-    let text = match signature {
-        Some(text) => text,
+    let content = match signature {
+        Some(content) => content,
         None => other,
     };
-    let len = 1 + text.as_bytes().len() as u64;
+    let len = 1 + content.as_bytes().len() as u64;
     if signature.is_some() { len } else { 0 }
 }

@@ -1,5 +1,4 @@
-//! Bodies: their trailers, and their messages with the trailers that follow each (git-interpret-trailers,
-//! "DESCRIPTION").
+//! Trailers of a message body, and its messages with their trailers (git-interpret-trailers, "DESCRIPTION").
 
 mod blocks;
 mod filters;

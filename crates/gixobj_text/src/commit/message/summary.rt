@@ -1,9 +1,9 @@
-//! The summary of a text: its first lines on one line (git-log, "PRETTY FORMATS", `%s`).
+//! The summary of a message, its first lines on one line (git-log, "PRETTY FORMATS", `%s`).
 ghost use Rattle.std.specs.Prelude.{◌≡◌, ◌<◌, ◌++◌, ◌∷◌, [], IfErr, IfOk, MatchOption, true, length};
 ghost use Rattle.std.specs.Char.{is_whitespace};
 ghost use Rattle.std.specs.Cow.{cow_slice_items};
 ghost use Rattle.bstr.specs.Trim.{trim_end_by};
-ghost use Rattle.gixobj_text.specs.GivingTrailers.{is_owned};
+ghost use Rattle.gixobj_text.specs.TrailerSteps.{is_owned};
 ghost use Rattle.gixobj_text.specs.Summing.{is_of_lines};
 ghost use Rattle.gixobj_text.specs.Titles.{is_trailing_space as is_trailing_space_of, pieces_of, summary_of, summary_of_pieces, without_trailing as without_trailing_of};
 
@@ -12,17 +12,21 @@ use gixobj_hash::memory::OutOfMemory;
 use std::alloc::{AllocError, Global};
 use std::borrow::CowSlice;
 
-/// The summary of a text: borrowed where it has one line, and else its lines joined by spaces, up to the
-/// first empty one.
+/// Returns the first lines of `content` on one line (git-log, "PRETTY FORMATS", `%s`).
 ///
-/// `OutOfMemory` where memory runs out. A text of one line takes none.
+/// The content is trimmed. One line is borrowed and allocates nothing. Several lines are joined by spaces in
+/// an allocated value, up to the first empty line.
+///
+/// # Errors
+///
+/// [`OutOfMemory`] if the allocation for content of several lines fails.
 #[tactic(auto, using(crate::proofs::Sums::one_piece, crate::proofs::Sums::of_one, crate::proofs::Sums::of_more))]
-pub fn summary<'a>(alloc: Global, text: &'a [u8]) -> Result<CowSlice<'a, u8>, OutOfMemory>
-    ensures value { IfOk result (λ it. cow_slice_items it ≡ summary_of text.now) }
-    ensures owned { IfOk result (λ it. is_owned it ≡ is_of_lines text.now) }
-    ensures refusal { IfErr result (λ _. is_of_lines text.now ≡ true) }
+pub fn summary<'a>(alloc: Global, content: &'a [u8]) -> Result<CowSlice<'a, u8>, OutOfMemory>
+    ensures value { IfOk result (λ it. cow_slice_items it ≡ summary_of content.now) }
+    ensures owned { IfOk result (λ it. is_owned it ≡ is_of_lines content.now) }
+    ensures error { IfErr result (λ _. is_of_lines content.now ≡ true) }
 {
-    let inner = text.trim();
+    let inner = content.trim();
     match split_newline(inner) {
         None => Ok(CowSlice::Borrowed(inner)),
         Some((first, rest)) => {
@@ -32,46 +36,46 @@ pub fn summary<'a>(alloc: Global, text: &'a [u8]) -> Result<CowSlice<'a, u8>, Ou
     }
 }
 
-/// The piece before the first newline, and what stands behind it.
+/// Splits at the first newline into the piece before it and the bytes after it.
 #[tactic(auto, using(crate::proofs::Sums::split_there, crate::proofs::Sums::split_nowhere))]
-fn split_newline(text: &[u8]) -> Option<(&[u8], &[u8])>
-    ensures { MatchOption result (pieces_of text.now ≡ text.now ∷ [])
-        (λ it. (pieces_of text.now ≡ it.0.now ∷ pieces_of it.1.now)
-        × (length it.1.now < length text.now)) }
+fn split_newline(content: &[u8]) -> Option<(&[u8], &[u8])>
+    ensures { MatchOption result (pieces_of content.now ≡ content.now ∷ [])
+        (λ it. (pieces_of content.now ≡ it.0.now ∷ pieces_of it.1.now)
+        × (length it.1.now < length content.now)) }
 {
-    match text.find_byte(b'\n') {
+    match content.find_byte(b'\n') {
         Some(place) => {
-            let (piece, _) = text.split_at(place);
-            let (_, rest) = text.split_at(place + 1);
+            let (piece, _) = content.split_at(place);
+            let (_, rest) = content.split_at(place + 1);
             Some((piece, rest))
         }
         None => None,
     }
 }
 
-/// A tab, a newline, a form feed, a return or a space.
+/// Returns whether a byte is ASCII white space.
 fn is_trailing_space(byte: u8) -> bool
     ensures { result ≡ is_trailing_space_of byte }
 {
     byte == b'\t' || byte == b'\n' || byte == 12 || byte == b'\r' || byte == b' '
 }
 
-/// A piece without its trailing spaces.
+/// Returns a piece without the ASCII white space at its end.
 #[tactic(auto, using(crate::proofs::Sums::space_more, crate::proofs::Sums::space_ends, crate::proofs::Sums::space_none))]
 fn without_trailing(piece: &[u8]) -> &[u8]
     ensures { result.now ≡ without_trailing_of piece.now }
 {
     let mut rest = piece;
-    'bytes: while let Some((byte, front)) = rest.split_last() {
+    'bytes: while let Some((byte, prefix)) = rest.split_last() {
         if !is_trailing_space(*byte) {
             return rest;
         }
-        rest = front;
+        rest = prefix;
     }
     rest
 }
 
-/// A space and a piece more.
+/// Appends a space and a piece.
 fn push_spaced(value: &mut Vec<u8>, piece: &[u8]) -> Result<(), AllocError>
     ensures { IfOk result (λ _. value.new.items ≡ value.old.items ++ 32 ∷ piece.now) }
 {
@@ -79,7 +83,7 @@ fn push_spaced(value: &mut Vec<u8>, piece: &[u8]) -> Result<(), AllocError>
     value.extend_from_slice(piece)
 }
 
-/// Without white space at the end.
+/// Returns the value without white space at its end.
 #[tactic(auto, using(crate::proofs::Sums::take_same))]
 fn trimmed_end(value: Vec<u8>) -> Vec<u8>
     ensures { result.items ≡ trim_end_by is_whitespace value.items }
@@ -90,23 +94,23 @@ fn trimmed_end(value: Vec<u8>) -> Vec<u8>
     value
 }
 
-/// The summary of a first piece and of what stands behind its newline.
+/// Returns the summary of a first piece and of the bytes after its newline.
 #[tactic(auto, using(crate::proofs::Sums::begins, crate::proofs::Sums::piece_more, crate::proofs::Sums::piece_ends, crate::proofs::Sums::last_piece, crate::proofs::Sums::last_none))]
 fn joined_lines(alloc: Global, first: &[u8], rest: &[u8]) -> Result<Vec<u8>, AllocError>
     ensures { IfOk result (λ it. it.items ≡ summary_of_pieces (first.now ∷ pieces_of rest.now)) }
 {
     let mut value = Vec::from_slice(alloc, without_trailing(first))?;
-    let mut left = rest;
-    'pieces: while let Some((piece, behind)) = split_newline(left) {
+    let mut remaining = rest;
+    'pieces: while let Some((piece, after)) = split_newline(remaining) {
         if piece.is_empty() {
             return Ok(trimmed_end(value));
         }
         push_spaced(&mut value, without_trailing(piece))?;
-        left = behind;
+        remaining = after;
     }
-    if left.is_empty() {
+    if remaining.is_empty() {
         return Ok(trimmed_end(value));
     }
-    push_spaced(&mut value, left)?;
+    push_spaced(&mut value, remaining)?;
     Ok(value)
 }

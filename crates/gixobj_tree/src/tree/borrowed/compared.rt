@@ -1,4 +1,4 @@
-//! Borrowed trees compared and hashed, entry by entry, as owned ones are.
+//! Comparison and hashing of borrowed trees, entry by entry, consistent with owned trees.
 ghost use Rattle.std.specs.Prelude.{refl};
 ghost use Rattle.std.specs.Cmp.{on_equiv, on_total, partial_equiv_from_equiv, partial_order_from_agreeing_total};
 ghost use Rattle.std.specs.Ordering.{as_partial_cmp, on};
@@ -10,7 +10,7 @@ use super::TreeRef;
 use std::cmp::Ordering;
 use std::hash::{Hash, Hasher};
 
-/// The same entries.
+/// Trees are equal if their entries are.
 impl PartialEq for TreeRef<'_> {
     ghost eq = { λ x y. same_tree (tree_entries x) (tree_entries y) };
 
@@ -26,7 +26,7 @@ impl Eq for TreeRef<'_> {
     ghost laws = { on_equiv tree_entries tree_equiv };
 }
 
-/// Entry by entry.
+/// Orders trees entry by entry.
 impl Ord for TreeRef<'_> {
     ghost cmp = { on tree_entries tree_cmp };
 
@@ -53,7 +53,7 @@ impl PartialOrd for TreeRef<'_> {
     }
 }
 
-/// Hashes the entries, as an owned tree does.
+/// Hashes the entries, like an owned tree.
 impl Hash for TreeRef<'_> {
     ghost hash_input = { λ tree. tree_feed (tree_entries tree) };
 

@@ -1,9 +1,9 @@
-//! Trees, read whole, and the reader of one entry (gitdatamodel, "trees").
+//! Decoding of trees and of single entries (gitdatamodel, "trees").
 ghost use Rattle.std.specs.Prelude.{◌≡◌, ◌≤◌, ◌<◌, ◌+◌, ◌/◌, IfErr, IfNone, IfOk, IfSome, drop, length, min, take, MatchOption, None};
 ghost use Rattle.gixobj_hash.specs.Hash.{hash_len, id_kind};
 ghost use Rattle.gixobj_hash.specs.Hash.Borrowed.{borrowed_id};
-ghost use Rattle.gixobj_hash.specs.Texts.{IsFree, SplitsAt};
-ghost use Rattle.gixobj_tree.specs.TreeReading.{BeginsWithEntry, BeginsWithId, BeginsWithNoEntry, IsTreeText, RefusesTreeText};
+ghost use Rattle.gixobj_hash.specs.ByteStrings.{IsByteFree, SplitsAt};
+ghost use Rattle.gixobj_tree.specs.TreeDecoding.{BeginsWithEntry, BeginsWithId, BeginsWithNoEntry, DecodesToTree, IsTreeDecodeError};
 ghost use Rattle.gixobj_tree.specs.TreeViews.{entry_view, tree_entries};
 
 use super::{EntryRef, TreeRef};
@@ -12,44 +12,57 @@ use bstr::BStr;
 use gixobj_fields::parse::after_space;
 use gixobj_hash::decode::Error;
 use gixobj_hash::hash::{Kind, oid};
-use gixobj_hash::texts::split_at_byte;
+use gixobj_hash::split::split_at_byte;
 use std::alloc::Global;
 use std::simd::prelude::*;
 
 impl<'a> TreeRef<'a> {
-    /// The tree that the bytes are, whose entries have ids of this kind.
+    /// Decodes a tree whose entries have ids of this kind. Only the list of entries allocates.
     ///
-    /// `Malformed` where they are no tree's text. The list of the entries takes memory, and `OutOfMemory`
-    /// comes only where an entry was read.
+    /// # Errors
+    ///
+    /// - [`Error::Malformed`] if the bytes are not the encoding of a tree.
+    /// - [`Error::OutOfMemory`] if the allocation of the list failed, only for bytes that begin with an
+    ///   entry.
+    ///
+    /// # Examples
+    ///
+    /// ```rust
+    /// fn tree_of(alloc: Global, bytes: &[u8]) -> Result<Tree, decode::Error> {
+    ///     let tree = TreeRef::from_bytes(alloc, bytes, Kind::Sha1)?;
+    ///     Ok(tree.into_owned(alloc)?)
+    /// }
+    /// ```
     pub fn from_bytes(alloc: Global, bytes: &'a [u8], hash_kind: Kind) -> Result<TreeRef<'a>, Error>
-        ensures found { IfOk result (λ tree. IsTreeText hash_kind bytes.now (tree_entries tree)) }
-        ensures refusal { IfErr result (RefusesTreeText hash_kind bytes.now) }
+        ensures found { IfOk result (λ tree. DecodesToTree hash_kind bytes.now (tree_entries tree)) }
+        ensures error { IfErr result (IsTreeDecodeError hash_kind bytes.now) }
     {
         let mut entries = Vec::new(alloc);
-        // Where this room is refused, each entry asks for its own.
+        // If this reservation fails, each entry reserves its own room.
         let _ = entries.reserve(likely_entries(bytes, hash_kind));
         let mut rest = bytes;
         while !rest.is_empty() {
-            let Some((entry, behind)) = read_entry(rest, hash_kind) else {
+            let Some((entry, following)) = read_entry(rest, hash_kind) else {
                 return Err(Error::Malformed);
             };
             entries.push(entry)?;
-            rest = behind;
+            rest = following;
         }
         Ok(TreeRef { entries })
     }
 }
 
-/// How many entries the bytes would have with names of 8 bytes, 128 at most. Most names are longer, so
-/// that most trees have no more entries.
+/// The number of entries if their names had 8 bytes, at most 128. Most names are longer, so most trees
+/// have no more entries.
 fn likely_entries(bytes: &[u8], hash_kind: Kind) -> usize
     ensures { result ≡ min (length bytes.now / (16 + hash_len hash_kind)) 128 }
 {
     (bytes.len() / (16 + hash_kind.len_in_bytes())).min(128)
 }
 
-/// The entry at the front of the input, which has an id of this kind, and what follows it, or none where
-/// the input begins with no entry. It takes no memory.
+/// Decodes the entry at the beginning of the input, with an id of this kind, and returns it and the rest.
+///
+/// Returns `None` if the input does not begin with an entry. Allocates nothing.
 #[inline(always)]
 #[tactic(auto, using(crate::proofs::OneEntry::shorter))]
 pub fn read_entry(input: &[u8], hash_kind: Kind) -> Option<(EntryRef<'_>, &[u8])>
@@ -58,10 +71,10 @@ pub fn read_entry(input: &[u8], hash_kind: Kind) -> Option<(EntryRef<'_>, &[u8])
     ensures none { IfNone result (BeginsWithNoEntry hash_kind input.now) }
     ensures shorter { IfSome result (λ it. length it.1.now < length input.now) }
 {
-    let Some((mode, behind_mode)) = EntryMode::extract_from_bytes(input) else {
+    let Some((mode, after_mode)) = EntryMode::extract_from_bytes(input) else {
         return None;
     };
-    let Some(from_name) = after_space(behind_mode) else {
+    let Some(from_name) = after_space(after_mode) else {
         return None;
     };
     let Some((name, from_id)) = split_at_zero(from_name) else {
@@ -81,12 +94,12 @@ pub fn read_entry(input: &[u8], hash_kind: Kind) -> Option<(EntryRef<'_>, &[u8])
     ))
 }
 
-/// What stands before and after the first zero byte, or none without one. Most names are short, so it is
-/// sought among the first 32 bytes at once, and only then further on.
+/// Splits at the first zero byte, or returns `None` without one. Most names are short, so the first 32
+/// bytes are searched at once, and only then the others.
 #[inline(always)]
 fn split_at_zero(input: &[u8]) -> Option<(&[u8], &[u8])>
     ensures found { IfSome result (λ parts. SplitsAt 0 input.now parts.0.now parts.1.now) }
-    ensures none { IfNone result (IsFree 0 input.now) }
+    ensures none { IfNone result (IsByteFree 0 input.now) }
 {
     if input.len() >= 32 {
         if let Some(at) = near_zero(input) {
@@ -96,13 +109,13 @@ fn split_at_zero(input: &[u8]) -> Option<(&[u8], &[u8])>
     split_at_byte(input, 0)
 }
 
-/// The place of the first zero byte, where it is among the first 32, or else none.
+/// Returns the position of the first zero byte if it is among the first 32 bytes.
 #[inline(always)]
 fn near_zero(input: &[u8]) -> Option<usize>
     requires { 32 ≤ length input.now }
     ensures found { IfSome result (λ at. (at < 32)
         × SplitsAt 0 input.now (take at input.now) (drop (at + 1) input.now)) }
-    ensures none { IfNone result (IsFree 0 (take 32 input.now)) }
+    ensures none { IfNone result (IsByteFree 0 (take 32 input.now)) }
 {
     let marks = u8x32::from_slice(input)
         .simd_eq(u8x32::splat(0))
@@ -113,7 +126,7 @@ fn near_zero(input: &[u8]) -> Option<usize>
     Some(marks.trailing_zeros() as usize)
 }
 
-/// The id of this kind at the front of the input, and what follows it, or none where fewer bytes are left.
+/// Decodes the id of this kind at the beginning of the input, or returns `None` if fewer bytes remain.
 #[inline(always)]
 fn read_id(input: &[u8], hash_kind: Kind) -> Option<(oid<'_>, &[u8])>
     ensures found { IfSome result (λ it.

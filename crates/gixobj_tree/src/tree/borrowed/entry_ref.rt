@@ -13,18 +13,20 @@ use gixobj_hash::hash::oid;
 use std::cmp::Ordering;
 use std::hash::{Hash, Hasher};
 
-/// An entry of a tree, borrowed: the file or the directory of a name.
+/// An entry of a tree, borrowed: a file or a directory, with its name.
+///
+/// [`read_entry`](super::decode::read_entry) decodes one.
 #[derive(Clone, Copy, Debug)]
 pub struct EntryRef<'a> {
-    /// What kind of object the entry names, and a file's permissions.
+    /// The kind of the object, and the permissions of a file.
     pub mode: EntryMode,
-    /// The name, one part of a path.
+    /// The name, one component of a path.
     pub filename: BStr<'a>,
     /// The id of the object.
     pub oid: oid<'a>,
 }
 
-/// The same mode, name and id.
+/// Entries are equal if their modes, names and ids are.
 impl PartialEq for EntryRef<'_> {
     ghost eq = { λ x y. same_entry (entry_view x) (entry_view y) };
 
@@ -41,8 +43,8 @@ impl Eq for EntryRef<'_> {
     ghost laws = { on_equiv entry_view entry_equiv };
 }
 
-/// By the name, with a `/` behind a tree's, as in a tree. Where two of these tie, the mode, the name
-/// and the id decide.
+/// Orders entries as in a tree: by name, with `/` appended to a tree's. Ties are ordered by mode, name
+/// and id.
 impl Ord for EntryRef<'_> {
     ghost cmp = { on entry_view entry_cmp };
 
@@ -75,7 +77,7 @@ impl PartialOrd for EntryRef<'_> {
     }
 }
 
-/// Hashes the mode, the name and the id, as an owned entry does.
+/// Hashes the mode, the name and the id, like an owned entry.
 impl Hash for EntryRef<'_> {
     ghost hash_input = { λ entry. entry_feed (entry_view entry) };
 

@@ -1,4 +1,4 @@
-//! Trees and entries with parts of their own, copied from borrowed ones; and entries borrowed from owned ones.
+//! Owned copies of borrowed trees and entries, and entries borrowed from owned ones.
 ghost use Rattle.std.specs.Prelude.{◌≡◌, ◌≢◌, [], IfErr, IfOk, OnOk};
 ghost use Rattle.gixobj_tree.specs.TreeViews.{entry_view, tree_entries};
 
@@ -9,7 +9,11 @@ use gixobj_hash::OutOfMemory;
 use std::alloc::Global;
 
 impl EntryRef<'_> {
-    /// The same entry, with a name and an id of its own.
+    /// Copies the entry into an owned [`Entry`]. The name allocates.
+    ///
+    /// # Errors
+    ///
+    /// [`OutOfMemory`] if the allocation of the name failed.
     pub fn into_owned(self, alloc: Global) -> Result<Entry, OutOfMemory>
         ensures { IfOk result (λ entry. entry ≡ entry_view self.entry) }
     {
@@ -23,18 +27,26 @@ impl EntryRef<'_> {
 
 /// Conversion
 impl TreeRef<'_> {
-    /// The same tree, with entries of its own.
+    /// Copies the tree into an owned [`Tree`]. The list and the names allocate.
+    ///
+    /// # Errors
+    ///
+    /// [`OutOfMemory`] if an allocation failed, only for a tree with entries.
     pub fn into_owned(self, alloc: Global) -> Result<Tree, OutOfMemory>
         ensures owned { IfOk result (λ tree. tree ≡ tree_entries self.entry) }
-        ensures refusal { IfErr result (λ _. tree_entries self.entry ≢ []) }
+        ensures error { IfErr result (λ _. tree_entries self.entry ≢ []) }
     {
         self.to_owned(alloc)
     }
 
-    /// A copy of the tree, with entries of its own.
+    /// Copies the tree into an owned [`Tree`]. The list and the names allocate.
+    ///
+    /// # Errors
+    ///
+    /// [`OutOfMemory`] if an allocation failed, only for a tree with entries.
     pub fn to_owned(&self, alloc: Global) -> Result<Tree, OutOfMemory>
         ensures owned { IfOk result (λ tree. tree ≡ tree_entries self.now) }
-        ensures refusal { IfErr result (λ _. tree_entries self.now ≢ []) }
+        ensures error { IfErr result (λ _. tree_entries self.now ≢ []) }
     {
         let mut entries = Vec::new(alloc);
         for entry in &self.entries {
@@ -47,7 +59,7 @@ impl TreeRef<'_> {
 impl<'a> From<&'a Entry> for EntryRef<'a> {
     ghost from_gives = { λ entry borrowed. entry_view borrowed ≡ entry.now };
 
-    /// The same entry, borrowed.
+    /// Borrows the entry.
     fn from(entry: &'a Entry) -> EntryRef<'a> {
         EntryRef {
             mode: entry.mode,

@@ -1,30 +1,31 @@
-//! Borrowed trees, written (gitdatamodel, "trees").
+//! Encoding of borrowed trees (gitdatamodel, "trees").
 ghost use Rattle.gixobj_tree.specs.TreeViews.{tree_entries};
 
 use super::TreeRef;
-use crate::tree::write::{put_entry_ref, size_with_entry_ref};
+use crate::tree::write::{size_with_entry_ref, write_entry_ref};
 use gixobj_fields::WriteTo;
 use gixobj_fields::encode::Error;
 use gixobj_fields::streams::Sink;
 use gixobj_hash::Kind;
 use std::alloc::Global;
 
-/// A tree is written as its entries in the order in which they stand, whatever that is.
+/// The encoding of a tree is its entries in their present order.
 ///
-/// A name with a zero byte is refused as `NullbyteInFilename`, after its entry's mode and space.
+/// A name with a zero byte is rejected with [`Error::NullbyteInFilename`], after its entry's mode and
+/// space.
 impl WriteTo for TreeRef<'_> {
     ghost use Rattle.gixobj_hash.specs.declared.kind.Kind.TheVariants as kind;
-    ghost use Rattle.gixobj_tree.specs.TreeText.{RefusesTree, tree_text};
+    ghost use Rattle.gixobj_tree.specs.TreeEncoding.{IsTreeEncodeError, encode_tree};
 
     ghost object_kind = { λ _. kind.Tree };
 
-    ghost text = { λ tree. tree_text (tree_entries tree) };
+    ghost encoding = { λ tree. encode_tree (tree_entries tree) };
 
-    ghost refuses = { λ tree. RefusesTree (tree_entries tree) };
+    ghost rejects = { λ tree. IsTreeEncodeError (tree_entries tree) };
 
     fn write_into<S: Sink>(&self, alloc: Global, sink: &mut S) -> Result<(), Error> {
         for entry in &self.entries {
-            put_entry_ref(alloc, entry, sink)?;
+            write_entry_ref(alloc, entry, sink)?;
         }
         Ok(())
     }

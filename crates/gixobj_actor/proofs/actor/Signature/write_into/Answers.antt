@@ -1,5 +1,5 @@
 use Rattle.std.proofs.Common.{rules}
 use Rattle.gixobj_actor.proofs.actor.Signature.write_into.Goals as goal
 
-pub returns-clause-refusal : goal.returns-clause-refusal
-returns-clause-refusal g c = search rules
+pub returns-clause-error : goal.returns-clause-error
+returns-clause-error g c = search rules

@@ -1,4 +1,4 @@
--- The text is ASCII, so it is UTF-8.
+-- The buffer holds ASCII, and therefore UTF-8.
 use Rattle.std.proofs.lemmas.Str.{IsUtf8-from_ascii}
 use Rattle.gixobj_actor.proofs.date.TimeBuf.as_str.Goals as goal
 

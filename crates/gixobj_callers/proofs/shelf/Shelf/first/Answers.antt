@@ -8,10 +8,12 @@ pub returns-then-eq : goal.returns-then-eq
 returns-then-eq c =
     let less : c.loop-at.at-index < length c.args.self.now.objects.now = search rules in
     let same : (slice_index_or c.args.self.now.objects.now c.loop-at.at-index no_pair).0 ≡ c.args.id = search rules in
-    named_here c.an_object_is_put_in.ensures.there c.args.self.now.objects.now c.loop-at.at-index c.args.id (named (shelf_objects c.args.self.now) c.args.id) less same c.loop-at.invariant
+    named_here c.object_map_insert.ensures.there c.args.self.now.objects.now c.loop-at.at-index c.args.id (named (shelf_objects c.args.self.now) c.args.id) less
+    same c.loop-at.invariant
 
 pub loop-at-preserved : goal.loop-at-preserved
 loop-at-preserved c =
     let less : c.loop-at.at-index < length c.args.self.now.objects.now = search rules in
     let other : (slice_index_or c.args.self.now.objects.now c.loop-at.at-index no_pair).0 ≢ c.args.id = search rules in
-    named_past c.an_object_is_put_in.ensures.elsewhere c.args.self.now.objects.now c.loop-at.at-index c.args.id (named (shelf_objects c.args.self.now) c.args.id) less other c.loop-at.invariant
+    named_past c.object_map_insert.ensures.elsewhere c.args.self.now.objects.now c.loop-at.at-index c.args.id (named (shelf_objects c.args.self.now) c.args.id)
+    less other c.loop-at.invariant

@@ -1,7 +1,9 @@
 use Rattle.gixobj_codec_tests.proofs.trees.offsets.offsets.Goals as goal
 
-pub offset_to_next_entry-requires-in-loop-told : goal.offset_to_next_entry-requires-in-loop-told
-offset_to_next_entry-requires-in-loop-told c = c.bytes_left_end_the_text.ensures.goes_on _ c.loop-told.told c.next.new.self c.next.result c.loop-told.invariant c.next.ensures.steps
+pub offset_to_next_entry-requires-in-loop-seen : goal.offset_to_next_entry-requires-in-loop-seen
+offset_to_next_entry-requires-in-loop-seen c = c.remaining_bytes_are_suffix.ensures.continues _ c.loop-seen.seen c.next.new.self c.next.result
+    c.loop-seen.invariant c.next.ensures.steps
 
-pub loop-told-preserved : goal.loop-told-preserved
-loop-told-preserved c = c.bytes_left_end_the_text.ensures.goes_on _ c.loop-told.told c.next.new.self c.next.result c.loop-told.invariant c.next.ensures.steps
+pub loop-seen-preserved : goal.loop-seen-preserved
+loop-seen-preserved c = c.remaining_bytes_are_suffix.ensures.continues _ c.loop-seen.seen c.next.new.self c.next.result c.loop-seen.invariant
+    c.next.ensures.steps

@@ -1,6 +1,6 @@
-use Rattle.gixobj_codec.specs.EntryGiving.{IsTail, bytes_left}
+use Rattle.gixobj_codec.specs.EntrySteps.{IsTail, remaining_tree_bytes}
 use Rattle.gixobj_codec_tests.proofs.trees.offsets.offsets.Given as goal
 
--- what the reader has left is the end of the text
-abbrev pub invariant-loop-told : goal.invariant-loop-told
-invariant-loop-told l = IsTail l.fn.text (bytes_left l.told)
+-- the remaining bytes of the reader are a suffix of the input
+abbrev pub invariant-loop-seen : goal.invariant-loop-seen
+invariant-loop-seen l = IsTail l.fn.input (remaining_tree_bytes l.seen)

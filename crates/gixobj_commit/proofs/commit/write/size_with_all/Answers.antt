@@ -1,4 +1,4 @@
--- A front of the fields is too long already.
+-- The size overflows if that of a prefix of the fields overflows.
 use Rattle.gixobj_fields.proofs.Joins.{joined_size, joined_too_long}
 use Rattle.gixobj_commit.proofs.commit.write.size_with_all.Goals as goal
 
@@ -9,5 +9,6 @@ returns-in_err-size g c =
 
 pub returns : goal.returns
 returns g c =
-    let size = joined_size g.T.Field.written c.args.fields.now c.loop-field.field-index c.args.size c.loop-field.size c.loop-field-test.false c.loop-field.invariant.0 in
+    let size = joined_size g.T.Field.written c.args.fields.now c.loop-field.field-index c.args.size c.loop-field.size c.loop-field-test.false
+    c.loop-field.invariant.0 in
     (rw (← size) c.loop-field.invariant.1, size)

@@ -1,6 +1,6 @@
 use Rattle.std.proofs.Common.{◌≡◌, ◌≤◌, ◌+◌, length, map}
 use Rattle.std.specs.Iterator.{IsFinite, size}
-use Rattle.gixobj_commit.specs.ExtraHeaders.{LacksHeader, pair_of}
+use Rattle.gixobj_commit.specs.ExtraHeaders.{HasNoHeaderNamed, pair_of}
 use Rattle.gixobj_commit.proofs.extra_headers.ExtraHeaders.find_pos.Given as goal
 
 abbrev pub invariant-loop-key : goal.invariant-loop-key
@@ -9,5 +9,5 @@ invariant-loop-key g l = record {
   ends : IsFinite (g.I.Iterator.remaining l.key-iterator);
   counted : l.place ≡ length l.yielded;
   fits : l.place + size (g.I.Iterator.remaining l.key-iterator) ≤ size (g.I.Iterator.remaining l.fn.self.inner);
-  others : LacksHeader l.name (map pair_of l.yielded);
+  others : HasNoHeaderNamed l.name (map pair_of l.yielded);
 }

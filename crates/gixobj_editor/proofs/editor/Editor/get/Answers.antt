@@ -7,4 +7,6 @@ use Rattle.std.proofs.Common.{sym}
 use Rattle.gixobj_editor.proofs.editor.Editor.get.Goals as goal
 
 pub returns-clause-found : goal.returns-clause-found
-returns-clause-found g c = c.get.ensures ∙ sym (ap (λ s. entry_at (names_of c.args.path.now) (open_dirs s)) (sym c.self.view_is) ∙ ap (entry_at (names_of c.args.path.now)) (same_dirs c.self.inside.root))
+returns-clause-found g c =
+    c.get.ensures ∙ sym (ap (λ s. entry_at (names_of c.args.path.now) (open_dirs s)) (sym c.self.view_is) ∙ ap (entry_at (names_of c.args.path.now))
+    (same_dirs c.self.inside.root))

@@ -1,4 +1,4 @@
--- The directory's own entry, or none where the directory isn't open.
+-- The directory's own entry, or none if the directory isn't open.
 use Rattle.std.proofs.Common.{◌≡◌, ◌∙◌, ap, sym}
 use Rattle.gixobj_directories.specs.Calls.{names_of}
 use Rattle.gixobj_directories.specs.Nested.{dirs_of}
@@ -16,7 +16,8 @@ returns-in_default g c =
     let path = names_of c.args.path.now in
     let owned = sym (same_dirs c.self.inside.root) ∙ ap (λ (o : State g.row.S.Denot). open_dirs o) c.self.view_is in
     let same : prefix ≡ c.args.self.now.prefix = ap names_of c.deref.ensures.value ∙ ap (λ (o : State g.row.S.Denot). o.prefix) c.self.view_is in
-    none_below prefix path (dirs_of c.self.inside.root) (c.in_default.ensures {u = tt}).none ∙ ap (entry_at (from_root prefix path)) owned ∙ ap (λ (p : Path). entry_at (from_root p path) (open_dirs c.args.self.now)) same
+    none_below prefix path (dirs_of c.self.inside.root) (c.in_default.ensures {u = tt}).none ∙ ap (entry_at (from_root prefix path)) owned
+    ∙ ap (λ (p : Path). entry_at (from_root p path) (open_dirs c.args.self.now)) same
 
 pub returns : goal.returns
 returns g c =
@@ -24,5 +25,6 @@ returns g c =
     let path = names_of c.args.path.now in
     let owned = sym (same_dirs c.self.inside.root) ∙ ap (λ (o : State g.row.S.Denot). open_dirs o) c.self.view_is in
     let same : prefix ≡ c.args.self.now.prefix = ap names_of c.deref.ensures.value ∙ ap (λ (o : State g.row.S.Denot). o.prefix) c.self.view_is in
-    c.get.ensures ∙ found_below prefix path (dirs_of c.self.inside.root) (dirs_of c.in-Some.directory.now) (c.in-Some.ensures {u = tt}).found ∙ ap (entry_at (from_root prefix path)) owned
+    c.get.ensures ∙ found_below prefix path (dirs_of c.self.inside.root) (dirs_of c.in-Some.directory.now) (c.in-Some.ensures {u = tt}).found
+    ∙ ap (entry_at (from_root prefix path)) owned
     ∙ ap (λ (p : Path). entry_at (from_root p path) (open_dirs c.args.self.now)) same

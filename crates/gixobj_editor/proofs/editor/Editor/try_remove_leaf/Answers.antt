@@ -1,45 +1,51 @@
--- The directories above the path are opened as far as there are any, and then the entry is taken out.
+-- The directories above the path are opened as far as they exist, and then the leaf is removed: the clauses of
+-- `try_remove_leaf`.
 use Rattle.std.proofs.Common.{◌∙◌, inl, inr, sym, ap, subst}
 use Rattle.gixobj_files.specs.Opening.{Dirs}
 use Rattle.gixobj_files.specs.State.{State, open_dirs}
 use Rattle.gixobj_directories.specs.Calls.{names_of}
 use Rattle.gixobj_directories.specs.Openings.{AreTreesOf}
-use Rattle.gixobj_directories.proofs.Handing.{err_weaker}
+use Rattle.gixobj_directories.proofs.Emitting.{err_weaker}
 use Rattle.gixobj_directories.proofs.NamedTrees.{trees_of}
-use Rattle.gixobj_files.proofs.OwnTrees.{on_err}
-use Rattle.gixobj_editor.specs.Removals.{RefusesDirectoryAt, RefusesLeafRemoval}
+use Rattle.gixobj_files.proofs.WrittenTrees.{on_err}
+use Rattle.gixobj_editor.specs.Removals.{IsLeafDirectoryError, IsLeafRemovalError}
 use Rattle.gixobj_editor.proofs.Edited.{same_dirs, stay_at}
-use Rattle.gixobj_directories.specs.declared.opening.Unasked.TheVariants as unasked
-use Rattle.gixobj_editor.proofs.RemovedAt.{refused_at, removed_at, told_at}
+use Rattle.gixobj_directories.specs.declared.opening.Vacant.TheVariants as vacant
+use Rattle.gixobj_editor.proofs.RemovedAt.{rejected_at, removed_at, known_at}
 use Rattle.gixobj_editor.proofs.StillOn.{in_part_on, opened_on, taken_on}
 use Rattle.gixobj_editor.specs.Upserts.{directory_of}
 use Rattle.gixobj_editor.proofs.editor.Editor.try_remove_leaf.Goals as goal
 
-pub returns-in_err-open_for_removal-clause-refused : goal.returns-in_err-open_for_removal-clause-refused
-returns-in_err-open_for_removal-clause-refused g c =
+pub returns-in_err-open_for_removal-clause-after_error : goal.returns-in_err-open_for_removal-clause-after_error
+returns-in_err-open_for_removal-clause-after_error g c =
     on_err c.from_residual.result _ (λ trees fits.
     let s = c.self.inside in
     let stored = ap (λ (o : State _). o.store) c.self.view_is in
-    let bad = (c.in_err-open_for_removal.ensures {u = tt}).refused trees (subst (λ o. AreTreesOf (g.S.Store.objects o) trees) (sym stored) fits) in
-    stay_at s.store s.object_hash (names_of s.prefix.items) trees unasked.Left s.root c.open_for_removal.new.root s.lookups c.open_for_removal.new.lookups c.args.self.now c.self.view_is (names_of c.args.path.now) bad.0 c.self.invariant c.open_for_removal.ensures.bases)
+    let bad = (c.in_err-open_for_removal.ensures {u = tt}).after_error trees (subst (λ o. AreTreesOf (g.S.Store.objects o) trees) (sym stored) fits) in
+    stay_at s.store s.object_hash (names_of s.prefix.items) trees vacant.Unopened s.root c.open_for_removal.new.root s.lookups c.open_for_removal.new.lookups
+    c.args.self.now c.self.view_is (names_of c.args.path.now) bad.0 c.self.invariant c.open_for_removal.ensures.bases)
 
-pub returns-in_err-open_for_removal-clause-refusal : goal.returns-in_err-open_for_removal-clause-refusal
-returns-in_err-open_for_removal-clause-refusal g c =
+pub returns-in_err-open_for_removal-clause-error : goal.returns-in_err-open_for_removal-clause-error
+returns-in_err-open_for_removal-clause-error g c =
     err_weaker c.from_residual.result _ _ c.from_residual.ensures.1 (λ error is trees fits.
     let s = c.self.inside in
     let stored = ap (λ (o : State _). o.store) c.self.view_is in
     let path = names_of c.args.path.now in
-    let bad = (c.in_err-open_for_removal.ensures {u = tt}).refused trees (subst (λ o. AreTreesOf (g.S.Store.objects o) trees) (sym stored) fits) in
-    let whole = subst (λ (d : Dirs). RefusesLeafRemoval (g.S.Store.objects s.store) (g.S.Store.may_fail s.store) trees d path c.in_err-open_for_removal.field-0.0) (sym (same_dirs s.root)) (inl bad.1) in
-    subst (RefusesLeafRemoval (g.S.Store.objects c.args.self.now.store) (g.S.Store.may_fail c.args.self.now.store) trees (open_dirs c.args.self.now) path) (sym is)
-    (subst (λ (o : State _). RefusesLeafRemoval (g.S.Store.objects o.store) (g.S.Store.may_fail o.store) trees (open_dirs o) path c.in_err-open_for_removal.field-0.0) c.self.view_is whole))
+    let bad = (c.in_err-open_for_removal.ensures {u = tt}).after_error trees (subst (λ o. AreTreesOf (g.S.Store.objects o) trees) (sym stored) fits) in
+    let entire = subst (λ (d : Dirs). IsLeafRemovalError (g.S.Store.objects s.store)
+    (g.S.Store.may_fail s.store) trees d path c.in_err-open_for_removal.field-0.0) (sym (same_dirs s.root)) (inl bad.1) in
+    subst (IsLeafRemovalError (g.S.Store.objects c.args.self.now.store) (g.S.Store.may_fail c.args.self.now.store) trees (open_dirs c.args.self.now) path)
+    (sym is)
+    (subst (λ (o : State _). IsLeafRemovalError (g.S.Store.objects o.store) (g.S.Store.may_fail o.store) trees
+    (open_dirs o) path c.in_err-open_for_removal.field-0.0) c.self.view_is entire))
 
 pub invariant_of-self : goal.invariant_of-self
 invariant_of-self g c =
     let s = c.self.inside in
     let named = trees_of (g.S.Store.objects s.store) in
-    let bad = (c.in_err-open_for_removal.ensures {u = tt}).refused named.0 named.1 in
-    in_part_on named.0 s.root c.open_for_removal.new.root c.open_for_removal.ensures.bases c.self.invariant (names_of c.args.path.now) s.lookups c.open_for_removal.new.lookups bad.0
+    let bad = (c.in_err-open_for_removal.ensures {u = tt}).after_error named.0 named.1 in
+    in_part_on named.0 s.root c.open_for_removal.new.root c.open_for_removal.ensures.bases c.self.invariant
+    (names_of c.args.path.now) s.lookups c.open_for_removal.new.lookups bad.0
 
 pub invariant_of-self-in_err-check_leaf : goal.invariant_of-self-in_err-check_leaf
 invariant_of-self-in_err-check_leaf g c =
@@ -54,35 +60,41 @@ invariant_of-self-2 g c =
     let path = names_of c.args.path.now in
     let named = trees_of (g.S.Store.objects s.store) in
     let ok = (c.in_ok-open_for_removal.ensures {u = tt}).opened named.0 named.1 in
-    taken_on named.0 s.root c.open_for_removal.new.root c.open_for_removal.ensures.bases c.self.invariant c.take.new.self c.take.ensures.bases (directory_of path) path ok.0 ok.1 c.take.ensures.dirs
+    taken_on named.0 s.root c.open_for_removal.new.root c.open_for_removal.ensures.bases c.self.invariant c.take.new.self c.take.ensures.bases
+    (directory_of path) path ok.0 ok.1 c.take.ensures.dirs
 
-pub returns-in_err-check_leaf-clause-refused : goal.returns-in_err-check_leaf-clause-refused
-returns-in_err-check_leaf-clause-refused g c =
+pub returns-in_err-check_leaf-clause-after_error : goal.returns-in_err-check_leaf-clause-after_error
+returns-in_err-check_leaf-clause-after_error g c =
     on_err c.from_residual-in_err-check_leaf.result _ (λ trees fits.
     let s = c.self.inside in
     let stored = ap (λ (o : State _). o.store) c.self.view_is in
     let ok = (c.in_ok-open_for_removal.ensures {u = tt}).opened trees (subst (λ o. AreTreesOf (g.S.Store.objects o) trees) (sym stored) fits) in
-    refused_at s.store s.object_hash (names_of s.prefix.items) trees unasked.Left s.root c.open_for_removal.new.root s.lookups c.open_for_removal.new.lookups c.args.self.now c.self.view_is (names_of c.args.path.now) ok.0 (ok.1, ok.3) ok.2 c.self.invariant c.open_for_removal.ensures.bases)
+    rejected_at s.store s.object_hash (names_of s.prefix.items) trees vacant.Unopened s.root c.open_for_removal.new.root s.lookups
+    c.open_for_removal.new.lookups c.args.self.now c.self.view_is (names_of c.args.path.now) ok.0
+    (ok.1, ok.3) ok.2 c.self.invariant c.open_for_removal.ensures.bases)
 
-pub returns-in_err-check_leaf-clause-refusal : goal.returns-in_err-check_leaf-clause-refusal
-returns-in_err-check_leaf-clause-refusal g c =
+pub returns-in_err-check_leaf-clause-error : goal.returns-in_err-check_leaf-clause-error
+returns-in_err-check_leaf-clause-error g c =
     err_weaker c.from_residual-in_err-check_leaf.result _ _ c.from_residual-in_err-check_leaf.ensures.1 (λ error is trees fits.
     let s = c.self.inside in
     let path = names_of c.args.path.now in
     let stored = ap (λ (o : State _). o.store) c.self.view_is in
     let ok = (c.in_ok-open_for_removal.ensures {u = tt}).opened trees (subst (λ o. AreTreesOf (g.S.Store.objects o) trees) (sym stored) fits) in
-    let bad = (c.in_err-check_leaf.ensures {u = tt}).refusal in
-    let told = told_at s.store s.object_hash (names_of s.prefix.items) trees unasked.Left s.root c.open_for_removal.new.root s.lookups c.args.self.now c.self.view_is path ok.0 (ok.1, ok.3) in
-    inr ((bad.0, sym told ∙ bad.1, bad.2), subst (RefusesDirectoryAt path) (sym is) bad.3))
+    let bad = (c.in_err-check_leaf.ensures {u = tt}).error in
+    let seen = known_at s.store s.object_hash (names_of s.prefix.items) trees vacant.Unopened s.root c.open_for_removal.new.root s.lookups c.args.self.now
+    c.self.view_is path ok.0 (ok.1, ok.3) in
+    inr ((bad.0, sym seen ∙ bad.1, bad.2), subst (IsLeafDirectoryError path) (sym is) bad.3))
 
 pub returns-clause-removed : goal.returns-clause-removed
 returns-clause-removed g c = λ trees fits.
     let s = c.self.inside in
     let stored = ap (λ (o : State _). o.store) c.self.view_is in
     let ok = (c.in_ok-open_for_removal.ensures {u = tt}).opened trees (subst (λ o. AreTreesOf (g.S.Store.objects o) trees) (sym stored) fits) in
-    let told = told_at s.store s.object_hash (names_of s.prefix.items) trees unasked.Left s.root c.open_for_removal.new.root s.lookups c.args.self.now c.self.view_is (names_of c.args.path.now) ok.0 (ok.1, ok.3) in
+    let seen = known_at s.store s.object_hash (names_of s.prefix.items) trees vacant.Unopened s.root c.open_for_removal.new.root s.lookups c.args.self.now
+    c.self.view_is (names_of c.args.path.now) ok.0 (ok.1, ok.3) in
     record {
-      removed = removed_at s.store s.object_hash (names_of s.prefix.items) trees unasked.Left s.root c.open_for_removal.new.root c.take.new.self s.lookups c.open_for_removal.new.lookups c.args.self.now c.self.view_is (names_of c.args.path.now) ok.0 (ok.1, ok.3) ok.2 c.take.ensures.dirs c.self.invariant
+      removed = removed_at s.store s.object_hash (names_of s.prefix.items) trees vacant.Unopened s.root c.open_for_removal.new.root c.take.new.self s.lookups
+          c.open_for_removal.new.lookups c.args.self.now c.self.view_is (names_of c.args.path.now) ok.0 (ok.1, ok.3) ok.2 c.take.ensures.dirs c.self.invariant
           c.open_for_removal.ensures.bases c.take.ensures.bases;
-      leaf = λ e is. (c.in_ok-check_leaf.ensures {u = tt}).accepted e (told ∙ is);
+      leaf = λ e is. (c.in_ok-check_leaf.ensures {u = tt}).accepted e (seen ∙ is);
     }

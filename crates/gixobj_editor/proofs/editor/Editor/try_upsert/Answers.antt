@@ -1,4 +1,4 @@
--- The directories above the path are opened, and then the entry is put in.
+-- The directories above the path are opened, and then the entry is inserted: the clauses of `try_upsert`.
 use Rattle.std.proofs.Common.{◌≡◌, ◌∙◌, sym, ap, subst}
 use Rattle.std.proofs.lemmas.List.Elements.{recursion_from_All}
 use Rattle.bstr.specs.Owned.{bstring_bytes}
@@ -8,78 +8,100 @@ use Rattle.gixobj_files.specs.Edits.{IsNoTree, Opens, upserted_dirs}
 use Rattle.gixobj_files.specs.State.{State, open_dirs}
 use Rattle.gixobj_directories.specs.Calls.{names_of}
 use Rattle.gixobj_directories.specs.Nested.{Opened, dirs_of}
-use Rattle.gixobj_directories.specs.Openings.{AreTreesOf, RefusesAt}
-use Rattle.gixobj_directories.proofs.Handing.{err_weaker}
+use Rattle.gixobj_directories.specs.Openings.{AreTreesOf, IsOpenErrorAt}
+use Rattle.gixobj_directories.proofs.Emitting.{err_weaker}
 use Rattle.gixobj_directories.proofs.OpeningSteps.{names_none}
-use Rattle.gixobj_files.proofs.OwnTrees.{on_err}
-use Rattle.gixobj_editor.specs.Upserts.{RefusesUpsert}
-use Rattle.gixobj_editor.proofs.Edited.{OpenedOn, OpenedSo, idle_at, halted_so, name_refused, nothing_upserted, opened_as, opened_so, refuses, unchanged_at, upserted_at}
-use Rattle.gixobj_directories.specs.declared.opening.Unasked.TheVariants as unasked
+use Rattle.gixobj_files.proofs.WrittenTrees.{on_err}
+use Rattle.gixobj_editor.specs.Upserts.{IsUpsertError}
+use Rattle.gixobj_editor.proofs.Edited.{OpenedOn, OpenedSo, idle_at, halted_so, name_rejected, nothing_upserted, opened_as, opened_so, fails, unchanged_at, upserted_at}
+use Rattle.gixobj_directories.specs.declared.opening.Vacant.TheVariants as vacant
 use Rattle.gixobj_directories.proofs.NamedTrees.{trees_of}
 use Rattle.gixobj_editor.proofs.Paths.{names_last}
-use Rattle.gixobj_editor.proofs.StillOn.{halted_on, opened_on, put_on}
+use Rattle.gixobj_editor.proofs.StillOn.{halted_on, opened_on, inserted_on}
 use Rattle.gixobj_editor.proofs.editor.Editor.try_upsert.Goals as goal
 
-pub returns-in_err-check_names-clause-refusal : goal.returns-in_err-check_names-clause-refusal
-returns-in_err-check_names-clause-refusal g c = err_weaker c.from_residual.result _ _ c.from_residual.ensures.1 (λ error is trees fits.
-    subst (RefusesUpsert (g.S.Store.objects c.args.self.now.store) (g.S.Store.may_fail c.args.self.now.store) trees (open_dirs c.args.self.now) (names_of c.args.path.now)) (sym is)
-    (name_refused (g.S.Store.objects c.args.self.now.store) (g.S.Store.may_fail c.args.self.now.store) trees (open_dirs c.args.self.now) (names_of c.args.path.now) c.in_err-check_names.field-0.0 (c.in_err-check_names.ensures {u = tt}).refusal))
+pub returns-in_err-check_names-clause-error : goal.returns-in_err-check_names-clause-error
+returns-in_err-check_names-clause-error g c = err_weaker c.from_residual.result _ _ c.from_residual.ensures.1 (λ error is trees fits.
+    subst (IsUpsertError (g.S.Store.objects c.args.self.now.store) (g.S.Store.may_fail c.args.self.now.store) trees (open_dirs c.args.self.now)
+    (names_of c.args.path.now)) (sym is)
+    (name_rejected (g.S.Store.objects c.args.self.now.store) (g.S.Store.may_fail c.args.self.now.store) trees (open_dirs c.args.self.now)
+    (names_of c.args.path.now) c.in_err-check_names.field-0.0 (c.in_err-check_names.ensures {u = tt}).error))
 
-pub returns-in_err-check_names-clause-refused : goal.returns-in_err-check_names-clause-refused
-returns-in_err-check_names-clause-refused g c =
-    on_err c.from_residual.result _ (λ trees fits. unchanged_at c.self.inside.store c.self.inside.object_hash (names_of c.self.inside.prefix.items) trees c.self.inside.root c.self.inside.lookups c.args.self.now c.self.view_is (names_of c.args.path.now) c.self.invariant)
+pub returns-in_err-check_names-clause-after_error : goal.returns-in_err-check_names-clause-after_error
+returns-in_err-check_names-clause-after_error g c =
+    on_err c.from_residual.result _
+    (λ trees fits. unchanged_at c.self.inside.store c.self.inside.object_hash (names_of c.self.inside.prefix.items) trees c.self.inside.root
+    c.self.inside.lookups c.args.self.now c.self.view_is (names_of c.args.path.now) c.self.invariant)
 
 pub returns-in_default-clause-upserted : goal.returns-in_default-clause-upserted
-returns-in_default-clause-upserted g c = λ trees fits. nothing_upserted trees c.args.self.now (names_of c.args.path.now) (names_none c.args.path.now c.in_default.ensures.cases) (mode_of_kind c.args.kind) c.args.id (opened_as c.self.inside.store c.self.inside.object_hash (names_of c.self.inside.prefix.items) c.self.inside.root c.self.inside.lookups c.args.self.now c.self.view_is c.self.invariant.opened) (idle_at c.self.inside.store c.self.inside.object_hash (names_of c.self.inside.prefix.items) c.self.inside.root c.self.inside.lookups c.args.self.now c.self.view_is)
+returns-in_default-clause-upserted g c = λ trees fits. nothing_upserted trees c.args.self.now (names_of c.args.path.now)
+    (names_none c.args.path.now c.in_default.ensures.cases) (mode_of_kind c.args.kind) c.args.id
+    (opened_as c.self.inside.store c.self.inside.object_hash (names_of c.self.inside.prefix.items) c.self.inside.root c.self.inside.lookups
+    c.args.self.now
+    c.self.view_is c.self.invariant.opened)
+    (idle_at c.self.inside.store c.self.inside.object_hash (names_of c.self.inside.prefix.items) c.self.inside.root c.self.inside.lookups
+    c.args.self.now
+    c.self.view_is)
 
-pub returns-in_err-open_along-clause-refused : goal.returns-in_err-open_along-clause-refused
-returns-in_err-open_along-clause-refused g c =
+pub returns-in_err-open_along-clause-after_error : goal.returns-in_err-open_along-clause-after_error
+returns-in_err-open_along-clause-after_error g c =
     on_err c.from_residual-in_err-open_along.result _ (λ trees fits.
     let s = c.self.inside in
     let is = names_last c.args.path.now c.in-Some.directory.now c.in-Some._last.now c.in-Some.ensures.cases.0 in
     let stored = ap (λ (o : State _). o.store) c.self.view_is in
-    let bad = (c.in_err-open_along.ensures {u = tt}).halted trees (subst (λ o. AreTreesOf (g.S.Store.objects o) trees) (sym stored) fits) in
-    halted_so s.store s.object_hash (names_of s.prefix.items) trees s.root c.open_along.new.self s.lookups c.open_along.new.lookups c.args.self.now c.self.view_is (names_of c.args.path.now) (names_of c.in-Some.directory.now) (bstring_bytes c.in-Some._last.now) is bad.0 bad.1 bad.2 bad.3 c.self.invariant c.open_along.ensures.bases)
+    let bad = (c.in_err-open_along.ensures {u = tt}).stopped_opening trees (subst (λ o. AreTreesOf (g.S.Store.objects o) trees) (sym stored) fits) in
+    halted_so s.store s.object_hash (names_of s.prefix.items) trees s.root c.open_along.new.self s.lookups c.open_along.new.lookups c.args.self.now
+    c.self.view_is (names_of c.args.path.now) (names_of c.in-Some.directory.now) (bstring_bytes c.in-Some._last.now) is bad.0 bad.1 bad.2 bad.3
+    c.self.invariant c.open_along.ensures.bases)
 
-pub returns-in_err-open_along-clause-refusal : goal.returns-in_err-open_along-clause-refusal
-returns-in_err-open_along-clause-refusal g c =
+pub returns-in_err-open_along-clause-error : goal.returns-in_err-open_along-clause-error
+returns-in_err-open_along-clause-error g c =
     err_weaker c.from_residual-in_err-open_along.result _ _ c.from_residual-in_err-open_along.ensures.1 (λ error gives trees fits.
     let s = c.self.inside in
     let is = names_last c.args.path.now c.in-Some.directory.now c.in-Some._last.now c.in-Some.ensures.cases.0 in
     let stored = ap (λ (o : State _). o.store) c.self.view_is in
-    let bad = (c.in_err-open_along.ensures {u = tt}).halted trees (subst (λ o. AreTreesOf (g.S.Store.objects o) trees) (sym stored) fits) in
-    subst (RefusesUpsert (g.S.Store.objects c.args.self.now.store) (g.S.Store.may_fail c.args.self.now.store) trees (open_dirs c.args.self.now) (names_of c.args.path.now)) (sym gives)
-    (refuses s.store s.object_hash (names_of s.prefix.items) trees (g.S.Store.objects c.args.self.now.store) (g.S.Store.may_fail c.args.self.now.store) s.root c.open_along.new.self s.lookups c.args.self.now c.self.view_is (names_of c.args.path.now) (names_of c.in-Some.directory.now) (bstring_bytes c.in-Some._last.now)
-    is (c.in_ok-check_names.ensures {u = tt}).accepted bad.0 bad.1 bad.2 c.in_err-open_along.field-0.0 (subst (λ o. RefusesAt (g.S.Store.objects o) (g.S.Store.may_fail o) bad.1 c.in_err-open_along.field-0.0) stored bad.4)))
+    let bad = (c.in_err-open_along.ensures {u = tt}).stopped_opening trees (subst (λ o. AreTreesOf (g.S.Store.objects o) trees) (sym stored) fits) in
+    subst (IsUpsertError (g.S.Store.objects c.args.self.now.store) (g.S.Store.may_fail c.args.self.now.store) trees (open_dirs c.args.self.now)
+    (names_of c.args.path.now)) (sym gives)
+    (fails s.store s.object_hash (names_of s.prefix.items) trees (g.S.Store.objects c.args.self.now.store)
+    (g.S.Store.may_fail c.args.self.now.store) s.root
+    c.open_along.new.self s.lookups c.args.self.now c.self.view_is (names_of c.args.path.now) (names_of c.in-Some.directory.now)
+    (bstring_bytes c.in-Some._last.now)
+    is (c.in_ok-check_names.ensures {u = tt}).accepted bad.0 bad.1 bad.2 c.in_err-open_along.field-0.0
+    (subst (λ o. IsOpenErrorAt (g.S.Store.objects o) (g.S.Store.may_fail o) bad.1 c.in_err-open_along.field-0.0) stored bad.4)))
 
-pub put-requires : goal.put-requires
-put-requires g c = recursion_from_All IsEntryName (names_of c.args.path.now) (c.in_ok-check_names.ensures {u = tt}).accepted
+pub insert_entry-requires : goal.insert_entry-requires
+insert_entry-requires g c = recursion_from_All IsEntryName (names_of c.args.path.now) (c.in_ok-check_names.ensures {u = tt}).accepted
 
-pub returns-in_err-put-clause-refused : goal.returns-in_err-put-clause-refused
-returns-in_err-put-clause-refused g c =
-    on_err c.from_residual-in_err-put.result _ (λ trees fits.
+pub returns-in_err-insert_entry-clause-after_error : goal.returns-in_err-insert_entry-clause-after_error
+returns-in_err-insert_entry-clause-after_error g c =
+    on_err c.from_residual-in_err-insert_entry.result _ (λ trees fits.
     let s = c.self.inside in
     let is = names_last c.args.path.now c.in-Some.directory.now c.in-Some._last.now c.in-Some.ensures.cases.0 in
     let stored = ap (λ (o : State _). o.store) c.self.view_is in
     let ok = (c.in_ok-open_along.ensures {u = tt}).opened trees (subst (λ o. AreTreesOf (g.S.Store.objects o) trees) (sym stored) fits) in
-    let same : c.put.new.self ≡ c.open_along.new.self = (c.in_err-put.ensures {u = tt}).unchanged in
-    opened_so s.store s.object_hash (names_of s.prefix.items) trees unasked.Opened s.root c.put.new.self s.lookups c.open_along.new.lookups c.args.self.now c.self.view_is (names_of c.args.path.now) (names_of c.in-Some.directory.now) (bstring_bytes c.in-Some._last.now) is ok.0
-    (subst (λ (ds : Opened). Opens IsNoTree trees (names_of c.in-Some.directory.now) (dirs_of s.root) (dirs_of ds) ok.0) (sym same) ok.1) ok.2 c.self.invariant (subst (λ (ds : Opened). OpenedSo s.root ds) (sym same) c.open_along.ensures.bases))
+    let same : c.insert_entry.new.self ≡ c.open_along.new.self = (c.in_err-insert_entry.ensures {u = tt}).unchanged in
+    opened_so s.store s.object_hash (names_of s.prefix.items) trees vacant.Opened s.root c.insert_entry.new.self s.lookups c.open_along.new.lookups
+    c.args.self.now c.self.view_is (names_of c.args.path.now) (names_of c.in-Some.directory.now) (bstring_bytes c.in-Some._last.now) is ok.0
+    (subst (λ (ds : Opened). Opens IsNoTree trees (names_of c.in-Some.directory.now) (dirs_of s.root) (dirs_of ds) ok.0) (sym same) ok.1) ok.2
+    c.self.invariant
+    (subst (λ (ds : Opened). OpenedSo s.root ds) (sym same) c.open_along.ensures.bases))
 
 pub invariant_of-self : goal.invariant_of-self
 invariant_of-self g c =
     let s = c.self.inside in
     let named = trees_of (g.S.Store.objects s.store) in
-    let bad = (c.in_err-open_along.ensures {u = tt}).halted named.0 named.1 in
+    let bad = (c.in_err-open_along.ensures {u = tt}).stopped_opening named.0 named.1 in
     halted_on named.0 s.root c.open_along.new.self c.open_along.ensures.bases c.self.invariant (names_of c.in-Some.directory.now) bad.0 bad.1 bad.2
 
-pub invariant_of-self-in_err-put : goal.invariant_of-self-in_err-put
-invariant_of-self-in_err-put g c =
+pub invariant_of-self-in_err-insert_entry : goal.invariant_of-self-in_err-insert_entry
+invariant_of-self-in_err-insert_entry g c =
     let s = c.self.inside in
     let named = trees_of (g.S.Store.objects s.store) in
     let ok = (c.in_ok-open_along.ensures {u = tt}).opened named.0 named.1 in
-    let same : c.put.new.self ≡ c.open_along.new.self = (c.in_err-put.ensures {u = tt}).unchanged in
-    subst OpenedOn (sym same) (opened_on named.0 s.root c.open_along.new.self c.open_along.ensures.bases c.self.invariant (names_of c.in-Some.directory.now) ok.0 ok.1)
+    let same : c.insert_entry.new.self ≡ c.open_along.new.self = (c.in_err-insert_entry.ensures {u = tt}).unchanged in
+    subst OpenedOn (sym same) (opened_on named.0 s.root c.open_along.new.self c.open_along.ensures.bases c.self.invariant
+    (names_of c.in-Some.directory.now) ok.0 ok.1)
 
 pub invariant_of-self-2 : goal.invariant_of-self-2
 invariant_of-self-2 g c =
@@ -88,10 +110,14 @@ invariant_of-self-2 g c =
     let is = names_last c.args.path.now c.in-Some.directory.now c.in-Some._last.now c.in-Some.ensures.cases.0 in
     let named = trees_of (g.S.Store.objects s.store) in
     let ok = (c.in_ok-open_along.ensures {u = tt}).opened named.0 named.1 in
-    put_on named.0 s.root c.open_along.new.self c.open_along.ensures.bases c.self.invariant c.put.new.self (c.in_ok-put.ensures {u = tt}).bases
-    s.object_hash path (names_of c.in-Some.directory.now) (bstring_bytes c.in-Some._last.now) is (c.in_ok-check_names.ensures {u = tt}).accepted (mode_of_kind c.args.kind) c.args.id ok.0 ok.1
-    (λ at. (c.in_ok-put.ensures {u = tt}).ok at ∙ ap (λ mode. upserted_dirs (names_of c.args.path.now) mode c.args.id c.null-null.result (dirs_of c.open_along.new.self) at) c.into.ensures
-    ∙ ap (λ null. upserted_dirs (names_of c.args.path.now) (mode_of_kind c.args.kind) c.args.id null (dirs_of c.open_along.new.self) at) c.null-null.ensures.value)
+    inserted_on named.0 s.root c.open_along.new.self c.open_along.ensures.bases c.self.invariant c.insert_entry.new.self
+    (c.in_ok-insert_entry.ensures {u = tt}).bases
+    s.object_hash path (names_of c.in-Some.directory.now) (bstring_bytes c.in-Some._last.now) is (c.in_ok-check_names.ensures {u = tt}).accepted
+    (mode_of_kind c.args.kind) c.args.id ok.0 ok.1
+    (λ at. (c.in_ok-insert_entry.ensures {u = tt}).ok at
+    ∙ ap (λ mode. upserted_dirs (names_of c.args.path.now) mode c.args.id c.null-null.result (dirs_of c.open_along.new.self) at) c.into.ensures
+    ∙ ap (λ null. upserted_dirs (names_of c.args.path.now) (mode_of_kind c.args.kind) c.args.id null (dirs_of c.open_along.new.self) at)
+    c.null-null.ensures.value)
 
 pub returns-clause-upserted : goal.returns-clause-upserted
 returns-clause-upserted g c = λ trees fits.
@@ -99,7 +125,11 @@ returns-clause-upserted g c = λ trees fits.
     let is = names_last c.args.path.now c.in-Some.directory.now c.in-Some._last.now c.in-Some.ensures.cases.0 in
     let stored = ap (λ (o : State _). o.store) c.self.view_is in
     let ok = (c.in_ok-open_along.ensures {u = tt}).opened trees (subst (λ o. AreTreesOf (g.S.Store.objects o) trees) (sym stored) fits) in
-    upserted_at s.store s.object_hash (names_of s.prefix.items) trees s.root c.open_along.new.self c.put.new.self s.lookups c.open_along.new.lookups c.args.self.now c.self.view_is (names_of c.args.path.now) (names_of c.in-Some.directory.now) (bstring_bytes c.in-Some._last.now)
+    upserted_at s.store s.object_hash (names_of s.prefix.items) trees s.root c.open_along.new.self c.insert_entry.new.self s.lookups
+    c.open_along.new.lookups
+    c.args.self.now c.self.view_is (names_of c.args.path.now) (names_of c.in-Some.directory.now) (bstring_bytes c.in-Some._last.now)
     (mode_of_kind c.args.kind) c.args.id ok.0 is (c.in_ok-check_names.ensures {u = tt}).accepted ok.1
-    (λ at. (c.in_ok-put.ensures {u = tt}).ok at ∙ ap (λ mode. upserted_dirs (names_of c.args.path.now) mode c.args.id c.null-null.result (dirs_of c.open_along.new.self) at) c.into.ensures
-    ∙ ap (λ null. upserted_dirs (names_of c.args.path.now) (mode_of_kind c.args.kind) c.args.id null (dirs_of c.open_along.new.self) at) c.null-null.ensures.value) ok.2 c.self.invariant c.open_along.ensures.bases (c.in_ok-put.ensures {u = tt}).bases
+    (λ at. (c.in_ok-insert_entry.ensures {u = tt}).ok at
+    ∙ ap (λ mode. upserted_dirs (names_of c.args.path.now) mode c.args.id c.null-null.result (dirs_of c.open_along.new.self) at) c.into.ensures
+    ∙ ap (λ null. upserted_dirs (names_of c.args.path.now) (mode_of_kind c.args.kind) c.args.id null (dirs_of c.open_along.new.self) at)
+    c.null-null.ensures.value) ok.2 c.self.invariant c.open_along.ensures.bases (c.in_ok-insert_entry.ensures {u = tt}).bases

@@ -4,5 +4,5 @@ use Rattle.gixobj_editor.proofs.editor.Editor.write.Goals as goal
 pub returns-clause-written : goal.returns-clause-written
 returns-clause-written g c = IfOk-weaker c.try_write.result _ _ (λ it went. (c.try_write.new.out, went)) c.try_write.ensures.written
 
-pub returns-clause-stopped : goal.returns-clause-stopped
-returns-clause-stopped g c = MatchResult-weaker c.try_write.result c.try_write.ensures.stopped (λ _ u. u) (λ error halt. (c.try_write.new.out, halt))
+pub returns-clause-error : goal.returns-clause-error
+returns-clause-error g c = MatchResult-weaker c.try_write.result c.try_write.ensures.error (λ _ u. u) (λ error halt. (c.try_write.new.out, halt))

@@ -7,4 +7,5 @@ use Rattle.gixobj_editor.proofs.editor.names.above.Goals as goal
 
 pub returns-in-Some : goal.returns-in-Some
 returns-in-Some c =
-    sym (ap directory_of (names_last c.args.path.now c.in-Some.directory.now c.in-Some._last.now c.in-Some.ensures.cases.0) ∙ directory_is (names_of c.in-Some.directory.now) (bstring_bytes c.in-Some._last.now))
+    sym (ap directory_of (names_last c.args.path.now c.in-Some.directory.now c.in-Some._last.now c.in-Some.ensures.cases.0)
+    ∙ directory_is (names_of c.in-Some.directory.now) (bstring_bytes c.in-Some._last.now))

@@ -2,7 +2,7 @@ use Rattle.std.proofs.Common.{◌≡◌}
 use Rattle.std.specs.Io.KnownBytes.{Keeps}
 use Rattle.gixobj_fields.proofs.streams.FromReadSource.read_some.Given as goal
 
--- what is left is left as it was, behind the same loan
+-- the remaining bytes and the loan are unchanged
 abbrev pub invariant-loop : goal.invariant-loop
 invariant-loop g l =
     record {

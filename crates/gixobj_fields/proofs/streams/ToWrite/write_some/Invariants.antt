@@ -2,7 +2,7 @@ use Rattle.std.proofs.Common.{◌≡◌}
 use Rattle.std.specs.Io.KnownBytes.{Keeps}
 use Rattle.gixobj_fields.proofs.streams.ToWrite.write_some.Given as goal
 
--- what is held stays as it was, behind the same loan
+-- the written bytes and the loan are unchanged
 abbrev pub invariant-loop : goal.invariant-loop
 invariant-loop g l =
     record {

@@ -1,6 +1,7 @@
-use Rattle.gixobj_find.proofs.Objects.{put_commit}
+use Rattle.gixobj_find.proofs.Objects.{inserted_commit}
 use Rattle.gixobj_find.proofs.memory.MemoryKeepCommit.keep_commit.Goals as goal
 
-pub returns-clause-kept : goal.returns-clause-kept
-returns-clause-kept c =
-    put_commit c.args.self.now (record { alloc = c.args.self.now.alloc; objects = c.insert.new.self }) c.args.id c.kind.result c.in_ok-from_slice.field-0 c.args.bytes.now c.kind.ensures c.in_ok-from_slice.ensures.items c.in_ok-insert.ensures.updates
+pub returns-clause-stored : goal.returns-clause-stored
+returns-clause-stored c =
+    inserted_commit c.args.self.now (record { alloc = c.args.self.now.alloc; objects = c.insert.new.self }) c.args.id c.kind.result c.in_ok-from_slice.field-0
+    c.args.bytes.now c.kind.ensures c.in_ok-from_slice.ensures.items c.in_ok-insert.ensures.updates

@@ -1,4 +1,4 @@
--- The bytes so far, and what is left of the text.
+-- Decoding all digits yields the decoded bytes and then those of the remaining digits.
 use Rattle.std.proofs.Common.{◌≡◌, ◌*◌, length, take, drop}
 use Rattle.hex.specs.Hex.{decode_pairs}
 use Rattle.hex.proofs.Pairs.{prepend}

@@ -1,4 +1,4 @@
--- A word is that of one kind at most.
+-- A name is that of at most one kind.
 use Rattle.std.proofs.Common.{ap, sym, ◌∙◌}
 use Rattle.std.specs.Prelude.{Ok}
 use Rattle.gixobj_hash.proofs.Headers.{one_kind}

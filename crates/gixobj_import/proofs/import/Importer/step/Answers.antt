@@ -1,19 +1,21 @@
+-- Each way through `step` meets its contract, from the write of its edits and its commit: for `import_all`, by that
+-- contract alone.
 use Rattle.std.proofs.Common.{ap, inl, inr, refl, subst, sym, Bool, List, Some, false, true}
 use Rattle.std.specs.Prelude.{Contains}
 use Rattle.gixobj_editor.specs.declared.command.Edit.{Edit}
 use Rattle.gixobj_editor.specs.declared.command.Edit.TheVariants as edit
 use Rattle.gixobj_editor.specs.declared.reply.EditReply.TheVariants as reply
-use Rattle.gixobj_import.specs.Edited.{IsWriteBehind}
-use Rattle.gixobj_import.specs.Steps.{IsImported, RefusesEdits}
+use Rattle.gixobj_import.specs.Edited.{IsWriteAfter}
+use Rattle.gixobj_import.specs.Steps.{IsImported, IsStepEditsError}
 use Rattle.gixobj_import.specs.declared.import.Imported.{Imported}
 use Rattle.gixobj_import.specs.declared.import.Importer.{Importer}
-use Rattle.gixobj_import.proofs.Adding.{refused_adds, step_adds}
+use Rattle.gixobj_import.proofs.Adding.{rejected_adds, step_adds}
 use Rattle.gixobj_import.proofs.Digests.{adds_none}
 use Rattle.gixobj_import.proofs.Filing.{step_bases, step_files}
 use Rattle.gixobj_import.proofs.Known.{OfStores}
-use Rattle.gixobj_import.proofs.Stepping.{free_of, has_a_write, refuses_step}
+use Rattle.gixobj_import.proofs.Stepping.{free_of, has_a_write, rejects_step}
 use Rattle.gixobj_import.proofs.import.Importer.step.Goals as goal
-use Rattle.gixobj_object.specs.Stores.{meaning}
+use Rattle.gixobj_object.specs.Stores.{store_model}
 
 pub write_edits-requires : goal.write_edits-requires
 write_edits-requires g c = record {
@@ -24,17 +26,17 @@ write_edits-requires g c = record {
 
 pub returns-then-self : goal.returns-then-self
 returns-then-self g c =
-    let means = meaning g.S.Store.objects g.S.Store.may_fail in
+    let means = store_model g.S.Store.objects g.S.Store.may_fail in
     let objects = means.objects c.args.self.now.editor.store in
-    record { imported = tt; refused = (c.if-self.true, refl); adds = adds_none objects objects refl; files = tt; bases = tt }
+    record { imported = tt; after_error = (c.if-self.true, refl); adds = adds_none objects objects refl; files = tt; bases = tt }
 
 pub returns-then-hold_a_write : goal.returns-then-hold_a_write
 returns-then-hold_a_write g c =
-    let means = meaning g.S.Store.objects g.S.Store.may_fail in
+    let means = store_model g.S.Store.objects g.S.Store.may_fail in
     let objects = means.objects c.args.self.now.editor.store in
     record {
       imported = tt;
-      refused = (
+      after_error = (
         c.if-self.false,
         has_a_write c.args.step.now.edits.items c.deref.result.now c.hold_a_write.result c.deref.ensures.value c.if-hold_a_write.true c.hold_a_write.ensures,
         refl,
@@ -46,65 +48,89 @@ returns-then-hold_a_write g c =
 
 pub returns-in-Err : goal.returns-in-Err
 returns-in-Err g c =
-    let means = meaning g.S.Store.objects g.S.Store.may_fail in
+    let means = store_model g.S.Store.objects g.S.Store.may_fail in
     let laws : OfStores = record {
-      trees_of = c.every_store_names_trees.ensures;
-      put_in = record { there = c.an_object_is_put_in.ensures.there; elsewhere = c.an_object_is_put_in.ensures.elsewhere; same_or_not = c.ids_are_the_same_or_not.ensures };
+      trees_of = c.store_has_tree_map.ensures;
+      inserted = record {
+        there = c.object_map_insert.ensures.there;
+        elsewhere = c.object_map_insert.ensures.elsewhere;
+        same_or_not = c.id_equality_is_decidable.ensures;
+      };
     } in
     let old = c.args.self.now in
     let new : Importer g.row.S.Denot = record old { editor = c.write_edits.new.editor; failed = true } in
-    let refused = refuses_step means old new c.args.step.now c.in-Err.error (record {
+    let rejected = rejects_step means old new c.args.step.now c.in-Err.error (record {
       ready = c.if-self.false;
-      no_write = free_of c.args.step.now.edits.items c.deref.result.now c.hold_a_write.result c.deref.ensures.value c.if-hold_a_write.false c.hold_a_write.ensures;
-      refusal = inl (subst (λ (es : List Edit). RefusesEdits means old.hash es old.editor c.in-Err.error c.write_edits.new.editor) c.deref-2.ensures.value (c.in-Err.ensures {u = tt}).refusal);
+      no_write = free_of c.args.step.now.edits.items c.deref.result.now c.hold_a_write.result c.deref.ensures.value c.if-hold_a_write.false
+          c.hold_a_write.ensures;
+      cause = inl (subst (λ (es : List Edit). IsStepEditsError means old.hash es old.editor c.in-Err.error c.write_edits.new.editor) c.deref-2.ensures.value
+          (c.in-Err.ensures {u = tt}).error);
       rest = refl;
     }) in
-    record { imported = tt; refused = refused; adds = refused_adds means laws old new c.args.step.now c.in-Err.error refused; files = tt; bases = tt }
+    record { imported = tt; after_error = rejected; adds = rejected_adds means laws old new c.args.step.now c.in-Err.error rejected; files = tt; bases = tt }
 
 pub returns-in-Err-kept : goal.returns-in-Err-kept
 returns-in-Err-kept g c =
-    let means = meaning g.S.Store.objects g.S.Store.may_fail in
+    let means = store_model g.S.Store.objects g.S.Store.may_fail in
     let laws : OfStores = record {
-      trees_of = c.every_store_names_trees.ensures;
-      put_in = record { there = c.an_object_is_put_in.ensures.there; elsewhere = c.an_object_is_put_in.ensures.elsewhere; same_or_not = c.ids_are_the_same_or_not.ensures };
+      trees_of = c.store_has_tree_map.ensures;
+      inserted = record {
+        there = c.object_map_insert.ensures.there;
+        elsewhere = c.object_map_insert.ensures.elsewhere;
+        same_or_not = c.id_equality_is_decidable.ensures;
+      };
     } in
     let old = c.args.self.now in
     let new : Importer g.row.S.Denot = record old { editor = c.keep_commit_of-kept.new.editor; failed = true } in
-    let refused = refuses_step means old new c.args.step.now c.in-Err-kept.error (record {
+    let rejected = rejects_step means old new c.args.step.now c.in-Err-kept.error (record {
       ready = c.if-self.false;
-      no_write = free_of c.args.step.now.edits.items c.deref.result.now c.hold_a_write.result c.deref.ensures.value c.if-hold_a_write.false c.hold_a_write.ensures;
-      refusal = inr (record {
+      no_write = free_of c.args.step.now.edits.items c.deref.result.now c.hold_a_write.result c.deref.ensures.value c.if-hold_a_write.false
+          c.hold_a_write.ensures;
+      cause = inr (record {
         it = c.in-Ok.written;
         between = c.write_edits.new.editor;
-        trees = subst (λ (es : List Edit). IsWriteBehind means old.hash old.editor es (reply.Written c.in-Ok.written) c.write_edits.new.editor) c.deref-2.ensures.value (c.in-Ok.ensures {u = tt}).written;
-        refusal = (c.in-Err-kept.ensures {u = tt}).refusal;
+        trees = subst (λ (es : List Edit). IsWriteAfter means old.hash old.editor es (reply.Written c.in-Ok.written) c.write_edits.new.editor)
+            c.deref-2.ensures.value (c.in-Ok.ensures {u = tt}).written;
+        cause = (c.in-Err-kept.ensures {u = tt}).error;
       });
       rest = refl;
     }) in
-    record { imported = tt; refused = refused; adds = refused_adds means laws old new c.args.step.now c.in-Err-kept.error refused; files = tt; bases = tt }
+    record {
+      imported = tt;
+      after_error = rejected;
+      adds = rejected_adds means laws old new c.args.step.now c.in-Err-kept.error rejected;
+      files = tt;
+      bases = tt;
+    }
 
 pub returns : goal.returns
 returns g c =
-    let means = meaning g.S.Store.objects g.S.Store.may_fail in
+    let means = store_model g.S.Store.objects g.S.Store.may_fail in
     let laws : OfStores = record {
-      trees_of = c.every_store_names_trees.ensures;
-      put_in = record { there = c.an_object_is_put_in.ensures.there; elsewhere = c.an_object_is_put_in.ensures.elsewhere; same_or_not = c.ids_are_the_same_or_not.ensures };
+      trees_of = c.store_has_tree_map.ensures;
+      inserted = record {
+        there = c.object_map_insert.ensures.there;
+        elsewhere = c.object_map_insert.ensures.elsewhere;
+        same_or_not = c.id_equality_is_decidable.ensures;
+      };
     } in
     let old = c.args.self.now in
     let new : Importer g.row.S.Denot = record old { editor = c.keep_commit_of-kept.new.editor; last = Some c.in-Ok-kept.commit; failed = false } in
     let it : Imported = record { commit = c.in-Ok-kept.commit; written = c.in-Ok.written } in
     let one : IsImported means old c.args.step.now it new = record {
       ready = c.if-self.false;
-      no_write = free_of c.args.step.now.edits.items c.deref.result.now c.hold_a_write.result c.deref.ensures.value c.if-hold_a_write.false c.hold_a_write.ensures;
+      no_write = free_of c.args.step.now.edits.items c.deref.result.now c.hold_a_write.result c.deref.ensures.value c.if-hold_a_write.false
+          c.hold_a_write.ensures;
       between = c.write_edits.new.editor;
-      trees = subst (λ (es : List Edit). IsWriteBehind means old.hash old.editor es (reply.Written c.in-Ok.written) c.write_edits.new.editor) c.deref-2.ensures.value (c.in-Ok.ensures {u = tt}).written;
+      trees = subst (λ (es : List Edit). IsWriteAfter means old.hash old.editor es (reply.Written c.in-Ok.written) c.write_edits.new.editor)
+          c.deref-2.ensures.value (c.in-Ok.ensures {u = tt}).written;
       root = (c.in-Ok.ensures {u = tt}).root;
-      commit = (c.in-Ok-kept.ensures {u = tt}).kept;
+      commit = (c.in-Ok-kept.ensures {u = tt}).stored;
       rest = ap (λ (b : Bool). record old { editor = c.keep_commit_of-kept.new.editor; last = Some c.in-Ok-kept.commit; failed = b }) (sym c.if-self.false);
     } in
     record {
       imported = one;
-      refused = tt;
+      after_error = tt;
       adds = step_adds means laws old c.args.step.now it new one;
       files = λ T n agrees. step_files means laws old c.args.step.now it new one T n agrees;
       bases = step_bases means laws old c.args.step.now it new one;

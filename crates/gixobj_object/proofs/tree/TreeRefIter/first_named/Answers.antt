@@ -1,21 +1,24 @@
 use Rattle.std.proofs.Common.{rules}
 use Rattle.gixobj_tree.specs.TreeViews.{entry_view}
-use Rattle.gixobj_object.proofs.Seeking.{found_first, none_before_damage, none_to_the_end, seeks_on}
+use Rattle.gixobj_object.proofs.Searching.{found_first, none_before_damage, none_to_the_end, searches_on}
 use Rattle.gixobj_object.specs.Lookups.{IsNamed}
 use Rattle.gixobj_object.proofs.tree.TreeRefIter.first_named.Goals as goal
 
 pub returns-in-Ok-clause-found : goal.returns-in-Ok-clause-found
 returns-in-Ok-clause-found c =
     let is : IsNamed c.args.name.now (entry_view c.in-Ok.entry) = search rules in
-    found_first c.args.name.now c.args.self c.loop-item.item-iterator c.next.new.self c.in-Some.item c.in-Ok.entry c.loop-item.invariant c.in-Some.ensures.steps c.in-Ok.is is
+    found_first c.args.name.now c.args.self c.loop-item.item-iterator c.next.new.self c.in-Some.item c.in-Ok.entry c.loop-item.invariant c.in-Some.ensures.steps
+    c.in-Ok.is is
 
 pub loop-item-preserved : goal.loop-item-preserved
 loop-item-preserved c =
     let other : ¬ IsNamed c.args.name.now (entry_view c.in-Ok.entry) = search rules in
-    seeks_on c.args.name.now c.args.self c.loop-item.item-iterator c.next.new.self c.in-Some.item c.in-Ok.entry c.loop-item.invariant c.in-Some.ensures.steps c.in-Ok.is other
+    searches_on c.args.name.now c.args.self c.loop-item.item-iterator c.next.new.self c.in-Some.item c.in-Ok.entry c.loop-item.invariant c.in-Some.ensures.steps
+    c.in-Ok.is other
 
 pub returns-in-Err-clause-none : goal.returns-in-Err-clause-none
-returns-in-Err-clause-none c = none_before_damage c.args.name.now c.args.self c.loop-item.item-iterator c.next.new.self c.in-Some.item c.in-Err.field-0 c.loop-item.invariant c.in-Some.ensures.steps c.in-Err.is
+returns-in-Err-clause-none c = none_before_damage c.args.name.now c.args.self c.loop-item.item-iterator c.next.new.self c.in-Some.item c.in-Err.field-0
+    c.loop-item.invariant c.in-Some.ensures.steps c.in-Err.is
 
 pub returns-clause-none : goal.returns-clause-none
 returns-clause-none c = none_to_the_end c.args.name.now c.args.self c.loop-item.item-iterator c.next.new.self c.loop-item.invariant c.in-None.ensures.steps

@@ -1,14 +1,14 @@
 use Rattle.std.proofs.Common.{◌≡◌, ◌≢◌, ◌∷◌, [], Bool, List, ap, refl, subst, sym}
 use Rattle.std.specs.Prelude.{MatchBool}
 use Rattle.gixobj_tree.specs.TreeViews.{entry_view}
-use Rattle.gixobj_object.specs.EntryGiving.{bytes_left}
+use Rattle.gixobj_object.specs.EntrySteps.{remaining_tree_bytes}
 use Rattle.gixobj_object.specs.Lookups.{HasNoEntryNamed, Name}
 use Rattle.gixobj_object.proofs.tree.TreeRefIter.step_to.Goals as goal
 
 pub returns-in_default : goal.returns-in_default
 returns-in_default c others last name more same =
     let here : c.args.name.now ≡ name = cc same in
-    subst (λ (it : Name). HasNoEntryNamed c.args.self.hash_kind (bytes_left c.args.self) it) here c.in_default.ensures.none
+    subst (λ (it : Name). HasNoEntryNamed c.args.self.hash_kind (remaining_tree_bytes c.args.self) it) here c.in_default.ensures.none
 
 pub returns-then-is_last : goal.returns-then-is_last
 returns-then-is_last c others last =

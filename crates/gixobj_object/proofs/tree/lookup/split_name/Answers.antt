@@ -1,5 +1,5 @@
 use Rattle.std.proofs.Common.{rules, ◌≡◌, ◌≢◌, [], length, refl}
-use Rattle.gixobj_object.proofs.PathTexts.{a_name_alone, a_name_and_others, no_name}
+use Rattle.gixobj_object.proofs.PathBytes.{a_name_alone, a_name_and_others, no_name}
 use Rattle.gixobj_object.proofs.tree.lookup.split_name.Goals as goal
 
 pub returns-then-is_empty-clause-none : goal.returns-then-is_empty-clause-none
@@ -9,7 +9,8 @@ returns-then-is_empty-clause-none c =
 
 pub returns-in-Some-clause-found : goal.returns-in-Some-clause-found
 returns-in-Some-clause-found c =
-    a_name_and_others c.args.path.now c.without_slashes-names.result.now c.in-Some.name.now c.in-Some.behind.now c.without_slashes.result.now c.without_slashes-names.ensures.names c.without_slashes-names.ensures.no_slash c.in-Some.ensures.found
+    a_name_and_others c.args.path.now c.without_slashes-names.result.now c.in-Some.name.now c.in-Some.following.now c.without_slashes.result.now
+    c.without_slashes-names.ensures.names c.without_slashes-names.ensures.no_slash c.in-Some.ensures.found
     c.without_slashes.ensures.names c.without_slashes.ensures.no_slash
 
 pub returns-in-None-clause-found : goal.returns-in-None-clause-found

@@ -1,9 +1,9 @@
 use Rattle.std.proofs.Common.{rules, ◌≡◌, ◌∷◌}
 use Rattle.gixobj_hash.specs.Bytes.{slash}
-use Rattle.gixobj_object.proofs.PathTexts.{behind_slash}
+use Rattle.gixobj_object.proofs.PathBytes.{after_slash}
 use Rattle.gixobj_object.proofs.tree.lookup.without_slashes.Goals as goal
 
-pub loop-behind-preserved : goal.loop-behind-preserved
-loop-behind-preserved c names are =
-    let is : c.loop-behind.left.now ≡ slash ∷ c.in-Some.behind.now = search rules in
-    c.loop-behind.invariant names (behind_slash c.loop-behind.left.now c.in-Some.behind.now names is are)
+pub loop-following-preserved : goal.loop-following-preserved
+loop-following-preserved c names are =
+    let is : c.loop-following.remaining.now ≡ slash ∷ c.in-Some.following.now = search rules in
+    c.loop-following.invariant names (after_slash c.loop-following.remaining.now c.in-Some.following.now names is are)

@@ -1,22 +1,30 @@
 use Rattle.std.proofs.lemmas.Result.{err_from_is_err_and}
-use Rattle.gixobj_ref_iter.proofs.CommitRuns.{seeks_end, seeks_error, seeks_on}
+use Rattle.gixobj_ref_iter.proofs.CommitRuns.{searches_end, searches_error, searches_on}
 use Rattle.gixobj_fields.specs.Runs.{complete}
-use Rattle.gixobj_ref_iter.specs.TokenPassing.{IsCommitterToken}
+use Rattle.gixobj_ref_iter.specs.TokenSearch.{IsCommitterToken}
 use Rattle.gixobj_ref_iter.proofs.commit.CommitRefIter.committer.Goals as goal
 
-pub returns-in_err-token-clause-refusal : goal.returns-in_err-token-clause-refusal
-returns-in_err-token-clause-refusal c =
+pub returns-in_err-token-clause-error : goal.returns-in_err-token-clause-error
+returns-in_err-token-clause-error c =
     let from = err_from_is_err_and c.from_residual.result c.from_residual.ensures.1 in
-    rw from.1 (seeks_error IsCommitterToken c.args.self c.loop-item.item-iterator c.next.new.self c.in-Some.item from.0 c.in_err-token.field-0.0 from.2 c.loop-item.invariant c.in-Some.ensures.steps c.in_err-token.was)
+    rw from.1 (searches_error IsCommitterToken c.args.self c.loop-item.item-iterator c.next.new.self c.in-Some.item from.0 c.in_err-token.field-0.0 from.2
+    c.loop-item.invariant c.in-Some.ensures.steps c.in_err-token.was)
 
 pub loop-item-preserved-in_default : goal.loop-item-preserved-in_default
-loop-item-preserved-in_default c = seeks_on IsCommitterToken c.args.self c.loop-item.item-iterator c.next.new.self c.in-Some.item c.in_ok-token.token c.loop-item.invariant c.in-Some.ensures.steps c.in_ok-token.was c.in_default.ensures
+loop-item-preserved-in_default c = searches_on IsCommitterToken c.args.self c.loop-item.item-iterator c.next.new.self c.in-Some.item c.in_ok-token.token
+    c.loop-item.invariant c.in-Some.ensures.steps c.in_ok-token.was c.in_default.ensures
 
 pub loop-item-preserved-in_default-2 : goal.loop-item-preserved-in_default-2
-loop-item-preserved-in_default-2 c = seeks_on IsCommitterToken c.args.self c.loop-item.item-iterator c.next.new.self c.in-Some.item c.in_ok-token.token c.loop-item.invariant c.in-Some.ensures.steps c.in_ok-token.was c.in_default.ensures
+loop-item-preserved-in_default-2 c = searches_on IsCommitterToken c.args.self c.loop-item.item-iterator c.next.new.self c.in-Some.item c.in_ok-token.token
+    c.loop-item.invariant c.in-Some.ensures.steps c.in_ok-token.was c.in_default.ensures
 
 pub loop-item-preserved : goal.loop-item-preserved
-loop-item-preserved c = seeks_on IsCommitterToken c.args.self c.loop-item.item-iterator c.next.new.self c.in-Some.item c.in_ok-token.token c.loop-item.invariant c.in-Some.ensures.steps c.in_ok-token.was c.in_default.ensures
+loop-item-preserved c = searches_on IsCommitterToken c.args.self c.loop-item.item-iterator c.next.new.self c.in-Some.item c.in_ok-token.token
+    c.loop-item.invariant c.in-Some.ensures.steps c.in_ok-token.was c.in_default.ensures
 
-pub returns-clause-refusal : goal.returns-clause-refusal
-returns-clause-refusal c = (complete, seeks_end IsCommitterToken c.args.self c.loop-item.item-iterator c.next.new.self c.loop-item.invariant c.in-None.ensures.steps)
+pub returns-clause-error : goal.returns-clause-error
+returns-clause-error c = (
+  complete,
+  searches_end IsCommitterToken c.args.self c.loop-item.item-iterator c.next.new.self c.loop-item.invariant
+      c.in-None.ensures.steps,
+)

@@ -1,6 +1,6 @@
-use Rattle.gixobj_ref_iter.proofs.CommitRuns.{Seeks}
-use Rattle.gixobj_ref_iter.specs.TokenPassing.{IsCommitterToken}
+use Rattle.gixobj_ref_iter.proofs.CommitRuns.{Searches}
+use Rattle.gixobj_ref_iter.specs.TokenSearch.{IsCommitterToken}
 use Rattle.gixobj_ref_iter.proofs.commit.CommitRefIter.committer.Given as goal
 
 abbrev pub invariant-loop-item : goal.invariant-loop-item
-invariant-loop-item l = Seeks IsCommitterToken l.fn.self l.item-iterator
+invariant-loop-item l = Searches IsCommitterToken l.fn.self l.item-iterator

@@ -6,7 +6,7 @@ use Rattle.gixobj_line.specs.declared.lines.State.TheVariants as state
 use Rattle.gixobj_ref_iter.specs.Extracting.{IsNamedLine}
 use Rattle.gixobj_ref_iter.proofs.commit.CommitRefIter.signature.Given as goal
 
--- no line so far is a signature's, and what is left is the text from this place on
+-- no line so far is a signature, and the rest is the input from this position on
 abbrev pub invariant-lines : goal.invariant-lines
 invariant-lines l = record {
   passes : PassesNone (HasLine l.hash_kind) (IsNamedLine (signature_field l.hash_kind)) state.Tree l.fn.bytes l.state l.rest;

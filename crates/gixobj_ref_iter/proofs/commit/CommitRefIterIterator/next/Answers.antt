@@ -5,5 +5,6 @@ use Rattle.gixobj_ref_iter.proofs.commit.CommitRefIterIterator.next.Goals as goa
 
 pub returns-in-Ok-clause-goes : goal.returns-in-Ok-clause-goes
 returns-in-Ok-clause-goes c =
-    let shorter = line_shortens c.args.self.now.hash_kind c.args.self.now.state c.args.self.now.bytes.now (line_view c.in-Ok.line) c.in-Ok.state c.in-Ok.rest.now c.in-Ok.ensures.found in
+    let shorter = line_shortens c.args.self.now.hash_kind c.args.self.now.state c.args.self.now.bytes.now
+    (line_view c.in-Ok.line) c.in-Ok.state c.in-Ok.rest.now c.in-Ok.ensures.found in
     search (shorter, rules)

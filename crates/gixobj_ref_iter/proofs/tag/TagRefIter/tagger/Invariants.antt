@@ -1,6 +1,6 @@
-use Rattle.gixobj_ref_iter.proofs.TagRuns.{Seeks}
-use Rattle.gixobj_ref_iter.specs.TagTokenGiving.{IsTaggerToken}
+use Rattle.gixobj_ref_iter.proofs.TagRuns.{Searches}
+use Rattle.gixobj_ref_iter.specs.TagTokenSteps.{IsTaggerToken}
 use Rattle.gixobj_ref_iter.proofs.tag.TagRefIter.tagger.Given as goal
 
 abbrev pub invariant-loop-item : goal.invariant-loop-item
-invariant-loop-item l = Seeks IsTaggerToken l.fn.self l.item-iterator
+invariant-loop-item l = Searches IsTaggerToken l.fn.self l.item-iterator

@@ -2,6 +2,6 @@ use Rattle.std.proofs.Common.{◌≡◌, map, take}
 use Rattle.gixobj_signature.specs.Calls.{pair_view}
 use Rattle.gixobj_signature.proofs.signature.words.environment_of.Given as goal
 
--- each pair that was passed has its copy
+-- each variable that was consumed has its copy
 abbrev pub invariant-loop-one : goal.invariant-loop-one
 invariant-loop-one l = map pair_view l.copies.items ≡ map pair_view (take l.one-index l.environment)

@@ -3,6 +3,6 @@ use Rattle.gixobj_signature.specs.Calls.{word_view}
 use Rattle.gixobj_signature.specs.Pieces.{piece_view}
 use Rattle.gixobj_signature.proofs.signature.words.push_words.Given as goal
 
--- each piece that was passed has its word
+-- each piece that was consumed has its argument
 abbrev pub invariant-loop-piece : goal.invariant-loop-piece
 invariant-loop-piece l = map word_view l.words.items ≡ map word_view l.fn.words.items ++ map piece_view (take l.piece-index l.pieces)

@@ -1,11 +1,11 @@
-//! The calls of a program of SSH, by which a signature is verified.
+//! The calls of an SSH program that verifies a signature.
 ghost use Rattle.std.specs.Prelude.{◌≡◌, ◌++◌, ◌∷◌, [], IfOk, map};
 ghost use Rattle.std.specs.Option.{option_map};
 ghost use Rattle.bstr.specs.Owned.{bstring_bytes};
 ghost use Rattle.gixobj_signature.specs.Calls.{call_view, pair_view, word_view};
 ghost use Rattle.gixobj_signature.specs.SignedBytes.{signed_bytes};
 ghost use Rattle.gixobj_signature.specs.Verifiers.{ssh_of, ssh_program_of};
-ghost use Rattle.gixobj_signature.specs.VerifyingCalls.{in_english, novalidate_call, novalidate_words, principal_call, principal_words, principals_call, revocation_words, whole_call};
+ghost use Rattle.gixobj_signature.specs.VerifyingCalls.{in_english, novalidate_call, novalidate_words, principal_call, principal_words, principals_call, revocation_words, full_call};
 
 use crate::signature::verify::SshProgram;
 use crate::signature::words::Piece::{File, Text, VerifyTime};
@@ -15,7 +15,7 @@ use bstr::{BString, ByteSlice};
 use gixobj_hash::OutOfMemory;
 use std::alloc::Global;
 
-/// The call that asks for the principals of the signature's key.
+/// Makes the call that lists the principals of the signature's key.
 #[tactic(auto, unfolding(crate::specs::VerifyingCalls::principals_call))]
 pub(crate) fn principals_call_of(
     alloc: Global,
@@ -39,7 +39,7 @@ pub(crate) fn principals_call_of(
     call_of(alloc, by, words, signature, input)
 }
 
-/// The call that asks whether a principal made the signature.
+/// Makes the call that verifies a signature for a principal.
 #[tactic(auto, unfolding(crate::specs::VerifyingCalls::principal_call))]
 pub(crate) fn principal_call_of(
     alloc: Global,
@@ -58,7 +58,7 @@ pub(crate) fn principal_call_of(
     call_of(alloc, by, words, signature, input)
 }
 
-/// Its words, but for those of the file of revoked keys.
+/// Makes the arguments of `-Y verify`, without those of the revocation file.
 fn principal_words_of<'a>(
     alloc: Global,
     by: &'a SshProgram,
@@ -81,7 +81,7 @@ fn principal_words_of<'a>(
     Ok(words)
 }
 
-/// The call that asks whether the signature holds, whoever made it.
+/// Makes the call that checks a signature for any key.
 #[tactic(auto, unfolding(crate::specs::VerifyingCalls::novalidate_call))]
 pub(crate) fn novalidate_call_of(
     alloc: Global,
@@ -98,7 +98,7 @@ pub(crate) fn novalidate_call_of(
     call_of(alloc, by, words, signature, input)
 }
 
-/// Its words.
+/// Makes the arguments of `-Y check-novalidate`.
 fn novalidate_words_of(alloc: Global, by: &SshProgram) -> Result<Vec<Word>, OutOfMemory>
     ensures { IfOk result (λ it. map word_view it.items
         ≡ novalidate_words (ssh_program_of by.now) (ssh_of by.now)) }
@@ -109,7 +109,7 @@ fn novalidate_words_of(alloc: Global, by: &SshProgram) -> Result<Vec<Word>, OutO
     Ok(words)
 }
 
-/// The words with those of the file of revoked keys, if there is one.
+/// Appends the arguments of the revocation file, if there is one.
 fn with_revocation(
     alloc: Global,
     words: Vec<Word>,
@@ -125,7 +125,7 @@ fn with_revocation(
     Ok(words)
 }
 
-/// A call of these words with the signature in a file and this input, which is answered in English.
+/// Makes a call with these arguments, the signature as file 0, this input, and output in English.
 fn call_of(
     alloc: Global,
     by: &SshProgram,
@@ -134,7 +134,7 @@ fn call_of(
     input: Option<BString>,
 ) -> Result<Call, OutOfMemory>
     ensures { IfOk result (λ it. call_view it
-        ≡ whole_call (in_english (ssh_program_of by.now)) (map word_view words.items)
+        ≡ full_call (in_english (ssh_program_of by.now)) (map word_view words.items)
         (signature.now ∷ []) (option_map bstring_bytes input)) }
 {
     let environment = english_of(alloc, by)?;
@@ -150,7 +150,7 @@ fn call_of(
     })
 }
 
-/// The names and values, and those with which answers are in English.
+/// Copies the environment variables and appends those with which the output is in English.
 fn english_of(alloc: Global, by: &SshProgram) -> Result<Vec<(BString, BString)>, OutOfMemory>
     ensures { IfOk result (λ it. map pair_view it.items
         ≡ (in_english (ssh_program_of by.now)).environment) }

@@ -22,13 +22,21 @@ pub returns-then-has_backslash : goal.returns-then-has_backslash
 returns-then-has_backslash c = first_so c.args.name.now fault.Backslash (search rules) (c.has_backslash.ensures.0 c.if-has_backslash.true)
 
 pub returns-then-has_invalid_byte : goal.returns-then-has_invalid_byte
-returns-then-has_invalid_byte c = first_so c.args.name.now fault.InvalidByte (search rules, (search rules, (search rules, (search rules, (search rules, (search rules, tt)))))) (c.has_invalid_byte.ensures.0 c.if-has_invalid_byte.true)
+returns-then-has_invalid_byte c =
+    first_so c.args.name.now fault.InvalidByte (search rules, (search rules, (search rules, (search rules, (search rules, (search rules, tt))))))
+    (c.has_invalid_byte.ensures.0 c.if-has_invalid_byte.true)
 
 pub returns-then-has_bad_slash : goal.returns-then-has_bad_slash
-returns-then-has_bad_slash c = first_so c.args.name.now fault.BadSlash (search rules, (search rules, (search rules, (search rules, (search rules, (search rules, (search rules, tt))))))) (c.has_bad_slash.ensures.0 c.if-has_bad_slash.true)
+returns-then-has_bad_slash c =
+    first_so c.args.name.now fault.BadSlash (search rules, (search rules, (search rules, (search rules, (search rules, (search rules, (search rules, tt)))))))
+    (c.has_bad_slash.ensures.0 c.if-has_bad_slash.true)
 
 pub returns-then-has_dot_end : goal.returns-then-has_dot_end
-returns-then-has_dot_end c = first_so c.args.name.now fault.DotEnd (search rules, (search rules, (search rules, (search rules, (search rules, (search rules, (search rules, (search rules, tt)))))))) (c.has_dot_end.ensures.0 c.if-has_dot_end.true)
+returns-then-has_dot_end c =
+    first_so c.args.name.now fault.DotEnd
+    (search rules, (search rules, (search rules, (search rules, (search rules, (search rules, (search rules, (search rules, tt))))))))
+    (c.has_dot_end.ensures.0 c.if-has_dot_end.true)
 
 pub returns : goal.returns
-returns c = none_has c.args.name.now (search rules, (search rules, (search rules, (search rules, (search rules, (search rules, (search rules, (search rules, (search rules, tt)))))))))
+returns c = none_has c.args.name.now
+    (search rules, (search rules, (search rules, (search rules, (search rules, (search rules, (search rules, (search rules, (search rules, tt)))))))))

@@ -1,11 +1,13 @@
 use Rattle.gixobj_tag.specs.TagViews.{tag_lines}
-use Rattle.gixobj_tag.proofs.TagSigned.{refused_copy, signed_copy}
+use Rattle.gixobj_tag.proofs.TagSigned.{rejected_copy, signed_copy}
 use Rattle.gixobj_tag.proofs.tag.TagRef.sign.Goals as goal
 
 pub returns-in-Ok-clause-signed : goal.returns-in-Ok-clause-signed
 returns-in-Ok-clause-signed g c =
-    signed_copy g.R.Runner.runs c.args.options (tag_lines c.args.self) c.in-Ok.tag c.in-Ok.ensures.owned c.args.runner.now c.sign.new.runner c.sign.result c.sign.ensures.signed
+    signed_copy g.R.Runner.runs c.args.options (tag_lines c.args.self) c.in-Ok.tag c.in-Ok.ensures.owned c.args.runner.now c.sign.new.runner c.sign.result
+    c.sign.ensures.signed
 
-pub returns-in-Ok-clause-refusal : goal.returns-in-Ok-clause-refusal
-returns-in-Ok-clause-refusal g c =
-    refused_copy g.R.Runner.runs c.args.options (tag_lines c.args.self) c.in-Ok.tag c.in-Ok.ensures.owned c.args.runner.now c.sign.new.runner c.sign.result c.sign.ensures.refusal
+pub returns-in-Ok-clause-error : goal.returns-in-Ok-clause-error
+returns-in-Ok-clause-error g c =
+    rejected_copy g.R.Runner.runs c.args.options (tag_lines c.args.self) c.in-Ok.tag c.in-Ok.ensures.owned c.args.runner.now c.sign.new.runner c.sign.result
+    c.sign.ensures.error

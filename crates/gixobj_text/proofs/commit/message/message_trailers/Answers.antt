@@ -2,19 +2,19 @@ use Rattle.std.proofs.Common.{ℕ, List, Option, None, subst}
 use Rattle.bstr.specs.BStr.{bstr_bytes}
 use Rattle.bstr.specs.declared.bstr.BStr.{BStr}
 use Rattle.gixobj_hash.specs.Optional.{bytes_if_some}
-use Rattle.gixobj_text.specs.GivingTrailers.{text_left}
+use Rattle.gixobj_text.specs.TrailerSteps.{remaining_bytes}
 use Rattle.gixobj_text.specs.Titles.{SplitsTitle}
-use Rattle.gixobj_text.proofs.Reading.{none_left}
+use Rattle.gixobj_text.proofs.Reading.{none_remaining}
 use Rattle.gixobj_text.proofs.commit.message.message_trailers.Goals as goal
 
 pub returns-in-None : goal.returns-in-None
 returns-in-None c =
     let title : List ℕ = bstr_bytes c.from_bytes.result.title in
     let split : SplitsTitle (bstr_bytes c.args.message) title (bytes_if_some c.from_bytes.result.body) =
-    subst (λ (text : List ℕ). SplitsTitle text title (bytes_if_some c.from_bytes.result.body)) c.as_bytes.ensures c.from_bytes.ensures in
+    subst (λ (content : List ℕ). SplitsTitle content title (bytes_if_some c.from_bytes.result.body)) c.as_bytes.ensures c.from_bytes.ensures in
     record {
       title = title;
       body = None;
       split = subst (λ (body : Option BStr). SplitsTitle (bstr_bytes c.args.message) title (bytes_if_some body)) c.in-None.ensures.none split;
-      has = none_left (text_left c.new.result) c.new.ensures;
+      has = none_remaining (remaining_bytes c.new.result) c.new.ensures;
     }

@@ -1,37 +1,37 @@
 //! The messages of a body, each with the trailers that follow it.
 ghost use Rattle.std.specs.Prelude.{◌≡◌, ◌≤◌, ◌-◌, ◌||◌, length, take};
 ghost use Rattle.gixobj_text.specs.BodyLines.{is_folded as is_folded_of, is_trailer_line as is_trailer_line_of};
-ghost use Rattle.gixobj_text.specs.Steps.{IsAtTrailer, IsBehindTrailers};
+ghost use Rattle.gixobj_text.specs.Steps.{IsAtTrailer, IsAfterTrailers};
 
-use crate::commit::message::body::lines::{line_text, split_line};
-use crate::commit::message::body::trailer_lines::is_trailer_text;
+use crate::commit::message::body::lines::{line_content, split_line};
+use crate::commit::message::body::trailer_lines::is_line_of_trailer;
 use crate::commit::message::body::trailers::{Trailers, is_folded_line};
 use bstr::BStr;
 use std::alloc::Global;
 
-/// A message, and the trailers that follow it.
+/// A message of a body, and the trailers that follow it. [`MessageBlocks`] yields it.
 #[derive(Clone, Copy, Debug)]
 pub struct MessageBlock<'a> {
-    /// The message as it stands in the body, white space and line breaks and all.
+    /// The bytes of the message, with white space and line breaks unchanged.
     pub message: BStr<'a>,
     trailers: &'a [u8],
 }
 
 /// Access
 impl<'a> MessageBlock<'a> {
-    ghost use Rattle.gixobj_text.specs.GivingBlocks.{bytes_of_trailers};
-    ghost use Rattle.gixobj_text.specs.GivingTrailers.{trailers_left};
-    ghost use Rattle.gixobj_text.specs.Trailers.{trailers_of_text};
+    ghost use Rattle.gixobj_text.specs.BlockSteps.{bytes_of_trailers};
+    ghost use Rattle.gixobj_text.specs.TrailerSteps.{remaining_trailers};
+    ghost use Rattle.gixobj_text.specs.Trailers.{trailers_of_bytes};
 
-    /// The trailers that follow the message, in order. Making the reader takes no memory.
+    /// Returns an iterator over the trailers that follow the message. Making the iterator allocates nothing.
     pub fn trailers(&self, alloc: Global) -> Trailers<'a>
-        ensures { trailers_left result ≡ trailers_of_text (bytes_of_trailers self.now) }
+        ensures { remaining_trailers result ≡ trailers_of_bytes (bytes_of_trailers self.now) }
     {
         Trailers::new(alloc, self.trailers)
     }
 }
 
-/// The messages of a body, in order, each with the trailers that follow it.
+/// An iterator over the messages of a body, each with its trailers. `BodyRef::message_blocks` makes one.
 #[derive(Clone, Copy, Debug)]
 pub struct MessageBlocks<'a> {
     cursor: &'a [u8],
@@ -41,30 +41,30 @@ pub struct MessageBlocks<'a> {
 
 /// Initialization
 impl<'a> MessageBlocks<'a> {
-    ghost use Rattle.gixobj_text.specs.GivingBlocks.{blocks_text, first_start};
+    ghost use Rattle.gixobj_text.specs.BlockSteps.{remaining_block_bytes, first_start};
 
-    /// The messages of this text, of which the first has at least so many bytes.
-    pub(crate) fn new(text: &'a [u8], trailer_start: usize) -> MessageBlocks<'a>
-        requires { trailer_start ≤ length text.now }
-        ensures text { blocks_text result ≡ text.now }
+    /// Returns the blocks of `content`; the first message has at least `trailer_start` bytes.
+    pub(crate) fn new(content: &'a [u8], trailer_start: usize) -> MessageBlocks<'a>
+        requires { trailer_start ≤ length content.now }
+        ensures encoded { remaining_block_bytes result ≡ content.now }
         ensures start { first_start result ≡ trailer_start }
     {
         MessageBlocks {
-            cursor: text,
+            cursor: content,
             trailer_start,
         }
     }
 }
 
-/// It takes no memory.
+/// Yields the messages of a body in order, each with the trailers that follow it. Allocates nothing.
 impl<'a> Iterator for MessageBlocks<'a> {
-    ghost use Rattle.gixobj_text.specs.GivingBlocks.{GivesBlock, count_of_blocks};
+    ghost use Rattle.gixobj_text.specs.BlockSteps.{NextBlock, remaining_block_count};
 
     type Item = MessageBlock<'a>;
 
-    ghost next_gives = { GivesBlock };
+    ghost next_gives = { NextBlock };
 
-    ghost remaining = { count_of_blocks };
+    ghost remaining = { remaining_block_count };
 
     fn next(&mut self) -> Option<MessageBlock<'a>> {
         if self.cursor.is_empty() {
@@ -72,57 +72,57 @@ impl<'a> Iterator for MessageBlocks<'a> {
         }
         let (_, from) = self.cursor.split_at(self.trailer_start);
         let trailers = at_trailer(from);
-        let rest = behind_trailers(trailers);
+        let rest = skip_trailers(trailers);
         let block = MessageBlock {
-            message: BStr::new(front_of(self.cursor, trailers)),
-            trailers: front_of(trailers, rest),
+            message: BStr::new(prefix_before(self.cursor, trailers)),
+            trailers: prefix_before(trailers, rest),
         };
         *self = MessageBlocks::new(rest, 0);
         Some(block)
     }
 }
 
-/// The front of a text, of which this is the rest.
-fn front_of<'a>(text: &'a [u8], rest: &[u8]) -> &'a [u8]
-    requires { length rest.now ≤ length text.now }
-    ensures { result.now ≡ take (length text.now - length rest.now) text.now }
+/// Returns `content` without its suffix `rest`.
+fn prefix_before<'a>(content: &'a [u8], rest: &[u8]) -> &'a [u8]
+    requires { length rest.now ≤ length content.now }
+    ensures { result.now ≡ take (length content.now - length rest.now) content.now }
 {
-    &text[..text.len() - rest.len()]
+    &content[..content.len() - rest.len()]
 }
 
-/// What stands behind the lines at the front that are no trailer's.
+/// Skips the lines before the first trailer line.
 #[tactic(auto, using(crate::proofs::Steps::no_trailer_more, crate::proofs::Steps::at_end, crate::proofs::Steps::at_line))]
-fn at_trailer(text: &[u8]) -> &[u8]
-    ensures { IsAtTrailer text.now result.now }
+fn at_trailer(content: &[u8]) -> &[u8]
+    ensures { IsAtTrailer content.now result.now }
 {
-    let mut rest = text;
-    'lines: while let Some((line, behind)) = split_line(rest) {
-        if is_trailer_text(line_text(line)) {
+    let mut rest = content;
+    'lines: while let Some((line, after)) = split_line(rest) {
+        if is_line_of_trailer(line_content(line)) {
             return rest;
         }
-        rest = behind;
+        rest = after;
     }
     rest
 }
 
-/// Whether trailers go on with this line.
-fn goes_on(line: &[u8]) -> bool
+/// Returns whether a line is a trailer line or continues a trailer.
+fn continues_trailer(line: &[u8]) -> bool
     ensures { result ≡ (is_trailer_line_of line.now || is_folded_of line.now) }
 {
-    is_trailer_text(line_text(line)) || is_folded_line(line)
+    is_line_of_trailer(line_content(line)) || is_folded_line(line)
 }
 
-/// What stands behind the trailers at the front that follow one another.
-#[tactic(auto, using(crate::proofs::Steps::trailer_more, crate::proofs::Steps::behind_end, crate::proofs::Steps::behind_line))]
-fn behind_trailers(text: &[u8]) -> &[u8]
-    ensures { IsBehindTrailers text.now result.now }
+/// Skips the consecutive trailers at the start of the bytes.
+#[tactic(auto, using(crate::proofs::Steps::trailer_more, crate::proofs::Steps::after_end, crate::proofs::Steps::after_line))]
+fn skip_trailers(content: &[u8]) -> &[u8]
+    ensures { IsAfterTrailers content.now result.now }
 {
-    let mut rest = text;
-    'lines: while let Some((line, behind)) = split_line(rest) {
-        if !goes_on(line) {
+    let mut rest = content;
+    'lines: while let Some((line, after)) = split_line(rest) {
+        if !continues_trailer(line) {
             return rest;
         }
-        rest = behind;
+        rest = after;
     }
     rest
 }

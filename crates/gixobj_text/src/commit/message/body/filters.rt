@@ -1,31 +1,31 @@
-//! Trailers of certain names.
+//! Filters of trailers by their tokens.
 ghost use Rattle.std.specs.Prelude.{◌≡◌};
 ghost use Rattle.bstr.specs.BStr.{bstr_bytes};
 ghost use Rattle.gixobj_text.specs.declared.commit.message.body.filters.Filter.TheVariants.{AssistedBy, Attributions, Authors, CoAuthoredBy, SignedOffBy};
-ghost use Rattle.gixobj_text.specs.Filters.{GivesKept, all_of, count_of_kept, filter_of, is_kept};
+ghost use Rattle.gixobj_text.specs.Filters.{NextFiltered, all_of, remaining_filtered_count, filter_of, passes_filter};
 
 use crate::commit::message::body::trailers::{TrailerRef, Trailers};
 use gixobj_hash::memory::OutOfMemory;
 
-/// Which trailers are kept.
+/// The tokens whose trailers a filter keeps.
 #[derive(Clone, Copy, Debug, PartialEq, Eq)]
 pub enum Filter {
-    /// Sign-offs.
+    /// `Signed-off-by`.
     SignedOffBy,
-    /// Co-authors.
+    /// `Co-authored-by`.
     CoAuthoredBy,
-    /// Assistants.
+    /// `Assisted-by`.
     AssistedBy,
-    /// Sign-offs and co-authors.
+    /// `Signed-off-by` and `Co-authored-by`.
     Authors,
-    /// Whoever had a part in the change.
+    /// The six tokens of [`TrailerRef::is_attribution`].
     Attributions,
 }
 
 impl Filter {
-    /// Whether the trailer is kept.
+    /// Returns whether the filter keeps a trailer.
     fn keeps(self, trailer: &TrailerRef<'_>) -> bool
-        ensures { result ≡ is_kept self (bstr_bytes trailer.now.token) }
+        ensures { result ≡ passes_filter self (bstr_bytes trailer.now.token) }
     {
         match self {
             Filter::SignedOffBy => trailer.is_signed_off_by(),
@@ -37,16 +37,16 @@ impl Filter {
     }
 }
 
-/// The trailers that a filter keeps, in order.
+/// An iterator over the trailers that a filter keeps, in order. The filters of [`Trailers`] make one.
 #[derive(Clone, Copy)]
 pub struct Filtered<'a> {
     trailers: Trailers<'a>,
     filter: Filter,
 }
 
-/// Filters. Letters of names are compared without their case.
+/// Filters by token, ASCII case ignored.
 impl<'a> Trailers<'a> {
-    /// The trailers `Signed-off-by` alone (git-commit, `--signoff`).
+    /// Returns an iterator over the `Signed-off-by` trailers (git-commit, `--signoff`).
     pub fn signed_off_by(self) -> Filtered<'a>
         ensures trailers { all_of result ≡ self.entry }
         ensures filter { filter_of result ≡ SignedOffBy }
@@ -57,7 +57,7 @@ impl<'a> Trailers<'a> {
         }
     }
 
-    /// The trailers `Co-authored-by` alone.
+    /// Returns an iterator over the `Co-authored-by` trailers.
     pub fn co_authored_by(self) -> Filtered<'a>
         ensures trailers { all_of result ≡ self.entry }
         ensures filter { filter_of result ≡ CoAuthoredBy }
@@ -68,7 +68,7 @@ impl<'a> Trailers<'a> {
         }
     }
 
-    /// The trailers `Assisted-by` alone.
+    /// Returns an iterator over the `Assisted-by` trailers.
     pub fn assisted_by(self) -> Filtered<'a>
         ensures trailers { all_of result ≡ self.entry }
         ensures filter { filter_of result ≡ AssistedBy }
@@ -79,7 +79,7 @@ impl<'a> Trailers<'a> {
         }
     }
 
-    /// The trailers that name who made the change: `Signed-off-by` and `Co-authored-by`.
+    /// Returns an iterator over the trailers of the change's authors: `Signed-off-by` and `Co-authored-by`.
     pub fn authors(self) -> Filtered<'a>
         ensures trailers { all_of result ≡ self.entry }
         ensures filter { filter_of result ≡ Authors }
@@ -90,8 +90,8 @@ impl<'a> Trailers<'a> {
         }
     }
 
-    /// The trailers that name who had a part in the change: `Signed-off-by`, `Co-authored-by`,
-    /// `Assisted-by`, `Acked-by`, `Reviewed-by` and `Tested-by`.
+    /// Returns an iterator over the trailers of everyone who had a part in the change. Authors:
+    /// `Signed-off-by`, `Co-authored-by`. Others: `Assisted-by`, `Acked-by`, `Reviewed-by`, `Tested-by`.
     pub fn attributions(self) -> Filtered<'a>
         ensures trailers { all_of result ≡ self.entry }
         ensures filter { filter_of result ≡ Attributions }
@@ -103,15 +103,15 @@ impl<'a> Trailers<'a> {
     }
 }
 
-/// It hands on the errors of the reader of all trailers.
+/// Yields the trailers that the filter keeps, and each [`OutOfMemory`] of the unfiltered iterator.
 impl<'a> Iterator for Filtered<'a> {
     type Item = Result<TrailerRef<'a>, OutOfMemory>;
 
-    ghost next_gives = { GivesKept };
+    ghost next_gives = { NextFiltered };
 
-    ghost remaining = { count_of_kept };
+    ghost remaining = { remaining_filtered_count };
 
-    #[tactic(auto, using(crate::proofs::Keeping::passes_none, crate::proofs::Keeping::passes_more))]
+    #[tactic(auto, using(crate::proofs::Filtering::passes_none, crate::proofs::Filtering::passes_more))]
     fn next(&mut self) -> Option<Result<TrailerRef<'a>, OutOfMemory>> {
         'trailers: while let Some(item) = self.trailers.next() {
             match item {

@@ -1,79 +1,79 @@
-//! The lines of a body.
+//! The lines of a body, their content and their indentation.
 ghost use Rattle.std.specs.Prelude.{◌≡◌, ◌≤◌, [], MatchOption, length};
 ghost use Rattle.std.specs.Char.{is_ascii_whitespace};
 ghost use Rattle.std.specs.List.{list_all};
 ghost use Rattle.bstr.specs.Text.{line_len};
 ghost use Rattle.gixobj_text.specs.FirstLines.{IsFirstLine};
-ghost use Rattle.gixobj_text.specs.BodyLines.{begins_indented as begins_indented_of, text_of, without_last_byte};
+ghost use Rattle.gixobj_text.specs.BodyLines.{begins_indented as begins_indented_of, trimmed_line, without_last_byte};
 
 use bstr::ByteSlice;
 
-/// The text of a line: without its newline, and without one return at the end of what is left.
+/// Returns a line without its newline, and then without one final carriage return.
 #[inline(always)]
-pub(crate) fn line_text(line: &[u8]) -> &[u8]
-    ensures text { result.now ≡ text_of line.now }
+pub(crate) fn line_content(line: &[u8]) -> &[u8]
+    ensures encoded { result.now ≡ trimmed_line line.now }
     ensures within { length result.now ≤ length line.now }
 {
     without_last(without_last(line, b'\n'), b'\r')
 }
 
-/// The bytes without one such byte at the end.
+/// Returns the bytes without one final `byte`, if they end with it.
 #[inline(always)]
 #[tactic(auto, using(crate::proofs::LastBytes::dropped, crate::proofs::LastBytes::kept))]
 fn without_last(bytes: &[u8], byte: u8) -> &[u8]
-    ensures text { result.now ≡ without_last_byte byte bytes.now }
+    ensures encoded { result.now ≡ without_last_byte byte bytes.now }
     ensures within { length result.now ≤ length bytes.now }
 {
     match bytes.split_last() {
-        Some((last, front)) => { if *last == byte { front } else { bytes } }
+        Some((last, prefix)) => { if *last == byte { prefix } else { bytes } }
         None => bytes,
     }
 }
 
-/// Whether a text begins with white space.
+/// Returns whether the bytes begin with ASCII white space.
 #[inline(always)]
-pub(crate) fn begins_indented(text: &[u8]) -> bool
-    ensures { result ≡ begins_indented_of text.now }
+pub(crate) fn begins_indented(content: &[u8]) -> bool
+    ensures { result ≡ begins_indented_of content.now }
 {
-    match text.split_first() {
+    match content.split_first() {
         Some((byte, _)) => byte.is_ascii_whitespace(),
         None => false,
     }
 }
 
-/// Whether a text is white space alone.
+/// Returns whether the bytes are ASCII white space alone, or empty.
 #[inline(always)]
-pub(crate) fn is_blank_text(text: &[u8]) -> bool
-    ensures { result ≡ list_all is_ascii_whitespace text.now }
+pub(crate) fn is_blank_line(content: &[u8]) -> bool
+    ensures { result ≡ list_all is_ascii_whitespace content.now }
 {
-    text.iter().all(|byte| byte.is_ascii_whitespace())
+    content.iter().all(|byte| byte.is_ascii_whitespace())
 }
 
-/// How many bytes the first line takes. Many lines are empty, with or without a return, so the first two bytes
-/// are looked at before a newline is sought.
+/// Returns the length of the first line. Many lines are empty, with or without a carriage return, so the
+/// first two bytes are tested before the search.
 #[inline(always)]
 #[tactic(auto, using(crate::proofs::FirstLines::ends_first, crate::proofs::FirstLines::ends_second, crate::proofs::FirstLines::ends_at, crate::proofs::FirstLines::ends_nowhere))]
-fn first_line_len(text: &[u8]) -> usize
-    ensures is { result ≡ line_len text.now }
-    ensures within { result ≤ length text.now }
+fn first_line_len(content: &[u8]) -> usize
+    ensures is { result ≡ line_len content.now }
+    ensures within { result ≤ length content.now }
 {
-    match text {
+    match content {
         [b'\n', ..] => 1,
         [_, b'\n', ..] => 2,
-        _ => match text.find_byte(b'\n') {
+        _ => match content.find_byte(b'\n') {
             Some(place) => place + 1,
-            None => text.len(),
+            None => content.len(),
         },
     }
 }
 
-/// A text's first line, and what stands behind it.
+/// Splits the bytes after their first line, or returns `None` if they are empty.
 #[inline(always)]
-pub(crate) fn split_line(text: &[u8]) -> Option<(&[u8], &[u8])>
-    ensures { MatchOption result (text.now ≡ []) (λ it. IsFirstLine text.now it.0.now it.1.now) }
+pub(crate) fn split_line(content: &[u8]) -> Option<(&[u8], &[u8])>
+    ensures { MatchOption result (content.now ≡ []) (λ it. IsFirstLine content.now it.0.now it.1.now) }
 {
-    if text.is_empty() {
+    if content.is_empty() {
         return None;
     }
-    Some(text.split_at(first_line_len(text)))
+    Some(content.split_at(first_line_len(content)))
 }

@@ -1,44 +1,44 @@
-//! What is known of the lines of a run.
+//! The counts of trailers and other lines in a run of lines that aren't blank.
 ghost use Rattle.std.specs.Prelude.{◌≡◌, ◌+◌, ◌*◌, ◌<◌, ◌≤◌, ◌^◌, ◌||◌, ◌↔◌, ◌⊎◌, IsTrue, cond, true, false};
 ghost use Rattle.gixobj_text.specs.BodyLines.{begins_recognised as begins_recognised_of, is_indented as is_indented_of, is_recognised as is_recognised_of};
 ghost use Rattle.gixobj_text.specs.TrailerBlocks.{is_trailing as is_trailing_of};
 
-use crate::commit::message::body::lines::{begins_indented, line_text};
-use crate::commit::message::body::trailer_lines::is_trailer_text;
+use crate::commit::message::body::lines::{begins_indented, line_content};
+use crate::commit::message::body::trailer_lines::is_line_of_trailer;
 
-/// What is known of the lines of a run.
+/// The counts of the lines of a run.
 #[derive(Clone, Copy, Debug)]
 pub(crate) struct Run {
-    /// How many lines count as trailers.
+    /// The number of lines that count as trailers.
     trailers: usize,
-    /// How many lines are others.
+    /// The number of other lines.
     others: usize,
-    /// Whether a line is one that git makes.
+    /// Whether git generates a line of the run.
     recognised: bool,
-    /// Whether the nearest line that isn't indented is a trailer.
+    /// Whether the last line that isn't indented counts as a trailer.
     above: bool,
 }
 
-/// Whether a text begins as that of a line that git itself makes.
+/// Returns whether the bytes begin with a prefix of a line that git generates.
 #[inline(always)]
-fn begins_recognised(text: &[u8]) -> bool
-    ensures { result ≡ begins_recognised_of text.now }
+fn begins_recognised(bytes: &[u8]) -> bool
+    ensures { result ≡ begins_recognised_of bytes.now }
 {
-    text.starts_with(b"Signed-off-by: ") || text.starts_with(b"(cherry picked from commit ")
+    bytes.starts_with(b"Signed-off-by: ") || bytes.starts_with(b"(cherry picked from commit ")
 }
 
-/// How many others a line adds.
+/// Returns what a line adds to the number of other lines.
 #[inline(always)]
 fn other_of(trailing: bool, indented: bool, above: bool) -> usize
     ensures is { result ≡ cond trailing 0 (cond indented (cond above 0 1) 1) }
-    ensures few { result ≤ 1 }
+    ensures bounded { result ≤ 1 }
 {
     if trailing || indented && above { 0 } else { 1 }
 }
 
-/// Whether the nearest line that isn't indented is a trailer, behind a line more.
+/// Returns whether the last line that isn't indented, up to this one, counts as a trailer.
 #[inline(always)]
-fn above_behind(trailing: bool, indented: bool, above: bool) -> bool
+fn above_after(trailing: bool, indented: bool, above: bool) -> bool
     ensures { result ≡ cond trailing true (cond indented above false) }
 {
     trailing || indented && above
@@ -46,9 +46,9 @@ fn above_behind(trailing: bool, indented: bool, above: bool) -> bool
 
 impl Run {
     ghost use Rattle.std.specs.Prelude.{ℕ, List, [], ◌∷◌, ◌++◌};
-    ghost use Rattle.gixobj_text.specs.Counting.{Counts, other_of as other_of_of};
+    ghost use Rattle.gixobj_text.specs.Counting.{Counts, other_count_of as other_of_of};
 
-    /// Of no lines.
+    /// Returns the counts of no lines.
     pub(crate) fn new() -> Run
         ensures counts { Counts [] result }
         ensures trailers { result.trailers ≡ 0 }
@@ -62,7 +62,7 @@ impl Run {
         }
     }
 
-    /// With a line more.
+    /// Returns the counts with one more line.
     #[inline(always)]
     pub(crate) fn with_line(self, line: &[u8]) -> Run
         requires trailers { self.trailers + 1 < 2 ^ 64 }
@@ -75,18 +75,18 @@ impl Run {
         ensures above { result.above ≡ cond (is_trailing_of line.now) true
             (cond (is_indented_of line.now) self.above false) }
     {
-        let text = line_text(line);
-        let (recognised, indented) = (begins_recognised(text), begins_indented(text));
-        let trailing = recognised || is_trailer_text(text);
+        let bytes = line_content(line);
+        let (recognised, indented) = (begins_recognised(bytes), begins_indented(bytes));
+        let trailing = recognised || is_line_of_trailer(bytes);
         Run {
             trailers: self.trailers + usize::from(trailing),
             others: self.others + other_of(trailing, indented, self.above),
             recognised: self.recognised || recognised,
-            above: above_behind(trailing, indented, self.above),
+            above: above_after(trailing, indented, self.above),
         }
     }
 
-    /// Whether a run with these counts is a block of trailers.
+    /// Returns whether a run with these counts is a trailer block.
     pub(crate) fn is_block(self) -> bool
         ensures { IsTrue result ↔ ((0 < self.trailers) × (self.others ≡ 0))
             ⊎ (IsTrue self.recognised × (self.others ≤ 3 * self.trailers)) }
@@ -98,7 +98,7 @@ impl Run {
     }
 }
 
-/// Whether the number is at most three times the other.
+/// Returns whether the number is at most three times the other.
 fn is_within(number: usize, other: usize) -> bool
     ensures { IsTrue result ↔ (number ≤ 3 * other) }
 {

@@ -1,37 +1,37 @@
-//! The walk over the lines of a body to its last run.
+//! The scan over the lines of a body for its last run and its trailer block.
 ghost use Rattle.std.specs.Prelude.{◌≡◌, ◌<◌, ◌≤◌, ◌+◌, ◌^◌, ◌≢◌, ℕ, List, [], ◌∷◌, ◌++◌, length, true, false, IsTrue, IsFalse};
 ghost use Rattle.bstr.specs.Text.{lines_of};
-ghost use Rattle.gixobj_text.specs.BodyLines.{is_blank, text_of};
+ghost use Rattle.gixobj_text.specs.BodyLines.{is_blank, trimmed_line};
 ghost use Rattle.gixobj_text.specs.Scanned.{AddsLine, Scanned};
 ghost use Rattle.gixobj_text.specs.TrailerBlocks.{IsBlockStart};
 
-use crate::commit::message::body::lines::{is_blank_text, line_text, split_line};
+use crate::commit::message::body::lines::{is_blank_line, line_content, split_line};
 use crate::commit::message::body::run::Run;
 
-/// What is known of the lines so far.
+/// The state of a scan after some lines.
 #[derive(Clone, Copy, Debug)]
 pub(crate) struct Scan {
-    /// How many bytes they have.
+    /// The number of bytes of the lines.
     place: usize,
-    /// Where the text of the last line ends.
+    /// The offset after the content of the last line.
     last: usize,
-    /// Where a block would start whose run begins here.
+    /// The start of a trailer block whose run begins at the next line.
     next: usize,
-    /// Where a block of the last run starts.
+    /// The start of a trailer block of the last run.
     start: usize,
-    /// Whether a line that isn't blank goes on with the last run.
+    /// Whether the next line, if it isn't blank, continues the last run.
     going: bool,
     /// Whether there is a run.
     some: bool,
-    /// What is known of the lines of the last run.
+    /// The counts of the last run.
     run: Run,
 }
 
 impl Scan {
-    /// Of no lines.
+    /// Returns the state before the first line.
     pub(crate) fn new() -> Scan
         ensures scanned { Scanned [] result }
-        ensures place { result.place ≡ 0 }
+        ensures position { result.place ≡ 0 }
         ensures trailers { result.run.trailers ≤ 0 }
         ensures others { result.run.others ≤ 0 }
     {
@@ -46,14 +46,14 @@ impl Scan {
         }
     }
 
-    /// With a blank line more, whose text ends here.
+    /// Adds a blank line, whose content ends at `last`.
     #[inline(always)]
     fn with_blank(self, line: &[u8], last: usize) -> Scan
-        requires last { last ≡ self.place + length (text_of line.now) }
+        requires last { last ≡ self.place + length (trimmed_line line.now) }
         requires blank { IsTrue (is_blank line.now) }
         requires fits { self.place + length line.now < 2 ^ 64 }
         ensures scanned { AddsLine self line.now result }
-        ensures place { result.place ≡ self.place + length line.now }
+        ensures position { result.place ≡ self.place + length line.now }
         ensures run { result.run ≡ self.run }
     {
         Scan {
@@ -67,17 +67,17 @@ impl Scan {
         }
     }
 
-    /// With a line more that goes on with the last run, and whose text ends here.
+    /// Adds a line that continues the last run, and whose content ends at `last`.
     #[inline(always)]
     fn with_next(self, line: &[u8], last: usize) -> Scan
-        requires last { last ≡ self.place + length (text_of line.now) }
+        requires last { last ≡ self.place + length (trimmed_line line.now) }
         requires filled { IsFalse (is_blank line.now) }
-        requires going { self.going ≡ true }
+        requires proceeds { self.going ≡ true }
         requires fits { self.place + length line.now < 2 ^ 64 }
         requires trailers { self.run.trailers + 1 < 2 ^ 64 }
         requires others { self.run.others + 1 < 2 ^ 64 }
         ensures scanned { AddsLine self line.now result }
-        ensures place { result.place ≡ self.place + length line.now }
+        ensures position { result.place ≡ self.place + length line.now }
         ensures trailers { result.run.trailers ≤ self.run.trailers + 1 }
         ensures others { result.run.others ≤ self.run.others + 1 }
     {
@@ -92,15 +92,15 @@ impl Scan {
         }
     }
 
-    /// With a line more that begins a run, and whose text ends here.
+    /// Adds a line that begins a run, and whose content ends at `last`.
     #[inline(always)]
     fn with_first(self, line: &[u8], last: usize) -> Scan
-        requires last { last ≡ self.place + length (text_of line.now) }
+        requires last { last ≡ self.place + length (trimmed_line line.now) }
         requires filled { IsFalse (is_blank line.now) }
-        requires going { self.going ≡ false }
+        requires proceeds { self.going ≡ false }
         requires fits { self.place + length line.now < 2 ^ 64 }
         ensures scanned { AddsLine self line.now result }
-        ensures place { result.place ≡ self.place + length line.now }
+        ensures position { result.place ≡ self.place + length line.now }
         ensures trailers { result.run.trailers ≤ 1 }
         ensures others { result.run.others ≤ 1 }
     {
@@ -115,7 +115,7 @@ impl Scan {
         }
     }
 
-    /// With a line more.
+    /// Adds a line.
     #[inline(always)]
     fn with_line(self, line: &[u8]) -> Scan
         requires some { line.now ≢ [] }
@@ -123,13 +123,13 @@ impl Scan {
         requires trailers { self.run.trailers ≤ self.place }
         requires others { self.run.others ≤ self.place }
         ensures scanned { AddsLine self line.now result }
-        ensures place { result.place ≡ self.place + length line.now }
+        ensures position { result.place ≡ self.place + length line.now }
         ensures trailers { result.run.trailers ≤ result.place }
         ensures others { result.run.others ≤ result.place }
     {
-        let text = line_text(line);
-        let last = self.place + text.len();
-        if is_blank_text(text) {
+        let content = line_content(line);
+        let last = self.place + content.len();
+        if is_blank_line(content) {
             return self.with_blank(line, last);
         }
         if self.going {
@@ -140,20 +140,20 @@ impl Scan {
     }
 }
 
-/// The walk over the lines of a body.
+/// Scans the lines of a body.
 fn scanned(body: &[u8]) -> Scan
     ensures { Scanned (lines_of body.now) result }
 {
     let mut rest = body;
     let mut scan = Scan::new();
-    'lines: while let Some((line, behind)) = split_line(rest) {
+    'lines: while let Some((line, after)) = split_line(rest) {
         scan = scan.with_line(line);
-        rest = behind;
+        rest = after;
     }
     scan
 }
 
-/// Where the block of trailers of a body starts; without one behind all of it.
+/// Returns the start of the trailer block of a body, or the length of the body without a block.
 pub(crate) fn block_start(body: &[u8]) -> usize
     ensures { IsBlockStart body.now result }
 {

@@ -1,10 +1,10 @@
-//! A trailer's line.
+//! The split of a trailer line into its token and its value.
 ghost use Rattle.std.specs.Prelude.{◌≡◌, ◌≤◌, ◌-◌, is_some, length, take};
 ghost use Rattle.std.specs.Option.{option_map};
-ghost use Rattle.gixobj_text.specs.BodyLines.{behind_gap as behind_gap_of, is_gap_byte as is_gap_byte_of, is_token_byte as is_token_byte_of, trailer_parts, with_value};
-ghost use Rattle.gixobj_text.specs.Scanning.{behind_token as behind_token_of, read_parts};
+ghost use Rattle.gixobj_text.specs.BodyLines.{after_gap as after_gap_of, is_gap_byte as is_gap_byte_of, is_token_byte as is_token_byte_of, trailer_parts, with_value};
+ghost use Rattle.gixobj_text.specs.Scanning.{after_token as after_token_of, read_parts};
 
-/// A letter, a digit or a `-`.
+/// Returns whether a byte is an ASCII letter, an ASCII digit or `-`.
 #[inline(always)]
 fn is_token_byte(byte: u8) -> bool
     ensures { result ≡ is_token_byte_of byte }
@@ -12,7 +12,7 @@ fn is_token_byte(byte: u8) -> bool
     byte.is_ascii_alphanumeric() || byte == b'-'
 }
 
-/// A space or a tab.
+/// Returns whether a byte is a space or a tab.
 #[inline(always)]
 fn is_gap_byte(byte: u8) -> bool
     ensures { result ≡ is_gap_byte_of byte }
@@ -20,73 +20,73 @@ fn is_gap_byte(byte: u8) -> bool
     byte == b' ' || byte == b'\t'
 }
 
-/// What stands behind a token.
+/// Skips the bytes of a token.
 #[inline(always)]
 #[tactic(auto, using(crate::proofs::Tokens::token_more, crate::proofs::Tokens::token_ends))]
-fn behind_token(text: &[u8]) -> &[u8]
-    ensures { result.now ≡ behind_token_of text.now }
+fn skip_token(content: &[u8]) -> &[u8]
+    ensures { result.now ≡ after_token_of content.now }
 {
-    let mut rest = text;
-    'bytes: while let Some((byte, behind)) = rest.split_first() {
+    let mut rest = content;
+    'bytes: while let Some((byte, after)) = rest.split_first() {
         if !is_token_byte(*byte) {
             return rest;
         }
-        rest = behind;
+        rest = after;
     }
     rest
 }
 
-/// What stands behind spaces and tabs and a colon.
+/// Skips spaces and tabs and the colon after them, or returns `None` without the colon.
 #[inline(always)]
 #[tactic(auto, using(crate::proofs::Tokens::gap_colon, crate::proofs::Tokens::gap_more, crate::proofs::Tokens::gap_ends))]
-fn behind_gap(text: &[u8]) -> Option<&[u8]>
-    ensures { option_map (λ it. it.now) result ≡ behind_gap_of text.now }
+fn skip_gap(content: &[u8]) -> Option<&[u8]>
+    ensures { option_map (λ it. it.now) result ≡ after_gap_of content.now }
 {
-    let mut rest = text;
-    'bytes: while let Some((byte, behind)) = rest.split_first() {
+    let mut rest = content;
+    'bytes: while let Some((byte, after)) = rest.split_first() {
         if *byte == b':' {
-            return Some(behind);
+            return Some(after);
         }
         if !is_gap_byte(*byte) {
             return None;
         }
-        rest = behind;
+        rest = after;
     }
     None
 }
 
-/// Whether a text is a trailer's.
+/// Returns whether a line's content is a trailer line.
 #[inline(always)]
 #[tactic(auto, using(crate::proofs::Tokens::trailer_is, crate::proofs::Tokens::none_is))]
-pub(crate) fn is_trailer_text(text: &[u8]) -> bool
-    ensures { result ≡ is_some (trailer_parts text.now) }
+pub(crate) fn is_line_of_trailer(content: &[u8]) -> bool
+    ensures { result ≡ is_some (trailer_parts content.now) }
 {
-    match text.split_first() {
-        Some((byte, rest)) => is_token_byte(*byte) && behind_gap(behind_token(rest)).is_some(),
+    match content.split_first() {
+        Some((byte, rest)) => is_token_byte(*byte) && skip_gap(skip_token(rest)).is_some(),
         None => false,
     }
 }
 
-/// The token of a trailer's text, and what stands behind its colon.
+/// Returns the token before `rest` and the value after its colon, or `None` without a colon.
 #[inline(always)]
-fn parts_behind_token<'a>(text: &'a [u8], rest: &'a [u8]) -> Option<(&'a [u8], &'a [u8])>
-    requires { length rest.now ≤ length text.now }
-    ensures { read_parts result ≡ with_value (take (length text.now - length rest.now) text.now)
-        (behind_gap_of rest.now) }
+fn parts_after_token<'a>(content: &'a [u8], rest: &'a [u8]) -> Option<(&'a [u8], &'a [u8])>
+    requires { length rest.now ≤ length content.now }
+    ensures { read_parts result ≡ with_value (take (length content.now - length rest.now) content.now)
+        (after_gap_of rest.now) }
 {
-    let value = behind_gap(rest)?;
-    Some((&text[..text.len() - rest.len()], value))
+    let value = skip_gap(rest)?;
+    Some((&content[..content.len() - rest.len()], value))
 }
 
-/// The token of a trailer's text, and what stands behind its colon.
+/// Splits a trailer line's content into its token and the bytes after its colon.
 #[inline(always)]
 #[tactic(auto, using(crate::proofs::Reading::parts_is, crate::proofs::Reading::parts_none, crate::proofs::Reading::within))]
-pub(crate) fn parts_of_text(text: &[u8]) -> Option<(&[u8], &[u8])>
-    ensures { read_parts result ≡ trailer_parts text.now }
+pub(crate) fn split_trailer(content: &[u8]) -> Option<(&[u8], &[u8])>
+    ensures { read_parts result ≡ trailer_parts content.now }
 {
-    let (byte, rest) = text.split_first()?;
+    let (byte, rest) = content.split_first()?;
     if !is_token_byte(*byte) {
         return None;
     }
-    parts_behind_token(text, behind_token(rest))
+    parts_after_token(content, skip_token(rest))
 }

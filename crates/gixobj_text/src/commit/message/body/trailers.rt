@@ -1,77 +1,80 @@
-//! The trailers of a text (git-interpret-trailers, "DESCRIPTION").
+//! Trailers and the unfolding of their values (git-interpret-trailers, "DESCRIPTION").
 ghost use Rattle.std.specs.Prelude.{◌≡◌, ◌≤◌, [], length, map, true, IfOk, IfErr, MatchOption, codes};
 ghost use Rattle.std.specs.Cow.{cow_slice_items};
 ghost use Rattle.bstr.specs.BStr.{bstr_bytes};
 ghost use Rattle.bstr.specs.Text.{lines_of};
-ghost use Rattle.gixobj_text.specs.GivingTrailers.{GivesTrailer, count_left, is_owned, text_left};
-ghost use Rattle.gixobj_text.specs.BodyLines.{is_folded, text_of};
+ghost use Rattle.gixobj_text.specs.TrailerSteps.{NextTrailer, remaining_trailer_count, is_owned, remaining_bytes};
+ghost use Rattle.gixobj_text.specs.BodyLines.{is_folded, trimmed_line};
 ghost use Rattle.gixobj_text.specs.TrailerNames.{is_named, names_part};
-ghost use Rattle.gixobj_text.specs.Trailers.{trailers_of_text, unfolded as unfolded_of};
-ghost use Rattle.gixobj_hash.specs.Texts.{trimmed};
-ghost use Rattle.gixobj_text.specs.Unfolding.{IsNextTrailer, are_some, folded_front, with_folded, with_piece};
+ghost use Rattle.gixobj_text.specs.Trailers.{trailers_of_bytes, unfolded as unfolded_of};
+ghost use Rattle.gixobj_hash.specs.ByteStrings.{trimmed};
+ghost use Rattle.gixobj_text.specs.Unfolding.{IsNextTrailer, are_some, folded_prefix, with_folded, with_piece};
 
-use crate::commit::message::body::lines::{begins_indented, is_blank_text, line_text, split_line};
-use crate::commit::message::body::trailer_lines::parts_of_text;
+use crate::commit::message::body::lines::{
+    begins_indented, is_blank_line, line_content, split_line,
+};
+use crate::commit::message::body::trailer_lines::split_trailer;
 use bstr::{BStr, ByteSlice};
 use gixobj_hash::memory::OutOfMemory;
 use std::alloc::{AllocError, Global};
 use std::borrow::CowSlice;
 
-/// A trailer: a name and a value (git-interpret-trailers, "DESCRIPTION").
+/// A trailer: a token and a value (git-interpret-trailers, "DESCRIPTION"). [`Trailers`] yields it.
 #[derive(Clone, Debug, Drop, PartialEq, Eq, PartialOrd, Ord, Hash)]
 pub struct TrailerRef<'a> {
-    /// Its name, such as `Signed-off-by`: letters, digits and `-`.
+    /// The token, such as `Signed-off-by`: ASCII letters, ASCII digits and `-`.
     pub token: BStr<'a>,
-    /// What stands behind the colon, without white space at either end: borrowed where it has one line, and
-    /// else its lines, each without white space at its ends, joined by spaces, empty ones left out.
+    /// The bytes after the colon, trimmed; a value of one line is borrowed. Several lines are unfolded into
+    /// an owned value: each trimmed, empty ones left out, joined by spaces.
     pub value: CowSlice<'a, u8>,
 }
 
-/// Access. Letters are compared without their case. None of these takes memory.
+/// Access. Tokens are compared with ASCII case ignored. These calls allocate nothing.
 impl TrailerRef<'_> {
-    /// Whether its token is `Signed-off-by` (git-commit, `--signoff`).
+    /// Returns whether the token is `Signed-off-by` (git-commit, `--signoff`), ASCII case ignored.
     pub fn is_signed_off_by(&self) -> bool
         ensures { result ≡ is_named (codes "Signed-off-by") (bstr_bytes self.now.token) }
     {
         self.is_named(b"Signed-off-by")
     }
 
-    /// Whether its token is `Co-authored-by`.
+    /// Returns whether the token is `Co-authored-by`, ASCII case ignored.
     pub fn is_co_authored_by(&self) -> bool
         ensures { result ≡ is_named (codes "Co-authored-by") (bstr_bytes self.now.token) }
     {
         self.is_named(b"Co-authored-by")
     }
 
-    /// Whether its token is `Assisted-by`.
+    /// Returns whether the token is `Assisted-by`, ASCII case ignored.
     pub fn is_assisted_by(&self) -> bool
         ensures { result ≡ is_named (codes "Assisted-by") (bstr_bytes self.now.token) }
     {
         self.is_named(b"Assisted-by")
     }
 
-    /// Whether its token is `Acked-by`.
+    /// Returns whether the token is `Acked-by`, ASCII case ignored.
     pub fn is_acked_by(&self) -> bool
         ensures { result ≡ is_named (codes "Acked-by") (bstr_bytes self.now.token) }
     {
         self.is_named(b"Acked-by")
     }
 
-    /// Whether its token is `Reviewed-by`.
+    /// Returns whether the token is `Reviewed-by`, ASCII case ignored.
     pub fn is_reviewed_by(&self) -> bool
         ensures { result ≡ is_named (codes "Reviewed-by") (bstr_bytes self.now.token) }
     {
         self.is_named(b"Reviewed-by")
     }
 
-    /// Whether its token is `Tested-by`.
+    /// Returns whether the token is `Tested-by`, ASCII case ignored.
     pub fn is_tested_by(&self) -> bool
         ensures { result ≡ is_named (codes "Tested-by") (bstr_bytes self.now.token) }
     {
         self.is_named(b"Tested-by")
     }
 
-    /// Whether its token is one of these six.
+    /// Returns whether the token names anyone who had a part in the change, ASCII case ignored. Authors:
+    /// `Signed-off-by`, `Co-authored-by`. Others: `Assisted-by`, `Acked-by`, `Reviewed-by`, `Tested-by`.
     pub fn is_attribution(&self) -> bool
         ensures { result ≡ names_part (bstr_bytes self.now.token) }
     {
@@ -83,7 +86,7 @@ impl TrailerRef<'_> {
             || self.is_tested_by()
     }
 
-    /// Whether its token is this name.
+    /// Returns whether the token is this name, ASCII case ignored.
     fn is_named(&self, name: &[u8]) -> bool
         ensures { result ≡ is_named name.now (bstr_bytes self.now.token) }
     {
@@ -91,7 +94,7 @@ impl TrailerRef<'_> {
     }
 }
 
-/// The trailers of a text, in order. Lines that are no trailer's are passed over.
+/// An iterator over trailers, in order; it skips other lines. `BodyRef::trailers` makes one.
 #[derive(Clone, Copy)]
 pub struct Trailers<'a> {
     alloc: Global,
@@ -100,22 +103,25 @@ pub struct Trailers<'a> {
 
 /// Initialization
 impl<'a> Trailers<'a> {
-    /// The trailers of this text.
+    /// Returns an iterator over the trailers of `cursor`.
     pub(crate) fn new(alloc: Global, cursor: &'a [u8]) -> Trailers<'a>
-        ensures { text_left result ≡ cursor.now }
+        ensures { remaining_bytes result ≡ cursor.now }
     {
         Trailers { alloc, cursor }
     }
 }
 
-/// A trailer of one line takes no memory. `OutOfMemory` where it runs out for one of several lines: no trailer
-/// comes after that.
+/// Yields trailers in order. A value of one line allocates nothing; a value of several lines is allocated.
+///
+/// # Errors
+///
+/// [`OutOfMemory`] if the allocation for a value of several lines fails. The next item is then `None`.
 impl<'a> Iterator for Trailers<'a> {
     type Item = Result<TrailerRef<'a>, OutOfMemory>;
 
-    ghost next_gives = { GivesTrailer };
+    ghost next_gives = { NextTrailer };
 
-    ghost remaining = { count_left };
+    ghost remaining = { remaining_trailer_count };
 
     fn next(&mut self) -> Option<Result<TrailerRef<'a>, OutOfMemory>> {
         let Some((token, first, rest)) = next_trailer(self.cursor) else {
@@ -124,7 +130,7 @@ impl<'a> Iterator for Trailers<'a> {
         };
         match read_trailer(self.alloc, token, first, rest) {
             Ok(trailer) => {
-                self.cursor = behind_folded(rest);
+                self.cursor = after_folded(rest);
                 Some(Ok(trailer))
             }
             Err(_) => {
@@ -135,67 +141,67 @@ impl<'a> Iterator for Trailers<'a> {
     }
 }
 
-/// The parts of the next trailer's line, and what stands behind it.
-#[tactic(auto, using(crate::proofs::Reading::trailer_here, crate::proofs::Reading::trailers_past, crate::proofs::Reading::folded_past, crate::proofs::Reading::shorter, crate::proofs::Reading::none_left))]
-fn next_trailer(text: &[u8]) -> Option<(&[u8], &[u8], &[u8])>
-    ensures { MatchOption result (trailers_of_text text.now ≡ [])
-        (λ it. IsNextTrailer text.now it.0.now it.1.now it.2.now) }
+/// Returns the token of the next trailer line, the bytes after its colon, and the lines after it.
+#[tactic(auto, using(crate::proofs::Reading::trailer_here, crate::proofs::Reading::trailers_past, crate::proofs::Reading::folded_past, crate::proofs::Reading::shorter, crate::proofs::Reading::none_remaining))]
+fn next_trailer(bytes: &[u8]) -> Option<(&[u8], &[u8], &[u8])>
+    ensures { MatchOption result (trailers_of_bytes bytes.now ≡ [])
+        (λ it. IsNextTrailer bytes.now it.0.now it.1.now it.2.now) }
 {
-    let mut rest = text;
-    'lines: while let Some((line, behind)) = split_line(rest) {
-        if let Some((token, first)) = parts_of_text(line_text(line)) {
-            return Some((token, first, behind));
+    let mut rest = bytes;
+    'lines: while let Some((line, following)) = split_line(rest) {
+        if let Some((token, first)) = split_trailer(line_content(line)) {
+            return Some((token, first, following));
         }
-        rest = behind;
+        rest = following;
     }
     None
 }
 
-/// Whether a line belongs to the trailer before it.
+/// Returns whether a line continues the trailer before it.
 #[inline(always)]
 pub(crate) fn is_folded_line(line: &[u8]) -> bool
     ensures { result ≡ is_folded line.now }
 {
-    let text = line_text(line);
-    begins_indented(text) && !is_blank_text(text)
+    let bytes = line_content(line);
+    begins_indented(bytes) && !is_blank_line(bytes)
 }
 
-/// What stands behind the lines that belong to a trailer.
+/// Skips the lines that continue a trailer.
 #[inline(always)]
 #[tactic(auto, using(crate::proofs::Reading::folded_none, crate::proofs::Reading::trailers_past, crate::proofs::Reading::shorter))]
-fn behind_folded(text: &[u8]) -> &[u8]
-    ensures trailers { trailers_of_text result.now ≡ trailers_of_text text.now }
-    ensures within { length result.now ≤ length text.now }
+fn after_folded(bytes: &[u8]) -> &[u8]
+    ensures trailers { trailers_of_bytes result.now ≡ trailers_of_bytes bytes.now }
+    ensures within { length result.now ≤ length bytes.now }
 {
-    if !begins_indented(text) {
-        return text;
+    if !begins_indented(bytes) {
+        return bytes;
     }
-    let mut rest = text;
-    'lines: while let Some((line, behind)) = split_line(rest) {
+    let mut rest = bytes;
+    'lines: while let Some((line, following)) = split_line(rest) {
         if !is_folded_line(line) {
             return rest;
         }
-        rest = behind;
+        rest = following;
     }
     rest
 }
 
-/// Whether a line that belongs to a trailer comes.
+/// Returns whether the bytes begin with a line that continues a trailer.
 #[inline(always)]
 #[tactic(auto, using(crate::proofs::Reading::folded_nothing, crate::proofs::Folding::begins_unfolded))]
-fn begins_folded(text: &[u8]) -> bool
-    ensures { result ≡ are_some (folded_front text.now) }
+fn begins_folded(bytes: &[u8]) -> bool
+    ensures { result ≡ are_some (folded_prefix bytes.now) }
 {
-    if !begins_indented(text) {
+    if !begins_indented(bytes) {
         return false;
     }
-    match split_line(text) {
+    match split_line(bytes) {
         Some((line, _)) => is_folded_line(line),
         None => false,
     }
 }
 
-/// The trailer of these parts and of the lines that follow and belong to it.
+/// Decodes a trailer from its token, the bytes after its colon, and the lines after that.
 #[tactic(auto, using(crate::proofs::Reading::unfolded_is, crate::proofs::Reading::trimmed_is))]
 fn read_trailer<'a>(
     alloc: Global,
@@ -205,9 +211,9 @@ fn read_trailer<'a>(
 ) -> Result<TrailerRef<'a>, AllocError>
     ensures token { IfOk result (λ it. bstr_bytes it.token ≡ token.now) }
     ensures value { IfOk result (λ it. cow_slice_items it.value
-        ≡ unfolded_of first.now (map text_of (folded_front rest.now))) }
-    ensures owned { IfOk result (λ it. is_owned it.value ≡ are_some (folded_front rest.now)) }
-    ensures refusal { IfErr result (λ _. are_some (folded_front rest.now) ≡ true) }
+        ≡ unfolded_of first.now (map trimmed_line (folded_prefix rest.now))) }
+    ensures owned { IfOk result (λ it. is_owned it.value ≡ are_some (folded_prefix rest.now)) }
+    ensures error { IfErr result (λ _. are_some (folded_prefix rest.now) ≡ true) }
 {
     if begins_folded(rest) {
         let value = unfolded(alloc, first, rest)?;
@@ -222,7 +228,7 @@ fn read_trailer<'a>(
     })
 }
 
-/// The value of several lines.
+/// Returns the unfolded value of several lines.
 #[tactic(auto, using(crate::proofs::Reading::folded_more, crate::proofs::Reading::folded_ends, crate::proofs::Reading::folded_all, crate::proofs::Reading::shorter))]
 fn unfolded(alloc: Global, first: &[u8], rest: &[u8]) -> Result<Vec<u8>, AllocError>
     ensures { IfOk result (λ it. it.items
@@ -230,18 +236,18 @@ fn unfolded(alloc: Global, first: &[u8], rest: &[u8]) -> Result<Vec<u8>, AllocEr
 {
     let mut value = Vec::new(alloc);
     push_piece(&mut value, first.trim())?;
-    let mut left = rest;
-    'lines: while let Some((line, behind)) = split_line(left) {
+    let mut pending = rest;
+    'lines: while let Some((line, following)) = split_line(pending) {
         if !is_folded_line(line) {
             return Ok(value);
         }
-        push_piece(&mut value, line_text(line).trim())?;
-        left = behind;
+        push_piece(&mut value, line_content(line).trim())?;
+        pending = following;
     }
     Ok(value)
 }
 
-/// A piece more: an empty one is left out, and a space stands between two.
+/// Appends a piece unless it is empty; a space separates it from the pieces before.
 fn push_piece(value: &mut Vec<u8>, piece: &[u8]) -> Result<(), AllocError>
     ensures { IfOk result (λ _. value.new.items ≡ with_piece value.old.items piece.now) }
 {

@@ -1,11 +1,16 @@
--- Each look at an entry narrows the places where the name can stand.
+-- Each comparison narrows the positions of the name.
 use Rattle.std.proofs.Common.{◌∙◌, ◌+◌, ◌-◌, ◌/◌, ◌<◌, Less, Equal, Greater, length, sym, subst, arith}
-use Rattle.gixobj_tree.proofs.Bisecting.{IsNarrowed, compared, looked, narrowed_all, narrowed_down, narrowed_none, narrowed_up}
+use Rattle.gixobj_tree.proofs.BinarySearch.{IsNarrowed, compared, looked, narrowed_all, narrowed_down, narrowed_none, narrowed_up}
 use Rattle.gixobj_tree.proofs.tree.borrowed.place_of.Goals as goal
 use Rattle.gixobj_tree.specs.TreeViews.{entry_view}
 
 pub loop-low-init : goal.loop-low-init
-loop-low-init c = record { ordered = omega arith; within = omega arith; narrowed = narrowed_all (compared entry_view c.args.name.now c.args.is_dir) c.args.entries.now }
+loop-low-init c = record {
+  ordered = omega arith;
+  within = omega arith;
+  narrowed = narrowed_all (compared entry_view c.args.name.now c.args.is_dir)
+      c.args.entries.now;
+}
 
 pub loop-low-preserved-in-Less : goal.loop-low-preserved-in-Less
 loop-low-preserved-in-Less c =
@@ -40,10 +45,12 @@ returns-in-Equal-clause-position c =
     let es = c.args.entries.now in
     let m = c.loop-low.low + (c.loop-low.high - c.loop-low.low) / 2 in
     let within : m < length es = omega (arith, c.loop-low-test.true, c.loop-low.invariant.within) in
-    looked (compared entry_view c.args.name.now c.args.is_dir) es m c.index-entries-middle.result within c.index-entries-middle.is Equal (sym c.order_with.ensures ∙ c.in-Equal.is)
+    looked (compared entry_view c.args.name.now c.args.is_dir) es m c.index-entries-middle.result within c.index-entries-middle.is Equal
+    (sym c.order_with.ensures ∙ c.in-Equal.is)
 
 pub returns-clause-position : goal.returns-clause-position
 returns-clause-position c =
     let cmp = compared entry_view c.args.name.now c.args.is_dir in
     narrowed_none cmp c.args.entries.now c.loop-low.low
-    (subst (IsNarrowed cmp c.args.entries.now c.loop-low.low) (omega (arith, c.loop-low-test.false, c.loop-low.invariant.ordered)) c.loop-low.invariant.narrowed)
+    (subst (IsNarrowed cmp c.args.entries.now c.loop-low.low) (omega (arith, c.loop-low-test.false, c.loop-low.invariant.ordered))
+    c.loop-low.invariant.narrowed)

@@ -1,7 +1,7 @@
--- The name can stand only among those that are left.
+-- The name can be only among the remaining entries.
 use Rattle.std.proofs.Common.{◌≤◌, ◌-◌, length}
 use Rattle.gixobj_tree.specs.TreeViews.{entry_view}
-use Rattle.gixobj_tree.proofs.Bisecting.{IsNarrowed, compared}
+use Rattle.gixobj_tree.proofs.BinarySearch.{IsNarrowed, compared}
 use Rattle.gixobj_tree.proofs.tree.borrowed.place_of.Given as goal
 
 abbrev pub invariant-loop-low : goal.invariant-loop-low

@@ -8,5 +8,6 @@ pub returns : goal.returns
 returns c =
     let left = c.args.left.now in
     let right = c.args.right.now in
-    let names : c.then.result ≡ ordering_then (name_cmp left c.args.left_is_tree right c.args.right_is_tree) (nat_cmp (length (key_of left c.args.left_is_tree)) (length (key_of right c.args.right_is_tree))) = search rules in
+    let names : c.then.result ≡ ordering_then (name_cmp left c.args.left_is_tree right c.args.right_is_tree)
+    (nat_cmp (length (key_of left c.args.left_is_tree)) (length (key_of right c.args.right_is_tree))) = search rules in
     names ∙ sym (by_names left c.args.left_is_tree right c.args.right_is_tree)

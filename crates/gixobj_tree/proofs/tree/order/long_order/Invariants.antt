@@ -1,4 +1,4 @@
--- The bytes so far are alike.
+-- The bytes before `at` are equal.
 use Rattle.std.proofs.Common.{◌≡◌, ◌-◌, length, take}
 use Rattle.gixobj_tree.proofs.tree.order.long_order.Given as goal
 

@@ -1,38 +1,53 @@
--- The parts of the commit's text are counted one after the other.
+-- The sizes of the parts of the encoding are added one after the other.
 use Rattle.gixobj_hash.proofs.HexIds.{spelled}
-use Rattle.gixobj_hash.specs.Hash.Hex.{spelled_id}
+use Rattle.gixobj_hash.specs.Hash.Hex.{decoded_id}
 use Rattle.bstr.specs.BStr.{bstr_bytes}
 use Rattle.std.proofs.Common.{◌^◌}
-use Rattle.gixobj_commit.proofs.CommitWrites.{borrowed_as_put}
+use Rattle.gixobj_commit.proofs.CommitWrites.{borrowed_as_appended}
 use Rattle.gixobj_fields.proofs.Steps.{all_counted, first_too_long, fourth_too_long, second_too_long, third_too_long}
 use Rattle.gixobj_commit.proofs.commit.write.CommitRefWriteTo.size.Goals as goal
 
 pub returns-in_err-ids : goal.returns-in_err-ids
 returns-in_err-ids c =
-    let whole = borrowed_as_put c.args.self.now (spelled_id (bstr_bytes c.args.self.now.tree)) c.as_slice-parents.result.now c.as_bytes-author.result.now c.as_bytes-committer.result.now c.as_slice-headers.result.now c.as_bytes-message.result.now
-    (spelled (bstr_bytes c.args.self.now.tree) c.requires.tree) c.as_slice-parents.ensures c.as_bytes-author.ensures c.as_bytes-committer.ensures c.as_slice-headers.ensures.value c.as_bytes-message.ensures in
-    rw c.from_residual.ensures (first_too_long (2 ^ 64) _ _ _ _ _ whole c.in_err-ids.ensures)
+    let entire = borrowed_as_appended c.args.self.now (decoded_id (bstr_bytes c.args.self.now.tree)) c.as_slice-parents.result.now c.as_bytes-author.result.now
+    c.as_bytes-committer.result.now c.as_slice-headers.result.now c.as_bytes-message.result.now
+    (spelled (bstr_bytes c.args.self.now.tree) c.requires.tree) c.as_slice-parents.ensures c.as_bytes-author.ensures c.as_bytes-committer.ensures
+    c.as_slice-headers.ensures.value c.as_bytes-message.ensures in
+    rw c.from_residual.ensures (first_too_long (2 ^ 64) _ _ _ _ _ entire c.in_err-ids.ensures)
 
 pub returns-in_err-with_author : goal.returns-in_err-with_author
 returns-in_err-with_author c =
-    let whole = borrowed_as_put c.args.self.now (spelled_id (bstr_bytes c.args.self.now.tree)) c.as_slice-parents.result.now c.as_bytes-author.result.now c.as_bytes-committer.result.now c.as_slice-headers.result.now c.as_bytes-message.result.now
-    (spelled (bstr_bytes c.args.self.now.tree) c.requires.tree) c.as_slice-parents.ensures c.as_bytes-author.ensures c.as_bytes-committer.ensures c.as_slice-headers.ensures.value c.as_bytes-message.ensures in
-    rw c.from_residual-in_err-with_author.ensures (second_too_long (2 ^ 64) _ _ _ _ _ c.in_ok-ids.ids whole c.in_ok-ids.ensures.1 c.in_err-with_author.ensures)
+    let entire = borrowed_as_appended c.args.self.now (decoded_id (bstr_bytes c.args.self.now.tree)) c.as_slice-parents.result.now c.as_bytes-author.result.now
+    c.as_bytes-committer.result.now c.as_slice-headers.result.now c.as_bytes-message.result.now
+    (spelled (bstr_bytes c.args.self.now.tree) c.requires.tree) c.as_slice-parents.ensures c.as_bytes-author.ensures c.as_bytes-committer.ensures
+    c.as_slice-headers.ensures.value c.as_bytes-message.ensures in
+    rw c.from_residual-in_err-with_author.ensures (second_too_long (2 ^ 64) _ _ _ _ _ c.in_ok-ids.ids entire c.in_ok-ids.ensures.1 c.in_err-with_author.ensures)
 
 pub returns-in_err-lines : goal.returns-in_err-lines
 returns-in_err-lines c =
-    let whole = borrowed_as_put c.args.self.now (spelled_id (bstr_bytes c.args.self.now.tree)) c.as_slice-parents.result.now c.as_bytes-author.result.now c.as_bytes-committer.result.now c.as_slice-headers.result.now c.as_bytes-message.result.now
-    (spelled (bstr_bytes c.args.self.now.tree) c.requires.tree) c.as_slice-parents.ensures c.as_bytes-author.ensures c.as_bytes-committer.ensures c.as_slice-headers.ensures.value c.as_bytes-message.ensures in
-    rw c.from_residual-in_err-lines.ensures (third_too_long (2 ^ 64) _ _ _ _ _ c.in_ok-ids.ids c.in_ok-with_author.with_author whole c.in_ok-ids.ensures.1 c.in_ok-with_author.ensures.1 c.in_err-lines.ensures)
+    let entire = borrowed_as_appended c.args.self.now (decoded_id (bstr_bytes c.args.self.now.tree)) c.as_slice-parents.result.now c.as_bytes-author.result.now
+    c.as_bytes-committer.result.now c.as_slice-headers.result.now c.as_bytes-message.result.now
+    (spelled (bstr_bytes c.args.self.now.tree) c.requires.tree) c.as_slice-parents.ensures c.as_bytes-author.ensures c.as_bytes-committer.ensures
+    c.as_slice-headers.ensures.value c.as_bytes-message.ensures in
+    rw c.from_residual-in_err-lines.ensures
+    (third_too_long (2 ^ 64) _ _ _ _ _ c.in_ok-ids.ids c.in_ok-with_author.with_author entire c.in_ok-ids.ensures.1 c.in_ok-with_author.ensures.1
+    c.in_err-lines.ensures)
 
 pub returns-in_err-all : goal.returns-in_err-all
 returns-in_err-all c =
-    let whole = borrowed_as_put c.args.self.now (spelled_id (bstr_bytes c.args.self.now.tree)) c.as_slice-parents.result.now c.as_bytes-author.result.now c.as_bytes-committer.result.now c.as_slice-headers.result.now c.as_bytes-message.result.now
-    (spelled (bstr_bytes c.args.self.now.tree) c.requires.tree) c.as_slice-parents.ensures c.as_bytes-author.ensures c.as_bytes-committer.ensures c.as_slice-headers.ensures.value c.as_bytes-message.ensures in
-    rw c.from_residual-in_err-all.ensures (fourth_too_long (2 ^ 64) _ _ _ _ _ c.in_ok-ids.ids c.in_ok-with_author.with_author c.in_ok-lines.lines whole c.in_ok-ids.ensures.1 c.in_ok-with_author.ensures.1 c.in_ok-lines.ensures.1 c.in_err-all.ensures)
+    let entire = borrowed_as_appended c.args.self.now (decoded_id (bstr_bytes c.args.self.now.tree)) c.as_slice-parents.result.now c.as_bytes-author.result.now
+    c.as_bytes-committer.result.now c.as_slice-headers.result.now c.as_bytes-message.result.now
+    (spelled (bstr_bytes c.args.self.now.tree) c.requires.tree) c.as_slice-parents.ensures c.as_bytes-author.ensures c.as_bytes-committer.ensures
+    c.as_slice-headers.ensures.value c.as_bytes-message.ensures in
+    rw c.from_residual-in_err-all.ensures
+    (fourth_too_long (2 ^ 64) _ _ _ _ _ c.in_ok-ids.ids c.in_ok-with_author.with_author c.in_ok-lines.lines entire c.in_ok-ids.ensures.1
+    c.in_ok-with_author.ensures.1 c.in_ok-lines.ensures.1 c.in_err-all.ensures)
 
 pub returns : goal.returns
 returns c =
-    let whole = borrowed_as_put c.args.self.now (spelled_id (bstr_bytes c.args.self.now.tree)) c.as_slice-parents.result.now c.as_bytes-author.result.now c.as_bytes-committer.result.now c.as_slice-headers.result.now c.as_bytes-message.result.now
-    (spelled (bstr_bytes c.args.self.now.tree) c.requires.tree) c.as_slice-parents.ensures c.as_bytes-author.ensures c.as_bytes-committer.ensures c.as_slice-headers.ensures.value c.as_bytes-message.ensures in
-    all_counted (2 ^ 64) _ _ _ _ _ c.in_ok-ids.ids c.in_ok-with_author.with_author c.in_ok-lines.lines c.in_ok-all.all whole c.in_ok-ids.ensures.1 c.in_ok-with_author.ensures.1 c.in_ok-lines.ensures.1 c.in_ok-all.ensures
+    let entire = borrowed_as_appended c.args.self.now (decoded_id (bstr_bytes c.args.self.now.tree)) c.as_slice-parents.result.now c.as_bytes-author.result.now
+    c.as_bytes-committer.result.now c.as_slice-headers.result.now c.as_bytes-message.result.now
+    (spelled (bstr_bytes c.args.self.now.tree) c.requires.tree) c.as_slice-parents.ensures c.as_bytes-author.ensures c.as_bytes-committer.ensures
+    c.as_slice-headers.ensures.value c.as_bytes-message.ensures in
+    all_counted (2 ^ 64) _ _ _ _ _ c.in_ok-ids.ids c.in_ok-with_author.with_author c.in_ok-lines.lines c.in_ok-all.all entire c.in_ok-ids.ensures.1
+    c.in_ok-with_author.ensures.1 c.in_ok-lines.ensures.1 c.in_ok-all.ensures

@@ -1,4 +1,4 @@
--- The directory at the prefix is open whatever the store is.
+-- The directory at the prefix is open for every store.
 use Rattle.std.proofs.Common.{◌≢◌, None, ap, refl}
 use denote.Ref.{at_last}
 use Rattle.gixobj_files.specs.State.{open_dirs, with_store}

@@ -3,25 +3,30 @@ use Rattle.std.proofs.Common.{◌∙◌, ap, subst}
 use Rattle.std.proofs.lemmas.Result.{MatchResult-weaker}
 use Rattle.gixobj_files.specs.Files.{Path}
 use Rattle.gixobj_directories.specs.Calls.{names_of}
-use Rattle.gixobj_files.proofs.OwnTrees.{on_err}
+use Rattle.gixobj_files.proofs.WrittenTrees.{on_err}
 use Rattle.gixobj_editor.specs.Cursors.{from_root}
 use Rattle.gixobj_editor.specs.Removals.{IsLeafRemoved}
-use Rattle.gixobj_editor.specs.Upserts.{IsRefused}
-use Rattle.gixobj_editor.proofs.CursorStays.{Stays, either_way, nothing_done, refused_keeps, removed_keeps}
+use Rattle.gixobj_editor.specs.Upserts.{IsEditFailure}
+use Rattle.gixobj_editor.proofs.CursorStays.{Stays, either_way, nothing_done, rejected_keeps, removed_keeps}
 use Rattle.gixobj_editor.proofs.editor.cursor.Cursor.try_remove_leaf.Goals as goal
 
-pub returns-in_err-path-clause-refused : goal.returns-in_err-path-clause-refused
-returns-in_err-path-clause-refused g c = on_err c.from_residual.result _ (λ trees fits. nothing_done trees c.args.self.now.editor.now (from_root c.args.self.now.editor.now.prefix (names_of c.args.path.now)) c.path_from_root.ensures.is_opened c.path_from_root.ensures.idle)
+pub returns-in_err-path-clause-after_error : goal.returns-in_err-path-clause-after_error
+returns-in_err-path-clause-after_error g c =
+    on_err c.from_residual.result _
+    (λ trees fits. nothing_done trees c.args.self.now.editor.now (from_root c.args.self.now.editor.now.prefix (names_of c.args.path.now))
+    c.path_from_root.ensures.is_opened c.path_from_root.ensures.idle)
 
 pub invariant_of-self-2 : goal.invariant_of-self-2
 invariant_of-self-2 g c =
     let old = c.args.self.now.editor.now in
     let new = c.try_remove_leaf.new.self in
     let path = names_of c.args.path.now in
-    let whole = names_of c.deref.result.now in
+    let entire = names_of c.deref.result.now in
     let is = ap names_of c.deref.ensures.value ∙ (c.in_ok-path.ensures {u = tt}).joined in
-    let kept : Stays old new = either_way c.try_remove_leaf.result (g.S.Store.objects old.store) (Stays old new) (λ trees. IsLeafRemoved trees old whole new) (λ trees. IsRefused trees old whole new) c.try_remove_leaf.ensures.removed c.try_remove_leaf.ensures.refused
-    (λ trees h. removed_keeps trees old new path (subst (λ (p : Path). IsLeafRemoved trees old p new) is h).removed) (λ trees h. refused_keeps trees old new whole h) in
+    let kept : Stays old new = either_way c.try_remove_leaf.result (g.S.Store.objects old.store) (Stays old new) (λ trees. IsLeafRemoved trees old entire new)
+    (λ trees. IsEditFailure trees old entire new) c.try_remove_leaf.ensures.removed c.try_remove_leaf.ensures.after_error
+    (λ trees h. removed_keeps trees old new path (subst (λ (p : Path). IsLeafRemoved trees old p new) is h).removed)
+    (λ trees h. rejected_keeps trees old new entire h) in
     record { is_open = kept.1 c.args.self.now.is_open }
 
 pub returns-clause-prefix : goal.returns-clause-prefix
@@ -29,10 +34,12 @@ returns-clause-prefix g c =
     let old = c.args.self.now.editor.now in
     let new = c.try_remove_leaf.new.self in
     let path = names_of c.args.path.now in
-    let whole = names_of c.deref.result.now in
+    let entire = names_of c.deref.result.now in
     let is = ap names_of c.deref.ensures.value ∙ (c.in_ok-path.ensures {u = tt}).joined in
-    let kept : Stays old new = either_way c.try_remove_leaf.result (g.S.Store.objects old.store) (Stays old new) (λ trees. IsLeafRemoved trees old whole new) (λ trees. IsRefused trees old whole new) c.try_remove_leaf.ensures.removed c.try_remove_leaf.ensures.refused
-    (λ trees h. removed_keeps trees old new path (subst (λ (p : Path). IsLeafRemoved trees old p new) is h).removed) (λ trees h. refused_keeps trees old new whole h) in
+    let kept : Stays old new = either_way c.try_remove_leaf.result (g.S.Store.objects old.store) (Stays old new) (λ trees. IsLeafRemoved trees old entire new)
+    (λ trees. IsEditFailure trees old entire new) c.try_remove_leaf.ensures.removed c.try_remove_leaf.ensures.after_error
+    (λ trees h. removed_keeps trees old new path (subst (λ (p : Path). IsLeafRemoved trees old p new) is h).removed)
+    (λ trees h. rejected_keeps trees old new entire h) in
     kept.0
 
 pub returns-clause-removed : goal.returns-clause-removed

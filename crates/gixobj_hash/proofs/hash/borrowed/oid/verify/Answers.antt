@@ -1,5 +1,5 @@
 use Rattle.std.proofs.Common.{rules}
 use Rattle.gixobj_hash.proofs.hash.borrowed.oid.verify.Goals as goal
 
-pub returns-clause-refusal : goal.returns-clause-refusal
-returns-clause-refusal c = search rules
+pub returns-clause-error : goal.returns-clause-error
+returns-clause-error c = search rules

@@ -1,18 +1,18 @@
--- The object is read from the content, and what refuses the content refuses the object.
+-- The object decodes from the content, and an error of the content is an error of the object.
 use Rattle.std.proofs.lemmas.Result.{err_from_is_err_and}
 use Rattle.gixobj_object.proofs.Contents.{no_content}
 use Rattle.gixobj_object.proofs.object.borrowed.ObjectRef.from_loose.Goals as goal
 
-pub returns-in_err-kind-clause-refusal : goal.returns-in_err-kind-clause-refusal
-returns-in_err-kind-clause-refusal c =
+pub returns-in_err-kind-clause-error : goal.returns-in_err-kind-clause-error
+returns-in_err-kind-clause-error c =
     let p = err_from_is_err_and c.from_residual.result c.from_residual.ensures.1 in
-    rw p.1 (no_content c.args.hash_kind c.args.input.now c.in_err-kind.field-0.0 p.0 c.in_err-kind.ensures.refusal p.2)
+    rw p.1 (no_content c.args.hash_kind c.args.input.now c.in_err-kind.field-0.0 p.0 c.in_err-kind.ensures.error p.2)
 
-pub returns-in_err-from_bytes-clause-refusal : goal.returns-in_err-from_bytes-clause-refusal
-returns-in_err-from_bytes-clause-refusal c =
+pub returns-in_err-from_bytes-clause-error : goal.returns-in_err-from_bytes-clause-error
+returns-in_err-from_bytes-clause-error c =
     let p = err_from_is_err_and c.from_residual-in_err-from_bytes.result c.from_residual-in_err-from_bytes.ensures.1 in
     let read = c.in_ok-kind in
-    rw (p.1, p.2) (read.kind, read.content.now, read.ensures.found, c.in_err-from_bytes.ensures.refusal)
+    rw (p.1, p.2) (read.kind, read.content.now, read.ensures.found, c.in_err-from_bytes.ensures.error)
 
 pub returns-clause-found : goal.returns-clause-found
 returns-clause-found c =

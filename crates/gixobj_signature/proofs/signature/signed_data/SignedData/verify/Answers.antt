@@ -1,6 +1,6 @@
 use Rattle.std.proofs.Common.{List, ℕ, None, Some, refl, subst, sym}
 use Rattle.bstr.specs.BStr.{bstr_bytes}
-use Rattle.gixobj_signature.specs.Plans.{Goes, Plan}
+use Rattle.gixobj_signature.specs.Plans.{IsCarriedOut, Plan}
 use Rattle.gixobj_text.specs.Markers.{BeginsWithNoMarker}
 use Rattle.gixobj_signature.specs.SignedBytes.{signed_bytes}
 use Rattle.gixobj_signature.specs.Verifiers.{options_view}
@@ -12,7 +12,7 @@ pub returns-in-None : goal.returns-in-None
 returns-in-None g c = record {
   format = None;
   is_format = subst (λ (bytes : List ℕ). BeginsWithNoMarker bytes) c.as_bytes.ensures c.in-None.ensures.none;
-  went = subst (λ (plan : Plan Verified). Goes g.R.Runner.runs plan c.args.runner.now (Some unsupported) c.args.runner.now)
+  called = subst (λ (plan : Plan Verified). IsCarriedOut g.R.Runner.runs plan c.args.runner.now (Some unsupported) c.args.runner.now)
       (sym (no_plan (options_view c.args.options) (bstr_bytes c.args.signature) (signed_bytes c.args.self.now))) (refl, refl);
-  taken = tt;
+  consumed = tt;
 }

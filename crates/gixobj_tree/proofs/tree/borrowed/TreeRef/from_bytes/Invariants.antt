@@ -1,4 +1,4 @@
--- The entries so far were read of the input, and the rest is left.
+-- The consumed input is the entries so far, and the rest remains.
 use Rattle.std.proofs.Common.{length, map}
 use Rattle.gixobj_tree.proofs.EntryRuns.{PassesEntries}
 use Rattle.gixobj_tree.proofs.tree.borrowed.TreeRef.from_bytes.Given as goal
@@ -7,6 +7,6 @@ use Rattle.gixobj_tree.specs.TreeViews.{entry_view}
 abbrev pub invariant-loop-rest : goal.invariant-loop-rest
 invariant-loop-rest l = PassesEntries l.hash_kind l.bytes (map entry_view l.entries.items) l.rest
 
--- fewer bytes are left each time
+-- fewer bytes remain after each entry
 abbrev pub decreases-loop-rest : goal.decreases-loop-rest
 decreases-loop-rest l = length l.rest

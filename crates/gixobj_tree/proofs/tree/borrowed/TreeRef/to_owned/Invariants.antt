@@ -1,4 +1,4 @@
--- The entries before the one in hand are copied.
+-- The entries before the current one are copied.
 use Rattle.std.proofs.Common.{◌≡◌, take, map}
 use Rattle.gixobj_tree.proofs.tree.borrowed.TreeRef.to_owned.Given as goal
 use Rattle.gixobj_tree.specs.TreeViews.{entry_view}

@@ -7,14 +7,14 @@ use Rattle.gixobj_tree.proofs.tree.borrowed.decode.near_zero.Goals as goal
 
 pub returns-then-marks-eq0-clause-none : goal.returns-then-marks-eq0-clause-none
 returns-then-marks-eq0-clause-none c =
-    let front = take 32 c.args.input.now in
+    let prefix = take 32 c.args.input.now in
     let long = length-take-le 32 c.args.input.now c.requires in
-    no_near_zero front (sym (bitmask_splat w8 eqb front 32 0 long (omega arith)) ∙ c.if-marks-eq0.true)
+    no_near_zero prefix (sym (bitmask_splat w8 eqb prefix 32 0 long (omega arith)) ∙ c.if-marks-eq0.true)
 
 pub returns-clause-found : goal.returns-clause-found
 returns-clause-found c =
-    let front = take 32 c.args.input.now in
+    let prefix = take 32 c.args.input.now in
     let long = length-take-le 32 c.args.input.now c.requires in
-    let bits = bitmask_splat w8 eqb front 32 0 long (omega arith) in
-    let some : 0 < zero_bits front = some_bit _ _ bits c.if-marks-eq0.false in
-    found c.args.input.now _ some (ap (trailing_zeros w64) bits ∙ trailing_mask_l (λ x. eqb x 0) 64 front (omega (arith, long)) some)
+    let bits = bitmask_splat w8 eqb prefix 32 0 long (omega arith) in
+    let some : 0 < zero_bits prefix = some_bit _ _ bits c.if-marks-eq0.false in
+    found c.args.input.now _ some (ap (trailing_zeros w64) bits ∙ trailing_mask_l (λ x. eqb x 0) 64 prefix (omega (arith, long)) some)

@@ -1,6 +1,7 @@
 use Rattle.std.proofs.Common.{◌≡◌, ◌≤◌, ◌<◌, ◌^◌, take, length}
-use Rattle.gixobj_tree.specs.TreeText.{tree_text, with_ids}
+use Rattle.gixobj_tree.specs.TreeEncoding.{encode_tree, with_ids}
 use Rattle.gixobj_tree.proofs.tree.write.TreeWriteTo.size.Given as goal
 
 abbrev pub invariant-loop-entry : goal.invariant-loop-entry
-invariant-loop-entry l = (with_ids l.size l.entry-index l.longer ≡ length (tree_text (take l.entry-index l.entry-items))) × (l.longer ≤ l.entry-index) × (l.entry-items ≡ l.self) × (l.size < 2 ^ 64)
+invariant-loop-entry l = (with_ids l.size l.entry-index l.longer ≡ length (encode_tree (take l.entry-index l.entry-items))) × (l.longer ≤ l.entry-index)
+    × (l.entry-items ≡ l.self) × (l.size < 2 ^ 64)

@@ -5,6 +5,7 @@ use Rattle.gixobj_text.proofs.commit.message.body.scan.block_start.Goals.{else-s
 pub returns-else-scan : goal.returns-else-scan
 returns-else-scan c =
     elim c.else-scan.branch [
-      | else-scan-via-then-scan+else-is_block w ↦ no_block_here c.args.body.now c.scanned-scan.result w.is_block.result c.scanned-scan.ensures w.if-scan.true w.is_block.ensures w.if-is_block.false
+      | else-scan-via-then-scan+else-is_block w ↦ no_block_here c.args.body.now c.scanned-scan.result w.is_block.result c.scanned-scan.ensures w.if-scan.true
+          w.is_block.ensures w.if-is_block.false
       | else-scan-via-else-scan w ↦ no_run_here c.args.body.now c.scanned-scan.result c.scanned-scan.ensures w.if-scan.false
     ]

@@ -2,7 +2,7 @@ use Rattle.std.proofs.Common.{length}
 use Rattle.gixobj_text.specs.Scanned.{IsWalked}
 use Rattle.gixobj_text.proofs.commit.message.body.scan.scanned.Given as goal
 
--- the walk has come to the rest
+-- the scan has reached the rest
 abbrev pub invariant-lines : goal.invariant-lines
 invariant-lines l = IsWalked l.fn.body l.rest l.scan
 

@@ -7,21 +7,27 @@ use Rattle.gixobj_text.proofs.commit.message.body.blocks.MessageBlocksIterator.n
 pub returns-clause-steps : goal.returns-clause-steps
 returns-clause-steps c =
     let some : c.args.self.now.cursor.now ≢ [] = some_is c.args.self.now.cursor.now c.is_empty.result c.if-is_empty.false c.is_empty.ensures in
-    let shorter : length c.behind_trailers-rest.result.now < length c.args.self.now.cursor.now =
-    block_shorter c.args.self.now.trailer_start c.args.self.now.cursor.now c.split_at.result.1.now c.at_trailer-trailers.result.now c.behind_trailers-rest.result.now
-    some c.split_at.ensures.back c.at_trailer-trailers.ensures c.behind_trailers-rest.ensures in (
-      subst (λ (rest : List ℕ). IsFirstBlock c.args.self.now.trailer_start c.args.self.now.cursor.now (record { message = bstr_bytes c.new.result; trailers = c.front_of-2.result.now }) rest) (sym c.new-2.ensures.text)
-          (first_block c.args.self.now.trailer_start c.args.self.now.cursor.now c.split_at.result.1.now c.at_trailer-trailers.result.now c.behind_trailers-rest.result.now
-          (bstr_bytes c.new.result) c.front_of-2.result.now some c.split_at.ensures.back c.at_trailer-trailers.ensures c.behind_trailers-rest.ensures (c.new.ensures ∙ c.front_of.ensures) c.front_of-2.ensures),
+    let shorter : length c.skip_trailers-rest.result.now < length c.args.self.now.cursor.now =
+    block_shorter c.args.self.now.trailer_start c.args.self.now.cursor.now c.split_at.result.1.now c.at_trailer-trailers.result.now
+    c.skip_trailers-rest.result.now
+    some c.split_at.ensures.back c.at_trailer-trailers.ensures c.skip_trailers-rest.ensures in (
+      subst (λ (rest : List ℕ). IsFirstBlock c.args.self.now.trailer_start c.args.self.now.cursor.now
+          (record { message = bstr_bytes c.new.result; trailers = c.prefix_before-2.result.now }) rest) (sym c.new-2.ensures.encoded)
+          (first_block c.args.self.now.trailer_start c.args.self.now.cursor.now c.split_at.result.1.now c.at_trailer-trailers.result.now
+          c.skip_trailers-rest.result.now
+          (bstr_bytes c.new.result) c.prefix_before-2.result.now some c.split_at.ensures.back c.at_trailer-trailers.ensures c.skip_trailers-rest.ensures
+          (c.new.ensures ∙ c.prefix_before.ensures) c.prefix_before-2.ensures),
       c.new-2.ensures.start,
-      subst (λ (text : List ℕ). length text < length c.args.self.now.cursor.now) (sym c.new-2.ensures.text) shorter,
+      subst (λ (content : List ℕ). length content < length c.args.self.now.cursor.now) (sym c.new-2.ensures.encoded) shorter,
     )
 
 pub returns-clause-goes : goal.returns-clause-goes
 returns-clause-goes c =
     let some : c.args.self.now.cursor.now ≢ [] = some_is c.args.self.now.cursor.now c.is_empty.result c.if-is_empty.false c.is_empty.ensures in
-    let shorter : length c.behind_trailers-rest.result.now < length c.args.self.now.cursor.now =
-    block_shorter c.args.self.now.trailer_start c.args.self.now.cursor.now c.split_at.result.1.now c.at_trailer-trailers.result.now c.behind_trailers-rest.result.now
-    some c.split_at.ensures.back c.at_trailer-trailers.ensures c.behind_trailers-rest.ensures in
-    let less : length c.new-2.result.cursor.now < length c.args.self.now.cursor.now = subst (λ (text : List ℕ). length text < length c.args.self.now.cursor.now) (sym c.new-2.ensures.text) shorter in
+    let shorter : length c.skip_trailers-rest.result.now < length c.args.self.now.cursor.now =
+    block_shorter c.args.self.now.trailer_start c.args.self.now.cursor.now c.split_at.result.1.now c.at_trailer-trailers.result.now
+    c.skip_trailers-rest.result.now
+    some c.split_at.ensures.back c.at_trailer-trailers.ensures c.skip_trailers-rest.ensures in
+    let less : length c.new-2.result.cursor.now < length c.args.self.now.cursor.now =
+    subst (λ (content : List ℕ). length content < length c.args.self.now.cursor.now) (sym c.new-2.ensures.encoded) shorter in
     search rules

@@ -5,6 +5,7 @@ use Rattle.gixobj_text.proofs.commit.message.body.scan.Scan.with_next.Goals as g
 
 pub returns-clause-scanned : goal.returns-clause-scanned
 returns-clause-scanned c = λ lines it.
-    scanned_next lines c.args.line.now c.args.self _ it c.requires.filled c.requires.going
+    scanned_next lines c.args.line.now c.args.self _ it c.requires.filled c.requires.proceeds
     refl c.requires.last refl refl refl
-    (λ run counts. counts_more run c.args.line.now c.args.self.run c.with_line.result counts c.with_line.ensures.trailers c.with_line.ensures.others c.with_line.ensures.recognised c.with_line.ensures.above)
+    (λ run counts. counts_more run c.args.line.now c.args.self.run c.with_line.result counts c.with_line.ensures.trailers c.with_line.ensures.others
+    c.with_line.ensures.recognised c.with_line.ensures.above)

@@ -1,0 +1,135 @@
+-- An encoded time decodes to the same time, and bytes decode to at most one time. The function `parse_header` and the
+-- law `time_round_trips` use it.
+use Rattle.std.proofs.Common.{◌≡◌, ◌≢◌, ◌<◌, ◌+◌, ◌*◌, ◌/◌, ◌%◌, ◌^◌, ℕ, suc, Bool, true, false, List, [], ◌∷◌, arith, refl, sym, ap, subst, ◌∙◌}
+use Rattle.std.proofs.lemmas.Bool.{eqb-true}
+use Rattle.std.proofs.lemmas.Fmt.{decimal_is_IsNumeral}
+use Rattle.std.proofs.lemmas.List.Elements.{All-cons, All-nil}
+use Rattle.std.specs.Char.{digit_value}
+use Rattle.std.specs.Fmt.{signed_decimal}
+use Rattle.std.specs.Int.{w64}
+use Rattle.std.specs.Prelude.{◌==◌, ℤ, pos, negsuc, neg_ℤ, FitsSigned, decimal, if◌then◌else◌}
+use Rattle.std.specs.Str.Parse.{AllDigits}
+use Rattle.gixobj_hash.proofs.DecodedSizes.{unsigned_digits}
+use Rattle.gixobj_hash.proofs.Splits.{free_of_split, one_cut}
+use Rattle.gixobj_actor.specs.Date.{IsMalformedTime, IsOffset, DecodesToOffset, DecodesToSeconds, DecodesToTime, encode_offset, encode_offset_parts, seconds_digits, encode_time}
+use Rattle.gixobj_hash.specs.ByteStrings.{IsByteFree, SplitsAt}
+
+digit_no_space : (byte : ℕ) → digit_value byte < 10 → byte ≢ 32
+digit_no_space byte digit space =
+    let value : digit_value byte ≡ 36 = ap digit_value space in
+    omega arith
+
+digits_spaceless : (bytes : List ℕ) → AllDigits 10 bytes → IsByteFree 32 bytes
+digits_spaceless [] digits = All-nil (λ it. it ≢ 32)
+digits_spaceless (byte ∷ bytes) digits = All-cons (λ it. it ≢ 32) byte bytes (digit_no_space byte digits.0) (digits_spaceless bytes digits.1)
+
+minus_no_space : (byte : ℕ) → (byte == 45) ≡ true → byte ≢ 32
+minus_no_space byte minus space = omega (arith, eqb-true byte 45 minus)
+
+-- seconds that begin with a minus or a digit have no space
+signed_spaceless : (byte : ℕ) (bytes : List ℕ) (is_minus : Bool) → (byte == 45) ≡ is_minus → AllDigits 10 (seconds_digits (byte ∷ bytes))
+    → IsByteFree 32 (byte ∷ bytes)
+signed_spaceless byte bytes true minus digits =
+    All-cons (λ it. it ≢ 32) byte bytes (minus_no_space byte minus) (digits_spaceless bytes (rw minus at digits))
+signed_spaceless byte bytes false minus digits = digits_spaceless (byte ∷ bytes) (rw minus at digits)
+
+seconds_spaceless : (bytes : List ℕ) (seconds : ℤ) → DecodesToSeconds bytes seconds → IsByteFree 32 bytes
+seconds_spaceless [] seconds reads = All-nil (λ it. it ≢ 32)
+seconds_spaceless (byte ∷ bytes) seconds reads = signed_spaceless byte bytes (byte == 45) refl reads.digits.1
+
+pub spaceless_is_no_time : (bytes : List ℕ) → IsByteFree 32 bytes → IsMalformedTime bytes
+spaceless_is_no_time bytes free seconds offset time =
+    free_of_split 32 time.first time.second (let P : List ℕ → Type 0 = IsByteFree 32 in subst P time.joined free)
+
+-- the bytes before and after the first space decode to the seconds and the offset of the time
+pub time_parts : (bytes prefix rest : List ℕ) (seconds offset : ℤ) → SplitsAt 32 bytes prefix rest → DecodesToTime bytes seconds offset
+    → DecodesToSeconds prefix seconds × DecodesToOffset rest offset
+time_parts bytes prefix rest seconds offset split time =
+    let cut = one_cut 32 time.first time.second prefix rest (seconds_spaceless time.first seconds time.seconds_bytes) split.first
+    (sym time.joined ∙ split.joined) in
+    let S : List ℕ → Type 0 = λ it. DecodesToSeconds it seconds in
+    let O : List ℕ → Type 0 = λ it. DecodesToOffset it offset in
+    (subst S cut.0 time.seconds_bytes, subst O cut.1 time.offset_bytes)
+
+written_natural : (size : ℕ) → size < 2 ^ 64 → FitsSigned w64 (pos size) → DecodesToSeconds (decimal size) (pos size)
+written_natural size small fits =
+    let written = decimal_is_IsNumeral size small in
+    let unsigned = unsigned_digits (decimal size) written.0 in
+    record {
+      digits = rw unsigned.0 written.0;
+      value = rw unsigned.0 (ap pos (sym written.1));
+      fits = fits;
+    }
+
+written_seconds : (seconds : ℤ) → FitsSigned w64 seconds → DecodesToSeconds (signed_decimal seconds) seconds
+written_seconds (pos size) fits = written_natural size (omega arith) fits
+written_seconds (negsuc size) fits =
+    let written = decimal_is_IsNumeral (suc size) (omega arith) in
+    record {
+      digits = written.0;
+      value = ap (λ it. neg_ℤ (pos it)) (sym written.1);
+      fits = fits;
+    }
+
+hours_and_minutes : (size : ℕ) → size % 60 ≡ 0 → size ≡ 60 * (60 * (size / 60 / 60) + size / 60 % 60)
+hours_and_minutes size minutes = omega arith
+
+written_offset : (offset : ℤ) → IsOffset offset → DecodesToOffset (encode_offset offset) offset
+written_offset (pos size) proper =
+    record {
+      is_minus = false;
+      hours = size / 60 / 60;
+      minutes = size / 60 % 60;
+      encoded = refl;
+      hours_fit = omega arith;
+      minutes_fit = omega arith;
+      value = ap pos (hours_and_minutes size proper.0);
+    }
+written_offset (negsuc size) proper =
+    record {
+      is_minus = true;
+      hours = suc size / 60 / 60;
+      minutes = suc size / 60 % 60;
+      encoded = refl;
+      hours_fit = omega arith;
+      minutes_fit = omega arith;
+      value = ap (λ it. neg_ℤ (pos it)) (hours_and_minutes (suc size) proper.0);
+    }
+
+pub written_time : (seconds offset : ℤ) → FitsSigned w64 seconds → IsOffset offset → DecodesToTime (encode_time seconds offset) seconds offset
+written_time seconds offset fits proper =
+    record {
+      first = signed_decimal seconds;
+      second = encode_offset offset;
+      joined = refl;
+      seconds_bytes = written_seconds seconds fits;
+      offset_bytes = written_offset offset proper;
+    }
+
+-- unique decoding of each part
+same_digits : (a b : ℕ) → 48 + a / 10 ≡ 48 + b / 10 → 48 + a % 10 ≡ 48 + b % 10 → a ≡ b
+same_digits a b tens ones = omega arith
+
+same_sign : (a b : Bool) → ◌≡◌ {A = ℕ} (if a then 45 else 43) (if b then 45 else 43) → a ≡ b
+same_sign true true same = refl
+same_sign false false same = refl
+same_sign true false same = absurd (omega (arith, same))
+same_sign false true same = absurd (omega (arith, same))
+
+same_offset : (bytes : List ℕ) (a b : ℤ) → DecodesToOffset bytes a → DecodesToOffset bytes b → a ≡ b
+same_offset bytes a b first second =
+    let encodings : encode_offset_parts first.is_minus first.hours first.minutes ≡ encode_offset_parts second.is_minus second.hours second.minutes =
+    sym first.encoded ∙ second.encoded in
+    let sign = same_sign first.is_minus second.is_minus (cc encodings) in
+    let hours = same_digits first.hours second.hours (cc encodings) (cc encodings) in
+    let minutes = same_digits first.minutes second.minutes (cc encodings) (cc encodings) in
+    let size : 60 * (60 * first.hours + first.minutes) ≡ 60 * (60 * second.hours + second.minutes) = omega arith in
+    first.value ∙ cc (sign, size) ∙ sym second.value
+
+pub one_time : (bytes : List ℕ) (seconds offset seconds' offset' : ℤ) → DecodesToTime bytes seconds offset → DecodesToTime bytes seconds' offset'
+    → (seconds ≡ seconds') × (offset ≡ offset')
+one_time bytes seconds offset seconds' offset' first second =
+    let split : SplitsAt 32 bytes first.first first.second =
+    record { joined = first.joined; first = seconds_spaceless first.first seconds first.seconds_bytes } in
+    let other = time_parts bytes first.first first.second seconds' offset' split second in
+    (first.seconds_bytes.value ∙ sym other.0.value, same_offset first.second offset offset' first.offset_bytes other.1)

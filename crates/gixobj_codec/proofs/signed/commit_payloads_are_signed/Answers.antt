@@ -1,0 +1,12 @@
+use Rattle.gixobj_codec.proofs.CommitsExtracted.{payload_extracted}
+use Rattle.gixobj_codec.proofs.SignaturesFound.{signature_is_there, signature_not_rejected}
+use Rattle.gixobj_codec.proofs.signed.commit_payloads_are_signed.Goals as goal
+
+pub returns-clause-payload : goal.returns-clause-payload
+returns-clause-payload c kind commit bytes value signed named fields has = payload_extracted kind commit bytes named fields value signed has
+
+pub returns-clause-found : goal.returns-clause-found
+returns-clause-found c = signature_is_there
+
+pub returns-clause-no_fault : goal.returns-clause-no_fault
+returns-clause-no_fault c = signature_not_rejected

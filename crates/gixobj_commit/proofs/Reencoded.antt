@@ -1,0 +1,61 @@
+-- Decoded commits re-encode identically.
+use Rattle.std.proofs.Common.{◌≡◌, ◌≢◌, ℕ, List, [], ◌∷◌, ◌++◌, All, Option, Some, None, map, refl, ap, sym, ◌∙◌, inl, inr, codes}
+use Rattle.std.specs.List.{AllPass, flat_map}
+use Rattle.std.specs.Str.{str_to_ascii_lowercase}
+use Rattle.std.proofs.lemmas.List.Elements.{All-head, All-tail}
+use Rattle.gixobj_hash.specs.Hash.{is_lower_hex_digit}
+use Rattle.gixobj_fields.specs.HeaderFormat.{Header, encode_field}
+use Rattle.gixobj_fields.specs.Writing.{RejectedValue, RejectsNothing}
+use Rattle.gixobj_hash.specs.declared.hash.kind.Kind.{Kind}
+use Rattle.gixobj_fields.proofs.FieldWrites.{holds_none}
+use Rattle.gixobj_fields.proofs.HeadersRoundTrip.{header_round_trips}
+use Rattle.gixobj_hash.proofs.HexCase.{lower_case_stays}
+use Rattle.gixobj_commit.specs.Commit.{DecodesToHeaders, CommitLines, DecodesToCommit, IsEncoding, encode_encoding, encode_parent}
+use Rattle.gixobj_commit.specs.CommitWriting.{IsEncodingError, IsCommitLinesError, encode_commit, in_lower_case}
+use Rattle.gixobj_fields.specs.FieldWriting.{encode_header}
+
+headers_read_back : (bytes : List ℕ) (headers : List Header) → DecodesToHeaders bytes headers → flat_map encode_header headers ≡ bytes
+headers_read_back bytes [] none = sym none
+headers_read_back bytes (header ∷ headers) (first, rest, joined, one, more) =
+    ap (λ (it : List ℕ). it ++ flat_map encode_header headers) (header_round_trips first header one)
+    ∙ ap (λ (it : List ℕ). first ++ it) (headers_read_back rest headers more)
+    ∙ sym joined
+
+-- ---- a commit
+
+all_stay : (encodings : List (List ℕ)) → All (λ bytes. AllPass is_lower_hex_digit bytes) encodings → map str_to_ascii_lowercase encodings ≡ encodings
+all_stay [] lower = refl
+all_stay (bytes ∷ encodings) lower =
+    let P : List ℕ → Type 0 = λ it. AllPass is_lower_hex_digit it in
+    let first = lower_case_stays bytes (All-head P bytes encodings lower) in
+    let rest = all_stay encodings (All-tail P bytes encodings lower) in
+    cc (first, rest)
+
+-- the encoding of a commit, from its parts
+abbrev of_parts : List ℕ → List (List ℕ) → CommitLines → List ℕ → List ℕ
+of_parts tree parents commit headers = encode_field (codes "tree") tree ++ flat_map encode_parent parents
+    ++ encode_field (codes "author") commit.author ++ encode_field (codes "committer") commit.committer
+    ++ encode_encoding commit.encoding ++ headers ++ 10 ∷ commit.message
+
+-- a decoded commit re-encodes identically if its ids are in lower case
+pub commit_reencodes_identically : (kind : Kind) (bytes : List ℕ) (commit : CommitLines) → DecodesToCommit kind bytes commit
+    → AllPass is_lower_hex_digit commit.tree → All (λ hex. AllPass is_lower_hex_digit hex) commit.parents → encode_commit (in_lower_case commit) ≡ bytes
+commit_reencodes_identically kind bytes commit it tree parents =
+    ap (λ (hex : List ℕ). of_parts hex (map str_to_ascii_lowercase commit.parents) commit (flat_map encode_header commit.extra_headers))
+    (lower_case_stays commit.tree tree)
+    ∙ ap (λ (hexes : List (List ℕ)). of_parts commit.tree hexes commit (flat_map encode_header commit.extra_headers)) (all_stay commit.parents parents)
+    ∙ ap (λ (headers : List ℕ). of_parts commit.tree commit.parents commit headers)
+    (headers_read_back it.headers_encoding commit.extra_headers it.extra_headers)
+    ∙ sym it.joined
+
+encoding_not_rejected : (encoding : Option (List ℕ)) (headers : List Header) → IsEncoding encoding headers → encoding ≢ Some [] → (value : RejectedValue)
+    → IsEncodingError encoding value → ⊥
+encoding_not_rejected None headers is some value rejected = rejected
+encoding_not_rejected (Some encoding) headers is some value (inl (none, same)) = some (ap Some none)
+encoding_not_rejected (Some encoding) headers is some value (inr (has, same)) = holds_none 10 encoding is has
+
+-- the encoder of a decoded commit rejects only an empty message encoding
+pub read_commit_not_rejected : (kind : Kind) (bytes : List ℕ) (commit : CommitLines) → DecodesToCommit kind bytes commit → commit.encoding ≢ Some []
+    → RejectsNothing (IsCommitLinesError (in_lower_case commit))
+read_commit_not_rejected kind bytes commit it some value parts rejected =
+    encoding_not_rejected commit.encoding commit.extra_headers it.encoding some value rejected.0

@@ -1,0 +1,115 @@
+-- States which parts an owned copy has, and why encoding it fails; the law `owned_commit_has_same_parts` uses it.
+use Rattle.std.proofs.Common.{◌≡◌, ◌⊎◌, inl, inr, ℕ, List, [], ◌∷◌, Option, Some, None, refl, ap, subst}
+use Rattle.std.specs.Prelude.{map}
+use Rattle.std.specs.List.{AllZip}
+use Rattle.std.specs.Str.{str_to_ascii_lowercase}
+use Rattle.std.proofs.lemmas.List.Elements.{All-contains}
+use Rattle.bstr.specs.Owned.{bstring_bytes}
+use Rattle.gixobj_actor.proofs.OwnedActors.{canonical, unwritable}
+use Rattle.gixobj_actor.specs.ActorWriting.{IsUnwritable}
+use Rattle.gixobj_hash.specs.Hash.{DecodesToId, encode_id_hex}
+use Rattle.gixobj_fields.specs.HeaderFormat.{Header}
+use Rattle.gixobj_fields.specs.Streams.{SinkView}
+use Rattle.gixobj_fields.specs.Writing.{RejectedValue, IsWritingError, bad_name, empty_header, header_with_newline, illegal_actor, name_with_dash, name_with_zero_byte}
+use Rattle.gixobj_hash.specs.declared.decode.Error.TheVariants.{Malformed}
+use Rattle.gixobj_fields.specs.declared.encode.Error.{Error}
+use Rattle.gixobj_fields.specs.declared.encode.Error.TheVariants as encode
+use Rattle.gixobj_hash.specs.declared.hash.kind.Kind.{Kind}
+use Rattle.gixobj_hash.specs.declared.hash.object_id.ObjectId.{ObjectId}
+use Rattle.gixobj_hash.proofs.HexCase.{hex_in_lower_case}
+use Rattle.gixobj_commit.specs.Commit.{CommitLines, DecodesToCommit, IsEncoding}
+use Rattle.gixobj_commit.specs.CommitOwned.{IsOwnedFormOfCommit, IsIntoOwnedCommitError}
+use Rattle.gixobj_commit.specs.CommitViews.{owned_commit_lines}
+use Rattle.gixobj_commit.specs.CommitWriting.{IsEncodingError, IsOwnedCommitError, encode_commit}
+use Rattle.gixobj_commit.specs.Rewriting.{AreNormalizedPartsOfCommit, HasEmptyEncoding, IsNormalizedCommitError}
+use Rattle.gixobj_commit.specs.declared.commit.Commit.{Commit}
+
+-- ---- the owned copy
+
+ids_in_lower_case : (hexes : List (List ℕ)) (ids : List ObjectId) → AllZip DecodesToId hexes ids
+    → map encode_id_hex ids ≡ map str_to_ascii_lowercase hexes
+ids_in_lower_case [] [] are = refl
+ids_in_lower_case [] (id ∷ ids) are = absurd are
+ids_in_lower_case (hex ∷ hexes) [] are = absurd are
+ids_in_lower_case (hex ∷ hexes) (id ∷ ids) are = let one = hex_in_lower_case hex id are.0 in let more =
+    ids_in_lower_case hexes ids are.1 in cc (one, more)
+
+pub own_parts : (lines : CommitLines) (commit : Commit) → IsOwnedFormOfCommit lines commit
+    → AreNormalizedPartsOfCommit lines (owned_commit_lines commit)
+own_parts lines commit is =
+    record {
+      tree = hex_in_lower_case lines.tree commit.tree is.tree;
+      parents = ids_in_lower_case lines.parents commit.parents.items is.parents;
+      author = canonical lines.author commit.author is.author;
+      committer = canonical lines.committer commit.committer is.committer;
+      encoding = is.encoding;
+      extra_headers = is.extra_headers;
+      message = is.message;
+    }
+
+-- ---- errors
+
+-- what is rejected of the message encoding of a decoded commit
+encoding_rejected : (encoding : Option (List ℕ)) (headers : List Header) (value : RejectedValue) → IsEncoding encoding headers
+    → IsEncodingError encoding value
+    → (value ≡ empty_header) × (encoding ≡ Some [])
+encoding_rejected None headers value is rejected = absurd rejected
+encoding_rejected (Some encoding) headers value is (inl (none, is_empty)) = (is_empty, ap (λ (it : List ℕ). Some it) none)
+encoding_rejected (Some encoding) headers value is (inr (has, is_newline)) = absurd (All-contains (λ (it : ℕ). it ≡ 10 → ⊥) encoding 10 is has refl)
+
+-- what is rejected of the owned copy of a decoded commit
+abbrev WhatIsRejected : CommitLines → RejectedValue → Type 0
+WhatIsRejected lines value = ((value ≡ illegal_actor) × (IsUnwritable lines.author ⊎ IsUnwritable lines.committer))
+    ⊎ ((value ≡ empty_header) × HasEmptyEncoding lines)
+
+what_is_rejected : (kind : Kind) (bytes : List ℕ) (lines : CommitLines) (commit : Commit) (value : RejectedValue) (parts : List ℕ)
+    → DecodesToCommit kind bytes lines → IsOwnedFormOfCommit lines commit → IsOwnedCommitError commit value parts → WhatIsRejected lines value
+what_is_rejected kind bytes lines commit value parts read own (inl (illegal, is, before)) =
+    inl (is, inl (unwritable lines.author commit.author own.author illegal))
+what_is_rejected kind bytes lines commit value parts read own (inr (inl (legal, illegal, is, before))) =
+    inl (is, inr (unwritable lines.committer commit.committer own.committer illegal))
+what_is_rejected kind bytes lines commit value parts read own (inr (inr (legal, other, rejected))) =
+    inr (encoding_rejected lines.encoding lines.extra_headers value read.encoding
+    (subst (λ (it : Option (List ℕ)). IsEncodingError it value) own.encoding rejected.0))
+
+no_other : (lines : CommitLines) (value : RejectedValue) → WhatIsRejected lines value → (value ≡ illegal_actor → ⊥) → (value ≡ empty_header → ⊥) → ⊥
+no_other lines value (inl (is, actor)) no_actor no_encoding = no_actor is
+no_other lines value (inr (is, encoding)) no_actor no_encoding = no_encoding is
+
+its_actor : (lines : CommitLines) → WhatIsRejected lines illegal_actor → IsUnwritable lines.author ⊎ IsUnwritable lines.committer
+its_actor lines (inl (is, actor)) = actor
+its_actor lines (inr (is, encoding)) = cc
+
+its_encoding : (lines : CommitLines) → WhatIsRejected lines empty_header → HasEmptyEncoding lines
+its_encoding lines (inl (is, actor)) = cc
+its_encoding lines (inr (is, encoding)) = encoding
+
+pub own_error : (kind : Kind) (content : List ℕ) (lines : CommitLines) (commit : Commit) (before after : SinkView) (error : Error)
+    → DecodesToCommit kind content lines → IsOwnedFormOfCommit lines commit
+    → IsWritingError (IsOwnedCommitError commit) before after (encode_commit (owned_commit_lines commit)) error
+    → IsNormalizedCommitError lines before after (encode_commit (owned_commit_lines commit)) error
+own_error kind content lines commit before after (encode.Writer cause) read own says = says
+own_error kind content lines commit before after encode.IllegalActor read own (parts, rejected, inserts) =
+    its_actor lines (what_is_rejected kind content lines commit illegal_actor parts read own rejected)
+own_error kind content lines commit before after encode.EmptyValue read own (parts, rejected, inserts) =
+    its_encoding lines (what_is_rejected kind content lines commit empty_header parts read own rejected)
+own_error kind content lines commit before after (encode.NewlineInHeaderValue value) read own (parts, rejected, inserts) =
+    no_other lines _ (what_is_rejected kind content lines commit (header_with_newline (bstring_bytes value)) parts read own rejected) (λ e. cc)
+    (λ e. cc)
+own_error kind content lines commit before after encode.StartsWithDash read own (parts, rejected, inserts) =
+    no_other lines _ (what_is_rejected kind content lines commit name_with_dash parts read own rejected) (λ e. cc) (λ e. cc)
+own_error kind content lines commit before after (encode.InvalidRefName fault) read own (parts, rejected, inserts) =
+    no_other lines _ (what_is_rejected kind content lines commit (bad_name fault) parts read own rejected) (λ e. cc) (λ e. cc)
+own_error kind content lines commit before after (encode.NullbyteInFilename name) read own (parts, rejected, inserts) =
+    no_other lines _ (what_is_rejected kind content lines commit (name_with_zero_byte (bstring_bytes name)) parts read own rejected) (λ e. cc)
+    (λ e. cc)
+own_error kind content lines commit before after encode.OutOfMemory read own (value, inl (parts, rejected, inserts)) =
+    no_other lines _ (what_is_rejected kind content lines commit (header_with_newline value) parts read own rejected) (λ e. cc) (λ e. cc)
+own_error kind content lines commit before after encode.OutOfMemory read own (value, inr (parts, rejected, inserts)) =
+    no_other lines _ (what_is_rejected kind content lines commit (name_with_zero_byte value) parts read own rejected) (λ e. cc) (λ e. cc)
+
+-- the actor lines of a decoded commit are valid
+pub actors_read : (kind : Kind) (content : List ℕ) (lines : CommitLines) → DecodesToCommit kind content lines → IsIntoOwnedCommitError lines Malformed
+    → ⊥
+actors_read kind content lines read (inl bad) = let (name, email, time, is) = read.author in bad name email time is
+actors_read kind content lines read (inr bad) = let (name, email, time, is) = read.committer in bad name email time is

@@ -1,0 +1,14 @@
+-- The extra headers that an iterator has yet to yield.
+use Rattle.std.specs.Prelude.{List, map}
+use Rattle.gixobj_fields.specs.HeaderReading.{header_of, owned_header_of}
+use Rattle.gixobj_fields.specs.HeaderFormat.{Header}
+use Rattle.gixobj_commit.specs.declared.extra_headers.BorrowedHeaders.{BorrowedHeaders}
+use Rattle.gixobj_commit.specs.declared.extra_headers.OwnedHeaders.{OwnedHeaders}
+
+-- the remaining headers of a borrowed commit
+abbrev pub remaining_headers : BorrowedHeaders → List Header
+remaining_headers headers = map header_of headers.rest.now
+
+-- the remaining headers of an owned commit
+abbrev pub remaining_owned_headers : OwnedHeaders → List Header
+remaining_owned_headers headers = map owned_header_of headers.rest.now

@@ -1,0 +1,25 @@
+use Rattle.std.proofs.Common.{◌≡◌, ◌≢◌, ◌≤◌, ◌+◌, ◌*◌, ◌++◌, length}
+use Rattle.std.specs.Prelude.{reverse, vec_capacity, vec_len}
+use Rattle.gixobj_tree.specs.Entries.{EachLater}
+use Rattle.gixobj_directories.specs.Nested.{below, parts}
+use Rattle.gixobj_directories.specs.LeafTrees.{leaf_trees}
+use Rattle.gixobj_directories.proofs.leaf_trees.+taking.Given as goal
+
+abbrev pub decreases-take_leaf_trees : goal.decreases-take_leaf_trees
+decreases-take_leaf_trees l = 2 * length (below (parts l.children.items)) + 1
+
+abbrev pub decreases-take_leaf_tree : goal.decreases-take_leaf_tree
+decreases-take_leaf_tree l = 2 * length l.node
+
+abbrev pub decreases-take_leaf_trees-loop-child : goal.decreases-take_leaf_trees-loop-child
+decreases-take_leaf_trees-loop-child l = length l.children.items
+
+-- the trees that were taken, followed by those of the remaining directories, the last first, are those of all
+abbrev pub invariant-take_leaf_trees-loop-child : goal.invariant-take_leaf_trees-loop-child
+invariant-take_leaf_trees-loop-child l = record {
+  taken : l.trees.items ++ reverse (leaf_trees (below (parts l.children.items))) ≡ l.fn.trees.items ++ reverse (leaf_trees (below (parts l.fn.children.items)));
+  room : vec_len l.trees + length (leaf_trees (below (parts l.children.items))) ≤ vec_capacity l.trees;
+  apart : EachLater (λ x y. x.0 ≢ y.0) (parts l.children.items);
+  capacity : vec_capacity l.fn.trees ≤ vec_capacity l.trees;
+  fewer : length (below (parts l.children.items)) ≤ length (below (parts l.fn.children.items));
+}

@@ -1,0 +1,53 @@
+-- A write of open directories: which one is next, what one entry emits, and where a write stops.
+use Rattle.std.specs.Prelude.{◌≡◌, ◌+◌, ℕ, List, [], ◌∷◌, ◌++◌, Option, Some, None, if◌then◌else◌}
+use Rattle.std.specs.List.{FoldsTo}
+use Rattle.gixobj_tree.specs.Entries.{EntryView, Pair}
+use Rattle.gixobj_hash.specs.declared.hash.object_id.ObjectId.{ObjectId}
+use Rattle.bstr.specs.Owned.{bstring_bytes}
+use Rattle.gixobj_files.specs.Editing.{same_name}
+use Rattle.gixobj_files.specs.Emission.{Walks, entry_with}
+use Rattle.gixobj_files.specs.Opening.{Dirs, in_dir}
+use Rattle.gixobj_directories.specs.declared.open.Child.{Child}
+use Rattle.gixobj_directories.specs.Nested.{Level, at_side}
+use Rattle.gixobj_directories.specs.declared.write.WriteError.{WriteError}
+use Rattle.gixobj_directories.specs.declared.write.WriteError.TheVariants as write
+
+-- the entry emits these pairs and leaves these entries, with `saved` unchanged directories at and below it, whatever
+-- entries come after it; the directories and the bases are those in it
+abbrev pub Visits : Dirs → Dirs → EntryView → List Pair → List EntryView → ℕ → Type 0
+Visits inside based e inner kept saved =
+    (dirs bases : Dirs) → in_dir e.name dirs ≡ inside → in_dir e.name bases ≡ based
+    → (entries : List EntryView) (below : List Pair) (own : List EntryView) (more : ℕ)
+    → Walks dirs bases entries below own more
+    → Walks dirs bases (e ∷ entries) (inner ++ below) (kept ++ own) (saved + more)
+
+-- the entry with this id, or no entry if there is no id
+abbrev pub kept_with : EntryView → Option ObjectId → List EntryView
+kept_with e None = []
+kept_with e (Some id) = entry_with e id
+
+-- a write stopped with an error; `out` returned ids for a prefix of the emitted pairs, and then an error for the next
+-- tree, or memory ran out
+abbrev pub Stopped : {F E : Type 0} → (F → Pair → F → Type 0) → (F → List EntryView → E → F → Type 0)
+    → (List Pair → Type 0) → F → F → WriteError E → Type 0
+Stopped {F} gave rejected goes_out old new (write.Out e) =
+    (before : List Pair) × (tree : List EntryView) × (requested : F) × FoldsTo gave old before requested
+    × rejected requested tree e new
+    × ((id : ObjectId) → (rest : List Pair) × goes_out (before ++ (id, tree) ∷ rest))
+Stopped {F} gave rejected goes_out old new write.OutOfMemory = (before rest : List Pair) × FoldsTo gave old before new
+    × goes_out (before ++ rest)
+
+-- the first of these open directories, if it has this name
+abbrev pub next_child : List ℕ → List Child → Option Child
+next_child name [] = None
+next_child name (c ∷ cs) = if same_name (bstring_bytes c.name) name then Some c else None
+
+-- the open directories after the first if that has this name, and else all of them
+abbrev pub pairs_after_next : List ℕ → List Child → List Child
+pairs_after_next name [] = []
+pairs_after_next name (c ∷ cs) = if same_name (bstring_bytes c.name) name then cs else c ∷ cs
+
+-- one list of each directory that is open in a child, if there is a child
+abbrev pub child_side : (Level → List EntryView) → Option Child → Dirs
+child_side side None path = None
+child_side side (Some c) path = at_side side c.open path

@@ -1,0 +1,52 @@
+-- Leaf trees: trees of directories that are emitted without a copy, and moved after the last call.
+use Rattle.std.specs.Prelude.{◌≡◌, ◌≢◌, ◌⊎◌, ◌&&◌, ◌==◌, Bool, true, false, not, List, [], ◌∷◌, ◌++◌, Option, Some, None, length, if◌then◌else◌}
+use Rattle.std.specs.List.{list_all}
+use Rattle.gixobj_tree.specs.Entries.{EntryView, Pair}
+use Rattle.gixobj_tree.specs.EntryOrder.{same_tree}
+use Rattle.gixobj_files.specs.Editing.{same_name}
+use Rattle.gixobj_files.specs.Files.{Path, is_null}
+use Rattle.gixobj_directories.specs.declared.open.Child.{Child}
+use Rattle.gixobj_directories.specs.Nested.{Level, Opened}
+
+-- the second path is at or below the first
+abbrev pub is_at_or_below : Path → Path → Bool
+is_at_or_below [] path = true
+is_at_or_below (name ∷ rest) [] = false
+is_at_or_below (name ∷ rest) (next ∷ path) = same_name next name && is_at_or_below rest path
+
+-- the first of these directories is open in the directory of this path
+abbrev pub is_above : Path → Opened → Bool
+is_above path [] = false
+is_above path (d ∷ ds) = is_at_or_below path d.0
+
+-- a leaf tree has entries, none of them with a null id, and isn't the base
+abbrev pub is_leaf_tree : Level → Bool
+is_leaf_tree level = not (length level.0 == 0) && list_all (λ e. not (is_null e.id)) level.0 && not
+    (same_tree level.0 level.1)
+
+-- the leaf trees of the directories in which no directory is open, in the order in which they are emitted
+abbrev pub leaf_trees : Opened → List (List EntryView)
+leaf_trees [] = []
+leaf_trees (d ∷ ds) = (if not (is_above d.0 ds) && is_leaf_tree d.1 then d.1.0 ∷ [] else []) ++ leaf_trees ds
+
+-- the open directories without the directory itself
+abbrev pub inside_of : Opened → Opened
+inside_of [] = []
+inside_of (d ∷ ds) = ds
+
+-- the leaf trees of a child, if there is one
+abbrev pub child_leaf_trees : Option Child → List (List EntryView)
+child_leaf_trees None = []
+child_leaf_trees (Some c) = leaf_trees c.open
+
+-- pairs in which these trees replace the empty ones, one after the other
+abbrev pub Fills : List Pair → List (List EntryView) → List Pair → Type 0
+Fills [] trees pairs = (trees ≡ []) × (pairs ≡ [])
+Fills (passed ∷ rest) trees pairs =
+    ((more : List Pair) × (passed.1 ≢ []) × (pairs ≡ passed ∷ more) × Fills rest trees more)
+    ⊎ ((tree : List EntryView) × (remaining : List (List EntryView)) × (more : List Pair) × (passed.1 ≡ [])
+    × (trees ≡ tree ∷ remaining) × (pairs ≡ (passed.0, tree) ∷ more) × Fills rest remaining more)
+
+-- the pairs that were appended are these pairs, once the trees replace the empty ones
+abbrev pub Adds : List Pair → List Pair → List (List EntryView) → List Pair → Type 0
+Adds old new trees pairs = (passed : List Pair) × (new ≡ old ++ passed) × Fills passed trees pairs

@@ -1,0 +1,59 @@
+//! Ensured directories: the directories on a path become open.
+ghost use Rattle.std.specs.Prelude.{◌≡◌, None, OnErr, OnOk};
+ghost use Rattle.std.specs.List.{AllByRecursion};
+ghost use Rattle.gixobj_tree.specs.Entries.{IsEntryName};
+ghost use Rattle.gixobj_files.specs.Edits.{ensured_dirs};
+ghost use Rattle.gixobj_files.specs.Files.{Path};
+ghost use Rattle.gixobj_directories.specs.Calls.{names_of};
+ghost use Rattle.gixobj_directories.specs.Nested.{bases_of, dirs_of};
+ghost use Rattle.gixobj_files.specs.Bases.{edited_bases};
+
+use crate::open::{Open, add_directory, child_at, place_for};
+use bstr::BString;
+use gixobj_hash::hash::ObjectId;
+use gixobj_tree::Tree;
+use std::alloc::{AllocError, Global};
+
+impl Open {
+    /// Ensures that the directory at a path, and each parent directory of it, is open.
+    ///
+    /// A directory that isn't open is opened as empty. Its entry is unchanged if it is of tree mode.
+    /// Otherwise an entry of kind tree with the id `null` is inserted, in place of any entry of that name. A
+    /// path without names changes nothing.
+    ///
+    /// Allocates the directories that aren't open and their entries. Allocates nothing if the directory is
+    /// open.
+    ///
+    /// # Errors
+    ///
+    /// [`AllocError`] if memory runs out. Nothing is changed then.
+    pub fn ensure_directory(
+        &mut self,
+        alloc: Global,
+        path: &[BString],
+        null: ObjectId,
+    ) -> Result<(), AllocError>
+        requires { AllByRecursion IsEntryName (names_of path.now) }
+        ensures ok { OnOk result ((at : Path)
+            → dirs_of self.new at ≡ ensured_dirs (names_of path.now) null (dirs_of self.old) at) }
+        ensures bases { OnOk result ((at : Path)
+            → bases_of self.new at ≡ edited_bases (dirs_of self.old) (dirs_of self.new)
+            (bases_of self.old) at) }
+        ensures unchanged { OnErr result (self.new ≡ self.old) }
+        ensures unopened { OnErr result (dirs_of self.old (names_of path.now) ≡ None) }
+    {
+        let _ = &self.tree;
+        let Some((name, rest)) = path.split_first() else {
+            return Ok(());
+        };
+        let Some(place) = child_at(&self.children, name) else {
+            let mut inner = Open::new(alloc, Tree::empty(alloc));
+            inner.ensure_directory(alloc, rest, null)?;
+            let place = place_for(&self.children, name);
+            add_directory(&mut self.tree, &mut self.children, name, null, inner, place)?;
+            return Ok(());
+        };
+        let child = &mut self.children[place];
+        child.open.ensure_directory(alloc, rest, null)
+    }
+}

@@ -1,5 +1,0 @@
-use Rattle.gixobj_editor.proofs.Agreeing.{run_table}
-use Rattle.gixobj_editor.proofs.laws.fitting_runs_have_a_table.Goals as goal
-
-pub returns : goal.returns
-returns g c = run_table c.args.replies.now

@@ -1,0 +1,236 @@
+//! The script of ten lines, in which any allocation may fail. The reply to the failed command is out of
+//! memory, and the other replies are unchanged. A failed command that is repeated has the reply that it has
+//! with ample memory.
+
+use crate::runs::samples::{TEN_LINES, commands_of, editor_over, run_on};
+use crate::samples::has_id_and_count;
+use gixobj_base::encode;
+use gixobj_editor::editor::{Editor, Error, WriteError, Written};
+use gixobj_editor::{EditReply, Reply};
+use gixobj_find::{Keep, KeepError};
+use gixobj_find_tests::failing::Failing;
+use std::alloc::{AllocError, Global};
+
+/// The reply to a command with ample memory.
+#[derive(Clone, Copy)]
+pub(crate) enum Ample {
+    /// The edit is done.
+    Done,
+    /// This number of trees is emitted and kept, the last of this id.
+    Wrote(&'static str, usize),
+    /// A name is empty.
+    EmptyName,
+}
+
+const ROOT: Ample = Ample::Wrote("3c4e9cd789d88d8d89c1073707c3585e41b0e614", 2);
+
+/// The write of only the root, since the directory is unchanged.
+const ROOT_ALONE: Ample = Ample::Wrote("3c4e9cd789d88d8d89c1073707c3585e41b0e614", 1);
+
+const BAK: Ample = Ample::Wrote("d8329fc1cc938780ffdd9f94e0d364e0ea74f579", 1);
+
+const LAST: Ample = Ample::Wrote("0155eb4229851634a0f03eb265b69f5a2d56f341", 1);
+
+/// The replies to the ten lines.
+const AMPLE: &[Ample] = &[
+    Ample::Done,
+    Ample::Done,
+    Ample::Done,
+    ROOT,
+    Ample::Done,
+    ROOT_ALONE,
+    BAK,
+    Ample::Done,
+    LAST,
+    Ample::EmptyName,
+];
+
+/// Returns [`AMPLE`].
+pub(crate) fn ample_replies() -> &'static [Ample] {
+    AMPLE
+}
+
+/// What a reply is, compared with that with ample memory.
+#[derive(Clone, Copy)]
+pub(crate) enum Outcome {
+    /// The reply with ample memory.
+    Ample,
+    /// Out of memory, before anything was emitted or changed.
+    OutOfMemory,
+    /// Another reply.
+    Other,
+}
+
+/// Returns whether a tree has no id only because an allocation failed.
+fn is_for_memory(error: &encode::Error) -> bool {
+    matches!(error, encode::Error::Writer(_) | encode::Error::OutOfMemory)
+}
+
+/// Returns whether a reply is that with ample memory.
+pub(crate) fn is_ample(reply: &EditReply<encode::Error>, ample: Ample) -> bool {
+    match (reply, ample) {
+        (EditReply::Done, Ample::Done) => true,
+        (EditReply::Written(written), Ample::Wrote(id, count)) => has_id_and_count(
+            written, id, count,
+        ),
+        (EditReply::Refused(Error::EmptyPathComponent), Ample::EmptyName) => true,
+        _ => false,
+    }
+}
+
+/// Returns whether a command failed in an allocation before anything was emitted or changed.
+fn is_out_of_memory(reply: &EditReply<encode::Error>) -> bool {
+    match reply {
+        EditReply::Refused(Error::OutOfMemory) => true,
+        EditReply::WriteRefused(WriteError::OutOfMemory) => true,
+        EditReply::WriteRefused(WriteError::Out(error)) => is_for_memory(error),
+        _ => false,
+    }
+}
+
+/// Classifies a reply other than one on trees that were emitted and not all kept.
+pub(crate) fn outcome_of(reply: &EditReply<encode::Error>, ample: Ample) -> Outcome {
+    if is_out_of_memory(reply) {
+        return Outcome::OutOfMemory;
+    }
+    ample_or_other(is_ample(reply, ample))
+}
+
+/// Returns `Ample` or `Other`.
+fn ample_or_other(is_ample: bool) -> Outcome {
+    if is_ample {
+        Outcome::Ample
+    } else {
+        Outcome::Other
+    }
+}
+
+/// Keeps the trees after the first `count`, and returns whether that succeeds.
+fn keeps_the_rest(store: &mut Failing, written: &Written, count: usize) -> bool {
+    for (id, tree) in written.trees.iter().skip(count) {
+        if store.keep(*id, tree).is_err() {
+            return false;
+        }
+    }
+    true
+}
+
+/// Classifies a write whose trees were emitted and, for lack of memory, not all kept: the caller has the rest
+/// kept.
+fn unkept_outcome(
+    editor: &mut Editor<Failing>,
+    written: &Written,
+    count: usize,
+    ample: Ample,
+) -> Outcome {
+    match ample {
+        Ample::Wrote(id, wanted) => ample_or_other(
+            has_id_and_count(written, id, wanted)
+                && keeps_the_rest(editor.store_mut(), written, count),
+        ),
+        _ => Outcome::Other,
+    }
+}
+
+/// Classifies the reply to one edit or write.
+fn edit_outcome(
+    editor: &mut Editor<Failing>,
+    reply: &EditReply<encode::Error>,
+    ample: Ample,
+) -> Outcome {
+    match reply {
+        EditReply::NotKept(written, count, KeepError::OutOfMemory) => {
+            unkept_outcome(editor, written, *count, ample)
+        }
+        reply => outcome_of(reply, ample),
+    }
+}
+
+/// Classifies the replies to the edits in a directory, of which there is one.
+fn directory_outcome(
+    editor: &mut Editor<Failing>,
+    replies: &[EditReply<encode::Error>],
+    ample: Ample,
+) -> Outcome {
+    match replies {
+        [reply] => edit_outcome(editor, reply, ample),
+        _ => Outcome::Other,
+    }
+}
+
+/// Classifies the replies to one command.
+fn command_outcome(
+    editor: &mut Editor<Failing>,
+    replies: &[Reply<encode::Error>],
+    ample: Ample,
+) -> Outcome {
+    match replies {
+        [Reply::Edit(reply)] => edit_outcome(editor, reply, ample),
+        [Reply::AtRefused(Error::OutOfMemory)] => Outcome::OutOfMemory,
+        [Reply::At(replies)] => directory_outcome(editor, replies.as_slice(), ample),
+        _ => Outcome::Other,
+    }
+}
+
+/// Runs the command of a line alone, and classifies its reply.
+fn line_outcome(
+    alloc: Global,
+    editor: &mut Editor<Failing>,
+    line: &str,
+    ample: Ample,
+) -> Result<Outcome, AllocError> {
+    let commands = commands_of(alloc, line)?;
+    match run_on(alloc, editor, commands) {
+        Ok(replies) => Ok(command_outcome(editor, &replies, ample)),
+        Err(_) => Ok(Outcome::OutOfMemory),
+    }
+}
+
+/// Returns whether the command of a line has its reply, at once or in a second run after an allocation
+/// failed.
+fn gets(
+    alloc: Global,
+    editor: &mut Editor<Failing>,
+    line: &str,
+    ample: Ample,
+) -> Result<bool, AllocError> {
+    match line_outcome(alloc, editor, line, ample)? {
+        Outcome::Ample => Ok(true),
+        Outcome::OutOfMemory => Ok(matches!(
+            line_outcome(alloc, editor, line, ample)?,
+            Outcome::Ample
+        )),
+        Outcome::Other => Ok(false),
+    }
+}
+
+/// Returns whether each command has its reply.
+fn each_gets(alloc: Global, editor: &mut Editor<Failing>) -> Result<bool, AllocError> {
+    for (line, ample) in TEN_LINES.lines().zip(ample_replies()) {
+        if !gets(alloc, editor, line, *ample)? {
+            return Ok(false);
+        }
+    }
+    Ok(true)
+}
+
+/// Returns whether the editor counts the lookups of the store: two, or three if one was repeated.
+fn is_counted(editor: &mut Editor<Failing>) -> bool {
+    let lookups = editor.lookups();
+    lookups == editor.store_mut().lookups() && (2..4).contains(&lookups)
+}
+
+/// Returns whether each command has its reply, and the lookups are counted.
+fn all_get(alloc: Global) -> Result<bool, AllocError> {
+    let mut editor = editor_over(alloc, &[], &[]);
+    Ok(each_gets(alloc, &mut editor)? && is_counted(&mut editor))
+}
+
+#[test]
+fn runs_each_command_whatever_allocation_fails(rt: HostRuntime) {
+    let same = match all_get(rt.alloc()) {
+        Ok(same) => same,
+        Err(_) => all_get(rt.alloc()) == Ok(true),
+    };
+    assert!(rt; same);
+}

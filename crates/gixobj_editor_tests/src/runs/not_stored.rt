@@ -1,0 +1,457 @@
+//! Stores that fail to keep or to find a tree: the report, and the rest of the run.
+
+use crate::runs::samples::{TEN_LINES, editor_over, replies_to};
+use crate::samples::{has_id_and_count, report_of};
+use gixobj_base::encode;
+use gixobj_base::hash::ObjectId;
+use gixobj_editor::editor::{Editor, Error};
+use gixobj_editor::{EditReply, Reply};
+use gixobj_find::KeepError;
+use gixobj_find::find::existing_object;
+use gixobj_find_tests::failing::{Failing, OFFLINE};
+use gixobj_object::{Find, find};
+use std::alloc::Global;
+
+const BAK: &str = "d8329fc1cc938780ffdd9f94e0d364e0ea74f579";
+
+const ROOT: &str = "90b9c61d2318706c9668ce0b53d697aa2719b7b0";
+
+/// A write of two trees.
+const WRITE: &str = "upsert blob 83baae61804e65cc73a7201a7252750c76066a30 bak/test.txt
+upsert blob fa49b077972391ad58037050f2a75f74e3671e92 new.txt
+write
+";
+
+/// A write, after which the directory is opened again, and written by its cursor and with the root.
+const WRITE_AGAIN: &str = "upsert blob 83baae61804e65cc73a7201a7252750c76066a30 bak/test.txt
+upsert blob fa49b077972391ad58037050f2a75f74e3671e92 new.txt
+write
+upsert blob 1f7a7a472abf3dd9643fd615f6da379c4acb3e3a bak/more
+at bak write
+write
+";
+
+/// A file is inserted into a stored directory.
+const AT_THE_FIRST: &str = "upsert blob 0101010101010101010101010101010101010101 a/b/c
+write
+root
+upsert tree 708f683ce235f6e3b367a0d6fc2780c3ad22547e a
+upsert blob 0101010101010101010101010101010101010101 a/f
+write
+remove a
+write
+";
+
+/// A file is inserted three times into a stored directory of another one.
+const AT_THE_FIRST_AND_THE_THIRD: &str = "upsert blob 0101010101010101010101010101010101010101 a/b/c
+write
+root
+upsert tree 708f683ce235f6e3b367a0d6fc2780c3ad22547e a
+upsert blob 0101010101010101010101010101010101010101 a/b/d
+upsert blob 0101010101010101010101010101010101010101 a/b/d
+upsert blob 0101010101010101010101010101010101010101 a/b/d
+";
+
+/// A script, the lookups and the calls of `keep` that fail, the expected report, and the number of calls of
+/// `keep`.
+struct Row {
+    name: &'static str,
+    script: &'static str,
+    lookups_that_fail: &'static [u64],
+    keeps_that_fail: &'static [u64],
+    report: &'static str,
+    keeps: u64,
+}
+
+const ROWS: &[Row] = &[
+    Row {
+        name: "no-refusal",
+        script: WRITE_AGAIN,
+        lookups_that_fail: &[],
+        keeps_that_fail: &[],
+        report: "ok
+ok
+wrote 90b9c61d2318706c9668ce0b53d697aa2719b7b0 2
+ok
+wrote 21d32280ec25095dcf1a389927245f7b082b590b 1
+wrote 408532bf3332b2c1bcfe9f28b3fbf83d5af25444 2
+lookups 1
+",
+        keeps: 5,
+    },
+    Row {
+        name: "the-second-tree-of-a-write-is-not-kept",
+        script: WRITE_AGAIN,
+        lookups_that_fail: &[],
+        keeps_that_fail: &[2],
+        report: "ok
+ok
+unkept 90b9c61d2318706c9668ce0b53d697aa2719b7b0
+ok
+wrote 21d32280ec25095dcf1a389927245f7b082b590b 1
+wrote 408532bf3332b2c1bcfe9f28b3fbf83d5af25444 2
+lookups 1
+",
+        keeps: 5,
+    },
+    Row {
+        name: "the-first-tree-of-a-write-is-not-kept",
+        script: WRITE_AGAIN,
+        lookups_that_fail: &[],
+        keeps_that_fail: &[1],
+        report: "ok
+ok
+unkept 90b9c61d2318706c9668ce0b53d697aa2719b7b0
+refused 3
+refused 3
+wrote 90b9c61d2318706c9668ce0b53d697aa2719b7b0 1
+lookups 2
+",
+        keeps: 2,
+    },
+    Row {
+        name: "the-tree-of-a-cursor-and-a-root-are-not-kept",
+        script: WRITE_AGAIN,
+        lookups_that_fail: &[],
+        keeps_that_fail: &[3, 5],
+        report: "ok
+ok
+wrote 90b9c61d2318706c9668ce0b53d697aa2719b7b0 2
+ok
+unkept 21d32280ec25095dcf1a389927245f7b082b590b
+unkept 408532bf3332b2c1bcfe9f28b3fbf83d5af25444
+lookups 1
+",
+        keeps: 5,
+    },
+    Row {
+        name: "the-first-lookup-fails",
+        script: WRITE_AGAIN,
+        lookups_that_fail: &[1],
+        keeps_that_fail: &[],
+        report: "ok
+ok
+wrote 90b9c61d2318706c9668ce0b53d697aa2719b7b0 2
+refused 3
+wrote d8329fc1cc938780ffdd9f94e0d364e0ea74f579 1
+wrote 90b9c61d2318706c9668ce0b53d697aa2719b7b0 1
+lookups 2
+",
+        keeps: 4,
+    },
+    Row {
+        name: "told-and-counted",
+        script: TEN_LINES,
+        lookups_that_fail: &[],
+        keeps_that_fail: &[],
+        report: "ok
+ok
+ok
+wrote 3c4e9cd789d88d8d89c1073707c3585e41b0e614 2
+ok
+wrote 3c4e9cd789d88d8d89c1073707c3585e41b0e614 1
+wrote d8329fc1cc938780ffdd9f94e0d364e0ea74f579 1
+ok
+wrote 0155eb4229851634a0f03eb265b69f5a2d56f341 1
+refused 1
+lookups 2
+",
+        keeps: 5,
+    },
+    Row {
+        name: "asked-where-the-count-rises",
+        script: "upsert blob 0101010101010101010101010101010101010101 a/b/c
+write
+root
+upsert tree 708f683ce235f6e3b367a0d6fc2780c3ad22547e a
+upsert blob 0101010101010101010101010101010101010101 a/b/d
+upsert blob 0101010101010101010101010101010101010101 a/b/d
+",
+        lookups_that_fail: &[2],
+        keeps_that_fail: &[],
+        report: "ok
+wrote 0777f611c446507a3c6fa4a976a7a8d5f0eaed6d 3
+ok
+ok
+refused 3
+ok
+lookups 3
+",
+        keeps: 3,
+    },
+    Row {
+        name: "not-asked-by-what-looks-nothing-up",
+        script: "upsert blob 0101010101010101010101010101010101010101 a/b/c
+write
+root
+upsert tree 708f683ce235f6e3b367a0d6fc2780c3ad22547e a
+upsert blob 0101010101010101010101010101010101010101 a/d
+write
+upsert blob 0101010101010101010101010101010101010101 a/e
+",
+        lookups_that_fail: &[2],
+        keeps_that_fail: &[],
+        report: "ok
+wrote 0777f611c446507a3c6fa4a976a7a8d5f0eaed6d 3
+ok
+ok
+ok
+wrote 9e93a904d3f6460c336f65230b296e4a27948f8e 2
+refused 3
+lookups 2
+",
+        keeps: 5,
+    },
+    Row {
+        name: "asked-by-a-removal",
+        script: "upsert blob 0101010101010101010101010101010101010101 a/b/c
+write
+root
+upsert tree 708f683ce235f6e3b367a0d6fc2780c3ad22547e a
+remove a/b/c
+remove a/b/c
+",
+        lookups_that_fail: &[2],
+        keeps_that_fail: &[],
+        report: "ok
+wrote 0777f611c446507a3c6fa4a976a7a8d5f0eaed6d 3
+ok
+ok
+refused 3
+ok
+lookups 3
+",
+        keeps: 3,
+    },
+    Row {
+        name: "asked-for-a-directory-that-is-not-there",
+        script: "upsert tree 0303030303030303030303030303030303030303 a
+remove a/b
+remove a
+write
+",
+        lookups_that_fail: &[],
+        keeps_that_fail: &[],
+        report: "ok
+refused 3
+ok
+wrote 4b825dc642cb6eb9a060e54bf8d69288fbee4904 1
+lookups 1
+",
+        keeps: 1,
+    },
+    Row {
+        name: "a-store-that-fails",
+        script: AT_THE_FIRST,
+        lookups_that_fail: &[1],
+        keeps_that_fail: &[],
+        report: "ok
+wrote 0777f611c446507a3c6fa4a976a7a8d5f0eaed6d 3
+ok
+ok
+refused 3
+wrote 0777f611c446507a3c6fa4a976a7a8d5f0eaed6d 1
+ok
+wrote 4b825dc642cb6eb9a060e54bf8d69288fbee4904 1
+lookups 1
+",
+        keeps: 5,
+    },
+    Row {
+        name: "a-store-that-fails-at-the-first-lookup-and-the-third",
+        script: AT_THE_FIRST_AND_THE_THIRD,
+        lookups_that_fail: &[1, 3],
+        keeps_that_fail: &[],
+        report: "ok
+wrote 0777f611c446507a3c6fa4a976a7a8d5f0eaed6d 3
+ok
+ok
+refused 3
+refused 3
+ok
+lookups 4
+",
+        keeps: 3,
+    },
+    Row {
+        name: "not-asked-for-directories-without-files",
+        script: "upsert blob 0101010101010101010101010101010101010101 a/b/c
+write
+root
+upsert tree 708f683ce235f6e3b367a0d6fc2780c3ad22547e a
+upsert tree 0000000000000000000000000000000000000000 e
+leaf e/f
+remove e/f
+upsert blob 0101010101010101010101010101010101010101 e/f
+upsert tree 4b825dc642cb6eb9a060e54bf8d69288fbee4904 e
+leaf e/f
+remove e/f
+upsert blob 0101010101010101010101010101010101010101 e/f
+",
+        lookups_that_fail: &[2],
+        keeps_that_fail: &[],
+        report: "ok
+wrote 0777f611c446507a3c6fa4a976a7a8d5f0eaed6d 3
+ok
+ok
+ok
+ok
+ok
+ok
+ok
+ok
+ok
+ok
+lookups 0
+",
+        keeps: 3,
+    },
+    Row {
+        name: "not-asked-for-bad-names",
+        script: "upsert blob 0101010101010101010101010101010101010101 a/b/c
+write
+root
+upsert tree 708f683ce235f6e3b367a0d6fc2780c3ad22547e a
+upsert blob 0101010101010101010101010101010101010101 a/
+remove /a
+",
+        lookups_that_fail: &[2],
+        keeps_that_fail: &[],
+        report: "ok
+wrote 0777f611c446507a3c6fa4a976a7a8d5f0eaed6d 3
+ok
+ok
+refused 1
+refused 1
+lookups 0
+",
+        keeps: 3,
+    },
+];
+
+/// Returns [`ROWS`].
+fn rows() -> &'static [Row] {
+    ROWS
+}
+
+/// Returns whether the script of a row has the expected report.
+fn has_report(alloc: Global, editor: &mut Editor<Failing>, row: &Row) -> bool {
+    match report_of(alloc, editor, row.script.as_bytes()) {
+        Some(report) => report.as_slice() == row.report.as_bytes(),
+        None => false,
+    }
+}
+
+/// Returns whether the store counts as many lookups as the editor, and this number of calls of `keep`.
+fn is_counted(editor: &mut Editor<Failing>, keeps: u64) -> bool {
+    editor.lookups() == editor.store_mut().lookups() && editor.store_mut().keeps() == keeps
+}
+
+/// Returns whether the script of a row has the expected report, lookups and calls of `keep`.
+fn has_report_and_counts(alloc: Global, row: &Row) -> bool {
+    let mut editor = editor_over(alloc, row.lookups_that_fail, row.keeps_that_fail);
+    has_report(alloc, &mut editor, row) && is_counted(&mut editor, row.keeps)
+}
+
+#[test]
+fn reports_errors(rt: HostRuntime) {
+    for row in rows() {
+        assert!(rt; has_report_and_counts(rt.alloc(), row), "{}", row.name);
+    }
+}
+
+/// Returns whether an error is that of the store.
+fn is_for_store(error: &Error) -> bool {
+    match error {
+        Error::FindExistingObject(existing_object::Error::Find(find::Error::Store(message))) => {
+            message.as_bytes() == OFFLINE
+        }
+        _ => false,
+    }
+}
+
+/// Returns whether the reply to an edit has the error of the store.
+fn is_offline(reply: Option<&Reply<encode::Error>>) -> bool {
+    match reply {
+        Some(Reply::Edit(EditReply::Refused(error))) => is_for_store(error),
+        _ => false,
+    }
+}
+
+/// Returns whether the replies at these positions to a script have the error of the store, which fails at
+/// these lookups.
+fn are_offline(
+    alloc: Global,
+    lookups_that_fail: &'static [u64],
+    script: &str,
+    positions: (usize, usize),
+) -> bool {
+    let mut editor = editor_over(alloc, lookups_that_fail, &[]);
+    match replies_to(alloc, &mut editor, script) {
+        Some(replies) => {
+            is_offline(replies.get(positions.0)) && is_offline(replies.get(positions.1))
+        }
+        None => false,
+    }
+}
+
+/// Each edit with a failed lookup has the error of the store.
+#[test]
+fn returns_store_error_of_failed_lookups(rt: HostRuntime) {
+    assert!(rt; are_offline(rt.alloc(), &[1], AT_THE_FIRST, (4, 4)));
+    assert!(rt; are_offline(rt.alloc(), &[1, 3], AT_THE_FIRST_AND_THE_THIRD, (4, 5)));
+}
+
+/// Returns whether the last reply is that of two emitted trees of which the second wasn't kept.
+fn stops_at_the_second(replies: &[Reply<encode::Error>], id: &str) -> bool {
+    match replies.last() {
+        Some(Reply::Edit(EditReply::NotKept(written, count, KeepError::Store(message)))) => {
+            has_id_and_count(written, id, 2) && *count == 1 && message.as_bytes() == OFFLINE
+        }
+        _ => false,
+    }
+}
+
+/// Returns whether the script [`WRITE`] ends with a root that isn't kept.
+fn is_stopped(alloc: Global, editor: &mut Editor<Failing>) -> bool {
+    match replies_to(alloc, editor, WRITE) {
+        Some(replies) => stops_at_the_second(replies.as_slice(), ROOT),
+        None => false,
+    }
+}
+
+/// Removes a missing file, for which its directory is looked up, and returns whether that is done.
+fn is_looked_up(alloc: Global, editor: &mut Editor<Failing>) -> bool {
+    match replies_to(alloc, editor, "remove bak/none") {
+        Some(replies) => { matches!(replies.first(), Some(Reply::Edit(EditReply::Done))) }
+        None => false,
+    }
+}
+
+/// Returns whether the store finds an object by the id.
+fn finds(alloc: Global, store: &Failing, id: &str) -> bool {
+    let Some(id) = ObjectId::from_hex(id.as_bytes()) else {
+        return false;
+    };
+    let mut buffer = Vec::new(alloc);
+    matches!(&store.try_find(id.as_oid(), &mut buffer), Ok(Some(_)))
+}
+
+/// Returns whether the store finds the first tree, and not the second, and the editor has counted no lookup.
+fn has_the_first_alone(alloc: Global, editor: &mut Editor<Failing>) -> bool {
+    finds(alloc, editor.store_mut(), BAK)
+        && !finds(alloc, editor.store_mut(), ROOT)
+        && editor.lookups() == 0
+}
+
+/// The first tree is in the store, and the second isn't. The directory is no longer open: an edit in it looks
+/// it up.
+#[test]
+fn keeps_first_tree_if_second_fails(rt: HostRuntime) {
+    let mut editor = editor_over(rt.alloc(), &[], &[2]);
+    assert!(rt; is_stopped(rt.alloc(), &mut editor));
+    assert!(rt; has_the_first_alone(rt.alloc(), &mut editor));
+    assert!(rt; is_looked_up(rt.alloc(), &mut editor));
+    assert!(rt; editor.lookups() == 1);
+    assert!(rt; editor.store_mut().lookups() == 3);
+}

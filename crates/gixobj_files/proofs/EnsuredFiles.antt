@@ -1,0 +1,137 @@
+-- A directory that is ensured drops the files at its path and at paths of parent directories: for cursors and the
+-- invariants of open directories.
+use Rattle.std.proofs.Common.{◌≡◌, ◌≢◌, ◌⊎◌, inl, inr, ℕ, zero, suc, false, cond, List, [], ◌∷◌, ◌++◌, refl, sym, ap, subst, ◌∙◌, Option, Some, None}
+use Rattle.gixobj_tree.specs.Entries.{EntryView}
+use Rattle.gixobj_mode.specs.Mode.{is_tree_mode}
+use Rattle.gixobj_hash.specs.declared.hash.object_id.ObjectId.{ObjectId}
+use Rattle.gixobj_files.specs.Edits.{IsNoTree, Opens, arrived, ensured_dirs, down, found, only, or_empty, stops, with_directory}
+use Rattle.gixobj_files.specs.Files.{Ensured, Begins, FileSet, Files, Path, SameFiles, Table, Trees}
+use Rattle.gixobj_files.specs.Opening.{Dirs, HasAt, OpenFiles, in_dir}
+use Rattle.gixobj_files.proofs.OpenedFiles.{elsewhere, from_open, into_open, into_unopened, name_itself, name_other, no_tree_below, none_open, same_names}
+use Rattle.gixobj_files.proofs.OpeningFiles.{inside_is, opens_root}
+use Rattle.gixobj_files.proofs.UpsertedFiles.{begins_less, begins_more, begins_name, directory_has, has_directory, has_or_empty, made, or_empty_has}
+
+-- the path and each parent directory of it is open, as far as there are entries of tree mode
+abbrev pub IsOpenAlong : Path → Dirs → Type 0
+IsOpenAlong [] dirs = Unit {0}
+IsOpenAlong (name ∷ rest) dirs =
+    (((e : EntryView) → HasAt (dirs []) e → e.name ≡ name → is_tree_mode e.mode ≡ false) × ((path : Path) → dirs (name ∷ path) ≡ None))
+    ⊎ (((e : EntryView) × HasAt (dirs []) e × (e.name ≡ name)) × ((es : List EntryView) × (dirs (name ∷ []) ≡ Some es)) × IsOpenAlong rest (in_dir name dirs))
+
+open_nowhere : (path : Path) (dirs : Dirs) → ((at : Path) → dirs at ≡ None) → IsOpenAlong path dirs
+open_nowhere [] dirs none = tt
+open_nowhere (name ∷ rest) dirs none = inl ((λ e h named. absurd (subst (λ (o : Option (List EntryView)). HasAt o e) (none []) h)), λ path. none (name ∷ path))
+
+-- an opening leaves the directories on its path open
+pub opens_along : (trees : Trees) (path : Path) (dirs new : Dirs) (requested : List ObjectId) → Opens IsNoTree trees path dirs new requested
+    → IsOpenAlong path new
+opens_along trees path dirs new requested (arrived d) = tt
+opens_along trees path dirs new requested (stops name rest d other none) = inl (other, none)
+opens_along trees path dirs new requested (down name rest d inner e entries more has named is opens) =
+    let inside = inside_is name inner d in
+    inr (
+      (e, has, named),
+      (entries, ap (λ (x : Dirs). x []) inside ∙ opens_root trees rest (in_dir name d) inner more opens ∙ is),
+      subst (IsOpenAlong rest)
+          (sym inside) (opens_along trees rest (in_dir name d) inner more opens),
+    )
+opens_along trees path dirs new requested (found name rest d inner e entries first more entry tree free none finds opens) =
+    let inside = inside_is name inner d in
+    inr (
+      (e, entry.0, entry.1),
+      (entries, ap (λ (x : Dirs). x []) inside ∙ opens_root trees rest (only entries) inner more opens),
+      subst (IsOpenAlong rest)
+          (sym inside) (opens_along trees rest (only entries) inner more opens),
+    )
+
+-- the directories in the first name of an ensured path, and in another name
+pub ensured_in : (name : List ℕ) (rest : Path) (null : ObjectId) (dirs : Dirs) → in_dir name (ensured_dirs (name ∷ rest) null dirs) ≡ ensured_dirs rest null
+    (in_dir name dirs)
+ensured_in name rest null dirs = ap (λ b path. cond b (ensured_dirs rest null (in_dir name dirs) path) (dirs (name ∷ path))) (name_itself name)
+
+pub ensured_next_to : (name first : List ℕ) (rest : Path) (null : ObjectId) (dirs : Dirs) → name ≢ first
+    → in_dir first (ensured_dirs (name ∷ rest) null dirs) ≡ in_dir first dirs
+ensured_next_to name first rest null dirs differ = ap (λ b path. cond b (ensured_dirs rest null (in_dir name dirs) path) (dirs (first ∷ path)))
+    (name_other name first differ)
+
+ensured_root : (path : Path) (null : ObjectId) (dirs : Dirs) → (es : List EntryView) × (ensured_dirs path null dirs [] ≡ Some es)
+ensured_root [] null dirs = (or_empty (dirs []), refl)
+ensured_root (name ∷ rest) null dirs = (with_directory name null (or_empty (dirs [])), refl)
+
+-- the files without those at a path and at paths of its parent directories
+was_file : (path : Path) (files : FileSet) (at : Path) (mode : ℕ) (id : ObjectId) → Ensured path files at mode id → files at mode id
+was_file [] files at mode id h = h
+was_file (name ∷ rest) files at mode id h = h.0
+
+still_file : (path : Path) (files : FileSet) (at : Path) (mode : ℕ) (id : ObjectId) → files at mode id → (Begins at path → ⊥) → Ensured path files at mode id
+still_file [] files at mode id h apart = h
+still_file (name ∷ rest) files at mode id h apart = (h, apart)
+
+no_file_here : (T : Table) (k : ℕ) (dirs : Dirs) (mode : ℕ) (id : ObjectId) → OpenFiles T k dirs [] mode id → ⊥
+no_file_here T zero dirs mode id h = h
+no_file_here T (suc k) dirs mode id h = h
+
+not_above : (T : Table) (k : ℕ) (path : Path) (dirs : Dirs) (at : Path) (mode : ℕ) (id : ObjectId) → Ensured path (OpenFiles T k dirs) at mode id
+    → Begins at path → ⊥
+not_above T k [] dirs [] mode id h b = no_file_here T k dirs mode id h
+not_above T k [] dirs (name ∷ at) mode id h b = cc (b.1)
+not_above T k (name ∷ rest) dirs at mode id h b = h.1 b
+
+pub ensured_files : (T : Table) (n : ℕ) (path : Path) (null : ObjectId) (dirs : Dirs) → IsOpenAlong path dirs
+    → SameFiles (OpenFiles T n (ensured_dirs path null dirs)) (Ensured path (OpenFiles T n dirs))
+ensured_files T zero [] null dirs along path mode id = ((λ h. h), λ h. h)
+ensured_files T (suc k) [] null dirs along [] mode id = ((λ h. h), λ h. h)
+ensured_files T (suc k) [] null dirs along (first ∷ path) mode id = (
+  elsewhere T k (ensured_dirs [] null dirs) dirs first (λ e named has. or_empty_has (dirs []) e has) refl path mode id,
+  elsewhere T k dirs (ensured_dirs [] null dirs) first (λ e named has. has_or_empty (dirs []) e has) refl path mode id,
+)
+ensured_files T zero (name ∷ rest) null dirs along path mode id = ((λ h. absurd h), λ h. absurd h.0)
+ensured_files T (suc k) (name ∷ rest) null dirs along [] mode id = ((λ h. absurd h), λ h. absurd h.0)
+ensured_files T (suc k) (name ∷ rest) null dirs along (first ∷ path) mode id =
+    let new : Dirs = ensured_dirs (name ∷ rest) null dirs in
+    let below : Dirs = ensured_dirs rest null (in_dir name dirs) in
+    let old : FileSet = OpenFiles T (suc k) dirs in
+    elim (same_names name first) [
+      | inl same ↦ subst (λ f. (OpenFiles T (suc k) new (f ∷ path) mode id → Ensured (name ∷ rest) old (f ∷ path) mode id)
+          × (Ensured (name ∷ rest) old (f ∷ path) mode id → OpenFiles T (suc k) new (f ∷ path) mode id)) same
+          (let inside : in_dir name new ≡ below = ensured_in name rest null dirs in
+          let root = ensured_root rest null (in_dir name dirs) in
+          let is_open : new (name ∷ []) ≡ Some root.0 = ap (λ (d : Dirs). d []) inside ∙ root.1 in
+          let entry = made name null (or_empty (dirs [])) in
+          let into : OpenFiles T (suc k) new (name ∷ path) mode id → OpenFiles T k below path mode id =
+          λ h. subst (λ (d : Dirs). OpenFiles T k d path mode id) inside (into_open T k new name root.0 is_open path mode id h) in
+          let back : OpenFiles T k below path mode id → OpenFiles T (suc k) new (name ∷ path) mode id =
+          λ h. from_open T k new name root.0 entry.0 entry.1 entry.2 is_open path mode id
+          (subst (λ (d : Dirs). OpenFiles T k d path mode id) (sym inside) h) in
+          elim along [
+            | inl unopened ↦
+                let none : (at : Path) → in_dir name dirs at ≡ None = unopened.1 in
+                let step = ensured_files T k rest null (in_dir name dirs) (open_nowhere rest (in_dir name dirs) none) path mode id in (
+                  (λ h. absurd (none_open T k (in_dir name dirs) (none []) path mode id
+                      (was_file rest (OpenFiles T k (in_dir name dirs)) path mode id (step.0 (into h))))),
+                  λ h. let s = into_unopened T k dirs name (none []) path mode id h.0 in
+                      let short : path ≡ [] = no_tree_below T (Files T k) (s.0.mode) (s.0.id) (unopened.0 s.0 s.1 s.2) path mode id s.3 in
+                      absurd (h.1 (rest, subst (λ p. name ∷ rest ≡ (name ∷ p) ++ rest) (sym short) refl)),
+                )
+            | inr opened ↦
+                let step = ensured_files T k rest null (in_dir name dirs) opened.2 path mode id in (
+                  (λ h. let l = step.0 (into h) in (
+                    from_open T k dirs name (opened.1.0) (opened.0.0) (opened.0.1) (opened.0.2) (opened.1.1) path mode id
+                        (was_file rest (OpenFiles T k (in_dir name dirs)) path mode id l),
+                    λ b. not_above T k rest (in_dir name dirs) path mode id l (begins_less name path rest b),
+                  )),
+                  λ h. back (step.1 (still_file rest (OpenFiles T k (in_dir name dirs)) path mode id
+                      (into_open T k dirs name (opened.1.0) (opened.1.1) path mode id h.0) (λ b. h.1 (begins_more name path rest b)))),
+                )
+          ])
+      | inr differ ↦ (
+        (λ h. (
+          elsewhere T k new dirs first
+              (λ e named_so has. or_empty_has (dirs []) e (has_directory name null (or_empty (dirs [])) e (λ q. differ (sym q ∙ named_so)) has))
+              (ensured_next_to name first rest null dirs differ) path mode id h,
+          λ b. differ (begins_name first name path rest b),
+        )),
+        λ h. elsewhere T k dirs new first (λ e named_so has. directory_has name null (or_empty (dirs [])) e (λ q. differ (sym q ∙ named_so))
+            (has_or_empty (dirs []) e has)) (sym (ensured_next_to name first rest null dirs differ)) path mode id h.0,
+      )
+    ]

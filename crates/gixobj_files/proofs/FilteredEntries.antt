@@ -1,0 +1,84 @@
+-- Entries that are filtered one after the other, and those that a write emits.
+use mathlib.Core.Bool.{true≢false}
+use Rattle.std.proofs.Common.{◌≡◌, ◌≢◌, ◌∙◌, inl, inr, ⊎_elim, ℕ, true, false, not, cond, List, [], ◌∷◌, ◌++◌, Some, refl, sym, ap, subst}
+use Rattle.std.specs.Prelude.{IsFalse}
+use Rattle.std.specs.Cmp.Lexicographic.{bytes_decides}
+use Rattle.std.specs.List.{AllByRecursion}
+use Rattle.gixobj_tree.specs.Entries.{EntryView, Pair}
+use Rattle.gixobj_hash.specs.Hash.{null_id}
+use Rattle.gixobj_hash.specs.declared.hash.kind.Kind.TheVariants.{Sha1}
+use Rattle.gixobj_hash.specs.declared.hash.object_id.ObjectId.{ObjectId}
+use Rattle.gixobj_files.specs.Editing.{non_null_entries, same_name}
+use Rattle.gixobj_files.specs.Files.{is_null}
+use Rattle.gixobj_files.specs.Emission.{EmitsBelow, Walks, emptied, end, entry_with, leaves, unopened, unchanged, written}
+use Rattle.gixobj_files.specs.Opening.{Dirs}
+use Rattle.gixobj_files.specs.WrittenTrees.{with_id}
+use Rattle.gixobj_files.specs.FilteredTrees.{IsFilteredTree, id_among, filtered_out}
+
+-- no entry has a null id
+abbrev pub AreFilled : List EntryView → Type 0
+AreFilled es = AllByRecursion (λ e. IsFalse (is_null e.id)) es
+
+-- the filtered entries after an entry got this id: the rest filters what follows
+pub record Sifts (e : EntryView) (rest remaining : List EntryView) (id : ObjectId) (following : List EntryView) : Type 0 where
+  pub here : non_null_entries (with_id e id ∷ []) ++ following ≡ remaining
+  pub is_filtered : IsFilteredTree following rest
+  pub filled : AreFilled following
+
+head_is : (x y : EntryView) (xs ys : List EntryView) → x ∷ xs ≡ y ∷ ys → x ≡ y
+head_is x y xs ys is = cc is
+
+tail_is : (x y : EntryView) (xs ys : List EntryView) → x ∷ xs ≡ y ∷ ys → xs ≡ ys
+tail_is x y xs ys is = cc is
+
+-- the first filtered entry has the name of an entry
+first_named : (name : List ℕ) (x : EntryView) (xs es : List EntryView) → IsFilteredTree (x ∷ xs) es → AllByRecursion (λ y. name ≢ y.name) es → name ≢ x.name
+first_named name x xs [] h others is = cc h
+first_named name x xs (e ∷ es) (inl h) others is = first_named name x xs es h others.1 is
+first_named name x xs (e ∷ es) (inr h) others is = others.0 (is ∙ ap (λ (y : EntryView). y.name) (head_is x (with_id e h.0) xs h.1 h.2))
+
+kept_one : (x : EntryView) → IsFalse (is_null x.id) → non_null_entries (x ∷ []) ≡ x ∷ []
+kept_one x filled = ap (λ b. cond (not b) (x ∷ []) []) filled
+
+same_with : (e x : EntryView) (id : ObjectId) → x ≡ with_id e id → with_id e x.id ≡ x
+same_with e x id is = ap (λ (y : EntryView). with_id e y.id) is ∙ sym is
+
+pub sift_step : (e : EntryView) (rest remaining : List EntryView) → AllByRecursion (λ y. e.name ≢ y.name) rest → AreFilled remaining
+    → IsFilteredTree remaining (e ∷ rest) → Sifts e rest remaining (id_among e.name remaining) (filtered_out e.name remaining)
+sift_step e rest [] apart filled (inl h) = record { here = refl; is_filtered = h; filled = tt }
+sift_step e rest [] apart filled (inr h) = absurd (cc h.2)
+sift_step e rest (x ∷ xs) apart filled h =
+    elim (same_name x.name e.name) as (λ b. same_name x.name e.name ≡ b → Sifts e rest (x ∷ xs) (cond b x.id (null_id Sha1)) (cond b xs (x ∷ xs))) [
+      | true ↦ λ is. ⊎_elim (λ following. absurd (first_named e.name x xs rest following apart (sym ((bytes_decides x.name e.name).0 is))))
+          (λ (here : (id : ObjectId) × (more : List EntryView) × (x ∷ xs ≡ with_id e id ∷ more) × IsFilteredTree more rest). record {
+            here = ap (λ (y : EntryView). non_null_entries (y ∷ []) ++ xs) (same_with e x here.0 (head_is x (with_id e here.0) xs here.1 here.2))
+                ∙ ap (λ ys. ys ++ xs) (kept_one x filled.0);
+            is_filtered = subst (λ ys. IsFilteredTree ys rest) (sym (tail_is x (with_id e here.0) xs here.1 here.2)) here.3;
+            filled = filled.1;
+          }) h
+      | false ↦ λ is. ⊎_elim (λ following. record { here = refl; is_filtered = following; filled = filled })
+          (λ (here : (id : ObjectId) × (more : List EntryView) × (x ∷ xs ≡ with_id e id ∷ more) × IsFilteredTree more rest).
+          absurd (true≢false (sym ((bytes_decides x.name e.name).1 (ap (λ (y : EntryView). y.name) (head_is x (with_id e here.0) xs here.1 here.2))) ∙ is))) h
+    ] refl
+
+filtered_with : (e : EntryView) (id : ObjectId) (os es : List EntryView) → IsFilteredTree os es → IsFilteredTree (entry_with e id ++ os) (e ∷ es)
+filtered_with e id os es h = elim (is_null id) as (λ b. IsFilteredTree (cond b [] (with_id e id ∷ []) ++ os) (e ∷ es))
+    [ true ↦ inl h | false ↦ inr (id, os, refl, h) ]
+
+walk_filtered : (dirs bases : Dirs) (es : List EntryView) (ps : List Pair) (own : List EntryView) (n : ℕ) → Walks dirs bases es ps own n → IsFilteredTree own es
+walk_filtered dirs bases es ps own n (end d b) = refl
+walk_filtered dirs bases es ps own n (unopened d b e rest below os m none walk) = filtered_with e e.id os rest (walk_filtered d b rest below os m walk)
+walk_filtered dirs bases es ps own n (emptied d b e rest inner below os i m found walk) = inl (walk_filtered d b rest below os m walk)
+walk_filtered dirs bases es ps own n (unchanged d b e first rest more inner below os i m found same walk) =
+    filtered_with e e.id os rest (walk_filtered d b rest below os m walk)
+walk_filtered dirs bases es ps own n (written d b e first rest more inner below os i m id found changed walk) =
+    filtered_with e id os rest (walk_filtered d b rest below os m walk)
+
+some_is : (xs ys : List EntryView) → Some xs ≡ Some ys → xs ≡ ys
+some_is xs ys is = cc is
+
+-- the written tree of a directory has some of its entries
+pub leaves_filtered : (dirs bases : Dirs) (ps : List Pair) (own : List EntryView) (n : ℕ) (es : List EntryView) → EmitsBelow dirs bases ps own n
+    → dirs [] ≡ Some es → IsFilteredTree own es
+leaves_filtered dirs bases ps own n es (leaves d b items below os m is walk) there = subst (IsFilteredTree own) (some_is items es (sym is ∙ there))
+    (walk_filtered d b items below own m walk)

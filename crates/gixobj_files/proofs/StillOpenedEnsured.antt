@@ -1,0 +1,55 @@
+-- A directory that is ensured keeps the invariant of open directories.
+use Rattle.std.proofs.Common.{◌≡◌, ◌≢◌, inl, inr, true, false, cond, [], ◌∷◌, ◌++◌, sym, ap, subst, ◌∙◌, Some, None}
+use Rattle.std.specs.Prelude.{IsTrue}
+use Rattle.std.specs.List.{AllByRecursion}
+use Rattle.gixobj_tree.specs.Entries.{EntryView, IsEntryName, IsWellFormed}
+use Rattle.gixobj_mode.specs.Mode.{is_tree_mode}
+use Rattle.gixobj_hash.specs.declared.hash.object_id.ObjectId.{ObjectId}
+use Rattle.gixobj_files.specs.Editing.{same_name}
+use Rattle.gixobj_files.specs.Edits.{ensured_dirs, or_empty, with_directory}
+use Rattle.gixobj_files.specs.Files.{Path}
+use Rattle.gixobj_files.specs.Opening.{Dirs, HasAt, IsOpened, in_dir}
+use Rattle.gixobj_files.proofs.EnsuredFiles.{ensured_next_to}
+use Rattle.gixobj_files.proofs.HasTrees.{formed_directory, has_tree_of, tree_there}
+use Rattle.gixobj_files.proofs.OpenedFiles.{same_names}
+use Rattle.gixobj_files.proofs.StillOpened.{AreAbove, AreFormed, formed_or_empty, some_is}
+use Rattle.gixobj_files.proofs.UpsertedFiles.{directory_has, has_or_empty}
+
+formed_ensured : (path : Path) (null : ObjectId) (dirs : Dirs) → AllByRecursion IsEntryName path → AreFormed dirs → AreFormed (ensured_dirs path null dirs)
+formed_ensured [] null dirs names formed [] es is = subst IsWellFormed (some_is _ _ is) (formed_or_empty (dirs []) (formed []))
+formed_ensured [] null dirs names formed (first ∷ at) es is = formed (first ∷ at) es is
+formed_ensured (name ∷ rest) null dirs names formed [] es is =
+    subst IsWellFormed (some_is _ _ is) (formed_directory name null (or_empty (dirs [])) (formed_or_empty (dirs []) (formed [])) names.0)
+formed_ensured (name ∷ rest) null dirs names formed (first ∷ at) es is =
+    elim (same_name name first) as (λ b. cond b (ensured_dirs rest null (in_dir name dirs) at) (dirs (first ∷ at)) ≡ Some es → IsWellFormed es) [
+      | true ↦ λ k. formed_ensured rest null (in_dir name dirs) names.1 (λ q. formed (name ∷ q)) at es k
+      | false ↦ λ k. formed (first ∷ at) es k
+    ] is
+
+above_ensured : (path : Path) (null : ObjectId) (dirs : Dirs) → AreAbove dirs → AreAbove (ensured_dirs path null dirs)
+above_ensured [] null dirs above [] other es is = let e = above [] other es is in (e.0, has_or_empty (dirs []) e.0 e.1, e.2, e.3)
+above_ensured [] null dirs above (first ∷ at) other es is = above (first ∷ at) other es is
+above_ensured (name ∷ rest) null dirs above [] other es is =
+    elim (same_names name other) [
+      | inl same ↦ let e = has_tree_of name (with_directory name null (or_empty (dirs []))) (tree_there name null (or_empty (dirs []))) in
+          (e.0, e.1, e.2 ∙ same, e.3)
+      | inr differ ↦ let e = above [] other es (sym (ap (λ (d : Dirs). d []) (ensured_next_to name other rest null dirs differ)) ∙ is) in
+          (e.0, directory_has name null (or_empty (dirs [])) e.0 (λ q. differ (sym q ∙ e.2)) (has_or_empty (dirs []) e.0 e.1), e.2, e.3)
+    ]
+above_ensured (name ∷ rest) null dirs above (first ∷ at) other es is =
+    elim (same_name name first) as (λ b. cond b (ensured_dirs rest null (in_dir name dirs) (at ++ other ∷ [])) (dirs (first ∷ (at ++ other ∷ []))) ≡ Some es
+    → (e : EntryView) × HasAt (cond b (ensured_dirs rest null (in_dir name dirs) at) (dirs (first ∷ at))) e × (e.name ≡ other) × IsTrue (is_tree_mode e.mode)) [
+      | true ↦ λ k. above_ensured rest null (in_dir name dirs) (λ q. above (name ∷ q)) at other es k
+      | false ↦ λ k. above (first ∷ at) other es k
+    ] is
+
+pub opened_ensured : (path : Path) (null : ObjectId) (dirs : Dirs) → AllByRecursion IsEntryName path → IsOpened dirs → IsOpened (ensured_dirs path null dirs)
+opened_ensured path null dirs names opened = record {
+  root = root_still path;
+  well_formed = formed_ensured path null dirs names opened.well_formed;
+  above = above_ensured path null dirs opened.above;
+}
+  where
+    root_still : (p : Path) → ensured_dirs p null dirs [] ≢ None
+    root_still [] = λ e. cc e
+    root_still (name ∷ rest) = λ e. cc e

@@ -1,5 +1,0 @@
-use Rattle.gixobj_files.proofs.Formed.{opened_root}
-use Rattle.gixobj_files.proofs.laws.a_root_alone_is_opened.Goals as goal
-
-pub returns : goal.returns
-returns c = opened_root

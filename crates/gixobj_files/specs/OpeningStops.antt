@@ -1,0 +1,71 @@
+-- Where the opening of the directories on a path stops with an error.
+use Rattle.std.specs.Prelude.{◌≡◌, ◌⊎◌, ◌++◌, ℕ, true, List, [], ◌∷◌, Option, Some, None}
+use Rattle.gixobj_tree.specs.Entries.{EntryView}
+use Rattle.gixobj_mode.specs.Mode.{is_tree_mode}
+use Rattle.gixobj_hash.specs.declared.hash.object_id.ObjectId.{ObjectId}
+use Rattle.gixobj_files.specs.Edits.{Finds, IsEntryOf, only, with_dir}
+use Rattle.gixobj_files.specs.Files.{Path, Trees}
+use Rattle.gixobj_files.specs.Opening.{Dirs, HasAt, in_dir}
+use Rattle.gixobj_files.specs.Tables.{IsNeverLookedUp}
+use Rattle.gixobj_files.specs.Unopened.{is_unopened, looked_up_entry}
+
+-- an opening of the directories on a path that stops; the arguments are the open directories before and after, the ids
+-- that were looked up, and the last of these if its tree wasn't opened
+pub data StopsOpening (Ends : EntryView → Type 0) (trees : Trees) : Path → Dirs → Dirs → List ObjectId → Option ObjectId
+    → Type 0 where
+  at_once : (name : List ℕ) (rest : Path) (dirs : Dirs) (e : EntryView) → IsEntryOf name (dirs []) e
+      → is_tree_mode e.mode ≡ true → (¬ Ends e) → ((path : Path) → dirs (name ∷ path) ≡ None)
+      → StopsOpening Ends trees (name ∷ rest) dirs dirs [] None
+  without_answer : (name : List ℕ) (rest : Path) (dirs : Dirs) (e : EntryView) → IsEntryOf name (dirs []) e
+      → is_tree_mode e.mode ≡ true → (¬ Ends e) → ((path : Path) → dirs (name ∷ path) ≡ None) → (¬ IsNeverLookedUp e.id)
+      → StopsOpening Ends trees (name ∷ rest) dirs dirs (e.id ∷ []) (Some e.id)
+  down : (name : List ℕ) (rest : Path) (dirs inner : Dirs) (e : EntryView) (entries : List EntryView)
+      (requested : List ObjectId) (vain : Option ObjectId) → HasAt (dirs []) e → e.name ≡ name
+      → dirs (name ∷ []) ≡ Some entries
+      → StopsOpening Ends trees rest (in_dir name dirs) inner requested vain
+      → StopsOpening Ends trees (name ∷ rest) dirs (with_dir name inner dirs) requested vain
+  found : (name : List ℕ) (rest : Path) (dirs inner : Dirs) (e : EntryView) (entries : List EntryView)
+      (first requested : List ObjectId) (vain : Option ObjectId) → IsEntryOf name (dirs []) e
+      → is_tree_mode e.mode ≡ true → (¬ Ends e)
+      → ((path : Path) → dirs (name ∷ path) ≡ None) → Finds trees e.id entries first
+      → StopsOpening Ends trees rest (only entries) inner requested vain
+      → StopsOpening Ends trees (name ∷ rest) dirs (with_dir name inner dirs) (first ++ requested) vain
+
+-- the first path is a parent directory of the second, below the root
+abbrev pub IsAbove : Path → Path → Type 0
+IsAbove place path = (first : List ℕ) × (more : Path) × (next : List ℕ) × (rest : Path) × (place ≡ first ∷ more)
+    × (path ≡ place ++ next ∷ rest)
+
+-- a parent directory of the path that isn't open and would be looked up, by its id
+pub record IsUnopenedAbove (trees : Trees) (dirs : Dirs) (path : Path) (id : ObjectId) : Type 0 where
+  pub place : Path
+  pub entry : EntryView
+  pub above : IsAbove place path
+  pub unopened : is_unopened trees dirs place ≡ true
+  pub yielded : looked_up_entry trees place dirs ≡ Some entry
+  pub named : entry.id ≡ id
+
+-- the next directory on a path, after this prefix, isn't open and would be looked up by this id
+abbrev pub IsNextUnopened : Trees → Dirs → Path → Path → ObjectId → Type 0
+IsNextUnopened trees dirs prefix more id =
+    (name : List ℕ) × (rest : Path) × (e : EntryView) × (more ≡ name ∷ rest)
+    × (is_unopened trees dirs (prefix ++ name ∷ []) ≡ true)
+    × (looked_up_entry trees (prefix ++ name ∷ []) dirs ≡ Some e) × (e.id ≡ id)
+
+-- the opening of a path reaches this directory: the root, an open directory, or one that the opening enters and whose
+-- tree is known
+abbrev pub ReachesDirectory : (EntryView → Type 0) → Trees → Dirs → Path → Type 0
+ReachesDirectory Ends trees dirs place =
+    (place ≡ []) ⊎ ((entries : List EntryView) × (dirs place ≡ Some entries))
+    ⊎ ((e : EntryView) × (looked_up_entry trees place dirs ≡ Some e) × (is_tree_mode e.mode ≡ true) × (¬ Ends e)
+    × (IsNeverLookedUp e.id ⊎ ((entries : List EntryView) × (trees e.id ≡ Some entries))))
+
+-- a parent directory of the path isn't open, and the opening of the path enters it
+pub record IsUnopenedOnPath (Ends : EntryView → Type 0) (trees : Trees) (dirs : Dirs) (path : Path) : Type 0 where
+  pub place : Path
+  pub entry : EntryView
+  pub above : IsAbove place path
+  pub not_open : dirs place ≡ None
+  pub yielded : looked_up_entry trees place dirs ≡ Some entry
+  pub tree : is_tree_mode entry.mode ≡ true
+  pub free : ¬ Ends entry

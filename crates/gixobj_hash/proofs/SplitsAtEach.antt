@@ -1,0 +1,121 @@
+-- Each byte string splits at each occurrence of a byte, uniquely and part by part. The proofs about paths and edit
+-- scripts use it.
+use Rattle.std.proofs.Common.{◌≡◌, ◌≢◌, ◌++◌, ◌∷◌, ℕ, All, List, [], ap, append_assoc, refl, rules, sym, ◌∙◌}
+use Rattle.std.proofs.lemmas.Grind.{common_steps}
+use Rattle.std.proofs.lemmas.List.Elements.{All-append, All-cons, All-head, All-nil, All-push, All-tail}
+use Rattle.std.proofs.lemmas.List.{append-nil}
+use Rattle.std.proofs.Math.Decide.{ℕ_discrete}
+use Rattle.std.specs.List.{flat_map}
+use Rattle.gixobj_hash.proofs.Splits.{one_cut}
+use Rattle.gixobj_hash.specs.ByteStrings.{IsByteFree, SplitsAt}
+use Rattle.gixobj_hash.specs.Splits.{IsSplitAtEach, ended}
+
+-- ---- part by part
+
+-- the bytes are these first parts, each with the separator appended, and then the rest
+pub record ArePrefixes (byte : ℕ) (bytes rest : List ℕ) (parts : List (List ℕ)) : Type 0 where
+  pub joined : bytes ≡ flat_map (ended byte) parts ++ rest
+  pub free : All (IsByteFree byte) parts
+
+pub none_in_prefix : (byte : ℕ) (bytes : List ℕ) → ArePrefixes byte bytes bytes []
+none_in_prefix byte bytes = record { joined = refl; free = All-nil (IsByteFree byte) }
+
+flat_push : (byte : ℕ) (parts : List (List ℕ)) (part rest : List ℕ) → flat_map (ended byte) parts ++ (part ++ byte ∷ rest) ≡ flat_map (ended byte)
+    (parts ++ part ∷ []) ++ rest
+flat_push byte [] part rest = search (rules, common_steps)
+flat_push byte (first ∷ parts) part rest = let more = flat_push byte parts part rest in search (rules, common_steps)
+
+pub one_more : (byte : ℕ) (bytes rest : List ℕ) (parts : List (List ℕ)) (part after : List ℕ) → ArePrefixes byte bytes rest parts
+    → SplitsAt byte rest part after → ArePrefixes byte bytes after (parts ++ part ∷ [])
+one_more byte bytes rest parts part after prefix splits =
+    record {
+      joined = prefix.joined ∙ ap (λ (it : List ℕ). flat_map (ended byte) parts ++ it) splits.joined ∙ flat_push byte parts part after;
+      free = All-push (IsByteFree byte) parts part prefix.free splits.first;
+    }
+
+pub flat_join : (byte : ℕ) (parts others : List (List ℕ)) → flat_map (ended byte) (parts ++ others) ≡ flat_map (ended byte) parts ++ flat_map
+    (ended byte) others
+flat_join byte [] others = refl
+flat_join byte (part ∷ parts) others = ap (λ (it : List ℕ). ended byte part ++ it) (flat_join byte parts others)
+    ∙ sym (append_assoc (ended byte part) (flat_map (ended byte) parts) (flat_map (ended byte) others))
+
+-- the first parts and the parts of the rest are the parts of all bytes
+pub and_the_rest : (byte : ℕ) (bytes rest : List ℕ) (parts others : List (List ℕ)) → ArePrefixes byte bytes rest parts → IsSplitAtEach byte rest others
+    → IsSplitAtEach byte bytes (parts ++ others)
+and_the_rest byte bytes rest parts others prefix cut =
+    record {
+      joined = ap (ended byte) prefix.joined ∙ append_assoc (flat_map (ended byte) parts) rest (byte ∷ [])
+          ∙ ap (λ (it : List ℕ). flat_map (ended byte) parts ++ it) cut.joined ∙ sym (flat_join byte parts others);
+      free = All-append (IsByteFree byte) parts others prefix.free cut.free;
+    }
+
+-- bytes without the separator are one part
+pub one_part : (byte : ℕ) (bytes : List ℕ) → IsByteFree byte bytes → IsSplitAtEach byte bytes (bytes ∷ [])
+one_part byte bytes free = record { joined = sym (append-nil (ended byte bytes)); free = All-cons (IsByteFree byte) bytes [] free (All-nil (IsByteFree byte)) }
+
+pub the_last : (byte : ℕ) (bytes rest : List ℕ) (parts : List (List ℕ)) → ArePrefixes byte bytes rest parts → IsByteFree byte rest
+    → IsSplitAtEach byte bytes (parts ++ rest ∷ [])
+the_last byte bytes rest parts prefix free = and_the_rest byte bytes rest parts (rest ∷ []) prefix (one_part byte rest free)
+
+-- ---- existence
+
+some_content : (byte : ℕ) (bytes : List ℕ) → ended byte bytes ≢ []
+some_content byte [] same = cc same
+some_content byte (x ∷ bytes) same = cc same
+
+-- a byte that is not the separator joins the first part of the bytes after it
+grown : (byte x : ℕ) (bytes : List ℕ) (parts : List (List ℕ)) → x ≢ byte → IsSplitAtEach byte bytes parts → (all : List (List ℕ))
+    × IsSplitAtEach byte (x ∷ bytes) all
+grown byte x bytes [] other cut = absurd (some_content byte bytes cut.joined)
+grown byte x bytes (part ∷ parts) other cut = (
+  (x ∷ part) ∷ parts,
+  record {
+    joined = ap (λ (it : List ℕ). x ∷ it) cut.joined;
+    free = All-cons (IsByteFree byte) (x ∷ part) parts (All-cons (λ (it : ℕ). it ≢ byte) x part other (All-head (IsByteFree byte) part parts cut.free))
+        (All-tail (IsByteFree byte) part parts cut.free);
+  },
+)
+
+-- each byte string splits into parts
+pub parts_of : (byte : ℕ) (bytes : List ℕ) → (parts : List (List ℕ)) × IsSplitAtEach byte bytes parts
+parts_of byte [] = ([] ∷ [], one_part byte [] (All-nil (λ (it : ℕ). it ≢ byte)))
+parts_of byte (x ∷ bytes) =
+    let (parts, cut) = parts_of byte bytes in
+    elim (ℕ_discrete x byte) [
+      | yes same ↦ (
+        [] ∷ parts,
+        record {
+          joined = rw same (ap (λ (it : List ℕ). byte ∷ it) cut.joined);
+          free = All-cons (IsByteFree byte) [] parts
+              (All-nil (λ (it : ℕ). it ≢ byte)) cut.free;
+        },
+      )
+      | no other ↦ grown byte x bytes parts other cut
+    ]
+
+-- ---- uniqueness
+
+group : (byte : ℕ) (part rest : List ℕ) → ended byte part ++ rest ≡ part ++ byte ∷ rest
+group byte part rest = append_assoc part (byte ∷ []) rest
+
+same_parts : (byte : ℕ) (a b : List (List ℕ)) → All (IsByteFree byte) a → All (IsByteFree byte) b → flat_map (ended byte) a ≡ flat_map (ended byte) b → a ≡ b
+same_parts byte [] [] free_a free_b same = refl
+same_parts byte [] (part ∷ b) free_a free_b same = absurd (no_part part b same)
+  where
+    no_part : (part : List ℕ) (b : List (List ℕ)) → [] ≡ flat_map (ended byte) (part ∷ b) → ⊥
+    no_part [] b same = cc same
+    no_part (x ∷ part) b same = cc same
+same_parts byte (part ∷ a) [] free_a free_b same = absurd (no_part part a same)
+  where
+    no_part : (part : List ℕ) (a : List (List ℕ)) → flat_map (ended byte) (part ∷ a) ≡ [] → ⊥
+    no_part [] a same = cc same
+    no_part (x ∷ part) a same = cc same
+same_parts byte (first ∷ a) (second ∷ b) free_a free_b same =
+    let cut = one_cut byte first (flat_map (ended byte) a) second (flat_map (ended byte) b) (All-head (IsByteFree byte) first a free_a)
+    (All-head (IsByteFree byte) second b free_b)
+    (sym (group byte first (flat_map (ended byte) a)) ∙ same ∙ group byte second (flat_map (ended byte) b)) in
+    let rest = same_parts byte a b (All-tail (IsByteFree byte) first a free_a) (All-tail (IsByteFree byte) second b free_b) cut.1 in
+    cc (cut.0, rest)
+
+pub one_way : (byte : ℕ) (bytes : List ℕ) (a b : List (List ℕ)) → IsSplitAtEach byte bytes a → IsSplitAtEach byte bytes b → a ≡ b
+one_way byte bytes a b first second = same_parts byte a b first.free second.free (sym first.joined ∙ second.joined)

@@ -1,0 +1,32 @@
+-- The bytes before the first space, or all bytes without one, are the only digits of a mode.
+use Rattle.std.proofs.Common.{◌≡◌, ◌≢◌, ◌<◌, ℕ, List, [], ◌∷◌, ◌++◌, arith, refl, sym, ap, ◌∙◌}
+use Rattle.std.proofs.lemmas.List.Elements.{All-cons, All-head, All-nil, All-tail}
+use Rattle.std.specs.Char.{digit_value}
+use Rattle.std.specs.Str.Parse.{AllDigits}
+use Rattle.gixobj_mode.specs.Mode.{EndsMode}
+use Rattle.gixobj_hash.specs.ByteStrings.{IsByteFree}
+
+octal_not_space : (byte : ℕ) → digit_value byte < 8 → byte ≢ 32
+octal_not_space byte digit space =
+    let value : digit_value byte ≡ 36 = ap digit_value space in
+    omega arith
+
+pub octal_free : (digits : List ℕ) → AllDigits 8 digits → IsByteFree 32 digits
+octal_free [] octal = All-nil (λ it. it ≢ 32)
+octal_free (digit ∷ digits) octal = All-cons (λ it. it ≢ 32) digit digits (octal_not_space digit octal.0) (octal_free digits octal.1)
+
+pub one_ending : (a x b y : List ℕ) → IsByteFree 32 a → IsByteFree 32 b → EndsMode x → EndsMode y → a ++ x ≡ b ++ y → (a ≡ b) × (x ≡ y)
+one_ending [] x [] y free_a free_b ends_x ends_y same = (refl, same)
+one_ending [] [] (second ∷ b) y free_a free_b ends_x ends_y same = cc same
+one_ending [] (first ∷ x) (second ∷ b) y free_a free_b ends_x ends_y same =
+    let heads : first ≡ second = cc same in
+    absurd (All-head (λ it. it ≢ 32) second b free_b (sym heads ∙ ends_x))
+one_ending (first ∷ a) x [] [] free_a free_b ends_x ends_y same = cc same
+one_ending (first ∷ a) x [] (second ∷ y) free_a free_b ends_x ends_y same =
+    let heads : first ≡ second = cc same in
+    absurd (All-head (λ it. it ≢ 32) first a free_a (heads ∙ ends_y))
+one_ending (first ∷ a) x (second ∷ b) y free_a free_b ends_x ends_y same =
+    let tails : a ++ x ≡ b ++ y = cc same in
+    let rest = one_ending a x b y (All-tail (λ it. it ≢ 32) first a free_a) (All-tail (λ it. it ≢ 32) second b free_b) ends_x ends_y tails in
+    let heads : first ≡ second = cc same in
+    (cc (heads, rest.0), rest.1)

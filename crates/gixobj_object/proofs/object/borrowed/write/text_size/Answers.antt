@@ -1,5 +1,0 @@
-use Rattle.std.proofs.Common.{rules}
-use Rattle.gixobj_object.proofs.object.borrowed.write.text_size.Goals as goal
-
-pub returns-in-Commit : goal.returns-in-Commit
-returns-in-Commit c = search rules

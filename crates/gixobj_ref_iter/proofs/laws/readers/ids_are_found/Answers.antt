@@ -1,9 +1,0 @@
-use Rattle.gixobj_ref_iter.proofs.CommitsFound.{its_tree}
-use Rattle.gixobj_ref_iter.proofs.ParentsFound.{its_parents}
-use Rattle.gixobj_ref_iter.proofs.laws.readers.ids_are_found.Goals as goal
-
-pub returns-clause-tree : goal.returns-clause-tree
-returns-clause-tree c = λ kind text commit reader after result is start gives. its_tree kind text commit reader is start after result gives
-
-pub returns-clause-parents : goal.returns-clause-parents
-returns-clause-parents c = its_parents

@@ -1,8 +1,0 @@
-use Rattle.gixobj_ref_iter.proofs.CommitRuns.{one_run, texts_of_run}
-use Rattle.gixobj_ref_iter.proofs.laws.tokens.runs_are_their_tokens.Goals as goal
-
-pub returns-clause-one_run : goal.returns-clause-one_run
-returns-clause-one_run c = one_run
-
-pub returns-clause-joined : goal.returns-clause-joined
-returns-clause-joined c = texts_of_run

@@ -1,0 +1,87 @@
+-- The tokens that a search consumes, and what it finds.
+use Rattle.std.specs.Prelude.{◌≡◌, ◌⊎◌, ℕ, List, [], ⊤}
+use Rattle.std.specs.List.{AllZip, concat}
+use Rattle.gixobj_actor.specs.Actor.{ActorView}
+use Rattle.gixobj_hash.specs.declared.decode.Error.{Error}
+use Rattle.gixobj_hash.specs.declared.hash.kind.Kind.{Kind}
+use Rattle.gixobj_fields.specs.Iterators as readers
+use Rattle.gixobj_fields.specs.Runs as runs
+use Rattle.gixobj_fields.specs.Runs.{Ending, complete}
+use Rattle.gixobj_line.specs.Lines.{NeedsAllocation}
+use Rattle.gixobj_line.specs.declared.lines.State.TheVariants as state
+use Rattle.gixobj_ref_iter.specs.CommitTokens.{CommitTokenView, HasCommitToken, DecodesToCommitToken, author_token, committer_token, message_token, parent_token}
+use Rattle.gixobj_ref_iter.specs.CommitTokenSteps.{commit_reader_state}
+use Rattle.gixobj_ref_iter.specs.declared.commit.CommitRefIter.{CommitRefIter}
+
+-- the input is the concatenation of an encoding for each token
+abbrev pub DecodesToCommitTokens : Kind → List ℕ → List CommitTokenView → Type 0
+DecodesToCommitTokens kind input tokens = (encodings : List (List ℕ)) × (input ≡ concat encodings)
+    × AllZip (DecodesToCommitToken kind) tokens encodings
+
+-- the iterator began before the tree of these bytes, and has consumed these tokens
+abbrev pub HasConsumedCommitTokens : Kind → List ℕ → List CommitTokenView → CommitRefIter → Type 0
+HasConsumedCommitTokens kind content tokens reader =
+    runs.Passes (HasCommitToken kind) state.Tree content tokens (commit_reader_state reader).state
+    (commit_reader_state reader).bytes × ((commit_reader_state reader).kind ≡ kind)
+
+-- the end of a search for a token: the first token; the end of the run without one; the error of a search that requires
+-- a token; or the error of a search that may end without one
+pub data SearchEnd : Type 0 where
+  first_token : CommitTokenView → SearchEnd
+  no_token : Ending → SearchEnd
+  required_error : Error → SearchEnd
+  optional_error : Error → SearchEnd
+
+-- how a search for a token with this property ends: at a token that follows tokens without the property; without one,
+-- as the run ends; with an error if a token is required, since the run yields none or a header before it fails to
+-- allocate; with an error if the end is accepted, since a token is malformed or a header before it fails to allocate
+abbrev pub EndsSearch : (CommitTokenView → Type 0) → CommitRefIter → SearchEnd → Type 0
+EndsSearch Is reader (first_token token) = readers.FindsFirst commit_reader_state HasCommitToken Is reader token
+EndsSearch Is reader (no_token ending) = readers.YieldsNone commit_reader_state HasCommitToken Is reader ending
+EndsSearch Is reader (required_error error) =
+    readers.FindsNone commit_reader_state HasCommitToken (λ kind. NeedsAllocation) Is reader error
+EndsSearch Is reader (optional_error error) =
+    readers.FindsFault commit_reader_state HasCommitToken (λ kind. NeedsAllocation) Is reader error
+
+-- the token is a parent
+abbrev pub IsParentToken : CommitTokenView → Type 0
+IsParentToken (parent_token id) = ⊤
+IsParentToken _ = ⊥
+
+-- the token is an author
+abbrev pub IsAuthorToken : CommitTokenView → Type 0
+IsAuthorToken (author_token actor) = ⊤
+IsAuthorToken _ = ⊥
+
+-- the token is a committer
+abbrev pub IsCommitterToken : CommitTokenView → Type 0
+IsCommitterToken (committer_token actor) = ⊤
+IsCommitterToken _ = ⊥
+
+-- the token is an author or a committer
+abbrev pub IsActorToken : CommitTokenView → Type 0
+IsActorToken (author_token actor) = ⊤
+IsActorToken (committer_token actor) = ⊤
+IsActorToken _ = ⊥
+
+-- the token is an author or a committer with these parts
+abbrev pub IsActorTokenOf : ActorView → CommitTokenView → Type 0
+IsActorTokenOf actor token = (token ≡ author_token actor) ⊎ (token ≡ committer_token actor)
+
+-- the token is a message
+abbrev pub IsMessageToken : CommitTokenView → Type 0
+IsMessageToken (message_token message) = ⊤
+IsMessageToken _ = ⊥
+
+-- after tokens that are no author, this author follows
+abbrev pub FindsAuthor : CommitRefIter → ActorView → Type 0
+FindsAuthor reader actor = EndsSearch IsAuthorToken reader (first_token (author_token actor))
+
+-- after tokens that are no committer, this committer follows
+abbrev pub FindsCommitter : CommitRefIter → ActorView → Type 0
+FindsCommitter reader actor = EndsSearch IsCommitterToken reader (first_token (committer_token actor))
+
+-- after tokens that are no message, this message follows; or the bytes end, and the message is empty
+abbrev pub FindsMessage : CommitRefIter → List ℕ → Type 0
+FindsMessage reader message = EndsSearch IsMessageToken reader (first_token (message_token message))
+    ⊎ (EndsSearch IsMessageToken reader (no_token complete) × (message ≡ []))

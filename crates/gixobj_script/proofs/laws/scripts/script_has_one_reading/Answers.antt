@@ -1,9 +1,0 @@
-use Rattle.gixobj_script.proofs.LineTexts as lines
-use Rattle.gixobj_script.proofs.Readings as law
-use Rattle.gixobj_script.proofs.laws.scripts.script_has_one_reading.Goals as goal
-
-pub returns-clause-one_command : goal.returns-clause-one_command
-returns-clause-one_command c = lines.one_command
-
-pub returns-clause-one_script : goal.returns-clause-one_script
-returns-clause-one_script c = law.one_script

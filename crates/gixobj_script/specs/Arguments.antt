@@ -1,0 +1,15 @@
+-- Arguments of the program that request its commands on trees.
+use Rattle.std.specs.Prelude.{List, ℕ, codes}
+use Rattle.gixobj_show.specs.Arguments.{IsCommand, IsOtherCommand}
+
+-- the arguments request the list of a tree
+abbrev pub IsListCommand : List (List ℕ) → Type 0
+IsListCommand words = IsCommand words (codes "tree")
+
+-- the arguments request the run of a script
+abbrev pub IsEditCommand : List (List ℕ) → Type 0
+IsEditCommand words = IsCommand words (codes "edit")
+
+-- the arguments request neither of `tree` and `edit`
+abbrev pub IsNeitherCommand : List (List ℕ) → Type 0
+IsNeitherCommand words = IsOtherCommand words (codes "tree") × IsOtherCommand words (codes "edit")

@@ -1,0 +1,152 @@
+-- Lemmas that a decoded tag is encoded identically, and that its owned form has its fields, for the laws of tags.
+use Rattle.std.proofs.Common.{◌≡◌, ◌≢◌, ◌⊎◌, ℕ, List, ◌∷◌, ◌++◌, IsFalse, IsTrue, Option, Some, None, ap, inl, inr, refl, subst, sym, ◌∙◌}
+use Rattle.std.proofs.lemmas.Bool.{true≢false}
+use Rattle.std.proofs.lemmas.List.{append-nil}
+use Rattle.bstr.specs.Owned.{bstring_bytes}
+use Rattle.gixobj_actor.proofs.OwnedActors.{canonical, unwritable}
+use Rattle.gixobj_actor.specs.declared.actor.Signature.{Signature}
+use Rattle.gixobj_fields.specs.Streams.{SinkView}
+use Rattle.gixobj_fields.specs.Writing.{RejectedValue, RejectsNothing, IsWritingError, bad_name, empty_header, header_with_newline, illegal_actor, name_with_dash, name_with_zero_byte}
+use Rattle.gixobj_fields.specs.declared.encode.Error.{Error}
+use Rattle.gixobj_fields.specs.declared.encode.Error.TheVariants as encode
+use Rattle.gixobj_fields.specs.declared.encode.RefNameFault.{RefNameFault}
+use Rattle.gixobj_hash.proofs.HexCase.{hex_in_lower_case}
+use Rattle.gixobj_hash.specs.declared.hash.kind.Kind.{Kind}
+use Rattle.gixobj_tag.specs.NameRule.{BeginsWithDash, HasNoFault, IsFirstFault, IsTagName}
+use Rattle.gixobj_tag.specs.Rewriting.{AreNormalizedPartsOfTag, HasUnwritableTagger, IsCanonicalTagger, PreservesBody, IsNormalizedTagError, canonical_tagger, no_tagger}
+use Rattle.gixobj_tag.specs.TagOwned.{IsOwnedFormOfTag, IsOwnedTagger}
+use Rattle.gixobj_tag.specs.TagFormat.{IsBody, IsParted, DecodesToTag, TagLines, are_newlines, after_a_newline, encode_tag_lines, newlines_alone, signed, signed_at_once, unsigned}
+use Rattle.gixobj_tag.specs.TagViews.{owned_tag_lines, owned_tagger}
+use Rattle.gixobj_tag.specs.TagWriting.{IsTagLinesError, IsOwnedTagError, IsTagNameError, IsTaggerError, encode_body, encode_message, encode_tag}
+use Rattle.gixobj_tag.specs.declared.tag.Tag.{Tag}
+
+-- ---- bodies
+
+message_of_newlines : (message : List ℕ) → IsTrue (are_newlines message) → encode_message message ≡ message
+message_of_newlines message are = rw are refl
+
+message_of_more : (message : List ℕ) → IsFalse (are_newlines message) → encode_message message ≡ 10 ∷ message
+message_of_more message more = rw more refl
+
+-- bytes that are split into message and signature are encoded identically, after a newline
+parts_back : (bytes message : List ℕ) (signature : Option (List ℕ)) → IsParted bytes message signature → IsFalse (are_newlines bytes)
+    → (signature ≡ None ⊎ IsFalse (are_newlines message)) → encode_body message signature ≡ 10 ∷ bytes
+parts_back bytes message signature (unsigned _ none) more keeps = append-nil (encode_message bytes) ∙ message_of_more bytes more
+parts_back bytes message signature (signed_at_once _ format is) more (inl bare) = absurd (cc bare)
+parts_back bytes message signature (signed_at_once _ format is) more (inr filled) = absurd (true≢false filled)
+parts_back bytes message signature (signed _ _ rest format joined is) more (inl bare) = absurd (cc bare)
+parts_back bytes message signature (signed _ _ rest format joined is) more (inr filled) =
+    ap (λ (it : List ℕ). it ++ 10 ∷ rest) (message_of_more message filled) ∙ ap (λ (it : List ℕ). 10 ∷ it) (sym joined)
+
+body_back : (body message : List ℕ) (signature : Option (List ℕ)) → IsBody body message signature
+    → (signature ≡ None ⊎ IsFalse (are_newlines message))
+    → encode_body message signature ≡ body
+body_back body message signature (newlines_alone _ are) keeps = append-nil (encode_message body) ∙ message_of_newlines body are
+body_back body message signature (after_a_newline _ bytes _ _ joined more parted) keeps = parts_back bytes message signature parted more keeps
+    ∙ sym joined
+
+pub tag_reencodes_identically : (kind : Kind) (bytes : List ℕ) (tag : TagLines) → DecodesToTag kind bytes tag → PreservesBody tag
+    → encode_tag tag ≡ bytes
+tag_reencodes_identically kind bytes tag is keeps = ap (λ (it : List ℕ). encode_tag_lines tag ++ it)
+    (body_back is.body tag.message tag.signature is.parted keeps) ∙ sym is.joined
+
+-- ---- errors
+
+name_not_rejected : (name : List ℕ) (value : RejectedValue) → IsTagName name → IsTagNameError name value → ⊥
+name_not_rejected name value (faultless, undashed) (inl (fault, first, is)) = faultless fault first.here
+name_not_rejected name value (faultless, undashed) (inr (none, dash, is)) = undashed dash
+
+pub tag_not_rejected : (tag : TagLines) → IsTagName tag.name → RejectsNothing (IsTagLinesError tag)
+tag_not_rejected tag valid value parts (rejected, before) = name_not_rejected tag.name value valid rejected
+
+-- ---- the owned form
+
+tagger_parts : (line : Option (List ℕ)) (tagger : Option Signature) → IsOwnedTagger line tagger → IsCanonicalTagger line (owned_tagger tagger)
+tagger_parts None None is = no_tagger
+tagger_parts None (Some actor) is = absurd is
+tagger_parts (Some line) None is = absurd is
+tagger_parts (Some line) (Some actor) is = canonical_tagger line _ (canonical line actor is)
+
+pub own_parts : (lines : TagLines) (tag : Tag) → IsOwnedFormOfTag lines tag → AreNormalizedPartsOfTag lines (owned_tag_lines tag)
+own_parts lines tag is =
+    record {
+      target = hex_in_lower_case lines.target tag.target is.target;
+      target_kind = is.target_kind;
+      name = is.name;
+      tagger = tagger_parts lines.tagger tag.tagger is.tagger;
+      message = is.message;
+      signature = is.signature;
+    }
+
+-- why a value of an owned form is rejected: the name for a fault or a dash, or the tagger
+pub data WhatIsRejected (lines : TagLines) : RejectedValue → Type 0 where
+  for_a_fault : (value : RejectedValue) (fault : RefNameFault) → value ≡ bad_name fault → IsFirstFault lines.name fault → WhatIsRejected lines value
+  for_a_dash : (value : RejectedValue) → value ≡ name_with_dash → HasNoFault lines.name → BeginsWithDash lines.name → WhatIsRejected lines value
+  for_the_tagger : (value : RejectedValue) → value ≡ illegal_actor → HasUnwritableTagger lines → WhatIsRejected lines value
+
+tagger_is_rejected : (lines : TagLines) (line : Option (List ℕ)) (tagger : Option Signature) (value : RejectedValue) (parts : List ℕ)
+    → lines.tagger ≡ line
+    → IsOwnedTagger line tagger → IsTaggerError tagger value parts → WhatIsRejected lines value
+tagger_is_rejected lines None None value parts same is rejected = absurd rejected
+tagger_is_rejected lines None (Some actor) value parts same is rejected = absurd is
+tagger_is_rejected lines (Some line) None value parts same is rejected = absurd rejected
+tagger_is_rejected lines (Some line) (Some actor) value parts same is (illegal, it, before) =
+    for_the_tagger value it (line, same, unwritable line actor is illegal)
+
+what_is_rejected : (lines : TagLines) (tag : Tag) (value : RejectedValue) (parts : List ℕ) → IsOwnedFormOfTag lines tag
+    → IsOwnedTagError tag value parts
+    → WhatIsRejected lines value
+what_is_rejected lines tag value parts own (inl (inl (fault, first, it), before)) =
+    for_a_fault value fault it (subst (λ (name : List ℕ). IsFirstFault name fault) own.name first)
+what_is_rejected lines tag value parts own (inl (inr (none, dash, it), before)) = for_a_dash value it (subst HasNoFault own.name none)
+    (subst BeginsWithDash own.name dash)
+what_is_rejected lines tag value parts own (inr (valid, (line, rejected, before))) =
+    tagger_is_rejected lines lines.tagger tag.tagger value line refl own.tagger rejected
+
+no_other : (lines : TagLines) (value : RejectedValue) → WhatIsRejected lines value → ((fault : RefNameFault) → value ≢ bad_name fault)
+    → value ≢ name_with_dash
+    → value ≢ illegal_actor → ⊥
+no_other lines value (for_a_fault _ fault it first) no_fault no_dash no_tagger_rejected = no_fault fault it
+no_other lines value (for_a_dash _ it none dash) no_fault no_dash no_tagger_rejected = no_dash it
+no_other lines value (for_the_tagger _ it has) no_fault no_dash no_tagger_rejected = no_tagger_rejected it
+
+same_fault : (a b : RefNameFault) → bad_name a ≡ bad_name b → a ≡ b
+same_fault a b same = cc same
+
+its_fault : (lines : TagLines) (fault : RefNameFault) → WhatIsRejected lines (bad_name fault) → IsFirstFault lines.name fault
+its_fault lines fault (for_a_fault _ other it first) = subst (IsFirstFault lines.name) (sym (same_fault fault other it)) first
+its_fault lines fault (for_a_dash _ it none dash) = absurd (cc it)
+its_fault lines fault (for_the_tagger _ it has) = absurd (cc it)
+
+its_dash : (lines : TagLines) → WhatIsRejected lines name_with_dash → HasNoFault lines.name × BeginsWithDash lines.name
+its_dash lines (for_a_fault _ other it first) = absurd (cc it)
+its_dash lines (for_a_dash _ it none dash) = (none, dash)
+its_dash lines (for_the_tagger _ it has) = absurd (cc it)
+
+its_tagger : (lines : TagLines) → WhatIsRejected lines illegal_actor → HasUnwritableTagger lines
+its_tagger lines (for_a_fault _ other it first) = absurd (cc it)
+its_tagger lines (for_a_dash _ it none dash) = absurd (cc it)
+its_tagger lines (for_the_tagger _ it has) = has
+
+pub own_error : (lines : TagLines) (tag : Tag) (before after : SinkView) (error : Error) → IsOwnedFormOfTag lines tag
+    → IsWritingError (IsOwnedTagError tag) before after (encode_tag (owned_tag_lines tag)) error
+    → IsNormalizedTagError lines before after (encode_tag (owned_tag_lines tag)) error
+own_error lines tag before after (encode.Writer cause) own says = says
+own_error lines tag before after (encode.InvalidRefName fault) own (parts, rejected, inserts) =
+    its_fault lines fault (what_is_rejected lines tag (bad_name fault) parts own rejected)
+own_error lines tag before after encode.StartsWithDash own (parts, rejected, inserts) =
+    its_dash lines (what_is_rejected lines tag name_with_dash parts own rejected)
+own_error lines tag before after encode.IllegalActor own (parts, rejected, inserts) =
+    its_tagger lines (what_is_rejected lines tag illegal_actor parts own rejected)
+own_error lines tag before after encode.EmptyValue own (parts, rejected, inserts) =
+    no_other lines _ (what_is_rejected lines tag empty_header parts own rejected) (λ fault e. cc e) (λ e. cc e) (λ e. cc e)
+own_error lines tag before after (encode.NewlineInHeaderValue value) own (parts, rejected, inserts) =
+    no_other lines _ (what_is_rejected lines tag (header_with_newline (bstring_bytes value)) parts own rejected) (λ fault e. cc e) (λ e. cc e)
+    (λ e. cc e)
+own_error lines tag before after (encode.NullbyteInFilename name) own (parts, rejected, inserts) =
+    no_other lines _ (what_is_rejected lines tag (name_with_zero_byte (bstring_bytes name)) parts own rejected) (λ fault e. cc e) (λ e. cc e)
+    (λ e. cc e)
+own_error lines tag before after encode.OutOfMemory own (value, inl (parts, rejected, inserts)) =
+    no_other lines _ (what_is_rejected lines tag (header_with_newline value) parts own rejected) (λ fault e. cc e) (λ e. cc e) (λ e. cc e)
+own_error lines tag before after encode.OutOfMemory own (value, inr (parts, rejected, inserts)) =
+    no_other lines _ (what_is_rejected lines tag (name_with_zero_byte value) parts own rejected) (λ fault e. cc e) (λ e. cc e) (λ e. cc e)

@@ -1,0 +1,15 @@
+use Rattle.std.proofs.Common.{◌++◌, ◌∙◌, List, ℕ, ap}
+use Rattle.gixobj_fields.proofs.Errors.{fails_as_sink}
+use Rattle.gixobj_tag.proofs.Reencoded.{tag_not_rejected, tag_reencodes_identically}
+use Rattle.gixobj_tag.specs.TagViews.{tag_lines}
+use Rattle.gixobj_tag.specs.TagWriting.{IsTagLinesError, encode_tag}
+use Rattle.gixobj_tag.proofs.laws.tags.tag_decode_encode_agree.Goals as goal
+
+pub returns-in-Ok-clause-same_bytes : goal.returns-in-Ok-clause-same_bytes
+returns-in-Ok-clause-same_bytes c = λ kind content is keeps. c.in-Ok.ensures.written ∙ ap (λ (bytes : List ℕ). c.args.out.now.items ++ bytes)
+    (tag_reencodes_identically kind content (tag_lines c.args.tag.now) is keeps)
+
+pub returns-in-Err-clause-error : goal.returns-in-Err-clause-error
+returns-in-Err-clause-error c = λ valid.
+    fails_as_sink (IsTagLinesError (tag_lines c.args.tag.now)) _ _ (encode_tag (tag_lines c.args.tag.now)) c.in-Err.error
+    (tag_not_rejected (tag_lines c.args.tag.now) valid) c.in-Err.ensures.error

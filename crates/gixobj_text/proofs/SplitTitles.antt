@@ -1,0 +1,186 @@
+-- A message splits at its first two consecutive line breaks; `message_title_and_body` uses these lemmas.
+use Rattle.std.proofs.lemmas.Bool.{eqb-true}
+use Rattle.std.proofs.Common.{◌++◌, ◌+◌, ◌∙◌, ◌∷◌, ◌≡◌, ◌≢◌, ◌≤◌, Bool, List, None, Option, Some, [], ap, append-nil, append_assoc, arith, cond, false, inl, inr, length, length-append, not, refl, subst, suc, sym, true, zero, ℕ}
+use Rattle.std.specs.Prelude.{is_some, ◌&&◌, ◌==◌, ◌-◌, take}
+use Rattle.bstr.specs.BStr.{bstr_bytes}
+use Rattle.bstr.specs.declared.bstr.BStr.{BStr}
+use Rattle.gixobj_hash.specs.Optional.{bytes_if_some}
+use Rattle.std.specs.Prelude.{MatchOption}
+use Rattle.gixobj_text.specs.Breaks.{IsUnsplit, begins_two_breaks, after_break, after_next_break, after_carriage_return, after_two_breaks, no_double_break_before, no_double_break}
+use Rattle.gixobj_text.specs.Titles.{HasBreaks, IsBreak, IsSplitAtBreaks, SplitsTitle}
+use Rattle.gixobj_text.specs.Titles.IsBreak.{alone, after_return}
+
+two_are : (first second rest : List ℕ) → IsBreak first → IsBreak second → begins_two_breaks (first ++ second ++ rest) ≡ true
+two_are first second rest alone alone = refl
+two_are first second rest alone after_return = refl
+two_are first second rest after_return alone = refl
+two_are first second rest after_return after_return = refl
+
+apart : (a b : Bool) → (not a && b) ≡ true → (a ≡ false) × (b ≡ true)
+apart true b so = cc so
+apart false b so = (refl, so)
+
+not_here : (content : List ℕ) (rest : List ℕ) → begins_two_breaks content ≡ false → HasBreaks content [] rest → ⊥
+not_here content rest none it =
+    let here = ap begins_two_breaks it.joined ∙ two_are it.first it.second rest it.breaks.0 it.breaks.1 in
+    cc (sym none ∙ here)
+
+not_in_nothing : (head first second rest : List ℕ) → IsBreak first → [] ≡ head ++ first ++ second ++ rest → ⊥
+not_in_nothing [] first second rest alone is = cc is
+not_in_nothing [] first second rest after_return is = cc is
+not_in_nothing (byte ∷ head) first second rest it is = cc is
+
+after_two : (byte one : ℕ) (content head rest : List ℕ) → HasBreaks (byte ∷ content) (one ∷ head) rest → HasBreaks content head rest
+after_two byte one content head rest it = record { first = it.first; second = it.second; breaks = it.breaks; joined = cc it.joined }
+
+pub least : (count : ℕ) (content head rest : List ℕ) → no_double_break_before count content ≡ true → HasBreaks content head rest → count ≤ length head
+least zero content head rest none it = grind (arith)
+least (suc count) [] head rest none it = cc none
+least (suc count) (byte ∷ content) [] rest none it =
+    absurd (not_here (byte ∷ content) rest (apart (begins_two_breaks (byte ∷ content)) (no_double_break_before count content) none).0 it)
+least (suc count) (byte ∷ content) (one ∷ head) rest none it =
+    let later : count ≤ length head =
+    least count content head rest (apart (begins_two_breaks (byte ∷ content)) (no_double_break_before count content) none).1
+    (after_two byte one content head rest it) in
+    grind (arith)
+
+pub never : (content head rest : List ℕ) → no_double_break content ≡ true → ¬ HasBreaks content head rest
+never [] head rest none it = not_in_nothing head it.first it.second rest it.breaks.0 it.joined
+never (byte ∷ content) [] rest none it = not_here (byte ∷ content) rest (apart (begins_two_breaks (byte ∷ content)) (no_double_break content) none).0
+    it
+never (byte ∷ content) (one ∷ head) rest none it =
+    never content head rest (apart (begins_two_breaks (byte ∷ content)) (no_double_break content) none).1 (after_two byte one content head rest it)
+
+-- ---- the walk to the split
+
+-- the bytes begin with a line break, which the rest follows
+abbrev IsBroken : List ℕ → List ℕ → Type 0
+IsBroken content rest = (first : List ℕ) × IsBreak first × (content ≡ first ++ rest)
+
+two_bytes : (one two : ℕ) (rest found : List ℕ) → one ≡ 13 → two ≡ 10 → rest ≡ found → one ∷ two ∷ rest ≡ 13 ∷ 10 ∷ found
+two_bytes one two rest found first second is = cc (first, second, is)
+
+one_byte : (one : ℕ) (rest found : List ℕ) → one ≡ 10 → rest ≡ found → one ∷ rest ≡ 10 ∷ found
+one_byte one rest found first is = cc (first, is)
+
+return_by : (b : Bool) (byte two : ℕ) (rest found : List ℕ) → byte ≡ 13 → (two == 10) ≡ b → cond b (Some rest) None ≡ Some found
+    → IsBroken (byte ∷ two ∷ rest) found
+return_by true byte two rest found first second is =
+    (13 ∷ 10 ∷ [], after_return, two_bytes byte two rest found first (eqb-true two 10 second) (cc is))
+return_by false byte two rest found first second is = cc is
+
+return_after : (byte : ℕ) (rest found : List ℕ) → byte ≡ 13 → after_carriage_return rest ≡ Some found → IsBroken (byte ∷ rest) found
+return_after byte [] found first is = cc is
+return_after byte (two ∷ rest) found first is = return_by (two == 10) byte two rest found first refl is
+
+break_by : (b c : Bool) (byte : ℕ) (rest found : List ℕ) → (byte == 10) ≡ b → (byte == 13) ≡ c
+    → cond b (Some rest) (cond c (after_carriage_return rest) None) ≡ Some found → IsBroken (byte ∷ rest) found
+break_by true c byte rest found first second is = (10 ∷ [], alone, one_byte byte rest found (eqb-true byte 10 first) (cc is))
+break_by false true byte rest found first second is = return_after byte rest found (eqb-true byte 13 second) is
+break_by false false byte rest found first second is = cc is
+
+broken : (content found : List ℕ) → after_break content ≡ Some found → IsBroken content found
+broken [] found is = cc is
+broken (byte ∷ rest) found is = break_by (byte == 10) (byte == 13) byte rest found refl refl is
+
+twice_by : (content body : List ℕ) (next : Option (List ℕ)) → after_break content ≡ next → after_next_break next ≡ Some body
+    → HasBreaks content [] body
+twice_by content body None first second = cc second
+twice_by content body (Some rest) first second =
+    let one : IsBroken content rest = broken content rest first in
+    let two : IsBroken rest body = broken rest body second in
+    record {
+      first = one.0;
+      second = two.0;
+      breaks = (one.1, two.1);
+      joined = one.2 ∙ ap (λ (bytes : List ℕ). one.0 ++ bytes) two.2
+          ∙ sym (append_assoc one.0 two.0 body);
+    }
+
+twice : (content body : List ℕ) → Some body ≡ after_two_breaks content → HasBreaks content [] body
+twice content body is = twice_by content body (after_break content) refl (sym is)
+
+none_more : (head : List ℕ) (byte : ℕ) (rest : List ℕ) → no_double_break_before (length head) (head ++ byte ∷ rest) ≡ true
+    → begins_two_breaks (byte ∷ rest) ≡ false → no_double_break_before (length (head ++ byte ∷ [])) (head ++ byte ∷ rest) ≡ true
+none_more [] byte rest none one = ap (λ (b : Bool). not b && true) one
+none_more (one ∷ head) byte rest none two =
+    let parts = apart (begins_two_breaks (one ∷ head ++ byte ∷ rest)) (no_double_break_before (length head) (head ++ byte ∷ rest)) none in
+    both (begins_two_breaks (one ∷ head ++ byte ∷ rest)) _ parts.0 (none_more head byte rest parts.1 two)
+  where
+    both : (a b : Bool) → a ≡ false → b ≡ true → (not a && b) ≡ true
+    both true b is so = cc is
+    both false b is so = so
+
+pub uncut_first : (message : List ℕ) → IsUnsplit message message
+uncut_first message = record { prefix = []; joined = refl; none = refl }
+
+pub uncut_more : (message rest : List ℕ) (byte : ℕ) (after_two : List ℕ) → IsUnsplit message rest → rest ≡ byte ∷ after_two
+    → None ≡ after_two_breaks rest
+    → IsUnsplit message after_two
+uncut_more message rest byte after_two it is none =
+    let joined : message ≡ it.prefix ++ byte ∷ after_two = it.joined ∙ ap (λ (bytes : List ℕ). it.prefix ++ bytes) is in
+    let not : begins_two_breaks (byte ∷ after_two) ≡ false = ap begins_two_breaks (sym is) ∙ sym (ap is_some none) in
+    record {
+      prefix = it.prefix ++ byte ∷ [];
+      joined = joined ∙ sym (append_assoc it.prefix (byte ∷ []) after_two);
+      none = ap (no_double_break_before (length (it.prefix ++ byte ∷ []))) joined ∙ none_more it.prefix byte after_two
+          (ap (no_double_break_before (length it.prefix)) (sym joined) ∙ it.none) not;
+    }
+
+nowhere_all : (head : List ℕ) → no_double_break_before (length head) head ≡ true → no_double_break head ≡ true
+nowhere_all [] is = refl
+nowhere_all (byte ∷ head) is =
+    let parts = apart (begins_two_breaks (byte ∷ head)) (no_double_break_before (length head) head) is in
+    both (begins_two_breaks (byte ∷ head)) (no_double_break head) parts.0 (nowhere_all head parts.1)
+  where
+    both : (a b : Bool) → a ≡ false → b ≡ true → (not a && b) ≡ true
+    both true b is so = cc is
+    both false b is so = so
+
+pub all_title : (message rest title : List ℕ) → IsUnsplit message rest → rest ≡ [] → title ≡ message → SplitsTitle message title None
+all_title message rest title it none all =
+    let is : message ≡ it.prefix = it.joined ∙ ap (λ (bytes : List ℕ). it.prefix ++ bytes) none ∙ append-nil it.prefix in
+    let so : no_double_break_before (length message) message ≡ true = ap (λ (n : ℕ). no_double_break_before n message) (ap length is) ∙ it.none in
+    inr (all, λ head rest. never message head rest (nowhere_all message so))
+
+pub prefix_is : (head rest message : List ℕ) → message ≡ head ++ rest → take (length message - length rest) message ≡ head
+prefix_is head rest message is =
+    let sum : length message ≡ length head + length rest = ap length is ∙ length-append head rest in
+    let count : length message - length rest ≡ length head = omega arith in
+    ap (λ (n : ℕ). take n message) count ∙ ap (take (length head)) is ∙ taken head rest
+  where
+    taken : (head rest : List ℕ) → take (length head) (head ++ rest) ≡ head
+    taken [] rest = refl
+    taken (byte ∷ head) rest = ap (λ (bytes : List ℕ). byte ∷ bytes) (taken head rest)
+
+pub split_here : (message rest body title : List ℕ) → IsUnsplit message rest → Some body ≡ after_two_breaks rest
+    → title ≡ take (length message - length rest) message → IsSplitAtBreaks message title body
+split_here message rest body title it two is =
+    let at : HasBreaks rest [] body = twice rest body two in
+    let head : title ≡ it.prefix = is ∙ prefix_is it.prefix rest message it.joined in
+    subst (λ (t : List ℕ). IsSplitAtBreaks message t body) (sym head)
+    (record {
+      here = record {
+        first = at.first;
+        second = at.second;
+        breaks = at.breaks;
+        joined = it.joined ∙ ap (λ (bytes : List ℕ). it.prefix ++ bytes) at.joined ∙ sym (append_assoc it.prefix (at.first ++ at.second) body)
+            ∙ ap (λ (bytes : List ℕ). bytes ++ body) (sym (append_assoc it.prefix at.first at.second));
+      };
+      minimum = λ other after_two others. least (length it.prefix) message other after_two it.none others;
+    })
+
+pub cut_at_end : (message title body : List ℕ) → IsSplitAtBreaks message title body → body ≡ [] → SplitsTitle message title None
+cut_at_end message title body it none = inl (subst (λ (b : List ℕ). IsSplitAtBreaks message title b) none it)
+
+-- a message splits into its title and the body, which is none if and only if it is empty
+pub some_or_none : (message title body : List ℕ) (found : Option BStr) → IsSplitAtBreaks message title body
+    → MatchOption found (body ≡ []) (λ it. (bstr_bytes it ≡ body) × (body ≢ []))
+    → SplitsTitle message title (bytes_if_some found)
+some_or_none message title body None it is = cut_at_end message title body it is
+some_or_none message title body (Some found) it (is, some) =
+    (subst (λ (b : List ℕ). IsSplitAtBreaks message title b) (sym is) it, subst (λ (b : List ℕ). b ≢ []) (sym is) some)
+
+pub empty_is : (content : List ℕ) → length content ≡ 0 → content ≡ []
+empty_is [] is = refl
+empty_is (byte ∷ content) is = absurd (omega arith)

@@ -1,0 +1,51 @@
+-- What remains of an iterator over trailers, and what a step yields.
+use Rattle.std.specs.Prelude.{◌≡◌, ◌<◌, ℕ, Bool, true, false, List, [], ◌∷◌, Option, Some, None, Result, Ok, Err, length}
+use Rattle.std.specs.Iterator.{Count, at_most}
+use Rattle.std.specs.declared.alloc.Global.{Global}
+use Rattle.std.specs.declared.borrow.CowSlice.{CowSlice}
+use Rattle.std.specs.declared.borrow.CowSlice.TheVariants as slice
+use Rattle.std.specs.Cow.{cow_slice_items}
+use Rattle.bstr.specs.BStr.{bstr_bytes}
+use Rattle.bstr.specs.Text.{lines_of}
+use Rattle.gixobj_hash.specs.declared.memory.OutOfMemory.{OutOfMemory}
+use Rattle.gixobj_text.specs.Trailers.{TrailerView, trailers_of_bytes}
+use Rattle.gixobj_text.specs.Unfolding.{first_is_folded}
+use Rattle.gixobj_text.specs.declared.commit.message.body.trailers.TrailerRef.{TrailerRef}
+use Rattle.gixobj_text.specs.declared.commit.message.body.trailers.Trailers.{Trailers}
+
+-- a trailer as contracts see it: lists of bytes
+abbrev pub trailer_view : TrailerRef → TrailerView
+trailer_view it = record { token = bstr_bytes it.token; value = cow_slice_items it.value }
+
+-- the value is owned: it has its own allocation
+abbrev pub is_owned : CowSlice ℕ Global → Bool
+is_owned (slice.Borrowed bytes) = false
+is_owned (slice.Owned items) = true
+
+-- the remaining bytes
+abbrev pub remaining_bytes : Trailers → List ℕ
+remaining_bytes it = it.cursor.now
+
+-- the remaining trailers
+abbrev pub remaining_trailers : Trailers → List TrailerView
+remaining_trailers it = trailers_of_bytes (remaining_bytes it)
+
+-- the next trailer has a value of several lines
+abbrev pub is_folded_next : Trailers → Bool
+is_folded_next it = first_is_folded (lines_of (remaining_bytes it))
+
+-- a step yields the next trailer, owned if and only if its value has several lines; or an error for such a value, and
+-- then nothing remains; or nothing, if no trailer remains
+abbrev pub NextTrailer : Trailers → Option (Result TrailerRef OutOfMemory) → Trailers → Type 0
+NextTrailer before (Some (Ok trailer)) after =
+    (remaining_trailers before ≡ trailer_view trailer ∷ remaining_trailers after)
+    × (is_owned trailer.value ≡ is_folded_next before)
+    × (length (remaining_bytes after) < length (remaining_bytes before))
+NextTrailer before (Some (Err error)) after =
+    (is_folded_next before ≡ true) × (remaining_bytes after ≡ [])
+    × (length (remaining_bytes after) < length (remaining_bytes before))
+NextTrailer before None after = (remaining_trailers before ≡ []) × (remaining_bytes after ≡ [])
+
+-- at most one trailer for each remaining byte
+abbrev pub remaining_trailer_count : Trailers → Count
+remaining_trailer_count it = at_most (length (remaining_bytes it))

@@ -1,0 +1,65 @@
+-- Encoding of trees (gitdatamodel, "trees"; git-mktree reads the same entries as lines).
+use Rattle.std.specs.Prelude.{◌≡◌, ◌+◌, ◌*◌, ℕ, List, [], ◌∷◌, ◌++◌, All, Contains, Err, Ok, Result, ⊤}
+use Rattle.std.specs.List.{flat_map}
+use Rattle.gixobj_tree.specs.Entries.{EntryView}
+use Rattle.gixobj_hash.specs.Hash.{id_bytes, id_of}
+use Rattle.gixobj_hash.specs.declared.hash.kind.Kind as hash
+use Rattle.gixobj_hash.specs.declared.hash.object_id.ObjectId.{ObjectId}
+use Rattle.gixobj_hash.specs.declared.kind.Kind.TheVariants.{Tree}
+use Rattle.gixobj_mode.specs.Mode.{encode_mode}
+use Rattle.gixobj_hash.specs.ByteStrings.{IsByteFree}
+use Rattle.gixobj_fields.specs.Writing.{RejectedValue, RejectsNothing, name_with_zero_byte}
+use Rattle.gixobj_fields.specs.declared.encode.Error.{Error}
+use Rattle.gixobj_fields.specs.declared.encode.Error.TheVariants.{Writer}
+use Rattle.gixobj_hash.specs.Bytes.{space}
+
+-- the bytes of an entry before its name: the mode and a space
+abbrev pub before_name : EntryView → List ℕ
+before_name e = encode_mode e.mode ++ space ∷ []
+
+-- the mode and the name of an entry, without the space, the zero byte and the id
+abbrev pub encode_mode_and_name : EntryView → List ℕ
+encode_mode_and_name e = encode_mode e.mode ++ e.name
+
+-- a size, plus 22 bytes for each entry (a space, a zero byte and an id), plus 12 for each `longer` id of 32 bytes
+abbrev pub with_ids : ℕ → ℕ → ℕ → ℕ
+with_ids size entries longer = size + 22 * entries + 12 * longer
+
+-- the encoding of an entry: mode, space, name, zero byte, id
+abbrev pub encode_entry : EntryView → List ℕ
+encode_entry e = before_name e ++ e.name ++ 0 ∷ id_bytes e.id
+
+-- the encoding of a tree: those of its entries, concatenated
+abbrev pub encode_tree : List EntryView → List ℕ
+encode_tree entries = flat_map encode_entry entries
+
+-- the name of an entry is rejected for a zero byte, after the mode and the space
+abbrev pub IsEntryEncodeError : EntryView → RejectedValue → List ℕ → Type 0
+IsEntryEncodeError e value parts = Contains e.name 0 × (value ≡ name_with_zero_byte e.name) × (parts ≡ before_name e)
+
+-- the first name with a zero byte is rejected, after the entries before it
+pub record IsTreeEncodeError (entries : List EntryView) (value : RejectedValue) (parts : List ℕ) : Type 0 where
+  pub prefix : List EntryView
+  pub entry : EntryView
+  pub back : List EntryView
+  pub begun : List ℕ
+  pub joined : entries ≡ prefix ++ entry ∷ back
+  pub free : All (λ e. IsByteFree 0 e.name) prefix
+  pub error_state : IsEntryEncodeError entry value begun
+  pub written : parts ≡ encode_tree prefix ++ begun
+
+-- no name of the tree is rejected
+abbrev pub IsEncodableTree : List EntryView → Type 0
+IsEncodableTree entries = RejectsNothing (IsTreeEncodeError entries)
+
+-- a name of the tree is rejected
+abbrev pub IsUnencodableTree : List EntryView → Type 0
+IsUnencodableTree entries = (value : RejectedValue) × (parts : List ℕ) × IsTreeEncodeError entries value parts
+
+-- Ok: the id is the digest of the tree's encoding; Writer: the encoding failed to allocate; any other error: a name
+-- of
+-- the tree is rejected
+abbrev pub IsAnsweredDigest : hash.Kind → List EntryView → Result ObjectId Error → Type 0
+IsAnsweredDigest hash tree (Ok id) = IsEncodableTree tree × (id ≡ id_of hash Tree (encode_tree tree))
+IsAnsweredDigest hash tree (Err (Writer cause)) = ⊤
+IsAnsweredDigest hash tree (Err other) = IsUnencodableTree tree
