@@ -1,8 +1,8 @@
 #!/bin/sh
-# Makes commits of many shapes with git, in two repositories in a new folder that is given:
-# `sh examples/commits.sh FOLDER`. For each it leaves what git answers in FOLDER/FORMAT.answers:
+# Makes commits of many shapes with git, in two repositories in a new folder: `sh examples/commits.sh FOLDER`.
+# Writes git's answers for each to FOLDER/FORMAT.answers:
 # NAME.id (`git rev-parse`), NAME.bytes (`git cat-file commit`), NAME.shown (`git show`, field by field),
-# and for a signed one NAME.signature, the value that `git verify-commit` hands to the program that verifies.
+# and for a signed one NAME.signature, the value that `git verify-commit` passes to the verifying program.
 set -e
 unset GIT_DIR GIT_WORK_TREE
 export GIT_CONFIG_GLOBAL=/dev/null GIT_CONFIG_NOSYSTEM=1
@@ -13,7 +13,7 @@ cd "$1"
 FOLDER=$PWD
 export FOLDER
 
-# Stands for gpg: signs with three lines, and keeps the signature that it is to verify.
+# A stand-in for gpg: signs with three lines, and keeps the signature that it verifies.
 cat > gpg <<'END'
 #!/bin/sh
 case " $* " in
@@ -32,7 +32,7 @@ esac
 END
 chmod +x gpg
 
-# keep NAME ID: leaves what git answers.
+# keep NAME ID: writes git's answers.
 keep() {
     git rev-parse "$2^{commit}" > "$answers/$1.id"
     git cat-file commit "$2" > "$answers/$1.bytes"
@@ -44,7 +44,7 @@ keep() {
     fi
 }
 
-# literal NAME: the commit of the text on standard input, as it stands.
+# literal NAME: the commit whose content is standard input, unchanged.
 literal() {
     keep "$1" "$(git hash-object -t commit -w --literally --stdin)"
 }

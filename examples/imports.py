@@ -1,12 +1,12 @@
 #!/usr/bin/env python3
 """Makes a history of 1,000 steps of three edits with `git fast-import`, and prints the ids of its commits.
 
-`python3 examples/imports.py FOLDER` makes two repositories in a new folder, one of each object format, and prints for each
-the number, the commit and the tree of every hundredth step. `git fsck --strict` must find nothing in it, and `git log` must
-tell 1,000 commits, each with the one before it as only parent.
+`python3 examples/imports.py FOLDER` makes two repositories in a new folder, one for each object format. For each it
+prints the number, the commit and the tree of every hundredth step. `git fsck --strict` must find nothing. `git log` must
+print 1,000 commits, each with the one before it as its only parent.
 
-The steps follow a rule, by which the tests of imports make them too. Step k, from 0, puts in a file three directories down
-and a program at the root, each the blob of the text `k` and a newline, and takes out a file, which may not be there.
+The steps follow a rule, by which the tests of imports make them too. Step k, from 0, inserts a file three directories
+deep and a program at the root. Each is the blob of `k` and a newline. The step also removes a file, which may be missing.
 """
 
 import os
@@ -27,7 +27,7 @@ def file_at(k):
 
 
 def steps():
-    """What `git fast-import` reads."""
+    """The input of `git fast-import`."""
     for k in range(STEPS):
         text = f"{k}\n"
         yield f"blob\nmark :{STEPS + k + 1}\ndata {len(text)}\n{text}\n"

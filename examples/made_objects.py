@@ -1,9 +1,13 @@
 #!/usr/bin/env python3
 """Makes a file of objects for `gixobj_bench`, always the same one: `python3 made_objects.py > FILE`.
 
-4,000 commits, 500 tags, 2,000 trees and 1,000 blobs, drawn by a fixed seed: most commits with one parent, a quarter of
-them signed, two of five with trailers; trees of about twenty entries with names of about a dozen bytes; blobs of any
-bytes, of a few thousand on average. The layout is that of `objects.py`. Ids are drawn too, and name nothing.
+It has 4,000 commits, 500 tags, 2,000 trees and 1,000 blobs, drawn by a fixed seed:
+
+- most commits have one parent, a quarter of them is signed, two of five have trailers;
+- trees have about twenty entries, with names of about a dozen bytes;
+- blobs have any bytes, a few thousand on average.
+
+The layout is that of `objects.py`. Ids are drawn too, and name nothing.
 """
 
 import random

@@ -1,6 +1,6 @@
 #!/bin/sh
-# Makes the objects of this folder with git, in a new folder that is given: `sh examples/make.sh FOLDER`.
-# Prints what git answers of each: file, kind, size, id.
+# Makes the objects of this folder with git, in a new folder: `sh examples/make.sh FOLDER`.
+# Prints git's answers for each: file, kind, size, id.
 set -e
 out=$(cd "$(dirname "$0")" && pwd)
 mkdir -p "$1"

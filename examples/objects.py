@@ -1,9 +1,9 @@
 #!/usr/bin/env python3
-"""Makes a file of objects for `gixobj_bench`, of what `git cat-file --batch` writes.
+"""Makes a file of objects for `gixobj_bench` from the output of `git cat-file --batch`.
 
 `git cat-file --batch-all-objects --batch | python3 examples/objects.py > FILE`, in a repository whose ids are of SHA-1.
-Of each object the file has a byte of kind (0 a tree, 1 a blob, 2 a commit, 3 a tag), the length in eight bytes, the
-least first, and the content.
+For each object the file has a byte for the kind (0 a tree, 1 a blob, 2 a commit, 3 a tag), the length in eight bytes,
+little-endian, and the content.
 """
 
 import sys

@@ -1,15 +1,16 @@
 #!/usr/bin/env python3
-"""Makes scripts of random edits, and what `gixobj edit` tells of each.
+"""Makes scripts of random edits, and what `gixobj edit` prints for each.
 
-`python3 examples/scripts.py FOLDER` makes two repositories in a new folder, one of each object format, and writes the
-table of the scripts: a line for each, with its name, `git`, the object format, the script and what is told.
+`python3 examples/scripts.py FOLDER` makes two repositories in a new folder, one for each object format, and writes the
+table of the scripts. Each script has a line with its name, `git`, the object format, the script and its output.
 
-The ids are git's. Beside each script goes a plain set of files, and at a write git makes the tree of those files:
-`git update-index --index-info` and `git write-tree --missing-ok`. The rest of what is told follows from two rules:
+The ids are git's. Each script also runs on a plain set of files, and at a write git makes the tree of those files:
+`git update-index --index-info` and `git write-tree --missing-ok`. The rest of the output follows from two rules:
 
-- A directory is opened where a path goes through it. It is looked up then, unless it is new or of the null id.
-- A write hands out each open directory below the written one that has a file, and whose tree isn't the one that it was
-  opened with, and the written one. Below that one none is open then; it was still opened with the tree of before.
+- A directory is opened if a path goes through it. It is looked up then, unless it is new or has the null id.
+- A write emits the written directory, and each open directory below it that has a file and whose tree differs from the
+  one that it was opened with. After the write no directory below is open. The written one is then still open, with the
+  tree that it was opened with before.
 """
 
 import os
@@ -52,7 +53,7 @@ class Git:
         return subprocess.run(command, input=given, env=own, capture_output=True, text=True, check=True).stdout.strip()
 
     def tree_of(self, files):
-        """The id that git gives the tree of these files."""
+        """Git's id of the tree of these files."""
         lines = [f"{MODES[kind]} {id}\t{'/'.join(path)}\n" for path, (kind, id) in files.items()]
         self.answer("read-tree", "--empty")
         self.answer("update-index", "--index-info", given="".join(lines))
@@ -66,17 +67,17 @@ class Git:
 
 
 def beginnings(path):
-    """The path of each directory on the way to a path, and the path itself."""
+    """The paths of the parent directories of a path, and the path itself."""
     return [path[: length + 1] for length in range(len(path))]
 
 
 def is_in(path, directory):
-    """Whether a path goes on from a directory."""
+    """Whether a path is below a directory."""
     return len(path) > len(directory) and path[: len(directory)] == directory
 
 
 class Plain:
-    """A plain set of files, and which directories are open, each with the tree that it was opened with, or None."""
+    """A plain set of files, and the open directories, each with the tree that it was opened with, or None."""
 
     def __init__(self, git):
         self.git = git
@@ -103,7 +104,7 @@ class Plain:
         return listed or bool(self.below(path))
 
     def open_along(self, path, opens_null=True):
-        """Opens the directories on a path as far as there are any; a refusal, if one isn't in the store."""
+        """Opens the directories on a path up to the first missing one; an error if one isn't in the store."""
         for place in beginnings(path):
             if place in self.open:
                 continue
@@ -118,14 +119,14 @@ class Plain:
         return OK
 
     def assure(self, path):
-        """Makes each beginning of a path an open directory, and takes away the file that stands there."""
+        """Makes each prefix of a path an open directory, in place of a file."""
         for place in beginnings(path):
             self.files.pop(place, None)
             self.null_directories.discard(place)
             self.open.setdefault(place, None)
 
     def forget(self, path):
-        """Takes away all that is at and below a path."""
+        """Removes everything at and below a path."""
         kept = lambda it: it != path and not is_in(it, path)
         self.files = {it: file for it, file in self.files.items() if kept(it)}
         self.open = {it: base for it, base in self.open.items() if kept(it)}
@@ -148,7 +149,7 @@ class Plain:
         return OK
 
     def remove(self, path, is_leaf=False):
-        """The names from the first empty one on are judged only where the directory above them is there."""
+        """Removes an entry; the names from the first empty one on are checked only if the directory above exists."""
         above = path[: path.index("")] if "" in path else path[:-1]
         told = self.open_along(above, opens_null=not is_leaf)
         if told != OK or not path:
@@ -161,7 +162,7 @@ class Plain:
         return OK
 
     def go_to(self, prefix):
-        """Opens the directory at a prefix, or makes it."""
+        """Opens the directory at a prefix, or creates it."""
         if "" in prefix:
             return "refused 1"
         told = self.open_along(prefix)
@@ -170,7 +171,7 @@ class Plain:
         return told
 
     def write(self, directory):
-        """Git's id of the directory's files, and how many trees are handed out. Its trees are in the store then."""
+        """Git's id of the directory's files, and the number of emitted trees, which are then in the store."""
         files = self.below(directory)
         id = self.git.tree_of(files)
         trees = {directory + path: inner for path, inner in self.git.directories_of(id)}
@@ -193,7 +194,7 @@ def at(prefix):
 
 
 class Script:
-    """A script that is drawn line by line, and what is told of it."""
+    """A script that is drawn line by line, and its output."""
 
     def __init__(self, git, draw, names, depth, is_whole):
         self.plain = Plain(git)
@@ -207,7 +208,7 @@ class Script:
         self.told = []
 
     def path(self):
-        """A path: often at, above or below a file; in whole runs at times one without names, or with an empty one."""
+        """A path, often at, above or below a file; in runs sometimes without names, or with an empty name."""
         number = self.draw.randrange(40)
         if self.is_whole and number < 2:
             return () if number else (self.draw.choice(self.names), "", "a")
@@ -220,7 +221,7 @@ class Script:
         return path
 
     def entry(self):
-        """The kind and the id of an upsert: in whole runs at times a stored tree, an unknown one, or the null id."""
+        """The kind and the id of an upsert; in runs sometimes a stored tree, an unknown one, or the null id."""
         number = self.draw.randrange(0 if self.is_whole else 7, 16) if self.of_all_kinds else 15
         if number < 4 and self.plain.stored:
             return "tree", self.draw.choice(list(self.plain.stored))
@@ -251,12 +252,12 @@ class Script:
         self.told.append(self.plain.remove(whole, is_leaf) if told == OK else told)
 
     def gone_to(self, prefix, path):
-        """What is told of going to a prefix, if there is one; and the path from the root."""
+        """The reply to opening a prefix, if there is one, and the path from the root."""
         told = OK if prefix is None else self.plain.go_to(prefix)
         return told, (prefix or ()) + path if path else ()
 
     def write(self, prefix=None):
-        """A write, behind the removal of trees that the store doesn't have."""
+        """A write, after the removal of trees that the store doesn't have."""
         for path in filter(self.plain.is_unknown, list(self.plain.files)):
             self.lines.append(f"remove {'/'.join(path)}")
             self.told.append(self.plain.remove(path))
@@ -265,7 +266,7 @@ class Script:
         self.told.append(self.plain.write(prefix or ()) if told == OK else told)
 
     def visit(self):
-        """Edits by cursors in one directory, and at times a write of it."""
+        """Edits by cursors in one directory, and sometimes a write of it."""
         prefix = self.path()
         prefix = prefix[: self.draw.randint(0, len(prefix))]
         for _ in range(self.draw.randint(1, 4)):
@@ -274,7 +275,7 @@ class Script:
             self.write(prefix)
 
     def step(self, visits):
-        """A visit, in so many of sixteen steps; else an edit, a write, or in whole runs at times a new root."""
+        """A visit, in `visits` of sixteen steps; else an edit, a write, or in runs sometimes a new root."""
         number = self.draw.randrange(16)
         if number < visits:
             self.visit()
@@ -290,7 +291,7 @@ class Script:
         self.told.append(self.plain.begin_anew())
 
     def come_to(self, files):
-        """Takes out files that aren't among these, and puts these in, at times by a cursor or behind a write."""
+        """Removes all other files and inserts these, sometimes by a cursor or after a write."""
         others = [(path, None) for path in self.plain.files if path not in files]
         wanted = [(path, it) for path, it in files.items() if self.plain.files.get(path) != it]
         for path, it in self.draw.sample(others, len(others)) + self.draw.sample(wanted, len(wanted)):
@@ -310,7 +311,7 @@ class Script:
         return "".join(f"{line}\\n" for line in [*self.told, f"lookups {self.plain.lookups}"])
 
 
-# What a script is called, how many visits it has in sixteen steps, and whether it is a whole run.
+# The name of a script, its visits in sixteen steps, and whether it is an entire run.
 KINDS = [("edits", 0, False), ("cursors", 11, False), ("runs", 5, True)]
 MANY = [("files-after-many-edits", False, 16), ("files-after-many-visits", True, 24)]
 FEW_NAMES = ["a", "b", "c", "d"]
@@ -318,7 +319,7 @@ NEAR_NAMES = ["a", "a-", "a.b", "a0"]
 
 
 def script(git, draw, number, visits, is_whole):
-    """A script of ten to sixty lines that ends in a write; each third one is of near names, and deeper."""
+    """A script of ten to sixty lines that ends in a write; each third one has near names and is deeper."""
     names, depth = (NEAR_NAMES, 5) if number % 3 == 2 else (FEW_NAMES, 3)
     made = Script(git, draw, names, depth, is_whole)
     length = draw.randint(9, 52)
@@ -339,7 +340,7 @@ def of_files(git, draw, names, depth, visits):
 
 
 def ways(git, draw, number):
-    """Two scripts that come to the same files: one that is drawn, and another one, which goes on to its files."""
+    """Two scripts that result in the same files: one that is drawn, and another one, which continues to its files."""
     names, depth = (NEAR_NAMES, 4) if number % 3 == 2 else (FEW_NAMES, 3)
     first = of_files(git, draw, names, depth, visits=0)
     while len(first.plain.files) < 3:
@@ -355,7 +356,7 @@ def ways(git, draw, number):
 
 
 class Numbers:
-    """Numbers that follow from a seed and look random, the same in any program."""
+    """Pseudo-random numbers that follow from a seed, the same in any program."""
 
     def __init__(self, seed):
         self.state = seed
@@ -365,14 +366,14 @@ class Numbers:
         return self.state >> 33
 
     def path(self):
-        """A path of one name to three."""
+        """A path of one to three names."""
         length = self.draw() & 3
         names = [FEW_NAMES[self.draw() & 3] for _ in range(3)]
         return tuple(names[: length + 1])
 
 
 class ManyEdits(Script):
-    """A script of many edits, and of many visits by cursors, that are drawn by such numbers."""
+    """A script of many edits, and of many visits by cursors, drawn by `Numbers`."""
 
     def __init__(self, git, seed):
         super().__init__(git, None, FEW_NAMES, 3, is_whole=False)
@@ -392,28 +393,28 @@ class ManyEdits(Script):
         self.written = self.told[-1].split()[1]
 
     def edits(self):
-        """Four writes, behind twelve edits each."""
+        """Four writes, each after twelve edits."""
         for step in range(48):
             self.edit()
             if step % 12 == 11:
                 self.write()
 
     def visit_at(self, prefix):
-        """Four edits by cursors at a prefix; behind them, at times, a write of it."""
+        """Four edits by cursors at a prefix, and sometimes a write of it."""
         for _ in range(4):
             self.edit(prefix)
         if self.numbers.draw() & 1:
             self.write(prefix)
 
     def begin_with(self, root):
-        """Begins anew with a written root: its entries are put in, and its directories aren't open."""
+        """Starts again with a written root: inserts its entries, whose directories aren't open."""
         self.root()
         for line in self.git.answer("ls-tree", root).splitlines():
             _, kind, id, name = line.split()
             self.upsert(None, (name,), kind, id)
 
     def visits(self):
-        """Sixteen steps: a write, a visit, and that root again; a write; an edit; or, mostly, a visit."""
+        """Sixteen steps: a write, a visit and the written root again; a write; an edit; or, mostly, a visit."""
         for _ in range(16):
             number = self.numbers.draw() & 7
             if number == 0:

@@ -1,14 +1,14 @@
 #!/usr/bin/env python3
 """Has commits and tags signed and verified by gpg, gpgsm and ssh-keygen, and asks git about the same objects.
 
-`python3 examples/signing.py FOLDER` makes throw-away keys and two repositories in a new folder, one of each object
-format, and prints a table of what the programs were asked, what they answered, and what comes of it. They get exactly
-the words that `sign` and `verify` hand to a runner. The text of a time is that in UTC, in which they run.
+`python3 examples/signing.py FOLDER` makes throw-away keys and two repositories in a new folder, one for each object
+format. It prints a table of the calls of the programs, their answers, and the outcomes. The programs get exactly the
+arguments that `sign` and `verify` pass to a runner. The programs run in UTC, and times are in UTC.
 
-What comes of a report follows from gnupg, doc/DETAILS, and from ssh-keygen(1), `-Y verify`. git calls the programs in
-its own way, and must say the same, or the script stops: `git verify-commit` or `git verify-tag` accepts each signed
-object, and judges each verified one alike under the same gpg.minTrustLevel; of a commit git's `%G?`, `%GT`, `%GS`,
-`%GK`, `%GF` and `%GP` agree too, but for what the head of the table names.
+The outcome of a report follows from gnupg, doc/DETAILS, and from ssh-keygen(1), `-Y verify`. git calls the programs in
+its own way, and must agree, or the script stops: `git verify-commit` or `git verify-tag` accepts each signed object,
+and its verdict on each verified one is the same under the same gpg.minTrustLevel. For a commit, git's `%G?`, `%GT`,
+`%GS`, `%GK`, `%GF` and `%GP` agree too, except for what the head of the table names.
 """
 
 import os
@@ -42,7 +42,7 @@ LETTERS = {"G": "Good", "U": "Good", "B": "Bad", "E": "Error", "X": "Expired", "
 
 @dataclass
 class Program:
-    """A program of a format, the words before the fixed ones, and what is set for it."""
+    """A program of a format, its first arguments, and its environment."""
 
     format: str
     words: list
@@ -51,7 +51,7 @@ class Program:
 
 @dataclass
 class Told:
-    """What a program answered."""
+    """The answer of a program."""
 
     success: bool
     stdout: bytes
@@ -60,13 +60,13 @@ class Told:
 
 
 class Calls:
-    """Makes calls, and keeps what was asked and answered."""
+    """Makes calls, and keeps their questions and answers."""
 
     def __init__(self, folder):
         self.folder, self.columns = folder, []
 
     def ask(self, program, words, files, given, result=None):
-        """Words `@0`, `@1` and `@time=..` stand for the paths of the files and for the word of a time."""
+        """Makes a call; `@0`, `@1` and `@time=..` mean the paths of the files and the argument of a time."""
         paths = [self.folder.write(f"file{number}", content) for number, content in enumerate(files)]
         placed = [placed_word(word, paths) for word in program.words + words]
         done = self.folder.run(placed, program.environment, given, check=False)
@@ -99,7 +99,7 @@ def spelled(content):
 
 
 class Refused(Exception):
-    """What is answered where a program refuses."""
+    """The answer if a program fails."""
 
 
 def signature_of(calls, program, key, payload):
@@ -122,10 +122,10 @@ def signature_of(calls, program, key, payload):
 
 
 def taken_apart(kind, ids, text):
-    """What is signed of an object, and its signature (gitformat-signature).
+    """The signed bytes of an object, and its signature (gitformat-signature).
 
-    Signed are a commit's bytes without the headers of that name, and a tag's before the last marker at the start of a
-    line. Behind a tag without a signature comes a newline."""
+    The signed bytes of a commit are all except the headers of that name. Those of a tag are the bytes before the last
+    marker at the start of a line. A tag without a signature gets a newline at the end."""
     if kind == "commit":
         header = rb"^%s (.*\n(?: .*\n)*)" % FIELDS[ids]
         head, message = text.split(b"\n\n", 1)
@@ -138,7 +138,7 @@ def taken_apart(kind, ids, text):
 
 
 def signed(calls, program, key, kind, ids, text):
-    """The object with a new signature: of a commit in its last header, of a tag behind its text (gitformat-signature)."""
+    """The object with a new signature, in the last header of a commit or at the end of a tag (gitformat-signature)."""
     payload, _ = taken_apart(kind, ids, text)
     signature = signature_of(calls, program, key, payload)
     if kind == "tag":
@@ -153,7 +153,7 @@ def signed(calls, program, key, kind, ids, text):
 
 @dataclass
 class Verifier:
-    """Who verifies, the least trust, and of SSH the files of those that may sign and of revoked keys, and the time."""
+    """A verifier: the program, the minimum of trust, and for SSH the files of allowed signers and revoked keys, and the time."""
 
     program: Program
     minimum: str = "Undefined"
@@ -164,7 +164,7 @@ class Verifier:
 
 @dataclass
 class Outcome:
-    """What comes of verifying."""
+    """The outcome of verifying."""
 
     status: str = "Unknown"
     trust: str = "Undefined"
@@ -189,7 +189,7 @@ def verify_gpg(calls, verifier, payload, signature):
 
 
 def gpg_outcome(report):
-    """What a report of gpg or gpgsm says (gnupg, doc/DETAILS). Where it speaks of several signatures, none is good."""
+    """The outcome of a report of gpg or gpgsm (gnupg, doc/DETAILS). If it is of several signatures, none is good."""
     outcome = Outcome()
     lines = [line.removeprefix(b"[GNUPG:] ") for line in report.split(b"\n") if line.startswith(b"[GNUPG:] ")]
     judging = [line for line in lines if line.split(b" ")[0].decode() in STATUSES]
@@ -226,7 +226,7 @@ def verify_ssh(calls, verifier, payload, signature):
 
 
 def ssh_outcome(told, signer, trust):
-    """What ssh-keygen says of a signature of git's."""
+    """The outcome of an answer of ssh-keygen on a signature in git's namespace."""
     output = told.stdout + told.stderr
     status = "Good" if output.startswith(b'Good "git" signature') else "Bad"
     _, found, key = output.split(b"\n")[0].rpartition(b" key ")
@@ -256,7 +256,7 @@ class Git:
         return self.folder.run(words, self.environment, text).stdout.decode().strip()
 
     def asked(self, verifier, *words):
-        """Asks with a verifier, by a program that puts the verifier's words first."""
+        """Asks git with a verifier, through a program that inserts the verifier's arguments first."""
         program = self.folder.write("program", f'#!/bin/sh\nexec {" ".join(verifier.program.words)} "$@"\n', 0o700)
         name = {"OpenPgp": "gpg.program", "X509": "gpg.x509.program", "Ssh": "gpg.ssh.program"}[verifier.program.format]
         settings = {name: program, "gpg.minTrustLevel": verifier.minimum}
@@ -270,7 +270,7 @@ class Git:
         return self.asked(verifier, f"verify-{kind}", id).returncode == 0
 
     def told(self, verifier, id):
-        """What git tells of a commit's signature. Where no trust was reported it stops at `%GT`."""
+        """Git's outcome for a commit's signature. It stops at `%GT` if no trust was reported."""
         form = "--format=%G?%n%GS%n%GK%n%GF%n%GP"
         letter, *texts = self.asked(verifier, "log", "-1", form, id).stdout.split(b"\n")[:5]
         trust = self.asked(verifier, "log", "-1", "--format=%GT", id).stdout.strip() or b"undefined"
@@ -280,7 +280,7 @@ class Git:
 
 
 def unlike_here(told, outcome, format):
-    """What git tells, with the differences that the head of the table names taken out."""
+    """Git's outcome, without the differences that the head of the table names."""
     if outcome.status == "Error":
         return replace(told, trust=outcome.trust, signer=outcome.signer, fingerprint=outcome.fingerprint, primary=outcome.primary)
     return replace(told, trust=outcome.trust) if format == "Ssh" and outcome.status == "Bad" else told
@@ -290,7 +290,7 @@ def unlike_here(told, outcome, format):
 
 
 class Table:
-    """The rows, and the repositories and keys that they are made with."""
+    """The rows, and the repositories and keys for them."""
 
     def __init__(self, folder):
         self.folder, self.keys, self.rows = folder, Keys(folder), []
@@ -314,7 +314,7 @@ class Table:
         self.verify(f"{name}-verified", verifier, made, kind, ids)
 
     def refuse(self, name, program, key):
-        """Has a program refuse to sign."""
+        """Makes a row of a program that fails to sign."""
         calls, text = Calls(self.folder), commit_of(self.gits["sha1"])
         try:
             signed(calls, program, key, "commit", "sha1", text)
@@ -324,12 +324,12 @@ class Table:
             self.row(name, "program", head, text, program, [key, "-", "-"], calls, f"err {refusal}")
 
     def made(self, program, key, kind="commit", words=(), **parts):
-        """A signed object for which there is no row, made with these words before the fixed ones."""
+        """A signed object without a row, made with these further first arguments."""
         text = (commit_of if kind == "commit" else tag_of)(self.gits["sha1"], **parts)
         return signed(Calls(self.folder), replace(program, words=program.words + list(words)), key, kind, "sha1", text)
 
     def verify(self, name, verifier, text, kind="commit", ids="sha1"):
-        """Has an object verified, and git say the same."""
+        """Has an object verified; git must agree."""
         calls, git, program = Calls(self.folder), self.gits[ids], verifier.program
         verify = verify_ssh if program.format == "Ssh" else verify_gpg
         outcome = verify(calls, verifier, *taken_apart(kind, ids, text))
@@ -371,7 +371,7 @@ def put_signed(table, ids):
 
 
 def put_odd(table):
-    """Other words, keys and texts, and objects that have a signature already."""
+    """Other arguments, keys and messages, and objects that are already signed."""
     git, keys, gpg = table.gits["sha1"], table.keys, table.gpg.program
     with_agent = replace(table.ssh.program, environment=keys.with_agent)
     stronger = replace(gpg, words=["gpg", "--digest-algo=SHA512"])
@@ -429,7 +429,7 @@ def put_gpg(table):
 
 
 def put_gpgsm(table):
-    """A certificate that is trusted, that has expired, that isn't there, and that isn't trusted."""
+    """A certificate that is trusted, expired, missing, or untrusted."""
     keys, gpgsm = table.keys, table.gpgsm
     later = replace(gpgsm.program, words=["gpgsm", "--faked-system-time=21000101T000000"])
     nowhere = replace(gpgsm, program=replace(gpgsm.program, environment=keys.nothing))
@@ -447,7 +447,7 @@ def put_gpgsm(table):
 
 
 def put_ssh(table):
-    """Keys that may sign, may not, may not yet, may no longer, and were revoked."""
+    """Keys that may sign, may not, may not yet, may no longer, and are revoked."""
     at, ssh = table.folder.at, table.ssh
     good, in_west, tag = [table.made(ssh.program, at("author"), **it) for it in [{}, {"offset": -27000}, {"kind": "tag"}]]
     for name, verifier, commit in [

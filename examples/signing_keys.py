@@ -9,7 +9,7 @@ LEVELS = ["Undefined", "Never", "Marginal", "Fully", "Ultimate"]
 
 
 class Folder:
-    """A new folder, in which programs are run that see nothing of the user's own."""
+    """A new folder, in which programs run without access to the user's own keys."""
 
     def __init__(self, path):
         self.path = os.path.abspath(path)
@@ -28,7 +28,7 @@ class Folder:
             return file.read()
 
     def run(self, words, environment=None, given=b"", check=True):
-        """Runs a program with this input, or with none where it is None."""
+        """Runs a program with this input, or without any if it is None."""
         own = {"PATH": os.environ["PATH"], "HOME": self.path, "TZ": "UTC", "LC_ALL": "C"}
         source = {"stdin": subprocess.DEVNULL} if given is None else {"input": given}
         return subprocess.run(words, env=own | (environment or {}), capture_output=True, check=check, **source)
@@ -79,7 +79,7 @@ class Keys:
         self.folder.write("gnupg/trustlist.txt", f"{self.gpgsm} S relax\n")
 
     def make_ssh(self):
-        """Two keys, an agent that has the first, and files of those that may sign."""
+        """Two keys, an agent that has the first, and files of allowed signers."""
         for name in ["author", "other"]:
             self.made("ssh-keygen", "-q", "-t", "ed25519", "-N", "", "-C", name, "-f", self.folder.at(name))
         author, other = self.ssh = [" ".join(self.folder.read(f"{name}.pub").decode().split()[:2]) for name in ["author", "other"]]

@@ -1,7 +1,7 @@
 #!/bin/sh
-# Asks git which names a tag's reference may have: `sh examples/tag-names.sh`. Writes a line a name: its
-# bytes in hex, a space, and `ok` or `bad`, as `git check-ref-format refs/tags/NAME` answers; and before
-# each group of names a line that begins with `#`. A zero byte can't stand in a word of a command.
+# Asks git which names a tag's reference may have: `sh examples/tag-names.sh`. Writes a line for each name:
+# its bytes in hex, a space, and `ok` or `bad`, as `git check-ref-format refs/tags/NAME` answers; and before
+# each group of names a line that begins with `#`. An argument of a command can't have a zero byte.
 set -e
 
 # ask NAME: writes the line of the name.
@@ -23,7 +23,7 @@ group() {
     done
 }
 
-# many NUMBER TEXT: the text so many times.
+# many NUMBER TEXT: TEXT, repeated NUMBER times.
 many() {
     printf "%$1s" '' | sed "s| |$2|g"
 }

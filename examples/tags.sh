@@ -1,6 +1,6 @@
 #!/bin/sh
-# Makes tags of many shapes with git, in two repositories in a new folder that is given:
-# `sh examples/tags.sh FOLDER`. For each it leaves what git answers in FOLDER/FORMAT.answers:
+# Makes tags of many shapes with git, in two repositories in a new folder: `sh examples/tags.sh FOLDER`.
+# Writes git's answers for each to FOLDER/FORMAT.answers:
 # NAME.bytes (`git cat-file tag`), NAME.id (`git hash-object -t tag --stdin`), NAME.told (`git cat-file -t`
 # and `-s`), and of `git for-each-ref` NAME.shown (target, kind, name and tagger's line, each on a line,
 # and the content), NAME.tagger (name, email and time, each on a line) and NAME.signature.
@@ -13,7 +13,7 @@ mkdir -p "$1"
 cd "$1"
 FOLDER=$PWD
 
-# program NAME WORDS: stands for gpg or gpgsm, and signs with three lines between these words.
+# program NAME MARKER: a stand-in for gpg or gpgsm, which signs with three lines between markers.
 program() {
     cat > "$1" <<END
 #!/bin/sh
@@ -27,7 +27,7 @@ program gpg 'PGP SIGNATURE'
 program gpg-message 'PGP MESSAGE'
 program gpgsm 'SIGNED MESSAGE'
 
-# Stands for ssh-keygen, which leaves the signature beside the file that it signs.
+# A stand-in for ssh-keygen, which writes the signature next to the file that it signs.
 cat > ssh-keygen <<'END'
 #!/bin/sh
 for file; do :; done
@@ -35,12 +35,12 @@ printf -- '-----BEGIN SSH SIGNATURE-----\nU1NIU0lH\n-----END SSH SIGNATURE-----\
 END
 chmod +x ssh-keygen
 
-# field FORMAT: what git tells of the kept tag, less the newline behind it.
+# field FORMAT: what git prints for the kept tag, without the last newline.
 field() {
     git for-each-ref --format="$1" refs/kept/tag | LC_ALL=C awk 'NR > 1 { printf "\n" } { printf "%s", $0 }'
 }
 
-# keep NAME ID: leaves what git answers.
+# keep NAME ID: writes git's answers.
 keep() {
     git update-ref refs/kept/tag "$2"
     git cat-file tag "$2" > "$answers/$1.bytes"
@@ -73,7 +73,7 @@ verbatim() {
     keep "$shape" "refs/tags/$tag"
 }
 
-# literal NAME: the tag of the text on standard input, as it stands.
+# literal NAME: the tag whose content is standard input, unchanged.
 literal() {
     cat > "$FOLDER/text"
     id=$(git mktag --no-strict < "$FOLDER/text" 2> "$FOLDER/errors") ||
@@ -81,7 +81,7 @@ literal() {
     keep "$1" $id
 }
 
-# body NAME TEXT: a tag without tagger, and this text behind its name.
+# body NAME TEXT: a tag without tagger, with TEXT after its name.
 body() {
     printf "object $tree\ntype tree\ntag v1\n$2" | literal "$1"
 }

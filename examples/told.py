@@ -1,15 +1,16 @@
 #!/usr/bin/env python3
-"""Makes the answers of a table of scripts anew, by `git` and the rules that the head of the table states.
+"""Computes the answers of a table of scripts again, by `git` and the rules at the head of the table.
 
-`python3 examples/told.py FOLDER TABLE` makes two repositories in a new folder, one of each object format, and writes
-the table with its last column made anew. Lines of the head, and rows that are told which line is no command, stay.
+`python3 examples/told.py FOLDER TABLE` makes two repositories in a new folder, one for each object format, and writes
+the table with a new last column. Lines of the head are unchanged, and so are rows whose answer is the number of an
+invalid line.
 
-A table with a column of objects before the script is one of scripts over a store of these. `git hash-object` gives
-them their ids, and says which commits and tags are read; a line `causes` is told last.
+A table with a column of objects before the script is one of scripts over a store of these objects. `git hash-object`
+gives them their ids, and says which commits and tags are valid. Their last line of output is `causes`.
 
-Each directory that is open is its entries, and the entries that it was opened with; `git mktree --missing` names the
-tree of entries. A write hands out each directory below the written one whose tree is neither empty nor the one that it
-was opened with, and the written one.
+An open directory consists of its entries, and of those that it was opened with; `git mktree --missing` gives the id of
+a tree of entries. A write emits the written directory, and each directory below it whose tree isn't empty and differs
+from the one that it was opened with.
 """
 
 import os
@@ -21,7 +22,7 @@ MODES = {"tree": "40000", "blob": "100644", "exe": "100755", "link": "120000", "
 
 
 class Refused(Exception):
-    """What is told of an edit that is refused, and the cause of a directory that isn't found."""
+    """The reply to an edit that fails, and the cause if a directory isn't found."""
 
     def __init__(self, told, cause=None):
         super().__init__(told)
@@ -42,11 +43,11 @@ class Git:
         return subprocess.run(["git", "-C", at, *words], input=given, env=own, capture_output=True, check=True).stdout
 
     def object_of(self, kind, content):
-        """The id that git gives an object, whatever its bytes are."""
+        """Git's id of an object, valid or not."""
         return self.answer(self.folder, content, "hash-object", "--literally", "-t", kind, "--stdin").decode().strip()
 
     def reads(self, kind, content):
-        """Whether git reads these bytes as an object of this kind."""
+        """Whether git accepts these bytes as an object of this kind."""
         try:
             self.answer(self.folder, content, "hash-object", "-t", kind, "--stdin")
         except subprocess.CalledProcessError:
@@ -54,7 +55,7 @@ class Git:
         return True
 
     def tree_of(self, entries):
-        """The id that git gives the tree of these entries, in order."""
+        """Git's id of the tree of these entries, in order."""
         if any(mode not in MODES.values() for mode, _ in entries.values()):
             names = sorted(entries, key=lambda it: in_order(it, entries[it][0]))
             text = b"".join(
@@ -74,17 +75,17 @@ def is_directory(mode):
 
 
 def in_order(name, mode):
-    """What names are put in order by."""
+    """The key by which names are ordered."""
     return name + (b"/" if is_directory(mode) else b"")
 
 
 def mode_of(digits):
-    """The mode of these digits, as it is written: 16 bits of it, and a zero before a directory's."""
+    """The mode of these digits as git prints it: 16 bits of it, and a zero before a directory's."""
     return digits if digits == "040000" else f"{int(digits, 8) & 0xffff:o}"
 
 
 def entries_of(text, size):
-    """The name, the mode and the id of each entry of a tree's text; none where it isn't read. An id has so many bytes."""
+    """The name, the mode and the id of each entry of a tree, or None for malformed bytes. `size` is the length of an id."""
     entries = []
     while text:
         it = re.match(rb"([0-7]{1,7}) ([^\0]*)\0(.{%d})" % size, text, re.DOTALL)
@@ -149,7 +150,7 @@ class Editor:
         return {name: (mode, id) for name, mode, id in entries}
 
     def opened(self, directory, name):
-        """The directory of this name in an open one, which has a tree's entry of it; it is open then."""
+        """The directory of this name in an open one, which has an entry for it; it is then open."""
         if name in directory.inner:
             return directory.inner[name]
         id = directory.entries[name][1]
@@ -161,7 +162,7 @@ class Editor:
         return directory.inner[name]
 
     def open_along(self, names):
-        """Opens the directories on the way, as far as there are any."""
+        """Opens the directories on a path, up to the first missing one."""
         directory = self.root
         for name in names:
             if not directory.is_tree(name):
@@ -169,7 +170,7 @@ class Editor:
             directory = self.opened(directory, name)
 
     def made(self, names):
-        """The directory at a path; one that is missing is made, also in place of a file."""
+        """The directory at a path, which is created if it is missing, also in place of a file."""
         directory = self.root
         for name in names:
             if not directory.is_tree(name):
@@ -190,7 +191,7 @@ class Editor:
         directory.put(names[-1], (MODES[kind], id))
 
     def remove(self, names, is_leaf):
-        """The names from the first empty one on are judged only where the directory above them is there."""
+        """Removes an entry; the names from the first empty one on are checked only if the directory above exists."""
         directory = self.root
         for name in names[:-1]:
             if name == b"":
@@ -208,7 +209,7 @@ class Editor:
         directory.take(names[-1])
 
     def own_entries(self, directory):
-        """The entries to be written, and how many trees below went out."""
+        """The entries of the written tree, and the number of emitted trees below it."""
         own, count = {}, 0
         for name, (mode, id) in directory.entries.items():
             if name in directory.inner:
@@ -236,7 +237,7 @@ class Editor:
 
 
 def unspelled(text):
-    """The bytes of a text in which `\\n` is a newline, and `\\xNN` any byte."""
+    """The bytes of a column, in which `\\n` is a newline, and `\\xNN` any byte."""
     byte = lambda it: b"\n" if it[0] == b"\\n" else bytes([int(it[1], 16)])
     return re.sub(rb"\\n|\\x(..)", byte, text.encode())
 
@@ -250,7 +251,7 @@ def names_of(path):
 
 
 def edit(editor, prefix, line):
-    """What is told of an edit, behind the names of a prefix."""
+    """The reply to an edit, whose path follows the names of a prefix."""
     word, _, rest = line.partition(b" ")
     if word == b"write":
         return editor.write(editor.made(prefix))
@@ -280,7 +281,7 @@ def command(editor, line):
 
 
 def told_lines(git, script, objects=None):
-    """What is told of a script, line by line: of each command, and last of the lookups, and of causes over objects."""
+    """The output of a script: a line for each command, then the lookups, and over objects the causes."""
     editor = Editor(git, objects or ())
     causes = ["causes"]
     for line in filter(None, script.split(b"\n")):
@@ -295,12 +296,12 @@ def told_lines(git, script, objects=None):
 
 
 def told(git, script, objects=None):
-    """What is told of a script, as a table has it."""
+    """The output of a script, as a table has it."""
     return "".join(f"{line}\\n" for line in told_lines(git, unspelled(script), objects))
 
 
 def objects_of(text):
-    """The objects of a column: of each the word of its kind, and behind an 'x' its bytes in hex."""
+    """The objects of a column: of each the name of its kind, and after an 'x' its bytes in hex."""
     words = [] if text == "-" else text.split(" ")
     return [(kind, bytes.fromhex(content[1:])) for kind, content in zip(words[::2], words[1::2])]
 

@@ -1,9 +1,9 @@
 #!/usr/bin/env python3
-"""Asks git for the trailers of bodies of many shapes: `python3 examples/trailers.py > crates/gixobj_replay/data/git-trailers.tsv`.
+"""Asks git for the trailers of many bodies: `python3 examples/trailers.py > crates/gixobj_replay/data/git-trailers.tsv`.
 
-Each body is handed to `git interpret-trailers --parse --no-divider` behind a title and an empty line, since git
-takes the first paragraph of a message for its title. Where this repository reads a body in another way on purpose,
-BY_RULE has the answer in place of git's, and docs/DIFFERENCES.md says why.
+Each body is passed to `git interpret-trailers --parse --no-divider` after a title and an empty line, since git takes the
+first paragraph of a message for its title. If this repository decodes a body differently on purpose, BY_RULE has the
+answer instead of git, and docs/DIFFERENCES.md gives the reason.
 """
 import os
 import subprocess
@@ -108,7 +108,7 @@ BODIES = {
     "revert": "This reverts commit 1.\n\n" + SIGN,
     "kernel": "text\n\nLink: https://example.com/r/1\nReviewed-by: B <b@c>\n[c@d: changed]\n" + SIGN,
     "comment-and-folded": "A: 1\n 2\n# note\n 3\n",
-    # ---- read otherwise on purpose
+    # ---- decoded differently on purpose
     "form-feed-indents": "A: 1\n\\x0c2\n",
     "form-feed-is-blank": "text\n\\x0c\nA: 1\n",
     "comment-in-block": "A: 1\n# note\nB: 2\n",
@@ -116,7 +116,7 @@ BODIES = {
     "wide-space-at-ends": "A: \\xc2\\xa01\\xe3\\x80\\x80\n",
 }
 
-# Bodies that are read in another way than git's, and their trailers.
+# Bodies that git decodes differently, and their trailers here.
 BY_RULE = {
     "form-feed-indents": ["A: 1 2"],
     "form-feed-is-blank": ["A: 1"],
@@ -129,13 +129,13 @@ BY_RULE = {
 
 
 def bytes_of(body):
-    """The bytes of a body, in which \\x and two digits stand for a byte."""
+    """The bytes of a body, in which \\x and two digits mean a byte."""
     parts = body.encode().split(b"\\x")
     return parts[0] + b"".join(bytes([int(part[:2], 16)]) + part[2:] for part in parts[1:])
 
 
 def asked(body):
-    """What git answers: a trailer a line."""
+    """Git's answer: a line for each trailer."""
     environment = {"PATH": os.environ["PATH"], "GIT_CONFIG_GLOBAL": "/dev/null", "GIT_CONFIG_NOSYSTEM": "1"}
     answer = subprocess.run(
         ["git", "interpret-trailers", "--parse", "--no-divider"],

@@ -1,6 +1,6 @@
 #!/bin/sh
-# Makes trees of many shapes with git, in two repositories in a new folder that is given:
-# `sh examples/trees.sh FOLDER`. For each it leaves what git answers in FOLDER/FORMAT.answers:
+# Makes trees of many shapes with git, in two repositories in a new folder: `sh examples/trees.sh FOLDER`.
+# Writes git's answers for each to FOLDER/FORMAT.answers:
 # NAME.hex (`git cat-file tree`, in hex), NAME.id (`git hash-object -t tree --stdin`), NAME.told (`git cat-file -t`
 # and `-s`) and NAME.listed (`git ls-tree -z`). `git mktree` makes those that it can, and
 # `git hash-object --literally` the others. Names are in the escapes of printf.
@@ -13,7 +13,7 @@ mkdir -p "$1"
 cd "$1"
 FOLDER=$PWD
 
-# keep NAME ID: leaves what git answers.
+# keep NAME ID: writes git's answers.
 keep() {
     git cat-file tree "$2" > "$FOLDER/bytes"
     od -An -v -tx1 "$FOLDER/bytes" | tr -d ' \n' > "$answers/$1.hex"
@@ -22,7 +22,7 @@ keep() {
     git ls-tree -z "$2" > "$answers/$1.listed"
 }
 
-# file, program, link, directory, module NAME: a line of what `git mktree -z` reads.
+# file, program, link, directory, module NAME: a line of input for `git mktree -z`.
 file() { printf "100644 blob $blob\t$1\0"; }
 program() { printf "100755 blob $blob\t$1\0"; }
 link() { printf "120000 blob $blob\t$1\0"; }
@@ -34,12 +34,12 @@ made() {
     keep "$1" "$(git mktree -z --missing)"
 }
 
-# entry MODE NAME ID: the text of an entry.
+# entry MODE NAME ID: the encoding of an entry.
 entry() {
     printf "$1 $2\0$(printf '\\%03o' $(echo "$3" | sed 's/../0x& /g'))"
 }
 
-# literal NAME: the tree of the bytes on standard input, as they stand.
+# literal NAME: the tree whose content is standard input, unchanged.
 literal() {
     keep "$1" "$(git hash-object -t tree -w --literally --stdin)"
 }

@@ -1,0 +1,194 @@
+"""The in-house words that names and comments avoid, and the search for them: `tools/house --vocabulary`.
+
+Searched are the names and comments of src/, specs/ and proofs/, and the file names of must-fail/. A name is searched
+component by component: `write_text` has the components `write` and `text`. A comment is searched without what is in
+backticks. Strings and data/ aren't searched.
+"""
+
+import os
+import re
+
+# The in-house words, and what to say instead. These are searched in names and in comments.
+WORDS = {
+    "told tell tells telling": "prints, reports; of an iterator: yields",
+    "behind": "after, the rest",
+    "front fronts": "prefix, parent directories",
+    "refuse refuses refused refusing refusal refusals": "fails with, returns an error; of input: rejects",
+    "unasked": "not looked up",
+    "sought seek seeks": "search, find, look up",
+    "beside": "with, next to, except",
+    "judge judges judged": "validate; of a report: evaluate",
+    "planted": "mutant",
+    "stands stood": "is at, is",
+    "handed": "passed; of trees and ids: emitted",
+    "assure assured": "ensure, ensured",
+    "sifted": "filtered",
+    "halves": "binary search",
+    "growth growths": "allocation",
+    "shut": "closed",
+    "whole wholes": "entire, complete, unchanged",
+}
+
+# Searched in names alone: git itself speaks of a text in prose.
+WORDS_OF_NAMES = {"text texts": "encoding, bytes, input, content, line, message"}
+
+# Searched in comments alone.
+PHRASES = {
+    "wrong body|wrong bodies": "mutant",
+    "in front|in front of": "before",
+    "exactly where": "if and only if",
+    "by halves": "binary search",
+    "takes memory": "allocates",
+    "so many": "the number, n",
+    "its like|its kin": "the name of what is meant",
+    "goes out|went out|hands out": "is emitted, emits",
+    "puts": "appends, inserts, writes",
+    "gives": "returns, yields",
+}
+
+# Names that have one of these words, and why they keep it.
+ALLOWED = {
+    "gixobj_text": "the crate's name",
+    "Refused": "public: EditReply::Refused",
+    "WriteRefused": "public: EditReply::WriteRefused",
+    "AtRefused": "public: Reply::AtRefused",
+    "RootRefused": "public: Reply::RootRefused",
+    "Text": "public: Word::Text",
+}
+
+# Tests and mutants of these names are due, so what begins with one of them keeps its name.
+DUE = (
+    "stale-subtree cursor-starts-empty failed-out refused-upsert-changes order-by-bare-name opens-every-tree "
+    "continuation-lines silent-token-reader signed-data-newline parent-before-child size-one-short "
+    "always-out-of-memory always-not-found eight-digit-mode first-marker null-upsert-keeps-file drops-unopened-tree "
+    "reopens-unopened-tree extra-out-call leaf-takes-directory prefix-counted-unchanged cursor-empty-path "
+    "invented-ids emptied-directory-stays"
+).split()
+
+# What is imported from another place than these is a name of the kit's libraries, which keeps its words.
+OWN_ROOT = re.compile(r"gixobj(?:_\w+)?|gix_object(?:_\w+)?|crate|super|self")
+USE = re.compile(r"^[ \t]*(?:pub )?(?:ghost )?use (?:Rattle\.)?(\w+)([^;{\n]*)(\{[^}]*\})?", re.M)
+ALIAS = re.compile(r"\bas\s+(\S+?)(?=[,;}\s]|$)")
+NAME = re.compile(r"[^\W\d][\w'-]*")
+COMPONENT = re.compile(r"[A-Z]+(?![a-z])|[A-Z]?[a-z]+")
+BACKTICKS = re.compile(r"`[^`]*`")
+
+TOKEN = {
+    ".rt": re.compile(
+        r"(?P<comment>//[^\n]*)|(?P<string>\bb?r(#*)\".*?\"\3|\"(?:\\.|[^\"\\])*\"|'(?:\\.[^']*|[^'\\\n])')"
+        rf"|(?P<name>{NAME.pattern})|(?P<line>\n)",
+        re.S,
+    ),
+    ".antt": re.compile(
+        rf"(?P<comment>(?<!\S)--[^\n]*)|(?P<string>\"(?:\\.|[^\"\\])*\")|(?P<name>{NAME.pattern})|(?P<line>\n)"
+    ),
+}
+
+
+def by_form(table, separator):
+    """What to say instead, by each form of a table's words."""
+    return {form: instead for forms, instead in table.items() for form in forms.split(separator)}
+
+
+IN_NAMES = {**by_form(WORDS, " "), **by_form(WORDS_OF_NAMES, " ")}
+IN_COMMENTS = {**by_form(WORDS, " "), **by_form(PHRASES, "|")}
+PROSE = re.compile(r"\b(" + "|".join(sorted(IN_COMMENTS, key=len, reverse=True)) + r")\b", re.I)
+
+
+class Place:
+    """An in-house word, and where it is."""
+
+    def __init__(self, path, line, name, word, instead):
+        self.path, self.line, self.name, self.word, self.instead = path, line, name, word, instead
+
+    def __str__(self):
+        return f"{self.path}:{self.line}: {self.name}: {self.word} -> {self.instead}"
+
+
+def kit_names(source):
+    """The names that a file imports from the kit's libraries."""
+    names = set()
+    for use in USE.finditer(source):
+        if not OWN_ROOT.fullmatch(use[1]):
+            names.update(NAME.findall(ALIAS.sub("", use[2] + (use[3] or ""))))
+    return names
+
+
+def is_due(name):
+    return name.replace("_", "-").startswith(tuple(DUE))
+
+
+def words_of_name(name, kit):
+    """The in-house words of a name. The name of a proof, such as `returns-in-Refused`, consists of several names."""
+    if is_due(name) or name in kit:
+        return []
+    parts = [it for it in name.split("-") if it not in ALLOWED and it not in kit]
+    components = [it.lower() for part in parts for it in COMPONENT.findall(part)]
+    return [it for it in dict.fromkeys(components) if it in IN_NAMES]
+
+
+def words_of_comment(comment):
+    """The in-house words of a comment's prose."""
+    return [it.lower() for it in PROSE.findall(BACKTICKS.sub("", comment))]
+
+
+def places_of_source(path, source):
+    """The places of a source file: each name once a line."""
+    kit, line, found = kit_names(source), 1, {}
+    for token in TOKEN[os.path.splitext(path)[1]].finditer(source):
+        kind = token.lastgroup
+        if kind == "name":
+            for word in words_of_name(token[0], kit):
+                found[line, token[0], word] = Place(path, line, token[0], word, IN_NAMES[word])
+        elif kind == "comment":
+            for at, word in enumerate(words_of_comment(token[0])):
+                found[line, at, word] = Place(path, line, "comment", word, IN_COMMENTS[word])
+        line += token[0].count("\n")
+    return list(found.values())
+
+
+def places_of_mutant(path):
+    """The places of a mutant's name."""
+    name = os.path.splitext(os.path.basename(path))[0]
+    return [Place(path, 1, name, word, IN_NAMES[word]) for word in words_of_name(name, ())]
+
+
+def places_of(top, crate):
+    """The places of a crate: of its sources, definitions and proofs, and of the names of its mutants."""
+    found = []
+    for folder, ending in (("src", ".rt"), ("specs", ".antt"), ("proofs", ".antt"), ("must-fail", ".edit")):
+        for at, folders, names in os.walk(f"{top}/crates/{crate}/{folder}"):
+            folders.sort()
+            for name in sorted(it for it in names if it.endswith(ending)):
+                path = os.path.relpath(f"{at}/{name}", top)
+                if ending == ".edit":
+                    found += places_of_mutant(path)
+                else:
+                    with open(f"{at}/{name}", encoding="utf-8") as it:
+                        found += places_of_source(path, it.read())
+    return found
+
+
+def print_counts(found):
+    """Prints how many places each crate has, by words."""
+    wide = max(map(len, found))
+    for crate, places in found.items():
+        counts = {}
+        for it in places:
+            counts[it.word] = counts.get(it.word, 0) + 1
+        by_number = sorted(counts.items(), key=lambda it: (-it[1], it[0]))
+        if counts:
+            print(f"{crate:{wide}} {len(places):6}  {', '.join(f'{word} {number}' for word, number in by_number)}")
+
+
+def check(top, crates, is_count, at_most):
+    """Prints the places of these crates, or only their counts; whether there are at most `at_most`."""
+    found = {it: places_of(top, it) for it in crates}
+    if not is_count:
+        for places in found.values():
+            for it in places:
+                print(it)
+    print_counts(found)
+    total = sum(map(len, found.values()))
+    print(f"{total} in-house words in {len(found)} crates, at most {at_most} allowed")
+    return total <= at_most
