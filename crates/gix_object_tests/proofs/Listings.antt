@@ -13,8 +13,8 @@ use Rattle.gix_object.specs.hash.hash.kind.Kind.TheVariants as hash
 use Rattle.gix_object.specs.hash.hash.object_id.ObjectId.{ObjectId}
 use Rattle.gix_object.specs.hash.kind.Kind.TheVariants.{Tree}
 use Rattle.gix_object_tests.specs.Lists.{FileView, Lists, with_first_name}
-use Rattle.gixobj_files.proofs.EditedFiles.{Has-append, Has-left, Has-right}
-use Rattle.gixobj_files.proofs.NullIds.{null_tested}
+use Rattle.gixobj_files.proofs.EditedFiles.{has_append_cases, has_append_left, has_append_right}
+use Rattle.gixobj_files.proofs.NullIds.{is_null_of_test}
 
 -- A file is in `fs ++ gs` if and only if it is in `fs` or in `gs`.
 Lists-append : (fs gs : List FileView) (path : Path) (mode : ℕ) (id : ObjectId) → Lists (fs ++ gs) path mode id → Lists fs path mode id ⊎ Lists gs path mode id
@@ -50,13 +50,13 @@ with_first_name_nonempty name (f ∷ fs) mode id (inl q) = cc q.0
 with_first_name_nonempty name (f ∷ fs) mode id (inr h) = with_first_name_nonempty name fs mode id h
 
 -- A tree has no files to depth zero, and a tree without entries has none to any depth.
-pub no_depth : (T : Table) (es : List EntryView) → SameFiles (Lists []) (Files T zero es)
-no_depth T es path mode id = ((λ h. h), λ h. h)
+pub lists_nil_at_depth_zero : (T : Table) (es : List EntryView) → SameFiles (Lists []) (Files T zero es)
+lists_nil_at_depth_zero T es path mode id = ((λ h. h), λ h. h)
 
-pub no_entries : (T : Table) (n : ℕ) → SameFiles (Lists []) (Files T n [])
-no_entries T zero path mode id = ((λ h. h), λ h. h)
-no_entries T (suc n) [] mode id = ((λ h. h), λ h. h)
-no_entries T (suc n) (name ∷ path) mode id = ((λ h. absurd h), λ h. absurd h.1)
+pub lists_nil_of_no_entries : (T : Table) (n : ℕ) → SameFiles (Lists []) (Files T n [])
+lists_nil_of_no_entries T zero path mode id = ((λ h. h), λ h. h)
+lists_nil_of_no_entries T (suc n) [] mode id = ((λ h. h), λ h. h)
+lists_nil_of_no_entries T (suc n) (name ∷ path) mode id = ((λ h. absurd h), λ h. absurd h.1)
 
 -- One more entry adds the files at and below it, each with the entry's name before its path.
 files_snoc : (T : Table) (n : ℕ) (es : List EntryView) (e : EntryView) (fs below : List FileView)
@@ -70,8 +70,9 @@ files_snoc T n es e fs below same at [] mode id = (
 files_snoc T n es e fs below same at (name ∷ path) mode id =
     let At : EntryView → Type 0 = λ y. Below T (Files T n) y.mode y.id path mode id in (
       (λ h. ⊎_elim
-          (λ k. let old = (same (name ∷ path) mode id).0 k in (old.0, Has-left es (e ∷ []) old.0 old.1, old.2, old.3))
-          (λ k. let new = with_first_name_elim e.name below name path mode id k in (e, Has-right es (e ∷ []) e (inl refl), new.0, (at path mode id).0 new.1))
+          (λ k. let old = (same (name ∷ path) mode id).0 k in (old.0, has_append_left es (e ∷ []) old.0 old.1, old.2, old.3))
+          (λ k. let new = with_first_name_elim e.name below name path mode id k in
+              (e, has_append_right es (e ∷ []) e (inl refl), new.0, (at path mode id).0 new.1))
           (Lists-append fs (map (with_first_name e.name) below) (name ∷ path) mode id h)),
       (λ h. ⊎_elim
           (λ k. Lists-left fs (map (with_first_name e.name) below) (name ∷ path) mode id ((same (name ∷ path) mode id).1 (h.0, k, h.2, h.3)))
@@ -83,7 +84,7 @@ files_snoc T n es e fs below same at (name ∷ path) mode id =
           (subst (λ (first : List ℕ). Lists (map (with_first_name e.name) below) (first ∷ path) mode id) named
           (with_first_name_intro e.name below path mode id inner)))
           (λ none. absurd none) k)
-          (Has-append es (e ∷ []) h.0 h.1)),
+          (has_append_cases es (e ∷ []) h.0 h.1)),
     )
 
 next_entry : (T : Table) (depth : ℕ) → depth ≢ 0 → (es : List EntryView) (e : EntryView) (fs below : List FileView)
@@ -94,11 +95,11 @@ next_entry T (suc n) some es e fs below same at =
     let less : suc n - 1 ≡ n = omega arith in
     files_snoc T n es e fs below same (subst (λ (k : ℕ). SameFiles (Lists below) (Below T (Files T k) e.mode e.id)) less at)
 
-pub entry_added : (T : Table) (depth : ℕ) → depth ≢ 0 → (tree : List EntryView) (i : ℕ) (e : EntryView) (name : List ℕ) (fs below new : List FileView)
+pub lists_take_snoc : (T : Table) (depth : ℕ) → depth ≢ 0 → (tree : List EntryView) (i : ℕ) (e : EntryView) (name : List ℕ) (fs below new : List FileView)
     → i < length tree → e ≡ get_or tree i e → name ≡ e.name → new ≡ fs ++ map (with_first_name name) below
     → SameFiles (Lists fs) (Files T depth (take i tree)) → SameFiles (Lists below) (Below T (Files T (depth - 1)) e.mode e.id)
     → SameFiles (Lists new) (Files T depth (take (i + 1) tree))
-entry_added T depth some tree i e name fs below new lt is named added same at =
+lists_take_snoc T depth some tree i e name fs below new lt is named added same at =
     let files : SameFiles (Lists (fs ++ map (with_first_name e.name) below)) (Files T depth (take i tree ++ e ∷ [])) =
     next_entry T depth some (take i tree) e fs below same at in
     rw (added, named, take_more tree i e lt, sym is) files
@@ -111,26 +112,26 @@ abbrev one_file : EntryView → List FileView
 one_file e = (record { path = []; mode = e.mode; id = e.id }) ∷ []
 
 -- The result of each test on an entry decides the property of the entry's view.
-pub null_tested_at : (b v : Bool) (inside e : EntryView) → inside ≡ e → (IsTrue b ↔ IsNull inside.id) → b ≡ v → is_null e.id ≡ v
-null_tested_at b v inside e same yields is = sym (null_tested inside.id b yields ∙ ap (λ (y : EntryView). is_null y.id) same) ∙ is
+pub entry_is_null_of_test : (b v : Bool) (inside e : EntryView) → inside ≡ e → (IsTrue b ↔ IsNull inside.id) → b ≡ v → is_null e.id ≡ v
+entry_is_null_of_test b v inside e same yields is = sym (is_null_of_test inside.id b yields ∙ ap (λ (y : EntryView). is_null y.id) same) ∙ is
 
-pub tree_tested_at : (b v : Bool) (inside e : EntryView) → inside ≡ e → b ≡ is_tree_mode inside.mode → b ≡ v → is_tree_mode e.mode ≡ v
-tree_tested_at b v inside e same yields is = sym (yields ∙ ap (λ (y : EntryView). is_tree_mode y.mode) same) ∙ is
+pub is_tree_mode_of_test : (b v : Bool) (inside e : EntryView) → inside ≡ e → b ≡ is_tree_mode inside.mode → b ≡ v → is_tree_mode e.mode ≡ v
+is_tree_mode_of_test b v inside e same yields is = sym (yields ∙ ap (λ (y : EntryView). is_tree_mode y.mode) same) ∙ is
 
-pub empty_tested_at : (b : Bool) (inside e : EntryView) → inside ≡ e → (IsTrue b ↔ (inside.id ≡ id_of (id_kind inside.id) Tree [])) → b ≡ true
+pub empty_tree_id_of_test : (b : Bool) (inside e : EntryView) → inside ≡ e → (IsTrue b ↔ (inside.id ≡ id_of (id_kind inside.id) Tree [])) → b ≡ true
     → e.id ≡ id_of (id_kind e.id) Tree []
-empty_tested_at b inside e same yields is = subst (λ (y : EntryView). y.id ≡ id_of (id_kind y.id) Tree []) same (yields.0 is)
+empty_tree_id_of_test b inside e same yields is = subst (λ (y : EntryView). y.id ≡ id_of (id_kind y.id) Tree []) same (yields.0 is)
 
-pub filled_tested_at : (b : Bool) (inside e : EntryView) → inside ≡ e → (IsTrue b ↔ (inside.id ≡ id_of (id_kind inside.id) Tree [])) → b ≡ false
+pub not_empty_tree_id_of_test : (b : Bool) (inside e : EntryView) → inside ≡ e → (IsTrue b ↔ (inside.id ≡ id_of (id_kind inside.id) Tree [])) → b ≡ false
     → e.id ≢ id_of (id_kind e.id) Tree []
-filled_tested_at b inside e same yields is = subst (λ (y : EntryView). y.id ≢ id_of (id_kind y.id) Tree []) same (λ empty. cc (yields.1 empty, is))
+not_empty_tree_id_of_test b inside e same yields is = subst (λ (y : EntryView). y.id ≢ id_of (id_kind y.id) Tree []) same (λ empty. cc (yields.1 empty, is))
 
-pub first_tested_at : (pairs : List Pair) (found : Option (List EntryView)) (inside e : EntryView) → inside ≡ e → IsFirst pairs inside.id found
+pub is_first_of_test : (pairs : List Pair) (found : Option (List EntryView)) (inside e : EntryView) → inside ≡ e → IsFirst pairs inside.id found
     → IsFirst pairs e.id found
-first_tested_at pairs found inside e same = subst (λ (y : EntryView). IsFirst pairs y.id found) same
+is_first_of_test pairs found inside e same = subst (λ (y : EntryView). IsFirst pairs y.id found) same
 
-pub below_null : (pairs : List Pair) (depth : ℕ) (e : EntryView) → is_null e.id ≡ true → AreBelow pairs depth e []
-below_null pairs depth e null T says path mode id = ((λ h. absurd h), λ h. cc (null, h.0))
+pub are_below_null : (pairs : List Pair) (depth : ℕ) (e : EntryView) → is_null e.id ≡ true → AreBelow pairs depth e []
+are_below_null pairs depth e null T says path mode id = ((λ h. absurd h), λ h. cc (null, h.0))
 
 -- An entry whose tree is unknown has itself as its only file.
 unknown_below : (T : Table) (L : List EntryView → FileSet) (e : EntryView) → is_null e.id ≡ false → resolves_to T e.mode e.id ≡ None
@@ -168,25 +169,26 @@ first_in_table : (T : Table) (pairs : List Pair) (e : EntryView) (found : Option
 first_in_table T pairs e found says some is filled first =
     in_table T e is ∙ first_once pairs e.id (T.tree_at e.id) found (says e.id some (λ hash empty. filled (own_kind e.id hash empty))) first
 
-pub below_file : (pairs : List Pair) (depth : ℕ) (e : EntryView) (files : List FileView) → is_null e.id ≡ false → is_tree_mode e.mode ≡ false
+pub are_below_file : (pairs : List Pair) (depth : ℕ) (e : EntryView) (files : List FileView) → is_null e.id ≡ false → is_tree_mode e.mode ≡ false
     → files ≡ one_file e → AreBelow pairs depth e files
-below_file pairs depth e files some other is T says = rw is (unknown_below T (Files T depth) e some (rw other refl))
+are_below_file pairs depth e files some other is T says = rw is (unknown_below T (Files T depth) e some (rw other refl))
 
-pub below_empty : (pairs : List Pair) (depth : ℕ) (e : EntryView) → is_null e.id ≡ false → is_tree_mode e.mode ≡ true → e.id ≡ id_of (id_kind e.id) Tree []
+pub are_below_empty_tree : (pairs : List Pair) (depth : ℕ) (e : EntryView) → is_null e.id ≡ false → is_tree_mode e.mode ≡ true
+    → e.id ≡ id_of (id_kind e.id) Tree []
     → AreBelow pairs depth e []
-below_empty pairs depth e some is empty T says =
-    known_below T (Files T depth) e [] [] some (in_table T e is ∙ ap T.tree_at empty ∙ T.none_in_empty (id_kind e.id)) (no_entries T depth)
+are_below_empty_tree pairs depth e some is empty T says =
+    known_below T (Files T depth) e [] [] some (in_table T e is ∙ ap T.tree_at empty ∙ T.none_in_empty (id_kind e.id)) (lists_nil_of_no_entries T depth)
 
-pub below_tree : (pairs : List Pair) (depth : ℕ) (e : EntryView) (tree : List EntryView) (files : List FileView) → is_null e.id ≡ false
+pub are_below_known_tree : (pairs : List Pair) (depth : ℕ) (e : EntryView) (tree : List EntryView) (files : List FileView) → is_null e.id ≡ false
     → is_tree_mode e.mode ≡ true
     → (e.id ≢ id_of (id_kind e.id) Tree []) → IsFirst pairs e.id (Some tree) → ((T : Table) → IsTableOf T pairs → SameFiles (Lists files) (Files T depth tree))
     → AreBelow pairs depth e files
-below_tree pairs depth e tree files some is filled first same T says =
+are_below_known_tree pairs depth e tree files some is filled first same T says =
     known_below T (Files T depth) e tree files some (first_in_table T pairs e (Some tree) says some is filled first) (same T says)
 
-pub below_unknown : (pairs : List Pair) (depth : ℕ) (e : EntryView) (files : List FileView) → is_null e.id ≡ false → is_tree_mode e.mode ≡ true
+pub are_below_unknown_tree : (pairs : List Pair) (depth : ℕ) (e : EntryView) (files : List FileView) → is_null e.id ≡ false → is_tree_mode e.mode ≡ true
     → (e.id ≢ id_of (id_kind e.id) Tree []) → IsFirst pairs e.id None → files ≡ one_file e → AreBelow pairs depth e files
-below_unknown pairs depth e files some is filled first one T says =
+are_below_unknown_tree pairs depth e files some is filled first one T says =
     rw one (unknown_below T (Files T depth) e some (first_in_table T pairs e None says some is filled first))
 
 -- `IsFirst` on the pair at an index and those after it is `IsFirst` on the list from that index.
@@ -194,10 +196,10 @@ first_at : (pairs : List Pair) (i : ℕ) (id : ObjectId) (pair : Pair) (found : 
     → IsFirst (pair ∷ drop (i + 1) pairs) id found → IsFirst (drop i pairs) id found
 first_at pairs i id pair found lt is h = rw (drop_more pairs i pair lt, sym is) h
 
-pub first_here : (pairs : List Pair) (i : ℕ) (id : ObjectId) (pair : Pair) → i < length pairs → pair ≡ get_or pairs i pair → pair.0 ≡ id
+pub is_first_at_head : (pairs : List Pair) (i : ℕ) (id : ObjectId) (pair : Pair) → i < length pairs → pair ≡ get_or pairs i pair → pair.0 ≡ id
     → IsFirst (drop i pairs) id (Some pair.1)
-first_here pairs i id pair lt is same = first_at pairs i id pair (Some pair.1) lt is (inl (same, refl))
+is_first_at_head pairs i id pair lt is same = first_at pairs i id pair (Some pair.1) lt is (inl (same, refl))
 
-pub first_later : (pairs : List Pair) (i : ℕ) (id : ObjectId) (pair : Pair) → i < length pairs → pair ≡ get_or pairs i pair → pair.0 ≢ id
+pub is_first_in_tail : (pairs : List Pair) (i : ℕ) (id : ObjectId) (pair : Pair) → i < length pairs → pair ≡ get_or pairs i pair → pair.0 ≢ id
     → (found : Option (List EntryView)) → IsFirst (drop (i + 1) pairs) id found → IsFirst (drop i pairs) id found
-first_later pairs i id pair lt is other found h = first_at pairs i id pair found lt is (inr (other, h))
+is_first_in_tail pairs i id pair lt is other found h = first_at pairs i id pair found lt is (inr (other, h))

@@ -5,7 +5,7 @@ use Rattle.std.proofs.lemmas.Bool.{true≢false}
 use Rattle.std.proofs.lemmas.Bool.Decides.{nat_tests}
 use Rattle.std.proofs.lemmas.List.Elements.{All-head, All-nil, All-tail}
 use Rattle.std.specs.List.{AllPass}
-use Rattle.gixobj_hash.proofs.Splits.{free_of_split, one_cut, one_last_split}
+use Rattle.gixobj_hash.proofs.Splits.{no_split_of_byte_free, split_parts_unique, last_split_unique}
 use Rattle.gixobj_actor.specs.Actor.{ActorView, EndsTime, IsActorLine, IsActorLineOf, IsGap, IsNameOf, IsNoActor, IsMalformedActorLine, is_time_byte}
 use Rattle.gixobj_hash.specs.ByteStrings.{IsByteFree, SplitsAt, SplitsAtLast}
 
@@ -54,25 +54,25 @@ after_first : (line name email time rest name_bytes after_less_than : List ℕ) 
     → SplitsAt 60 line name_bytes after_less_than
     → (actor.name_bytes ≡ name_bytes) × (email ++ 62 ∷ (actor.gap ++ (time ++ rest)) ≡ after_less_than)
 after_first line name email time rest name_bytes after_less_than actor split =
-    one_cut 60 actor.name_bytes (email ++ 62 ∷ (actor.gap ++ (time ++ rest))) name_bytes after_less_than actor.first split.first
+    split_parts_unique 60 actor.name_bytes (email ++ 62 ∷ (actor.gap ++ (time ++ rest))) name_bytes after_less_than actor.first split.first
     (regrouped actor.name_bytes email actor.gap time rest ∙ sym actor.joined ∙ split.joined)
 
-pub no_first : (line : List ℕ) → IsByteFree 60 line → IsMalformedActorLine line
-no_first line free name email time rest actor =
+pub malformed_without_opening_bracket : (line : List ℕ) → IsByteFree 60 line → IsMalformedActorLine line
+malformed_without_opening_bracket line free name email time rest actor =
     let joined : line ≡ actor.name_bytes ++ 60 ∷ (email ++ 62 ∷ (actor.gap ++ (time ++ rest))) =
     actor.joined ∙ sym (regrouped actor.name_bytes email actor.gap time rest) in
-    free_of_split 60 actor.name_bytes (email ++ 62 ∷ (actor.gap ++ (time ++ rest))) (let P : List ℕ → Type 0 = IsByteFree 60 in subst P joined free)
+    no_split_of_byte_free 60 actor.name_bytes (email ++ 62 ∷ (actor.gap ++ (time ++ rest))) (let P : List ℕ → Type 0 = IsByteFree 60 in subst P joined free)
 
-pub no_last : (line name_bytes after_less_than : List ℕ) → SplitsAt 60 line name_bytes after_less_than → IsByteFree 62 after_less_than
+pub malformed_without_closing_bracket : (line name_bytes after_less_than : List ℕ) → SplitsAt 60 line name_bytes after_less_than → IsByteFree 62 after_less_than
     → IsMalformedActorLine line
-no_last line name_bytes after_less_than split free name email time rest actor =
+malformed_without_closing_bracket line name_bytes after_less_than split free name email time rest actor =
     let same = after_first line name email time rest name_bytes after_less_than actor split in
-    free_of_split 62 email (actor.gap ++ (time ++ rest)) (let P : List ℕ → Type 0 = IsByteFree 62 in subst P (sym same.1) free)
+    no_split_of_byte_free 62 email (actor.gap ++ (time ++ rest)) (let P : List ℕ → Type 0 = IsByteFree 62 in subst P (sym same.1) free)
 
 -- unique decoding of each part
 same_name : (name_bytes a b : List ℕ) → IsNameOf name_bytes a → IsNameOf name_bytes b → a ≡ b
 same_name name_bytes a b (inl first) (inl second) =
-    let cut = one_last_split 32 a [] b [] (All-nil (λ it. it ≢ 32)) (All-nil (λ it. it ≢ 32)) (sym first ∙ second) in cut.0
+    let cut = last_split_unique 32 a [] b [] (All-nil (λ it. it ≢ 32)) (All-nil (λ it. it ≢ 32)) (sym first ∙ second) in cut.0
 same_name name_bytes a b (inl first) (inr second) = absurd (second.1 a first)
 same_name name_bytes a b (inr first) (inl second) = absurd (first.1 b second)
 same_name name_bytes a b (inr first) (inr second) = sym first.0 ∙ second.0
@@ -104,16 +104,16 @@ same_time (byte ∷ a) x (other ∷ b) y pass_a pass_b ends_x ends_y same =
     let rest = same_time a x b y (All-tail P byte a pass_a) (All-tail P other b pass_b) ends_x ends_y tails in
     (cc (heads, rest.0), rest.1)
 
-pub one_actor : (line name email time rest name' email' time' rest' : List ℕ)
+pub actor_line_unique : (line name email time rest name' email' time' rest' : List ℕ)
     → IsActorLine line name email time rest → IsActorLine line name' email' time' rest'
     → (name ≡ name') × (email ≡ email') × (time ≡ time') × (rest ≡ rest')
-one_actor line name email time rest name' email' time' rest' first second =
+actor_line_unique line name email time rest name' email' time' rest' first second =
     let after_less_than = email ++ 62 ∷ (first.gap ++ (time ++ rest)) in
     let split : SplitsAt 60 line first.name_bytes after_less_than =
     record { joined = first.joined ∙ sym (regrouped first.name_bytes email first.gap time rest); first = first.first } in
     let cut = after_first line name' email' time' rest' first.name_bytes after_less_than second split in
     let F : List ℕ → Type 0 = IsByteFree 62 in
-    let close = one_last_split 62 email (first.gap ++ (time ++ rest)) email' (second.gap ++ (time' ++ rest'))
+    let close = last_split_unique 62 email (first.gap ++ (time ++ rest)) email' (second.gap ++ (time' ++ rest'))
     (subst F (append_assoc first.gap time rest) first.last) (subst F (append_assoc second.gap time' rest') second.last) (sym cut.1) in
     let tails = same_tail first.gap (time ++ rest) second.gap (time' ++ rest') first.spaced second.spaced close.1 in
     let times = same_time time rest time' rest' first.timed second.timed first.ends second.ends tails in
@@ -127,19 +127,19 @@ one_actor line name email time rest name' email' time' rest' first second =
 abbrev of_parts : List ℕ → List ℕ → List ℕ → ActorView
 of_parts name email time = record { name = name; email = email; time = time }
 
-pub one_view : (line : List ℕ) (a b : ActorView) (x y : List ℕ) → IsActorLineOf line a x → IsActorLineOf line b y → a ≡ b
-one_view line a b x y first second =
-    let same = one_actor line a.name a.email a.time x b.name b.email b.time y first second in
+pub actor_view_unique : (line : List ℕ) (a b : ActorView) (x y : List ℕ) → IsActorLineOf line a x → IsActorLineOf line b y → a ≡ b
+actor_view_unique line a b x y first second =
+    let same = actor_line_unique line a.name a.email a.time x b.name b.email b.time y first second in
     ap (λ (it : List ℕ). of_parts it a.email a.time) same.0 ∙ ap (λ (it : List ℕ). of_parts b.name it a.time) same.1
     ∙ ap (λ (it : List ℕ). of_parts b.name b.email it) same.2
 
 -- ---- actors that fill their line
 
-pub no_actor_of_no_line : (line : List ℕ) → IsMalformedActorLine line → IsNoActor line
-no_actor_of_no_line line bad name email time actor = bad name email time [] actor
+pub no_actor_of_malformed_line : (line : List ℕ) → IsMalformedActorLine line → IsNoActor line
+no_actor_of_malformed_line line bad name email time actor = bad name email time [] actor
 
-pub no_actor_with_rest : (line name email time rest : List ℕ) → IsActorLine line name email time rest → (length rest == 0) ≡ false → IsNoActor line
-no_actor_with_rest line name email time rest first more name' email' time' second =
-    let same = one_actor line name email time rest name' email' time' [] first second in
+pub no_actor_of_rest_after_time : (line name email time rest : List ℕ) → IsActorLine line name email time rest → (length rest == 0) ≡ false → IsNoActor line
+no_actor_of_rest_after_time line name email time rest first more name' email' time' second =
+    let same = actor_line_unique line name email time rest name' email' time' [] first second in
     let none : length rest ≡ 0 = ap length same.3 in
     absurd (grind (arith, nat_tests, more, none))

@@ -10,7 +10,7 @@ use Rattle.std.specs.Int.{w64}
 use Rattle.std.specs.List.{AllPass}
 use Rattle.std.specs.Prelude.{ℤ, pos, negsuc, unsigned_abs, FitsSigned, decimal}
 use Rattle.std.specs.Str.Parse.{AllDigits}
-use Rattle.gixobj_hash.proofs.Digits.{test_from_digit}
+use Rattle.gixobj_hash.proofs.Digits.{is_ascii_digit_of_value}
 use Rattle.gixobj_actor.specs.Actor.{IsActorLine, encode_actor, is_time_byte}
 use Rattle.gixobj_actor.specs.ActorWriting.{IsLegalActor}
 use Rattle.gixobj_actor.specs.Date.{IsOffset, is_below_zero, encode_offset, encode_offset_parts, encode_time, two_digits}
@@ -25,7 +25,7 @@ digit_timed byte passes = rw passes refl
 digits_timed : (bytes : List ℕ) → AllDigits 10 bytes → AllPass is_time_byte bytes
 digits_timed [] digits = All-nil IsTimed
 digits_timed (byte ∷ bytes) digits =
-    All-cons IsTimed byte bytes (digit_timed byte (test_from_digit byte digits.0)) (digits_timed bytes digits.1)
+    All-cons IsTimed byte bytes (digit_timed byte (is_ascii_digit_of_value byte digits.0)) (digits_timed bytes digits.1)
 
 below_ten : (digit : ℕ) → digit < 10 → is_ascii_digit (48 + digit) ≡ true
 below_ten digit small = grind (arith, nat_tests)
@@ -53,8 +53,8 @@ seconds_timed (pos size) fits = digits_timed (decimal size) (decimal_is_IsNumera
 seconds_timed (negsuc size) fits = All-cons IsTimed 45 (decimal (suc size)) refl
     (digits_timed (decimal (suc size)) (decimal_is_IsNumeral (suc size) (omega arith)).0.1)
 
-pub time_timed : (seconds offset : ℤ) → FitsSigned w64 seconds → IsOffset offset → AllPass is_time_byte (encode_time seconds offset)
-time_timed seconds offset fits proper =
+pub encode_time_all_time_bytes : (seconds offset : ℤ) → FitsSigned w64 seconds → IsOffset offset → AllPass is_time_byte (encode_time seconds offset)
+encode_time_all_time_bytes seconds offset fits proper =
     All-append IsTimed (signed_decimal seconds) (32 ∷ encode_offset offset) (seconds_timed seconds fits)
     (All-cons IsTimed 32 (encode_offset offset) refl (offset_timed offset proper))
 
@@ -94,7 +94,7 @@ line_of_bytes name email time legal timed =
       ends = tt;
     }
 
-pub written_actor : (name email : List ℕ) (seconds offset : ℤ) → IsLegalActor name email → FitsSigned w64 seconds → IsOffset offset
+pub encode_actor_is_actor_line : (name email : List ℕ) (seconds offset : ℤ) → IsLegalActor name email → FitsSigned w64 seconds → IsOffset offset
     → IsActorLine (encode_actor name email (encode_time seconds offset)) name email (encode_time seconds offset) []
-written_actor name email seconds offset legal fits proper = line_of_bytes name email (encode_time seconds offset) legal
-    (time_timed seconds offset fits proper)
+encode_actor_is_actor_line name email seconds offset legal fits proper = line_of_bytes name email (encode_time seconds offset) legal
+    (encode_time_all_time_bytes seconds offset fits proper)

@@ -9,8 +9,8 @@ use Rattle.std.specs.Fmt.{signed_decimal}
 use Rattle.std.specs.Int.{w64}
 use Rattle.std.specs.Prelude.{◌==◌, ℤ, pos, negsuc, neg_ℤ, FitsSigned, decimal, if◌then◌else◌}
 use Rattle.std.specs.Str.Parse.{AllDigits}
-use Rattle.gixobj_hash.proofs.DecodedSizes.{unsigned_digits}
-use Rattle.gixobj_hash.proofs.Splits.{free_of_split, one_cut}
+use Rattle.gixobj_hash.proofs.DecodedSizes.{digits_without_minus}
+use Rattle.gixobj_hash.proofs.Splits.{no_split_of_byte_free, split_parts_unique}
 use Rattle.gixobj_actor.specs.Date.{IsMalformedTime, IsOffset, DecodesToOffset, DecodesToSeconds, DecodesToTime, encode_offset, encode_offset_parts, seconds_digits, encode_time}
 use Rattle.gixobj_hash.specs.ByteStrings.{IsByteFree, SplitsAt}
 
@@ -37,15 +37,15 @@ seconds_spaceless : (bytes : List ℕ) (seconds : ℤ) → DecodesToSeconds byte
 seconds_spaceless [] seconds reads = All-nil (λ it. it ≢ 32)
 seconds_spaceless (byte ∷ bytes) seconds reads = signed_spaceless byte bytes (byte == 45) refl reads.digits.1
 
-pub spaceless_is_no_time : (bytes : List ℕ) → IsByteFree 32 bytes → IsMalformedTime bytes
-spaceless_is_no_time bytes free seconds offset time =
-    free_of_split 32 time.first time.second (let P : List ℕ → Type 0 = IsByteFree 32 in subst P time.joined free)
+pub malformed_time_without_space : (bytes : List ℕ) → IsByteFree 32 bytes → IsMalformedTime bytes
+malformed_time_without_space bytes free seconds offset time =
+    no_split_of_byte_free 32 time.first time.second (let P : List ℕ → Type 0 = IsByteFree 32 in subst P time.joined free)
 
 -- the bytes before and after the first space decode to the seconds and the offset of the time
-pub time_parts : (bytes prefix rest : List ℕ) (seconds offset : ℤ) → SplitsAt 32 bytes prefix rest → DecodesToTime bytes seconds offset
+pub time_splits_at_space : (bytes prefix rest : List ℕ) (seconds offset : ℤ) → SplitsAt 32 bytes prefix rest → DecodesToTime bytes seconds offset
     → DecodesToSeconds prefix seconds × DecodesToOffset rest offset
-time_parts bytes prefix rest seconds offset split time =
-    let cut = one_cut 32 time.first time.second prefix rest (seconds_spaceless time.first seconds time.seconds_bytes) split.first
+time_splits_at_space bytes prefix rest seconds offset split time =
+    let cut = split_parts_unique 32 time.first time.second prefix rest (seconds_spaceless time.first seconds time.seconds_bytes) split.first
     (sym time.joined ∙ split.joined) in
     let S : List ℕ → Type 0 = λ it. DecodesToSeconds it seconds in
     let O : List ℕ → Type 0 = λ it. DecodesToOffset it offset in
@@ -54,7 +54,7 @@ time_parts bytes prefix rest seconds offset split time =
 written_natural : (size : ℕ) → size < 2 ^ 64 → FitsSigned w64 (pos size) → DecodesToSeconds (decimal size) (pos size)
 written_natural size small fits =
     let written = decimal_is_IsNumeral size small in
-    let unsigned = unsigned_digits (decimal size) written.0 in
+    let unsigned = digits_without_minus (decimal size) written.0 in
     record {
       digits = rw unsigned.0 written.0;
       value = rw unsigned.0 (ap pos (sym written.1));
@@ -96,8 +96,8 @@ written_offset (negsuc size) proper =
       value = ap (λ it. neg_ℤ (pos it)) (hours_and_minutes (suc size) proper.0);
     }
 
-pub written_time : (seconds offset : ℤ) → FitsSigned w64 seconds → IsOffset offset → DecodesToTime (encode_time seconds offset) seconds offset
-written_time seconds offset fits proper =
+pub encode_time_decodes : (seconds offset : ℤ) → FitsSigned w64 seconds → IsOffset offset → DecodesToTime (encode_time seconds offset) seconds offset
+encode_time_decodes seconds offset fits proper =
     record {
       first = signed_decimal seconds;
       second = encode_offset offset;
@@ -126,10 +126,10 @@ same_offset bytes a b first second =
     let size : 60 * (60 * first.hours + first.minutes) ≡ 60 * (60 * second.hours + second.minutes) = omega arith in
     first.value ∙ cc (sign, size) ∙ sym second.value
 
-pub one_time : (bytes : List ℕ) (seconds offset seconds' offset' : ℤ) → DecodesToTime bytes seconds offset → DecodesToTime bytes seconds' offset'
+pub time_unique : (bytes : List ℕ) (seconds offset seconds' offset' : ℤ) → DecodesToTime bytes seconds offset → DecodesToTime bytes seconds' offset'
     → (seconds ≡ seconds') × (offset ≡ offset')
-one_time bytes seconds offset seconds' offset' first second =
+time_unique bytes seconds offset seconds' offset' first second =
     let split : SplitsAt 32 bytes first.first first.second =
     record { joined = first.joined; first = seconds_spaceless first.first seconds first.seconds_bytes } in
-    let other = time_parts bytes first.first first.second seconds' offset' split second in
+    let other = time_splits_at_space bytes first.first first.second seconds' offset' split second in
     (first.seconds_bytes.value ∙ sym other.0.value, same_offset first.second offset offset' first.offset_bytes other.1)

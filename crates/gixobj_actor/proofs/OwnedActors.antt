@@ -5,8 +5,8 @@ use Rattle.gixobj_actor.specs.Actor.{IsOwnedActor}
 use Rattle.gixobj_actor.specs.ActorWriting.{IsCanonical, IsLegal, IsUnwritable, encode_owned_actor}
 use Rattle.gixobj_actor.specs.declared.actor.Signature.{Signature}
 
-pub canonical : (line : List ℕ) (actor : Signature) → IsOwnedActor line actor → IsCanonical line (encode_owned_actor actor)
-canonical line actor is = record {
+pub encode_owned_actor_is_canonical : (line : List ℕ) (actor : Signature) → IsOwnedActor line actor → IsCanonical line (encode_owned_actor actor)
+encode_owned_actor_is_canonical line actor is = record {
   name = bstring_bytes actor.name;
   email = bstring_bytes actor.email;
   time = is.time;
@@ -16,5 +16,5 @@ canonical line actor is = record {
   encodes = refl;
 }
 
-pub unwritable : (line : List ℕ) (actor : Signature) → IsOwnedActor line actor → ¬ (IsLegal actor) → IsUnwritable line
-unwritable line actor is illegal = (bstring_bytes actor.name, bstring_bytes actor.email, is.time, is.read, illegal)
+pub is_unwritable_of_error : (line : List ℕ) (actor : Signature) → IsOwnedActor line actor → ¬ (IsLegal actor) → IsUnwritable line
+is_unwritable_of_error line actor is illegal = (bstring_bytes actor.name, bstring_bytes actor.email, is.time, is.read, illegal)

@@ -2,7 +2,7 @@
 use Rattle.std.proofs.Common.{ℕ, List, [], ◌∷◌, ◌++◌, Result, Ok, Err, refl}
 use Rattle.std.specs.Prelude.{IfErr}
 use Rattle.bstr.specs.Owned.{bstring_bytes}
-use Rattle.gixobj_fields.proofs.Appends.{prefix_after_byte}
+use Rattle.gixobj_fields.proofs.Appends.{appends_prefix_after_byte}
 use Rattle.gixobj_fields.specs.HeaderFormat.{encode_field}
 use Rattle.gixobj_fields.specs.Streams.{AppendsAll, AppendsPrefix, SinkView}
 use Rattle.gixobj_fields.specs.Writing.{IsWritingError}
@@ -17,7 +17,7 @@ signature_rejected : (a b c : SinkView) (Unchanged : Type 0) (name : List ℕ) (
     → IsActorError (bstring_bytes actor.name) (bstring_bytes actor.email) Unchanged (AppendsPrefix b c (encode_owned_actor actor ++ 10 ∷ [])) e
     → IsWritingError (IsActorFieldError name actor) a c (encode_field name (encode_owned_actor actor)) e
 signature_rejected a b c U name actor (error.Writer cause) write_bytes same failure =
-    prefix_after_byte a b c name 32 (encode_owned_actor actor ++ 10 ∷ []) write_bytes failure.1
+    appends_prefix_after_byte a b c name 32 (encode_owned_actor actor ++ 10 ∷ []) write_bytes failure.1
 signature_rejected a b c U name actor error.IllegalActor write_bytes same failure = (name ++ 32 ∷ [], (failure.0, refl, refl), same failure.1)
 signature_rejected a b c U name actor (error.NewlineInHeaderValue value) write_bytes same failure = absurd failure
 signature_rejected a b c U name actor error.EmptyValue write_bytes same failure = absurd failure
@@ -26,9 +26,9 @@ signature_rejected a b c U name actor (error.InvalidRefName fault) write_bytes s
 signature_rejected a b c U name actor (error.NullbyteInFilename value) write_bytes same failure = absurd failure
 signature_rejected a b c U name actor error.OutOfMemory write_bytes same failure = absurd failure
 
-pub field_rejected : {T : Type 0} (result : Result T Error) (a b c : SinkView) (Unchanged : Type 0) (name : List ℕ) (actor : Signature)
+pub field_error_of_actor_error : {T : Type 0} (result : Result T Error) (a b c : SinkView) (Unchanged : Type 0) (name : List ℕ) (actor : Signature)
     → AppendsAll a b (name ++ 32 ∷ []) → (Unchanged → AppendsAll a c (name ++ 32 ∷ []))
     → IfErr result (IsActorError (bstring_bytes actor.name) (bstring_bytes actor.email) Unchanged (AppendsPrefix b c (encode_owned_actor actor ++ 10 ∷ [])))
     → IfErr result (IsWritingError (IsActorFieldError name actor) a c (encode_field name (encode_owned_actor actor)))
-field_rejected (Ok value) a b c U name actor write_bytes same failure = tt
-field_rejected (Err why) a b c U name actor write_bytes same failure = signature_rejected a b c U name actor why write_bytes same failure
+field_error_of_actor_error (Ok value) a b c U name actor write_bytes same failure = tt
+field_error_of_actor_error (Err why) a b c U name actor write_bytes same failure = signature_rejected a b c U name actor why write_bytes same failure

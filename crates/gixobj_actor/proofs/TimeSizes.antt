@@ -6,14 +6,14 @@ use Rattle.std.specs.Prelude.{IsAscii, ℤ, pos, negsuc, unsigned_abs, decimal, 
 use Rattle.std.proofs.lemmas.Str.{IsAscii-append}
 use Rattle.gixobj_actor.specs.Date.{is_below_zero, encode_offset, encode_time}
 
-pub one_digit : (number : ℕ) → number < 10 → length (decimal number) ≡ 1
-one_digit number small = ap length (decimal_digit number small)
+pub decimal_len_one : (number : ℕ) → number < 10 → length (decimal number) ≡ 1
+decimal_len_one number small = ap length (decimal_digit number small)
 
-pub digit_more : (number : ℕ) → 10 ≤ number → number < 2 ^ 64 → length (decimal number) ≡ length (decimal (number / 10)) + 1
-digit_more number large fits = ap length (decimal_step number large fits) ∙ length-append (decimal (number / 10)) ((48 + number % 10) ∷ [])
+pub decimal_len_succ : (number : ℕ) → 10 ≤ number → number < 2 ^ 64 → length (decimal number) ≡ length (decimal (number / 10)) + 1
+decimal_len_succ number large fits = ap length (decimal_step number large fits) ∙ length-append (decimal (number / 10)) ((48 + number % 10) ∷ [])
 
-pub few_digits : (number : ℕ) → number < 2 ^ 64 → length (decimal number) ≤ 20
-few_digits number fits = length-decimal-le 20 number (omega arith) (omega arith) fits
+pub decimal_len_le_twenty : (number : ℕ) → number < 2 ^ 64 → length (decimal number) ≤ 20
+decimal_len_le_twenty number fits = length-decimal-le 20 number (omega arith) (omega arith) fits
 
 -- the power of ten with this exponent
 abbrev power_of_ten : ℕ → ℕ
@@ -29,24 +29,24 @@ more_than_zeros zero number large fits = decimal_nonempty number fits
 more_than_zeros (suc zeros) number large fits =
     let some = positive zeros in
     let prefix = more_than_zeros zeros (number / 10) (omega arith) (omega arith) in
-    omega (arith, digit_more number (omega arith) fits)
+    omega (arith, decimal_len_succ number (omega arith) fits)
 
-pub ten_digits : (number : ℕ) → 1000000000 ≤ number → number < 10000000000 → number < 2 ^ 64 → length (decimal number) ≡ 10
-ten_digits number large small fits =
+pub decimal_len_ten : (number : ℕ) → 1000000000 ≤ number → number < 10000000000 → number < 2 ^ 64 → length (decimal number) ≡ 10
+decimal_len_ten number large small fits =
     let most = length-decimal-le 10 number (omega arith) (omega arith) fits in
     let least = more_than_zeros 9 number large fits in
     omega arith
 
 -- an encoded time has a sign if it is negative, its digits, a space, and five bytes of an offset
-pub length_of_time : (seconds offset : ℤ) → length (encode_time seconds offset) ≡ (if is_below_zero seconds then 1 else 0) + length
+pub encode_time_len : (seconds offset : ℤ) → length (encode_time seconds offset) ≡ (if is_below_zero seconds then 1 else 0) + length
     (decimal (unsigned_abs seconds)) + 6
-length_of_time (pos size) offset =
+encode_time_len (pos size) offset =
     let joined : length (encode_time (pos size) offset) ≡ length (decimal size) + 6 = length-append (decimal size) (32 ∷ encode_offset offset) in
     let same : length (encode_time (pos size) offset) ≡ 0 + length (decimal size) + 6 = omega (arith, joined) in same
-length_of_time (negsuc size) offset =
+encode_time_len (negsuc size) offset =
     let joined : length (decimal (suc size) ++ 32 ∷ encode_offset offset) ≡ length (decimal (suc size)) + 6 =
     length-append (decimal (suc size)) (32 ∷ encode_offset offset) in
     let same : length (encode_time (negsuc size) offset) ≡ 1 + length (decimal (suc size)) + 6 = omega (arith, joined) in same
 
-pub joined_ascii : (prefix rest : List ℕ) → IsAscii prefix → IsAscii rest → IsAscii (prefix ++ rest)
-joined_ascii = IsAscii-append
+pub is_ascii_append : (prefix rest : List ℕ) → IsAscii prefix → IsAscii rest → IsAscii (prefix ++ rest)
+is_ascii_append = IsAscii-append

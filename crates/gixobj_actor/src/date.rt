@@ -63,7 +63,7 @@ impl Time {
 impl Time {
     /// Appends the encoded time.
     #[inline(always)]
-    #[tactic(auto, using(crate::proofs::TimeSizes::joined_ascii))]
+    #[tactic(auto, using(crate::proofs::TimeSizes::is_ascii_append))]
     pub(crate) fn push_encoded(&self, buffer: &mut ShortString)
         requires has_capacity { length buffer.old ≤ 6 }
         ensures encoded { buffer.new ≡ buffer.old ++ encode_time self.now.seconds self.now.offset }
@@ -90,7 +90,7 @@ impl Time {
 
     /// Returns the length of the encoded time, in bytes.
     #[inline(always)]
-    #[tactic(auto, using(crate::proofs::TimeSizes::length_of_time))]
+    #[tactic(auto, using(crate::proofs::TimeSizes::encode_time_len))]
     pub(crate) fn encoded_len(&self) -> u64
         ensures is { result ≡ length (encode_time self.now.seconds self.now.offset) }
         ensures bounded { result ≤ 27 }
@@ -135,7 +135,7 @@ const OFFSET_LEN: u64 = 6;
 
 /// Returns the number of digits. It tests for ten digits first, which the seconds since 2001 have.
 #[inline(always)]
-#[tactic(auto, using(crate::proofs::TimeSizes::ten_digits))]
+#[tactic(auto, using(crate::proofs::TimeSizes::decimal_len_ten))]
 fn digit_count(number: u64) -> u64
     ensures is { result ≡ length (decimal number) }
     ensures bounded { result ≤ 20 }
@@ -148,7 +148,7 @@ fn digit_count(number: u64) -> u64
 }
 
 /// Returns the number of digits, counted one by one.
-#[tactic(auto, using(crate::proofs::TimeSizes::one_digit, crate::proofs::TimeSizes::digit_more, crate::proofs::TimeSizes::few_digits))]
+#[tactic(auto, using(crate::proofs::TimeSizes::decimal_len_one, crate::proofs::TimeSizes::decimal_len_succ, crate::proofs::TimeSizes::decimal_len_le_twenty))]
 fn digits_counted(number: u64) -> u64
     ensures is { result ≡ length (decimal number) }
     ensures bounded { result ≤ 20 }

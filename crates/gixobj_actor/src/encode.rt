@@ -20,7 +20,7 @@ use gixobj_fields::streams::{Sink, write_parts};
 /// - [`Error::IllegalActor`] if the name or the email of the actor has a `<`, a `>` or a newline. The
 ///   field's name and the space are appended then.
 /// - [`Error::Writer`] with the error of the sink. A proper prefix of the field is appended then.
-#[tactic(auto, using(gixobj_fields::proofs::Appends::prefix_of_byte, gixobj_fields::proofs::Appends::prefix_after_byte, gixobj_fields::proofs::Appends::prefix_more))]
+#[tactic(auto, using(gixobj_fields::proofs::Appends::appends_prefix_before_byte, gixobj_fields::proofs::Appends::appends_prefix_after_byte, gixobj_fields::proofs::Appends::appends_prefix_append))]
 pub fn trusted_header_signature<S: Sink>(
     name: &[u8],
     actor: &Signature,

@@ -253,41 +253,41 @@ module _ {S : Type 0} (runs : S → CallView → Answer → S → Type 0) (by : 
 -- ---- all formats
 
 -- an accepted outcome of the plan for a signature's format has calls and answers that accept it
-pub accepted_by : {S : Type 0} (runs : S → CallView → Answer → S → Type 0) (it : OptionsView) (signature signed : List ℕ) (format : Option Format)
+pub vouches_of_acceptance : {S : Type 0} (runs : S → CallView → Answer → S → Type 0) (it : OptionsView) (signature signed : List ℕ) (format : Option Format)
     (s t : S)
     (outcome : OutcomeView)
     → Carries runs (verify_plan it signature signed format) s (reported outcome) t → outcome.valid ≡ true
     → Vouches runs it signature signed s outcome t
-accepted_by runs (by_open_pgp by) signature signed (Some format.OpenPgp) s t outcome went valid =
+vouches_of_acceptance runs (by_open_pgp by) signature signed (Some format.OpenPgp) s t outcome went valid =
     gpg_accepted runs format.OpenPgp by (open_pgp_call by signature signed) s t outcome went valid
-accepted_by runs (by_x509 by) signature signed (Some format.X509) s t outcome went valid =
+vouches_of_acceptance runs (by_x509 by) signature signed (Some format.X509) s t outcome went valid =
     gpg_accepted runs format.X509 by (x509_call by signature signed) s t outcome went valid
-accepted_by runs (by_ssh by ssh) signature signed (Some format.Ssh) s t outcome went valid =
+vouches_of_acceptance runs (by_ssh by ssh) signature signed (Some format.Ssh) s t outcome went valid =
     ssh_accepted runs by ssh signature signed s t outcome went valid
-accepted_by runs (by_open_pgp by) signature signed None s t outcome (same, end) valid =
+vouches_of_acceptance runs (by_open_pgp by) signature signed None s t outcome (same, end) valid =
     absurd (let never : reported outcome ≡ unsupported = same in cc)
-accepted_by runs (by_x509 by) signature signed None s t outcome (same, end) valid = absurd (let never : reported outcome ≡ unsupported = same in cc)
-accepted_by runs (by_ssh by ssh) signature signed None s t outcome (same, end) valid =
+vouches_of_acceptance runs (by_x509 by) signature signed None s t outcome (same, end) valid = absurd (let never : reported outcome ≡ unsupported = same in cc)
+vouches_of_acceptance runs (by_ssh by ssh) signature signed None s t outcome (same, end) valid =
     absurd (let never : reported outcome ≡ unsupported = same in cc)
-accepted_by runs (by_open_pgp by) signature signed (Some format.X509) s t outcome (same, end) valid =
+vouches_of_acceptance runs (by_open_pgp by) signature signed (Some format.X509) s t outcome (same, end) valid =
     absurd (let never : reported outcome ≡ mismatch format.OpenPgp format.X509 = same in cc)
-accepted_by runs (by_open_pgp by) signature signed (Some format.Ssh) s t outcome (same, end) valid =
+vouches_of_acceptance runs (by_open_pgp by) signature signed (Some format.Ssh) s t outcome (same, end) valid =
     absurd (let never : reported outcome ≡ mismatch format.OpenPgp format.Ssh = same in cc)
-accepted_by runs (by_x509 by) signature signed (Some format.OpenPgp) s t outcome (same, end) valid =
+vouches_of_acceptance runs (by_x509 by) signature signed (Some format.OpenPgp) s t outcome (same, end) valid =
     absurd (let never : reported outcome ≡ mismatch format.X509 format.OpenPgp = same in cc)
-accepted_by runs (by_x509 by) signature signed (Some format.Ssh) s t outcome (same, end) valid =
+vouches_of_acceptance runs (by_x509 by) signature signed (Some format.Ssh) s t outcome (same, end) valid =
     absurd (let never : reported outcome ≡ mismatch format.X509 format.Ssh = same in cc)
-accepted_by runs (by_ssh by ssh) signature signed (Some format.OpenPgp) s t outcome (same, end) valid =
+vouches_of_acceptance runs (by_ssh by ssh) signature signed (Some format.OpenPgp) s t outcome (same, end) valid =
     absurd (let never : reported outcome ≡ mismatch format.Ssh format.OpenPgp = same in cc)
-accepted_by runs (by_ssh by ssh) signature signed (Some format.X509) s t outcome (same, end) valid =
+vouches_of_acceptance runs (by_ssh by ssh) signature signed (Some format.X509) s t outcome (same, end) valid =
     absurd (let never : reported outcome ≡ mismatch format.Ssh format.X509 = same in cc)
 
 -- an accepted result has calls and answers that accept it
-pub outcome_accepted : {S : Type 0} (runs : S → CallView → Answer → S → Type 0) (it : OptionsView) (signature signed : List ℕ)
+pub vouches_of_valid_outcome : {S : Type 0} (runs : S → CallView → Answer → S → Type 0) (it : OptionsView) (signature signed : List ℕ)
     (format : Option Format)
     (s t : S) (result : Result Outcome Error)
     → IsOutcomeOf runs (verify_plan it signature signed format) s result t
     → IfOk result (λ outcome. (outcome_view outcome).valid ≡ true → Vouches runs it signature signed s (outcome_view outcome) t)
-outcome_accepted runs it signature signed format s t (Ok outcome) went = λ valid. accepted_by runs it signature signed format s t
+vouches_of_valid_outcome runs it signature signed format s t (Ok outcome) went = λ valid. vouches_of_acceptance runs it signature signed format s t
     (outcome_view outcome) went valid
-outcome_accepted runs it signature signed format s t (Err error) went = tt
+vouches_of_valid_outcome runs it signature signed format s t (Err error) went = tt

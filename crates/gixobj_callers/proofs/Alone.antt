@@ -28,5 +28,6 @@ alone T (suc n) dirs entries root unopened (name ∷ path) mode id =
     )
 
 -- the files of a root that is open alone are those of its tree
-pub root_files : (T : Table) (n : ℕ) (entries : List EntryView) → SameFiles (OpenFiles T n (λ path. map.get (root_alone entries) path)) (Files T n entries)
-root_files T n entries = alone T n (λ path. map.get (root_alone entries) path) entries (root_open entries) (λ name. root_unopened entries name [])
+pub root_alone_files : (T : Table) (n : ℕ) (entries : List EntryView) → SameFiles (OpenFiles T n (λ path. map.get (root_alone entries) path))
+    (Files T n entries)
+root_alone_files T n entries = alone T n (λ path. map.get (root_alone entries) path) entries (root_open entries) (λ name. root_unopened entries name [])

@@ -24,16 +24,17 @@ none_hex_of_id [] (x ∷ ids) spelled none = refl
 none_hex_of_id (hex ∷ hexes) [] spelled none = absurd spelled
 none_hex_of_id (hex ∷ hexes) (x ∷ ids) spelled none = cc none
 
-pub at_start : (reader : TreeRefIter) (tree : StoredObject) → tree.kind ≡ Tree → IsAtEntry tree.object_hash tree.bytes reader → remaining_tree reader ≡ tree
-at_start reader tree kind start i = record { kind = sym kind i; object_hash = (start i).kind; bytes = (start i).bytes }
+pub remaining_tree_at_start : (reader : TreeRefIter) (tree : StoredObject) → tree.kind ≡ Tree → IsAtEntry tree.object_hash tree.bytes reader
+    → remaining_tree reader ≡ tree
+remaining_tree_at_start reader tree kind start i = record { kind = sym kind i; object_hash = (start i).kind; bytes = (start i).bytes }
 
 -- the first parent of an ancestor is an ancestor one generation earlier
-pub further : (objects : Objects) (n : ℕ) (start child id : ObjectId) → IsAncestor objects n start child → IsFirstParent objects child id
+pub is_ancestor_succ : (objects : Objects) (n : ℕ) (start child id : ObjectId) → IsAncestor objects n start child → IsFirstParent objects child id
     → IsAncestor objects (n + 1) start id
-further objects n start child id before parent = let one : suc n ≡ n + 1 = omega arith in subst (λ (m : ℕ). IsAncestor objects m start id) one
+is_ancestor_succ objects n start child id before parent = let one : suc n ≡ n + 1 = omega arith in subst (λ (m : ℕ). IsAncestor objects m start id) one
     (child, before, parent)
 
 -- a property of an error, from an equal error
-pub err_of : {A E : Type 0} (r : Result A E) (e : E) (P : E → Type 0) → IsErrAnd r (λ x. x ≡ e) → P e → IfErr r P
-err_of (Ok x) e P is p = tt
-err_of (Err x) e P is p = subst P (sym is) p
+pub if_err_of : {A E : Type 0} (r : Result A E) (e : E) (P : E → Type 0) → IsErrAnd r (λ x. x ≡ e) → P e → IfErr r P
+if_err_of (Ok x) e P is p = tt
+if_err_of (Err x) e P is p = subst P (sym is) p

@@ -23,8 +23,8 @@ use Rattle.gix_object.specs.editor.command.Edit.TheVariants as edit
 use Rattle.gix_object.specs.editor.reply.EditReply.{EditReply}
 use Rattle.gix_object.specs.editor.reply.EditReply.TheVariants as edit_reply
 use Rattle.gixobj_callers.specs.Imports.{AreEditsDone, Decides, HasWriteReply, import_steps}
-use Rattle.gixobj_callers.proofs.Alone.{root_files}
-use Rattle.gixobj_callers.proofs.Histories.{history_append, same_history, same_refl, same_sym, same_trans}
+use Rattle.gixobj_callers.proofs.Alone.{root_alone_files}
+use Rattle.gixobj_callers.proofs.Histories.{history_append, history_congruent, same_files_refl, same_files_sym, same_files_trans}
 
 -- a table that agrees with the objects agrees with their trees
 agrees_with_trees : (T : Table) (objects : Objects) (trees : Trees) → AreTreesOf objects trees → AgreesWithObjects T objects → AgreesWithStore T trees
@@ -69,14 +69,14 @@ module _ {S E : Type 0} (means : StoreModel S) (answers : Answers E) (trees_of :
     edits_files : (old new : State S) (edits : List Edit) → AreEditsDone means answers old edits new → AgreesWithObjects T (means.objects old.store)
         → SameFiles (EditorFiles T n new) (History T n (import_steps edits) (EditorFiles T n old))
     edits_files old new [] done agrees = subst (λ (s : State S). SameFiles (EditorFiles T n s) (EditorFiles T n old)) (sym done)
-        (same_refl (EditorFiles T n old))
+        (same_files_refl (EditorFiles T n old))
     edits_files old new (it ∷ edits) (between, first, done) agrees =
         let later = edits_files between new edits done
         (subst (λ (s : S). AgreesWithObjects T (means.objects s)) (sym (edit_stays old between it first)) agrees) in
-        same_trans _ _ _ later
-        (same_trans _ _ _ (same_history T n (import_steps edits) (EditorFiles T n between) (History T n (steps_if_done it) (EditorFiles T n old))
+        same_files_trans _ _ _ later
+        (same_files_trans _ _ _ (history_congruent T n (import_steps edits) (EditorFiles T n between) (History T n (steps_if_done it) (EditorFiles T n old))
         (edit_files old between it first agrees))
-        (same_sym _ _ (history_append T n (steps_if_done it) (import_steps edits) (EditorFiles T n old))))
+        (same_files_sym _ _ (history_append T n (steps_if_done it) (import_steps edits) (EditorFiles T n old))))
 
     edit_based : (old new : State S) (it : Edit) → IsEditReply means answers at_root old it edit_reply.Done new → AgreesWithObjects T (means.objects old.store)
         → HasBases T (open_dirs old) (open_bases old) → HasBases T (open_dirs new) (open_bases new)
@@ -103,7 +103,7 @@ module _ {S E : Type 0} (means : StoreModel S) (answers : Answers E) (trees_of :
         → AgreesWithObjects T (means.objects old.store) → AgreesWithPairs T written.trees.items → HasBases T (open_dirs old) (open_bases old)
         → SameFiles (NamedFiles T n written.id) (History T n (import_steps edits) (EditorFiles T n old))
     named_files old new edits written after agrees pairs has =
-        same_trans _ _ _ (after.write.written.files T n pairs (edits_based old after.edited edits after.done agrees has))
+        same_files_trans _ _ _ (after.write.written.files T n pairs (edits_based old after.edited edits after.done agrees has))
         (edits_files old after.edited edits after.done agrees)
 
     pub files_remaining : (old new : State S) (edits : List Edit) (written : Written) → HasWriteReply means answers old edits (edit_reply.Written written) new
@@ -112,12 +112,12 @@ module _ {S E : Type 0} (means : StoreModel S) (answers : Answers E) (trees_of :
         let it = after.write in
         let own = it.written.own in
         let root : SameFiles (EditorFiles T n it.between) (Files T n own) =
-        subst (λ (dirs : DirMap). SameFiles (OpenFiles T n (λ path. map.get dirs path)) (Files T n own)) (sym it.written.dirs) (root_files T n own) in
+        subst (λ (dirs : DirMap). SameFiles (OpenFiles T n (λ path. map.get dirs path)) (Files T n own)) (sym it.written.dirs) (root_alone_files T n own) in
         let there : T.tree_at written.id ≡ Some own = pairs_last T written.trees.items it.written.below (written.id, own) it.written.last pairs in
         subst (λ (s : State S). SameFiles (EditorFiles T n s) (NamedFiles T n written.id)) (sym it.rest)
-        (same_trans _ _ _ root (subst
+        (same_files_trans _ _ _ root (subst
         (λ (found : Option (List EntryView)). SameFiles (Files T n own) (λ path mode id. MatchOption found ⊥ (λ es. Files T n es path mode id))) (sym there)
-        (same_refl (Files T n own))))
+        (same_files_refl (Files T n own))))
 
     -- after the write the root alone is open
     pub bases_remaining : (old new : State S) (edits : List Edit) (written : Written) → HasWriteReply means answers old edits (edit_reply.Written written) new

@@ -19,20 +19,21 @@ abbrev pub is_other : {E : Type 0} → Reply E → Bool
 is_other its_reply = not (is_done its_reply)
 
 -- a test that holds in a list has a first position
-pub place_found : {X : Type 0} (test : X → Bool) (xs : List X) → position_or_len test xs < length xs → position test xs ≡ Some (position_or_len test xs)
-place_found test xs low = grind arith
+pub position_of_position_or_len : {X : Type 0} (test : X → Bool) (xs : List X) → position_or_len test xs < length xs
+    → position test xs ≡ Some (position_or_len test xs)
+position_of_position_or_len test xs low = grind arith
 
 same_place : {E : Type 0} (replies shown : List (Reply E)) (index k : ℕ) → shown ≡ replies → Some index ≡ position is_other shown
     → position_or_len is_other replies ≡ k → k < length replies → k ≡ index
 same_place replies shown index k same found is low =
     let first : position_or_len is_other replies < length replies = rw is low in
-    cc (found, ap (position is_other) same, place_found is_other replies first, is)
+    cc (found, ap (position is_other) same, position_of_position_or_len is_other replies first, is)
 
 not_missing : {E : Type 0} (replies shown : List (Reply E)) (k : ℕ) → shown ≡ replies → None ≡ position is_other shown → position_or_len is_other replies ≡ k
     → k < length replies → ⊥
 not_missing replies shown k same found is low =
     let first : position_or_len is_other replies < length replies = rw is low in
-    cc (found, ap (position is_other) same, place_found is_other replies first)
+    cc (found, ap (position is_other) same, position_of_position_or_len is_other replies first)
 
 abbrev IsOfAnEdit : {E : Type 0} → EditReply E → Type 0
 IsOfAnEdit edit_reply.Done = Unit {0}

@@ -20,7 +20,7 @@ use Rattle.gix_object.specs.hash.hash.kind.Kind.{Kind}
 use Rattle.gixobj_callers.specs.Checkouts.{AreNotInserted, AreInserted, IsCheckedOut, IsFilled, IsMade, IsNotFilled, IsNotInsertedAt, IsInsertedAt, insert_at, steps_of_checkout}
 use Rattle.gixobj_callers.specs.Plans.{started}
 use Rattle.gixobj_callers.specs.declared.checkout.Planned.{Planned}
-use Rattle.gixobj_callers.proofs.Histories.{same_history, same_refl, same_trans}
+use Rattle.gixobj_callers.proofs.Histories.{history_congruent, same_files_refl, same_files_trans}
 use Rattle.gix_object.specs.Stores.{StoreModel}
 
 module _ {S : Type 0} (means : StoreModel S) (prefix : Path) where
@@ -101,12 +101,12 @@ module _ {S : Type 0} (means : StoreModel S) (prefix : Path) where
     inserted_files : (old new : State S) (entries : List Planned) → AreInserted means prefix old entries new
         → AreTreesOf (means.objects old.store) trees
         → SameFiles (EditorFiles T n new) (History T n (map (insert_at prefix) entries) (EditorFiles T n old))
-    inserted_files old new [] none fits = subst (λ (state : State S). SameFiles (EditorFiles T n new) (EditorFiles T n state)) none (same_refl _)
+    inserted_files old new [] none fits = subst (λ (state : State S). SameFiles (EditorFiles T n new) (EditorFiles T n state)) none (same_files_refl _)
     inserted_files old new (entry ∷ entries) (between, inserted, rest) fits =
         let done = inserted trees fits in
         let still = subst (λ (store : S). AreTreesOf (means.objects store) trees) (sym (ap (λ (state : State S). state.store) done.rest)) fits in
-        same_trans _ _ _ (inserted_files between new entries rest still)
-        (same_history T n (map (insert_at prefix) entries) (EditorFiles T n between)
+        same_files_trans _ _ _ (inserted_files between new entries rest still)
+        (history_congruent T n (map (insert_at prefix) entries) (EditorFiles T n between)
         (Upserted T n (from_root prefix (names_of entry.path.items)) (mode_of_kind entry.kind) entry.id (EditorFiles T n old))
         (done.files T n agrees))
 
@@ -131,8 +131,8 @@ module _ {S : Type 0} (means : StoreModel S) (prefix : Path) where
     filled_files old new entries (made, is_made, inserted) fits =
         let done = is_made trees fits in
         let still = subst (λ (store : S). AreTreesOf (means.objects store) trees) (sym (ap (λ (state : State S). state.store) done.rest)) fits in
-        same_trans _ _ _ (inserted_files made new entries inserted still)
-        (same_history T n (map (insert_at prefix) entries) (EditorFiles T n made) (Ensured prefix (EditorFiles T n old)) (done.files T n agrees))
+        same_files_trans _ _ _ (inserted_files made new entries inserted still)
+        (history_congruent T n (map (insert_at prefix) entries) (EditorFiles T n made) (Ensured prefix (EditorFiles T n old)) (done.files T n agrees))
 
     -- the named tree has the files that the steps make of the root's
     pub checked_out_files : {F : Type 0} (gave : F → Pair → F → Type 0) (out : F) (store : S) (object_hash : Kind) (root : List EntryView)
@@ -144,6 +144,6 @@ module _ {S : Type 0} (means : StoreModel S) (prefix : Path) where
         → SameFiles (NamedFiles T n written.id) (History T n (steps_of_checkout prefix entries) (Files T n root))
     checked_out_files gave out store object_hash root entries written bases begun (filled, remaining, last, is_filled, wrote) fits pairs =
         let has = filled_based (started store object_hash root) filled entries is_filled fits bases in
-        same_trans _ _ _ (wrote.files T n pairs has)
-        (same_trans _ _ _ (filled_files (started store object_hash root) filled entries is_filled fits)
-        (same_history T n (steps_of_checkout prefix entries) (EditorFiles T n (started store object_hash root)) (Files T n root) begun))
+        same_files_trans _ _ _ (wrote.files T n pairs has)
+        (same_files_trans _ _ _ (filled_files (started store object_hash root) filled entries is_filled fits)
+        (history_congruent T n (steps_of_checkout prefix entries) (EditorFiles T n (started store object_hash root)) (Files T n root) begun))

@@ -25,18 +25,18 @@ module _ {X : Type 0} where
   all_weaker P Q weaker [] of_xs = tt
   all_weaker P Q weaker (x ∷ xs) of_xs = (weaker x of_xs.0, all_weaker P Q weaker xs of_xs.1)
 
-pub starts_more : (P Q : List ℕ → Type 0) → ((name : List ℕ) → P name → Q name) → (paths : List Path) → Starts P paths → Starts Q paths
-starts_more P Q weaker paths starts =
+pub starts_cons : (P Q : List ℕ → Type 0) → ((name : List ℕ) → P name → Q name) → (paths : List Path) → Starts P paths → Starts Q paths
+starts_cons P Q weaker paths starts =
     all_weaker (λ (path : Path). (name : List ℕ) × (rest : Path) × P name × (path ≡ name ∷ rest)) (λ (path : Path). (name : List ℕ) × (rest : Path) × Q name
     × (path ≡ name ∷ rest)) (λ path it. (it.0, it.1, weaker it.0 it.2, it.3)) paths starts
 
-pub starts_joined : (P : List ℕ → Type 0) (xs ys : List Path) → Starts P xs → Starts P ys → Starts P (xs ++ ys)
-starts_joined P xs ys = all_joined (λ (path : Path). (name : List ℕ) × (rest : Path) × P name × (path ≡ name ∷ rest)) xs ys
+pub starts_append : (P : List ℕ → Type 0) (xs ys : List Path) → Starts P xs → Starts P ys → Starts P (xs ++ ys)
+starts_append P xs ys = all_joined (λ (path : Path). (name : List ℕ) × (rest : Path) × P name × (path ≡ name ∷ rest)) xs ys
 
 -- paths with a name before them begin with that name
-pub starts_under : (P : List ℕ → Type 0) (name : List ℕ) (paths : List Path) → P name → Starts P (map (under name) paths)
-starts_under P name [] is = tt
-starts_under P name (path ∷ paths) is = ((name, path, is, refl), starts_under P name paths is)
+pub starts_map_under : (P : List ℕ → Type 0) (name : List ℕ) (paths : List Path) → P name → Starts P (map (under name) paths)
+starts_map_under P name [] is = tt
+starts_map_under P name (path ∷ paths) is = ((name, path, is, refl), starts_map_under P name paths is)
 
 other_under : (name : List ℕ) (path : Path) (paths : List Path) → AllByRecursion (λ (q : Path). path ≢ q) paths
     → AllByRecursion (λ (q : Path). (name ∷ path) ≢ q) (map (under name) paths)
@@ -63,9 +63,9 @@ all_apart name [] others starts = tt
 all_apart name (path ∷ paths) others starts = (apart_from name path others starts, all_apart name paths others starts)
 
 -- the paths below a directory of this name, that directory at most once, and the paths below others
-pub once_below : (P : List ℕ → Type 0) (name : List ℕ) (low late : List Path) → Once low → Once late → Starts (λ other. other ≢ name) late
+pub once_under_append : (P : List ℕ → Type 0) (name : List ℕ) (low late : List Path) → Once low → Once late → Starts (λ other. other ≢ name) late
     → Once (map (under name) low ++ late)
-once_below P name low late once_low once_late starts = once_joined (map (under name) low) late (once_under name low once_low) once_late
+once_under_append P name low late once_low once_late starts = once_joined (map (under name) low) late (once_under name low once_low) once_late
     (all_apart name low late starts)
 
 bare_apart : (P : List ℕ → Type 0) (name : List ℕ) (paths others : List Path) → Starts P paths → Starts (λ other. other ≢ name) others
@@ -76,36 +76,37 @@ bare_apart P name (path ∷ paths) others ((first, rest, holds, is), starts) apa
   bare_apart P name paths others starts apart,
 )
 
-pub once_with_it : (P : List ℕ → Type 0) (name : List ℕ) (low late : List Path) → Once low → Starts P low → Once late → Starts (λ other. other ≢ name) late
+pub once_under_append_name : (P : List ℕ → Type 0) (name : List ℕ) (low late : List Path) → Once low → Starts P low → Once late
+    → Starts (λ other. other ≢ name) late
     → Once (map (under name) low ++ (name ∷ []) ∷ late)
-once_with_it P name low late once_low deeper once_late starts =
+once_under_append_name P name low late once_low deeper once_late starts =
     once_joined (map (under name) low) ((name ∷ []) ∷ late) (once_under name low once_low) (apart_from name [] late starts, once_late)
     (bare_apart P name low late deeper starts)
 
 -- the names of later entries differ
-pub other_names : (e : EntryView) (rest : List EntryView) → AllByRecursion (λ (x : EntryView). e.name ≢ x.name) rest → (name : List ℕ) → IsOf rest name
+pub entry_name_ne : (e : EntryView) (rest : List EntryView) → AllByRecursion (λ (x : EntryView). e.name ≢ x.name) rest → (name : List ℕ) → IsOf rest name
     → name ≢ e.name
-other_names e [] others name (x, has, named) = absurd has
-other_names e (y ∷ rest) others name (x, has, named) = λ same. ⊎_elim
+entry_name_ne e [] others name (x, has, named) = absurd has
+entry_name_ne e (y ∷ rest) others name (x, has, named) = λ same. ⊎_elim
     (λ is. others.0 (sym same ∙ sym named ∙ ap (λ (it : EntryView). it.name) (sym is)))
-    (λ later. other_names e rest others.1 name (x, later, named) same) has
+    (λ later. entry_name_ne e rest others.1 name (x, later, named) same) has
 
 -- this path, or none
 abbrev pub IsPerhaps : List ℕ → List Path → Type 0
 IsPerhaps name mid = (mid ≡ []) ⊎ (mid ≡ (name ∷ []) ∷ [])
 
-pub once_all : (P : List ℕ → Type 0) (name : List ℕ) (low mid late : List Path) → IsPerhaps name mid → Once low → Starts P low → Once late
+pub once_under_append_append : (P : List ℕ → Type 0) (name : List ℕ) (low mid late : List Path) → IsPerhaps name mid → Once low → Starts P low → Once late
     → Starts (λ other. other ≢ name) late → Once (map (under name) low ++ (mid ++ late))
-once_all P name low mid late (inl none) once_low deeper once_late starts =
-    subst (λ (m : List Path). Once (map (under name) low ++ (m ++ late))) (sym none) (once_below P name low late once_low once_late starts)
-once_all P name low mid late (inr one) once_low deeper once_late starts =
-    subst (λ (m : List Path). Once (map (under name) low ++ (m ++ late))) (sym one) (once_with_it P name low late once_low deeper once_late starts)
+once_under_append_append P name low mid late (inl none) once_low deeper once_late starts =
+    subst (λ (m : List Path). Once (map (under name) low ++ (m ++ late))) (sym none) (once_under_append P name low late once_low once_late starts)
+once_under_append_append P name low mid late (inr one) once_low deeper once_late starts =
+    subst (λ (m : List Path). Once (map (under name) low ++ (m ++ late))) (sym one) (once_under_append_name P name low late once_low deeper once_late starts)
 
-pub starts_all : (P : List ℕ → Type 0) (name : List ℕ) (low mid late : List Path) → IsPerhaps name mid → P name → Starts P late
+pub starts_under_append_append : (P : List ℕ → Type 0) (name : List ℕ) (low mid late : List Path) → IsPerhaps name mid → P name → Starts P late
     → Starts P (map (under name) low ++ (mid ++ late))
-starts_all P name low mid late (inl none) is starts =
+starts_under_append_append P name low mid late (inl none) is starts =
     subst (λ (m : List Path). Starts P (map (under name) low ++ (m ++ late))) (sym none)
-    (starts_joined P (map (under name) low) late (starts_under P name low is) starts)
-starts_all P name low mid late (inr one) is starts =
+    (starts_append P (map (under name) low) late (starts_map_under P name low is) starts)
+starts_under_append_append P name low mid late (inr one) is starts =
     subst (λ (m : List Path). Starts P (map (under name) low ++ (m ++ late))) (sym one)
-    (starts_joined P (map (under name) low) ((name ∷ []) ∷ late) (starts_under P name low is) ((name, [], is, refl), starts))
+    (starts_append P (map (under name) low) ((name ∷ []) ∷ late) (starts_map_under P name low is) ((name, [], is, refl), starts))

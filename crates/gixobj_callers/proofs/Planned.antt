@@ -17,14 +17,14 @@ use Rattle.gix_object.specs.editor.editor.error.Error.{Error}
 use Rattle.gix_object.specs.hash.hash.kind.Kind.{Kind}
 use Rattle.gix_object.specs.hash.hash.object_id.ObjectId.{ObjectId}
 use Rattle.gix_object.specs.hash.kind.Kind.TheVariants.{Tree}
-use Rattle.gixobj_callers.proofs.Histories.{same_trans, same_upserted}
+use Rattle.gixobj_callers.proofs.Histories.{same_files_trans, upserted_congruent}
 use Rattle.gixobj_callers.specs.Plans.{IsNotInserted, IsInserted, IsRoot, started}
 
 -- an editor with these parts is a new one
-pub is_started : {S : Type 0} (state : State S) (store : S) (object_hash : Kind) (entries : List EntryView) → state.dirs ≡ root_alone entries
+pub state_is_started : {S : Type 0} (state : State S) (store : S) (object_hash : Kind) (entries : List EntryView) → state.dirs ≡ root_alone entries
     → state.bases ≡ root_alone [] → state.store ≡ store → state.lookups ≡ 0
     → state.object_hash ≡ object_hash → state.prefix ≡ [] → state ≡ started store object_hash entries
-is_started state store object_hash entries root bare same_store none same_kind no_prefix i =
+state_is_started state store object_hash entries root bare same_store none same_kind no_prefix i =
     record { dirs = root i; bases = bare i; store = same_store i; lookups = none i; object_hash = same_kind i; prefix = no_prefix i }
 
 -- a table that agrees with the store has the root by its id, if that isn't null; by the law that ids are equal or not
@@ -83,6 +83,6 @@ module _ {S : Type 0} (means : StoreModel S) (store : S) (root_id : ObjectId) (p
     planned_files same_or_not gave out last edited remaining written appended wrote filled trees fits T n agrees pairs =
         let done = appended trees (subst (λ (it : S). AreTreesOf (means.objects it) trees) (sym (ap (λ (state : State S). state.store) new)) fits) in
         let root : SameFiles (EditorFiles T n editor) (NamedFiles T n root_id) =
-        same_trans _ _ _ (begun T n) (root_named same_or_not T (means.objects store) trees root_id entries filled fits agrees is_root n) in
-        same_trans _ _ _ (wrote.files T n pairs (done.has_bases T agrees (bases T)))
-        (same_trans _ _ _ (done.files T n agrees) (same_upserted T n path mode id (EditorFiles T n editor) (NamedFiles T n root_id) root))
+        same_files_trans _ _ _ (begun T n) (root_named same_or_not T (means.objects store) trees root_id entries filled fits agrees is_root n) in
+        same_files_trans _ _ _ (wrote.files T n pairs (done.has_bases T agrees (bases T)))
+        (same_files_trans _ _ _ (done.files T n agrees) (upserted_congruent T n path mode id (EditorFiles T n editor) (NamedFiles T n root_id) root))

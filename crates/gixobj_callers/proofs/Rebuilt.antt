@@ -32,10 +32,10 @@ at_place [] k r low is = absurd (omega (arith, low))
 at_place (x ∷ replies) zero r low is = ap written_by (sym is)
 at_place (x ∷ replies) (suc k) r low is = at_place replies k r (omega (arith, low)) is
 
-pub past_end : {E : Type 0} (replies : List (Reply E)) (k : ℕ) → length replies ≤ k → written_at replies k ≡ None
-past_end [] k past = refl
-past_end (x ∷ replies) zero past = absurd (omega (arith, past))
-past_end (x ∷ replies) (suc k) past = past_end replies k (omega (arith, past))
+pub written_at_none_past_end : {E : Type 0} (replies : List (Reply E)) (k : ℕ) → length replies ≤ k → written_at replies k ≡ None
+written_at_none_past_end [] k past = refl
+written_at_none_past_end (x ∷ replies) zero past = absurd (omega (arith, past))
+written_at_none_past_end (x ∷ replies) (suc k) past = written_at_none_past_end replies k (omega (arith, past))
 
 named_by : (seen : Option Written) (id : ObjectId) → Some id ≡ id_named seen → (written : Written) × (seen ≡ Some written) × (written.id ≡ id)
 named_by None id is = absurd (cc is)
@@ -45,14 +45,14 @@ not_named : (seen : Option Written) → None ≡ id_named seen → seen ≡ None
 not_named None is = refl
 not_named (Some written) is = absurd (cc is)
 
-pub names : {E : Type 0} (replies : List (Reply E)) (k : ℕ) (r : Reply E) (id : ObjectId) → k < length replies → r ≡ get_or replies k r
+pub names_written_of_reply : {E : Type 0} (replies : List (Reply E)) (k : ℕ) (r : Reply E) (id : ObjectId) → k < length replies → r ≡ get_or replies k r
     → Some id ≡ id_named (written_by r) → NamesWritten replies k id
-names replies k r id low is seen = let it = named_by (written_by r) id seen in (it.0, at_place replies k r low is ∙ it.1, it.2)
+names_written_of_reply replies k r id low is seen = let it = named_by (written_by r) id seen in (it.0, at_place replies k r low is ∙ it.1, it.2)
 
-pub names_none : {E : Type 0} (replies : List (Reply E)) (k : ℕ) (r : Reply E) → k < length replies → r ≡ get_or replies k r
+pub written_at_none_of_failure : {E : Type 0} (replies : List (Reply E)) (k : ℕ) (r : Reply E) → k < length replies → r ≡ get_or replies k r
     → None ≡ id_named (written_by r)
     → written_at replies k ≡ None
-names_none replies k r low is seen = at_place replies k r low is ∙ not_named (written_by r) seen
+written_at_none_of_failure replies k r low is seen = at_place replies k r low is ∙ not_named (written_by r) seen
 
 -- a prefix of a prefix is a prefix
 first_of_first : {A : Type 0} (k m : ℕ) (xs : List A) → k < m → take k (take m xs) ≡ take k xs

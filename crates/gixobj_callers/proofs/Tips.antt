@@ -15,12 +15,13 @@ use Rattle.gix_object.specs.import.import.Imported.{Imported}
 use Rattle.gix_object.specs.import.import.Step.{Step}
 use Rattle.gixobj_callers.specs.Archives.{IsOfStep, IsTip}
 
-pub as_many : (hash : hash.Kind) (parent : Option ObjectId) (steps : List Step) (imported : List Imported) (final : Objects)
+pub imported_len_eq_steps_len : (hash : hash.Kind) (parent : Option ObjectId) (steps : List Step) (imported : List Imported) (final : Objects)
     → AreCommitsOf hash parent steps imported final → length imported ≡ length steps
-as_many hash parent [] [] final are = refl
-as_many hash parent (step ∷ steps) (it ∷ imported) final are = ap suc (as_many hash (Some it.commit) steps imported final are.1)
-as_many hash parent [] (it ∷ imported) final are = absurd are
-as_many hash parent (step ∷ steps) [] final are = absurd are
+imported_len_eq_steps_len hash parent [] [] final are = refl
+imported_len_eq_steps_len hash parent (step ∷ steps) (it ∷ imported) final are =
+    ap suc (imported_len_eq_steps_len hash (Some it.commit) steps imported final are.1)
+imported_len_eq_steps_len hash parent [] (it ∷ imported) final are = absurd are
+imported_len_eq_steps_len hash parent (step ∷ steps) [] final are = absurd are
 
 -- the last step, the steps before it, and that the last import is of the last step
 record LastStep (hash : hash.Kind) (steps : List Step) (earlier : List Imported) (tip : Imported) : Type 0 where
@@ -51,10 +52,10 @@ found_last : (earlier : List Imported) (tip : Imported) → slice_get (earlier +
 found_last [] tip = refl
 found_last (it ∷ earlier) tip = found_last earlier tip
 
-pub is_tip : (objects final : Objects) (hash : hash.Kind) (steps : List Step) (imported earlier : List Imported) (tip : Imported)
+pub is_tip_of_last_import : (objects final : Objects) (hash : hash.Kind) (steps : List Step) (imported earlier : List Imported) (tip : Imported)
     → imported ≡ earlier ++ tip ∷ [] → AreCommitsOf hash None steps imported final
     → HaveFilesOfNothing objects steps imported → IsTip objects hash steps tip
-is_tip objects final hash steps imported earlier tip is commits files =
+is_tip_of_last_import objects final hash steps imported earlier tip is commits files =
     let last = last_step hash None steps earlier tip final (subst (λ (all : List Imported). AreCommitsOf hash None steps all final) is commits) in
     let count : length steps ≡ suc (length earlier) = ap length last.all ∙ length-append last.before (last.last ∷ []) ∙ omega (arith, last.one_each) in
     record {
@@ -71,20 +72,22 @@ is_tip objects final hash steps imported earlier tip is commits files =
     }
 
 -- the item that was removed from the end of the list, if there was one
-pub is_tip_taken : (objects final : Objects) (hash : hash.Kind) (steps : List Step) (imported remaining : List Imported) (tip : Option Imported)
+pub is_tip_of_option : (objects final : Objects) (hash : hash.Kind) (steps : List Step) (imported remaining : List Imported) (tip : Option Imported)
     → imported ≡ remaining ++ option_to_list tip → AreCommitsOf hash None steps imported final
     → HaveFilesOfNothing objects steps imported → IfSome tip (IsTip objects hash steps)
-is_tip_taken objects final hash steps imported remaining None is commits files = tt
-is_tip_taken objects final hash steps imported remaining (Some tip) is commits files = is_tip objects final hash steps imported remaining tip is commits files
+is_tip_of_option objects final hash steps imported remaining None is commits files = tt
+is_tip_of_option objects final hash steps imported remaining (Some tip) is commits files =
+    is_tip_of_last_import objects final hash steps imported remaining tip is commits files
 
 -- there is no last import if and only if there are no steps
-pub none_of_none : (final : Objects) (hash : hash.Kind) (steps : List Step) (imported remaining : List Imported) (tip : Option Imported) (count : ℕ)
+pub tip_none_iff_no_steps : (final : Objects) (hash : hash.Kind) (steps : List Step) (imported remaining : List Imported) (tip : Option Imported) (count : ℕ)
     → imported ≡ remaining ++ option_to_list tip → count ≡ length imported
     → IsSome tip ↔ (0 < count) → AreCommitsOf hash None steps imported final → IsNone tip ↔ (steps ≡ [])
-none_of_none final hash [] [] remaining None count is counted some commits = ((λ none. refl), λ nothing. refl)
-none_of_none final hash (step ∷ steps) [] remaining None count is counted some commits = absurd commits
-none_of_none final hash steps (it ∷ imported) remaining None count is counted some commits = absurd (false≢true (some.1 (omega (arith, counted))))
-none_of_none final hash steps imported remaining (Some tip) count is counted some commits = (
+tip_none_iff_no_steps final hash [] [] remaining None count is counted some commits = ((λ none. refl), λ nothing. refl)
+tip_none_iff_no_steps final hash (step ∷ steps) [] remaining None count is counted some commits = absurd commits
+tip_none_iff_no_steps final hash steps (it ∷ imported) remaining None count is counted some commits = absurd (false≢true (some.1 (omega (arith, counted))))
+tip_none_iff_no_steps final hash steps imported remaining (Some tip) count is counted some commits = (
   (λ none. absurd (true≢false none)),
-  λ nothing. absurd (omega (arith, ap length is, length-append remaining (tip ∷ []), as_many hash None steps imported final commits, ap length nothing)),
+  λ nothing. absurd (omega (arith, ap length is, length-append remaining
+      (tip ∷ []), imported_len_eq_steps_len hash None steps imported final commits, ap length nothing)),
 )

@@ -9,7 +9,7 @@ use Rattle.gix_object.specs.Files.{Has, Path}
 use Rattle.gix_object.specs.Emission.{Emits, EmitsBelow, Walks, emptied, end, leaves, unopened, unchanged, written}
 use Rattle.gix_object.specs.Opening.{Dirs, HasAt, IsOpened, in_dir}
 use Rattle.gix_object.specs.hash.hash.object_id.ObjectId.{ObjectId}
-use Rattle.gixobj_callers.proofs.Once.{IsOf, IsPerhaps, Starts, once_all, other_names, starts_all, starts_more, under}
+use Rattle.gixobj_callers.proofs.Once.{IsOf, IsPerhaps, Starts, once_under_append_append, entry_name_ne, starts_under_append_append, starts_cons, under}
 use Rattle.gixobj_callers.specs.Uploads.{IsChanged, IsDivided, IsOwnTree, IsSorted, IsUnchanged, Once, Sent, loose_pair_of, path_of}
 
 -- ---- lists
@@ -265,21 +265,21 @@ module _ (dirs bases : Dirs) (name : List ℕ) where
         → Onces (in_dir name dirs) (in_dir name bases) Any inner low in_it → Onces dirs bases (IsOf rest) below more after
         → Onces dirs bases (IsOf (e ∷ rest)) pairs total joined
     once_joined e rest named others one_here one_kept lower later =
-        let differ : (n : List ℕ) → IsOf rest n → n ≢ name = λ n of same. other_names e rest others n of (same ∙ sym named) in
+        let differ : (n : List ℕ) → IsOf rest n → n ≢ name = λ n of same. entry_name_ne e rest others n of (same ∙ sym named) in
         let more : (n : List ℕ) → IsOf rest n → IsOf (e ∷ rest) n = λ n of. (of.0, inr of.1, of.2) in
         let this : IsOf (e ∷ rest) name = (e, inl refl, named) in
         let goes = map path_of after.sent in
         record {
           sent = subst Once (sym paths_joined)
-              (once_all Any name (map path_of in_it.sent) (map path_of here) goes one_here lower.sent lower.sent_start later.sent
-              (starts_more (IsOf rest) (λ n. n ≢ name) differ goes later.sent_start));
+              (once_under_append_append Any name (map path_of in_it.sent) (map path_of here) goes one_here lower.sent lower.sent_start later.sent
+              (starts_cons (IsOf rest) (λ n. n ≢ name) differ goes later.sent_start));
           sent_start = subst (Starts (IsOf (e ∷ rest))) (sym paths_joined)
-              (starts_all (IsOf (e ∷ rest)) name (map path_of in_it.sent) (map path_of here) goes one_here this
-              (starts_more (IsOf rest) (IsOf (e ∷ rest)) more goes later.sent_start));
-          spared = once_all Any name in_it.spared kept after.spared one_kept lower.spared lower.spared_start later.spared
-              (starts_more (IsOf rest) (λ n. n ≢ name) differ after.spared later.spared_start);
-          spared_start = starts_all (IsOf (e ∷ rest)) name in_it.spared kept after.spared one_kept this
-              (starts_more (IsOf rest) (IsOf (e ∷ rest)) more after.spared later.spared_start);
+              (starts_under_append_append (IsOf (e ∷ rest)) name (map path_of in_it.sent) (map path_of here) goes one_here this
+              (starts_cons (IsOf rest) (IsOf (e ∷ rest)) more goes later.sent_start));
+          spared = once_under_append_append Any name in_it.spared kept after.spared one_kept lower.spared lower.spared_start later.spared
+              (starts_cons (IsOf rest) (λ n. n ≢ name) differ after.spared later.spared_start);
+          spared_start = starts_under_append_append (IsOf (e ∷ rest)) name in_it.spared kept after.spared one_kept this
+              (starts_cons (IsOf rest) (IsOf (e ∷ rest)) more after.spared later.spared_start);
         }
 
 -- ---- all directories of a write
@@ -318,9 +318,9 @@ mutual
             let any : (n : List ℕ) → IsOf entries n → Any n = λ n of. tt in
             record {
               sent = once.sent;
-              sent_start = starts_more (IsOf entries) Any any (map path_of it.0.sent) once.sent_start;
+              sent_start = starts_cons (IsOf entries) Any any (map path_of it.0.sent) once.sent_start;
               spared = once.spared;
-              spared_start = starts_more (IsOf entries) Any any it.0.spared once.spared_start;
+              spared_start = starts_cons (IsOf entries) Any any it.0.spared once.spared_start;
             },
       )
 
@@ -348,9 +348,9 @@ mutual
             let more : (n : List ℕ) → IsOf rest n → IsOf (e ∷ rest) n = λ n of. (of.0, inr of.1, of.2) in
             record {
               sent = once.sent;
-              sent_start = starts_more (IsOf rest) (IsOf (e ∷ rest)) more (map path_of it.0.sent) once.sent_start;
+              sent_start = starts_cons (IsOf rest) (IsOf (e ∷ rest)) more (map path_of it.0.sent) once.sent_start;
               spared = once.spared;
-              spared_start = starts_more (IsOf rest) (IsOf (e ∷ rest)) more it.0.spared once.spared_start;
+              spared_start = starts_cons (IsOf rest) (IsOf (e ∷ rest)) more it.0.spared once.spared_start;
             },
       )
   walk_parted dirs bases entries pairs own saved (emptied d b e rest inner below os m n found walk) =
@@ -411,9 +411,9 @@ closed_of : (dirs : Dirs) → IsOpened dirs → Closed dirs
 closed_of dirs is path name entries there = let it = is.above path name entries there in (it.0, it.1, it.2)
 
 -- the emitted pairs of a write, without its own
-pub divided : (dirs bases : Dirs) (pairs below : List Pair) (saved : ℕ) (id : ObjectId) (own : List EntryView) → Emits dirs bases saved pairs
+pub is_divided_of_walk : (dirs bases : Dirs) (pairs below : List Pair) (saved : ℕ) (id : ObjectId) (own : List EntryView) → Emits dirs bases saved pairs
     → pairs ≡ below ++ (id, own) ∷ [] → IsDivided dirs bases pairs id saved
-divided dirs bases pairs below saved id own (part, its_id, its_own, (count, goes, saves), full) last =
+is_divided_of_walk dirs bases pairs below saved id own (part, its_id, its_own, (count, goes, saves), full) last =
     let (parts, each, once) = leaves_parted dirs bases part its_own count goes in
     let same = last_same part below (its_id, its_own) (id, own) (sym full ∙ last) in
     let its : List Pair = (its_id, its_own) ∷ [] in

@@ -40,10 +40,10 @@ yielded_on one kind kind' before after input rest token first others has same (y
     let it = one kind before input token first after following rest remaining has comes in
     (it.0, rw (same, it.1, it.2) more)
 
-pub token_yielded : OneToken → (before after : TagRefIter) (token : Token) (first : TagTokenView) (others : List TagTokenView)
+pub first_token_yielded : OneToken → (before after : TagRefIter) (token : Token) (first : TagTokenView) (others : List TagTokenView)
     → NextTagToken before (Some (Ok token)) after → IsToYield before (first ∷ others)
     → (tag_token_view token ≡ first) × IsToYield after others
-token_yielded one before after token first others gives is =
+first_token_yielded one before after token first others gives is =
     yielded_on one (tag_reader_state before).kind (tag_reader_state after).kind (tag_reader_state before).state (tag_reader_state after).state
     (tag_reader_state before).bytes (tag_reader_state after).bytes (tag_token_view token) first others gives.0 gives.1 is
 
@@ -55,9 +55,9 @@ nothing_yielded one kind before input first others bare run =
     let same : first ∷ others ≡ [] = (one kind before [] (first ∷ others) [] complete complete here (yields_end before)).0 in
     cc same
 
-pub no_end_yielded : OneRun → (before after : TagRefIter) (first : TagTokenView) (others : List TagTokenView) → NextTagToken before None after
+pub no_end_before_tokens : OneRun → (before after : TagRefIter) (first : TagTokenView) (others : List TagTokenView) → NextTagToken before None after
     → IsToYield before (first ∷ others) → ⊥
-no_end_yielded one before after first others gives is = nothing_yielded one (tag_reader_state before).kind (tag_reader_state before).state
+no_end_before_tokens one before after first others gives is = nothing_yielded one (tag_reader_state before).kind (tag_reader_state before).state
     (tag_reader_state before).bytes first others gives.0 is
 
 -- ---- the first tokens of a tag
@@ -85,9 +85,9 @@ pub record Starts (tag : TagLines) (reader : TagRefIter) : Type 0 where
   pub hex_of_id : DecodesToId tag.target id
   pub to_yield : IsToYield reader (target_token id ∷ kind_token tag.target_kind ∷ name_token tag.name ∷ more)
 
-pub starts : IsKnown → (kind : Kind) (content : List ℕ) (tag : TagLines) (reader : TagRefIter) → DecodesToTag kind content tag
+pub starts_of_decoded_tag : IsKnown → (kind : Kind) (content : List ℕ) (tag : TagLines) (reader : TagRefIter) → DecodesToTag kind content tag
     → IsAtStartOfTag kind content reader → Starts tag reader
-starts seen kind content tag reader is start =
+starts_of_decoded_tag seen kind content tag reader is start =
     let (tokens, run, (missing, may, all), came) = seen kind content tag is in
     let (more, same) = first_three tokens missing _ _ _ _ _ may all.joined in
     let here : IsToYield reader tokens = subst (λ it. YieldsTagTokens it.kind it.state it.bytes tokens complete) (sym start) run in
@@ -95,11 +95,11 @@ starts seen kind content tag reader is start =
 
 -- ---- the value of a token
 
-pub same_id : (token : TagTokenView) (target id : ObjectId) → token ≡ target_token id → Some target ≡ tag_token_id token → target ≡ id
-same_id token target id same seen = let it : Some target ≡ Some id = seen ∙ ap tag_token_id same in cc it
+pub target_unique : (token : TagTokenView) (target id : ObjectId) → token ≡ target_token id → Some target ≡ tag_token_id token → target ≡ id
+target_unique token target id same seen = let it : Some target ≡ Some id = seen ∙ ap tag_token_id same in cc it
 
-pub no_id : (token : TagTokenView) (id : ObjectId) → token ≡ target_token id → None ≡ tag_token_id token → ⊥
-no_id token id same none = let it : None ≡ Some id = none ∙ ap tag_token_id same in cc it
+pub target_token_has_id : (token : TagTokenView) (id : ObjectId) → token ≡ target_token id → None ≡ tag_token_id token → ⊥
+target_token_has_id token id same none = let it : None ≡ Some id = none ∙ ap tag_token_id same in cc it
 
-pub same_name : (token : TagTokenView) (a b : List ℕ) → token ≡ name_token a → token ≡ name_token b → a ≡ b
-same_name token a b first second = let it : name_token a ≡ name_token b = sym first ∙ second in cc it
+pub name_unique : (token : TagTokenView) (a b : List ℕ) → token ≡ name_token a → token ≡ name_token b → a ≡ b
+name_unique token a b first second = let it : name_token a ≡ name_token b = sym first ∙ second in cc it

@@ -68,7 +68,7 @@ impl From<find::Error> for Error {
 ///
 /// - [`Error::Commit`] if a commit on the way isn't found;
 /// - [`Error::NoParent`] with the id of a commit on the way that has no parent.
-#[tactic(auto, using(crate::proofs::Commits::further))]
+#[tactic(auto, using(crate::proofs::Commits::is_ancestor_succ))]
 pub fn ancestor<S: Find>(
     alloc: Global,
     store: &S,

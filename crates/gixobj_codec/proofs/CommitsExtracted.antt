@@ -6,13 +6,13 @@ use Rattle.std.specs.Prelude.{if◌then◌else◌, cond, nat_eq, not}
 use Rattle.std.specs.List.{filter, flat_map}
 use Rattle.std.proofs.lemmas.Bool.{eqb-false}
 use Rattle.std.proofs.lemmas.List.{append_cancel_right}
-use Rattle.gixobj_hash.proofs.Splits.{free_by_test}
+use Rattle.gixobj_hash.proofs.Splits.{byte_free_of_all_pass}
 use Rattle.std.specs.Cmp.Lexicographic.{bytes_decides, pointwise}
 use Rattle.std.proofs.lemmas.Grind.{flat_map-append}
 use Rattle.std.proofs.lemmas.List.Elements.{All-append, All-cons, All-head, All-nil, All-tail}
 use Rattle.gixobj_commit.specs.CommitWriting.{encode_commit}
 use Rattle.gixobj_commit.specs.ExtraHeaders.{signature_field}
-use Rattle.gixobj_fields.proofs.HeaderFields.{one_header}
+use Rattle.gixobj_fields.proofs.HeaderFields.{header_unique}
 use Rattle.gixobj_fields.proofs.HeadersRoundTrip.{header_round_trips}
 use Rattle.gixobj_fields.specs.FieldWriting.{encode_header, value_lines}
 use Rattle.gixobj_fields.specs.HeaderFormat.{EndsHeader, HasField, HasHeader, Header, IsHeaderName, DecodesToHeader, encode_field, encode_continuation, encode_line, value_of_lines}
@@ -35,28 +35,28 @@ ends_at_name : (name first more rest : List ℕ) → IsHeaderName name → EndsH
 ends_at_name [] first more rest named = absurd (named.not_empty refl)
 ends_at_name (byte ∷ name) first more rest named = All-head (λ it. it ≢ 32) byte name named.no_space
 
-pub ends_at_header : (one rest : List ℕ) (header : Header) → DecodesToHeader one header → EndsHeader (one ++ rest)
-ends_at_header one rest header is =
+pub ends_header_append : (one rest : List ℕ) (header : Header) → DecodesToHeader one header → EndsHeader (one ++ rest)
+ends_header_append one rest header is =
     subst (λ (it : List ℕ). EndsHeader (it ++ rest)) (sym is.joined)
     (ends_at_name header.name (32 ∷ encode_line is.first) (flat_map encode_continuation is.more) rest is.named)
 
 ends_before : (leading one rest : List ℕ) (headers : List Header) (header : Header) → DecodesToHeaders leading headers → DecodesToHeader one header
     → EndsHeader (leading ++ (one ++ rest))
 ends_before leading one rest [] header none is = subst (λ (it : List ℕ). EndsHeader (it ++ (one ++ rest))) (sym none)
-    (ends_at_header one rest header is)
+    (ends_header_append one rest header is)
 ends_before leading one rest (h ∷ hs) header (first, more, joined, written, others) is =
     subst (λ (it : List ℕ). EndsHeader (it ++ (one ++ rest))) (sym joined)
-    (subst EndsHeader (sym (append_assoc first more (one ++ rest))) (ends_at_header first (more ++ (one ++ rest)) h written))
+    (subst EndsHeader (sym (append_assoc first more (one ++ rest))) (ends_header_append first (more ++ (one ++ rest)) h written))
 
-pub comes_last : (leading one rest : List ℕ) (header : Header) → leading ≡ [] → DecodesToHeader one header → EndsHeader rest
+pub has_header_last : (leading one rest : List ℕ) (header : Header) → leading ≡ [] → DecodesToHeader one header → EndsHeader rest
     → HasHeader (leading ++ (one ++ rest)) header rest
-comes_last leading one rest header none is ends =
+has_header_last leading one rest header none is ends =
     record { encoded = one; joined = ap (λ (it : List ℕ). it ++ (one ++ rest)) none; written = is; ends = ends }
 
-pub comes_more : (leading first more one rest : List ℕ) (h header : Header) (hs : List Header) → leading ≡ first ++ more → DecodesToHeader first h
+pub has_header_before_last : (leading first more one rest : List ℕ) (h header : Header) (hs : List Header) → leading ≡ first ++ more → DecodesToHeader first h
     → DecodesToHeaders more hs → DecodesToHeader one header
     → HasHeader (leading ++ (one ++ rest)) h (more ++ (one ++ rest))
-comes_more leading first more one rest h header hs joined written others is = record {
+has_header_before_last leading first more one rest h header hs joined written others is = record {
   encoded = first;
   joined = ap (λ (it : List ℕ). it ++ (one ++ rest)) joined ∙ append_assoc first more (one ++ rest);
   written = written;
@@ -64,31 +64,32 @@ comes_more leading first more one rest h header hs joined written others is = re
 }
 
 -- bytes have at most one first header of a name, so all splits into headers leave the same bytes without it
-pub found_once : (name : List ℕ) (ps qs : List Header) (p q : Header) (fp op rp fq oq rq : List ℕ)
+pub signature_split_unique : (name : List ℕ) (ps qs : List Header) (p q : Header) (fp op rp fq oq rq : List ℕ)
     → DecodesToHeaders fp ps → All (λ h. h.name ≢ name) ps → DecodesToHeader op p → p.name ≡ name → EndsHeader rp
     → DecodesToHeaders fq qs → All (λ h. h.name ≢ name) qs → DecodesToHeader oq q → q.name ≡ name → EndsHeader rq
     → fp ++ (op ++ rp) ≡ fq ++ (oq ++ rq) → fp ++ rp ≡ fq ++ rq
-found_once name [] [] p q fp op rp fq oq rq np ap_ wp namep ep nq aq wq nameq eq same =
-    let e = one_header (fp ++ (op ++ rp)) p q rp rq (comes_last fp op rp p np wp ep)
-    (subst (λ (it : List ℕ). HasHeader it q rq) (sym same) (comes_last fq oq rq q nq wq eq)) in
+signature_split_unique name [] [] p q fp op rp fq oq rq np ap_ wp namep ep nq aq wq nameq eq same =
+    let e = header_unique (fp ++ (op ++ rp)) p q rp rq (has_header_last fp op rp p np wp ep)
+    (subst (λ (it : List ℕ). HasHeader it q rq) (sym same) (has_header_last fq oq rq q nq wq eq)) in
     ap (λ (it : List ℕ). it ++ rp) np ∙ e.1 ∙ sym (ap (λ (it : List ℕ). it ++ rq) nq)
-found_once name [] (k ∷ ks) p q fp op rp fq oq rq np ap_ wp namep ep (first, more, joined, written, others) aq wq nameq eq same =
-    let e = one_header (fp ++ (op ++ rp)) p k rp (more ++ (oq ++ rq)) (comes_last fp op rp p np wp ep)
-    (subst (λ (it : List ℕ). HasHeader it k (more ++ (oq ++ rq))) (sym same) (comes_more fq first more oq rq k q ks joined written others wq)) in
+signature_split_unique name [] (k ∷ ks) p q fp op rp fq oq rq np ap_ wp namep ep (first, more, joined, written, others) aq wq nameq eq same =
+    let e = header_unique (fp ++ (op ++ rp)) p k rp (more ++ (oq ++ rq)) (has_header_last fp op rp p np wp ep)
+    (subst (λ (it : List ℕ). HasHeader it k (more ++ (oq ++ rq))) (sym same) (has_header_before_last fq first more oq rq k q ks joined written others wq)) in
     absurd (All-head (λ (h : Header). h.name ≢ name) k ks aq (sym (ap (λ (h : Header). h.name) e.0) ∙ namep))
-found_once name (k ∷ ks) [] p q fp op rp fq oq rq (first, more, joined, written, others) ap_ wp namep ep nq aq wq nameq eq same =
-    let e = one_header (fp ++ (op ++ rp)) k q (more ++ (op ++ rp)) rq (comes_more fp first more op rp k p ks joined written others wp)
-    (subst (λ (it : List ℕ). HasHeader it q rq) (sym same) (comes_last fq oq rq q nq wq eq)) in
+signature_split_unique name (k ∷ ks) [] p q fp op rp fq oq rq (first, more, joined, written, others) ap_ wp namep ep nq aq wq nameq eq same =
+    let e = header_unique (fp ++ (op ++ rp)) k q (more ++ (op ++ rp)) rq (has_header_before_last fp first more op rp k p ks joined written others wp)
+    (subst (λ (it : List ℕ). HasHeader it q rq) (sym same) (has_header_last fq oq rq q nq wq eq)) in
     absurd (All-head (λ (h : Header). h.name ≢ name) k ks ap_ (ap (λ (h : Header). h.name) e.0 ∙ nameq))
-found_once name (k ∷ ks) (j ∷ js) p q fp op rp fq oq rq (first, more, joined, written, others) ap_ wp namep ep
+signature_split_unique name (k ∷ ks) (j ∷ js) p q fp op rp fq oq rq (first, more, joined, written, others) ap_ wp namep ep
     (first', more', joined', written', others') aq wq
     nameq eq same =
-    let e = one_header (fp ++ (op ++ rp)) k j (more ++ (op ++ rp)) (more' ++ (oq ++ rq))
-    (comes_more fp first more op rp k p ks joined written others wp)
+    let e = header_unique (fp ++ (op ++ rp)) k j (more ++ (op ++ rp)) (more' ++ (oq ++ rq))
+    (has_header_before_last fp first more op rp k p ks joined written others wp)
     (subst (λ (it : List ℕ). HasHeader it j (more' ++ (oq ++ rq))) (sym same)
-    (comes_more fq first' more' oq rq j q js joined' written' others' wq)) in
+    (has_header_before_last fq first' more' oq rq j q js joined' written' others' wq)) in
     let firsts : first ≡ first' = sym (header_round_trips first k written) ∙ ap encode_header e.0 ∙ header_round_trips first' j written' in
-    let rests : more ++ rp ≡ more' ++ rq = found_once name ks js p q more op rp more' oq rq others (All-tail (λ (h : Header). h.name ≢ name) k ks ap_)
+    let rests : more ++ rp ≡ more' ++ rq = signature_split_unique name ks js p q more op rp more' oq rq others
+        (All-tail (λ (h : Header). h.name ≢ name) k ks ap_)
     wp namep
     ep others' (All-tail (λ (h : Header). h.name ≢ name) j js aq) wq nameq eq e.1 in
     ap (λ (it : List ℕ). it ++ rp) joined ∙ append_assoc first more rp
@@ -106,16 +107,16 @@ encodings_join a b [] ks none are = subst (λ (it : List ℕ). DecodesToHeaders 
 encodings_join a b (h ∷ hs) ks (first, more, joined, written, others) are =
     (first, more ++ b, ap (λ (it : List ℕ). it ++ b) joined ∙ append_assoc first more b, written, encodings_join more b hs ks others are)
 
-pub join : (name a b : List ℕ) → Blocks name a → Blocks name b → Blocks name (a ++ b)
-join name a b x y = record {
+pub blocks_append : (name a b : List ℕ) → Blocks name a → Blocks name b → Blocks name (a ++ b)
+blocks_append name a b x y = record {
   headers = x.headers ++ y.headers;
   are = encodings_join a b x.headers y.headers x.are y.are;
   others = All-append
       (λ (h : Header). h.name ≢ name) x.headers y.headers x.others y.others;
 }
 
-pub no_block : (name : List ℕ) → Blocks name []
-no_block name = record { headers = []; are = refl; others = All-nil (λ (h : Header). h.name ≢ name) }
+pub blocks_nil : (name : List ℕ) → Blocks name []
+blocks_nil name = record { headers = []; are = refl; others = All-nil (λ (h : Header). h.name ≢ name) }
 
 one_block : (name one : List ℕ) (header : Header) → DecodesToHeader one header → header.name ≢ name → Blocks name one
 one_block name one header is other = record {
@@ -141,55 +142,55 @@ field_is_header name value named free = record {
 tree_name : IsHeaderName (codes "tree")
 tree_name = record {
   not_empty = λ none. cc none;
-  no_space = free_by_test space (codes "tree") refl;
-  no_newline = free_by_test newline
+  no_space = byte_free_of_all_pass space (codes "tree") refl;
+  no_newline = byte_free_of_all_pass newline
       (codes "tree") refl;
 }
 
 parent_name : IsHeaderName (codes "parent")
 parent_name = record {
   not_empty = λ none. cc none;
-  no_space = free_by_test space (codes "parent") refl;
-  no_newline = free_by_test newline
+  no_space = byte_free_of_all_pass space (codes "parent") refl;
+  no_newline = byte_free_of_all_pass newline
       (codes "parent") refl;
 }
 
 author_name : IsHeaderName (codes "author")
 author_name = record {
   not_empty = λ none. cc none;
-  no_space = free_by_test space (codes "author") refl;
-  no_newline = free_by_test newline
+  no_space = byte_free_of_all_pass space (codes "author") refl;
+  no_newline = byte_free_of_all_pass newline
       (codes "author") refl;
 }
 
 committer_name : IsHeaderName (codes "committer")
 committer_name = record {
   not_empty = λ none. cc none;
-  no_space = free_by_test space (codes "committer") refl;
-  no_newline = free_by_test newline
+  no_space = byte_free_of_all_pass space (codes "committer") refl;
+  no_newline = byte_free_of_all_pass newline
       (codes "committer") refl;
 }
 
 encoding_name : IsHeaderName (codes "encoding")
 encoding_name = record {
   not_empty = λ none. cc none;
-  no_space = free_by_test space (codes "encoding") refl;
-  no_newline = free_by_test newline
+  no_space = byte_free_of_all_pass space (codes "encoding") refl;
+  no_newline = byte_free_of_all_pass newline
       (codes "encoding") refl;
 }
 
-pub signature_name : (kind : Kind) → IsHeaderName (signature_field kind)
-signature_name hash.Sha1 =
+pub signature_field_is_header_name : (kind : Kind) → IsHeaderName (signature_field kind)
+signature_field_is_header_name hash.Sha1 =
     record {
       not_empty = λ none. cc none;
-      no_space = free_by_test space (codes "gpgsig") refl;
-      no_newline = free_by_test newline
+      no_space = byte_free_of_all_pass space (codes "gpgsig") refl;
+      no_newline = byte_free_of_all_pass newline
           (codes "gpgsig") refl;
     }
-signature_name hash.Sha256 = record {
+signature_field_is_header_name hash.Sha256 = record {
   not_empty = λ none. cc none;
-  no_space = free_by_test space (codes "gpgsig-sha256") refl;
-  no_newline = free_by_test newline
+  no_space = byte_free_of_all_pass space (codes "gpgsig-sha256") refl;
+  no_newline = byte_free_of_all_pass newline
       (codes "gpgsig-sha256") refl;
 }
 
@@ -229,26 +230,26 @@ field_line : (kind : Kind) (name content value : List ℕ) (next : State) (after
 field_line kind name content value next after named other has =
     inr (encode_field name value, has.joined, field_block kind name value named other has.one_line)
 
-pub block_line : (kind : Kind) (here : State) (content : List ℕ) (line : LineView) (next : State) (after : List ℕ)
+pub block_line_of_header : (kind : Kind) (here : State) (content : List ℕ) (line : LineView) (next : State) (after : List ℕ)
     → HasLine kind here content line next after
     → ¬ IsNamedLine (signature_field kind) line → IsBlockLine kind content next after
-block_line kind here content line next after (tree_comes _ hex _ has) other = field_line kind (codes "tree") content hex state.Parents after tree_name
+block_line_of_header kind here content line next after (tree_comes _ hex _ has) other = field_line kind (codes "tree") content hex state.Parents after tree_name
     (tree_other kind) has.0
-block_line kind here content line next after (parent_comes _ hex _ has) other =
+block_line_of_header kind here content line next after (parent_comes _ hex _ has) other =
     field_line kind (codes "parent") content hex state.Parents after parent_name
     (parent_other kind) has.0
-block_line kind here content line next after (author_comes _ actor _ has) other =
+block_line_of_header kind here content line next after (author_comes _ actor _ has) other =
     field_line kind (codes "author") content actor state.Committer after author_name (author_other kind) has.0
-block_line kind here content line next after (committer_comes _ actor _ has) other =
+block_line_of_header kind here content line next after (committer_comes _ actor _ has) other =
     field_line kind (codes "committer") content actor state.Encoding after committer_name (committer_other kind) has.0
-block_line kind here content line next after (encoding_comes _ encoding _ has) other =
+block_line_of_header kind here content line next after (encoding_comes _ encoding _ has) other =
     field_line kind (codes "encoding") content encoding state.ExtraHeaders after encoding_name (encoding_other kind) has
-block_line kind here content line next after (first_header_comes _ header _ has unlike) other =
+block_line_of_header kind here content line next after (first_header_comes _ header _ has unlike) other =
     inr (has.encoded, has.joined, one_block (signature_field kind) has.encoded header has.written other)
-block_line kind here content line next after (header_comes _ header _ has) other =
+block_line_of_header kind here content line next after (header_comes _ header _ has) other =
     inr (has.encoded, has.joined, one_block (signature_field kind) has.encoded header has.written other)
-block_line kind here content line next after (first_message_comes _ message is) other = inl (refl, (message, is))
-block_line kind here content line next after (message_comes _ message is) other = inl (refl, (message, is))
+block_line_of_header kind here content line next after (first_message_comes _ message is) other = inl (refl, (message, is))
+block_line_of_header kind here content line next after (message_comes _ message is) other = inl (refl, (message, is))
 
 no_line_at_end : (kind : Kind) (here : State) (content : List ℕ) (line : LineView) (next : State) (after : List ℕ) → here ≡ state.End
     → HasLine kind here content line next after → ⊥
@@ -285,7 +286,7 @@ with_line kind lines content next after before input line next_state rest (inl (
 with_line kind lines content next after before input line next_state rest (inr (one, joined, block)) passes comes (leading, is, blocks) = (
   one ++ leading,
   joined ∙ ap (λ (it : List ℕ). one ++ it) is ∙ sym (append_assoc one leading input),
-  join
+  blocks_append
       (signature_field kind) one leading block blocks,
 )
 
@@ -295,10 +296,10 @@ blocks_before : (kind : Kind) (lines : List LineView) (here : State) (content : 
     → Passes (HasLine kind) here content lines before input → All (λ it. ¬ IsNamedLine (signature_field kind) it) lines
     → HasLine kind before input line next_state rest → BlocksBefore kind content input
 unfolding BlocksBefore
-blocks_before kind [] here content before input line next_state rest passes others comes = ([], passes.1, no_block (signature_field kind))
+blocks_before kind [] here content before input line next_state rest passes others comes = ([], passes.1, blocks_nil (signature_field kind))
 blocks_before kind (first ∷ lines) here content before input line next_state rest (next, after, has, more) others comes =
     with_line kind lines content next after before input line next_state rest
-    (block_line kind here content first next after has (All-head (λ (it : LineView). ¬ IsNamedLine (signature_field kind) it) first lines others))
+    (block_line_of_header kind here content first next after has (All-head (λ (it : LineView). ¬ IsNamedLine (signature_field kind) it) first lines others))
     more comes
     (blocks_before kind lines next after before input line next_state rest more
     (All-tail (λ (it : LineView). ¬ IsNamedLine (signature_field kind) it) first lines others) comes)
@@ -342,8 +343,8 @@ lines_free (byte ∷ next ∷ rest) =
 abbrev pub read_again : Header → Header
 read_again header = record { name = header.name; value = value_of_lines (value_lines header.value).0 (value_lines header.value).1 }
 
-pub written_header : (header : Header) → IsHeaderName header.name → DecodesToHeader (encode_header header) (read_again header)
-written_header header named =
+pub encode_header_decodes : (header : Header) → IsHeaderName header.name → DecodesToHeader (encode_header header) (read_again header)
+encode_header_decodes header named =
     let free : AreLines (value_lines header.value) = lines_free header.value in
     record {
       first = (value_lines header.value).0;
@@ -367,13 +368,13 @@ kept_one : (name : List ℕ) (header : Header) (headers : List Header) (t : Bool
     → Blocks name (flat_map encode_header (cond (not t) (header ∷ headers) headers))
 kept_one name header headers true is named blocks = blocks
 kept_one name header headers false is named blocks =
-    join name (encode_header header) (flat_map encode_header headers)
-    (one_block name (encode_header header) (read_again header) (written_header header named)
+    blocks_append name (encode_header header) (flat_map encode_header headers)
+    (one_block name (encode_header header) (read_again header) (encode_header_decodes header named)
     (unlike_name name header is)) blocks
 
 kept_blocks : (name : List ℕ) (headers : List Header) → All (λ header. IsHeaderName header.name) headers
     → Blocks name (flat_map encode_header (filter (λ header. not (is_header_named name header)) headers))
-kept_blocks name [] named = no_block name
+kept_blocks name [] named = blocks_nil name
 kept_blocks name (header ∷ headers) named =
     kept_one name header (filter (λ header. not (is_header_named name header)) headers) (is_header_named name header) refl
     (All-head (λ (h : Header). IsHeaderName h.name) header headers named)
@@ -381,22 +382,22 @@ kept_blocks name (header ∷ headers) named =
 
 parents_blocks : (kind : Kind) (parents : List (List ℕ)) → All (λ hex. IsByteFree newline hex) parents
     → Blocks (signature_field kind) (flat_map encode_parent parents)
-parents_blocks kind [] free = no_block (signature_field kind)
+parents_blocks kind [] free = blocks_nil (signature_field kind)
 parents_blocks kind (hex ∷ parents) free =
-    join (signature_field kind) (encode_parent hex) (flat_map encode_parent parents)
+    blocks_append (signature_field kind) (encode_parent hex) (flat_map encode_parent parents)
     (field_block kind (codes "parent") hex parent_name (parent_other kind) (All-head (λ (it : List ℕ). IsByteFree newline it) hex parents free))
     (parents_blocks kind parents (All-tail (λ (it : List ℕ). IsByteFree newline it) hex parents free))
 
 encoding_blocks : (kind : Kind) (encoding : Option (List ℕ)) → IsOneLine encoding → Blocks (signature_field kind) (encode_encoding encoding)
-encoding_blocks kind None free = no_block (signature_field kind)
+encoding_blocks kind None free = blocks_nil (signature_field kind)
 encoding_blocks kind (Some encoding) free = field_block kind (codes "encoding") encoding encoding_name (encoding_other kind) free
 
 -- the fields of one line
 prefix_blocks : (kind : Kind) (commit : CommitLines) → HasLineFields commit → Blocks (signature_field kind) (before_encoding commit)
 prefix_blocks kind commit fields =
-    join (signature_field kind) (encode_ids commit ++ encode_field (codes "author") commit.author) (encode_field (codes "committer") commit.committer)
-    (join (signature_field kind) (encode_ids commit) (encode_field (codes "author") commit.author)
-    (join (signature_field kind) (encode_field (codes "tree") commit.tree) (flat_map encode_parent commit.parents)
+    blocks_append (signature_field kind) (encode_ids commit ++ encode_field (codes "author") commit.author) (encode_field (codes "committer") commit.committer)
+    (blocks_append (signature_field kind) (encode_ids commit) (encode_field (codes "author") commit.author)
+    (blocks_append (signature_field kind) (encode_field (codes "tree") commit.tree) (flat_map encode_parent commit.parents)
     (field_block kind (codes "tree") commit.tree tree_name (tree_other kind) fields.tree)
     (parents_blocks kind commit.parents fields.parents))
     (field_block kind (codes "author") commit.author author_name (author_other kind) fields.author))
@@ -419,8 +420,8 @@ module _ (kind : Kind) (commit : CommitLines) (bytes : List ℕ) (named : HasHea
 
   pub written_blocks : Blocks (signature_field kind) unsigned_prefix
   written_blocks =
-      join (signature_field kind) (before_encoding commit ++ encode_encoding commit.encoding) (flat_map encode_header kept_headers)
-      (join (signature_field kind) (before_encoding commit) (encode_encoding commit.encoding) (prefix_blocks kind commit fields)
+      blocks_append (signature_field kind) (before_encoding commit ++ encode_encoding commit.encoding) (flat_map encode_header kept_headers)
+      (blocks_append (signature_field kind) (before_encoding commit) (encode_encoding commit.encoding) (prefix_blocks kind commit fields)
       (encoding_blocks kind commit.encoding fields.encoding))
       (kept_blocks (signature_field kind) commit.extra_headers named)
 
@@ -442,10 +443,10 @@ module _ (kind : Kind) (commit : CommitLines) (bytes : List ℕ) (named : HasHea
       let comes : HasHeader has.input has.header has.rest = header_here kind has.before has.input has.header has.following has.rest has.comes in
       let prefixes : has.prefix ≡ read.0 = append_cancel_right has.prefix read.0 has.input (sym has.joined ∙ read.1) in
       let once : read.0 ++ has.rest ≡ unsigned_prefix ++ 10 ∷ commit.message =
-      found_once (signature_field kind) read.2.headers written_blocks.headers has.header (read_again the_header) read.0 comes.encoded has.rest
+      signature_split_unique (signature_field kind) read.2.headers written_blocks.headers has.header (read_again the_header) read.0 comes.encoded has.rest
       unsigned_prefix
       (encode_header the_header) (10 ∷ commit.message)
       read.2.are read.2.others comes.written has.named comes.ends
-      written_blocks.are written_blocks.others (written_header the_header (signature_name kind)) refl (λ same. grind (arith, same))
+      written_blocks.are written_blocks.others (encode_header_decodes the_header (signature_field_is_header_name kind)) refl (λ same. grind (arith, same))
       (ap (λ (it : List ℕ). read.0 ++ it) (sym comes.joined) ∙ sym read.1 ∙ signed_payload) in
       has.remaining ∙ ap (λ (it : List ℕ). it ++ has.rest) prefixes ∙ once

@@ -22,12 +22,12 @@ use Rattle.gixobj_codec.specs.LineFields.{HasLineFields, IsOneLine}
 digit_is_no_newline : (byte : ℕ) → is_lower_hex_digit byte ≡ true → byte ≢ newline
 digit_is_no_newline byte digit same = true≢false (sym digit ∙ ap is_lower_hex_digit same)
 
-pub digits_have_one_line : (bytes : List ℕ) → AllPass is_lower_hex_digit bytes → IsByteFree newline bytes
-digits_have_one_line [] digits = All-nil (λ (it : ℕ). it ≢ newline)
-digits_have_one_line (byte ∷ bytes) digits =
+pub digits_are_newline_free : (bytes : List ℕ) → AllPass is_lower_hex_digit bytes → IsByteFree newline bytes
+digits_are_newline_free [] digits = All-nil (λ (it : ℕ). it ≢ newline)
+digits_are_newline_free (byte ∷ bytes) digits =
     let P : ℕ → Type 0 = λ it. is_lower_hex_digit it ≡ true in
     All-cons (λ (it : ℕ). it ≢ newline) byte bytes (digit_is_no_newline byte (All-head P byte bytes digits))
-    (digits_have_one_line bytes (All-tail P byte bytes digits))
+    (digits_are_newline_free bytes (All-tail P byte bytes digits))
 
 -- ---- what the encoder accepts is legal
 
@@ -62,11 +62,12 @@ encoding_has_one_line (Some encoding) written = free_without newline encoding (�
 
 -- ---- commits
 
-pub owned_fields : (commit : Commit) → IsByteFree newline (encode_id_hex commit.tree) → All (λ id. IsByteFree newline (encode_id_hex id)) commit.parents.items
+pub owned_commit_has_line_fields : (commit : Commit) → IsByteFree newline (encode_id_hex commit.tree)
+    → All (λ id. IsByteFree newline (encode_id_hex id)) commit.parents.items
     → (IsLegal commit.author → IsByteFree newline (encode_owned_actor commit.author))
     → (IsLegal commit.committer → IsByteFree newline (encode_owned_actor commit.committer)) → RejectsNothing (IsOwnedCommitError commit)
     → HasLineFields (owned_commit_lines commit)
-owned_fields commit tree parents author committer written =
+owned_commit_has_line_fields commit tree parents author committer written =
     let lines = owned_commit_lines commit in
     let legal_author : IsLegal commit.author = legal_undenied commit.author (λ no. written illegal_actor (before_author lines) (inl (no, refl, refl))) in
     let legal_committer : IsLegal commit.committer =

@@ -4,19 +4,19 @@ use Rattle.std.proofs.Common.{◌≡◌, ◌≢◌, inl, inr, ◌<◌, arith, le
 use Rattle.std.proofs.lemmas.List.Elements.{All-head, All-tail}
 use Rattle.gixobj_commit.specs.CommitWriting.{encode_commit}
 use Rattle.gixobj_commit.specs.ExtraHeaders.{signature_field}
-use Rattle.gixobj_fields.proofs.HeaderFields.{one_header}
+use Rattle.gixobj_fields.proofs.HeaderFields.{header_unique}
 use Rattle.gixobj_fields.specs.FieldWriting.{encode_header}
 use Rattle.gixobj_fields.specs.HeaderFormat.{EndsHeader, HasHeader, HasNoHeader, Header, DecodesToHeader}
 use Rattle.gixobj_fields.specs.Runs.{Yields, broken, complete, yields_end, yields_error, yields_piece}
 use Rattle.gixobj_hash.specs.declared.decode.Error.TheVariants.{Malformed}
 use Rattle.gixobj_hash.specs.declared.hash.kind.Kind.{Kind}
-use Rattle.gixobj_commit.proofs.LinesYielded.{token_bytes_yielded}
-use Rattle.gixobj_line.proofs.OneLine.{longer_header, no_header, no_line_of_nothing, one_line}
+use Rattle.gixobj_commit.proofs.LinesYielded.{yields_lines_of_commit}
+use Rattle.gixobj_line.proofs.OneLine.{header_len_lt, no_header_of_newline, no_line_of_nil, line_unique}
 use Rattle.gixobj_commit.specs.Commit.{DecodesToHeaders, CommitLines, DecodesToCommit, lines_of_commit}
 use Rattle.gixobj_line.specs.Lines.{HasLine, LineView}
 use Rattle.gixobj_line.specs.declared.lines.State.{State}
 use Rattle.gixobj_line.specs.declared.lines.State.TheVariants as state
-use Rattle.gixobj_codec.proofs.CommitsExtracted.{Blocks, IsBlockLine, block_line, comes_last, comes_more, ends_at_header, join, no_block, read_again, signature_name, signed_payload, the_header, unsigned_prefix, written_blocks, written_header}
+use Rattle.gixobj_codec.proofs.CommitsExtracted.{Blocks, IsBlockLine, block_line_of_header, has_header_last, has_header_before_last, ends_header_append, blocks_append, blocks_nil, read_again, signature_field_is_header_name, signed_payload, the_header, unsigned_prefix, written_blocks, encode_header_decodes}
 use Rattle.gixobj_ref_iter.specs.Extracting.{HasNoSignature, IsNamedLine, IsCommitSignatureError}
 use Rattle.gixobj_commit.specs.CommitSigning.{with_signature}
 use Rattle.gixobj_codec.specs.LineFields.{HasHeaderNames, HasLineFields}
@@ -25,7 +25,7 @@ ends_before_tail : (leading tail : List ℕ) (headers : List Header) → Decodes
 ends_before_tail leading tail [] none ends = subst (λ (it : List ℕ). EndsHeader (it ++ tail)) (sym none) ends
 ends_before_tail leading tail (h ∷ hs) (first, more, joined, written, others) ends =
     subst (λ (it : List ℕ). EndsHeader (it ++ tail)) (sym joined)
-    (subst EndsHeader (sym (append_assoc first more tail)) (ends_at_header first (more ++ tail) h written))
+    (subst EndsHeader (sym (append_assoc first more tail)) (ends_header_append first (more ++ tail) h written))
 
 comes_here : (leading first more tail : List ℕ) (h : Header) (hs : List Header) → leading ≡ first ++ more → DecodesToHeader first h
     → DecodesToHeaders more hs
@@ -43,19 +43,20 @@ none_there : (name : List ℕ) (ps qs : List Header) (q : Header) (fp tail fq oq
     → DecodesToHeaders fq qs → DecodesToHeader oq q → q.name ≡ name → EndsHeader rq
     → fp ++ tail ≡ fq ++ (oq ++ rq) → ⊥
 none_there name [] [] q fp tail fq oq rq np others ends lacks nq wq named eq same =
-    lacks q rq (subst (λ (it : List ℕ). HasHeader it q rq) (sym same ∙ ap (λ (it : List ℕ). it ++ tail) np) (comes_last fq oq rq q nq wq eq))
+    lacks q rq (subst (λ (it : List ℕ). HasHeader it q rq) (sym same ∙ ap (λ (it : List ℕ). it ++ tail) np) (has_header_last fq oq rq q nq wq eq))
 none_there name [] (k ∷ ks) q fp tail fq oq rq np others ends lacks (first, more, joined, written, rest) wq named eq same =
     lacks k (more ++ (oq ++ rq)) (subst (λ (it : List ℕ). HasHeader it k (more ++ (oq ++ rq))) (sym same ∙ ap (λ (it : List ℕ). it ++ tail) np)
-    (comes_more fq first more oq rq k q ks joined written rest wq))
+    (has_header_before_last fq first more oq rq k q ks joined written rest wq))
 none_there name (k ∷ ks) [] q fp tail fq oq rq (first, more, joined, written, rest) others ends lacks nq wq named eq same =
-    let e = one_header (fp ++ tail) k q (more ++ tail) rq (comes_here fp first more tail k ks joined written rest ends)
-    (subst (λ (it : List ℕ). HasHeader it q rq) (sym same) (comes_last fq oq rq q nq wq eq)) in
+    let e = header_unique (fp ++ tail) k q (more ++ tail) rq (comes_here fp first more tail k ks joined written rest ends)
+    (subst (λ (it : List ℕ). HasHeader it q rq) (sym same) (has_header_last fq oq rq q nq wq eq)) in
     All-head (λ (h : Header). h.name ≢ name) k ks others (ap (λ (h : Header). h.name) e.0 ∙ named)
 none_there name (k ∷ ks) (j ∷ js) q fp tail fq oq rq (first, more, joined, written, rest) others ends lacks
     (first', more', joined', written', rest') wq named
     eq same =
-    let e = one_header (fp ++ tail) k j (more ++ tail) (more' ++ (oq ++ rq)) (comes_here fp first more tail k ks joined written rest ends)
-    (subst (λ (it : List ℕ). HasHeader it j (more' ++ (oq ++ rq))) (sym same) (comes_more fq first' more' oq rq j q js joined' written' rest' wq)) in
+    let e = header_unique (fp ++ tail) k j (more ++ tail) (more' ++ (oq ++ rq)) (comes_here fp first more tail k ks joined written rest ends)
+    (subst (λ (it : List ℕ). HasHeader it j (more' ++ (oq ++ rq))) (sym same) (has_header_before_last fq first' more' oq rq j q js joined' written' rest' wq))
+        in
     none_there name ks js q more tail more' oq rq rest (All-tail (λ (h : Header). h.name ≢ name) k ks others) ends lacks rest' wq named eq e.1
 
 -- bytes that decode to their end without a header of the name: headers, and then nothing or the message
@@ -71,7 +72,7 @@ none_shorter : (n : ℕ) → n < 0 → ⊥
 none_shorter n less = absurd (omega arith)
 
 no_header_in_nothing : HasNoHeader []
-no_header_in_nothing header rest has = none_shorter (length rest) (longer_header [] header rest has)
+no_header_in_nothing header rest has = none_shorter (length rest) (header_len_lt [] header rest has)
 
 of_line : (kind : Kind) (content : List ℕ) (next : State) (after : List ℕ) → IsBlockLine kind content next after → InBlocks kind after
     → InBlocks kind content
@@ -79,15 +80,15 @@ of_line kind content next after (inl (is, (message, same))) rest = record {
   prefix = [];
   tail = content;
   joined = refl;
-  blocks = no_block (signature_field kind);
+  blocks = blocks_nil (signature_field kind);
   ends = subst EndsHeader (sym same) (λ other. grind (arith, other));
-  lacks = λ header following has. no_header content header following message has same;
+  lacks = λ header following has. no_header_of_newline content header following message has same;
 }
 of_line kind content next after (inr (one, joined, block)) rest = record {
   prefix = one ++ rest.prefix;
   tail = rest.tail;
   joined = joined ∙ ap (λ (it : List ℕ). one ++ it) rest.joined ∙ sym (append_assoc one rest.prefix rest.tail);
-  blocks = join (signature_field kind) one rest.prefix block rest.blocks;
+  blocks = blocks_append (signature_field kind) one rest.prefix block rest.blocks;
   ends = rest.ends;
   lacks = rest.lacks;
 }
@@ -95,10 +96,10 @@ of_line kind content next after (inr (one, joined, block)) rest = record {
 in_blocks : (kind : Kind) (here : State) (content : List ℕ) (pieces : List LineView) → Yields (HasLine kind) here content pieces complete
     → All (λ it. ¬ IsNamedLine (signature_field kind) it) pieces → InBlocks kind content
 in_blocks kind here content pieces (yields_end _) others =
-    record { prefix = []; tail = []; joined = refl; blocks = no_block (signature_field kind); ends = tt; lacks = no_header_in_nothing }
+    record { prefix = []; tail = []; joined = refl; blocks = blocks_nil (signature_field kind); ends = tt; lacks = no_header_in_nothing }
 in_blocks kind here content pieces (yields_piece _ next _ after piece more _ has seen) others =
     of_line kind content next after
-    (block_line kind here content piece next after has (All-head (λ (it : LineView). ¬ IsNamedLine (signature_field kind) it) piece more others))
+    (block_line_of_header kind here content piece next after has (All-head (λ (it : LineView). ¬ IsNamedLine (signature_field kind) it) piece more others))
     (in_blocks kind next after more seen (All-tail (λ (it : LineView). ¬ IsNamedLine (signature_field kind) it) piece more others))
 
 -- bytes that decode to their end have no malformed line
@@ -106,10 +107,10 @@ two_endings : (kind : Kind) (here : State) (content : List ℕ) (ps qs : List Li
     → Yields (HasLine kind) here content qs broken → ⊥
 two_endings kind here content ps qs (yields_end _) (yields_error _ _ some lacks) = some refl
 two_endings kind here content ps qs (yields_end _) (yields_piece _ next _ after piece more _ has seen) =
-    no_line_of_nothing kind here [] piece next after refl has
+    no_line_of_nil kind here [] piece next after refl has
 two_endings kind here content ps qs (yields_piece _ next _ after piece more _ has seen) (yields_error _ _ some lacks) = lacks piece next after has
 two_endings kind here content ps qs (yields_piece _ next _ after piece more _ has seen) (yields_piece _ next' _ after' piece' more' _ has' seen') =
-    let e = one_line kind here content piece piece' next next' after after' has has' in
+    let e = line_unique kind here content piece piece' next next' after after' has has' in
     two_endings kind next after more more' seen
     (subst (λ (s : State). Yields (HasLine kind) s after more' broken) (sym e.1)
     (subst (λ (it : List ℕ). Yields (HasLine kind) next' it more' broken) (sym e.2) seen'))
@@ -124,10 +125,10 @@ module _ (kind : Kind) (commit : CommitLines) (bytes : List ℕ) (named : HasHea
       read.tail
       (unsigned_prefix kind commit bytes named fields) (encode_header (the_header kind commit bytes named fields)) (10 ∷ commit.message)
       read.blocks.are read.blocks.others read.ends read.lacks
-      written.are (written_header (the_header kind commit bytes named fields) (signature_name kind)) refl (λ same. grind (arith, same))
+      written.are (encode_header_decodes (the_header kind commit bytes named fields) (signature_field_is_header_name kind)) refl (λ same. grind (arith, same))
       (sym read.joined ∙ signed_payload kind commit bytes named fields)
 
-pub signature_not_rejected : (kind : Kind) (content : List ℕ) (read : CommitLines) → DecodesToCommit kind content read
+pub no_signature_error_of_decoded : (kind : Kind) (content : List ℕ) (read : CommitLines) → DecodesToCommit kind content read
     → IsCommitSignatureError kind content Malformed → ⊥
-signature_not_rejected kind content read is (pieces, seen, others) = two_endings kind state.Tree content (lines_of_commit read) pieces
-    (token_bytes_yielded kind content read is) seen
+no_signature_error_of_decoded kind content read is (pieces, seen, others) = two_endings kind state.Tree content (lines_of_commit read) pieces
+    (yields_lines_of_commit kind content read is) seen

@@ -21,7 +21,7 @@ use Rattle.gixobj_tag.specs.declared.tag.Tag.{Tag}
 use Rattle.gixobj_ref_iter.specs.Extracting as commits
 use Rattle.gixobj_codec.proofs.CommitsExtracted.{payload_extracted}
 use Rattle.gixobj_codec.proofs.SignaturesFound.{signature_is_there}
-use Rattle.gixobj_codec.proofs.TagsExtracted.{tag_payload_extracted}
+use Rattle.gixobj_codec.proofs.TagsExtracted.{signed_data_is_payload_of_tag}
 use Rattle.gixobj_codec.specs.LineFields.{HasHeaderNames, HasLineFields}
 use Rattle.gixobj_codec.specs.SignedEncodings.{CommitPayloadIsSigned, TagPayloadIsSigned}
 
@@ -55,6 +55,6 @@ module _ {S : Type 0} (runs : S → CallView → Answer → S → Type 0) (optio
     bytes = is.bytes;
     called = is.called;
     found = λ marker passed seen format has.
-        tag_payload_extracted (tag_views.owned_tag_lines it) is.bytes passed seen format marker
+        signed_data_is_payload_of_tag (tag_views.owned_tag_lines it) is.bytes passed seen format marker
         (subst (λ (lines : TagLines). tags.HasTagSignature (encode_tag lines) passed seen format) is.lines has);
   }

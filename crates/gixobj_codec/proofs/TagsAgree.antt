@@ -8,20 +8,20 @@ use Rattle.bstr.specs.BStr.{bstr_bytes}
 use Rattle.gixobj_fields.specs.HeaderFormat.{encode_field}
 use Rattle.gixobj_hash.specs.Kind.{kind_name}
 use Rattle.gixobj_hash.specs.declared.hash.kind.Kind.{Kind}
-use Rattle.gixobj_text.proofs.MarkerPlaces.{not_both, one_format, one_marker_place}
+use Rattle.gixobj_text.proofs.MarkerPlaces.{no_marker_and_marker_place, format_of_marker_unique, marker_place_unique}
 use Rattle.gixobj_text.specs.Markers.{BeginsWithMarker, HasNoMarker, IsMarkerOf, IsMarkerPlace, MarksPlace, StartsLine, pgp_message, pgp_signature, signed_message, ssh_signature}
 use Rattle.gixobj_text.specs.declared.signature.Format.{Format}
 use Rattle.gixobj_text.specs.declared.signature.SignatureRef.{SignatureRef}
 use Rattle.gixobj_ref_iter.specs.TagExtracting.{FindsSignatureOfTag, HasTagSignature}
-use Rattle.gixobj_tag.proofs.EntireTags.{Reads, take_apart}
+use Rattle.gixobj_tag.proofs.EntireTags.{Reads, parts_of_decoded_tag}
 use Rattle.gixobj_tag.specs.LineReading.{HasTagger}
 use Rattle.gixobj_tag.specs.Signed.{IsSignature}
 use Rattle.gixobj_tag.specs.TagFormat.{IsBody, IsParted, DecodesToTag, TagLines, are_newlines, after_a_newline, encode_tag_lines, newlines_alone, signed, signed_at_once, encode_tagger, unsigned}
-use Rattle.gixobj_hash.proofs.Splits.{free_by_test}
+use Rattle.gixobj_hash.proofs.Splits.{byte_free_of_all_pass}
 use Rattle.gixobj_hash.specs.ByteStrings.{IsByteFree}
 use Rattle.gixobj_signature.specs.SignedBytes.{signed_bytes}
 use Rattle.gixobj_signature.specs.declared.signature.signed_data.SignedData.{SignedData}
-use Rattle.gixobj_codec.proofs.TagsExtracted.{marks_rest, same_prefixes}
+use Rattle.gixobj_codec.proofs.TagsExtracted.{marks_place_after_prefix, append_split_unique}
 use Rattle.gixobj_codec.specs.Agreeing.{AreTheSame}
 
 -- ---- positions of markers after lines
@@ -85,7 +85,7 @@ also_after a b rest after_a after_b place format it =
     let flat : MarksPlace (a ++ (b ++ rest)) place format = subst (λ (content : List ℕ). MarksPlace content place format)
     (append_assoc a b rest) it in
     let past : length a ≤ place = after_a place format flat in
-    let more : length b ≤ place - length a = after_b (place - length a) format (marks_rest a (b ++ rest) place format past flat) in
+    let more : length b ≤ place - length a = after_b (place - length a) format (marks_place_after_prefix a (b ++ rest) place format past flat) in
     omega (arith, past, more, length-append a b)
 
 -- ---- the lines of a tag
@@ -93,7 +93,7 @@ also_after a b rest after_a after_b place format it =
 after_tagger : (tagger : Option (List ℕ)) (input body : List ℕ) → HasTagger input tagger body → AreAfter (encode_tagger tagger) body
 after_tagger None input body has = λ place format it. omega arith
 after_tagger (Some line) input body has = after_field 116 (codes "agger") line body (λ same. omega (arith, same))
-    (free_by_test 10 (codes "tagger") refl) has.0.one_line
+    (byte_free_of_all_pass 10 (codes "tagger") refl) has.0.one_line
 
 tagger_joined : (tagger : Option (List ℕ)) (input body : List ℕ) → HasTagger input tagger body → input ≡ encode_tagger tagger ++ body
 tagger_joined None input body has = sym has.1
@@ -120,12 +120,12 @@ after_lines kind content tag reads =
     let name = encode_field (codes "tag") tag.name in
     let tagger = encode_tagger tag.tagger in
     let after_object : AreAfter object (type ++ (name ++ (tagger ++ reads.body))) =
-    after_field 111 (codes "bject") tag.target _ (λ same. omega (arith, same)) (free_by_test 10 (codes "object") refl) reads.target.0.one_line in
+    after_field 111 (codes "bject") tag.target _ (λ same. omega (arith, same)) (byte_free_of_all_pass 10 (codes "object") refl) reads.target.0.one_line in
     let after_type : AreAfter type (name ++ (tagger ++ reads.body)) =
     after_field 116 (codes "ype") (kind_name tag.target_kind) _ (λ same. omega (arith, same))
-    (free_by_test 10 (codes "type") refl) reads.target_kind.one_line in
+    (byte_free_of_all_pass 10 (codes "type") refl) reads.target_kind.one_line in
     let name_after : AreAfter name (tagger ++ reads.body) =
-    after_field 116 (codes "ag") tag.name _ (λ same. omega (arith, same)) (free_by_test 10 (codes "tag") refl) reads.name.0.one_line in
+    after_field 116 (codes "ag") tag.name _ (λ same. omega (arith, same)) (byte_free_of_all_pass 10 (codes "tag") refl) reads.name.0.one_line in
     also_after ((object ++ type) ++ name) tagger reads.body
     (also_after (object ++ type) name (tagger ++ reads.body) (also_after object type (name ++ (tagger ++ reads.body)) after_object after_type)
     name_after)
@@ -181,7 +181,7 @@ module _ (lines content : List ℕ) (after : AreAfter (lines ++ 10 ∷ []) conte
   }
 
   marks_bytes : (place : ℕ) (format : Format) → MarksPlace (leading ++ content) place format → MarksPlace content (place - length leading) format
-  marks_bytes place format it = marks_rest leading content place format (after place format it) it
+  marks_bytes place format it = marks_place_after_prefix leading content place format (after place format it) it
 
   last_after : (place : ℕ) (format : Format) → IsMarkerPlace content place format → IsMarkerPlace (leading ++ content) (length leading + place) format
   last_after place format is = record {
@@ -211,7 +211,8 @@ module _ (lines content : List ℕ) (after : AreAfter (lines ++ 10 ∷ []) conte
 body_found : (lines body message : List ℕ) (signature : Option (List ℕ)) → AreAfter lines body → IsBody body message signature
     → IsFoundIn (lines ++ body) signature
 body_found lines body message signature after (newlines_alone _ are) =
-    λ place format it. no_marker_in_newlines body are (place - length lines) format (marks_rest lines body place format (after place format it) it)
+    λ place format it. no_marker_in_newlines body are (place - length lines) format
+        (marks_place_after_prefix lines body place format (after place format it) it)
 body_found lines body message signature after (after_a_newline _ content _ _ joined more parted) =
     let ahead : AreAfter (lines ++ 10 ∷ []) content = also_after lines (10 ∷ []) content (subst (λ (it : List ℕ). AreAfter lines it) joined after)
     (after_newline_alone content) in
@@ -229,8 +230,8 @@ tag_found kind content tag reads =
 one_signature : (content signature signature' before before' : List ℕ) (format format' : Format) → HasTagSignature content signature before format
     → HasTagSignature content signature' before' format' → (signature ≡ signature') × (format ≡ format')
 one_signature content signature signature' before before' format format' has has' =
-    let one = one_marker_place content has.place has'.place format format' has.is_place has'.is_place in
-    let split = same_prefixes before signature before' signature' (sym has.joined ∙ has'.joined) (has.as_long ∙ one.0 ∙ sym has'.as_long) in
+    let one = marker_place_unique content has.place has'.place format format' has.is_place has'.is_place in
+    let split = append_split_unique before signature before' signature' (sym has.joined ∙ has'.joined) (has.as_long ∙ one.0 ∙ sym has'.as_long) in
     (split.1, one.1)
 
 -- the format of a signature that is found is that of the marker at its start
@@ -238,7 +239,7 @@ found_format : (content signature before : List ℕ) (format : Format) → HasTa
     → BeginsWithMarker format signature
 found_format content signature before format has =
     let here = has.is_place.here in
-    let split = same_prefixes here.prefix here.rest before signature (sym here.joined ∙ has.joined) (here.as_long ∙ sym has.as_long) in
+    let split = append_split_unique here.prefix here.rest before signature (sym here.joined ∙ has.joined) (here.as_long ∙ sym has.as_long) in
     subst (λ (it : List ℕ). BeginsWithMarker format it) split.1 here.marked
 
 agree : (content : List ℕ) (signature : Option (List ℕ)) (own : Option SignatureRef) (found : Option (SignatureRef × SignedData))
@@ -246,15 +247,16 @@ agree : (content : List ℕ) (signature : Option (List ℕ)) (own : Option Signa
     → IsSignature signature own
     → IfSome found (FindsSignatureOfTag content) → IfNone found (HasNoMarker content) → AreTheSame own found
 agree content None None None is own passed none = tt
-agree content None None (Some found) is own passed none = absurd (not_both content passed.place found.0.format passed.is_place is)
+agree content None None (Some found) is own passed none = absurd (no_marker_and_marker_place content passed.place found.0.format passed.is_place is)
 agree content None (Some it) found is own passed none = absurd own
 agree content (Some bytes) None found (before, format, has) own passed none = absurd (own format (found_format content bytes before format has))
-agree content (Some bytes) (Some it) None (before, format, has) own passed none = absurd (not_both content has.place format has.is_place none)
+agree content (Some bytes) (Some it) None (before, format, has) own passed none = absurd (no_marker_and_marker_place content has.place format has.is_place none)
 agree content (Some bytes) (Some it) (Some found) (before, format, has) own passed none =
     let one = one_signature content (bstr_bytes found.0.bytes) bytes (signed_bytes found.1) before found.0.format format passed has in
-    (one.0 ∙ sym own.0, one.1 ∙ one_format bytes format it.format (found_format content bytes before format has) own.1)
+    (one.0 ∙ sym own.0, one.1 ∙ format_of_marker_unique bytes format it.format (found_format content bytes before format has) own.1)
 
-pub signatures_agree : (kind : Kind) (content : List ℕ) (tag : TagLines) (own : Option SignatureRef) (found : Option (SignatureRef × SignedData))
+pub tag_signatures_are_same : (kind : Kind) (content : List ℕ) (tag : TagLines) (own : Option SignatureRef) (found : Option (SignatureRef × SignedData))
     → DecodesToTag kind content tag → IsSignature tag.signature own
     → IfSome found (FindsSignatureOfTag content) → IfNone found (HasNoMarker content) → AreTheSame own found
-signatures_agree kind content tag own found is = agree content tag.signature own found (tag_found kind content tag (take_apart kind content tag is))
+tag_signatures_are_same kind content tag own found is = agree content tag.signature own found
+    (tag_found kind content tag (parts_of_decoded_tag kind content tag is))

@@ -34,9 +34,9 @@ starts_after p more head is (inl none) = inl (nothing_after p more (sym is ∙ n
 starts_after p more head is (inr (lines, ends)) = starts_within p more lines (sym is ∙ ends)
 
 -- a marker after a prefix marks a position of the rest
-pub marks_rest : (p bytes : List ℕ) (place : ℕ) (format : Format) → length p ≤ place → MarksPlace (p ++ bytes) place format
+pub marks_place_after_prefix : (p bytes : List ℕ) (place : ℕ) (format : Format) → length p ≤ place → MarksPlace (p ++ bytes) place format
     → MarksPlace bytes (place - length p) format
-marks_rest p bytes place format past it =
+marks_place_after_prefix p bytes place format past it =
     let parts = cut p bytes it.prefix it.rest it.joined (omega (arith, it.as_long)) in
     record {
       prefix = parts.0;
@@ -47,14 +47,14 @@ marks_rest p bytes place format past it =
       marked = it.marked;
     }
 
-pub same_prefixes : (a b c d : List ℕ) → a ++ b ≡ c ++ d → length a ≡ length c → (a ≡ c) × (b ≡ d)
-same_prefixes [] b [] d same long = (refl, same)
-same_prefixes [] b (y ∷ c) d same long = absurd (omega arith)
-same_prefixes (x ∷ a) b [] d same long = absurd (omega arith)
-same_prefixes (x ∷ a) b (y ∷ c) d same long =
+pub append_split_unique : (a b c d : List ℕ) → a ++ b ≡ c ++ d → length a ≡ length c → (a ≡ c) × (b ≡ d)
+append_split_unique [] b [] d same long = (refl, same)
+append_split_unique [] b (y ∷ c) d same long = absurd (omega arith)
+append_split_unique (x ∷ a) b [] d same long = absurd (omega arith)
+append_split_unique (x ∷ a) b (y ∷ c) d same long =
     let first : x ≡ y = cc same in
     let tail : a ++ b ≡ c ++ d = cc same in
-    let rest = same_prefixes a b c d tail (omega arith) in
+    let rest = append_split_unique a b c d tail (omega arith) in
     (cc (first, rest.0), rest.1)
 
 arranged_tag : (lines message signature : List ℕ) → lines ++ (message ++ 10 ∷ signature) ≡ ((lines ++ (message ++ [])) ++ 10 ∷ []) ++ signature
@@ -76,15 +76,15 @@ at_payload unsigned bytes place format own begins one is =
       marked = begins;
     } in
     let past : length (unsigned ++ 10 ∷ []) ≤ place = is.last (length (unsigned ++ 10 ∷ [])) own here in
-    let none : place - length (unsigned ++ 10 ∷ []) ≡ 0 = one _ format (marks_rest (unsigned ++ 10 ∷ []) bytes place format past is.here) in
+    let none : place - length (unsigned ++ 10 ∷ []) ≡ 0 = one _ format (marks_place_after_prefix (unsigned ++ 10 ∷ []) bytes place format past is.here) in
     omega (arith, past, none)
 
 -- the payload and the signature that are found are the tag's and the signer's
-pub tag_payload_extracted : (tag : TagLines) (bytes signature signed : List ℕ) (format : Format) → HasOneMarker bytes
+pub signed_data_is_payload_of_tag : (tag : TagLines) (bytes signature signed : List ℕ) (format : Format) → HasOneMarker bytes
     → HasTagSignature (encode_tag (signed_as (Some bytes) tag)) signature signed format → (signed ≡ payload_of_tag tag) × (signature ≡ bytes)
-tag_payload_extracted tag bytes signature signed format marker has =
+signed_data_is_payload_of_tag tag bytes signature signed format marker has =
     let is : IsMarkerPlace (payload_of_tag tag ++ bytes) has.place format = subst (λ (it : List ℕ). IsMarkerPlace it has.place format)
     (signed_tag_bytes tag bytes) has.is_place in
     let place : has.place ≡ length (payload_of_tag tag) = at_payload (encode_tag (signed_as None tag)) bytes has.place format marker.format marker.begins
     marker.one is in
-    same_prefixes signed signature (payload_of_tag tag) bytes (sym has.joined ∙ signed_tag_bytes tag bytes) (has.as_long ∙ place)
+    append_split_unique signed signature (payload_of_tag tag) bytes (sym has.joined ∙ signed_tag_bytes tag bytes) (has.as_long ∙ place)

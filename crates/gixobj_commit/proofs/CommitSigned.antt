@@ -20,11 +20,11 @@ use Rattle.gixobj_signature.specs.declared.signature.sign.Error.TheVariants as s
 use Rattle.gixobj_signature.specs.declared.signature.sign.Options.{Options}
 
 -- a plan that is carried out is begun
-pub begun : {S R : Type 0} (runs : S → CallView → Answer → S → Type 0) (plan : Plan R) (s t : S) (outcome : R) → Carries runs plan s outcome t
+pub begins_plan_of_call : {S R : Type 0} (runs : S → CallView → Answer → S → Type 0) (plan : Plan R) (s t : S) (outcome : R) → Carries runs plan s outcome t
     → BeginsPlan runs plan s t
-begun runs (done it) s t outcome carried = carried.1
-begun runs (ask call next) s t outcome (answer, m, ran, rest) = inr (answer, m, ran, begun runs (next answer) m t outcome rest)
-begun runs no_more s t outcome carried = absurd carried
+begins_plan_of_call runs (done it) s t outcome carried = carried.1
+begins_plan_of_call runs (ask call next) s t outcome (answer, m, ran, rest) = inr (answer, m, ran, begins_plan_of_call runs (next answer) m t outcome rest)
+begins_plan_of_call runs no_more s t outcome carried = absurd carried
 
 -- filtering a list and then taking views equals filtering the views
 one_kept : {X Y : Type 0} (view : X → Y) (x : X) (xs : List X) (ys : List Y) (b : Bool) → map view xs ≡ ys
@@ -32,11 +32,11 @@ one_kept : {X Y : Type 0} (view : X → Y) (x : X) (xs : List X) (ys : List Y) (
 one_kept view x xs ys true same = ap (λ (rest : List _). view x ∷ rest) same
 one_kept view x xs ys false same = same
 
-pub filtered_views : {X Y : Type 0} (view : X → Y) (test : Y → Bool) (xs : List X) → map view (filter (λ x. test (view x)) xs) ≡ filter test
+pub map_filter_view : {X Y : Type 0} (view : X → Y) (test : Y → Bool) (xs : List X) → map view (filter (λ x. test (view x)) xs) ≡ filter test
     (map view xs)
-filtered_views view test [] = refl
-filtered_views view test (x ∷ xs) = one_kept view x (filter (λ y. test (view y)) xs) (filter test (map view xs)) (test (view x))
-    (filtered_views view test xs)
+map_filter_view view test [] = refl
+map_filter_view view test (x ∷ xs) = one_kept view x (filter (λ y. test (view y)) xs) (filter test (map view xs)) (test (view x))
+    (map_filter_view view test xs)
 
 -- a commit, and the same commit without its signature headers
 module _ (commit other : Commit) (others : other ≡ record commit { extra_headers = other.extra_headers }) (name : List ℕ)

@@ -18,7 +18,7 @@ use Rattle.gixobj_fields.specs.HeaderReading.{header_of, owned_header_of}
 use Rattle.gixobj_fields.specs.HeaderFormat.{encode_field}
 use Rattle.gixobj_fields.specs.Writing.{RejectedValue, RejectsNothing}
 use Rattle.gixobj_hash.specs.declared.hash.object_id.ObjectId.{ObjectId}
-use Rattle.gixobj_hash.proofs.HexCase.{hex_in_lower_case}
+use Rattle.gixobj_hash.proofs.HexCase.{encode_id_hex_lower_case}
 use Rattle.gixobj_fields.proofs.Steps.{IsInParts, in_parts}
 use Rattle.gixobj_commit.specs.Commit.{before_encoding, encode_encoding, encode_ids, encode_parent}
 use Rattle.gixobj_commit.specs.CommitViews.{commit_lines, owned_commit_lines}
@@ -29,10 +29,10 @@ use Rattle.gixobj_commit.specs.declared.commit.Commit.{Commit}
 use Rattle.gixobj_commit.specs.declared.commit.CommitRef.{CommitRef}
 
 -- what holds of the values holds of each item
-pub each_mapped : {X Y : Type 0} (P : Y → Type 0) (f : X → Y) (items : List X) → All P (map f items) → All (λ it. P (f it)) items
-each_mapped P f [] all = All-nil (λ it. P (f it))
-each_mapped P f (item ∷ items) all = All-cons (λ it. P (f it)) item items (All-head P (f item) (map f items) all)
-    (each_mapped P f items (All-tail P (f item) (map f items) all))
+pub all_map : {X Y : Type 0} (P : Y → Type 0) (f : X → Y) (items : List X) → All P (map f items) → All (λ it. P (f it)) items
+all_map P f [] all = All-nil (λ it. P (f it))
+all_map P f (item ∷ items) all = All-cons (λ it. P (f it)) item items (All-head P (f item) (map f items) all)
+    (all_map P f items (All-tail P (f item) (map f items) all))
 
 -- the written lines of the tree and of the parents
 abbrev pub ids_written : {X : Type 0} → ObjectId → (X → List ℕ) → List X → List ℕ
@@ -51,12 +51,12 @@ borrowed_header header = encode_header (header_of header)
 abbrev pub owned_header : BString × BString → List ℕ
 owned_header header = encode_header (owned_header_of header)
 
-pub hex_ids : (tree : BStr) (id : ObjectId) (parents : List BStr) → DecodesToId (bstr_bytes tree) id
+pub encode_commit_ids_in_lower_case : (tree : BStr) (id : ObjectId) (parents : List BStr) → DecodesToId (bstr_bytes tree) id
     → encode_field (codes "tree") (str_to_ascii_lowercase (bstr_bytes tree)) ++ flat_map encode_parent
     (map str_to_ascii_lowercase (map bstr_bytes parents))
     ≡ ids_written id hex_parent parents
-hex_ids tree id parents spells =
-    let one = ap (encode_field (codes "tree")) (sym (hex_in_lower_case (bstr_bytes tree) id spells)) in
+encode_commit_ids_in_lower_case tree id parents spells =
+    let one = ap (encode_field (codes "tree")) (sym (encode_id_hex_lower_case (bstr_bytes tree) id spells)) in
     let more = flat_map-map encode_parent str_to_ascii_lowercase (map bstr_bytes parents)
     ∙ flat_map-map (λ hex. encode_parent (str_to_ascii_lowercase hex)) bstr_bytes parents in
     ap (λ (it : List ℕ). it ++ flat_map encode_parent (map str_to_ascii_lowercase (map bstr_bytes parents))) one
@@ -77,14 +77,14 @@ borrowed_parts commit id spells =
     let encoding = encode_encoding (bytes_if_some commit.encoding) in
     let message : List ℕ = 10 ∷ bstr_bytes commit.message in
     let before = encode_ids (in_lower_case (commit_lines commit)) in
-    let ids = hex_ids commit.tree id commit.parents.items spells in
+    let ids = encode_commit_ids_in_lower_case commit.tree id commit.parents.items spells in
     let headers = flat_map-map encode_header header_of commit.extra_headers.items in
     regrouped ((before ++ author) ++ committer) encoding (flat_map encode_header (map header_of commit.extra_headers.items)) message
     ∙ ap (λ (it : List ℕ). ((it ++ author) ++ committer)
     ++ ((encoding ++ flat_map encode_header (map header_of commit.extra_headers.items)) ++ message)) ids
     ∙ ap (λ (it : List ℕ). in_parts (ids_written id hex_parent commit.parents.items) author committer ((encoding ++ it) ++ message)) headers
 
-pub borrowed_as_appended : (commit : CommitRef) (id : ObjectId) (parents : List BStr) (author committer : List ℕ)
+pub borrowed_commit_in_parts : (commit : CommitRef) (id : ObjectId) (parents : List BStr) (author committer : List ℕ)
     (headers : List (BStr × CowSlice ℕ Global))
     (message : List ℕ)
     → DecodesToId (bstr_bytes commit.tree) id → parents ≡ commit.parents.items → author ≡ bstr_bytes commit.author
@@ -92,7 +92,7 @@ pub borrowed_as_appended : (commit : CommitRef) (id : ObjectId) (parents : List 
     → headers ≡ commit.extra_headers.items → message ≡ bstr_bytes commit.message → IsInParts (encode_commit (in_lower_case (commit_lines commit)))
     (ids_written id hex_parent parents) (encode_field (codes "author") author) (encode_field (codes "committer") committer)
     (rest_written commit.encoding borrowed_header headers message)
-borrowed_as_appended commit id parents author committer headers message spells one two three four five = record {
+borrowed_commit_in_parts commit id parents author committer headers message spells one two three four five = record {
   joined = borrowed_parts commit id spells
       ∙ ap (λ (it : List BStr). in_parts (ids_written id hex_parent it) (encode_field (codes "author") (bstr_bytes commit.author))
       (encode_field (codes "committer") (bstr_bytes commit.committer))
@@ -117,17 +117,17 @@ borrowed_prefix : (commit : CommitRef) (id : ObjectId) → DecodesToId (bstr_byt
 borrowed_prefix commit id spells =
     ap (λ (it : List ℕ). (it ++ encode_field (codes "author") (bstr_bytes commit.author)) ++ encode_field (codes "committer")
     (bstr_bytes commit.committer))
-    (hex_ids commit.tree id commit.parents.items spells)
+    (encode_commit_ids_in_lower_case commit.tree id commit.parents.items spells)
 
 -- a message encoding is rejected after the committer
-pub borrowed_rejected : (commit : CommitRef) (id : ObjectId) (parents : List BStr) (author committer : List ℕ) (value : RejectedValue)
+pub borrowed_commit_error_of_part : (commit : CommitRef) (id : ObjectId) (parents : List BStr) (author committer : List ℕ) (value : RejectedValue)
     (parts : List ℕ)
     → DecodesToId (bstr_bytes commit.tree) id → parents ≡ commit.parents.items → author ≡ bstr_bytes commit.author
     → committer ≡ bstr_bytes commit.committer
     → IsEncodingLineError (bytes_if_some commit.encoding) value parts
     → IsCommitLinesError (in_lower_case (commit_lines commit)) value
     (((ids_written id hex_parent parents ++ encode_field (codes "author") author) ++ encode_field (codes "committer") committer) ++ parts)
-borrowed_rejected commit id parents author committer value parts spells one two three (rejected, nothing) =
+borrowed_commit_error_of_part commit id parents author committer value parts spells one two three (rejected, nothing) =
     (rejected, rw (nothing, one, two, three) (append-nil _ ∙ sym (borrowed_prefix commit id spells)))
 
 -- ---- owned commits
@@ -152,20 +152,20 @@ owned_parts commit =
     ∙ ap (λ (it : List ℕ). in_parts (ids_written commit.tree owned_parent commit.parents.items) author committer ((encoding ++ it) ++ message))
     (flat_map-map encode_header owned_header_of commit.extra_headers.items)
 
-pub owned_as_appended : (commit : Commit) (parents : List ObjectId) (encoding : Option BStr) (headers : List (BString × BString)) (message : List ℕ)
+pub owned_commit_in_parts : (commit : Commit) (parents : List ObjectId) (encoding : Option BStr) (headers : List (BString × BString)) (message : List ℕ)
     → parents ≡ commit.parents.items → bytes_if_some encoding ≡ owned_bytes_if_some commit.encoding → headers ≡ commit.extra_headers.items
     → message ≡ bstring_bytes commit.message
     → IsInParts (encode_commit (owned_commit_lines commit)) (ids_written commit.tree owned_parent parents)
     (encode_field (codes "author") (encode_owned_actor commit.author))
     (encode_field (codes "committer") (encode_owned_actor commit.committer)) (rest_written encoding owned_header headers message)
-owned_as_appended commit parents encoding headers message one two three four =
+owned_commit_in_parts commit parents encoding headers message one two three four =
     record { joined = rw (one, two, three, four) (owned_parts commit) }
 
 -- an author is rejected after the ids
-pub owned_author_rejected : (commit : Commit) (parents : List ObjectId) (value : RejectedValue) (parts : List ℕ) → parents ≡ commit.parents.items
+pub owned_commit_error_of_author : (commit : Commit) (parents : List ObjectId) (value : RejectedValue) (parts : List ℕ) → parents ≡ commit.parents.items
     → IsActorFieldError (codes "author") commit.author value parts
     → IsOwnedCommitError commit value (ids_written commit.tree owned_parent parents ++ parts)
-owned_author_rejected commit parents value parts one (illegal, is, name) =
+owned_commit_error_of_author commit parents value parts one (illegal, is, name) =
     inl (
       illegal,
       is,
@@ -174,13 +174,13 @@ owned_author_rejected commit parents value parts one (illegal, is, name) =
     )
 
 -- a committer is rejected after the author
-pub owned_committer_rejected : (commit : Commit) (parents : List ObjectId) (value : RejectedValue) (parts : List ℕ) → parents ≡ commit.parents.items
+pub owned_commit_error_of_committer : (commit : Commit) (parents : List ObjectId) (value : RejectedValue) (parts : List ℕ) → parents ≡ commit.parents.items
     → IsLegal commit.author
     → IsActorFieldError (codes "committer") commit.committer value parts
     → IsOwnedCommitError commit value
     ((ids_written commit.tree owned_parent parents ++ encode_field (codes "author") (encode_owned_actor commit.author))
     ++ parts)
-owned_committer_rejected commit parents value parts one legal (illegal, is, name) =
+owned_commit_error_of_committer commit parents value parts one legal (illegal, is, name) =
     let author = encode_field (codes "author") (encode_owned_actor commit.author) in
     inr (
     inl (
@@ -193,7 +193,7 @@ owned_committer_rejected commit parents value parts one legal (illegal, is, name
     )
 
 -- a message encoding is rejected after the committer
-pub owned_encoding_rejected : (commit : Commit) (parents : List ObjectId) (encoding : Option BStr) (value : RejectedValue) (parts : List ℕ)
+pub owned_commit_error_of_encoding : (commit : Commit) (parents : List ObjectId) (encoding : Option BStr) (value : RejectedValue) (parts : List ℕ)
     → parents ≡ commit.parents.items
     → bytes_if_some encoding ≡ owned_bytes_if_some commit.encoding → IsLegal commit.author → IsLegal commit.committer
     → IsEncodingLineError (bytes_if_some encoding) value parts
@@ -201,7 +201,7 @@ pub owned_encoding_rejected : (commit : Commit) (parents : List ObjectId) (encod
     (((ids_written commit.tree owned_parent parents ++ encode_field (codes "author") (encode_owned_actor commit.author)) ++ encode_field
     (codes "committer")
     (encode_owned_actor commit.committer)) ++ parts)
-owned_encoding_rejected commit parents encoding value parts one two author committer (rejected, nothing) =
+owned_commit_error_of_encoding commit parents encoding value parts one two author committer (rejected, nothing) =
     let prefix : List ℕ → List ℕ = λ it. (it ++ encode_field (codes "author") (encode_owned_actor commit.author)) ++ encode_field (codes "committer")
     (encode_owned_actor commit.committer) in
     inr (
@@ -215,11 +215,11 @@ owned_encoding_rejected commit parents encoding value parts one two author commi
     )
     )
 
-pub owned_not_rejected : (commit : Commit) (encoding : Option BStr) → bytes_if_some encoding ≡ owned_bytes_if_some commit.encoding
+pub owned_commit_rejects_nothing : (commit : Commit) (encoding : Option BStr) → bytes_if_some encoding ≡ owned_bytes_if_some commit.encoding
     → IsLegal commit.author
     → IsLegal commit.committer
     → RejectsNothing (IsEncodingLineError (bytes_if_some encoding)) → RejectsNothing (IsOwnedCommitError commit)
-owned_not_rejected commit encoding two author committer none value parts (inl it) = absurd (it.0 author)
-owned_not_rejected commit encoding two author committer none value parts (inr (inl it)) = absurd (it.1 committer)
-owned_not_rejected commit encoding two author committer none value parts (inr (inr it)) =
+owned_commit_rejects_nothing commit encoding two author committer none value parts (inl it) = absurd (it.0 author)
+owned_commit_rejects_nothing commit encoding two author committer none value parts (inr (inl it)) = absurd (it.1 committer)
+owned_commit_rejects_nothing commit encoding two author committer none value parts (inr (inr it)) =
     none value [] (subst (λ (it : Option (List ℕ)). IsEncodingError it value) (sym two) it.2.0, refl)

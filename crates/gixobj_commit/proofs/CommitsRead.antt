@@ -80,31 +80,32 @@ headers_more bytes first (other ∷ headers) header (prefix, rest, joined, it, o
   headers_more rest first headers header others is,
 )
 
-pub encoding_more : (encoding : Option (List ℕ)) (headers : List Header) (header : Header) → IsEncoding encoding headers
+pub is_encoding_snoc : (encoding : Option (List ℕ)) (headers : List Header) (header : Header) → IsEncoding encoding headers
     → (encoding ≡ None → headers ≢ [])
     → IsEncoding encoding (headers ++ header ∷ [])
-encoding_more (Some encoding) headers header is filled = is
-encoding_more None [] header is filled = absurd (filled refl refl)
-encoding_more None (first ∷ headers) header is filled = is
+is_encoding_snoc (Some encoding) headers header is filled = is
+is_encoding_snoc None [] header is filled = absurd (filled refl refl)
+is_encoding_snoc None (first ∷ headers) header is filled = is
 
-pub first_named : (encoding : Option (List ℕ)) (headers : List Header) (header : Header) → encoding ≡ None → headers ≡ []
+pub is_encoding_snoc_first : (encoding : Option (List ℕ)) (headers : List Header) (header : Header) → encoding ≡ None → headers ≡ []
     → header.name ≢ codes "encoding"
     → IsEncoding encoding (headers ++ header ∷ [])
-first_named encoding headers header none bare other = rw (none, bare) other
+is_encoding_snoc_first encoding headers header none bare other = rw (none, bare) other
 
-pub some_header : (headers : List Header) (header : Header) → headers ++ header ∷ [] ≢ []
-some_header [] header same = cc same
-some_header (first ∷ headers) header same = cc same
+pub headers_snoc_not_nil : (headers : List Header) (header : Header) → headers ++ header ∷ [] ≢ []
+headers_snoc_not_nil [] header same = cc same
+headers_snoc_not_nil (first ∷ headers) header same = cc same
 
 no_encodings : (bytes : List ℕ) (headers : List Header) → headers ≡ [] → DecodesToHeaders bytes headers → bytes ≡ []
 no_encodings bytes [] same are = are
 no_encodings bytes (header ∷ headers) same are = cc same
 
 -- a header is appended to the decoded ones
-pub appended_header : (kind : Kind) (bytes input first rest : List ℕ) (commit : CommitLines) (header : Header) → BeginsCommit kind bytes commit input
+pub begins_commit_gather_header : (kind : Kind) (bytes input first rest : List ℕ) (commit : CommitLines) (header : Header)
+    → BeginsCommit kind bytes commit input
     → input ≡ first ++ rest → DecodesToHeader first header
     → IsEncoding commit.encoding (commit.extra_headers ++ header ∷ []) → BeginsCommit kind bytes (gather commit (header_line header)) rest
-appended_header kind bytes input first rest commit header begins joined is encoding =
+begins_commit_gather_header kind bytes input first rest commit header begins joined is encoding =
     record {
       headers_encoding = begins.headers_encoding ++ first;
       joined = begins.joined ∙ ap (λ (it : List ℕ). before_encoding commit ++ encode_encoding commit.encoding ++ begins.headers_encoding ++ it) joined
@@ -167,55 +168,55 @@ write_message kind bytes input message commit begins is =
 
 -- ---- one more line
 
-pub reads_line : (kind : Kind) (bytes : List ℕ) (commit : CommitLines) (before : State) (input : List ℕ) (line : LineView) (following : State)
+pub reads_gather : (kind : Kind) (bytes : List ℕ) (commit : CommitLines) (before : State) (input : List ℕ) (line : LineView) (following : State)
     (rest : List ℕ)
     → HasLine kind before input line following rest
     → Reads kind bytes before input commit → Reads kind bytes following rest (gather commit line)
-reads_line kind bytes commit before input line after rest (tree_comes _ hex _ has) (is, none, lacks) = (
+reads_gather kind bytes commit before input line after rest (tree_comes _ hex _ has) (is, none, lacks) = (
   first_id bytes (encode_field (codes "tree") hex) input rest commit.parents is has.0.joined none,
   record
       { tree = has.1; parents = subst (All (IsIdHexOfKind kind)) (sym none) (All-nil (IsIdHexOfKind kind)); lacks = lacks },
 )
-reads_line kind bytes commit before input line after rest (parent_comes _ hex _ has) (is, ids) = (
+reads_gather kind bytes commit before input line after rest (parent_comes _ hex _ has) (is, ids) = (
   further_id bytes (encode_field (codes "tree") commit.tree) input hex rest commit.parents is has.0.joined,
   record
       { tree = ids.tree; parents = All-push (IsIdHexOfKind kind) commit.parents hex ids.parents has.1; lacks = ids.lacks },
 )
-reads_line kind bytes commit before input line after rest (author_comes _ actor _ has) (is, ids) = (
+reads_gather kind bytes commit before input line after rest (author_comes _ actor _ has) (is, ids) = (
   joined_after bytes (encode_ids commit) input (encode_field (codes "author") actor) rest is has.0.joined,
   record
       { tree = ids.tree; parents = ids.parents; lacks = ids.lacks },
   has.1,
 )
-reads_line kind bytes commit before input line after rest (committer_comes _ actor _ has) (is, ids, author) =
+reads_gather kind bytes commit before input line after rest (committer_comes _ actor _ has) (is, ids, author) =
     (write_committer kind bytes input actor rest commit is ids author has.0.joined has.1, ids.lacks)
-reads_line kind bytes commit before input line after rest (encoding_comes _ encoding _ has) (begins, lacks) =
+reads_gather kind bytes commit before input line after rest (encoding_comes _ encoding _ has) (begins, lacks) =
     (write_encoding kind bytes input encoding rest commit begins lacks has, λ none. cc none)
-reads_line kind bytes commit before input line after rest (first_header_comes _ header _ has other) (begins, lacks) = (
-  appended_header kind bytes input has.encoded rest commit header begins has.joined has.written
-      (first_named commit.encoding commit.extra_headers header lacks.0 lacks.1 other),
-  λ none. some_header commit.extra_headers header,
+reads_gather kind bytes commit before input line after rest (first_header_comes _ header _ has other) (begins, lacks) = (
+  begins_commit_gather_header kind bytes input has.encoded rest commit header begins has.joined has.written
+      (is_encoding_snoc_first commit.encoding commit.extra_headers header lacks.0 lacks.1 other),
+  λ none. headers_snoc_not_nil commit.extra_headers header,
 )
-reads_line kind bytes commit before input line after rest (header_comes _ header _ has) (begins, filled) = (
-  appended_header kind bytes input has.encoded rest commit header begins has.joined has.written
-      (encoding_more commit.encoding commit.extra_headers header begins.encoding filled),
-  λ none. some_header commit.extra_headers header,
+reads_gather kind bytes commit before input line after rest (header_comes _ header _ has) (begins, filled) = (
+  begins_commit_gather_header kind bytes input has.encoded rest commit header begins has.joined has.written
+      (is_encoding_snoc commit.encoding commit.extra_headers header begins.encoding filled),
+  λ none. headers_snoc_not_nil commit.extra_headers header,
 )
-reads_line kind bytes commit before input line after rest (first_message_comes _ message is) (begins, lacks) =
+reads_gather kind bytes commit before input line after rest (first_message_comes _ message is) (begins, lacks) =
     write_message kind bytes input message commit begins is
-reads_line kind bytes commit before input line after rest (message_comes _ message is) (begins, filled) =
+reads_gather kind bytes commit before input line after rest (message_comes _ message is) (begins, filled) =
     write_message kind bytes input message commit begins is
 
-pub reads_lines : (kind : Kind) (bytes : List ℕ) (commit : CommitLines) (before : State) (input : List ℕ) (lines : List LineView) (following : State)
+pub reads_gathered : (kind : Kind) (bytes : List ℕ) (commit : CommitLines) (before : State) (input : List ℕ) (lines : List LineView) (following : State)
     (rest : List ℕ) → Passes (HasLine kind) before input lines following rest
     → Reads kind bytes before input commit → Reads kind bytes following rest (gathered commit lines)
-reads_lines kind bytes commit before input [] following rest (same_state, same_input) reads = rw (← same_state, ← same_input) reads
-reads_lines kind bytes commit before input (line ∷ lines) following rest (next, after, has, more) reads =
-    reads_lines kind bytes (gather commit line) next after lines following rest more
-    (reads_line kind bytes commit before input line next after has reads)
+reads_gathered kind bytes commit before input [] following rest (same_state, same_input) reads = rw (← same_state, ← same_input) reads
+reads_gathered kind bytes commit before input (line ∷ lines) following rest (next, after, has, more) reads =
+    reads_gathered kind bytes (gather commit line) next after lines following rest more
+    (reads_gather kind bytes commit before input line next after has reads)
 
 -- the lines of the encoding from its start
-pub reads_from_start : (kind : Kind) (bytes : List ℕ) (lines : List LineView) (following : State) (rest : List ℕ)
+pub reads_gathered_of_empty : (kind : Kind) (bytes : List ℕ) (lines : List LineView) (following : State) (rest : List ℕ)
     → Passes (HasLine kind) state.Tree bytes lines following rest → Reads kind bytes following rest (gathered empty_commit lines)
-reads_from_start kind bytes lines following rest passes = reads_lines kind bytes empty_commit state.Tree bytes lines following rest passes
+reads_gathered_of_empty kind bytes lines following rest passes = reads_gathered kind bytes empty_commit state.Tree bytes lines following rest passes
     (refl, refl, (refl, refl))

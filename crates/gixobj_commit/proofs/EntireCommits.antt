@@ -5,7 +5,7 @@ use Rattle.std.proofs.lemmas.List.{append-nil}
 use Rattle.std.proofs.lemmas.List.Elements.{All-cons, All-head, All-nil, All-tail}
 use Rattle.std.specs.List.{flat_map}
 use Rattle.std.specs.Prelude.{codes, map}
-use Rattle.gixobj_fields.proofs.HeaderFields.{of_an_id}
+use Rattle.gixobj_fields.proofs.HeaderFields.{is_id_hex_of_decoded}
 use Rattle.gixobj_fields.proofs.Runs.{after_passed, one_run, passes_one}
 use Rattle.gixobj_fields.specs.HeaderFormat.{BeginsSeveralLines, Header, DecodesToHeader, HasOtherName, encode_field}
 use Rattle.gixobj_fields.specs.Runs.{HasNoPiece, Passes, Yields, complete, yields_end, yields_piece}
@@ -14,9 +14,9 @@ use Rattle.gixobj_hash.specs.Hash.Hex.{IsIdHexOfKind}
 use Rattle.gixobj_hash.specs.declared.decode.Error.{Error}
 use Rattle.gixobj_hash.specs.declared.decode.Error.TheVariants.{Malformed, OutOfMemory}
 use Rattle.gixobj_hash.specs.declared.hash.kind.Kind.{Kind}
-use Rattle.gixobj_commit.proofs.CommitsRead.{Reads, encoding_more, first_named, appended_header, reads_from_start, reads_line, some_header}
-use Rattle.gixobj_commit.proofs.LinesYielded.{token_bytes_yielded}
-use Rattle.gixobj_line.proofs.OneLine.{no_line_of_nothing, one_line}
+use Rattle.gixobj_commit.proofs.CommitsRead.{Reads, is_encoding_snoc, is_encoding_snoc_first, begins_commit_gather_header, reads_gathered_of_empty, reads_gather, headers_snoc_not_nil}
+use Rattle.gixobj_commit.proofs.LinesYielded.{yields_lines_of_commit}
+use Rattle.gixobj_line.proofs.OneLine.{no_line_of_nil, line_unique}
 use Rattle.gixobj_commit.specs.Commit.{CommitLines, DecodesToCommit, IsMalformedCommit, ReachesHeader, ReachesSecondParent, IsCommitDecodeError, encoding_lines, lines_of_commit, encode_parent}
 use Rattle.gixobj_commit.specs.Gathering.{Gathers, Allocates, gather, gathered, empty_commit}
 use Rattle.gixobj_line.specs.Lines.{HasLine, LineView, MayFold, IsLineError, author_comes, author_line, committer_comes, committer_line, encoding_comes, first_header_comes, first_message_comes, header_comes, header_line, message_comes, message_line, parent_comes, parent_line, tree_comes, tree_line}
@@ -61,12 +61,12 @@ lines_gathered commit =
     (message_line commit.message ∷ [])
 
 -- bytes are the encoding of at most one commit
-pub one_commit : (kind : Kind) (bytes : List ℕ) (a b : CommitLines) → DecodesToCommit kind bytes a → DecodesToCommit kind bytes b → a ≡ b
-one_commit kind bytes a b is is' =
-    let seen = token_bytes_yielded kind bytes a is in
-    let same = (one_run (HasLine kind) (one_line kind) (no_line_of_nothing kind) state.Tree bytes (lines_of_commit a)
+pub commit_unique : (kind : Kind) (bytes : List ℕ) (a b : CommitLines) → DecodesToCommit kind bytes a → DecodesToCommit kind bytes b → a ≡ b
+commit_unique kind bytes a b is is' =
+    let seen = yields_lines_of_commit kind bytes a is in
+    let same = (one_run (HasLine kind) (line_unique kind) (no_line_of_nil kind) state.Tree bytes (lines_of_commit a)
     (lines_of_commit b) complete complete seen
-    (token_bytes_yielded kind bytes b is')).0 in
+    (yields_lines_of_commit kind bytes b is')).0 in
     sym (lines_gathered a) ∙ ap (λ (it : List LineView). gathered empty_commit it) same ∙ lines_gathered b
 
 -- ---- without a line before the end there is no commit
@@ -77,24 +77,24 @@ message_ends kind before input message following rest (first_message_comes _ _ i
 message_ends kind before input message following rest (message_comes _ _ is) = refl
 
 -- after lines that end with a message, the decoder is at the end
-pub ends_after_message : (kind : Kind) (before : State) (input : List ℕ) (lines prefix : List LineView) (message : List ℕ) (following : State)
+pub end_state_of_message : (kind : Kind) (before : State) (input : List ℕ) (lines prefix : List LineView) (message : List ℕ) (following : State)
     (rest : List ℕ)
     → Passes (HasLine kind) before input lines following rest
     → lines ≡ prefix ++ message_line message ∷ [] → following ≡ state.End
-ends_after_message kind before input [] [] message following rest passes is = cc is
-ends_after_message kind before input [] (first ∷ prefix) message following rest passes is = cc is
-ends_after_message kind before input (line ∷ lines) [] message following rest (next, after, has, more) is =
+end_state_of_message kind before input [] [] message following rest passes is = cc is
+end_state_of_message kind before input [] (first ∷ prefix) message following rest passes is = cc is
+end_state_of_message kind before input (line ∷ lines) [] message following rest (next, after, has, more) is =
     let first : line ≡ message_line message = cc is in
     let none : lines ≡ [] = cc is in
     let at_end : Passes (HasLine kind) next after [] following rest =
     subst (λ (it : List LineView). Passes (HasLine kind) next after it following rest) none more in
     sym at_end.0 ∙ message_ends kind before input message next after (subst (λ (it : LineView). HasLine kind before input it next after) first has)
-ends_after_message kind before input (line ∷ lines) (first ∷ prefix) message following rest (next, after, has, more) is =
+end_state_of_message kind before input (line ∷ lines) (first ∷ prefix) message following rest (next, after, has, more) is =
     let others : lines ≡ prefix ++ message_line message ∷ [] =
-    cc is in ends_after_message kind next after lines prefix message following rest more others
+    cc is in end_state_of_message kind next after lines prefix message following rest more others
 
-pub message_last : (commit : CommitLines) → (prefix : List LineView) × (lines_of_commit commit ≡ prefix ++ message_line commit.message ∷ [])
-message_last commit = (
+pub lines_end_with_message : (commit : CommitLines) → (prefix : List LineView) × (lines_of_commit commit ≡ prefix ++ message_line commit.message ∷ [])
+lines_end_with_message commit = (
   tree_line commit.tree ∷ (map parent_line commit.parents
       ++ (author_line commit.author ∷ committer_line commit.committer ∷ (encoding_lines commit.encoding ++ map header_line commit.extra_headers))),
   sym (simp append_assoc),
@@ -104,16 +104,16 @@ stops : (kind : Kind) (bytes : List ℕ) (lines others : List LineView) (followi
     → Passes (HasLine kind) state.Tree bytes lines following rest → HasNoPiece (HasLine kind) following rest → following ≢ state.End
     → lines_of_commit commit ≡ lines ++ others → Yields (HasLine kind) following rest others complete → ⊥
 stops kind bytes lines others following rest commit passes none going is (yields_end _) =
-    let last = message_last commit in
-    going (ends_after_message kind state.Tree bytes lines last.0 commit.message following rest passes (sym (append-nil lines) ∙ sym is ∙ last.1))
+    let last = lines_end_with_message commit in
+    going (end_state_of_message kind state.Tree bytes lines last.0 commit.message following rest passes (sym (append-nil lines) ∙ sym is ∙ last.1))
 stops kind bytes lines others following rest commit passes none going is (yields_piece _ next _ after line more _ has seen) = none line next after has
 
-pub no_commit : (kind : Kind) (bytes : List ℕ) (lines : List LineView) (following : State) (rest : List ℕ)
+pub malformed_commit_of_no_line : (kind : Kind) (bytes : List ℕ) (lines : List LineView) (following : State) (rest : List ℕ)
     → Passes (HasLine kind) state.Tree bytes lines following rest → HasNoPiece (HasLine kind) following rest → following ≢ state.End
     → IsMalformedCommit kind bytes
-no_commit kind bytes lines following rest passes none going commit is =
-    let at = after_passed (HasLine kind) (one_line kind) (no_line_of_nothing kind) state.Tree following bytes rest lines
-    (lines_of_commit commit) complete passes (token_bytes_yielded kind bytes commit is) in
+malformed_commit_of_no_line kind bytes lines following rest passes none going commit is =
+    let at = after_passed (HasLine kind) (line_unique kind) (no_line_of_nil kind) state.Tree following bytes rest lines
+    (lines_of_commit commit) complete passes (yields_lines_of_commit kind bytes commit is) in
     stops kind bytes lines at.others following rest commit passes none going at.joined at.yielded
 
 -- ---- allocation
@@ -176,18 +176,18 @@ several_reached kind bytes state.Tree input commit reads may several = absurd ma
 several_reached kind bytes state.Parents input commit reads may several = absurd may
 several_reached kind bytes state.Committer input commit reads may several = absurd may
 several_reached kind bytes state.Encoding input commit (begins, lacks) may several =
-    let named = first_named commit.encoding commit.extra_headers (first_header several) lacks.0 lacks.1 (not_encoding input several may) in (
+    let named = is_encoding_snoc_first commit.encoding commit.extra_headers (first_header several) lacks.0 lacks.1 (not_encoding input several may) in (
       _,
       _,
-      appended_header kind bytes input _ _ commit (first_header several) begins several.joined (first_line input several) named,
-      some_header commit.extra_headers (first_header several),
+      begins_commit_gather_header kind bytes input _ _ commit (first_header several) begins several.joined (first_line input several) named,
+      headers_snoc_not_nil commit.extra_headers (first_header several),
     )
 several_reached kind bytes state.ExtraHeaders input commit (begins, filled) may several =
-    let named = encoding_more commit.encoding commit.extra_headers (first_header several) begins.encoding filled in (
+    let named = is_encoding_snoc commit.encoding commit.extra_headers (first_header several) begins.encoding filled in (
       _,
       _,
-      appended_header kind bytes input _ _ commit (first_header several) begins several.joined (first_line input several) named,
-      some_header commit.extra_headers (first_header several),
+      begins_commit_gather_header kind bytes input _ _ commit (first_header several) begins several.joined (first_line input several) named,
+      headers_snoc_not_nil commit.extra_headers (first_header several),
     )
 several_reached kind bytes state.End input commit reads may several = absurd may
 
@@ -198,10 +198,10 @@ gathered_more : (commit : CommitLines) (lines : List LineView) (line : LineView)
 gathered_more commit [] line = refl
 gathered_more commit (first ∷ lines) line = gathered_more (gather commit first) lines line
 
-pub gathers_more : (kind : Kind) (bytes : List ℕ) (commit after : CommitLines) (before following : State) (input rest : List ℕ) (line : LineView)
+pub gathers_snoc : (kind : Kind) (bytes : List ℕ) (commit after : CommitLines) (before following : State) (input rest : List ℕ) (line : LineView)
     → Gathers kind bytes before input commit
     → HasLine kind before input line following rest → after ≡ gather commit line → Gathers kind bytes following rest after
-gathers_more kind bytes commit after before following input rest line (lines, passes, is) has grown = (
+gathers_snoc kind bytes commit after before following input rest line (lines, passes, is) has grown = (
   lines ++ line ∷ [],
   passes_one (HasLine kind) state.Tree before following bytes input rest lines line passes has,
   grown
@@ -211,48 +211,48 @@ gathers_more kind bytes commit after before following input rest line (lines, pa
 reads_gathered : (kind : Kind) (bytes : List ℕ) (following : State) (rest : List ℕ) (commit : CommitLines) → Gathers kind bytes following rest commit
     → Reads kind bytes following rest commit
 reads_gathered kind bytes following rest commit (lines, passes, is) = subst (λ (it : CommitLines). Reads kind bytes following rest it) (sym is)
-    (reads_from_start kind bytes lines following rest passes)
+    (reads_gathered_of_empty kind bytes lines following rest passes)
 
 -- at the end the commit is complete
-pub decodes_entire : (kind : Kind) (bytes : List ℕ) (following : State) (rest : List ℕ) (commit : CommitLines)
+pub decodes_commit_of_gathered : (kind : Kind) (bytes : List ℕ) (following : State) (rest : List ℕ) (commit : CommitLines)
     → Gathers kind bytes following rest commit
     → following ≡ state.End → DecodesToCommit kind bytes commit
-decodes_entire kind bytes following rest commit gathers at_end = subst (λ (it : State). Reads kind bytes it rest commit) at_end
+decodes_commit_of_gathered kind bytes following rest commit gathers at_end = subst (λ (it : State). Reads kind bytes it rest commit) at_end
     (reads_gathered kind bytes following rest commit gathers)
 
-pub rejects_commit : (kind : Kind) (bytes : List ℕ) (before : State) (input : List ℕ) (commit : CommitLines) (error reason : Error) → error ≡ reason
+pub decode_error_of_line_error : (kind : Kind) (bytes : List ℕ) (before : State) (input : List ℕ) (commit : CommitLines) (error reason : Error) → error ≡ reason
     → Gathers kind bytes before input commit → before ≢ state.End → IsLineError kind before input reason
     → IsCommitDecodeError kind bytes error
-rejects_commit kind bytes before input commit error Malformed same (lines, passes, is) going none =
-    rw same (no_commit kind bytes lines before input passes none going)
-rejects_commit kind bytes before input commit error OutOfMemory same gathers going (may, several) =
+decode_error_of_line_error kind bytes before input commit error Malformed same (lines, passes, is) going none =
+    rw same (malformed_commit_of_no_line kind bytes lines before input passes none going)
+decode_error_of_line_error kind bytes before input commit error OutOfMemory same gathers going (may, several) =
     rw same (inr (several_reached kind bytes before input commit (reads_gathered kind bytes before input commit gathers) may several))
 
-pub reaches_memory : (kind : Kind) (bytes : List ℕ) (commit : CommitLines) (before following : State) (input rest : List ℕ) (line : LineView)
+pub reaches_second_parent_or_header : (kind : Kind) (bytes : List ℕ) (commit : CommitLines) (before following : State) (input rest : List ℕ) (line : LineView)
     → Gathers kind bytes before input commit → HasLine kind before input line following rest → Allocates commit line
     → ReachesSecondParent kind bytes ⊎ ReachesHeader kind bytes
-reaches_memory kind bytes commit before following input rest line gathers (tree_comes _ hex _ has) takes = absurd takes
-reaches_memory kind bytes commit before following input rest line gathers (parent_comes _ hex _ has) takes =
-    let reads = reads_line kind bytes commit before input (parent_line hex) following rest (parent_comes input hex rest has)
+reaches_second_parent_or_header kind bytes commit before following input rest line gathers (tree_comes _ hex _ has) takes = absurd takes
+reaches_second_parent_or_header kind bytes commit before following input rest line gathers (parent_comes _ hex _ has) takes =
+    let reads = reads_gather kind bytes commit before input (parent_line hex) following rest (parent_comes input hex rest has)
     (reads_gathered kind bytes before input commit gathers) in
     inl (two_parents kind bytes commit.tree hex rest commit.parents takes reads.0 reads.1.tree reads.1.parents)
-reaches_memory kind bytes commit before following input rest line gathers (author_comes _ actor _ has) takes = absurd takes
-reaches_memory kind bytes commit before following input rest line gathers (committer_comes _ actor _ has) takes = absurd takes
-reaches_memory kind bytes commit before following input rest line gathers (encoding_comes _ encoding _ has) takes = absurd takes
-reaches_memory kind bytes commit before following input rest line gathers (first_header_comes _ header _ has other) takes =
-    let reads = reads_line kind bytes commit before input (header_line header) following rest (first_header_comes input header rest has other)
+reaches_second_parent_or_header kind bytes commit before following input rest line gathers (author_comes _ actor _ has) takes = absurd takes
+reaches_second_parent_or_header kind bytes commit before following input rest line gathers (committer_comes _ actor _ has) takes = absurd takes
+reaches_second_parent_or_header kind bytes commit before following input rest line gathers (encoding_comes _ encoding _ has) takes = absurd takes
+reaches_second_parent_or_header kind bytes commit before following input rest line gathers (first_header_comes _ header _ has other) takes =
+    let reads = reads_gather kind bytes commit before input (header_line header) following rest (first_header_comes input header rest has other)
     (reads_gathered kind bytes before input commit gathers) in
-    inr (_, _, reads.0, some_header commit.extra_headers header)
-reaches_memory kind bytes commit before following input rest line gathers (header_comes _ header _ has) takes =
-    let reads = reads_line kind bytes commit before input (header_line header) following rest (header_comes input header rest has)
+    inr (_, _, reads.0, headers_snoc_not_nil commit.extra_headers header)
+reaches_second_parent_or_header kind bytes commit before following input rest line gathers (header_comes _ header _ has) takes =
+    let reads = reads_gather kind bytes commit before input (header_line header) following rest (header_comes input header rest has)
     (reads_gathered kind bytes before input commit gathers) in
-    inr (_, _, reads.0, some_header commit.extra_headers header)
-reaches_memory kind bytes commit before following input rest line gathers (first_message_comes _ message is) takes = absurd takes
-reaches_memory kind bytes commit before following input rest line gathers (message_comes _ message is) takes = absurd takes
+    inr (_, _, reads.0, headers_snoc_not_nil commit.extra_headers header)
+reaches_second_parent_or_header kind bytes commit before following input rest line gathers (first_message_comes _ message is) takes = absurd takes
+reaches_second_parent_or_header kind bytes commit before following input rest line gathers (message_comes _ message is) takes = absurd takes
 
 -- ---- the ids of a decoded commit
 
-pub are_ids : (kind : Kind) (hexes : List (List ℕ)) → All (IsIdHexOfKind kind) hexes → All IsIdHex hexes
-are_ids kind [] are = All-nil IsIdHex
-are_ids kind (hex ∷ hexes) are = All-cons IsIdHex hex hexes (of_an_id kind hex (All-head (IsIdHexOfKind kind) hex hexes are))
-    (are_ids kind hexes (All-tail (IsIdHexOfKind kind) hex hexes are))
+pub parents_are_id_hex : (kind : Kind) (hexes : List (List ℕ)) → All (IsIdHexOfKind kind) hexes → All IsIdHex hexes
+parents_are_id_hex kind [] are = All-nil IsIdHex
+parents_are_id_hex kind (hex ∷ hexes) are = All-cons IsIdHex hex hexes (is_id_hex_of_decoded kind hex (All-head (IsIdHexOfKind kind) hex hexes are))
+    (parents_are_id_hex kind hexes (All-tail (IsIdHexOfKind kind) hex hexes are))

@@ -7,12 +7,12 @@ use Rattle.bstr.specs.BStr.{bstr_bytes}
 use Rattle.bstr.specs.declared.bstr.BStr.{BStr}
 use Rattle.gixobj_commit.specs.ExtraHeaders.{FindsPlace, Gave, NextValue, HasNoHeaderNamed, header_at, pair_of}
 
-pub none_before : (name : List ℕ) → HasNoHeaderNamed name (map pair_of [])
-none_before name = All-nil (λ it. it.name ≢ name)
+pub no_header_named_in_nil : (name : List ℕ) → HasNoHeaderNamed name (map pair_of [])
+no_header_named_in_nil name = All-nil (λ it. it.name ≢ name)
 
-pub one_more : (name : List ℕ) (others : List (BStr × BStr)) (key value : BStr) → HasNoHeaderNamed name (map pair_of others) → bstr_bytes key ≢ name
+pub no_header_named_snoc : (name : List ℕ) (others : List (BStr × BStr)) (key value : BStr) → HasNoHeaderNamed name (map pair_of others) → bstr_bytes key ≢ name
     → HasNoHeaderNamed name (map pair_of (others ++ (key, value) ∷ []))
-one_more name others key value lacks other =
+no_header_named_snoc name others key value lacks other =
     subst (HasNoHeaderNamed name) (sym (map-append pair_of others ((key, value) ∷ [])))
     (All-push (λ it. it.name ≢ name) (map pair_of others) (pair_of (key, value)) lacks other)
 

@@ -3,7 +3,7 @@ use Rattle.std.proofs.Common.{◌≡◌, ◌≢◌, ℕ, List, [], ◌∷◌, �
 use Rattle.std.proofs.lemmas.List.Elements.{All-head, All-tail}
 use Rattle.std.specs.List.{flat_map}
 use Rattle.std.specs.Prelude.{codes, map}
-use Rattle.gixobj_fields.proofs.HeaderFields.{digits_are_one_line}
+use Rattle.gixobj_fields.proofs.HeaderFields.{hex_digits_newline_free}
 use Rattle.gixobj_fields.specs.HeaderFormat.{EndsHeader, HasField, HasHeader, Header, DecodesToHeader, encode_field, encode_continuation}
 use Rattle.gixobj_fields.specs.Runs.{Yields, complete, yields_end, yields_piece}
 use Rattle.gixobj_hash.specs.Hash.Hex.{IsIdHexOfKind}
@@ -16,8 +16,8 @@ use Rattle.gixobj_hash.specs.ByteStrings.{IsByteFree}
 
 -- ---- fields
 
-pub field_there : (name value rest : List ℕ) → IsByteFree 10 value → HasField name (encode_field name value ++ rest) value rest
-field_there name value rest free = record { joined = refl; one_line = free }
+pub has_field_of_encode_field : (name value rest : List ℕ) → IsByteFree 10 value → HasField name (encode_field name value ++ rest) value rest
+has_field_of_encode_field name value rest free = record { joined = refl; one_line = free }
 
 -- ---- headers
 
@@ -61,7 +61,7 @@ encoding_yielded : (kind : Kind) (encoding : Option (List ℕ)) (bytes message :
 encoding_yielded kind (Some encoding) bytes message headers free are =
     yields_piece state.Encoding state.ExtraHeaders (encode_field (codes "encoding") encoding ++ (bytes ++ 10 ∷ message)) (bytes ++ 10 ∷ message)
     (encoding_line encoding) (map header_line headers ++ message_line message ∷ []) complete
-    (encoding_comes _ encoding _ (field_there (codes "encoding") encoding (bytes ++ 10 ∷ message) free))
+    (encoding_comes _ encoding _ (has_field_of_encode_field (codes "encoding") encoding (bytes ++ 10 ∷ message) free))
     (headers_yielded kind bytes message headers are)
 encoding_yielded kind None bytes message [] free are =
     rw are (yields_piece state.Encoding state.End (10 ∷ message) [] (message_line message) [] complete (first_message_comes _ message refl)
@@ -82,10 +82,10 @@ parents_yielded kind (hex ∷ hexes) rest lines are seen =
     rw (append_assoc (encode_parent hex) (flat_map encode_parent hexes) rest)
     (yields_piece state.Parents state.Parents (encode_parent hex ++ (flat_map encode_parent hexes ++ rest)) (flat_map encode_parent hexes ++ rest)
     (parent_line hex) (map parent_line hexes ++ lines) complete
-    (parent_comes _ hex _ (field_there (codes "parent") hex (flat_map encode_parent hexes ++ rest) (digits_are_one_line hex one.1), one))
+    (parent_comes _ hex _ (has_field_of_encode_field (codes "parent") hex (flat_map encode_parent hexes ++ rest) (hex_digits_newline_free hex one.1), one))
     (parents_yielded kind hexes rest lines (All-tail P hex hexes are) seen))
 
-pub grouped : (tree author committer headers message : List ℕ) (parents : List (List ℕ)) (encoding : Option (List ℕ))
+pub encode_fields_append_assoc : (tree author committer headers message : List ℕ) (parents : List (List ℕ)) (encoding : Option (List ℕ))
     → encode_field (codes "tree") tree ++ flat_map encode_parent parents ++ encode_field (codes "author") author ++ encode_field
     (codes "committer") committer
     ++ encode_encoding encoding ++ headers ++ 10 ∷ message
@@ -93,24 +93,25 @@ pub grouped : (tree author committer headers message : List ℕ) (parents : List
     ++ (flat_map encode_parent parents
     ++ (encode_field (codes "author") author
     ++ (encode_field (codes "committer") committer ++ (encode_encoding encoding ++ (headers ++ 10 ∷ message)))))
-grouped tree author committer headers message parents encoding = simp append_assoc
+encode_fields_append_assoc tree author committer headers message parents encoding = simp append_assoc
 
 actor_is_one_line : (line : List ℕ) → NamesActor line → IsByteFree 10 line
 actor_is_one_line line (name, email, time, is) = is.one_line
 
-pub token_bytes_yielded : (kind : Kind) (bytes : List ℕ) (commit : CommitLines) → DecodesToCommit kind bytes commit
+pub yields_lines_of_commit : (kind : Kind) (bytes : List ℕ) (commit : CommitLines) → DecodesToCommit kind bytes commit
     → Yields (HasLine kind) state.Tree bytes (lines_of_commit commit) complete
-token_bytes_yielded kind bytes commit is =
+yields_lines_of_commit kind bytes commit is =
     let after = encoding_yielded kind commit.encoding is.headers_encoding commit.message commit.extra_headers is.encoding is.extra_headers in
     let committed = yields_piece state.Committer state.Encoding _ _ (committer_line commit.committer) _ complete
     (committer_comes _ commit.committer _ (
-      field_there (codes "committer") commit.committer _ (actor_is_one_line commit.committer is.committer),
+      has_field_of_encode_field (codes "committer") commit.committer _ (actor_is_one_line commit.committer is.committer),
       is.committer,
     )) after in
     let authored = yields_piece state.Parents state.Committer _ _ (author_line commit.author) _ complete
-    (author_comes _ commit.author _ (field_there (codes "author") commit.author _ (actor_is_one_line commit.author is.author), is.author))
+    (author_comes _ commit.author _ (has_field_of_encode_field (codes "author") commit.author _ (actor_is_one_line commit.author is.author), is.author))
     committed in
     let parented = parents_yielded kind commit.parents _ _ is.parents authored in
     let entire = yields_piece state.Tree state.Parents _ _ (tree_line commit.tree) _ complete
-    (tree_comes _ commit.tree _ (field_there (codes "tree") commit.tree _ (digits_are_one_line commit.tree is.tree.1), is.tree)) parented in
-    rw (is.joined ∙ grouped commit.tree commit.author commit.committer is.headers_encoding commit.message commit.parents commit.encoding) entire
+    (tree_comes _ commit.tree _ (has_field_of_encode_field (codes "tree") commit.tree _ (hex_digits_newline_free commit.tree is.tree.1), is.tree)) parented in
+    rw (is.joined ∙ encode_fields_append_assoc commit.tree commit.author commit.committer is.headers_encoding commit.message commit.parents commit.encoding)
+        entire

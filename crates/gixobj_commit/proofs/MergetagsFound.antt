@@ -12,7 +12,7 @@ use Rattle.gixobj_commit.specs.declared.extra_headers.Mergetags.{Mergetags}
 use Rattle.gixobj_fields.specs.HeaderFormat.{Header}
 use Rattle.gixobj_hash.specs.declared.decode.Error.{Error}
 use Rattle.gixobj_hash.specs.declared.hash.kind.Kind.{Kind}
-use Rattle.gixobj_tag.proofs.EntireTags.{one_tag}
+use Rattle.gixobj_tag.proofs.EntireTags.{tag_unique}
 use Rattle.gixobj_tag.specs.TagFormat.{TagLines}
 use Rattle.gixobj_tag.specs.TagViews.{tag_lines}
 use Rattle.gixobj_tag.specs.declared.tag.TagRef.{TagRef}
@@ -20,7 +20,7 @@ use Rattle.gixobj_tag.specs.declared.tag.TagRef.{TagRef}
 -- bytes decode as at most one tag
 one_reading : (kind : Kind) (content : List ℕ) (item : Result TagRef Error) (read : Option TagLines) → IsTagOf kind content item → IsTagOrNone kind content read
     → tag_if_ok item ≡ read
-one_reading kind content (Ok tag) (Some lines) is is' = ap Some (one_tag kind content (tag_lines tag) lines is is')
+one_reading kind content (Ok tag) (Some lines) is is' = ap Some (tag_unique kind content (tag_lines tag) lines is is')
 one_reading kind content (Ok tag) None is none = absurd (none (tag_lines tag) is)
 one_reading kind content (Err error) (Some lines) (same, none) is = absurd (none lines is)
 one_reading kind content (Err error) None none none' = refl

@@ -7,9 +7,9 @@ use Rattle.gixobj_hash.specs.Hash.{is_lower_hex_digit}
 use Rattle.gixobj_fields.specs.HeaderFormat.{Header, encode_field}
 use Rattle.gixobj_fields.specs.Writing.{RejectedValue, RejectsNothing}
 use Rattle.gixobj_hash.specs.declared.hash.kind.Kind.{Kind}
-use Rattle.gixobj_fields.proofs.FieldWrites.{holds_none}
+use Rattle.gixobj_fields.proofs.FieldWrites.{no_byte_of_byte_free}
 use Rattle.gixobj_fields.proofs.HeadersRoundTrip.{header_round_trips}
-use Rattle.gixobj_hash.proofs.HexCase.{lower_case_stays}
+use Rattle.gixobj_hash.proofs.HexCase.{lower_case_of_lower_hex}
 use Rattle.gixobj_commit.specs.Commit.{DecodesToHeaders, CommitLines, DecodesToCommit, IsEncoding, encode_encoding, encode_parent}
 use Rattle.gixobj_commit.specs.CommitWriting.{IsEncodingError, IsCommitLinesError, encode_commit, in_lower_case}
 use Rattle.gixobj_fields.specs.FieldWriting.{encode_header}
@@ -27,7 +27,7 @@ all_stay : (encodings : List (List ℕ)) → All (λ bytes. AllPass is_lower_hex
 all_stay [] lower = refl
 all_stay (bytes ∷ encodings) lower =
     let P : List ℕ → Type 0 = λ it. AllPass is_lower_hex_digit it in
-    let first = lower_case_stays bytes (All-head P bytes encodings lower) in
+    let first = lower_case_of_lower_hex bytes (All-head P bytes encodings lower) in
     let rest = all_stay encodings (All-tail P bytes encodings lower) in
     cc (first, rest)
 
@@ -42,7 +42,7 @@ pub commit_reencodes_identically : (kind : Kind) (bytes : List ℕ) (commit : Co
     → AllPass is_lower_hex_digit commit.tree → All (λ hex. AllPass is_lower_hex_digit hex) commit.parents → encode_commit (in_lower_case commit) ≡ bytes
 commit_reencodes_identically kind bytes commit it tree parents =
     ap (λ (hex : List ℕ). of_parts hex (map str_to_ascii_lowercase commit.parents) commit (flat_map encode_header commit.extra_headers))
-    (lower_case_stays commit.tree tree)
+    (lower_case_of_lower_hex commit.tree tree)
     ∙ ap (λ (hexes : List (List ℕ)). of_parts commit.tree hexes commit (flat_map encode_header commit.extra_headers)) (all_stay commit.parents parents)
     ∙ ap (λ (headers : List ℕ). of_parts commit.tree commit.parents commit headers)
     (headers_read_back it.headers_encoding commit.extra_headers it.extra_headers)
@@ -52,10 +52,10 @@ encoding_not_rejected : (encoding : Option (List ℕ)) (headers : List Header) �
     → IsEncodingError encoding value → ⊥
 encoding_not_rejected None headers is some value rejected = rejected
 encoding_not_rejected (Some encoding) headers is some value (inl (none, same)) = some (ap Some none)
-encoding_not_rejected (Some encoding) headers is some value (inr (has, same)) = holds_none 10 encoding is has
+encoding_not_rejected (Some encoding) headers is some value (inr (has, same)) = no_byte_of_byte_free 10 encoding is has
 
 -- the encoder of a decoded commit rejects only an empty message encoding
-pub read_commit_not_rejected : (kind : Kind) (bytes : List ℕ) (commit : CommitLines) → DecodesToCommit kind bytes commit → commit.encoding ≢ Some []
+pub decoded_commit_rejects_nothing : (kind : Kind) (bytes : List ℕ) (commit : CommitLines) → DecodesToCommit kind bytes commit → commit.encoding ≢ Some []
     → RejectsNothing (IsCommitLinesError (in_lower_case commit))
-read_commit_not_rejected kind bytes commit it some value parts rejected =
+decoded_commit_rejects_nothing kind bytes commit it some value parts rejected =
     encoding_not_rejected commit.encoding commit.extra_headers it.encoding some value rejected.0

@@ -5,7 +5,7 @@ use Rattle.std.specs.List.{AllZip}
 use Rattle.std.specs.Str.{str_to_ascii_lowercase}
 use Rattle.std.proofs.lemmas.List.Elements.{All-contains}
 use Rattle.bstr.specs.Owned.{bstring_bytes}
-use Rattle.gixobj_actor.proofs.OwnedActors.{canonical, unwritable}
+use Rattle.gixobj_actor.proofs.OwnedActors.{encode_owned_actor_is_canonical, is_unwritable_of_error}
 use Rattle.gixobj_actor.specs.ActorWriting.{IsUnwritable}
 use Rattle.gixobj_hash.specs.Hash.{DecodesToId, encode_id_hex}
 use Rattle.gixobj_fields.specs.HeaderFormat.{Header}
@@ -16,7 +16,7 @@ use Rattle.gixobj_fields.specs.declared.encode.Error.{Error}
 use Rattle.gixobj_fields.specs.declared.encode.Error.TheVariants as encode
 use Rattle.gixobj_hash.specs.declared.hash.kind.Kind.{Kind}
 use Rattle.gixobj_hash.specs.declared.hash.object_id.ObjectId.{ObjectId}
-use Rattle.gixobj_hash.proofs.HexCase.{hex_in_lower_case}
+use Rattle.gixobj_hash.proofs.HexCase.{encode_id_hex_lower_case}
 use Rattle.gixobj_commit.specs.Commit.{CommitLines, DecodesToCommit, IsEncoding}
 use Rattle.gixobj_commit.specs.CommitOwned.{IsOwnedFormOfCommit, IsIntoOwnedCommitError}
 use Rattle.gixobj_commit.specs.CommitViews.{owned_commit_lines}
@@ -31,17 +31,17 @@ ids_in_lower_case : (hexes : List (List ℕ)) (ids : List ObjectId) → AllZip D
 ids_in_lower_case [] [] are = refl
 ids_in_lower_case [] (id ∷ ids) are = absurd are
 ids_in_lower_case (hex ∷ hexes) [] are = absurd are
-ids_in_lower_case (hex ∷ hexes) (id ∷ ids) are = let one = hex_in_lower_case hex id are.0 in let more =
+ids_in_lower_case (hex ∷ hexes) (id ∷ ids) are = let one = encode_id_hex_lower_case hex id are.0 in let more =
     ids_in_lower_case hexes ids are.1 in cc (one, more)
 
-pub own_parts : (lines : CommitLines) (commit : Commit) → IsOwnedFormOfCommit lines commit
+pub owned_parts_are_normalized : (lines : CommitLines) (commit : Commit) → IsOwnedFormOfCommit lines commit
     → AreNormalizedPartsOfCommit lines (owned_commit_lines commit)
-own_parts lines commit is =
+owned_parts_are_normalized lines commit is =
     record {
-      tree = hex_in_lower_case lines.tree commit.tree is.tree;
+      tree = encode_id_hex_lower_case lines.tree commit.tree is.tree;
       parents = ids_in_lower_case lines.parents commit.parents.items is.parents;
-      author = canonical lines.author commit.author is.author;
-      committer = canonical lines.committer commit.committer is.committer;
+      author = encode_owned_actor_is_canonical lines.author commit.author is.author;
+      committer = encode_owned_actor_is_canonical lines.committer commit.committer is.committer;
       encoding = is.encoding;
       extra_headers = is.extra_headers;
       message = is.message;
@@ -65,9 +65,9 @@ WhatIsRejected lines value = ((value ≡ illegal_actor) × (IsUnwritable lines.a
 what_is_rejected : (kind : Kind) (bytes : List ℕ) (lines : CommitLines) (commit : Commit) (value : RejectedValue) (parts : List ℕ)
     → DecodesToCommit kind bytes lines → IsOwnedFormOfCommit lines commit → IsOwnedCommitError commit value parts → WhatIsRejected lines value
 what_is_rejected kind bytes lines commit value parts read own (inl (illegal, is, before)) =
-    inl (is, inl (unwritable lines.author commit.author own.author illegal))
+    inl (is, inl (is_unwritable_of_error lines.author commit.author own.author illegal))
 what_is_rejected kind bytes lines commit value parts read own (inr (inl (legal, illegal, is, before))) =
-    inl (is, inr (unwritable lines.committer commit.committer own.committer illegal))
+    inl (is, inr (is_unwritable_of_error lines.committer commit.committer own.committer illegal))
 what_is_rejected kind bytes lines commit value parts read own (inr (inr (legal, other, rejected))) =
     inr (encoding_rejected lines.encoding lines.extra_headers value read.encoding
     (subst (λ (it : Option (List ℕ)). IsEncodingError it value) own.encoding rejected.0))
@@ -84,32 +84,33 @@ its_encoding : (lines : CommitLines) → WhatIsRejected lines empty_header → H
 its_encoding lines (inl (is, actor)) = cc
 its_encoding lines (inr (is, encoding)) = encoding
 
-pub own_error : (kind : Kind) (content : List ℕ) (lines : CommitLines) (commit : Commit) (before after : SinkView) (error : Error)
+pub owned_error_is_normalized : (kind : Kind) (content : List ℕ) (lines : CommitLines) (commit : Commit) (before after : SinkView) (error : Error)
     → DecodesToCommit kind content lines → IsOwnedFormOfCommit lines commit
     → IsWritingError (IsOwnedCommitError commit) before after (encode_commit (owned_commit_lines commit)) error
     → IsNormalizedCommitError lines before after (encode_commit (owned_commit_lines commit)) error
-own_error kind content lines commit before after (encode.Writer cause) read own says = says
-own_error kind content lines commit before after encode.IllegalActor read own (parts, rejected, inserts) =
+owned_error_is_normalized kind content lines commit before after (encode.Writer cause) read own says = says
+owned_error_is_normalized kind content lines commit before after encode.IllegalActor read own (parts, rejected, inserts) =
     its_actor lines (what_is_rejected kind content lines commit illegal_actor parts read own rejected)
-own_error kind content lines commit before after encode.EmptyValue read own (parts, rejected, inserts) =
+owned_error_is_normalized kind content lines commit before after encode.EmptyValue read own (parts, rejected, inserts) =
     its_encoding lines (what_is_rejected kind content lines commit empty_header parts read own rejected)
-own_error kind content lines commit before after (encode.NewlineInHeaderValue value) read own (parts, rejected, inserts) =
+owned_error_is_normalized kind content lines commit before after (encode.NewlineInHeaderValue value) read own (parts, rejected, inserts) =
     no_other lines _ (what_is_rejected kind content lines commit (header_with_newline (bstring_bytes value)) parts read own rejected) (λ e. cc)
     (λ e. cc)
-own_error kind content lines commit before after encode.StartsWithDash read own (parts, rejected, inserts) =
+owned_error_is_normalized kind content lines commit before after encode.StartsWithDash read own (parts, rejected, inserts) =
     no_other lines _ (what_is_rejected kind content lines commit name_with_dash parts read own rejected) (λ e. cc) (λ e. cc)
-own_error kind content lines commit before after (encode.InvalidRefName fault) read own (parts, rejected, inserts) =
+owned_error_is_normalized kind content lines commit before after (encode.InvalidRefName fault) read own (parts, rejected, inserts) =
     no_other lines _ (what_is_rejected kind content lines commit (bad_name fault) parts read own rejected) (λ e. cc) (λ e. cc)
-own_error kind content lines commit before after (encode.NullbyteInFilename name) read own (parts, rejected, inserts) =
+owned_error_is_normalized kind content lines commit before after (encode.NullbyteInFilename name) read own (parts, rejected, inserts) =
     no_other lines _ (what_is_rejected kind content lines commit (name_with_zero_byte (bstring_bytes name)) parts read own rejected) (λ e. cc)
     (λ e. cc)
-own_error kind content lines commit before after encode.OutOfMemory read own (value, inl (parts, rejected, inserts)) =
+owned_error_is_normalized kind content lines commit before after encode.OutOfMemory read own (value, inl (parts, rejected, inserts)) =
     no_other lines _ (what_is_rejected kind content lines commit (header_with_newline value) parts read own rejected) (λ e. cc) (λ e. cc)
-own_error kind content lines commit before after encode.OutOfMemory read own (value, inr (parts, rejected, inserts)) =
+owned_error_is_normalized kind content lines commit before after encode.OutOfMemory read own (value, inr (parts, rejected, inserts)) =
     no_other lines _ (what_is_rejected kind content lines commit (name_with_zero_byte value) parts read own rejected) (λ e. cc) (λ e. cc)
 
 -- the actor lines of a decoded commit are valid
-pub actors_read : (kind : Kind) (content : List ℕ) (lines : CommitLines) → DecodesToCommit kind content lines → IsIntoOwnedCommitError lines Malformed
+pub no_actor_error_of_decoded : (kind : Kind) (content : List ℕ) (lines : CommitLines) → DecodesToCommit kind content lines
+    → IsIntoOwnedCommitError lines Malformed
     → ⊥
-actors_read kind content lines read (inl bad) = let (name, email, time, is) = read.author in bad name email time is
-actors_read kind content lines read (inr bad) = let (name, email, time, is) = read.committer in bad name email time is
+no_actor_error_of_decoded kind content lines read (inl bad) = let (name, email, time, is) = read.author in bad name email time is
+no_actor_error_of_decoded kind content lines read (inr bad) = let (name, email, time, is) = read.committer in bad name email time is

@@ -98,7 +98,7 @@ impl<'a> CommitRef<'a> {
     ///     None => return Ok(None),
     /// }
     /// ```
-    #[tactic(auto, using(gixobj_hash::proofs::HexIds::all_decode))]
+    #[tactic(auto, using(gixobj_hash::proofs::HexIds::all_zip_decodes_to_id))]
     pub fn parents(&self) -> Parents<'_>
         requires { All IsIdHex (commit_lines self.now).parents }
         ensures { AllZip DecodesToId (commit_lines self.now).parents (remaining_parents result) }

@@ -66,7 +66,7 @@ impl<'a, I: Iterator<Item = (BStr<'a>, BStr<'a>)> + Drop> ExtraHeaders<I> {
     }
 
     /// Finds the position, from 0, of the first header of this name. Allocates nothing.
-    #[tactic(auto, using(crate::proofs::HeaderSearches::none_before, crate::proofs::HeaderSearches::one_more))]
+    #[tactic(auto, using(crate::proofs::HeaderSearches::no_header_named_in_nil, crate::proofs::HeaderSearches::no_header_named_snoc))]
     pub fn find_pos(self, name: &str) -> Option<usize>
         requires can_next { I.can_next (iterator_of self) }
         requires ends { IsFinite (I.remaining (iterator_of self)) }
@@ -194,7 +194,7 @@ fn is_named(key: BStr<'_>, name: &str) -> bool
 }
 
 /// Returns the value of the next header of this name.
-#[tactic(auto, using(crate::proofs::HeaderSearches::none_before, crate::proofs::HeaderSearches::one_more))]
+#[tactic(auto, using(crate::proofs::HeaderSearches::no_header_named_in_nil, crate::proofs::HeaderSearches::no_header_named_snoc))]
 fn next_value<'a, I: Iterator<Item = (BStr<'a>, BStr<'a>)>>(
     headers: &mut I,
     name: &str,

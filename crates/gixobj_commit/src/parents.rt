@@ -19,7 +19,7 @@ impl<'a> Parents<'a> {
     ghost use Rattle.gixobj_commit.specs.RemainingParents.{remaining_parents};
 
     /// Returns an iterator over the ids with this hex, each of which has to be an id. Allocates nothing.
-    #[tactic(auto, using(crate::proofs::ParentHexes::all_of_their_kind))]
+    #[tactic(auto, using(crate::proofs::ParentHexes::parents_are_hex_of_their_kind))]
     pub fn new(hexes: &'a [BStr<'a>]) -> Parents<'a>
         requires { All IsIdHex (map bstr_bytes hexes.now) }
         ensures { remaining_parents result ≡ map decoded_id (map bstr_bytes hexes.now) }
@@ -38,7 +38,7 @@ impl Iterator for Parents<'_> {
 
     ghost remaining = { item_count remaining_parents };
 
-    #[tactic(auto, using(crate::proofs::ParentHexes::first_id))]
+    #[tactic(auto, using(crate::proofs::ParentHexes::first_parent_is_id_hex))]
     fn next(&mut self) -> Option<ObjectId> {
         let [first, rest @ ..] = self.rest else {
             return None;

@@ -11,8 +11,8 @@ use Rattle.std.proofs.lemmas.Cmp.{nat_list_cmp_total, tied_itself}
 use Rattle.bstr.specs.Owned.{bstring_bytes}
 use Rattle.gixobj_files.specs.Editing.{has_tree, same_name}
 use Rattle.gixobj_files.specs.Files.{Has, Path}
-use Rattle.gixobj_files.proofs.HasTrees.{has_tree_of}
-use Rattle.gixobj_files.proofs.OpenedFiles.{name_other}
+use Rattle.gixobj_files.proofs.HasTrees.{entry_of_has_tree}
+use Rattle.gixobj_files.proofs.OpenedFiles.{same_name_false}
 use Rattle.gixobj_files.proofs.Sublists.{all_both, all_weaker}
 use Rattle.gixobj_tree.specs.Entries.{ComesBefore, EachLater, EntryView, entry_key, key_of}
 use Rattle.gixobj_mode.specs.Mode.{is_tree_mode}
@@ -20,7 +20,7 @@ use Rattle.gixobj_directories.specs.declared.open.Child.{Child}
 use Rattle.gixobj_directories.specs.Emitting.{pairs_after_next, child_side, next_child}
 use Rattle.gixobj_directories.specs.Nested.{AreOrdered, IsLevel, Level, Opened, Part, at_side, below, length-under, opened, part, part_at, part_key, parts, under}
 use Rattle.gixobj_directories.proofs.Levels.{level_at_by}
-use Rattle.gixobj_directories.proofs.Ordered.{Before, differ, level_apart}
+use Rattle.gixobj_directories.proofs.Ordered.{Before, names_differ, level_names_apart}
 
 -- the remaining children are those of the remaining entries
 pub record Ahead (node : Opened) (rest : List EntryView) (remaining : List Child) : Type 0 where
@@ -48,12 +48,12 @@ at_has P (e ∷ es) x (inl same) all = subst P same all.0
 at_has P (e ∷ es) x (inr h) all = at_has P es x h all.1
 
 tree_after : (name : List ℕ) (e : EntryView) (rest : List EntryView) → name ≢ e.name → has_tree name (e ∷ rest) ≡ true → has_tree name rest ≡ true
-tree_after name e rest other h = rw (name_other e.name name (λ q. other (sym q))) at h
+tree_after name e rest other h = rw (same_name_false e.name name (λ q. other (sym q))) at h
 
 none_at : (side : Level → List EntryView) (name : List ℕ) (ps : List Part) (path : Path) → AllByRecursion (λ p. p.0 ≢ name) ps
     → part_at side name ps path ≡ None
 none_at side name [] path others = refl
-none_at side name (p ∷ ps) path others = rw (name_other p.0 name others.0) (none_at side name ps path others.1)
+none_at side name (p ∷ ps) path others = rw (same_name_false p.0 name others.0) (none_at side name ps path others.1)
 
 module _ (e : EntryView) (rest : List EntryView) (apart : AllByRecursion (λ y. e.name ≢ y.name) rest)
     (ascending : AllByRecursion (ComesBefore e) rest) where
@@ -68,14 +68,14 @@ module _ (e : EntryView) (rest : List EntryView) (apart : AllByRecursion (λ y. 
   own_tree y (inr h) named tree = absurd (at_has (λ z. e.name ≢ z.name) rest y h apart (sym named))
 
   own_key : (name : List ℕ) → name ≡ e.name → has_tree name (e ∷ rest) ≡ true → entry_key e ≡ key_of name true
-  own_key name is h = let y = has_tree_of name (e ∷ rest) h in ap (key_of e.name) (own_tree y.0 y.1 (y.2 ∙ is) y.3)
+  own_key name is h = let y = entry_of_has_tree name (e ∷ rest) h in ap (key_of e.name) (own_tree y.0 y.1 (y.2 ∙ is) y.3)
       ∙ ap (λ (n : List ℕ). key_of n true)
       (sym is)
 
   -- after the directory of another entry there is none of the first entry
   not_after : (p q : Part) → Before p q → p.0 ≢ e.name → has_tree p.0 (e ∷ rest) ≡ true → has_tree q.0 (e ∷ rest) ≡ true → q.0 ≢ e.name
   not_after p q before other first second same =
-      let x = has_tree_of p.0 rest (tree_after p.0 e rest other first) in
+      let x = entry_of_has_tree p.0 rest (tree_after p.0 e rest other first) in
       let key : entry_key x.0 ≡ part_key p = ap (key_of x.0.name) x.3 ∙ ap (λ (n : List ℕ). key_of n true) x.2 in
       let back : Before q p = ap (λ k. slice_cmp nat_cmp k (part_key p)) (sym (own_key q.0 same second)) ∙ ap (slice_cmp nat_cmp (entry_key e))
       (sym key)
@@ -105,12 +105,12 @@ step node e rest (c ∷ cs) a =
               (λ (y : EntryView). (e.name ≢ y.name) × ((path : Path) → at_side side node (y.name ∷ path) ≡ part_at side y.name (parts (c ∷ cs)) path))
               (λ (y : EntryView). (path : Path) → at_side side node (y.name ∷ path) ≡ part_at side y.name (parts cs) path)
               (λ y h path. h.1 path ∙ ap (λ b. cond b (at_side side c.open path) (part_at side y.name (parts cs) path))
-              (name_other (bstring_bytes c.name) y.name (λ q. h.0 (sym own ∙ q)))) rest
+              (same_name_false (bstring_bytes c.name) y.name (λ q. h.0 (sym own ∙ q)))) rest
               (all_both (λ (y : EntryView). e.name ≢ y.name)
               (λ (y : EntryView). (path : Path) → at_side side node (y.name ∷ path) ≡ part_at side y.name
               (parts (c ∷ cs)) path) rest a.apart.0 (a.same side).1);
           above = all_after e rest a.apart.0 a.ascending.0 (parts cs)
-              (all_weaker (Before (part c)) (λ q. q.0 ≢ e.name) (λ q before same. differ (part c) q before (own ∙ sym same)) (parts cs) a.ordered.0)
+              (all_weaker (Before (part c)) (λ q. q.0 ≢ e.name) (λ q before same. names_differ (part c) q before (own ∙ sym same)) (parts cs) a.ordered.0)
               a.above.1;
           ordered = a.ordered.1;
           apart = a.apart.1;
@@ -146,19 +146,19 @@ step node e rest (c ∷ cs) a =
     some_is x y is = cc is
 
 -- a step of the walk at the position of an entry
-pub stepped : (node : Opened) (items : List EntryView) (i : ℕ) (e : EntryView) (remaining : List Child) → i < length items → e ≡ get_or items i e
+pub stepped_succ : (node : Opened) (items : List EntryView) (i : ℕ) (e : EntryView) (remaining : List Child) → i < length items → e ≡ get_or items i e
     → Ahead node (drop i items) remaining
     → Stepped node e (drop (i + 1) items) (next_child e.name remaining) (pairs_after_next e.name remaining)
-stepped node items i e remaining low is a =
+stepped_succ node items i e remaining low is a =
     let here : drop i items ≡ e ∷ drop (i + 1) items = rw add-one (drop-cons items i e low ∙ ap (λ x. x ∷ drop (suc i) items) (sym is)) in
     step node e (drop (i + 1) items) remaining (subst (λ es. Ahead node es remaining) here a)
 
 -- before the first entry all children remain
-pub all_ahead : (node : Opened) (es base : List EntryView) (cs : List Child) → opened es base (parts cs) ≡ node → IsLevel es (parts cs)
+pub ahead_of_opened : (node : Opened) (es base : List EntryView) (cs : List Child) → opened es base (parts cs) ≡ node → IsLevel es (parts cs)
     → Ahead node es cs
-all_ahead node es base cs is level = record {
+ahead_of_opened node es base cs is level = record {
   same = λ side. every (λ (e : EntryView). (path : Path) → at_side side node (e.name ∷ path) ≡ part_at side e.name (parts cs) path)
-      (λ e path. level_at_by side node es base (parts cs) is (level_apart level) e.name path) es;
+      (λ e path. level_at_by side node es base (parts cs) is (level_names_apart level) e.name path) es;
   above = level.above;
   ordered = level.ordered;
   apart = level.formed.apart;
@@ -171,7 +171,7 @@ abbrev pub passed_size : Option (Bor Child) → ℕ
 passed_size None = 0
 passed_size (Some child) = length child.now.open
 
-pub passed_fewer : (node : Opened) (passed : Option (Bor Child)) (next : Option Child) → option_copied passed ≡ next
+pub consumed_size_lt : (node : Opened) (passed : Option (Bor Child)) (next : Option Child) → option_copied passed ≡ next
     → ((child : Child) → next ≡ Some child → length child.open < length node) → 0 < length node → passed_size passed < length node
-passed_fewer node None next is fewer filled = filled
-passed_fewer node (Some child) next is fewer filled = fewer child.now (sym is)
+consumed_size_lt node None next is fewer filled = filled
+consumed_size_lt node (Some child) next is fewer filled = fewer child.now (sym is)

@@ -9,27 +9,27 @@ use Rattle.std.specs.Cmp.Lexicographic.{bytes_decides}
 use Rattle.gixobj_tree.specs.Entries.{EachLater, EntryView}
 use Rattle.gixobj_files.specs.Bases.{base_edited, base_opened}
 use Rattle.gixobj_mode.specs.Mode.{is_tree_mode}
-use Rattle.gixobj_files.proofs.HasTrees.{of_has_tree}
+use Rattle.gixobj_files.proofs.HasTrees.{has_tree_of_entry}
 use Rattle.gixobj_files.specs.Edits.{IsEntryOf}
 use Rattle.gixobj_files.specs.Editing.{same_name}
 use Rattle.gixobj_files.specs.Files.{Path}
 use Rattle.gixobj_files.specs.Opening.{Dirs}
 use Rattle.gixobj_directories.specs.Nested.{IsLevel, Opened, Part, base_side, bases_in, bases_of, dirs_of, in_part, opened, other_parts, parts, with_part}
-use Rattle.gixobj_directories.proofs.Levels.{Becomes, BecomesBy, at_name, at_name_by, based_at, based_root, called, found, found_by, level_at, level_with, level_root, others_becomes, others_becomes_by, with_becomes, with_becomes_by, set_becomes, set_becomes_by, tied}
-use Rattle.gixobj_directories.proofs.Ordered.{level_apart}
+use Rattle.gixobj_directories.proofs.Levels.{Becomes, BecomesBy, dirs_of_opened_cons, at_name_by, bases_of_cons, bases_of_nil, called, in_part_of_child, found_by, dirs_of_cons, is_level_with_part, dirs_of_nil, becomes_of_removal, others_becomes_by, becomes_of_with_part, with_becomes_by, becomes_of_set, set_becomes_by, tied}
+use Rattle.gixobj_directories.proofs.Ordered.{level_names_apart}
 
 -- a directory that isn't open has no base
-pub no_base : (ds : Opened) (at : Path) → dirs_of ds at ≡ None → bases_of ds at ≡ None
-no_base [] at none = refl
-no_base (d ∷ ds) at none =
+pub base_none_where_unopened : (ds : Opened) (at : Path) → dirs_of ds at ≡ None → bases_of ds at ≡ None
+base_none_where_unopened [] at none = refl
+base_none_where_unopened (d ∷ ds) at none =
     elim (tied at d.0) as (λ b. cond b (Some d.1.0) (dirs_of ds at) ≡ None → cond b (Some d.1.1) (bases_of ds at) ≡ None)
-    [ true ↦ λ is. absurd (cc is) | false ↦ λ is. no_base ds at is ] none
+    [ true ↦ λ is. absurd (cc is) | false ↦ λ is. base_none_where_unopened ds at is ] none
 
 no_base_in : (name : List ℕ) (ps : List Part) (at : Path) → in_part name ps at ≡ None → bases_in name ps at ≡ None
 no_base_in name [] at none = refl
 no_base_in name (p ∷ ps) at none =
     elim (same_name p.0 name) as (λ b. cond b (dirs_of p.1 at) (in_part name ps at) ≡ None → cond b (bases_of p.1 at) (bases_in name ps at) ≡ None)
-    [ true ↦ λ is. no_base p.1 at is | false ↦ λ is. no_base_in name ps at is ] none
+    [ true ↦ λ is. base_none_where_unopened p.1 at is | false ↦ λ is. no_base_in name ps at is ] none
 
 -- the base of a directory after a change, by what is open there before and after
 abbrev pub OfBase : Type 0
@@ -56,21 +56,22 @@ editing = record { same = same; stays = λ was now base. refl }
 
 module _ (g : OfBase) (settles : Settles g) where
   pub unmoved : (ds : Opened) (at : Path) → bases_of ds at ≡ g (dirs_of ds at) (dirs_of ds at) (bases_of ds at)
-  unmoved ds at = settles.same (dirs_of ds at) (bases_of ds at) (no_base ds at)
+  unmoved ds at = settles.same (dirs_of ds at) (bases_of ds at) (base_none_where_unopened ds at)
 
   module _ (old : Opened) (es es' : List EntryView) (ps ps' : List Part) {base : List EntryView} (view : opened es base ps ≡ old)
       (apart : EachLater (λ x y. x.0 ≢ y.0) ps) (apart' : EachLater (λ x y. x.0 ≢ y.0) ps')
       (name : List ℕ) (next based : Dirs) (becomes : Becomes name next ps ps') (bases_become : BecomesBy base_side name based ps ps')
       (inside : (path : Path) → based path ≡ g (in_part name ps path) (next path) (bases_in name ps path)) where
     pub moved : (at : Path) → bases_of (opened es' base ps') at ≡ g (dirs_of old at) (dirs_of (opened es' base ps') at) (bases_of old at)
-    moved [] = settles.stays es es' (Some base) ∙ ap (λ o. g o (Some es') (Some base)) (sym (level_root old es ps view))
-        ∙ ap (λ o. g (dirs_of old []) (Some es') o) (sym (based_root old es ps view))
+    moved [] = settles.stays es es' (Some base) ∙ ap (λ o. g o (Some es') (Some base)) (sym (dirs_of_nil old es ps view))
+        ∙ ap (λ o. g (dirs_of old []) (Some es') o) (sym (bases_of_nil old es ps view))
     moved (first ∷ path) =
         at_name_by base_side es' base ps' first path apart' ∙ bases_become.says first path ∙ here
         ∙ ap (λ o. g o (cond (same_name name first) (next path) (in_part first ps path)) (bases_in first ps path))
-        (sym (level_at old es ps view apart first path))
-        ∙ ap (λ o. g (dirs_of old (first ∷ path)) o (bases_in first ps path)) (sym (at_name es' base ps' first path apart' ∙ becomes.says first path))
-        ∙ ap (λ o. g (dirs_of old (first ∷ path)) (dirs_of (opened es' base ps') (first ∷ path)) o) (sym (based_at old es ps view apart first path))
+        (sym (dirs_of_cons old es ps view apart first path))
+        ∙ ap (λ o. g (dirs_of old (first ∷ path)) o (bases_in first ps path))
+            (sym (dirs_of_opened_cons es' base ps' first path apart' ∙ becomes.says first path))
+        ∙ ap (λ o. g (dirs_of old (first ∷ path)) (dirs_of (opened es' base ps') (first ∷ path)) o) (sym (bases_of_cons old es ps view apart first path))
       where
         here : cond (same_name name first) (based path) (bases_in first ps path) ≡ g (in_part first ps path)
             (cond (same_name name first) (next path) (in_part first ps path)) (bases_in first ps path)
@@ -83,27 +84,27 @@ module _ (g : OfBase) (settles : Settles g) where
             ] refl
 
 -- in a created directory the bases after an edit are those of directories that weren't open
-pub made_base : (path : Path) (new base : Option (List EntryView)) → base_edited (dirs_of (opened [] [] []) path) new
+pub base_edited_of_made : (path : Path) (new base : Option (List EntryView)) → base_edited (dirs_of (opened [] [] []) path) new
     (bases_of (opened [] [] []) path)
     ≡ base_edited None new base
-made_base [] None base = refl
-made_base [] (Some es) base = refl
-made_base (name ∷ path) None base = refl
-made_base (name ∷ path) (Some es) base = refl
+base_edited_of_made [] None base = refl
+base_edited_of_made [] (Some es) base = refl
+base_edited_of_made (name ∷ path) None base = refl
+base_edited_of_made (name ∷ path) (Some es) base = refl
 
 -- the base of a directory that was opened is the list found
-pub found_base : (es : List EntryView) (path : Path) (new : Dirs) → new [] ≡ Some es → base_opened (dirs_of (opened es es []) path) (new path)
+pub base_opened_of_found : (es : List EntryView) (path : Path) (new : Dirs) → new [] ≡ Some es → base_opened (dirs_of (opened es es []) path) (new path)
     (bases_of (opened es es []) path) ≡ new path
-found_base es [] new root = sym root
-found_base es (name ∷ path) new root = refl
+base_opened_of_found es [] new root = sym root
+base_opened_of_found es (name ∷ path) new root = refl
 
 -- a written directory is open alone, with its base
-pub written_base : (old : Opened) (es own base : List EntryView) → dirs_of old [] ≡ Some es → bases_of old [] ≡ Some base → (at : Path)
+pub base_edited_of_written : (old : Opened) (es own base : List EntryView) → dirs_of old [] ≡ Some es → bases_of old [] ≡ Some base → (at : Path)
     → bases_of (opened own base []) at ≡ base_edited (dirs_of old at) (dirs_of (opened own base []) at) (bases_of old at)
-written_base old es own base root is [] = ap (λ o. base_edited o (Some own) (Some base)) (sym root)
+base_edited_of_written old es own base root is [] = ap (λ o. base_edited o (Some own) (Some base)) (sym root)
     ∙ ap (λ o. base_edited (dirs_of old []) (Some own) o)
     (sym is)
-written_base old es own base root is (name ∷ path) = refl
+base_edited_of_written old es own base root is (name ∷ path) = refl
 
 -- the bases after a directory in it was replaced, added or closed
 module _ (g : OfBase) (settles : Settles g) (old : Opened) (es : List EntryView) where
@@ -115,8 +116,8 @@ module _ (g : OfBase) (settles : Settles g) (old : Opened) (es : List EntryView)
       (bases_of old at)
   set_moved cs l view apart name i child next apart' same at is named inside =
       moved g settles old es es (parts cs) (parts (set cs i next)) view apart apart' name (dirs_of next.open) (bases_of next.open)
-      (set_becomes name cs l i child next same at is named) (set_becomes_by base_side name cs l i child next same at is named)
-      (λ path. inside path ∙ ap (λ o. g o (dirs_of next.open path) (bases_of child.open path)) (sym (found name cs l i child same at is path))
+      (becomes_of_set name cs l i child next same at is named) (set_becomes_by base_side name cs l i child next same at is named)
+      (λ path. inside path ∙ ap (λ o. g o (dirs_of next.open path) (bases_of child.open path)) (sym (in_part_of_child name cs l i child same at is path))
       ∙ ap (λ b. g (in_part name (parts cs) path) (dirs_of next.open path) b) (sym (found_by base_side name cs l i child same at is path)))
 
   pub with_moved : (es' : List EntryView) (ps : List Part) {base : List EntryView} → opened es base ps ≡ old → EachLater (λ x y. x.0 ≢ y.0) ps
@@ -126,36 +127,36 @@ module _ (g : OfBase) (settles : Settles g) (old : Opened) (es : List EntryView)
       (dirs_of (opened es' base (with_part (name, inner) ps)) at) (bases_of old at)
   with_moved es' ps view apart name inner apart' others none inside =
       moved g settles old es es' ps (with_part (name, inner) ps) view apart apart' name (dirs_of inner) (bases_of inner)
-      (with_becomes name inner ps others)
+      (becomes_of_with_part name inner ps others)
       (with_becomes_by base_side name inner ps others)
       (λ path. inside path ∙ ap (λ o. g o (dirs_of inner path) None) (sym (none path)) ∙ ap (λ b. g (in_part name ps path) (dirs_of inner path) b)
       (sym (no_base_in name ps path (none path))))
 
-pub dropped_moved : (old : Opened) (es es' : List EntryView) (ps : List Part) {base : List EntryView} → opened es base ps ≡ old
+pub base_edited_of_dropped : (old : Opened) (es es' : List EntryView) (ps : List Part) {base : List EntryView} → opened es base ps ≡ old
     → EachLater (λ x y. x.0 ≢ y.0) ps → (name : List ℕ) → EachLater (λ x y. x.0 ≢ y.0) (other_parts name ps)
     → (at : Path) → bases_of (opened es' base (other_parts name ps)) at ≡ base_edited (dirs_of old at)
     (dirs_of (opened es' base (other_parts name ps)) at)
     (bases_of old at)
-dropped_moved old es es' ps view apart name apart' =
-    moved base_edited editing old es es' ps (other_parts name ps) view apart apart' name (λ _. None) (λ _. None) (others_becomes name ps)
+base_edited_of_dropped old es es' ps view apart name apart' =
+    moved base_edited editing old es es' ps (other_parts name ps) view apart apart' name (λ _. None) (λ _. None) (becomes_of_removal name ps)
     (others_becomes_by base_side name ps) (λ path. refl)
 
 -- the bases of an equal directory are unchanged
-pub unmoved_as : (g : OfBase) → Settles g → (old new : Opened) → new ≡ old → (at : Path) → bases_of new at ≡ g (dirs_of old at) (dirs_of new at)
+pub base_of_unmoved : (g : OfBase) → Settles g → (old new : Opened) → new ≡ old → (at : Path) → bases_of new at ≡ g (dirs_of old at) (dirs_of new at)
     (bases_of old at)
-unmoved_as g settles old new same at = subst (λ (d : Opened). bases_of d at ≡ g (dirs_of old at) (dirs_of d at) (bases_of old at)) (sym same)
+base_of_unmoved g settles old new same at = subst (λ (d : Opened). bases_of d at ≡ g (dirs_of old at) (dirs_of d at) (bases_of old at)) (sym same)
     (unmoved g settles old at)
 
 -- the bases after a directory that was opened is added
-pub opened_moved : (old : Opened) (es : List EntryView) (cs new : List Child) {base : List EntryView} → opened es base (parts cs) ≡ old
+pub base_opened_of_moved : (old : Opened) (es : List EntryView) (cs new : List Child) {base : List EntryView} → opened es base (parts cs) ≡ old
     → IsLevel es (parts cs)
     → (name : List ℕ) → AllByRecursion (λ p. p.0 ≢ name) (parts cs) → ((path : Path) → in_part name (parts cs) path ≡ None)
     → (e : EntryView) → IsEntryOf name (Some es) e → is_tree_mode e.mode ≡ true → (inner : Opened) → parts new ≡ with_part (name, inner) (parts cs)
     → ((path : Path) → bases_of inner path ≡ dirs_of inner path)
     → (at : Path) → bases_of (opened es base (parts new)) at ≡ base_opened (dirs_of old at) (dirs_of (opened es base (parts new)) at)
     (bases_of old at)
-opened_moved old es cs new {base} view level name others none e entry tree inner is inside at =
+base_opened_of_moved old es cs new {base} view level name others none e entry tree inner is inside at =
     subst (λ (ps : List Part). bases_of (opened es base ps) at ≡ base_opened (dirs_of old at) (dirs_of (opened es base ps) at) (bases_of old at))
     (sym is)
-    (with_moved base_opened opening old es es (parts cs) view (level_apart level) name inner
-    (level_apart (level_with name inner es (parts cs) (of_has_tree name es e entry.0 entry.1 tree) others level)) others none inside at)
+    (with_moved base_opened opening old es es (parts cs) view (level_names_apart level) name inner
+    (level_names_apart (is_level_with_part name inner es (parts cs) (has_tree_of_entry name es e entry.0 entry.1 tree) others level)) others none inside at)

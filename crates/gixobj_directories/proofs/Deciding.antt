@@ -4,9 +4,9 @@ use Rattle.std.specs.Cmp.Lexicographic.{bytes_decides, slice_cmp}
 use Rattle.std.specs.List.{AllByRecursion}
 use Rattle.std.specs.Ordering.{nat_cmp}
 use Rattle.gixobj_files.specs.Editing.{same_name}
-use Rattle.gixobj_hash.proofs.Splits.{free_of_split}
+use Rattle.gixobj_hash.proofs.Splits.{no_split_of_byte_free}
 use Rattle.gixobj_hash.specs.ByteStrings.{IsByteFree}
-use Rattle.gixobj_tree.proofs.Deciding.{split_or_free}
+use Rattle.gixobj_tree.proofs.Deciding.{splits_at_or_byte_free}
 use Rattle.gixobj_tree.specs.Entries.{ComesBefore, EachLater, EntryView, IsEntryName, IsWellFormed, entry_key}
 
 -- a statement holds, or it doesn't
@@ -26,7 +26,8 @@ later_or_not R either (x ∷ xs) =
 
 free_or_not : (byte : ℕ) (bytes : List ℕ) → OrNot (IsByteFree byte bytes)
 free_or_not byte bytes =
-    ⊎_elim (λ cut. inr (λ free. free_of_split byte cut.0 cut.1 (subst (IsByteFree byte) cut.2.joined free))) (λ free. inl free) (split_or_free byte bytes)
+    ⊎_elim (λ cut. inr (λ free. no_split_of_byte_free byte cut.0 cut.1 (subst (IsByteFree byte) cut.2.joined free))) (λ free. inl free)
+        (splits_at_or_byte_free byte bytes)
 
 name_or_not : (name : List ℕ) → OrNot (IsEntryName name)
 name_or_not [] = inr (λ is. is.filled refl)
@@ -53,8 +54,8 @@ apart_or_not = later_or_not (λ x y. x.name ≢ y.name) (λ x y. differ_or_not x
 ascending_or_not : (entries : List EntryView) → OrNot (EachLater ComesBefore entries)
 ascending_or_not = later_or_not ComesBefore (λ x y. less_or_not (slice_cmp nat_cmp (entry_key x) (entry_key y)))
 
-pub formed_or_not : (entries : List EntryView) → IsWellFormed entries ⊎ (IsWellFormed entries → ⊥)
-formed_or_not entries = ⊎_elim of_names (λ other. inr (λ is. other is.names)) (names_or_not entries)
+pub is_well_formed_or_not : (entries : List EntryView) → IsWellFormed entries ⊎ (IsWellFormed entries → ⊥)
+is_well_formed_or_not entries = ⊎_elim of_names (λ other. inr (λ is. other is.names)) (names_or_not entries)
   where
     of_both : AllByRecursion (λ e. IsEntryName e.name) entries → EachLater (λ x y. x.name ≢ y.name) entries → OrNot (IsWellFormed entries)
     of_both names apart = ⊎_elim (λ ascending. inl (record { names = names; apart = apart; ascending = ascending })) (λ other. inr (λ is. other is.ascending))

@@ -25,14 +25,14 @@ use Rattle.gixobj_files.specs.Opening.{Dirs, in_dir}
 use Rattle.gixobj_directories.specs.declared.write.WriteError.{WriteError}
 use Rattle.gixobj_directories.specs.declared.write.WriteError.TheVariants as write
 use Rattle.gixobj_files.proofs.Sublists.{all_weaker}
-use Rattle.gixobj_directories.proofs.Levels.{tied, tied_name}
-use Rattle.gixobj_files.proofs.SameTrees.{same_or_other}
+use Rattle.gixobj_directories.proofs.Levels.{tied, tied_cons}
+use Rattle.gixobj_files.proofs.SameTrees.{entries_eq_or_ne}
 
 -- a walk with an equal count
-pub counts : {dirs bases : Dirs} {entries : List EntryView} {below : List Pair} {own : List EntryView} (m n : ℕ) → m ≡ n
+pub walks_of_count : {dirs bases : Dirs} {entries : List EntryView} {below : List Pair} {own : List EntryView} (m n : ℕ) → m ≡ n
     → Walks dirs bases entries below own m
     → Walks dirs bases entries below own n
-counts {dirs} {bases} {entries} {below} {own} m n is walk = subst (Walks dirs bases entries below own) is walk
+walks_of_count {dirs} {bases} {entries} {below} {own} m n is walk = subst (Walks dirs bases entries below own) is walk
 
 -- increments add up
 raised_on : (n first then : ℕ) → raised (raised n first) then ≡ raised n (first + then)
@@ -41,17 +41,17 @@ raised_on n (suc first) then =
     let is : suc (first + then) ≡ suc first + then = omega arith in
     raised_on (min (n + 1) max_count) first then ∙ ap (λ k. raised n k) is
 
-pub raised_then : (old between new first then : ℕ) → between ≡ raised old first → new ≡ raised between then → new ≡ raised old (first + then)
-raised_then old between new first then before after = after ∙ ap (λ n. raised n then) before ∙ raised_on old first then
+pub raised_append : (old between new first then : ℕ) → between ≡ raised old first → new ≡ raised between then → new ≡ raised old (first + then)
+raised_append old between new first then before after = after ∙ ap (λ n. raised n then) before ∙ raised_on old first then
 
-pub visit_unopened : (inside based : Dirs) (e : EntryView) → inside [] ≡ None → Visits inside based e [] (entry_with e e.id) 0
-visit_unopened inside based e none = λ dirs bases is b entries below own more walk. counts more (0 + more) (omega arith)
+pub visits_unopened : (inside based : Dirs) (e : EntryView) → inside [] ≡ None → Visits inside based e [] (entry_with e e.id) 0
+visits_unopened inside based e none = λ dirs bases is b entries below own more walk. walks_of_count more (0 + more) (omega arith)
     (unopened dirs bases e entries below own more (ap (λ (d : Dirs). d []) is ∙ none) walk)
 
 -- equal open directories with equal bases emit equal pairs
-pub in_both : (dirs bases dirs' bases' : Dirs) → dirs ≡ dirs' → bases ≡ bases' → (ps : List Pair) (own : List EntryView) (n : ℕ)
+pub emits_below_of_both : (dirs bases dirs' bases' : Dirs) → dirs ≡ dirs' → bases ≡ bases' → (ps : List Pair) (own : List EntryView) (n : ℕ)
     → EmitsBelow dirs bases ps own n → EmitsBelow dirs' bases' ps own n
-in_both dirs bases dirs' bases' is b ps own n found = subst (λ (d : Dirs). EmitsBelow d bases' ps own n) is
+emits_below_of_both dirs bases dirs' bases' is b ps own n found = subst (λ (d : Dirs). EmitsBelow d bases' ps own n) is
     (subst (λ (d : Dirs). EmitsBelow dirs d ps own n) b found)
 
 -- what the directory of a name emits is what its open directories emit
@@ -61,90 +61,90 @@ in_it : (inside based : Dirs) (dirs bases : Dirs) (name : List ℕ) → in_dir n
 in_it inside based dirs bases name is b inner own saved found = subst (λ (d : Dirs). EmitsBelow d (in_dir name bases) inner own saved) (sym is)
     (subst (λ (d : Dirs). EmitsBelow inside d inner own saved) (sym b) found)
 
-pub visit_emptied : (inside based : Dirs) (e : EntryView) (inner : List Pair) (own : List EntryView) (saved : ℕ) → own ≡ []
+pub visits_emptied : (inside based : Dirs) (e : EntryView) (inner : List Pair) (own : List EntryView) (saved : ℕ) → own ≡ []
     → EmitsBelow inside based inner own saved → Visits inside based e inner [] saved
-visit_emptied inside based e inner [] saved is found = λ dirs bases same b entries below own more walk. emptied dirs bases e entries inner below own
+visits_emptied inside based e inner [] saved is found = λ dirs bases same b entries below own more walk. emptied dirs bases e entries inner below own
     saved more
     (in_it inside based dirs bases e.name same b inner [] saved found) walk
-visit_emptied inside based e inner (x ∷ xs) saved is found = absurd (cc is)
+visits_emptied inside based e inner (x ∷ xs) saved is found = absurd (cc is)
 
-pub visit_written : (inside based : Dirs) (e : EntryView) (inner : List Pair) (tree : List EntryView) (saved : ℕ) (id : ObjectId) → tree ≢ []
+pub visits_written : (inside based : Dirs) (e : EntryView) (inner : List Pair) (tree : List EntryView) (saved : ℕ) (id : ObjectId) → tree ≢ []
     → based [] ≢ Some tree → EmitsBelow inside based inner tree saved → Visits inside based e (inner ++ (id, tree) ∷ []) (entry_with e id) saved
-visit_written inside based e inner [] saved id filled changed found = absurd (filled refl)
-visit_written inside based e inner (first ∷ rest) saved id filled changed found =
+visits_written inside based e inner [] saved id filled changed found = absurd (filled refl)
+visits_written inside based e inner (first ∷ rest) saved id filled changed found =
     λ dirs bases same b entries below own more walk. rw append_assoc
     (written dirs bases e first entries rest inner below own saved more id
     (in_it inside based dirs bases e.name same b inner (first ∷ rest) saved found)
     (λ is. changed (sym (ap (λ (d : Dirs). d []) b) ∙ is)) walk)
 
-pub visit_unchanged : (inside based : Dirs) (e : EntryView) (inner : List Pair) (tree : List EntryView) (saved : ℕ) → tree ≢ [] → based [] ≡ Some tree
+pub visits_unchanged : (inside based : Dirs) (e : EntryView) (inner : List Pair) (tree : List EntryView) (saved : ℕ) → tree ≢ [] → based [] ≡ Some tree
     → EmitsBelow inside based inner tree saved → Visits inside based e inner (entry_with e e.id) (saved + 1)
-visit_unchanged inside based e inner [] saved filled is found = absurd (filled refl)
-visit_unchanged inside based e inner (first ∷ rest) saved filled is found =
+visits_unchanged inside based e inner [] saved filled is found = absurd (filled refl)
+visits_unchanged inside based e inner (first ∷ rest) saved filled is found =
     λ dirs bases same b entries below own more walk. unchanged dirs bases e first entries rest inner below own saved more
     (in_it inside based dirs bases e.name same b inner (first ∷ rest) saved found) (ap (λ (d : Dirs). d []) b ∙ is) walk
 
 -- the base is a tree, or it isn't
 base_is : (o : Option (List EntryView)) (tree : List EntryView) → (o ≡ Some tree) ⊎ (o ≢ Some tree)
 base_is None tree = inr (λ is. cc is)
-base_is (Some base) tree = ⊎_elim (λ same. inl (ap Some same)) (λ other. inr (λ is. other (cc is))) (same_or_other base tree)
+base_is (Some base) tree = ⊎_elim (λ same. inl (ap Some same)) (λ other. inr (λ is. other (cc is))) (entries_eq_or_ne base tree)
 
 -- the entry of a directory emits what the directory emits, and then the directory if it is changed
-pub visit_open : (inside based : Dirs) (e : EntryView) (inner : List Pair) (own : List EntryView) (saved : ℕ)
+pub visits_open : (inside based : Dirs) (e : EntryView) (inner : List Pair) (own : List EntryView) (saved : ℕ)
     → EmitsBelow inside based inner own saved
     → (more : List Pair) × (kept : List EntryView) × (count : ℕ) × Visits inside based e (inner ++ more) kept count
-visit_open inside based e inner [] saved found = ([], [], saved, rw append-nil (visit_emptied inside based e inner [] saved refl found))
-visit_open inside based e inner (first ∷ rest) saved found =
+visits_open inside based e inner [] saved found = ([], [], saved, rw append-nil (visits_emptied inside based e inner [] saved refl found))
+visits_open inside based e inner (first ∷ rest) saved found =
     ⊎_elim (λ same. (
       [],
       entry_with e e.id,
       saved + 1,
       rw append-nil
-          (visit_unchanged inside based e inner (first ∷ rest) saved (λ q. cc q) same found),
+          (visits_unchanged inside based e inner (first ∷ rest) saved (λ q. cc q) same found),
     ))
     (λ other. (
       (e.id, first ∷ rest) ∷ [],
       entry_with e e.id,
       saved,
-      visit_written inside based e inner (first ∷ rest) saved e.id
+      visits_written inside based e inner (first ∷ rest) saved e.id
           (λ q. cc q) other found,
     ))
     (base_is (based []) (first ∷ rest))
 
-pub is_empty_list : {X : Type 0} (xs : List X) → true ≡ (length xs == 0) → xs ≡ []
-is_empty_list [] h = refl
-is_empty_list (x ∷ xs) h = let none : length (x ∷ xs) ≡ 0 = eqb-true (length (x ∷ xs)) 0 (sym h) in absurd (omega (arith, none))
+pub nil_of_is_empty : {X : Type 0} (xs : List X) → true ≡ (length xs == 0) → xs ≡ []
+nil_of_is_empty [] h = refl
+nil_of_is_empty (x ∷ xs) h = let none : length (x ∷ xs) ≡ 0 = eqb-true (length (x ∷ xs)) 0 (sym h) in absurd (omega (arith, none))
 
-pub is_filled_list : {X : Type 0} (xs : List X) → false ≡ (length xs == 0) → xs ≢ []
-is_filled_list [] h q = true≢false (sym h)
-is_filled_list (x ∷ xs) h q = cc q
+pub not_nil_of_not_empty : {X : Type 0} (xs : List X) → false ≡ (length xs == 0) → xs ≢ []
+not_nil_of_not_empty [] h q = true≢false (sym h)
+not_nil_of_not_empty (x ∷ xs) h q = cc q
 
 -- calls for two lists, one after the other, are calls for the appended list
-pub FoldsTo-append : {P A : Type 0} (R : P → A → P → Type 0) (p : P) (xs : List A) (q : P) (ys : List A) (r : P) → FoldsTo R p xs q → FoldsTo R q ys r
+pub folds_to_append : {P A : Type 0} (R : P → A → P → Type 0) (p : P) (xs : List A) (q : P) (ys : List A) (r : P) → FoldsTo R p xs q → FoldsTo R q ys r
     → FoldsTo R p (xs ++ ys) r
-FoldsTo-append R p [] q ys r h k = subst (λ v. FoldsTo R v ys r) (sym h) k
-FoldsTo-append R p (x ∷ xs) q ys r h k = (h.0, h.1, FoldsTo-append R h.0 xs q ys r h.2 k)
+folds_to_append R p [] q ys r h k = subst (λ v. FoldsTo R v ys r) (sym h) k
+folds_to_append R p (x ∷ xs) q ys r h k = (h.0, h.1, folds_to_append R h.0 xs q ys r h.2 k)
 
 -- a closure that may be called may be called after calls
-pub callable_after : {F : Type 0} (pre : F → Bor (List EntryView) → Type 0) (gave : F → Pair → F → Type 0) (old : F) (ps : List Pair) (mid : F)
+pub callable_after_folds : {F : Type 0} (pre : F → Bor (List EntryView) → Type 0) (gave : F → Pair → F → Type 0) (old : F) (ps : List Pair) (mid : F)
     → FoldsTo gave old ps mid → IsCallableOnTrees pre gave old → IsCallableOnTrees pre gave mid
-callable_after pre gave old ps mid calls callable more state further tree storable =
-    callable (ps ++ more) state (FoldsTo-append gave old ps mid more state calls further) tree storable
+callable_after_folds pre gave old ps mid calls callable more state further tree storable =
+    callable (ps ++ more) state (folds_to_append gave old ps mid more state calls further) tree storable
 
-pub FoldsTo-one : {P A : Type 0} (R : P → A → P → Type 0) (p : P) (x : A) (q : P) → R p x q → FoldsTo R p (x ∷ []) q
-FoldsTo-one R p x q h = (q, h, refl)
+pub folds_to_one : {P A : Type 0} (R : P → A → P → Type 0) (p : P) (x : A) (q : P) → R p x q → FoldsTo R p (x ∷ []) q
+folds_to_one R p x q h = (q, h, refl)
 
 -- a write that stops after the calls for some pairs
-pub stopped_after : {F E : Type 0} (gave : F → Pair → F → Type 0) (rejected : F → List EntryView → E → F → Type 0) (P Q : List Pair → Type 0)
+pub stopped_after_folds : {F E : Type 0} (gave : F → Pair → F → Type 0) (rejected : F → List EntryView → E → F → Type 0) (P Q : List Pair → Type 0)
     (old mid new : F)
     (ps : List Pair)
     → FoldsTo gave old ps mid → ((qs : List Pair) → P qs → (more : List Pair) × Q (ps ++ (qs ++ more))) → (error : WriteError E)
     → Stopped gave rejected P mid new error → Stopped gave rejected Q old new error
-stopped_after gave rejected P Q old mid new ps calls goes (write.Out e) s = (
+stopped_after_folds gave rejected P Q old mid new ps calls goes (write.Out e) s = (
   ps ++ s.0,
   s.1,
   s.2,
-  FoldsTo-append gave old ps mid s.0 s.2 calls s.3,
+  folds_to_append gave old ps mid s.0 s.2 calls s.3,
   s.4,
   λ id. let one = s.5 id in let more = goes (s.0 ++ (id, s.1) ∷ one.0) one.1 in (one.0 ++ more.0, subst Q (joined s.0 (id, s.1) one.0 more.0) more.1),
 )
@@ -152,35 +152,35 @@ stopped_after gave rejected P Q old mid new ps calls goes (write.Out e) s = (
     joined : (before : List Pair) (pair : Pair) (rest more : List Pair)
         → ps ++ ((before ++ pair ∷ rest) ++ more) ≡ (ps ++ before) ++ pair ∷ (rest ++ more)
     joined before pair rest more = rw (append_assoc, append_assoc) refl
-stopped_after gave rejected P Q old mid new ps calls goes write.OutOfMemory s =
+stopped_after_folds gave rejected P Q old mid new ps calls goes write.OutOfMemory s =
     let more = goes (s.0 ++ s.1) s.3 in
-    (ps ++ s.0, s.1 ++ more.0, FoldsTo-append gave old ps mid s.0 new calls s.2, subst Q (joined s.0 s.1 more.0) more.1)
+    (ps ++ s.0, s.1 ++ more.0, folds_to_append gave old ps mid s.0 new calls s.2, subst Q (joined s.0 s.1 more.0) more.1)
   where
     joined : (before rest more : List Pair) → ps ++ ((before ++ rest) ++ more) ≡ (ps ++ before) ++ (rest ++ more)
     joined before rest more = rw (append_assoc, append_assoc) refl
 
 -- memory ran out after these calls
-pub stopped_here : {F E : Type 0} (gave : F → Pair → F → Type 0) (rejected : F → List EntryView → E → F → Type 0) (Q : List Pair → Type 0)
+pub stopped_at_call : {F E : Type 0} (gave : F → Pair → F → Type 0) (rejected : F → List EntryView → E → F → Type 0) (Q : List Pair → Type 0)
     (old new : F)
     (ps rest : List Pair)
     → FoldsTo gave old ps new → Q (ps ++ rest) → (error : WriteError E) → error ≡ write.OutOfMemory → Stopped gave rejected Q old new error
-stopped_here {F} {E} gave rejected Q old new ps rest calls goes error is = subst (Stopped gave rejected Q old new) (sym is) (ps, rest, calls, goes)
+stopped_at_call {F} {E} gave rejected Q old new ps rest calls goes error is = subst (Stopped gave rejected Q old new) (sym is) (ps, rest, calls, goes)
 
 -- directories whose paths are of bounded length emit some list
-pub some_walk : (n : ℕ) (dirs bases : Dirs) → ((path : Path) → n ≤ length path → dirs path ≡ None) → (entries : List EntryView) → (below : List Pair)
+pub walk_exists : (n : ℕ) (dirs bases : Dirs) → ((path : Path) → n ≤ length path → dirs path ≡ None) → (entries : List EntryView) → (below : List Pair)
     × (own : List EntryView) × (saved : ℕ) × Walks dirs bases entries below own saved
-some_walk n dirs bases bound [] = ([], [], 0, end dirs bases)
-some_walk zero dirs bases bound (e ∷ entries) =
-    let rest = some_walk zero dirs bases bound entries in
+walk_exists n dirs bases bound [] = ([], [], 0, end dirs bases)
+walk_exists zero dirs bases bound (e ∷ entries) =
+    let rest = walk_exists zero dirs bases bound entries in
     (rest.0, entry_with e e.id ++ rest.1, rest.2, unopened dirs bases e entries rest.0 rest.1 rest.2 (bound (e.name ∷ []) (omega arith)) rest.3)
-some_walk (suc n) dirs bases bound (e ∷ entries) =
-    let rest = some_walk (suc n) dirs bases bound entries in
+walk_exists (suc n) dirs bases bound (e ∷ entries) =
+    let rest = walk_exists (suc n) dirs bases bound entries in
     elim (dirs (e.name ∷ [])) as (λ o. dirs (e.name ∷ []) ≡ o → (below : List Pair) × (own : List EntryView) × (saved : ℕ)
     × Walks dirs bases (e ∷ entries) below own saved) [
       | None ↦ λ is. (rest.0, entry_with e e.id ++ rest.1, rest.2, unopened dirs bases e entries rest.0 rest.1 rest.2 is rest.3)
-      | Some es ↦ λ is. let inner = some_walk n (in_dir e.name dirs) (in_dir e.name bases) (λ path long. bound (e.name ∷ path) (omega (arith, long)))
+      | Some es ↦ λ is. let inner = walk_exists n (in_dir e.name dirs) (in_dir e.name bases) (λ path long. bound (e.name ∷ path) (omega (arith, long)))
           es in
-          let seen = visit_open (in_dir e.name dirs) (in_dir e.name bases) e inner.0 inner.1 inner.2
+          let seen = visits_open (in_dir e.name dirs) (in_dir e.name bases) e inner.0 inner.1 inner.2
           (leaves (in_dir e.name dirs) (in_dir e.name bases) es inner.0 inner.1 inner.2 is inner.3) in
           ((inner.0 ++ seen.0) ++ rest.0, seen.1 ++ rest.1, seen.2 + rest.2, seen.3 dirs bases refl refl entries rest.0 rest.1 rest.2 rest.3)
     ] refl
@@ -195,25 +195,25 @@ tied_length [] [] h = refl
 tied_length [] (y ∷ q) h = absurd (true≢false (sym h))
 tied_length (x ∷ p) [] h = absurd (true≢false (sym h))
 tied_length (x ∷ p) (y ∷ q) h = let rest : length p ≡ length q =
-    tied_length p q (second (same_name x y) (tied p q) (sym (tied_name x y p q) ∙ h)) in omega
+    tied_length p q (second (same_name x y) (tied p q) (sym (tied_cons x y p q) ∙ h)) in omega
     (arith, rest)
   where
     second : (a b : Bool) → (a && b) ≡ true → b ≡ true
     second true b k = k
     second false b k = absurd (true≢false (sym k))
 
-pub long_unopened : (ds : Opened) (path : Path) → longest ds ≤ length path → dirs_of ds path ≡ None
+pub dirs_none_of_long_path : (ds : Opened) (path : Path) → longest ds ≤ length path → dirs_of ds path ≡ None
 unfolding longest
-long_unopened [] path h = refl
-long_unopened (d ∷ ds) path h =
+dirs_none_of_long_path [] path h = refl
+dirs_none_of_long_path (d ∷ ds) path h =
     elim (tied path d.0) as (λ b. tied path d.0 ≡ b → cond b (Some d.1.0) (dirs_of ds path) ≡ None) [
       | true ↦ λ is. let same : length path ≡ length d.0 = tied_length path d.0 is in absurd (omega (arith, same, h))
-      | false ↦ λ is. long_unopened ds path (omega (arith, h))
+      | false ↦ λ is. dirs_none_of_long_path ds path (omega (arith, h))
     ] refl
 
-pub walk_on : (ds : Opened) (entries : List EntryView) → (below : List Pair) × (own : List EntryView) × (saved : ℕ)
+pub walk_exists_of_open : (ds : Opened) (entries : List EntryView) → (below : List Pair) × (own : List EntryView) × (saved : ℕ)
     × Walks (dirs_of ds) (bases_of ds) entries below own saved
-walk_on ds entries = some_walk (longest ds) (dirs_of ds) (bases_of ds) (long_unopened ds) entries
+walk_exists_of_open ds entries = walk_exists (longest ds) (dirs_of ds) (bases_of ds) (dirs_none_of_long_path ds) entries
 
 -- a property of an entry and of the others holds of the list with the entry, if its id isn't null
 kept_all : (P : EntryView → Type 0) (e : EntryView) (id : ObjectId) (os : List EntryView) → P (record { mode = e.mode; name = e.name; id = id })
@@ -276,10 +276,10 @@ walk_filled dirs bases entries below own n (written dirs' b' e first es rest inn
 walk_filled dirs bases entries below own n (unchanged dirs' b' e first es rest inner ps os i m found same_base walk) =
     kept_filled e e.id os (walk_filled dirs' b' es ps os m walk)
 
-pub walk_storable : (dirs bases : Dirs) (entries : List EntryView) (below : List Pair) (own : List EntryView) (n : ℕ)
+pub written_is_storable : (dirs bases : Dirs) (entries : List EntryView) (below : List Pair) (own : List EntryView) (n : ℕ)
     → Walks dirs bases entries below own n
     → IsWellFormed entries → IsStorable own
-walk_storable dirs bases entries below own n walk formed = record {
+written_is_storable dirs bases entries below own n walk formed = record {
   well_formed = record {
     names = walk_all (λ e. IsEntryName e.name) (λ e id h. h) dirs bases entries below own n walk formed.names;
     apart = walk_later (λ x y. x.name ≢ y.name) (λ e y id h. h) (λ x e id h. h) dirs bases entries below own n walk formed.apart;
@@ -289,14 +289,14 @@ walk_storable dirs bases entries below own n walk formed = record {
 }
 
 -- an error that `?` returns
-pub err_weaker : {X E : Type 0} (r : Result X E) (P Q : E → Type 0) → IsErrAnd r P → ((error : E) → P error → Q error) → IfErr r Q
-err_weaker (Ok x) P Q h f = absurd h
-err_weaker (Err error) P Q h f = f error h
+pub if_err_weaken : {X E : Type 0} (r : Result X E) (P Q : E → Type 0) → IsErrAnd r P → ((error : E) → P error → Q error) → IfErr r Q
+if_err_weaken (Ok x) P Q h f = absurd h
+if_err_weaken (Err error) P Q h f = f error h
 
 -- what is open in a child
-pub open_side : (side : Level → List EntryView) (passed : Option (Bor Child)) (child : Bor Child) → passed ≡ Some child
+pub side_of_open_child : (side : Level → List EntryView) (passed : Option (Bor Child)) (child : Bor Child) → passed ≡ Some child
     → at_side side child.now.open ≡ child_side side (option_copied passed)
-open_side side passed child is = sym (ap (λ (o : Option (Bor Child)). child_side side (option_copied o)) is)
+side_of_open_child side passed child is = sym (ap (λ (o : Option (Bor Child)). child_side side (option_copied o)) is)
 
 -- a walk with one entry more
 module _ (dirs bases inside based : Dirs) (items : List EntryView) (i : ℕ) (e : EntryView) (ps inner : List Pair) (acc kept : List EntryView)
@@ -315,29 +315,29 @@ module _ (dirs bases inside based : Dirs) (items : List EntryView) (i : ℕ) (e 
 
   pub walk_step : (next : List EntryView) → next ≡ acc ++ kept → (qs : List Pair) (own : List EntryView) (n : ℕ)
       → Walks dirs bases (drop (i + 1) items) qs own n → Walks dirs bases items ((ps ++ inner) ++ qs) (next ++ own) (count + saved + n)
-  walk_step next is_next qs own n walk = counts (count + (saved + n)) (count + saved + n) (omega arith)
+  walk_step next is_next qs own n walk = walks_of_count (count + (saved + n)) (count + saved + n) (omega arith)
       (rw (is_next, append_assoc, append_assoc) (walk_goes qs own n walk))
 
 -- the end of a walk
-pub walk_ends : (dirs bases : Dirs) (items : List EntryView) (i : ℕ) (ps : List Pair) (acc : List EntryView) (count : ℕ) → length items ≤ i
+pub walks_at_end : (dirs bases : Dirs) (items : List EntryView) (i : ℕ) (ps : List Pair) (acc : List EntryView) (count : ℕ) → length items ≤ i
     → ((qs : List Pair) (own : List EntryView) (n : ℕ) → Walks dirs bases (drop i items) qs own n → Walks dirs bases items (ps ++ qs) (acc ++ own)
     (count + n))
     → Walks dirs bases items ps acc count
-walk_ends dirs bases items i ps acc count high so_far =
+walks_at_end dirs bases items i ps acc count high so_far =
     let none : drop i items ≡ [] = drop_all i items high in
     let walk = so_far [] [] 0 (subst (λ es. Walks dirs bases es [] [] 0) (sym none) (end dirs bases)) in
-    counts (count + 0) count (omega arith) (rw (append-nil, append-nil) at walk)
+    walks_of_count (count + 0) count (omega arith) (rw (append-nil, append-nil) at walk)
 
 -- what is emitted below a directory is a prefix of what the directory emits, with itself
-pub emits_more : (dirs bases : Dirs) (below : List Pair) (own : List EntryView) (saved : ℕ) → EmitsBelow dirs bases below own saved
+pub emits_some_append : (dirs bases : Dirs) (below : List Pair) (own : List EntryView) (saved : ℕ) → EmitsBelow dirs bases below own saved
     → (more : List Pair)
     × EmitsSome dirs bases (below ++ more)
-emits_more dirs bases below own saved found = ((Sha1 [], own) ∷ [], (saved, below, Sha1 [], own, found, refl))
+emits_some_append dirs bases below own saved found = ((Sha1 [], own) ∷ [], (saved, below, Sha1 [], own, found, refl))
 
 -- a write that stops does so in equal open directories
-pub stopped_same : {F E : Type 0} (gave : F → Pair → F → Type 0) (rejected : F → List EntryView → E → F → Type 0) (dirs dirs' bases bases' : Dirs)
+pub stopped_of_same_dirs : {F E : Type 0} (gave : F → Pair → F → Type 0) (rejected : F → List EntryView → E → F → Type 0) (dirs dirs' bases bases' : Dirs)
     → dirs ≡ dirs' → bases ≡ bases' → (old new : F) (error : WriteError E)
     → Stopped gave rejected (EmitsSome dirs bases) old new error → Stopped gave rejected (EmitsSome dirs' bases') old new error
-stopped_same gave rejected dirs dirs' bases bases' same same_bases old new error stopped =
+stopped_of_same_dirs gave rejected dirs dirs' bases bases' same same_bases old new error stopped =
     subst (λ (b : Dirs). Stopped gave rejected (EmitsSome dirs' b) old new error) same_bases
     (subst (λ (d : Dirs). Stopped gave rejected (EmitsSome d bases) old new error) same stopped)

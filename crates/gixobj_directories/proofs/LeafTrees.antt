@@ -16,16 +16,16 @@ use Rattle.gixobj_tree.specs.EntryOrder.{same_tree}
 use Rattle.gixobj_files.specs.Editing.{has_tree, same_name}
 use Rattle.gixobj_files.specs.Files.{Path, is_null}
 use Rattle.gixobj_files.specs.Emission.{EmitsBelow, Walks, end, leaves, unopened}
-use Rattle.gixobj_files.proofs.OpenedFiles.{name_itself, name_other}
+use Rattle.gixobj_files.proofs.OpenedFiles.{same_name_refl, same_name_false}
 use Rattle.gixobj_files.proofs.Sublists.{all_weaker}
 use Rattle.gixobj_directories.specs.declared.open.Child.{Child}
 use Rattle.gixobj_directories.specs.Emitting.{next_child, pairs_after_next}
 use Rattle.gixobj_directories.specs.Nested.{AreOrdered, Level, Opened, Part, bases_of, below, dirs_of, length-under, opened, part, parts, under}
 use Rattle.gixobj_directories.specs.LeafTrees.{Adds, Fills, child_leaf_trees, is_at_or_below, is_above, is_leaf_tree, leaf_trees}
 use Rattle.gixobj_directories.proofs.Alongside.{Ahead}
-use Rattle.gixobj_directories.proofs.Emitting.{is_filled_list}
-use Rattle.gixobj_directories.proofs.Ordered.{apart_of}
-use Rattle.gixobj_files.proofs.SameTrees.{other_tree}
+use Rattle.gixobj_directories.proofs.Emitting.{not_nil_of_not_empty}
+use Rattle.gixobj_directories.proofs.Ordered.{children_names_apart}
+use Rattle.gixobj_files.proofs.SameTrees.{same_tree_false_ne}
 
 -- what a directory adds to the leaf trees, by whether it is above the next
 abbrev own_leaf_tree : Bool → Level → List (List EntryView)
@@ -33,12 +33,12 @@ own_leaf_tree above level = cond (not above && is_leaf_tree level) (level.0 ∷ 
 
 above_under : (name : List ℕ) (path : Path) (ds : Opened) → is_above (name ∷ path) (under name ds) ≡ is_above path ds
 above_under name path [] = refl
-above_under name path (d ∷ ds) = ap (λ b. b && is_at_or_below path d.0) (name_itself name)
+above_under name path (d ∷ ds) = ap (λ b. b && is_at_or_below path d.0) (same_name_refl name)
 
 above_rest : (name : List ℕ) (path : Path) (other : List ℕ) (ds rest : Opened) → other ≢ name → is_above (name ∷ path) rest ≡ false
     → is_above (name ∷ path) (under other ds ++ rest) ≡ false
 above_rest name path other [] rest differ none = none
-above_rest name path other (d ∷ ds) rest differ none = ap (λ b. b && is_at_or_below path d.0) (name_other other name differ)
+above_rest name path other (d ∷ ds) rest differ none = ap (λ b. b && is_at_or_below path d.0) (same_name_false other name differ)
 
 -- no directory that is open in directories of other names is open in this one
 none_above : (name : List ℕ) (path : Path) (ps : List Part) → AllByRecursion (λ p. name ≢ p.0) ps → is_above (name ∷ path) (below ps) ≡ false
@@ -56,27 +56,27 @@ leaf_trees_first name (d ∷ e ∷ ds) rest none =
     ∙ ap (λ ts. own_leaf_tree (is_above d.0 (e ∷ ds)) d.1 ++ ts) (leaf_trees_first name (e ∷ ds) rest none)
     ∙ sym (append_assoc (own_leaf_tree (is_above d.0 (e ∷ ds)) d.1) (leaf_trees (e ∷ ds)) (leaf_trees rest))
 
-pub leaf_trees_next : (p : Part) (ps : List Part) → AllByRecursion (λ q. p.0 ≢ q.0) ps → leaf_trees (below (p ∷ ps)) ≡ leaf_trees p.1 ++ leaf_trees
+pub leaf_trees_below_cons : (p : Part) (ps : List Part) → AllByRecursion (λ q. p.0 ≢ q.0) ps → leaf_trees (below (p ∷ ps)) ≡ leaf_trees p.1 ++ leaf_trees
     (below ps)
-leaf_trees_next p ps others = leaf_trees_first p.0 p.1 (below ps) (λ path. none_above p.0 path ps others)
+leaf_trees_below_cons p ps others = leaf_trees_first p.0 p.1 (below ps) (λ path. none_above p.0 path ps others)
 
 prefix_all : {X : Type 0} (P : X → Type 0) (xs : List X) (x : X) → AllByRecursion P (xs ++ x ∷ []) → AllByRecursion P xs
 prefix_all P [] x h = tt
 prefix_all P (y ∷ ys) x h = (h.0, prefix_all P ys x h.1)
 
-pub prefix_apart : {X : Type 0} (R : X → X → Type 0) (xs : List X) (x : X) → EachLater R (xs ++ x ∷ []) → EachLater R xs
-prefix_apart R [] x h = tt
-prefix_apart R (y ∷ ys) x h = (prefix_all (R y) ys x h.0, prefix_apart R ys x h.1)
+pub each_later_prefix : {X : Type 0} (R : X → X → Type 0) (xs : List X) (x : X) → EachLater R (xs ++ x ∷ []) → EachLater R xs
+each_later_prefix R [] x h = tt
+each_later_prefix R (y ∷ ys) x h = (prefix_all (R y) ys x h.0, each_later_prefix R ys x h.1)
 
 -- the leaf trees of the last name come last
-pub leaf_trees_last : (ps : List Part) (p : Part) → EachLater (λ x y. x.0 ≢ y.0) (ps ++ p ∷ []) → leaf_trees (below (ps ++ p ∷ [])) ≡ leaf_trees
+pub leaf_trees_below_snoc : (ps : List Part) (p : Part) → EachLater (λ x y. x.0 ≢ y.0) (ps ++ p ∷ []) → leaf_trees (below (ps ++ p ∷ [])) ≡ leaf_trees
     (below ps) ++ leaf_trees p.1
-leaf_trees_last [] p apart = leaf_trees_next p [] tt ∙ append-nil (leaf_trees p.1)
-leaf_trees_last (q ∷ qs) p apart =
-    leaf_trees_next q (qs ++ p ∷ []) apart.0
-    ∙ ap (λ ts. leaf_trees q.1 ++ ts) (leaf_trees_last qs p apart.1)
+leaf_trees_below_snoc [] p apart = leaf_trees_below_cons p [] tt ∙ append-nil (leaf_trees p.1)
+leaf_trees_below_snoc (q ∷ qs) p apart =
+    leaf_trees_below_cons q (qs ++ p ∷ []) apart.0
+    ∙ ap (λ ts. leaf_trees q.1 ++ ts) (leaf_trees_below_snoc qs p apart.1)
     ∙ sym (append_assoc (leaf_trees q.1) (leaf_trees (below qs)) (leaf_trees p.1))
-    ∙ ap (λ ts. ts ++ leaf_trees p.1) (sym (leaf_trees_next q qs (prefix_all (λ x. q.0 ≢ x.0) qs p apart.0)))
+    ∙ ap (λ ts. ts ++ leaf_trees p.1) (sym (leaf_trees_below_cons q qs (prefix_all (λ x. q.0 ≢ x.0) qs p apart.0)))
 
 -- pairs that are filled one after the other are filled as appended lists
 fills_then : (qs : List Pair) (ts : List (List EntryView)) (ps qs' : List Pair) (ts' : List (List EntryView)) (ps' : List Pair) → Fills qs ts ps
@@ -87,63 +87,63 @@ fills_then (q ∷ qs) ts ps qs' ts' ps' (inl h) k = inl (h.0 ++ ps', h.1, ap (λ
 fills_then (q ∷ qs) ts ps qs' ts' ps' (inr h) k =
     inr (h.0, h.1 ++ ts', h.2 ++ ps', h.3, ap (λ us. us ++ ts') h.4, ap (λ us. us ++ ps') h.5, fills_then qs h.1 h.2 qs' ts' ps' h.6 k)
 
-pub adds_then : (a b c : List Pair) (ts : List (List EntryView)) (ps : List Pair) (ts' : List (List EntryView)) (ps' : List Pair) → Adds a b ts ps
+pub adds_append : (a b c : List Pair) (ts : List (List EntryView)) (ps : List Pair) (ts' : List (List EntryView)) (ps' : List Pair) → Adds a b ts ps
     → Adds b c ts' ps' → Adds a c (ts ++ ts') (ps ++ ps')
-adds_then a b c ts ps ts' ps' h k = (h.0 ++ k.0, k.1 ∙ ap (λ l. l ++ k.0) h.1 ∙ append_assoc a h.0 k.0, fills_then h.0 ts ps k.0 ts' ps' h.2 k.2)
+adds_append a b c ts ps ts' ps' h k = (h.0 ++ k.0, k.1 ∙ ap (λ l. l ++ k.0) h.1 ∙ append_assoc a h.0 k.0, fills_then h.0 ts ps k.0 ts' ps' h.2 k.2)
 
-pub adds_none : (a : List Pair) → Adds a a [] []
-adds_none a = ([], sym (append-nil a), (refl, refl))
+pub adds_nil : (a : List Pair) → Adds a a [] []
+adds_nil a = ([], sym (append-nil a), (refl, refl))
 
 -- a pair with its tree adds no leaf tree, and one with an empty tree adds one
-pub adds_passed : (a b : List Pair) (pair : Pair) → pair.1 ≢ [] → b ≡ a ++ pair ∷ [] → Adds a b [] (pair ∷ [])
-adds_passed a b pair filled is = (pair ∷ [], is, inl ([], filled, refl, (refl, refl)))
+pub adds_pair : (a b : List Pair) (pair : Pair) → pair.1 ≢ [] → b ≡ a ++ pair ∷ [] → Adds a b [] (pair ∷ [])
+adds_pair a b pair filled is = (pair ∷ [], is, inl ([], filled, refl, (refl, refl)))
 
-pub adds_blank : (a b : List Pair) (pair : Pair) (tree : List EntryView) → pair.1 ≡ [] → b ≡ a ++ pair ∷ []
+pub adds_blank_tree : (a b : List Pair) (pair : Pair) (tree : List EntryView) → pair.1 ≡ [] → b ≡ a ++ pair ∷ []
     → Adds a b (tree ∷ []) ((pair.0, tree) ∷ [])
-adds_blank a b pair tree blank is = (pair ∷ [], is, inr (tree, [], [], blank, refl, refl, (refl, refl)))
+adds_blank_tree a b pair tree blank is = (pair ∷ [], is, inr (tree, [], [], blank, refl, refl, (refl, refl)))
 
 -- there are at most as many leaf trees as pairs
-pub fewer_leaf_trees : (qs : List Pair) (ts : List (List EntryView)) (ps : List Pair) → Fills qs ts ps → length ts ≤ length qs
-fewer_leaf_trees [] ts ps h = let none : length ts ≡ 0 = ap length h.0 in omega (arith, none)
-fewer_leaf_trees (q ∷ qs) ts ps (inl h) = let rest = fewer_leaf_trees qs ts h.0 h.3 in omega (arith, rest)
-fewer_leaf_trees (q ∷ qs) ts ps (inr h) = let rest = fewer_leaf_trees qs h.1 h.2 h.6 in let more : length ts ≡ length (h.0 ∷ h.1) =
+pub leaf_trees_len_le : (qs : List Pair) (ts : List (List EntryView)) (ps : List Pair) → Fills qs ts ps → length ts ≤ length qs
+leaf_trees_len_le [] ts ps h = let none : length ts ≡ 0 = ap length h.0 in omega (arith, none)
+leaf_trees_len_le (q ∷ qs) ts ps (inl h) = let rest = leaf_trees_len_le qs ts h.0 h.3 in omega (arith, rest)
+leaf_trees_len_le (q ∷ qs) ts ps (inr h) = let rest = leaf_trees_len_le qs h.1 h.2 h.6 in let more : length ts ≡ length (h.0 ∷ h.1) =
     ap length h.4 in omega (arith, rest, more)
 
 -- the leaf trees of the next child come before those of the children after it
-pub leaf_trees_ahead : (name : List ℕ) (remaining : List Child) → AreOrdered (parts remaining)
+pub leaf_trees_of_next_child : (name : List ℕ) (remaining : List Child) → AreOrdered (parts remaining)
     → child_leaf_trees (next_child name remaining) ++ leaf_trees
     (below (parts (pairs_after_next name remaining))) ≡ leaf_trees (below (parts remaining))
-leaf_trees_ahead name [] ordered = refl
-leaf_trees_ahead name (c ∷ cs) ordered =
+leaf_trees_of_next_child name [] ordered = refl
+leaf_trees_of_next_child name (c ∷ cs) ordered =
     elim (same_name (bstring_bytes c.name) name) as
     (λ b. child_leaf_trees (cond b (Some c) None) ++ leaf_trees (below (parts (cond b cs (c ∷ cs)))) ≡ leaf_trees (below (parts (c ∷ cs)))) [
-      | true ↦ sym (leaf_trees_next (part c) (parts cs) (apart_of (parts (c ∷ cs)) ordered).0)
+      | true ↦ sym (leaf_trees_below_cons (part c) (parts cs) (children_names_apart (parts (c ∷ cs)) ordered).0)
       | false ↦ refl
     ]
 
 -- after the last entry no children remain
-pub none_remaining : (node : Opened) (rest : List EntryView) (remaining : List Child) → rest ≡ [] → Ahead node rest remaining → remaining ≡ []
-none_remaining node rest [] none ahead = refl
-none_remaining node rest (c ∷ cs) none ahead = let there : has_tree (bstring_bytes c.name) [] ≡ true =
+pub remaining_nil : (node : Opened) (rest : List EntryView) (remaining : List Child) → rest ≡ [] → Ahead node rest remaining → remaining ≡ []
+remaining_nil node rest [] none ahead = refl
+remaining_nil node rest (c ∷ cs) none ahead = let there : has_tree (bstring_bytes c.name) [] ≡ true =
     subst (λ es. has_tree (bstring_bytes c.name) es ≡ true) none ahead.above.0 in absurd (true≢false (sym there))
 
 -- a child adds what is open in it
-pub adds_child : (passed : Option (Bor Child)) (child : Bor Child) → passed ≡ Some child → (ts : List (List EntryView))
+pub adds_leaf_trees_of_child : (passed : Option (Bor Child)) (child : Bor Child) → passed ≡ Some child → (ts : List (List EntryView))
     → leaf_trees child.now.open ≡ ts
     → (a b ps : List Pair) → Adds a b ts ps → Adds a b (child_leaf_trees (option_copied passed)) ps
-adds_child passed child is ts same a b ps adds =
+adds_leaf_trees_of_child passed child is ts same a b ps adds =
     subst (λ us. Adds a b us ps) (sym (ap (λ (o : Option (Bor Child)). child_leaf_trees (option_copied o)) is ∙ same)) adds
 
 -- the leaf trees of a directory with an open directory are those below it
-pub leaf_trees_above : (es base : List EntryView) (name : List ℕ) (ds : Opened) (ps : List Part) (found : List EntryView)
+pub leaf_trees_of_parent : (es base : List EntryView) (name : List ℕ) (ds : Opened) (ps : List Part) (found : List EntryView)
     → bases_of ds [] ≡ Some found
     → leaf_trees (opened es base ((name, ds) ∷ ps)) ≡ leaf_trees (below ((name, ds) ∷ ps))
-leaf_trees_above es base name [] ps found is = absurd (cc is)
-leaf_trees_above es base name (d ∷ ds) ps found is = refl
+leaf_trees_of_parent es base name [] ps found is = absurd (cc is)
+leaf_trees_of_parent es base name (d ∷ ds) ps found is = refl
 
 -- a directory with no open directory has at most its own tree as a leaf tree
-pub leaf_trees_alone : (es base : List EntryView) (b : Bool) → is_leaf_tree (es, base) ≡ b → leaf_trees (opened es base []) ≡ cond b (es ∷ []) []
-leaf_trees_alone es base b is = ap (λ k. cond k (es ∷ []) [] ++ []) is ∙ append-nil (cond b (es ∷ []) [])
+pub leaf_trees_of_childless : (es base : List EntryView) (b : Bool) → is_leaf_tree (es, base) ≡ b → leaf_trees (opened es base []) ≡ cond b (es ∷ []) []
+leaf_trees_of_childless es base b is = ap (λ k. cond k (es ∷ []) [] ++ []) is ∙ append-nil (cond b (es ∷ []) [])
 
 -- a directory whose tree is emitted as a leaf tree
 pub record Goes (ds : Opened) (tree base : List EntryView) : Type 0 where
@@ -170,45 +170,45 @@ entire_walk ds tree base is (e ∷ es) filled =
     subst (λ own. Walks (dirs_of ds) (bases_of ds) (e ∷ es) [] own 0) (ap (λ b. cond b [] (e ∷ []) ++ es) filled.0)
     (unopened (dirs_of ds) (bases_of ds) e es [] es 0 (ap (λ (d : Opened). dirs_of d (e.name ∷ [])) is) (entire_walk ds tree base is es filled.1))
 
-pub leaf_tree_is_emitted : (ds : Opened) (tree base : List EntryView) → ds ≡ opened tree base [] → is_leaf_tree (tree, base) ≡ true
+pub leaf_tree_has_base_or_is_emitted : (ds : Opened) (tree base : List EntryView) → ds ≡ opened tree base [] → is_leaf_tree (tree, base) ≡ true
     → Goes ds tree base
-leaf_tree_is_emitted ds tree base is entire =
+leaf_tree_has_base_or_is_emitted ds tree base is entire =
     let parts = and_parts _ _ entire in
     let first = and_parts _ _ parts.0 in
     let filled = all_filled tree
     (recursion_from_All (λ (e : EntryView). not (is_null e.id) ≡ true) tree
     (AllPass-from_list_all (λ (e : EntryView). not (is_null e.id)) tree first.1)) in record {
-      filled = is_filled_list tree (sym (not_true (length tree == 0) first.0));
-      changed = other_tree tree base (not_true (same_tree tree base) parts.1);
+      filled = not_nil_of_not_empty tree (sym (not_true (length tree == 0) first.0));
+      changed = same_tree_false_ne tree base (not_true (same_tree tree base) parts.1);
       storing = filled;
       based = ap (λ (d : Opened). bases_of d []) is;
       found = leaves (dirs_of ds) (bases_of ds) tree [] tree 0 (ap (λ (d : Opened). dirs_of d []) is) (entire_walk ds tree base is tree filled);
-      adds = ap leaf_trees is ∙ leaf_trees_alone tree base true entire;
+      adds = ap leaf_trees is ∙ leaf_trees_of_childless tree base true entire;
     }
 
 -- equal options have equal lists
-pub some_is : (xs ys : List EntryView) → Some xs ≡ Some ys → xs ≡ ys
-some_is xs ys is = cc is
+pub some_unique : (xs ys : List EntryView) → Some xs ≡ Some ys → xs ≡ ys
+some_unique xs ys is = cc is
 
 -- the first pair keeps its tree, or gets the first of the trees
-pub fills_kept : (q : Pair) (rest ps : List Pair) (ts : List (List EntryView)) → q.1 ≢ [] → Fills (q ∷ rest) ts ps → (more : List Pair)
+pub fills_without_tree : (q : Pair) (rest ps : List Pair) (ts : List (List EntryView)) → q.1 ≢ [] → Fills (q ∷ rest) ts ps → (more : List Pair)
     × (ps ≡ q ∷ more)
     × Fills rest ts more
-fills_kept q rest ps ts filled (inl h) = (h.0, h.2, h.3)
-fills_kept q rest ps ts filled (inr h) = absurd (filled h.3)
+fills_without_tree q rest ps ts filled (inl h) = (h.0, h.2, h.3)
+fills_without_tree q rest ps ts filled (inr h) = absurd (filled h.3)
 
-pub fills_taken : (q : Pair) (rest ps : List Pair) (ts new : List (List EntryView)) (tree : List EntryView) → q.1 ≡ [] → ts ≡ tree ∷ new
+pub fills_with_tree : (q : Pair) (rest ps : List Pair) (ts new : List (List EntryView)) (tree : List EntryView) → q.1 ≡ [] → ts ≡ tree ∷ new
     → Fills (q ∷ rest) ts ps → (more : List Pair) × (ps ≡ (q.0, tree) ∷ more) × Fills rest new more
-fills_taken q rest ps ts new tree blank is (inl h) = absurd (h.1 blank)
-fills_taken q rest ps ts new tree blank is (inr h) =
+fills_with_tree q rest ps ts new tree blank is (inl h) = absurd (h.1 blank)
+fills_with_tree q rest ps ts new tree blank is (inr h) =
     let both : h.0 ∷ h.1 ≡ tree ∷ new = sym h.4 ∙ is in
     let head : h.0 ≡ tree = cc both in
     let remaining : h.1 ≡ new = cc both in
     (h.2, h.5 ∙ ap (λ (t : List EntryView). (q.0, t) ∷ h.2) head, subst (λ us. Fills rest us h.2) remaining h.6)
 
-pub fills_none : (q : Pair) (rest ps : List Pair) (ts : List (List EntryView)) → q.1 ≡ [] → ts ≡ [] → Fills (q ∷ rest) ts ps → ⊥
-fills_none q rest ps ts blank none (inl h) = h.1 blank
-fills_none q rest ps ts blank none (inr h) = let both : h.0 ∷ h.1 ≡ [] = sym h.4 ∙ none in cc both
+pub not_fills_nil : (q : Pair) (rest ps : List Pair) (ts : List (List EntryView)) → q.1 ≡ [] → ts ≡ [] → Fills (q ∷ rest) ts ps → ⊥
+not_fills_nil q rest ps ts blank none (inl h) = h.1 blank
+not_fills_nil q rest ps ts blank none (inr h) = let both : h.0 ∷ h.1 ≡ [] = sym h.4 ∙ none in cc both
 
 below_last : (ps : List Part) (p : Part) → length (below (ps ++ p ∷ [])) ≡ length (below ps) + length p.1
 below_last [] p = omega (arith, length-append (under p.0 p.1) [], length-under p.0 p.1)
@@ -220,11 +220,11 @@ pub record TakenOff (old new : List Child) (c : Child) : Type 0 where
   pub apart : EachLater (λ x y. x.0 ≢ y.0) (parts new)
   pub fewer : length (below (parts old)) ≡ length (below (parts new)) + length c.open
 
-pub taken_off : (old new : List Child) (c : Child) → old ≡ new ++ c ∷ [] → EachLater (λ x y. x.0 ≢ y.0) (parts old) → TakenOff old new c
-taken_off old new c is apart =
+pub taken_off_of_parts : (old new : List Child) (c : Child) → old ≡ new ++ c ∷ [] → EachLater (λ x y. x.0 ≢ y.0) (parts old) → TakenOff old new c
+taken_off_of_parts old new c is apart =
     let split : parts old ≡ parts new ++ part c ∷ [] = ap parts is ∙ map-append part new (c ∷ []) in
     let both : EachLater (λ x y. x.0 ≢ y.0) (parts new ++ part c ∷ []) = subst (EachLater (λ x y. x.0 ≢ y.0)) split apart in record {
-      last = ap (λ ps. leaf_trees (below ps)) split ∙ leaf_trees_last (parts new) (part c) both;
-      apart = prefix_apart (λ x y. x.0 ≢ y.0) (parts new) (part c) both;
+      last = ap (λ ps. leaf_trees (below ps)) split ∙ leaf_trees_below_snoc (parts new) (part c) both;
+      apart = each_later_prefix (λ x y. x.0 ≢ y.0) (parts new) (part c) both;
       fewer = ap (λ ps. length (below ps)) split ∙ below_last (parts new) (part c);
     }

@@ -17,29 +17,29 @@ use Rattle.gixobj_files.specs.Files.{Path}
 use Rattle.gixobj_directories.specs.Nested.{IsLevel, Level, Opened, Part, at_side, base_side, bases_in, bases_of, below, dirs_of, entries_side, in_part, is_part_before, opened, other_parts, part, part_at, part_key, parts, under, with_part}
 use Rattle.gixobj_files.specs.Opening.{Dirs}
 use Rattle.gixobj_directories.specs.declared.open.Child.{Child}
-use Rattle.gixobj_files.proofs.Formed.{well_formed_with, well_formed_without}
-use Rattle.gixobj_files.proofs.HasTrees.{formed_directory, tree_next_to, tree_remaining, tree_still, tree_there}
+use Rattle.gixobj_files.proofs.Formed.{is_well_formed_with_entry, is_well_formed_without}
+use Rattle.gixobj_files.proofs.HasTrees.{is_well_formed_with_directory, has_tree_with_other_directory, has_tree_without_other, has_tree_with_entry, has_tree_with_directory}
 use Rattle.gixobj_files.proofs.Namesakes.{PassOnce, first_removed, none_passes}
 use Rattle.gixobj_files.proofs.Sublists.{all_weaker, later_kept}
-use Rattle.gixobj_files.proofs.OpenedFiles.{name_itself, name_other, same_names}
-use Rattle.gixobj_directories.proofs.Ordered.{all_with, ordered_with}
+use Rattle.gixobj_files.proofs.OpenedFiles.{same_name_refl, same_name_false, name_eq_or_ne}
+use Rattle.gixobj_directories.proofs.Ordered.{all_with_part, are_ordered_with_part}
 
 abbrev pub tied : Path → Path → Bool
 tied = eq_by_cmp (slice_cmp (slice_cmp nat_cmp))
 
-pub tied_name : (x y : List ℕ) (p q : Path) → tied (x ∷ p) (y ∷ q) ≡ same_name x y && tied p q
-tied_name x y p q = sym (tied_then (slice_cmp nat_cmp x y) (slice_cmp (slice_cmp nat_cmp) p q)) ∙ ap (λ b. b && tied p q) (sym (texts_ties x y))
+pub tied_cons : (x y : List ℕ) (p q : Path) → tied (x ∷ p) (y ∷ q) ≡ same_name x y && tied p q
+tied_cons x y p q = sym (tied_then (slice_cmp nat_cmp x y) (slice_cmp (slice_cmp nat_cmp) p q)) ∙ ap (λ b. b && tied p q) (sym (texts_ties x y))
 
 abbrev pub called : List ℕ → Child → Bool
 called name child = same_name (bstring_bytes child.name) name
 
-pub chosen : (b : Bool) (k i : ℕ) → Some i ≡ cond b (Some k) None → (b ≡ true) × (k ≡ i)
-chosen true k i e = (refl, cc)
-chosen false k i e = absurd (cc)
+pub true_of_cond_some : (b : Bool) (k i : ℕ) → Some i ≡ cond b (Some k) None → (b ≡ true) × (k ≡ i)
+true_of_cond_some true k i e = (refl, cc)
+true_of_cond_some false k i e = absurd (cc)
 
-pub unchosen : (b : Bool) (k : ℕ) → None ≡ cond b (Some k) None → b ≡ false
-unchosen true k e = absurd (cc)
-unchosen false k e = refl
+pub false_of_cond_none : (b : Bool) (k : ℕ) → None ≡ cond b (Some k) None → b ≡ false
+false_of_cond_none true k e = absurd (cc)
+false_of_cond_none false k e = refl
 
 twice : {X : Type 0} (b : Bool) (x y z : X) → cond b x z ≡ cond b x (cond b y z)
 twice true x y z = refl
@@ -64,13 +64,13 @@ module _ (side : Level → List EntryView) where
       → at_side side (under name ds ++ rest) (name ∷ path) ≡ at_side side ds path
   in_under name [] rest path none = none
   in_under name (d ∷ ds) rest path none =
-      rw (tied_name name name path d.0, name_itself name) (ap (λ r. cond (tied path d.0) (Some (side d.1)) r) (in_under name ds rest path none))
+      rw (tied_cons name name path d.0, same_name_refl name) (ap (λ r. cond (tied path d.0) (Some (side d.1)) r) (in_under name ds rest path none))
 
   out_of_under : (name other : List ℕ) (ds rest : Opened) (path : Path) → other ≢ name
       → at_side side (under name ds ++ rest) (other ∷ path) ≡ at_side side rest
       (other ∷ path)
   out_of_under name other [] rest path differ = refl
-  out_of_under name other (d ∷ ds) rest path differ = rw (tied_name other name path d.0, name_other other name differ)
+  out_of_under name other (d ∷ ds) rest path differ = rw (tied_cons other name path d.0, same_name_false other name differ)
       (out_of_under name other ds rest path differ)
 
   none_below : (name : List ℕ) (ps : List Part) (path : Path) → AllByRecursion (λ p. name ≢ p.0) ps → at_side side (below ps) (name ∷ path) ≡ None
@@ -81,10 +81,10 @@ module _ (side : Level → List EntryView) where
       → at_side side (below ps) (name ∷ path) ≡ part_at side name ps path
   below_name name [] path apart = refl
   below_name name (p ∷ ps) path apart =
-      elim (same_names p.0 name) [
+      elim (name_eq_or_ne p.0 name) [
         | inl same ↦ subst (λ (n : List ℕ). at_side side (below (p ∷ ps)) (n ∷ path) ≡ part_at side n (p ∷ ps) path) same
-            (rw (name_itself p.0) (in_under p.0 p.1 (below ps) path (none_below p.0 ps path apart.0)))
-        | inr differ ↦ rw (name_other p.0 name differ) (out_of_under p.0 name p.1 (below ps) path (λ e. differ (sym e))
+            (rw (same_name_refl p.0) (in_under p.0 p.1 (below ps) path (none_below p.0 ps path apart.0)))
+        | inr differ ↦ rw (same_name_false p.0 name differ) (out_of_under p.0 name p.1 (below ps) path (λ e. differ (sym e))
             ∙ below_name name ps path apart.1)
       ]
 
@@ -110,7 +110,7 @@ module _ (side : Level → List EntryView) where
   found_by name cs l i child same found_at is path =
       let at : Some i ≡ position (called name) cs = subst (λ (m : List Child). Some i ≡ position (called name) m) same found_at in
       let place : ℕ = position_or_len (called name) cs in
-      let chose = chosen (nat_lt place (length cs)) place i at in
+      let chose = true_of_cond_some (nat_lt place (length cs)) place i at in
       found_first name cs child path (ltb-true _ _ chose.0) ∙ ap (λ (c : Child). at_side side c.open path)
       (ap (λ k. get_or cs k child) chose.1 ∙ sym is)
 
@@ -128,7 +128,7 @@ module _ (side : Level → List EntryView) where
       → part_at side name (parts cs) path ≡ None
   not_found_by name cs l same found_at path =
       let at : None ≡ position (called name) cs = subst (λ (m : List Child). None ≡ position (called name) m) same found_at in
-      none_first name cs path (ltb-false _ _ (unchosen (nat_lt (position_or_len (called name) cs) (length cs)) _ at))
+      none_first name cs path (ltb-false _ _ (false_of_cond_none (nat_lt (position_or_len (called name) cs) (length cs)) _ at))
 
   -- the open directories of a level, by its list of parts
   pub level_at_by : (ds : Opened) (es base : List EntryView) (ps : List Part) → opened es base ps ≡ ds → EachLater (λ x y. x.0 ≢ y.0) ps
@@ -161,7 +161,7 @@ module _ (side : Level → List EntryView) where
   set_becomes_by name cs l i child next same found_at is named =
       let at : Some i ≡ position (called name) cs = subst (λ (m : List Child). Some i ≡ position (called name) m) same found_at in
       let place : ℕ = position_or_len (called name) cs in
-      let chose = chosen (nat_lt place (length cs)) place i at in
+      let chose = true_of_cond_some (nat_lt place (length cs)) place i at in
       record {
         says = λ first path. subst (λ k. part_at side first (parts (set cs k next)) path ≡ cond (same_name name first) (at_side side next.open path)
             (part_at side first (parts cs) path)) chose.1
@@ -196,7 +196,7 @@ module _ (side : Level → List EntryView) where
       elim (is_part_before p (name, ds)) as (λ b. part_at side first (cond b (p ∷ with_part (name, ds) ps) ((name, ds) ∷ p ∷ ps)) path ≡ cond
       (same_name name first) (at_side side ds path) (cond (same_name p.0 first) (at_side side p.1 path) (part_at side first ps path))) [
         | true ↦ rw (with_first name ds ps others.1 first path)
-            (crossed (same_name p.0 first) (same_name name first) _ _ _ (apart_names p.0 name first (name_other p.0 name others.0)))
+            (crossed (same_name p.0 first) (same_name name first) _ _ _ (apart_names p.0 name first (same_name_false p.0 name others.0)))
         | false ↦ refl
       ]
 
@@ -208,51 +208,51 @@ module _ (side : Level → List EntryView) where
 abbrev pub Becomes : List ℕ → Dirs → List Part → List Part → Type 0
 Becomes = BecomesBy entries_side
 
-pub at_root : (es base : List EntryView) (ps : List Part) → dirs_of (opened es base ps) [] ≡ Some es
-at_root es base ps = refl
+pub dirs_of_opened_nil : (es base : List EntryView) (ps : List Part) → dirs_of (opened es base ps) [] ≡ Some es
+dirs_of_opened_nil es base ps = refl
 
 -- what is open at and below a name is what is open in its directory
-pub at_name : (es base : List EntryView) (ps : List Part) (name : List ℕ) (path : Path) → EachLater (λ x y. x.0 ≢ y.0) ps
+pub dirs_of_opened_cons : (es base : List EntryView) (ps : List Part) (name : List ℕ) (path : Path) → EachLater (λ x y. x.0 ≢ y.0) ps
     → dirs_of (opened es base ps) (name ∷ path) ≡ in_part name ps path
-at_name = at_name_by entries_side
+dirs_of_opened_cons = at_name_by entries_side
 
 -- the child at the position that the search returned is that of the name
-pub found : (name : List ℕ) (cs l : List Child) (i : ℕ) (child : Child) → l ≡ cs → Some i ≡ position (called name) l → child ≡ get_or cs i child
+pub in_part_of_child : (name : List ℕ) (cs l : List Child) (i : ℕ) (child : Child) → l ≡ cs → Some i ≡ position (called name) l → child ≡ get_or cs i child
     → (path : Path)
     → in_part name (parts cs) path ≡ dirs_of child.open path
-found = found_by entries_side
+in_part_of_child = found_by entries_side
 
-pub not_found : (name : List ℕ) (cs l : List Child) → l ≡ cs → None ≡ position (called name) l → (path : Path) → in_part name (parts cs) path ≡ None
-not_found = not_found_by entries_side
+pub in_part_none : (name : List ℕ) (cs l : List Child) → l ≡ cs → None ≡ position (called name) l → (path : Path) → in_part name (parts cs) path ≡ None
+in_part_none = not_found_by entries_side
 
 -- the open directories of a level, by its list of parts
-pub level_at : (ds : Opened) (es : List EntryView) {base : List EntryView} (ps : List Part) → opened es base ps ≡ ds → EachLater (λ x y. x.0 ≢ y.0) ps
+pub dirs_of_cons : (ds : Opened) (es : List EntryView) {base : List EntryView} (ps : List Part) → opened es base ps ≡ ds → EachLater (λ x y. x.0 ≢ y.0) ps
     → (name : List ℕ) (path : Path) → dirs_of ds (name ∷ path) ≡ in_part name ps path
-level_at ds es {base} ps is = level_at_by entries_side ds es base ps is
+dirs_of_cons ds es {base} ps is = level_at_by entries_side ds es base ps is
 
-pub level_root : (ds : Opened) (es : List EntryView) {base : List EntryView} (ps : List Part) → opened es base ps ≡ ds → dirs_of ds [] ≡ Some es
-level_root ds es ps is = subst (λ (d : Opened). dirs_of d [] ≡ Some es) is refl
+pub dirs_of_nil : (ds : Opened) (es : List EntryView) {base : List EntryView} (ps : List Part) → opened es base ps ≡ ds → dirs_of ds [] ≡ Some es
+dirs_of_nil ds es ps is = subst (λ (d : Opened). dirs_of d [] ≡ Some es) is refl
 
 -- the bases of a level, by its list of parts
-pub based_at : (ds : Opened) (es : List EntryView) {base : List EntryView} (ps : List Part) → opened es base ps ≡ ds → EachLater (λ x y. x.0 ≢ y.0) ps
+pub bases_of_cons : (ds : Opened) (es : List EntryView) {base : List EntryView} (ps : List Part) → opened es base ps ≡ ds → EachLater (λ x y. x.0 ≢ y.0) ps
     → (name : List ℕ) (path : Path) → bases_of ds (name ∷ path) ≡ bases_in name ps path
-based_at ds es {base} ps is = level_at_by base_side ds es base ps is
+bases_of_cons ds es {base} ps is = level_at_by base_side ds es base ps is
 
-pub based_root : (ds : Opened) (es : List EntryView) {base : List EntryView} (ps : List Part) → opened es base ps ≡ ds → bases_of ds [] ≡ Some base
-based_root ds es {base} ps is = subst (λ (d : Opened). bases_of d [] ≡ Some base) is refl
+pub bases_of_nil : (ds : Opened) (es : List EntryView) {base : List EntryView} (ps : List Part) → opened es base ps ≡ ds → bases_of ds [] ≡ Some base
+bases_of_nil ds es {base} ps is = subst (λ (d : Opened). bases_of d [] ≡ Some base) is refl
 
-pub set_becomes : (name : List ℕ) (cs l : List Child) (i : ℕ) (child next : Child) → l ≡ cs → Some i ≡ position (called name) l
+pub becomes_of_set : (name : List ℕ) (cs l : List Child) (i : ℕ) (child next : Child) → l ≡ cs → Some i ≡ position (called name) l
     → child ≡ get_or cs i child
     → bstring_bytes next.name ≡ bstring_bytes child.name
     → Becomes name (dirs_of next.open) (parts cs) (parts (set cs i next))
-set_becomes = set_becomes_by entries_side
+becomes_of_set = set_becomes_by entries_side
 
-pub others_becomes : (name : List ℕ) (ps : List Part) → Becomes name (λ _. None) ps (other_parts name ps)
-others_becomes = others_becomes_by entries_side
+pub becomes_of_removal : (name : List ℕ) (ps : List Part) → Becomes name (λ _. None) ps (other_parts name ps)
+becomes_of_removal = others_becomes_by entries_side
 
-pub with_becomes : (name : List ℕ) (ds : Opened) (ps : List Part) → AllByRecursion (λ p. p.0 ≢ name) ps
+pub becomes_of_with_part : (name : List ℕ) (ds : Opened) (ps : List Part) → AllByRecursion (λ p. p.0 ≢ name) ps
     → Becomes name (dirs_of ds) ps (with_part (name, ds) ps)
-with_becomes = with_becomes_by entries_side
+becomes_of_with_part = with_becomes_by entries_side
 
 -- a level remains one after a child is replaced by one of the same name
 all_set : (P : List ℕ → Type 0) (cs : List Child) (i : ℕ) (next : Child) → AllByRecursion (λ p. P p.0) (parts cs)
@@ -267,9 +267,9 @@ later_set R [] i next h named = h
 later_set R (c ∷ cs) zero next h named = (subst (λ n. AllByRecursion (λ p. R n p.0) (parts cs)) (sym named) h.0, h.1)
 later_set R (c ∷ cs) (suc i) next h named = (all_set (R (bstring_bytes c.name)) cs i next h.0 named, later_set R cs i next h.1 named)
 
-pub level_set : (es : List EntryView) (cs : List Child) (i : ℕ) (child next : Child) → child ≡ get_or cs i child
+pub is_level_set : (es : List EntryView) (cs : List Child) (i : ℕ) (child next : Child) → child ≡ get_or cs i child
     → bstring_bytes next.name ≡ bstring_bytes child.name → IsLevel es (parts cs) → IsLevel es (parts (set cs i next))
-level_set es cs i child next is named level =
+is_level_set es cs i child next is named level =
     let own : bstring_bytes next.name ≡ bstring_bytes (get_or cs i next).name = own_name cs i child next is named in
     record {
       formed = level.formed;
@@ -284,20 +284,20 @@ level_set es cs i child next is named level =
     own_name (c ∷ cs) (suc i) child next is named = own_name cs i child next is named
 
 -- a child that is replaced by an equal one changes nothing
-pub set_same : (cs : List Child) (i : ℕ) (child next : Child) → child ≡ get_or cs i child → part next ≡ part child → parts (set cs i next) ≡ parts cs
-set_same [] i child next is same = refl
-set_same (c ∷ cs) zero child next is same = ap (λ p. p ∷ parts cs) (same ∙ ap part is)
-set_same (c ∷ cs) (suc i) child next is same = ap (λ ps. part c ∷ ps) (set_same cs i child next is same)
+pub parts_set_same : (cs : List Child) (i : ℕ) (child next : Child) → child ≡ get_or cs i child → part next ≡ part child → parts (set cs i next) ≡ parts cs
+parts_set_same [] i child next is same = refl
+parts_set_same (c ∷ cs) zero child next is same = ap (λ p. p ∷ parts cs) (same ∙ ap part is)
+parts_set_same (c ∷ cs) (suc i) child next is same = ap (λ ps. part c ∷ ps) (parts_set_same cs i child next is same)
 
 -- the children of other names are the parts of other names
-pub filter_parts : (name : List ℕ) (cs : List Child) → parts (filter (λ c. not (called name c)) cs) ≡ other_parts name (parts cs)
-filter_parts name [] = refl
-filter_parts name (c ∷ cs) =
+pub parts_filter_other : (name : List ℕ) (cs : List Child) → parts (filter (λ c. not (called name c)) cs) ≡ other_parts name (parts cs)
+parts_filter_other name [] = refl
+parts_filter_other name (c ∷ cs) =
     elim (called name c) as (λ b. parts (cond (not b) (c ∷ filter (λ d. not (called name d)) cs) (filter (λ d. not (called name d)) cs)) ≡ cond
     (not b)
     (part c ∷ other_parts name (parts cs)) (other_parts name (parts cs))) [
-      | true ↦ filter_parts name cs
-      | false ↦ ap (λ ps. part c ∷ ps) (filter_parts name cs)
+      | true ↦ parts_filter_other name cs
+      | false ↦ ap (λ ps. part c ∷ ps) (parts_filter_other name cs)
     ]
 
 once : (name : List ℕ) (cs : List Child) → EachLater (λ x y. x.0 ≢ y.0) (parts cs) → PassOnce (called name) cs
@@ -308,31 +308,31 @@ once name (c ∷ cs) h = (all_differ cs h.0, once name cs h.1)
         → AllByRecursion (λ d. called name c ≡ true → called name d ≡ false) ds
     all_differ [] k = tt
     all_differ (d ∷ ds) k = (
-      (λ is. name_other (bstring_bytes d.name) name (λ q. k.0 ((bytes_decides (bstring_bytes c.name) name).0 is ∙ sym q))),
+      (λ is. same_name_false (bstring_bytes d.name) name (λ q. k.0 ((bytes_decides (bstring_bytes c.name) name).0 is ∙ sym q))),
       all_differ ds k.1,
     )
 
-pub others_removed : (name : List ℕ) (cs l : List Child) (i : ℕ) → l ≡ cs → Some i ≡ position (called name) l
+pub parts_remove : (name : List ℕ) (cs l : List Child) (i : ℕ) → l ≡ cs → Some i ≡ position (called name) l
     → EachLater (λ x y. x.0 ≢ y.0) (parts cs)
     → parts (remove cs i) ≡ other_parts name (parts cs)
-others_removed name cs l i same found_at apart =
+parts_remove name cs l i same found_at apart =
     let at : Some i ≡ position (called name) cs = subst (λ (m : List Child). Some i ≡ position (called name) m) same found_at in
     let place : ℕ = position_or_len (called name) cs in
-    let chose = chosen (nat_lt place (length cs)) place i at in
+    let chose = true_of_cond_some (nat_lt place (length cs)) place i at in
     ap (λ k. parts (remove cs k)) (sym chose.1) ∙ ap parts (first_removed (called name) cs (once name cs apart) (ltb-true _ _ chose.0))
-    ∙ filter_parts name cs
+    ∙ parts_filter_other name cs
 
-pub others_none : (name : List ℕ) (cs l : List Child) → l ≡ cs → None ≡ position (called name) l → parts cs ≡ other_parts name (parts cs)
-others_none name cs l same found_at =
+pub other_parts_of_absent : (name : List ℕ) (cs l : List Child) → l ≡ cs → None ≡ position (called name) l → parts cs ≡ other_parts name (parts cs)
+other_parts_of_absent name cs l same found_at =
     let at : None ≡ position (called name) cs = subst (λ (m : List Child). None ≡ position (called name) m) same found_at in
-    sym (ap parts (none_passes (called name) cs (ltb-false _ _ (unchosen (nat_lt (position_or_len (called name) cs) (length cs)) _ at))))
-    ∙ filter_parts name cs
+    sym (ap parts (none_passes (called name) cs (ltb-false _ _ (false_of_cond_none (nat_lt (position_or_len (called name) cs) (length cs)) _ at))))
+    ∙ parts_filter_other name cs
 
 -- if the search finds no child, no directory has the name
-pub none_named : (name : List ℕ) (cs l : List Child) → l ≡ cs → None ≡ position (called name) l → AllByRecursion (λ p. p.0 ≢ name) (parts cs)
-none_named name cs l same found_at =
+pub all_names_differ : (name : List ℕ) (cs l : List Child) → l ≡ cs → None ≡ position (called name) l → AllByRecursion (λ p. p.0 ≢ name) (parts cs)
+all_names_differ name cs l same found_at =
     let at : None ≡ position (called name) cs = subst (λ (m : List Child). None ≡ position (called name) m) same found_at in
-    each cs (ltb-false _ _ (unchosen (nat_lt (position_or_len (called name) cs) (length cs)) _ at))
+    each cs (ltb-false _ _ (false_of_cond_none (nat_lt (position_or_len (called name) cs) (length cs)) _ at))
   where
     each : (ds : List Child) → length ds ≤ position_or_len (called name) ds → AllByRecursion (λ p. p.0 ≢ name) (parts ds)
     each [] high = tt
@@ -353,29 +353,29 @@ others_above name next es (p ∷ ps) keeps h =
     ] refl
 
 -- a level remains one after an edit of its entries
-pub level_inserted : (x : EntryView) (es : List EntryView) (ps : List Part) → IsEntryName x.name → IsLevel es ps
+pub is_level_with_entry : (x : EntryView) (es : List EntryView) (ps : List Part) → IsEntryName x.name → IsLevel es ps
     → IsLevel (with_entry x es) (other_parts x.name ps)
-level_inserted x es ps is_name level = record {
-  formed = well_formed_with x es level.formed is_name;
+is_level_with_entry x es ps is_name level = record {
+  formed = is_well_formed_with_entry x es level.formed is_name;
   ordered = later_kept (λ p q. slice_cmp nat_cmp (part_key p) (part_key q) ≡ Less) (λ p. not (same_name p.0 x.name)) ps level.ordered;
-  above = others_above x.name (with_entry x es) es ps (λ n differ h. tree_still n x es differ h) level.above;
+  above = others_above x.name (with_entry x es) es ps (λ n differ h. has_tree_with_entry n x es differ h) level.above;
 }
 
-pub level_taken : (name : List ℕ) (es : List EntryView) (ps : List Part) → IsLevel es ps → IsLevel (without name es) (other_parts name ps)
-level_taken name es ps level = record {
-  formed = well_formed_without name es level.formed;
+pub is_level_without : (name : List ℕ) (es : List EntryView) (ps : List Part) → IsLevel es ps → IsLevel (without name es) (other_parts name ps)
+is_level_without name es ps level = record {
+  formed = is_well_formed_without name es level.formed;
   ordered = later_kept (λ p q. slice_cmp nat_cmp (part_key p) (part_key q) ≡ Less) (λ p. not (same_name p.0 name)) ps level.ordered;
-  above = others_above name (without name es) es ps (λ n differ h. tree_remaining n name es differ h) level.above;
+  above = others_above name (without name es) es ps (λ n differ h. has_tree_without_other n name es differ h) level.above;
 }
 
-pub level_added : (name : List ℕ) (null : ObjectId) (ds : Opened) (es : List EntryView) (ps : List Part) → IsEntryName name
+pub is_level_with_directory : (name : List ℕ) (null : ObjectId) (ds : Opened) (es : List EntryView) (ps : List Part) → IsEntryName name
     → AllByRecursion (λ p. p.0 ≢ name) ps → IsLevel es ps → IsLevel (with_directory name null es) (with_part (name, ds) ps)
-level_added name null ds es ps is_name others level = record {
-  formed = formed_directory name null es level.formed is_name;
-  ordered = ordered_with (name, ds) ps others level.ordered;
-  above = all_with (λ (p : Part). has_tree p.0 (with_directory name null es) ≡ true) (name, ds) ps (tree_there name null es)
+is_level_with_directory name null ds es ps is_name others level = record {
+  formed = is_well_formed_with_directory name null es level.formed is_name;
+  ordered = are_ordered_with_part (name, ds) ps others level.ordered;
+  above = all_with_part (λ (p : Part). has_tree p.0 (with_directory name null es) ≡ true) (name, ds) ps (has_tree_with_directory name null es)
       (all_weaker (λ (p : Part). has_tree p.0 es ≡ true) (λ (p : Part). has_tree p.0 (with_directory name null es) ≡ true)
-      (λ p h. tree_next_to p.0 name null es h) ps level.above);
+      (λ p h. has_tree_with_other_directory p.0 name null es h) ps level.above);
 }
 
 -- the open directory of a name has an entry of tree mode
@@ -389,18 +389,18 @@ above_first es name (c ∷ cs) low above =
       | false ↦ λ is l. above_first es name cs (omega (arith, l)) above.1
     ] refl low
 
-pub child_above : (es : List EntryView) (name : List ℕ) (cs l : List Child) (i : ℕ) → l ≡ cs → Some i ≡ position (called name) l
+pub child_has_tree : (es : List EntryView) (name : List ℕ) (cs l : List Child) (i : ℕ) → l ≡ cs → Some i ≡ position (called name) l
     → AllByRecursion (λ p. has_tree p.0 es ≡ true) (parts cs) → has_tree name es ≡ true
-child_above es name cs l i same found_at above =
+child_has_tree es name cs l i same found_at above =
     let at : Some i ≡ position (called name) cs = subst (λ (m : List Child). Some i ≡ position (called name) m) same found_at in
     let place : ℕ = position_or_len (called name) cs in
-    above_first es name cs (ltb-true _ _ (chosen (nat_lt place (length cs)) place i at).0) above
+    above_first es name cs (ltb-true _ _ (true_of_cond_some (nat_lt place (length cs)) place i at).0) above
 
 -- a level remains one with a directory more, if the directory has an entry of tree mode
-pub level_with : (name : List ℕ) (ds : Opened) (es : List EntryView) (ps : List Part) → has_tree name es ≡ true → AllByRecursion (λ p. p.0 ≢ name) ps
+pub is_level_with_part : (name : List ℕ) (ds : Opened) (es : List EntryView) (ps : List Part) → has_tree name es ≡ true → AllByRecursion (λ p. p.0 ≢ name) ps
     → IsLevel es ps → IsLevel es (with_part (name, ds) ps)
-level_with name ds es ps tree others level = record {
+is_level_with_part name ds es ps tree others level = record {
   formed = level.formed;
-  ordered = ordered_with (name, ds) ps others level.ordered;
-  above = all_with (λ (p : Part). has_tree p.0 es ≡ true) (name, ds) ps tree level.above;
+  ordered = are_ordered_with_part (name, ds) ps others level.ordered;
+  above = all_with_part (λ (p : Part). has_tree p.0 es ≡ true) (name, ds) ps tree level.above;
 }

@@ -11,8 +11,8 @@ use Rattle.gixobj_files.specs.Tables.{AgreesWithStore}
 use Rattle.gixobj_hash.specs.Hash.{id_bytes}
 use Rattle.gixobj_hash.specs.declared.hash.kind.Kind.{Kind}
 use Rattle.gixobj_hash.specs.declared.hash.object_id.ObjectId.{ObjectId}
-use Rattle.gixobj_tree.proofs.EntryRuns.{test_iff}
-use Rattle.gixobj_tree.proofs.OneEntry.{one_entry}
+use Rattle.gixobj_tree.proofs.EntryRuns.{yields_entries_iff}
+use Rattle.gixobj_tree.proofs.OneEntry.{entry_unique}
 use Rattle.gixobj_tree.specs.TreeDecoding.{BeginsWithEntry, HasEntry, DecodesToTree, YieldsEntries}
 use Rattle.gixobj_tree.specs.Entries.{EntryView}
 use Rattle.gixobj_directories.specs.LookedUp.{IsDirectoryIn, IsFileIn, IsLookedUp}
@@ -37,16 +37,16 @@ passed_has : (kind : Kind) (content here rest : List ℕ) (entries passed : List
 passed_has kind content here rest entries [] e (yields_end _) (_, same) has =
     absurd (nothing kind e rest (subst (λ (at : List ℕ). BeginsWithEntry kind at e rest) (sym same) has))
 passed_has kind content here rest entries [] e (yields_piece _ _ _ following x more _ first on) (_, same) has =
-    inl (one_entry kind content x e following rest first (subst (λ (at : List ℕ). BeginsWithEntry kind at e rest) (sym same) has)).0
+    inl (entry_unique kind content x e following rest first (subst (λ (at : List ℕ). BeginsWithEntry kind at e rest) (sym same) has)).0
 passed_has kind content here rest entries (p ∷ passed) e (yields_end _) (_, after, first, on) has = absurd (nothing kind p after first)
 passed_has kind content here rest entries (p ∷ passed) e (yields_piece _ _ _ following x more _ first on) (_, after, other, way) has =
-    let same = (one_entry kind content p x after following other first).1 in
+    let same = (entry_unique kind content p x after following other first).1 in
     inr (passed_has kind following here rest more passed e on (subst (λ (at : List ℕ). runs.Passes (HasEntry kind) tt at passed tt here) same way) has)
 
 first_has : (kind : Kind) (content : List ℕ) (entries : List EntryView) (name : Name) (e : EntryView) → DecodesToTree kind content entries
     → HasFirstNamed kind content name e → Has entries e × (e.name ≡ name)
 first_has kind content entries name e is ((_, _, here, rest, (passed, on, none), has), said) =
-    (passed_has kind content here rest entries passed e (test_iff kind content entries is) on has, said)
+    (passed_has kind content here rest entries passed e (yields_entries_iff kind content entries is) on has, said)
 
 module _ (objects : Objects) (trees : Trees) (fits : AreTreesOf objects trees) (T : Table) (agrees : AgreesWithStore T trees) where
   filled : (id : ObjectId) → (is_null id ≡ true → ⊥) → IsFalse (is_null id)

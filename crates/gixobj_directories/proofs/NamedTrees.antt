@@ -5,11 +5,11 @@ use Rattle.gixobj_files.specs.Files.{Trees}
 use Rattle.gixobj_hash.specs.declared.hash.object_id.ObjectId.{ObjectId}
 use Rattle.gixobj_hash.specs.declared.kind.Kind.{Kind}
 use Rattle.gixobj_hash.specs.declared.kind.Kind.TheVariants.{Blob, Commit, Tag, Tree}
-use Rattle.gixobj_tree.proofs.Deciding.{tree_or_none}
-use Rattle.gixobj_tree.proofs.EntryRuns.{one_tree}
+use Rattle.gixobj_tree.proofs.Deciding.{decodes_to_tree_or_malformed}
+use Rattle.gixobj_tree.proofs.EntryRuns.{tree_unique}
 use Rattle.gixobj_tree.specs.TreeDecoding.{DecodesToTree}
 use Rattle.gixobj_tree.specs.Entries.{EntryView, IsWellFormed}
-use Rattle.gixobj_directories.proofs.Deciding.{formed_or_not}
+use Rattle.gixobj_directories.proofs.Deciding.{is_well_formed_or_not}
 use Rattle.gixobj_directories.specs.Openings.{AreTreesOf, NamesTree}
 
 -- the well-formed tree that the id names, or none
@@ -42,20 +42,20 @@ module _ (objects : Objects) (id : ObjectId) (kept : StoredObject) (named_so : n
     Some entries,
     λ others. (
       λ is. (let same : entries ≡ others = cc is in subst (NamesTree objects id) same ((kept, named_so, kind, content), formed)),
-      λ names. ap Some (one_tree kept.object_hash kept.bytes entries others content (bytes_there others names)),
+      λ names. ap Some (tree_unique kept.object_hash kept.bytes entries others content (bytes_there others names)),
     ),
   )
 
   malformed_at : (entries : List EntryView) → DecodesToTree kept.object_hash kept.bytes entries → (IsWellFormed entries → ⊥) → TreeAt objects id
   malformed_at entries content malformed =
       no_tree_at objects id (λ others names. malformed
-      (subst IsWellFormed (one_tree kept.object_hash kept.bytes others entries (bytes_there others names) content) names.1))
+      (subst IsWellFormed (tree_unique kept.object_hash kept.bytes others entries (bytes_there others names) content) names.1))
 
   bytes_at : kept.kind ≡ Tree → TreeAt objects id
   bytes_at kind =
-      ⊎_elim (λ is. ⊎_elim (formed_at kind is.0 is.1) (malformed_at is.0 is.1) (formed_or_not is.0))
+      ⊎_elim (λ is. ⊎_elim (formed_at kind is.0 is.1) (malformed_at is.0 is.1) (is_well_formed_or_not is.0))
       (λ none. no_tree_at objects id (λ entries names. none entries (bytes_there entries names)))
-      (tree_or_none kept.object_hash kept.bytes)
+      (decodes_to_tree_or_malformed kept.object_hash kept.bytes)
 
   kind_at : (kind : Kind) → kept.kind ≡ kind → TreeAt objects id
   kind_at Tree is = bytes_at is
@@ -70,5 +70,5 @@ found_at objects id (Some kept) some = kind_at objects id kept some kept.kind re
 tree_at : (objects : Objects) (id : ObjectId) → TreeAt objects id
 tree_at objects id = found_at objects id (named objects id) refl
 
-pub trees_of : (objects : Objects) → (trees : Trees) × AreTreesOf objects trees
-trees_of objects = (λ id. (tree_at objects id).0, λ id. (tree_at objects id).1)
+pub trees_of_objects_exist : (objects : Objects) → (trees : Trees) × AreTreesOf objects trees
+trees_of_objects_exist objects = (λ id. (tree_at objects id).0, λ id. (tree_at objects id).1)

@@ -25,24 +25,24 @@ use Rattle.gixobj_directories.specs.declared.open.Child.{Child}
 use Rattle.gixobj_directories.specs.declared.opening.Vacant.{Vacant}
 use Rattle.gixobj_directories.specs.declared.opening.Vacant.TheVariants as vacant
 use Rattle.gixobj_files.proofs.UnopenedCounts.{IsIdle}
-use Rattle.gixobj_files.proofs.StillOpenedOpenings.{opened_in_dir, opened_only, opened_with_dir}
-use Rattle.gixobj_files.proofs.HasTrees.{has_tree_of, of_has_tree}
-use Rattle.gixobj_directories.proofs.Levels.{at_name, called, child_above, level_with, level_set, with_becomes, set_becomes}
+use Rattle.gixobj_files.proofs.StillOpenedOpenings.{is_opened_in_dir, is_opened_of_only, is_opened_with_dir}
+use Rattle.gixobj_files.proofs.HasTrees.{entry_of_has_tree, has_tree_of_entry}
+use Rattle.gixobj_directories.proofs.Levels.{dirs_of_opened_cons, called, child_has_tree, is_level_with_part, is_level_set, becomes_of_with_part, becomes_of_set}
 use Rattle.gixobj_directories.proofs.Levels as levels
 use Rattle.gixobj_directories.proofs.Steps.{replaced}
-use Rattle.gixobj_directories.proofs.Ordered.{level_apart}
+use Rattle.gixobj_directories.proofs.Ordered.{level_names_apart}
 
 -- the first entry of a name is the only one of it
-pub first_entry : (name : List ℕ) (es : List EntryView) (e : EntryView) → find (λ x. same_name x.name name) es ≡ Some e
+pub is_entry_of_first : (name : List ℕ) (es : List EntryView) (e : EntryView) → find (λ x. same_name x.name name) es ≡ Some e
     → EachLater (λ x y. x.name ≢ y.name) es
     → IsEntryOf name (Some es) e
-first_entry name [] e is apart = absurd (cc is)
-first_entry name (x ∷ xs) e is apart =
+is_entry_of_first name [] e is apart = absurd (cc is)
+is_entry_of_first name (x ∷ xs) e is apart =
     elim (same_name x.name name) as (λ b. same_name x.name name ≡ b → cond b (Some x) (find (λ y. same_name y.name name) xs) ≡ Some e
     → IsEntryOf name (Some (x ∷ xs)) e) [
       | true ↦ λ called_so k. let same : x ≡ e = cc k in let named : x.name ≡ name = (bytes_decides x.name name).0 called_so in
           (inl same, ap (λ (y : EntryView). y.name) (sym same) ∙ named, λ other h n. only_first other h n same named)
-      | false ↦ λ other_name k. let rest = first_entry name xs e k apart.1 in
+      | false ↦ λ other_name k. let rest = is_entry_of_first name xs e k apart.1 in
           (inr rest.0, rest.1, λ other h n. later other h n other_name rest)
     ] refl is
   where
@@ -61,12 +61,12 @@ first_entry name (x ∷ xs) e is apart =
         ≡ false = sym yes ∙ apart_so in cc bad)
     later other (inr k) n apart_so rest = rest.2 other k n
 
-pub no_entry : (name : List ℕ) (es : List EntryView) → find (λ x. same_name x.name name) es ≡ None → (e : EntryView) → Has es e → e.name ≢ name
-no_entry name [] is e h = absurd h
-no_entry name (x ∷ xs) is e h =
+pub entry_name_ne : (name : List ℕ) (es : List EntryView) → find (λ x. same_name x.name name) es ≡ None → (e : EntryView) → Has es e → e.name ≢ name
+entry_name_ne name [] is e h = absurd h
+entry_name_ne name (x ∷ xs) is e h =
     elim (same_name x.name name) as (λ b. same_name x.name name ≡ b → cond b (Some x) (find (λ y. same_name y.name name) xs) ≡ None → e.name ≢ name) [
       | true ↦ λ called_so k. absurd (cc k)
-      | false ↦ λ other_name k. here h other_name (λ l. no_entry name xs k e l)
+      | false ↦ λ other_name k. here h other_name (λ l. entry_name_ne name xs k e l)
     ] refl is
   where
     here : Has (x ∷ xs) e → same_name x.name name ≡ false → (Has xs e → e.name ≢ name) → e.name ≢ name
@@ -74,18 +74,18 @@ no_entry name (x ∷ xs) is e h =
         (bytes_decides x.name name).1 (ap (λ (z : EntryView). z.name) same ∙ q) in let bad : true ≡ false = sym yes ∙ apart_so in cc bad
     here (inr l) apart_so k = k l
 
-pub counted_more : (n : ℕ) (first requested : List ObjectId) → counted (counted n first) requested ≡ counted n (first ++ requested)
-counted_more n [] requested = refl
-counted_more n (id ∷ first) requested = counted_more (min (n + 1) max_count) first requested
+pub counted_append : (n : ℕ) (first requested : List ObjectId) → counted (counted n first) requested ≡ counted n (first ++ requested)
+counted_append n [] requested = refl
+counted_append n (id ∷ first) requested = counted_append (min (n + 1) max_count) first requested
 
-pub finds_one : (trees : Trees) (id : ObjectId) (entries : List EntryView) (requested : List ObjectId) → Finds trees id entries requested
+pub requested_len_le_one : (trees : Trees) (id : ObjectId) (entries : List EntryView) (requested : List ObjectId) → Finds trees id entries requested
     → length requested ≤ 1
-finds_one trees id entries requested (formed, inl h) = subst (λ (l : List ObjectId). length l ≤ 1) (sym h.2) (omega arith)
-finds_one trees id entries requested (formed, inr h) = subst (λ (l : List ObjectId). length l ≤ 1) (sym h.2) (omega arith)
+requested_len_le_one trees id entries requested (formed, inl h) = subst (λ (l : List ObjectId). length l ≤ 1) (sym h.2) (omega arith)
+requested_len_le_one trees id entries requested (formed, inr h) = subst (λ (l : List ObjectId). length l ≤ 1) (sym h.2) (omega arith)
 
 -- in a directory without open ones its own list alone is open
-pub only_is : (es : List EntryView) → dirs_of (opened es [] []) ≡ only es
-only_is es = λ i at. here at i
+pub dirs_of_childless : (es : List EntryView) → dirs_of (opened es [] []) ≡ only es
+dirs_of_childless es = λ i at. here at i
   where
     here : (at : Path) → dirs_of (opened es [] []) at ≡ only es at
     here [] = refl
@@ -107,11 +107,11 @@ GoesIn Fits R =
     → is_tree_mode e.mode ≡ true → ((path : Path) → dirs (name ∷ path) ≡ None)
     → Fits e entries first → R rest (only entries) inner requested → R (name ∷ rest) dirs (with_dir name inner dirs) (first ++ requested)
 
-pub stop_step : {Ends : EntryView → Type 0} (trees : Trees) (es : List EntryView) (ps : List Part) → IsLevel es ps → (name : List ℕ) (rest : Path)
+pub opens_stopped_at_child : {Ends : EntryView → Type 0} (trees : Trees) (es : List EntryView) (ps : List Part) → IsLevel es ps → (name : List ℕ) (rest : Path)
     → ((path : Path) → in_part name ps path ≡ None) → ((e : EntryView) → Has es e → e.name ≡ name → Ends e)
     → Opens Ends trees (name ∷ rest) (dirs_of (opened es [] ps)) (dirs_of (opened es [] ps)) []
-stop_step trees es ps level name rest none other = stops name rest (dirs_of (opened es [] ps)) other
-    (λ path. at_name es [] ps name path (level_apart level) ∙ none path)
+opens_stopped_at_child trees es ps level name rest none other = stops name rest (dirs_of (opened es [] ps)) other
+    (λ path. dirs_of_opened_cons es [] ps name path (level_names_apart level) ∙ none path)
 
 module _ (Fits : EntryView → List EntryView → List ObjectId → Type 0) (R : Path → Dirs → Dirs → List ObjectId → Type 0) (goes_down : GoesDown R)
     (goes_in : GoesIn Fits R) (es : List EntryView) where
@@ -122,13 +122,14 @@ module _ (Fits : EntryView → List EntryView → List ObjectId → Type 0) (R :
       → R (name ∷ rest) (dirs_of (opened es [] (parts cs))) (dirs_of (opened es [] (parts (set cs i next)))) requested
   down_step cs l level name rest i child next same at is named entries root requested opens =
       let old : Dirs = dirs_of (opened es [] (parts cs)) in
-      let e = has_tree_of name es (child_above es name cs l i same at level.above) in
+      let e = entry_of_has_tree name es (child_has_tree es name cs l i same at level.above) in
       let inside : in_dir name old ≡ dirs_of child.open =
-      λ j path. (at_name es [] (parts cs) name path (level_apart level) ∙ levels.found name cs l i child same at is path) j in
+      λ j path. (dirs_of_opened_cons es [] (parts cs) name path (level_names_apart level) ∙ levels.in_part_of_child name cs l i child same at is path) j in
       let new_is : dirs_of (opened es [] (parts (set cs i next))) ≡ with_dir name (dirs_of next.open) old =
       λ j path. replaced (opened es [] (parts cs)) es es
-      (parts cs) (parts (set cs i next)) refl (level_apart level) (level_apart (level_set es cs i child next is named level)) name (dirs_of next.open)
-      (set_becomes name cs l i child next same at is named) refl path j in
+      (parts cs) (parts (set cs i next)) refl (level_names_apart level) (level_names_apart (is_level_set es cs i child next is named level)) name
+          (dirs_of next.open)
+      (becomes_of_set name cs l i child next same at is named) refl path j in
       subst (λ (d : Dirs). R (name ∷ rest) old d requested) (sym new_is)
       (goes_down name rest old (dirs_of next.open) e.0 entries requested e.1 e.2 (ap (λ (d : Dirs). d []) inside ∙ root)
       (subst (λ (d : Dirs). R rest d (dirs_of next.open) requested) (sym inside) opens))
@@ -140,32 +141,34 @@ module _ (Fits : EntryView → List EntryView → List ObjectId → Type 0) (R :
       → R (name ∷ rest) (dirs_of (opened es [] ps)) (dirs_of (opened es [] (with_part (name, inner) ps))) (first ++ requested)
   found_step ps level name rest others none e entry tree entries first requested finds inner opens =
       let old : Dirs = dirs_of (opened es [] ps) in
-      let more = level_with name inner es ps (of_has_tree name es e entry.0 entry.1 tree) others level in
+      let more = is_level_with_part name inner es ps (has_tree_of_entry name es e entry.0 entry.1 tree) others level in
       let new_is : dirs_of (opened es [] (with_part (name, inner) ps)) ≡ with_dir name (dirs_of inner) old =
       λ j path. replaced (opened es [] ps) es es ps
-      (with_part (name, inner) ps) refl (level_apart level) (level_apart more) name (dirs_of inner) (with_becomes name inner ps others) refl path j in
+      (with_part (name, inner) ps) refl (level_names_apart level) (level_names_apart more) name (dirs_of inner)
+          (becomes_of_with_part name inner ps others) refl path j in
       subst (λ (d : Dirs). R (name ∷ rest) old d (first ++ requested)) (sym new_is)
-      (goes_in name rest old (dirs_of inner) e entries first requested entry tree (λ path. at_name es [] ps name path (level_apart level) ∙ none path)
+      (goes_in name rest old (dirs_of inner) e entries first requested entry tree (λ path. dirs_of_opened_cons es [] ps name path (level_names_apart level)
+          ∙ none path)
       finds
-      (subst (λ (d : Dirs). R rest d (dirs_of inner) requested) (only_is entries) opens))
+      (subst (λ (d : Dirs). R rest d (dirs_of inner) requested) (dirs_of_childless entries) opens))
 
 -- an option that is copied is the option of the copy
-pub copied_some : {X : Type 0} (r : Option (Bor X)) (o : Option X) (x : Bor X) → option_copied r ≡ o → r ≡ Some x → o ≡ Some x.now
-copied_some r o x is some = sym is ∙ ap option_copied some
+pub option_of_copied_some : {X : Type 0} (r : Option (Bor X)) (o : Option X) (x : Bor X) → option_copied r ≡ o → r ≡ Some x → o ≡ Some x.now
+option_of_copied_some r o x is some = sym is ∙ ap option_copied some
 
-pub copied_none : {X : Type 0} (r : Option (Bor X)) (o : Option X) → option_copied r ≡ o → r ≡ None → o ≡ None
-copied_none r o is none = sym is ∙ ap option_copied none
+pub option_of_copied_none : {X : Type 0} (r : Option (Bor X)) (o : Option X) → option_copied r ≡ o → r ≡ None → o ≡ None
+option_of_copied_none r o is none = sym is ∙ ap option_copied none
 
-pub none_weaker : {X : Type 0} (r : Option X) (P : Type 0) → r ≡ None → P → IfNone r P
-none_weaker r P is p = subst (λ (o : Option _). IfNone o P) (sym is) p
+pub if_none_weaken : {X : Type 0} (r : Option X) (P : Type 0) → r ≡ None → P → IfNone r P
+if_none_weaken r P is p = subst (λ (o : Option _). IfNone o P) (sym is) p
 
-pub stop_in : {Ends : EntryView → Type 0} (trees : Trees) (es : List EntryView) (ds : Opened) (path : Path) (name : List ℕ) (rest : Path)
+pub opens_stopped_here : {Ends : EntryView → Type 0} (trees : Trees) (es : List EntryView) (ds : Opened) (path : Path) (name : List ℕ) (rest : Path)
     → path ≡ name ∷ rest
     → (ps : List Part) {base : List EntryView} → opened es base ps ≡ ds → IsLevel es ps → ((at : Path) → in_part name ps at ≡ None)
     → ((e : EntryView) → Has es e → e.name ≡ name → Ends e) → Opens Ends trees path (dirs_of ds) (dirs_of ds) []
-stop_in {Ends = Ends} trees es ds path name rest path_is ps view level none other =
+opens_stopped_here {Ends = Ends} trees es ds path name rest path_is ps view level none other =
     subst (λ p. Opens Ends trees p (dirs_of ds) (dirs_of ds) []) (sym path_is)
-    (subst (λ (d : Opened). Opens Ends trees (name ∷ rest) (dirs_of d) (dirs_of d) []) view (stop_step trees es ps level name rest none other))
+    (subst (λ (d : Opened). Opens Ends trees (name ∷ rest) (dirs_of d) (dirs_of d) []) view (opens_stopped_at_child trees es ps level name rest none other))
 
 -- the steps for an entire level, and a path that is known by its parts
 module _ (Fits : EntryView → List EntryView → List ObjectId → Type 0) (R : Path → Dirs → Dirs → List ObjectId → Type 0) (goes_down : GoesDown R)
@@ -193,75 +196,75 @@ module _ (Fits : EntryView → List EntryView → List ObjectId → Type 0) (R :
       (subst (λ (d : Opened). R (name ∷ rest) (dirs_of d) (dirs_of (opened es [] (with_part (name, inner) (parts cs)))) (first ++ requested)) view
       (found_step Fits R goes_down goes_in es (parts cs) level name rest others none e entry tree entries first requested finds inner opens)))
 
-pub level_new : (name : List ℕ) (es : List EntryView) (cs : List Child) → IsLevel es (parts cs) → AllByRecursion (λ p. p.0 ≢ name) (parts cs)
+pub is_level_of_new_child : (name : List ℕ) (es : List EntryView) (cs : List Child) → IsLevel es (parts cs) → AllByRecursion (λ p. p.0 ≢ name) (parts cs)
     → (e : EntryView)
     → IsEntryOf name (Some es) e → is_tree_mode e.mode ≡ true → (inner : Opened) (new : List Child) → parts new ≡ with_part (name, inner) (parts cs)
     → IsLevel es (parts new)
-level_new name es cs level others e entry tree inner new is =
-    subst (IsLevel es) (sym is) (level_with name inner es (parts cs) (of_has_tree name es e entry.0 entry.1 tree) others level)
+is_level_of_new_child name es cs level others e entry tree inner new is =
+    subst (IsLevel es) (sym is) (is_level_with_part name inner es (parts cs) (has_tree_of_entry name es e entry.0 entry.1 tree) others level)
 
-pub names_none : (path : List BString) → length path ≡ 0 → names_of path ≡ []
-names_none [] h = refl
-names_none (name ∷ rest) h = absurd (omega (arith, h))
+pub names_of_nil : (path : List BString) → length path ≡ 0 → names_of path ≡ []
+names_of_nil [] h = refl
+names_of_nil (name ∷ rest) h = absurd (omega (arith, h))
 
 -- the list that an entry's directory is opened with
 abbrev pub OpensAs : (EntryView → Type 0) → Trees → EntryView → List EntryView → List ObjectId → Type 0
 OpensAs Ends trees e entries first = (Ends e → ⊥) × Finds trees e.id entries first
 
 -- an opening ends at most before entries that aren't looked up
-pub ends_idle : (it : Vacant) → IsIdle (EndsBefore it)
-ends_idle vacant.Opened e other = inl other
-ends_idle vacant.Unopened e idle = idle
+pub ends_before_is_idle : (it : Vacant) → IsIdle (EndsBefore it)
+ends_before_is_idle vacant.Opened e other = inl other
+ends_before_is_idle vacant.Unopened e idle = idle
 
 -- openings, and openings that stop, hold in the directory above
-pub opens_down : (Ends : EntryView → Type 0) (trees : Trees) → GoesDown (Opens Ends trees)
-opens_down Ends trees name rest dirs inner e entries requested has named is opens = down name rest dirs inner e entries requested has named is opens
+pub opens_goes_down : (Ends : EntryView → Type 0) (trees : Trees) → GoesDown (Opens Ends trees)
+opens_goes_down Ends trees name rest dirs inner e entries requested has named is opens = down name rest dirs inner e entries requested has named is opens
 
-pub opens_in : (Ends : EntryView → Type 0) (trees : Trees) → GoesIn (OpensAs Ends trees) (Opens Ends trees)
-opens_in Ends trees name rest dirs inner e entries first requested entry tree none finds opens =
+pub opens_goes_in : (Ends : EntryView → Type 0) (trees : Trees) → GoesIn (OpensAs Ends trees) (Opens Ends trees)
+opens_goes_in Ends trees name rest dirs inner e entries first requested entry tree none finds opens =
     found name rest dirs inner e entries first requested entry tree finds.0 none finds.1 opens
 
 abbrev pub HaltsAt : (EntryView → Type 0) → Trees → Option ObjectId → Path → Dirs → Dirs → List ObjectId → Type 0
 HaltsAt Ends trees vain path old new requested = StopsOpening Ends trees path old new requested vain
 
-pub halts_down : (Ends : EntryView → Type 0) (trees : Trees) (vain : Option ObjectId) → GoesDown (HaltsAt Ends trees vain)
-halts_down Ends trees vain name rest dirs inner e entries requested has named is halts =
+pub halts_at_goes_down : (Ends : EntryView → Type 0) (trees : Trees) (vain : Option ObjectId) → GoesDown (HaltsAt Ends trees vain)
+halts_at_goes_down Ends trees vain name rest dirs inner e entries requested has named is halts =
     halting.down name rest dirs inner e entries requested vain has named is halts
 
-pub halts_in : (Ends : EntryView → Type 0) (trees : Trees) (vain : Option ObjectId) → GoesIn (OpensAs Ends trees) (HaltsAt Ends trees vain)
-halts_in Ends trees vain name rest dirs inner e entries first requested entry tree none finds halts =
+pub halts_at_goes_in : (Ends : EntryView → Type 0) (trees : Trees) (vain : Option ObjectId) → GoesIn (OpensAs Ends trees) (HaltsAt Ends trees vain)
+halts_at_goes_in Ends trees vain name rest dirs inner e entries first requested entry tree none finds halts =
     halting.found name rest dirs inner e entries first requested vain entry tree finds.0 none finds.1 halts
 
 -- an opening that stops at a level leaves the level unchanged
-pub halted_here : (Ends : EntryView → Type 0) (trees : Trees) (path : Path) (name : List ℕ) (rest : Path) (es : List EntryView) (ds : Opened)
+pub stops_opening_here : (Ends : EntryView → Type 0) (trees : Trees) (path : Path) (name : List ℕ) (rest : Path) (es : List EntryView) (ds : Opened)
     (cs new : List Child) → path ≡ name ∷ rest → {base : List EntryView} → opened es base (parts cs) ≡ ds → new ≡ cs
     → (requested : List ObjectId) (vain : Option ObjectId)
     → StopsOpening Ends trees (name ∷ rest) (dirs_of (opened es [] (parts cs))) (dirs_of (opened es [] (parts cs))) requested vain
     → StopsOpening Ends trees path (dirs_of ds) (dirs_of (opened es [] (parts new))) requested vain
-halted_here Ends trees path name rest es ds cs new path_is {base} view same requested vain halts =
+stops_opening_here Ends trees path name rest es ds cs new path_is {base} view same requested vain halts =
     subst (λ p. StopsOpening Ends trees p (dirs_of ds) (dirs_of (opened es [] (parts new))) requested vain) (sym path_is)
     (subst (λ (d : Opened). StopsOpening Ends trees (name ∷ rest) (dirs_of ds) (dirs_of d) requested vain)
     (sym (ap (λ (l : List Child). opened es base (parts l)) same ∙ view))
     (subst (λ (d : Opened). StopsOpening Ends trees (name ∷ rest) (dirs_of d) (dirs_of d) requested vain) view halts))
 
 -- an opening stops at a directory if memory runs out
-pub no_memory : (Ends : EntryView → Type 0) (trees : Trees) (name : List ℕ) (rest : Path) (es : List EntryView) (cs : List Child)
+pub stops_opening_for_memory : (Ends : EntryView → Type 0) (trees : Trees) (name : List ℕ) (rest : Path) (es : List EntryView) (cs : List Child)
     → IsLevel es (parts cs)
     → ((at : Path) → in_part name (parts cs) at ≡ None) → (e : EntryView) → IsEntryOf name (Some es) e → is_tree_mode e.mode ≡ true → (Ends e → ⊥)
     → StopsOpening Ends trees (name ∷ rest) (dirs_of (opened es [] (parts cs))) (dirs_of (opened es [] (parts cs))) [] None
-no_memory Ends trees name rest es cs level none e entry tree free = at_once name rest (dirs_of (opened es [] (parts cs))) e entry tree free
-    (λ at. at_name es [] (parts cs) name at (level_apart level) ∙ none at)
+stops_opening_for_memory Ends trees name rest es cs level none e entry tree free = at_once name rest (dirs_of (opened es [] (parts cs))) e entry tree free
+    (λ at. dirs_of_opened_cons es [] (parts cs) name at (level_names_apart level) ∙ none at)
 
 -- an opening stops at a directory whose tree isn't found
-pub none_found : (Ends : EntryView → Type 0) (trees : Trees) (name : List ℕ) (rest : Path) (es : List EntryView) (cs : List Child)
+pub stops_opening_not_found : (Ends : EntryView → Type 0) (trees : Trees) (name : List ℕ) (rest : Path) (es : List EntryView) (cs : List Child)
     → IsLevel es (parts cs)
     → ((at : Path) → in_part name (parts cs) at ≡ None) → (e : EntryView) → IsEntryOf name (Some es) e → is_tree_mode e.mode ≡ true → (Ends e → ⊥)
     → (IsNeverLookedUp e.id → ⊥) → StopsOpening Ends trees (name ∷ rest) (dirs_of (opened es [] (parts cs))) (dirs_of (opened es [] (parts cs)))
     (e.id ∷ [])
     (Some e.id)
-none_found Ends trees name rest es cs level none e entry tree free filled =
+stops_opening_not_found Ends trees name rest es cs level none e entry tree free filled =
     without_answer name rest (dirs_of (opened es [] (parts cs))) e entry tree free
-    (λ at. at_name es [] (parts cs) name at (level_apart level) ∙ none at) filled
+    (λ at. dirs_of_opened_cons es [] (parts cs) name at (level_names_apart level) ∙ none at) filled
 
 -- the invariant of open directories holds in the directory above
 abbrev pub StaysOpened : Path → Dirs → Dirs → List ObjectId → Type 0
@@ -270,15 +273,15 @@ StaysOpened path old new requested = IsOpened old → IsOpened new
 abbrev pub IsFormedList : EntryView → List EntryView → List ObjectId → Type 0
 IsFormedList e entries first = IsWellFormed entries
 
-pub stays_down : GoesDown StaysOpened
-stays_down name rest dirs inner e entries requested has named is below =
-    λ all. opened_with_dir name inner dirs (below (opened_in_dir name dirs entries is all)) all (all.above [] name entries is)
+pub stays_opened_goes_down : GoesDown StaysOpened
+stays_opened_goes_down name rest dirs inner e entries requested has named is below =
+    λ all. is_opened_with_dir name inner dirs (below (is_opened_in_dir name dirs entries is all)) all (all.above [] name entries is)
 
-pub stays_in : GoesIn IsFormedList StaysOpened
-stays_in name rest dirs inner e entries first requested entry tree none formed below =
-    λ all. opened_with_dir name inner dirs (below (opened_only entries formed)) all (e, entry.0, entry.1, tree)
+pub stays_opened_goes_in : GoesIn IsFormedList StaysOpened
+stays_opened_goes_in name rest dirs inner e entries first requested entry tree none formed below =
+    λ all. is_opened_with_dir name inner dirs (below (is_opened_of_only entries formed)) all (e, entry.0, entry.1, tree)
 
-pub still_opened : (es : List EntryView) (ds : Opened) (cs new : List Child) {base : List EntryView} → opened es base (parts cs) ≡ ds → new ≡ cs
+pub is_opened_after_opening : (es : List EntryView) (ds : Opened) (cs new : List Child) {base : List EntryView} → opened es base (parts cs) ≡ ds → new ≡ cs
     → IsOpened (dirs_of ds) → IsOpened (dirs_of (opened es [] (parts new)))
-still_opened es ds cs new {base} view same all =
+is_opened_after_opening es ds cs new {base} view same all =
     subst (λ (d : Opened). IsOpened (dirs_of d)) (sym (ap (λ (l : List Child). opened es base (parts l)) same ∙ view)) all

@@ -12,21 +12,21 @@ use Rattle.std.proofs.lemmas.List.{append_cancel_right}
 use Rattle.bstr.specs.Owned.{bstring_bytes}
 use Rattle.gixobj_files.proofs.Sublists.{all_weaker}
 use Rattle.gixobj_files.specs.Editing.{same_name}
-use Rattle.gixobj_tree.proofs.WellFormed.{same_key, tied}
+use Rattle.gixobj_tree.proofs.WellFormed.{eq_of_slice_cmp_equal, slice_cmp_equal_of_eq}
 use Rattle.gixobj_tree.specs.Entries.{EachLater, EntryView, key_of}
 use Rattle.gixobj_directories.specs.declared.open.Child.{Child}
 use Rattle.gixobj_directories.specs.Nested.{AreOrdered, IsLevel, Part, is_child_before, is_part_before, part, part_key, parts, with_part}
-use Rattle.gixobj_files.proofs.BinarySearch.{Ascends, compared, first, halved_key, halved_none, halved_place, later_at, lt_is, position_at, position_none}
+use Rattle.gixobj_files.proofs.BinarySearch.{Ascends, compared, element_at, halved_key, halved_none, halved_place, later_at, less_of_compare, position_at, position_none}
 
 abbrev pub Before : Part → Part → Type 0
 Before p q = slice_cmp nat_cmp (part_key p) (part_key q) ≡ Less
 
 -- a key has one name
 same_part : (p q : Part) → slice_cmp nat_cmp (part_key p) (part_key q) ≡ Equal → p.0 ≡ q.0
-same_part p q tie = append_cancel_right p.0 q.0 (47 ∷ []) (same_key (part_key p) (part_key q) tie)
+same_part p q tie = append_cancel_right p.0 q.0 (47 ∷ []) (eq_of_slice_cmp_equal (part_key p) (part_key q) tie)
 
-pub differ : (p q : Part) → Before p q → p.0 ≢ q.0
-differ p q before same = true≢false (ap is_lt (sym before ∙ tied (part_key p) (part_key q) (ap (λ (n : List ℕ). key_of n true) same)))
+pub names_differ : (p q : Part) → Before p q → p.0 ≢ q.0
+names_differ p q before same = true≢false (ap is_lt (sym before ∙ slice_cmp_equal_of_eq (part_key p) (part_key q) (ap (λ (n : List ℕ). key_of n true) same)))
 
 -- of two different names, if the second doesn't come before the first, the first comes before the second
 later : (p q : Part) → is_part_before q p ≡ false → q.0 ≢ p.0 → Before p q
@@ -38,24 +38,25 @@ later p q fails other =
     ] refl fails
 
 -- no two of them have the same name
-pub apart_of : (ps : List Part) → AreOrdered ps → EachLater (λ x y. x.0 ≢ y.0) ps
-apart_of [] up = tt
-apart_of (p ∷ ps) up = (all_weaker (Before p) (λ q. p.0 ≢ q.0) (λ q before. differ p q before) ps up.0, apart_of ps up.1)
+pub children_names_apart : (ps : List Part) → AreOrdered ps → EachLater (λ x y. x.0 ≢ y.0) ps
+children_names_apart [] up = tt
+children_names_apart (p ∷ ps) up = (all_weaker (Before p) (λ q. p.0 ≢ q.0) (λ q before. names_differ p q before) ps up.0, children_names_apart ps up.1)
 
-pub level_apart : {es : List EntryView} {ps : List Part} → IsLevel es ps → EachLater (λ x y. x.0 ≢ y.0) ps
-level_apart {es} {ps} level = apart_of ps level.ordered
+pub level_names_apart : {es : List EntryView} {ps : List Part} → IsLevel es ps → EachLater (λ x y. x.0 ≢ y.0) ps
+level_names_apart {es} {ps} level = children_names_apart ps level.ordered
 
 -- a property of all directories holds with one more
-pub all_with : (P : Part → Type 0) (p : Part) (ps : List Part) → P p → AllByRecursion P ps → AllByRecursion P (with_part p ps)
-all_with P p [] here h = (here, tt)
-all_with P p (q ∷ qs) here h = elim (is_part_before q p) as (λ b. AllByRecursion P (cond b (q ∷ with_part p qs) (p ∷ q ∷ qs)))
-    [ true ↦ (h.0, all_with P p qs here h.1) | false ↦ (here, h) ]
+pub all_with_part : (P : Part → Type 0) (p : Part) (ps : List Part) → P p → AllByRecursion P ps → AllByRecursion P (with_part p ps)
+all_with_part P p [] here h = (here, tt)
+all_with_part P p (q ∷ qs) here h = elim (is_part_before q p) as (λ b. AllByRecursion P (cond b (q ∷ with_part p qs) (p ∷ q ∷ qs)))
+    [ true ↦ (h.0, all_with_part P p qs here h.1) | false ↦ (here, h) ]
 
-pub ordered_with : (p : Part) (ps : List Part) → AllByRecursion (λ q. q.0 ≢ p.0) ps → AreOrdered ps → AreOrdered (with_part p ps)
-ordered_with p [] others up = (tt, tt)
-ordered_with p (q ∷ qs) others up =
+pub are_ordered_with_part : (p : Part) (ps : List Part) → AllByRecursion (λ q. q.0 ≢ p.0) ps → AreOrdered ps → AreOrdered (with_part p ps)
+are_ordered_with_part p [] others up = (tt, tt)
+are_ordered_with_part p (q ∷ qs) others up =
     elim (is_part_before q p) as (λ b. is_part_before q p ≡ b → AreOrdered (cond b (q ∷ with_part p qs) (p ∷ q ∷ qs))) [
-      | true ↦ λ is. (all_with (Before q) p qs (lt_is (slice_cmp nat_cmp (part_key q) (part_key p)) is) up.0, ordered_with p qs others.1 up.1)
+      | true ↦ λ is. (all_with_part (Before q) p qs (less_of_compare (slice_cmp nat_cmp (part_key q) (part_key p)) is) up.0, are_ordered_with_part p qs
+          others.1 up.1)
       | false ↦ λ is. let here =
           later p q is others.0 in (
             (
@@ -68,15 +69,15 @@ ordered_with p (q ∷ qs) others up =
     ] refl
 
 -- a child that is inserted at the position of its key
-pub inserted : (cs : List Child) (child : Child) → parts (insert cs (prefix_len (is_child_before (bstring_bytes child.name)) cs) child) ≡ with_part
+pub parts_insert_child : (cs : List Child) (child : Child) → parts (insert cs (prefix_len (is_child_before (bstring_bytes child.name)) cs) child) ≡ with_part
     (part child)
     (parts cs)
-inserted [] child = refl
-inserted (c ∷ cs) child =
+parts_insert_child [] child = refl
+parts_insert_child (c ∷ cs) child =
     elim (is_part_before (part c) (part child)) as
     (λ b. parts (insert (c ∷ cs) (cond b (1 + prefix_len (is_child_before (bstring_bytes child.name)) cs) 0) child) ≡ cond b
     (part c ∷ with_part (part child) (parts cs)) (part child ∷ part c ∷ parts cs)) [
-      | true ↦ rw one-add (ap (λ ps. part c ∷ ps) (inserted cs child))
+      | true ↦ rw one-add (ap (λ ps. part c ∷ ps) (parts_insert_child cs child))
       | false ↦ refl
     ]
 
@@ -84,9 +85,9 @@ inserted (c ∷ cs) child =
 abbrev pub child_key : Child → List ℕ
 child_key c = key_of (bstring_bytes c.name) true
 
-pub ascends_of : (cs : List Child) → AreOrdered (parts cs) → Ascends child_key cs
-ascends_of [] up = tt
-ascends_of (c ∷ cs) up = (each cs up.0, ascends_of cs up.1)
+pub children_ascend : (cs : List Child) → AreOrdered (parts cs) → Ascends child_key cs
+children_ascend [] up = tt
+children_ascend (c ∷ cs) up = (each cs up.0, children_ascend cs up.1)
   where
     each : (ds : List Child) → AllByRecursion (Before (part c)) (parts ds)
         → AllByRecursion (λ d. slice_cmp nat_cmp (child_key c) (child_key d) ≡ Less) ds
@@ -106,19 +107,19 @@ module _ (cs : List Child) (up : AreOrdered (parts cs)) (name : List ℕ) where
 
   pub child_found : (r : Result ℕ ℕ) → IsSearchInRange r (length cs) → IsBinarySearchResult by_key cs r → result_ok r ≡ position is_called cs
   child_found (Ok i) range is =
-      let d = first cs i range in
+      let d = element_at cs i range in
       let here : child_key (get_or cs i d) ≡ key_of name true = halved_key child_key cs (key_of name true) i d is in
       sym (position_at is_called cs i d range
       ((bytes_decides (bstring_bytes (get_or cs i d).name) name).1 (append_cancel_right (bstring_bytes (get_or cs i d).name) name (47 ∷ []) here))
       (λ k low. false_from_ne_true (is_called (get_or cs k d)) (λ named. true≢false (ap is_lt
-      (sym (later_at (λ x y. slice_cmp nat_cmp (child_key x) (child_key y) ≡ Less) cs (ascends_of cs up) k i d low range)
-      ∙ tied (child_key (get_or cs k d))
+      (sym (later_at (λ x y. slice_cmp nat_cmp (child_key x) (child_key y) ≡ Less) cs (children_ascend cs up) k i d low range)
+      ∙ slice_cmp_equal_of_eq (child_key (get_or cs k d))
       (child_key (get_or cs i d)) (keyed (get_or cs k d) named ∙ sym here))))))
   child_found (Err i) range is =
       sym (position_none is_called cs
-      (λ k d low. false_from_ne_true (is_called (get_or cs k d)) (λ named. halved_none child_key cs (ascends_of cs up) (key_of name true) i is k d low
+      (λ k d low. false_from_ne_true (is_called (get_or cs k d)) (λ named. halved_none child_key cs (children_ascend cs up) (key_of name true) i is k d low
       (keyed (get_or cs k d) named))))
 
   pub child_before : (r : Result ℕ ℕ) → IsSearchInRange r (length cs) → IsBinarySearchResult by_key cs r
       → MatchResult r (λ i. i ≡ prefix_len (is_child_before name) cs) (λ i. i ≡ prefix_len (is_child_before name) cs)
-  child_before r range is = halved_place child_key cs (ascends_of cs up) (key_of name true) r range is
+  child_before r range is = halved_place child_key cs (children_ascend cs up) (key_of name true) r range is

@@ -7,7 +7,7 @@ use Rattle.gixobj_files.specs.Opening.{Dirs, in_dir}
 use Rattle.gixobj_files.proofs.StillOpened.{AreFormed}
 use Rattle.gixobj_files.proofs.Sublists.{all_append}
 use Rattle.gixobj_directories.specs.Calls.{IsStorable}
-use Rattle.gixobj_directories.proofs.Emitting.{walk_storable}
+use Rattle.gixobj_directories.proofs.Emitting.{written_is_storable}
 
 abbrev pub AreStorable : List Pair → Type 0
 AreStorable pairs = AllByRecursion (λ pair. IsStorable pair.1) pairs
@@ -16,7 +16,7 @@ mutual
   pub leaves_storable : (dirs bases : Dirs) (ps : List Pair) (own : List EntryView) (n : ℕ) → EmitsBelow dirs bases ps own n → AreFormed dirs → AreStorable ps
       × IsStorable own
   leaves_storable dirs bases ps own n (leaves d b es ps' own' m is walk) formed =
-      (walk_pairs dirs bases es ps own n walk formed, walk_storable dirs bases es ps own n walk (formed [] es is))
+      (walk_pairs dirs bases es ps own n walk formed, written_is_storable dirs bases es ps own n walk (formed [] es is))
 
   walk_pairs : (dirs bases : Dirs) (es : List EntryView) (ps : List Pair) (own : List EntryView) (n : ℕ) → Walks dirs bases es ps own n → AreFormed dirs
       → AreStorable ps

@@ -1,7 +1,7 @@
 -- Tables that agree with runs.
 use Rattle.std.proofs.Common.{◌≡◌, ◌≢◌, ⊎_elim, All, List, [], ◌∷◌, ◌∙◌, Some, ap, subst, sym, take}
 use Rattle.std.proofs.lemmas.List.Elements.{All-head, All-tail, All-take}
-use Rattle.gixobj_object.proofs.Keeping.{elsewhere, there}
+use Rattle.gixobj_object.proofs.Keeping.{named_insert_other, named_insert_same}
 use Rattle.gixobj_object.specs.Stores.{Objects, StoredObject, named}
 use Rattle.gixobj_directories.specs.Openings.{AreTreesOf, NamesTree}
 use Rattle.gixobj_files.proofs.ListedTables.{fitting_table}
@@ -15,7 +15,7 @@ use Rattle.gixobj_editor.specs.Commands.{emitted_pairs, pairs_kept}
 use Rattle.gixobj_editor.specs.RunTables.{AgreesWithObjects, AgreesWithRun, DecodesToItself}
 use Rattle.gixobj_editor.specs.declared.reply.Reply.{Reply}
 use Rattle.gixobj_editor.proofs.KeptPairs.{kept_have}
-use Rattle.gixobj_hash.proofs.SameIds.{same_ids}
+use Rattle.gixobj_hash.proofs.SameIds.{id_eq_or_ne}
 
 module _ (T : Table) where
   abbrev Has : Pair → Type 0
@@ -28,7 +28,7 @@ module _ (T : Table) where
 
     at_tree : (it : ObjectId) (entries : List EntryView) → it ≡ pair.0 → NamesTree (with_tree pair objects) it entries → T.tree_at it ≡ Some entries
     at_tree it entries is names =
-        let found : named (with_tree pair objects) it ≡ Some kept_as = ap (named (with_tree pair objects)) is ∙ there objects pair.0 kept_as in
+        let found : named (with_tree pair objects) it ≡ Some kept_as = ap (named (with_tree pair objects)) is ∙ named_insert_same objects pair.0 kept_as in
         let same : names.0.0 ≡ kept_as = cc (found, names.0.1) in
         let content = subst (λ (o : StoredObject). DecodesToTree o.object_hash o.bytes entries) same names.0.3 in
         ap T.tree_at is ∙ has ∙ ap Some (sym (reads entries content names.1))
@@ -36,11 +36,11 @@ module _ (T : Table) where
     at_other : (it : ObjectId) (entries : List EntryView) → (IsNeverLookedUp it → ⊥) → it ≢ pair.0 → NamesTree (with_tree pair objects) it entries
         → T.tree_at it ≡ Some entries
     at_other it entries searched other names =
-        agrees it entries searched ((names.0.0, sym (elsewhere objects pair.0 it kept_as other) ∙ names.0.1, names.0.2, names.0.3), names.1)
+        agrees it entries searched ((names.0.0, sym (named_insert_other objects pair.0 it kept_as other) ∙ names.0.1, names.0.2, names.0.3), names.1)
 
     agrees_with_tree : AgreesWithObjects T (with_tree pair objects)
     agrees_with_tree it entries searched names = ⊎_elim (λ is. at_tree it entries is names) (λ other. at_other it entries searched other names)
-        (same_ids it pair.0)
+        (id_eq_or_ne it pair.0)
 
   agrees_with_trees : (pairs : List Pair) (objects : Objects) → AgreesWithObjects T objects → AgreesWithPairs T pairs → All DecodesToItself pairs
       → AgreesWithObjects T (with_trees pairs objects)
@@ -50,10 +50,10 @@ module _ (T : Table) where
       (agrees_with_tree objects pair agrees (All-head Has pair pairs has) (All-head DecodesToItself pair pairs reads))
       (All-tail Has pair pairs has) (All-tail DecodesToItself pair pairs reads)
 
-pub run_table : {E : Type 0} (replies : List (Reply E)) (objects : Objects) (trees : Trees) → AreTreesOf objects trees
+pub table_of_run_exists : {E : Type 0} (replies : List (Reply E)) (objects : Objects) (trees : Trees) → AreTreesOf objects trees
     → IsConsistentWith (emitted_pairs replies) trees → All DecodesToItself (pairs_kept replies)
     → (T : Table) × AgreesWithRun T objects replies
-run_table replies objects trees are fits reads =
+table_of_run_exists replies objects trees are fits reads =
     let it = fitting_table (emitted_pairs replies) trees fits in
     let agrees : AgreesWithObjects it.0 objects = λ id entries searched names. it.1 id entries searched ((are id entries).1 names) in
     let has = kept_have (Has it.0) replies it.2 in (

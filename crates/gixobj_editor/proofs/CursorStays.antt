@@ -4,14 +4,14 @@ use Rattle.std.proofs.Common.{◌≡◌, ◌≢◌, ◌∙◌, ℕ, List, [], �
 use Rattle.std.specs.Prelude.{OnErr, OnOk}
 use Rattle.gixobj_object.specs.Stores.{Objects}
 use Rattle.gixobj_directories.specs.Openings.{AreTreesOf}
-use Rattle.gixobj_directories.proofs.NamedTrees.{trees_of}
+use Rattle.gixobj_directories.proofs.NamedTrees.{trees_of_objects_exist}
 use Rattle.gixobj_files.specs.Edits.{arrived, Opens}
 use Rattle.gixobj_files.specs.Files.{Path, Trees}
 use Rattle.gixobj_files.specs.Opening.{Dirs, IsOpened}
 use Rattle.gixobj_files.specs.State.{EditorFiles, State, open_bases, open_dirs}
-use Rattle.gixobj_files.proofs.EditedFiles.{same_refl}
-use Rattle.gixobj_files.proofs.PrefixStays.{removed_stays, upserted_stays}
-use Rattle.gixobj_files.proofs.StillOpenedOpenings.{opening_keeps}
+use Rattle.gixobj_files.proofs.EditedFiles.{same_files_refl}
+use Rattle.gixobj_files.proofs.PrefixStays.{removed_dirs_keep_prefix, upserted_dirs_keep_prefix}
+use Rattle.gixobj_files.proofs.StillOpenedOpenings.{opens_keeps_open_lists}
 use Rattle.gixobj_hash.specs.Hash.{null_id}
 use Rattle.gixobj_hash.specs.declared.hash.object_id.ObjectId.{ObjectId}
 use Rattle.gixobj_tree.specs.Entries.{EntryView}
@@ -31,7 +31,7 @@ kept_open old new at keeps there none =
 
 opened_still : {Ends : EntryView → Type 0} (trees : Trees) (path : Path) (old new : Dirs) (queries : List ObjectId) → Opens Ends trees path old new queries
     → (at : Path) → old at ≢ None → new at ≢ None
-opened_still trees path old new queries opens at there = kept_open old new at (opening_keeps trees path old new queries opens at) there
+opened_still trees path old new queries opens at there = kept_open old new at (opens_keeps_open_lists trees path old new queries opens at) there
 
 -- the directory at the prefix is open
 abbrev pub IsAtPrefix : {S : Type 0} → State S → Type 0
@@ -48,7 +48,7 @@ upserted_open : {S : Type 0} (trees : Trees) (old new : State S) (prefix path : 
     → IsUpserted trees old (from_root prefix path) mode id new → open_dirs old prefix ≢ None → open_dirs new prefix ≢ None
 upserted_open trees old new prefix [] mode id h there = λ none. opened_still trees [] (open_dirs old) h.opened h.requested h.opens prefix there
     (sym (h.dirs prefix) ∙ none)
-upserted_open trees old new prefix (name ∷ path) mode id h there = λ none. upserted_stays prefix name path mode id (null_id old.object_hash) h.opened
+upserted_open trees old new prefix (name ∷ path) mode id h there = λ none. upserted_dirs_keep_prefix prefix name path mode id (null_id old.object_hash) h.opened
     (sym (h.dirs prefix) ∙ none)
 
 removed_open : {S : Type 0} {Ends : EntryView → Type 0} (trees : Trees) (old new : State S) (prefix path : Path)
@@ -56,33 +56,35 @@ removed_open : {S : Type 0} {Ends : EntryView → Type 0} (trees : Trees) (old n
 removed_open trees old new prefix [] h there = λ none. opened_still trees [] (open_dirs old) h.opened h.requested h.opens prefix there
     (sym (h.dirs prefix) ∙ none)
 removed_open trees old new prefix (name ∷ path) h there =
-    λ none. removed_stays prefix name path h.opened
+    λ none. removed_dirs_keep_prefix prefix name path h.opened
     (opened_still trees (directory_of (prefix ++ name ∷ path)) (open_dirs old) h.opened h.requested h.opens prefix there) (sym (h.dirs prefix) ∙ none)
 
-pub upserted_keeps : {S : Type 0} (trees : Trees) (old new : State S) (path : Path) (mode : ℕ) (id : ObjectId)
+pub stays_upserted : {S : Type 0} (trees : Trees) (old new : State S) (path : Path) (mode : ℕ) (id : ObjectId)
     → IsUpserted trees old (from_root old.prefix path) mode id new → Stays old new
-upserted_keeps {S} trees old new path mode id h = stays old new (ap (λ (o : State S). o.prefix) h.rest) (upserted_open trees old new old.prefix path mode id h)
+stays_upserted {S} trees old new path mode id h = stays old new (ap (λ (o : State S). o.prefix) h.rest) (upserted_open trees old new old.prefix path mode id h)
 
-pub removed_keeps : {S : Type 0} {Ends : EntryView → Type 0} (trees : Trees) (old new : State S) (path : Path)
+pub stays_removed : {S : Type 0} {Ends : EntryView → Type 0} (trees : Trees) (old new : State S) (path : Path)
     → IsRemoved Ends trees old (from_root old.prefix path) new → Stays old new
-removed_keeps {S} trees old new path h = stays old new (ap (λ (o : State S). o.prefix) h.rest) (removed_open trees old new old.prefix path h)
+stays_removed {S} trees old new path h = stays old new (ap (λ (o : State S). o.prefix) h.rest) (removed_open trees old new old.prefix path h)
 
-pub rejected_keeps : {S : Type 0} (trees : Trees) (old new : State S) (path : Path) → IsEditFailure trees old path new → Stays old new
-rejected_keeps {S} trees old new path h = stays old new (ap (λ (o : State S). o.prefix) h.rest)
+pub stays_failed : {S : Type 0} (trees : Trees) (old new : State S) (path : Path) → IsEditFailure trees old path new → Stays old new
+stays_failed {S} trees old new path h = stays old new (ap (λ (o : State S). o.prefix) h.rest)
     (kept_open (open_dirs old) (open_dirs new) old.prefix (h.stays old.prefix))
 
 -- an edit of the editor, accepted or failed
-pub either_way : {W X : Type 0} (result : Result W X) (objects : Objects) (Known : Type 0) (Accepted Refused : Trees → Type 0)
+pub known_of_either : {W X : Type 0} (result : Result W X) (objects : Objects) (Known : Type 0) (Accepted Refused : Trees → Type 0)
     → OnOk result ((trees : Trees) → AreTreesOf objects trees → Accepted trees)
     → OnErr result ((trees : Trees) → AreTreesOf objects trees → Refused trees) → ((trees : Trees) → Accepted trees → Known)
     → ((trees : Trees) → Refused trees → Known) → Known
-either_way (Ok it) objects Known Accepted Refused ok err accepted rejected = let named = trees_of objects in accepted named.0 (ok named.0 named.1)
-either_way (Err error) objects Known Accepted Refused ok err accepted rejected = let named = trees_of objects in rejected named.0 (err named.0 named.1)
+known_of_either (Ok it) objects Known Accepted Refused ok err accepted rejected = let named = trees_of_objects_exist objects in
+    accepted named.0 (ok named.0 named.1)
+known_of_either (Err error) objects Known Accepted Refused ok err accepted rejected = let named = trees_of_objects_exist objects in
+    rejected named.0 (err named.0 named.1)
 
 -- an edit that does nothing
-pub nothing_done : {S : Type 0} (trees : Trees) (old : State S) (path : Path) → IsOpened (open_dirs old)
+pub edit_failure_unchanged : {S : Type 0} (trees : Trees) (old : State S) (path : Path) → IsOpened (open_dirs old)
     → ((at : Path) → open_bases old at ≡ opened_bases (open_dirs old) (open_dirs old) (open_bases old) at) → IsEditFailure trees old path old
-nothing_done trees old path all idle = record {
+edit_failure_unchanged trees old path all idle = record {
   not_looked_up = vacant.Opened;
   prefix = [];
   more = path;
@@ -98,6 +100,6 @@ nothing_done trees old path all idle = record {
   lookups = refl;
   rest = refl;
   is_opened = all;
-  files = λ T n agrees. same_refl (EditorFiles T n old);
+  files = λ T n agrees. same_files_refl (EditorFiles T n old);
   has_bases = λ T agrees has. has;
 }

@@ -16,17 +16,17 @@ use Rattle.gixobj_files.specs.OpeningStops.{StopsOpening, IsNextUnopened, IsUnop
 use Rattle.gixobj_files.specs.Opening.{Dirs, IsOpened, OpenFiles}
 use Rattle.gixobj_files.specs.State.{DirMap, EditorFiles, State, open_bases, open_dirs}
 use Rattle.gixobj_files.specs.Unopened.{is_unopened, looked_up_entry, unopened_count}
-use Rattle.gixobj_files.proofs.EditedFiles.{same_refl, same_trans, same_upserted}
+use Rattle.gixobj_files.proofs.EditedFiles.{same_files_refl, same_files_trans, upserted_congruent}
 use Rattle.gixobj_files.proofs.Halted.{halted_at, opens_known}
-use Rattle.gixobj_files.proofs.OpeningFiles.{opens_files, opens_ready}
-use Rattle.gixobj_files.proofs.StillOpened.{opened_upserted}
-use Rattle.gixobj_files.proofs.StillOpenedOpenings.{opened_opening, opening_keeps}
+use Rattle.gixobj_files.proofs.OpeningFiles.{opens_keeps_files, opens_makes_ready}
+use Rattle.gixobj_files.proofs.StillOpened.{is_opened_upserted}
+use Rattle.gixobj_files.proofs.StillOpenedOpenings.{is_opened_of_opens, opens_keeps_open_lists}
 use Rattle.gixobj_files.proofs.UnopenedCounts.{IsIdle, requested_count}
-use Rattle.gixobj_files.proofs.UpsertedFiles.{IsReady, upserted_files}
+use Rattle.gixobj_files.proofs.UpsertedFiles.{IsReady, upserted_dirs_files}
 use Rattle.gixobj_directories.specs.Calls.{AreNames}
 use Rattle.gixobj_directories.specs.Nested.{Opened, base_side, bases_of, dirs_of, entries_side, side_list}
 use Rattle.gixobj_directories.specs.Openings.{EndsBefore, IsOpenErrorAt}
-use Rattle.gixobj_directories.proofs.BaseSteps.{editing as when_edited, no_base, opening as when_opened, unmoved}
+use Rattle.gixobj_directories.proofs.BaseSteps.{editing as when_edited, base_none_where_unopened, opening as when_opened, unmoved}
 use Rattle.gixobj_directories.specs.declared.opening.Vacant.{Vacant}
 use Rattle.gixobj_directories.specs.declared.opening.Vacant.TheVariants as vacant
 use Rattle.gixobj_files.specs.Bases.{AreOpenedOn, base_edited, base_opened, edited_bases, opened_bases}
@@ -37,7 +37,7 @@ use Rattle.gixobj_editor.specs.Upserts.{IsOpenedInPart, IsEditFailure, IsUpserte
 use Rattle.gixobj_editor.specs.declared.editor.error.Error.{Error}
 use Rattle.gixobj_editor.specs.declared.editor.error.Error.TheVariants as error
 use Rattle.gixobj_editor.proofs.InPart.{halted_in_part, none_in_part, opened_in_part}
-use Rattle.gixobj_editor.proofs.Paths.{directory_is, strictly_above}
+use Rattle.gixobj_editor.proofs.Paths.{directory_of_snoc, prefix_extends}
 
 -- the open directories of an editor
 abbrev pub map_of : Opened → DirMap
@@ -46,8 +46,8 @@ map_of ds = map.from_entries (side_list entries_side ds)
 abbrev pub map_dirs : Opened → Dirs
 map_dirs ds = λ at. map.get (map_of ds) at
 
-pub dirs_at : (ds : Opened) (at : Path) → map_dirs ds at ≡ dirs_of ds at
-dirs_at ds at = map.get-from_entries (lists_total nat_list_cmp_total) (side_list entries_side ds) at
+pub map_dirs_at : (ds : Opened) (at : Path) → map_dirs ds at ≡ dirs_of ds at
+map_dirs_at ds at = map.get-from_entries (lists_total nat_list_cmp_total) (side_list entries_side ds) at
 
 -- the bases of an editor's open directories
 abbrev pub base_map : Opened → DirMap
@@ -56,11 +56,11 @@ base_map ds = map.from_entries (side_list base_side ds)
 abbrev pub map_bases : Opened → Dirs
 map_bases ds = λ at. map.get (base_map ds) at
 
-pub bases_at : (ds : Opened) (at : Path) → map_bases ds at ≡ bases_of ds at
-bases_at ds at = map.get-from_entries (lists_total nat_list_cmp_total) (side_list base_side ds) at
+pub map_bases_at : (ds : Opened) (at : Path) → map_bases ds at ≡ bases_of ds at
+map_bases_at ds at = map.get-from_entries (lists_total nat_list_cmp_total) (side_list base_side ds) at
 
-pub same_bases : (ds : Opened) → map_bases ds ≡ bases_of ds
-same_bases ds = λ i at. bases_at ds at i
+pub map_bases_eq : (ds : Opened) → map_bases ds ≡ bases_of ds
+map_bases_eq ds = λ i at. map_bases_at ds at i
 
 -- the bases after directories were opened, and after they were edited
 abbrev pub OpenedSo : Opened → Opened → Type 0
@@ -69,117 +69,120 @@ OpenedSo ds mid = (at : Path) → bases_of mid at ≡ opened_bases (dirs_of ds) 
 abbrev pub EditedSo : Opened → Opened → Type 0
 EditedSo mid ds' = (at : Path) → bases_of ds' at ≡ edited_bases (dirs_of mid) (dirs_of ds') (bases_of mid) at
 
-pub opened_map : (ds mid : Opened) → OpenedSo ds mid → (at : Path) → bases_of mid at ≡ opened_bases (map_dirs ds) (dirs_of mid) (map_bases ds) at
-opened_map ds mid first at =
-    first at ∙ ap (λ o. base_opened o (dirs_of mid at) (bases_of ds at)) (sym (dirs_at ds at))
+pub opened_bases_of_map : (ds mid : Opened) → OpenedSo ds mid → (at : Path) → bases_of mid at ≡ opened_bases (map_dirs ds) (dirs_of mid) (map_bases ds) at
+opened_bases_of_map ds mid first at =
+    first at ∙ ap (λ o. base_opened o (dirs_of mid at) (bases_of ds at)) (sym (map_dirs_at ds at))
     ∙ ap (λ b. base_opened (map_dirs ds at) (dirs_of mid at) b)
-    (sym (bases_at ds at))
+    (sym (map_bases_at ds at))
 
-pub edited_map : (ds mid ds' : Opened) → OpenedSo ds mid → EditedSo mid ds' → (at : Path) → map_bases ds' at ≡ edited_bases (dirs_of mid)
+pub edited_bases_of_map : (ds mid ds' : Opened) → OpenedSo ds mid → EditedSo mid ds' → (at : Path) → map_bases ds' at ≡ edited_bases (dirs_of mid)
     (map_dirs ds')
     (opened_bases (map_dirs ds) (dirs_of mid) (map_bases ds)) at
-edited_map ds mid ds' first then at =
-    bases_at ds' at ∙ then at ∙ ap (λ b. base_edited (dirs_of mid at) (dirs_of ds' at) b) (opened_map ds mid first at)
-    ∙ ap (λ o. base_edited (dirs_of mid at) o (opened_bases (map_dirs ds) (dirs_of mid) (map_bases ds) at)) (sym (dirs_at ds' at))
+edited_bases_of_map ds mid ds' first then at =
+    map_bases_at ds' at ∙ then at ∙ ap (λ b. base_edited (dirs_of mid at) (dirs_of ds' at) b) (opened_bases_of_map ds mid first at)
+    ∙ ap (λ o. base_edited (dirs_of mid at) o (opened_bases (map_dirs ds) (dirs_of mid) (map_bases ds) at)) (sym (map_dirs_at ds' at))
 
-pub only_opened_map : (ds ds' : Opened) → OpenedSo ds ds' → (at : Path) → map_bases ds' at ≡ opened_bases (map_dirs ds) (map_dirs ds')
+pub only_opened_bases_of_map : (ds ds' : Opened) → OpenedSo ds ds' → (at : Path) → map_bases ds' at ≡ opened_bases (map_dirs ds) (map_dirs ds')
     (map_bases ds) at
-only_opened_map ds ds' first at = bases_at ds' at ∙ opened_map ds ds' first at ∙ ap (λ o. base_opened (map_dirs ds at) o (map_bases ds at))
-    (sym (dirs_at ds' at))
+only_opened_bases_of_map ds ds' first at = map_bases_at ds' at ∙ opened_bases_of_map ds ds' first at
+    ∙ ap (λ o. base_opened (map_dirs ds at) o (map_bases ds at))
+    (sym (map_dirs_at ds' at))
 
-pub only_edited_map : (ds ds' : Opened) → EditedSo ds ds' → (at : Path) → map_bases ds' at ≡ edited_bases (map_dirs ds) (map_dirs ds')
+pub only_edited_bases_of_map : (ds ds' : Opened) → EditedSo ds ds' → (at : Path) → map_bases ds' at ≡ edited_bases (map_dirs ds) (map_dirs ds')
     (map_bases ds) at
-only_edited_map ds ds' then at =
-    bases_at ds' at ∙ then at ∙ ap (λ o. base_edited o (dirs_of ds' at) (bases_of ds at)) (sym (dirs_at ds at))
-    ∙ ap (λ o. base_edited (map_dirs ds at) o (bases_of ds at)) (sym (dirs_at ds' at)) ∙ ap (λ b. base_edited (map_dirs ds at) (map_dirs ds' at) b)
-    (sym (bases_at ds at))
+only_edited_bases_of_map ds ds' then at =
+    map_bases_at ds' at ∙ then at ∙ ap (λ o. base_edited o (dirs_of ds' at) (bases_of ds at)) (sym (map_dirs_at ds at))
+    ∙ ap (λ o. base_edited (map_dirs ds at) o (bases_of ds at)) (sym (map_dirs_at ds' at)) ∙ ap (λ b. base_edited (map_dirs ds at) (map_dirs ds' at) b)
+    (sym (map_bases_at ds at))
 
 -- the bases of an unchanged editor, as after an opening and an edit that change nothing
 idle_map : (ds : Opened) (at : Path) → map_bases ds at ≡ edited_bases (map_dirs ds) (map_dirs ds)
     (opened_bases (map_dirs ds) (map_dirs ds) (map_bases ds)) at
 idle_map ds at =
-    let none : map_dirs ds at ≡ None → map_bases ds at ≡ None = λ closed. bases_at ds at ∙ no_base ds at (sym (dirs_at ds at) ∙ closed) in
+    let none : map_dirs ds at ≡ None → map_bases ds at ≡ None = λ closed. map_bases_at ds at
+        ∙ base_none_where_unopened ds at (sym (map_dirs_at ds at) ∙ closed) in
     let same = when_opened.same (map_dirs ds at) (map_bases ds at) none in
     same ∙ when_edited.same (map_dirs ds at) (base_opened (map_dirs ds at) (map_dirs ds at) (map_bases ds at)) (λ closed. sym same ∙ none closed)
 
-pub idle_at : {S : Type 0} (store : S) (hash : Kind) (prefix : Path) (ds : Opened) (n : ℕ) (old : State S)
+pub edited_bases_idle : {S : Type 0} (store : S) (hash : Kind) (prefix : Path) (ds : Opened) (n : ℕ) (old : State S)
     → record { dirs = map_of ds; bases = base_map ds; store = store; lookups = n; object_hash = hash; prefix = prefix } ≡ old
     → (at : Path) → open_bases old at ≡ edited_bases (open_dirs old) (open_dirs old) (opened_bases (open_dirs old) (open_dirs old) (open_bases old))
     at
-idle_at {S} store hash prefix ds n old view at =
+edited_bases_idle {S} store hash prefix ds n old view at =
     subst (λ (o : State S). open_bases o at ≡ edited_bases (open_dirs o) (open_dirs o) (opened_bases (open_dirs o) (open_dirs o) (open_bases o)) at)
     view
     (idle_map ds at)
 
 unopened_map : (ds : Opened) (at : Path) → map_bases ds at ≡ opened_bases (map_dirs ds) (map_dirs ds) (map_bases ds) at
-unopened_map ds at = when_opened.same (map_dirs ds at) (map_bases ds at) (λ closed. bases_at ds at ∙ no_base ds at (sym (dirs_at ds at) ∙ closed))
+unopened_map ds at = when_opened.same (map_dirs ds at) (map_bases ds at) (λ closed. map_bases_at ds at
+    ∙ base_none_where_unopened ds at (sym (map_dirs_at ds at) ∙ closed))
 
-pub unopened_at : {S : Type 0} (store : S) (hash : Kind) (prefix : Path) (ds : Opened) (n : ℕ) (old : State S)
+pub opened_bases_unchanged : {S : Type 0} (store : S) (hash : Kind) (prefix : Path) (ds : Opened) (n : ℕ) (old : State S)
     → record { dirs = map_of ds; bases = base_map ds; store = store; lookups = n; object_hash = hash; prefix = prefix } ≡ old
     → (at : Path) → open_bases old at ≡ opened_bases (open_dirs old) (open_dirs old) (open_bases old) at
-unopened_at {S} store hash prefix ds n old view at =
+opened_bases_unchanged {S} store hash prefix ds n old view at =
     subst (λ (o : State S). open_bases o at ≡ opened_bases (open_dirs o) (open_dirs o) (open_bases o) at) view
     (unopened_map ds at)
 
 -- an editor in which nothing is opened and nothing edited
-pub none_opened : (ds : Opened) → OpenedSo ds ds
-none_opened ds = unmoved base_opened when_opened ds
+pub opened_so_refl : (ds : Opened) → OpenedSo ds ds
+opened_so_refl ds = unmoved base_opened when_opened ds
 
-pub none_edited : (ds : Opened) → EditedSo ds ds
-none_edited ds = unmoved base_edited when_edited ds
+pub edited_so_refl : (ds : Opened) → EditedSo ds ds
+edited_so_refl ds = unmoved base_edited when_edited ds
 
-pub same_dirs : (ds : Opened) → map_dirs ds ≡ dirs_of ds
-same_dirs ds = λ i at. dirs_at ds at i
+pub map_dirs_eq : (ds : Opened) → map_dirs ds ≡ dirs_of ds
+map_dirs_eq ds = λ i at. map_dirs_at ds at i
 
-pub as_map : (ds : Opened) → IsOpened (dirs_of ds) → IsOpened (map_dirs ds)
-as_map ds all = subst (λ (d : Dirs). IsOpened d) (sym (same_dirs ds)) all
+pub map_is_opened : (ds : Opened) → IsOpened (dirs_of ds) → IsOpened (map_dirs ds)
+map_is_opened ds all = subst (λ (d : Dirs). IsOpened d) (sym (map_dirs_eq ds)) all
 
 -- the invariant of open directories and their bases
 abbrev pub OpenedOn : Opened → Type 0
 OpenedOn ds = AreOpenedOn (dirs_of ds) (bases_of ds)
 
-pub on_map : (ds : Opened) → OpenedOn ds → AreOpenedOn (map_dirs ds) (map_bases ds)
-on_map ds on = subst (λ (b : Dirs). AreOpenedOn (map_dirs ds) b) (sym (same_bases ds))
-    (subst (λ (d : Dirs). AreOpenedOn d (bases_of ds)) (sym (same_dirs ds)) on)
+pub map_is_opened_on : (ds : Opened) → OpenedOn ds → AreOpenedOn (map_dirs ds) (map_bases ds)
+map_is_opened_on ds on = subst (λ (b : Dirs). AreOpenedOn (map_dirs ds) b) (sym (map_bases_eq ds))
+    (subst (λ (d : Dirs). AreOpenedOn d (bases_of ds)) (sym (map_dirs_eq ds)) on)
 
-pub opened_as : {S : Type 0} (store : S) (hash : Kind) (prefix : Path) (ds : Opened) (n : ℕ) (old : State S)
+pub is_opened_of_editor : {S : Type 0} (store : S) (hash : Kind) (prefix : Path) (ds : Opened) (n : ℕ) (old : State S)
     → record { dirs = map_of ds; bases = base_map ds; store = store; lookups = n; object_hash = hash; prefix = prefix } ≡ old → IsOpened (dirs_of ds)
     → IsOpened (open_dirs old)
-opened_as {S} store hash prefix ds n old view all = subst (λ (o : State S). IsOpened (open_dirs o)) view (as_map ds all)
+is_opened_of_editor {S} store hash prefix ds n old view all = subst (λ (o : State S). IsOpened (open_dirs o)) view (map_is_opened ds all)
 
-pub still_inserted : (path : Path) (mode : ℕ) (id null : ObjectId) (mid ds : Opened) → AllByRecursion IsEntryName path → IsOpened (dirs_of mid)
+pub is_opened_after_upsert : (path : Path) (mode : ℕ) (id null : ObjectId) (mid ds : Opened) → AllByRecursion IsEntryName path → IsOpened (dirs_of mid)
     → ((at : Path) → dirs_of ds at ≡ upserted_dirs path mode id null (dirs_of mid) at) → IsOpened (dirs_of ds)
-still_inserted path mode id null mid ds names all insert_entry = subst (λ (d : Dirs). IsOpened d) (sym (λ i at. insert_entry at i))
-    (opened_upserted path mode id null (dirs_of mid) names all)
+is_opened_after_upsert path mode id null mid ds names all insert_entry = subst (λ (d : Dirs). IsOpened d) (sym (λ i at. insert_entry at i))
+    (is_opened_upserted path mode id null (dirs_of mid) names all)
 
 -- the opening of an upsert ends only before an entry that isn't a tree, which isn't looked up
-pub at_files : IsIdle IsNoTree
-at_files e other = inl other
+pub no_tree_is_idle : IsIdle IsNoTree
+no_tree_is_idle e other = inl other
 
 -- no directory is above the root
-pub none_above : (trees : Trees) (dirs : Dirs) (it : ObjectId) → IsUnopenedAbove trees dirs [] it → ⊥
-none_above trees dirs it h = longer h.place (h.above.2) (h.above.3) (h.above.5)
+pub no_error_above : (trees : Trees) (dirs : Dirs) (it : ObjectId) → IsUnopenedAbove trees dirs [] it → ⊥
+no_error_above trees dirs it h = longer h.place (h.above.2) (h.above.3) (h.above.5)
   where
     longer : (place : Path) (next : List ℕ) (rest : Path) → [] ≡ place ++ next ∷ rest → ⊥
     longer [] next rest is = cc is
     longer (name ∷ place) next rest is = cc is
 
-pub known_above : {Ends : EntryView → Type 0} → IsIdle Ends → (trees : Trees) (path head : Path) (last : List ℕ) → path ≡ head ++ last ∷ []
+pub tree_known_above : {Ends : EntryView → Type 0} → IsIdle Ends → (trees : Trees) (path head : Path) (last : List ℕ) → path ≡ head ++ last ∷ []
     → (old new : Dirs) (queries : List ObjectId) → Opens Ends trees head old new queries → (it : ObjectId) → IsUnopenedAbove trees old path it
     → (entries : List EntryView) × (trees it ≡ Some entries)
-known_above idle trees path head last is old new queries opens it h =
+tree_known_above idle trees path head last is old new queries opens it h =
     let at = h.above in
-    let begins = strictly_above head last h.place at.2 at.3 (sym is ∙ at.5) in
+    let begins = prefix_extends head last h.place at.2 at.3 (sym is ∙ at.5) in
     let found = opens_known trees idle head old new queries opens at.0 at.1 begins.0 (begins.1 ∙ ap (λ p. p ++ begins.0) at.4)
     (subst (λ p. is_unopened trees old p ≡ true) at.4 h.unopened) h.entry (subst (λ p. looked_up_entry trees p old ≡ Some h.entry) at.4 h.yielded) in
     (found.0, ap trees (sym h.named) ∙ found.1)
 
 -- an upsert at an empty path changes nothing
-pub nothing_upserted : {S : Type 0} (trees : Trees) (old : State S) (path : Path) → path ≡ [] → (mode : ℕ) (id : ObjectId) → IsOpened (open_dirs old)
+pub is_upserted_unchanged : {S : Type 0} (trees : Trees) (old : State S) (path : Path) → path ≡ [] → (mode : ℕ) (id : ObjectId) → IsOpened (open_dirs old)
     → ((at : Path) → open_bases old at ≡ edited_bases (open_dirs old) (open_dirs old) (opened_bases (open_dirs old) (open_dirs old) (open_bases old))
     at)
     → IsUpserted trees old path mode id old
-nothing_upserted {S} trees old path none mode id all idle = subst (λ p. IsUpserted trees old p mode id old) (sym none) nothing
+is_upserted_unchanged {S} trees old path none mode id all idle = subst (λ p. IsUpserted trees old p mode id old) (sym none) nothing
   where
     nothing : IsUpserted trees old [] mode id old
     nothing = record {
@@ -192,27 +195,27 @@ nothing_upserted {S} trees old path none mode id all idle = subst (λ p. IsUpser
       lookups = refl;
       rest = refl;
       is_opened = all;
-      known = λ it h. absurd (none_above trees (open_dirs old) it h);
-      files = λ T k agrees. same_refl (EditorFiles T k old);
+      known = λ it h. absurd (no_error_above trees (open_dirs old) it h);
+      files = λ T k agrees. same_files_refl (EditorFiles T k old);
       has_bases = λ T agrees has. has;
     }
 
 -- an invalid name has no other error
-pub no_other : (path : Path) (failure : Error) → ((name : List ℕ) → IsEntryNameError name failure → ⊥) → IsFirstNameError path failure → ⊥
-no_other [] failure never h = h
-no_other (name ∷ path) failure never (inl h) = never name h
-no_other (name ∷ path) failure never (inr h) = no_other path failure never h.1
+pub no_other_error : (path : Path) (failure : Error) → ((name : List ℕ) → IsEntryNameError name failure → ⊥) → IsFirstNameError path failure → ⊥
+no_other_error [] failure never h = h
+no_other_error (name ∷ path) failure never (inl h) = never name h
+no_other_error (name ∷ path) failure never (inr h) = no_other_error path failure never h.1
 
-pub name_rejected : (objects : Objects) (may_fail : ObjectId → Bool) (trees : Trees) (dirs : Dirs) (path : Path) (failure : Error)
+pub upsert_error_of_name : (objects : Objects) (may_fail : ObjectId → Bool) (trees : Trees) (dirs : Dirs) (path : Path) (failure : Error)
     → IsFirstNameError path failure → IsUpsertError objects may_fail trees dirs path failure
-name_rejected objects may_fail trees dirs path error.EmptyPathComponent h = h
-name_rejected objects may_fail trees dirs path error.SlashInPathComponent h = h
-name_rejected objects may_fail trees dirs path (error.FindExistingObject cause) h =
-    absurd (no_other path (error.FindExistingObject cause) (λ name k. k) h)
-name_rejected objects may_fail trees dirs path (error.CannotRemoveNonLeaf at) h =
-    absurd (no_other path (error.CannotRemoveNonLeaf at) (λ name k. k) h)
-name_rejected objects may_fail trees dirs path error.MalformedTree h = absurd (no_other path error.MalformedTree (λ name k. k) h)
-name_rejected objects may_fail trees dirs path error.OutOfMemory h = absurd (no_other path error.OutOfMemory (λ name k. k) h)
+upsert_error_of_name objects may_fail trees dirs path error.EmptyPathComponent h = h
+upsert_error_of_name objects may_fail trees dirs path error.SlashInPathComponent h = h
+upsert_error_of_name objects may_fail trees dirs path (error.FindExistingObject cause) h =
+    absurd (no_other_error path (error.FindExistingObject cause) (λ name k. k) h)
+upsert_error_of_name objects may_fail trees dirs path (error.CannotRemoveNonLeaf at) h =
+    absurd (no_other_error path (error.CannotRemoveNonLeaf at) (λ name k. k) h)
+upsert_error_of_name objects may_fail trees dirs path error.MalformedTree h = absurd (no_other_error path error.MalformedTree (λ name k. k) h)
+upsert_error_of_name objects may_fail trees dirs path error.OutOfMemory h = absurd (no_other_error path error.OutOfMemory (λ name k. k) h)
 
 -- an editor of these parts
 abbrev pub state_of : {S : Type 0} → S → Kind → Path → Opened → ℕ → State S
@@ -229,34 +232,34 @@ module _ {S : Type 0} (store : S) (hash : Kind) (prefix : Path) (trees : Trees) 
       → OpenedSo ds mid
       → EditedSo mid ds' → IsUpserted trees (made ds n) path mode id (made ds' m)
   inserted_in ds mid ds' n m path head last mode id queries is names opens insert_entry count was first then =
-      let old_is = same_dirs ds in
+      let old_is = map_dirs_eq ds in
       let opened : Opens IsNoTree trees head (map_dirs ds) (dirs_of mid) queries =
       subst (λ (d : Dirs). Opens IsNoTree trees head d (dirs_of mid) queries)
       (sym old_is) opens in
-      let new_is : map_dirs ds' ≡ upserted_dirs path mode id (null_id hash) (dirs_of mid) = λ i at. (dirs_at ds' at ∙ insert_entry at) i in
+      let new_is : map_dirs ds' ≡ upserted_dirs path mode id (null_id hash) (dirs_of mid) = λ i at. (map_dirs_at ds' at ∙ insert_entry at) i in
       let ready : IsReady path (dirs_of mid) = subst (λ p. IsReady p (dirs_of mid)) (sym is)
-      (opens_ready trees head last (map_dirs ds) (dirs_of mid) queries opened) in
+      (opens_makes_ready trees head last (map_dirs ds) (dirs_of mid) queries opened) in
       record {
         names = names;
         opened = dirs_of mid;
         requested = queries;
-        opens = subst (λ p. Opens IsNoTree trees p (map_dirs ds) (dirs_of mid) queries) (sym (ap directory_of is ∙ directory_is head last)) opened;
-        dirs = λ at. dirs_at ds' at ∙ insert_entry at;
-        bases = edited_map ds mid ds' first then;
-        lookups = count ∙ ap (raised n) (requested_count trees at_files head last (map_dirs ds) (dirs_of mid) queries opened
+        opens = subst (λ p. Opens IsNoTree trees p (map_dirs ds) (dirs_of mid) queries) (sym (ap directory_of is ∙ directory_of_snoc head last)) opened;
+        dirs = λ at. map_dirs_at ds' at ∙ insert_entry at;
+        bases = edited_bases_of_map ds mid ds' first then;
+        lookups = count ∙ ap (raised n) (requested_count trees no_tree_is_idle head last (map_dirs ds) (dirs_of mid) queries opened
             ∙ ap (unopened_count trees (map_dirs ds)) (sym is));
         rest = refl;
-        is_opened = as_map ds' (still_inserted path mode id (null_id hash) mid ds' (recursion_from_All IsEntryName path names)
-            (opened_opening trees head (dirs_of ds) (dirs_of mid) queries opens was.opened) insert_entry);
-        known = known_above at_files trees path head last is (map_dirs ds) (dirs_of mid) queries opened;
+        is_opened = map_is_opened ds' (is_opened_after_upsert path mode id (null_id hash) mid ds' (recursion_from_All IsEntryName path names)
+            (is_opened_of_opens trees head (dirs_of ds) (dirs_of mid) queries opens was.opened) insert_entry);
+        known = tree_known_above no_tree_is_idle trees path head last is (map_dirs ds) (dirs_of mid) queries opened;
         files = λ T k agrees. subst (λ (d : Dirs). SameFiles (OpenFiles T k d) (Upserted T k path mode id (OpenFiles T k (map_dirs ds)))) (sym new_is)
-            (same_trans _ _ _ (upserted_files T k path mode id (null_id hash) (dirs_of mid) ready)
-            (same_upserted T k path mode id (OpenFiles T k (dirs_of mid)) (OpenFiles T k (map_dirs ds))
-            (opens_files T trees agrees head (map_dirs ds) (dirs_of mid) queries opened k)));
+            (same_files_trans _ _ _ (upserted_dirs_files T k path mode id (null_id hash) (dirs_of mid) ready)
+            (upserted_congruent T k path mode id (OpenFiles T k (dirs_of mid)) (OpenFiles T k (map_dirs ds))
+            (opens_keeps_files T trees agrees head (map_dirs ds) (dirs_of mid) queries opened k)));
         has_bases = λ T agrees has. upserted_based T trees hash (map_dirs ds) (map_bases ds) (map_dirs ds') (map_bases ds')
-            (on_map ds was) agrees has head last mode id (dirs_of mid) queries opened
-            (λ at. dirs_at ds' at ∙ insert_entry at ∙ ap (λ p. upserted_dirs p mode id (null_id hash) (dirs_of mid) at) is)
-            (edited_map ds mid ds' first then);
+            (map_is_opened_on ds was) agrees has head last mode id (dirs_of mid) queries opened
+            (λ at. map_dirs_at ds' at ∙ insert_entry at ∙ ap (λ p. upserted_dirs p mode id (null_id hash) (dirs_of mid) at) is)
+            (edited_bases_of_map ds mid ds' first then);
       }
 
   pub upserted_at : (ds mid ds' : Opened) (n m : ℕ) (old : State S) → made ds n ≡ old → (path head : Path) (last : List ℕ) (mode : ℕ) (id : ObjectId)
@@ -274,8 +277,8 @@ module _ {S : Type 0} (store : S) (hash : Kind) (prefix : Path) (trees : Trees) 
       → OpenedSo ds ds' → IsEditFailure trees (made ds n) path (made ds' m)
   stay it ds ds' n m path so was first =
       let opened : Opens (EndsBefore it) trees so.prefix (map_dirs ds) (map_dirs ds') so.requested =
-      subst (λ (d : Dirs). Opens (EndsBefore it) trees so.prefix d (map_dirs ds') so.requested) (sym (same_dirs ds))
-      (subst (λ (d : Dirs). Opens (EndsBefore it) trees so.prefix (dirs_of ds) d so.requested) (sym (same_dirs ds')) so.opens) in
+      subst (λ (d : Dirs). Opens (EndsBefore it) trees so.prefix d (map_dirs ds') so.requested) (sym (map_dirs_eq ds))
+      (subst (λ (d : Dirs). Opens (EndsBefore it) trees so.prefix (dirs_of ds) d so.requested) (sym (map_dirs_eq ds')) so.opens) in
       record {
         not_looked_up = it;
         prefix = so.prefix;
@@ -283,18 +286,18 @@ module _ {S : Type 0} (store : S) (hash : Kind) (prefix : Path) (trees : Trees) 
         on_the_way = so.on_the_way;
         requested = so.requested;
         opens = opened;
-        bases = only_opened_map ds ds' first;
-        stays = opening_keeps trees so.prefix (map_dirs ds) (map_dirs ds') so.requested opened;
+        bases = only_opened_bases_of_map ds ds' first;
+        stays = opens_keeps_open_lists trees so.prefix (map_dirs ds) (map_dirs ds') so.requested opened;
         vain = so.vain;
         one = so.one;
-        next = λ it is. subst (λ (d : Dirs). IsNextUnopened trees d so.prefix so.more it) (sym (same_dirs ds)) (so.next it is);
+        next = λ it is. subst (λ (d : Dirs). IsNextUnopened trees d so.prefix so.more it) (sym (map_dirs_eq ds)) (so.next it is);
         lookups = so.lookups;
-        few = subst (λ (d : Dirs). length (so.requested ++ so.vain) ≤ unopened_count trees d path) (sym (same_dirs ds)) so.few;
+        few = subst (λ (d : Dirs). length (so.requested ++ so.vain) ≤ unopened_count trees d path) (sym (map_dirs_eq ds)) so.few;
         rest = refl;
-        is_opened = as_map ds' (opened_opening trees so.prefix (dirs_of ds) (dirs_of ds') so.requested so.opens was.opened);
-        files = λ T k agrees. opens_files T trees agrees so.prefix (map_dirs ds) (map_dirs ds') so.requested opened k;
+        is_opened = map_is_opened ds' (is_opened_of_opens trees so.prefix (dirs_of ds) (dirs_of ds') so.requested so.opens was.opened);
+        files = λ T k agrees. opens_keeps_files T trees agrees so.prefix (map_dirs ds) (map_dirs ds') so.requested opened k;
         has_bases = λ T agrees has. opened_based T trees hash (map_dirs ds) (map_bases ds) (map_dirs ds') (map_bases ds')
-            (on_map ds was) agrees has so.prefix so.requested opened (only_opened_map ds ds' first);
+            (map_is_opened_on ds was) agrees has so.prefix so.requested opened (only_opened_bases_of_map ds ds' first);
       }
 
   pub stay_at : (it : Vacant) (ds ds' : Opened) (n m : ℕ) (old : State S) → made ds n ≡ old → (path : Path)
@@ -305,7 +308,7 @@ module _ {S : Type 0} (store : S) (hash : Kind) (prefix : Path) (trees : Trees) 
 
   pub unchanged_at : (ds : Opened) (n : ℕ) (old : State S) → made ds n ≡ old → (path : Path) → OpenedOn ds → IsEditFailure trees old path old
   unchanged_at ds n old view path was = subst (λ (o : State S). IsEditFailure trees o path o) view
-      (stay vacant.Opened ds ds n n path (none_in_part trees path (dirs_of ds) n) was (none_opened ds))
+      (stay vacant.Opened ds ds n n path (none_in_part trees path (dirs_of ds) n) was (opened_so_refl ds))
 
   pub halted_so : (ds ds' : Opened) (n m : ℕ) (old : State S) → made ds n ≡ old → (path head : Path) (last : List ℕ) → path ≡ head ++ last ∷ []
       → (queries : List ObjectId) (vain : Option ObjectId) → StopsOpening IsNoTree trees head (dirs_of ds) (dirs_of ds') queries vain
@@ -337,7 +340,7 @@ module _ {S : Type 0} (store : S) (hash : Kind) (prefix : Path) (trees : Trees) 
       → IsUpsertError objects may_fail trees (open_dirs old) path (edit_error cause)
   fails objects may_fail ds ds' n old view path head last is names queries vain halts cause at =
       subst (λ (o : State S). IsUpsertError objects may_fail trees (open_dirs o) path (edit_error cause)) view
-      (subst (λ (d : Dirs). IsUpsertError objects may_fail trees d path (edit_error cause)) (sym (same_dirs ds)) (by_cause cause vain halts at))
+      (subst (λ (d : Dirs). IsUpsertError objects may_fail trees d path (edit_error cause)) (sym (map_dirs_eq ds)) (by_cause cause vain halts at))
     where
       above : (v : Option ObjectId) → StopsOpening IsNoTree trees head (dirs_of ds) (dirs_of ds') queries v → (it : ObjectId) → v ≡ Some it
           → IsUnopenedAbove trees (dirs_of ds) path it
@@ -353,7 +356,7 @@ module _ {S : Type 0} (store : S) (hash : Kind) (prefix : Path) (trees : Trees) 
       by_cause (opening.FindExistingObject why) (Some it) h r = (names, (it, above (Some it) h it refl, r))
 
 -- two clauses of a successful result hold together
-pub both_hold : {X E : Type 0} (r : Result X E) (P : X → Type 0) (Q : Type 0) (R : X → Type 0) → IfOk r P → OnOk r Q → ((x : X) → P x → Q → R x)
+pub if_ok_and : {X E : Type 0} (r : Result X E) (P : X → Type 0) (Q : Type 0) (R : X → Type 0) → IfOk r P → OnOk r Q → ((x : X) → P x → Q → R x)
     → IfOk r R
-both_hold (Ok x) P Q R h k f = f x h k
-both_hold (Err error) P Q R h k f = tt
+if_ok_and (Ok x) P Q R h k f = f x h k
+if_ok_and (Err error) P Q R h k f = tt

@@ -15,12 +15,12 @@ use Rattle.gixobj_files.specs.OpeningStops.{StopsOpening, IsUnopenedOnPath, IsUn
 use Rattle.gixobj_files.specs.Opening.{Dirs, IsOpened, OpenFiles}
 use Rattle.gixobj_files.specs.State.{State, open_dirs}
 use Rattle.gixobj_files.specs.Unopened.{inside}
-use Rattle.gixobj_files.proofs.BelowPrefix.{open_before}
-use Rattle.gixobj_files.proofs.CursorFiles.{ensured_at_files}
+use Rattle.gixobj_files.proofs.BelowPrefix.{open_of_longer_open}
+use Rattle.gixobj_files.proofs.CursorFiles.{ensured_dirs_files}
 use Rattle.gixobj_files.proofs.Halted.{halted_at, halted_unopened}
-use Rattle.gixobj_files.proofs.PrefixStays.{ensured_stays}
-use Rattle.gixobj_files.proofs.StillOpenedEnsured.{opened_ensured}
-use Rattle.gixobj_files.proofs.StillOpenedOpenings.{opened_opening, opening_keeps}
+use Rattle.gixobj_files.proofs.PrefixStays.{ensured_dirs_open_path}
+use Rattle.gixobj_files.proofs.StillOpenedEnsured.{is_opened_ensured}
+use Rattle.gixobj_files.proofs.StillOpenedOpenings.{is_opened_of_opens, opens_keeps_open_lists}
 use Rattle.gixobj_files.proofs.UnopenedCounts.{requested_count}
 use Rattle.gixobj_hash.specs.Hash.{null_id}
 use Rattle.gixobj_hash.specs.declared.hash.kind.Kind.{Kind}
@@ -30,29 +30,29 @@ use Rattle.gixobj_editor.specs.Cursors.{IsEnsured, IsCursorError}
 use Rattle.gixobj_editor.specs.Upserts.{IsFirstNameError, edit_error}
 use Rattle.gixobj_editor.specs.declared.editor.error.Error.{Error}
 use Rattle.gixobj_editor.specs.declared.editor.error.Error.TheVariants as error
-use Rattle.gixobj_editor.proofs.Edited.{EditedSo, OpenedOn, OpenedSo, as_map, at_files, dirs_at, edited_map, known_above, map_bases, map_dirs, no_other, on_map, same_dirs, state_of}
+use Rattle.gixobj_editor.proofs.Edited.{EditedSo, OpenedOn, OpenedSo, map_is_opened, no_tree_is_idle, map_dirs_at, edited_bases_of_map, tree_known_above, map_bases, map_dirs, no_other_error, map_is_opened_on, map_dirs_eq, state_of}
 use Rattle.gixobj_files.proofs.Calls.{ensured_based}
-use Rattle.gixobj_editor.proofs.Paths.{strictly_above}
+use Rattle.gixobj_editor.proofs.Paths.{prefix_extends}
 
-pub still_ensured : (path : Path) (null : ObjectId) (mid ds : Opened) → AllByRecursion IsEntryName path → IsOpened (dirs_of mid)
+pub is_opened_after_ensured : (path : Path) (null : ObjectId) (mid ds : Opened) → AllByRecursion IsEntryName path → IsOpened (dirs_of mid)
     → ((at : Path) → dirs_of ds at ≡ ensured_dirs path null (dirs_of mid) at) → IsOpened (dirs_of ds)
-still_ensured path null mid ds names all ensured = subst (λ (d : Dirs). IsOpened d) (sym (λ i at. ensured at i))
-    (opened_ensured path null (dirs_of mid) names all)
+is_opened_after_ensured path null mid ds names all ensured = subst (λ (d : Dirs). IsOpened d) (sym (λ i at. ensured at i))
+    (is_opened_ensured path null (dirs_of mid) names all)
 
 -- the directory at the path is open then
-pub ensured_open : (path : Path) (null : ObjectId) (mid ds : Opened) → ((at : Path) → dirs_of ds at ≡ ensured_dirs path null (dirs_of mid) at)
+pub ensured_path_is_open : (path : Path) (null : ObjectId) (mid ds : Opened) → ((at : Path) → dirs_of ds at ≡ ensured_dirs path null (dirs_of mid) at)
     → (named : Path)
     → named ≡ path → map_dirs ds named ≢ None
-ensured_open path null mid ds ensured named is = λ none. ensured_stays path null (dirs_of mid)
-    (sym (ensured path) ∙ sym (dirs_at ds path) ∙ subst (λ p. map_dirs ds p ≡ None) is none)
+ensured_path_is_open path null mid ds ensured named is = λ none. ensured_dirs_open_path path null (dirs_of mid)
+    (sym (ensured path) ∙ sym (map_dirs_at ds path) ∙ subst (λ p. map_dirs ds p ≡ None) is none)
 
 -- a directory that isn't open after an opening wasn't open before it
-pub unopened_before : {Ends : EntryView → Type 0} (trees : Trees) (path : Path) (old new : Dirs) (queries : List ObjectId)
+pub unopened_of_no_tree : {Ends : EntryView → Type 0} (trees : Trees) (path : Path) (old new : Dirs) (queries : List ObjectId)
     → Opens Ends trees path old new queries → (at : Path) → new at ≡ None → old at ≡ None
-unopened_before trees path old new queries opens at none =
+unopened_of_no_tree trees path old new queries opens at none =
     elim (old at) as (λ o. old at ≡ o → o ≡ None) [
       | None ↦ λ is. refl
-      | Some entries ↦ λ is. let bad : Some entries ≡ None = sym (opening_keeps trees path old new queries opens at entries is)
+      | Some entries ↦ λ is. let bad : Some entries ≡ None = sym (opens_keeps_open_lists trees path old new queries opens at entries is)
           ∙ none in absurd (cc bad)
     ] refl
 
@@ -62,25 +62,25 @@ unopened_below path dirs all place more is none =
     elim (dirs path) as (λ o. dirs path ≡ o → o ≡ None) [
       | None ↦ λ _. refl
       | Some entries ↦ λ there. absurd
-          (open_before dirs all place more
+          (open_of_longer_open dirs all place more
           (subst (λ p. dirs p ≢ None) is (λ unopened. let bad : Some entries ≡ None = sym there ∙ unopened in cc bad)) none)
     ] refl
 
 -- the root is open, so that a directory that isn't open has names
-pub some_names : (path : Path) (dirs : Dirs) → IsOpened dirs → dirs path ≡ None → path ≢ []
-some_names path dirs all unopened none = all.root (subst (λ p. dirs p ≡ None) none unopened)
+pub path_not_nil : (path : Path) (dirs : Dirs) → IsOpened dirs → dirs path ≡ None → path ≢ []
+path_not_nil path dirs all unopened none = all.root (subst (λ p. dirs p ≡ None) none unopened)
 
 -- the error of an invalid name
-pub name_rejected_at : (objects : Objects) (may_fail : ObjectId → Bool) (trees : Trees) (dirs : Dirs) (path : Path) (failure : Error)
+pub cursor_error_of_name : (objects : Objects) (may_fail : ObjectId → Bool) (trees : Trees) (dirs : Dirs) (path : Path) (failure : Error)
     → IsFirstNameError path failure → IsCursorError objects may_fail trees dirs path failure
-name_rejected_at objects may_fail trees dirs path error.EmptyPathComponent h = h
-name_rejected_at objects may_fail trees dirs path error.SlashInPathComponent h = h
-name_rejected_at objects may_fail trees dirs path (error.FindExistingObject cause) h =
-    absurd (no_other path (error.FindExistingObject cause) (λ name k. k) h)
-name_rejected_at objects may_fail trees dirs path (error.CannotRemoveNonLeaf at) h =
-    absurd (no_other path (error.CannotRemoveNonLeaf at) (λ name k. k) h)
-name_rejected_at objects may_fail trees dirs path error.MalformedTree h = absurd (no_other path error.MalformedTree (λ name k. k) h)
-name_rejected_at objects may_fail trees dirs path error.OutOfMemory h = absurd (no_other path error.OutOfMemory (λ name k. k) h)
+cursor_error_of_name objects may_fail trees dirs path error.EmptyPathComponent h = h
+cursor_error_of_name objects may_fail trees dirs path error.SlashInPathComponent h = h
+cursor_error_of_name objects may_fail trees dirs path (error.FindExistingObject cause) h =
+    absurd (no_other_error path (error.FindExistingObject cause) (λ name k. k) h)
+cursor_error_of_name objects may_fail trees dirs path (error.CannotRemoveNonLeaf at) h =
+    absurd (no_other_error path (error.CannotRemoveNonLeaf at) (λ name k. k) h)
+cursor_error_of_name objects may_fail trees dirs path error.MalformedTree h = absurd (no_other_error path error.MalformedTree (λ name k. k) h)
+cursor_error_of_name objects may_fail trees dirs path error.OutOfMemory h = absurd (no_other_error path error.OutOfMemory (λ name k. k) h)
 
 module _ {S : Type 0} (store : S) (hash : Kind) (prefix : Path) (trees : Trees) where
   abbrev made : Opened → ℕ → State S
@@ -94,25 +94,25 @@ module _ {S : Type 0} (store : S) (hash : Kind) (prefix : Path) (trees : Trees) 
   in_place ds mid ds' n m path queries names opens ensured count was first then =
       let opened : Opens IsNoTree trees path (map_dirs ds) (dirs_of mid) queries =
       subst (λ (d : Dirs). Opens IsNoTree trees path d (dirs_of mid) queries)
-      (sym (same_dirs ds)) opens in
-      let new_is : map_dirs ds' ≡ ensured_dirs path (null_id hash) (dirs_of mid) = λ i at. (dirs_at ds' at ∙ ensured at) i in
+      (sym (map_dirs_eq ds)) opens in
+      let new_is : map_dirs ds' ≡ ensured_dirs path (null_id hash) (dirs_of mid) = λ i at. (map_dirs_at ds' at ∙ ensured at) i in
       record {
         names = names;
         opened = dirs_of mid;
         requested = queries;
         opens = opened;
-        dirs = λ at. dirs_at ds' at ∙ ensured at;
-        bases = edited_map ds mid ds' first then;
-        lookups = count ∙ ap (raised n) (requested_count trees at_files path [] (map_dirs ds) (dirs_of mid) queries opened);
+        dirs = λ at. map_dirs_at ds' at ∙ ensured at;
+        bases = edited_bases_of_map ds mid ds' first then;
+        lookups = count ∙ ap (raised n) (requested_count trees no_tree_is_idle path [] (map_dirs ds) (dirs_of mid) queries opened);
         rest = refl;
-        is_opened = as_map ds' (still_ensured path (null_id hash) mid ds' (recursion_from_All IsEntryName path names)
-            (opened_opening trees path (dirs_of ds) (dirs_of mid) queries opens was.opened) ensured);
-        known = known_above at_files trees (inside path) path [] refl (map_dirs ds) (dirs_of mid) queries opened;
+        is_opened = map_is_opened ds' (is_opened_after_ensured path (null_id hash) mid ds' (recursion_from_All IsEntryName path names)
+            (is_opened_of_opens trees path (dirs_of ds) (dirs_of mid) queries opens was.opened) ensured);
+        known = tree_known_above no_tree_is_idle trees (inside path) path [] refl (map_dirs ds) (dirs_of mid) queries opened;
         files = λ T k agrees. subst (λ (d : Dirs). SameFiles (OpenFiles T k d) (Ensured path (OpenFiles T k (map_dirs ds)))) (sym new_is)
-            (ensured_at_files T trees agrees path (null_id hash) (map_dirs ds) (dirs_of mid) queries opened k);
+            (ensured_dirs_files T trees agrees path (null_id hash) (map_dirs ds) (dirs_of mid) queries opened k);
         has_bases = λ T agrees has. ensured_based T trees hash (map_dirs ds) (map_bases ds) (map_dirs ds') (map_bases ds')
-            (on_map ds was) agrees has path
-            (dirs_of mid) queries opened (λ at. dirs_at ds' at ∙ ensured at) (edited_map ds mid ds' first then);
+            (map_is_opened_on ds was) agrees has path
+            (dirs_of mid) queries opened (λ at. map_dirs_at ds' at ∙ ensured at) (edited_bases_of_map ds mid ds' first then);
       }
 
   pub ensured_at : (ds mid ds' : Opened) (n m : ℕ) (old : State S) → made ds n ≡ old → (path : Path) (queries : List ObjectId) → AreNames path
@@ -133,20 +133,20 @@ module _ {S : Type 0} (store : S) (hash : Kind) (prefix : Path) (trees : Trees) 
       (edit_error cause)
   rejects_at objects may_fail ds ds' n old view path names all queries vain halts cause at =
       subst (λ (o : State S). IsCursorError objects may_fail trees (open_dirs o) path (edit_error cause)) view
-      (subst (λ (d : Dirs). IsCursorError objects may_fail trees d path (edit_error cause)) (sym (same_dirs ds)) (by_cause cause vain halts at))
+      (subst (λ (d : Dirs). IsCursorError objects may_fail trees d path (edit_error cause)) (sym (map_dirs_eq ds)) (by_cause cause vain halts at))
     where
       above : (v : Option ObjectId) → StopsOpening IsNoTree trees path (dirs_of ds) (dirs_of ds') queries v → (it : ObjectId) → v ≡ Some it
           → IsUnopenedAbove trees (dirs_of ds) (inside path) it
       above v h it some = (halted_at trees path [] [] (dirs_of ds) (dirs_of ds') queries v h it some).0
 
       unopened_at : IsUnopenedOnPath IsNoTree trees (dirs_of ds) (inside path) → dirs_of ds path ≡ None
-      unopened_at h = let begins = strictly_above path [] h.place h.above.2 h.above.3 h.above.5 in unopened_below path
+      unopened_at h = let begins = prefix_extends path [] h.place h.above.2 h.above.3 h.above.5 in unopened_below path
           (dirs_of ds) all h.place begins.0 begins.1 h.not_open
 
       by_cause : (why : directory.Error) (v : Option ObjectId) → StopsOpening IsNoTree trees path (dirs_of ds) (dirs_of ds') queries v
           → IsOpenErrorAt objects may_fail v why → IsCursorError objects may_fail trees (dirs_of ds) path (edit_error why)
       by_cause opening.OutOfMemory v h r =
-          (names, some_names path (dirs_of ds) all (unopened_at (halted_unopened trees path [] [] (dirs_of ds) (dirs_of ds') queries v h)))
+          (names, path_not_nil path (dirs_of ds) all (unopened_at (halted_unopened trees path [] [] (dirs_of ds) (dirs_of ds') queries v h)))
       by_cause opening.MalformedTree None h r = absurd (cc r)
       by_cause opening.MalformedTree (Some it) h r = (names, (it, above (Some it) h it refl, r))
       by_cause (opening.FindExistingObject why) None h r = absurd (cc r)

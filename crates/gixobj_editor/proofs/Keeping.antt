@@ -5,21 +5,21 @@ use Rattle.gixobj_object.specs.Stores.{Objects}
 use Rattle.gixobj_files.specs.Files.{Table}
 use Rattle.gixobj_tree.specs.Entries.{Pair}
 use Rattle.gixobj_files.specs.Tables.{AgreesWithPairs}
-use Rattle.gixobj_find.proofs.Trees.{stored_on}
+use Rattle.gixobj_find.proofs.Trees.{with_trees_append}
 use Rattle.gixobj_find.specs.Keeping.{with_trees}
 use Rattle.gixobj_editor.specs.RunTables.{AgreesWithObjects}
 use Rattle.gixobj_editor.proofs.KeptPairs.{all_first, all_then}
 
 -- keeping two lists of trees, one after the other, is keeping their concatenation
-pub then_stored : (first then : List Pair) (old between new : Objects) → between ≡ with_trees first old → new ≡ with_trees then between
+pub with_trees_append_stored : (first then : List Pair) (old between new : Objects) → between ≡ with_trees first old → new ≡ with_trees then between
     → new ≡ with_trees (first ++ then) old
-then_stored first then old between new before after = after ∙ ap (with_trees then) before ∙ sym (stored_on first then old)
+with_trees_append_stored first then old between new before after = after ∙ ap (with_trees then) before ∙ sym (with_trees_append first then old)
 
-pub agrees_first : (T : Table) (first then : List Pair) → AgreesWithPairs T (first ++ then) → AgreesWithPairs T first
-agrees_first T = all_first (λ pair. T.tree_at pair.0 ≡ Some pair.1)
+pub agrees_with_prefix : (T : Table) (first then : List Pair) → AgreesWithPairs T (first ++ then) → AgreesWithPairs T first
+agrees_with_prefix T = all_first (λ pair. T.tree_at pair.0 ≡ Some pair.1)
 
-pub agrees_then : (T : Table) (first then : List Pair) → AgreesWithPairs T (first ++ then) → AgreesWithPairs T then
-agrees_then T = all_then (λ pair. T.tree_at pair.0 ≡ Some pair.1)
+pub agrees_with_suffix : (T : Table) (first then : List Pair) → AgreesWithPairs T (first ++ then) → AgreesWithPairs T then
+agrees_with_suffix T = all_then (λ pair. T.tree_at pair.0 ≡ Some pair.1)
 
 -- each prefix of a prefix is a prefix of the entire list
 take_within : (xs ys : List Pair) (count : ℕ) → (some : ℕ) × (take some (xs ++ ys) ≡ take count xs)
@@ -32,14 +32,15 @@ take_within (x ∷ xs) ys (suc count) = let later = take_within xs ys count in (
 abbrev pub AgreesThroughout : Table → List Pair → Objects → Type 0
 AgreesThroughout T pairs objects = (count : ℕ) → AgreesWithObjects T (with_trees (take count pairs) objects)
 
-pub throughout_first : (T : Table) (first then : List Pair) (objects : Objects) → AgreesThroughout T (first ++ then) objects → AgreesThroughout T first objects
-throughout_first T first then objects agrees count =
+pub agrees_throughout_prefix : (T : Table) (first then : List Pair) (objects : Objects) → AgreesThroughout T (first ++ then) objects
+    → AgreesThroughout T first objects
+agrees_throughout_prefix T first then objects agrees count =
     let some = take_within first then count in
     subst (λ (pairs : List Pair). AgreesWithObjects T (with_trees pairs objects)) some.1 (agrees some.0)
 
-pub throughout_then : (T : Table) (first then : List Pair) (old new : Objects) → new ≡ with_trees first old → AgreesThroughout T (first ++ then) old
+pub agrees_throughout_suffix : (T : Table) (first then : List Pair) (old new : Objects) → new ≡ with_trees first old → AgreesThroughout T (first ++ then) old
     → AgreesThroughout T then new
-throughout_then T first then old new kept agrees count =
+agrees_throughout_suffix T first then old new kept agrees count =
     subst (λ (objects : Objects). AgreesWithObjects T (with_trees (take count then) objects)) (sym kept)
-    (subst (AgreesWithObjects T) (stored_on first (take count then) old)
+    (subst (AgreesWithObjects T) (with_trees_append first (take count then) old)
     (subst (λ (pairs : List Pair). AgreesWithObjects T (with_trees pairs old)) (take-append-add first then count) (agrees (length first + count))))

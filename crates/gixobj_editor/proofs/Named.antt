@@ -7,12 +7,12 @@ use Rattle.gixobj_editor.specs.declared.command.Command.TheVariants as command
 use Rattle.gixobj_editor.specs.declared.command.Edit.{Edit}
 use Rattle.gixobj_editor.specs.declared.command.Edit.TheVariants as edit
 use Rattle.gixobj_object.specs.Stores.{StoreModel, Objects}
-use Rattle.gixobj_directories.proofs.NamedTrees.{trees_of}
+use Rattle.gixobj_directories.proofs.NamedTrees.{trees_of_objects_exist}
 use Rattle.gixobj_directories.specs.Calls.{names_of}
 use Rattle.gixobj_directories.specs.Openings.{AreTreesOf, OfTrees}
 use Rattle.gixobj_directories.specs.declared.write.Written.{Written}
 use Rattle.gixobj_editor.specs.Cursors.{IsEnsured, prefix_of}
-use Rattle.gixobj_files.proofs.EditedFiles.{same_refl}
+use Rattle.gixobj_files.proofs.EditedFiles.{same_files_refl}
 use Rattle.gixobj_files.specs.Bases.{HasBases}
 use Rattle.gixobj_files.specs.Files.{NamedFiles, Path, SameFiles, Table, Trees}
 use Rattle.gixobj_files.specs.History.{History, ensure}
@@ -27,12 +27,12 @@ use Rattle.gixobj_editor.specs.declared.reply.EditReply.{EditReply}
 use Rattle.gixobj_editor.specs.declared.reply.EditReply.TheVariants as edit_reply
 use Rattle.gixobj_editor.specs.declared.reply.Reply.{Reply}
 use Rattle.gixobj_editor.specs.declared.reply.Reply.TheVariants as reply
-use Rattle.gixobj_files.proofs.Histories.{then_steps}
-use Rattle.gixobj_editor.proofs.Keeping.{AgreesThroughout, agrees_first, agrees_then, then_stored, throughout_first, throughout_then}
+use Rattle.gixobj_files.proofs.Histories.{history_append_same_files}
+use Rattle.gixobj_editor.proofs.Keeping.{AgreesThroughout, agrees_with_prefix, agrees_with_suffix, with_trees_append_stored, agrees_throughout_prefix, agrees_throughout_suffix}
 
 -- a store has trees, so that what holds for its trees holds for some
 of_some : (objects : Objects) (P : Trees → Type 0) → OfTrees objects P → (trees : Trees) × AreTreesOf objects trees × P trees
-of_some objects P says = let it = trees_of objects in (it.0, it.1, says it.0 it.1)
+of_some objects P says = let it = trees_of_objects_exist objects in (it.0, it.1, says it.0 it.1)
 
 -- the pairs of a write are those of its reply
 pairs_are : {E : Type 0} (its_reply : Reply E) (written : Written) → written_by its_reply ≡ Some written → pairs_of its_reply ≡ written.trees.items
@@ -50,24 +50,24 @@ fronted f (suc k) (x ∷ xs) = let more =
     fronted f k xs in (more.0, ap (λ l. f x ++ l) more.1 ∙ sym (append_assoc (f x) (flat_map f (take k xs)) more.0))
 
 -- a table that agrees with a run agrees with each prefix of its replies, and with the pairs of each of its writes
-pub agrees_prefix : {E : Type 0} (T : Table) (objects : Objects) (k : ℕ) (replies : List (Reply E)) → AgreesWithRun T objects replies
+pub agrees_with_run_prefix : {E : Type 0} (T : Table) (objects : Objects) (k : ℕ) (replies : List (Reply E)) → AgreesWithRun T objects replies
     → AgreesWithRun T objects (take k replies)
-agrees_prefix T objects k replies agrees =
+agrees_with_run_prefix T objects k replies agrees =
     let passed = fronted pairs_of k replies in
     let kept = fronted kept_of k replies in
     record {
-      writes = agrees_first T (emitted_pairs (take k replies)) passed.0 (subst (λ (ps : List Pair). AgreesWithPairs T ps) passed.1 agrees.writes);
-      stores = throughout_first T (pairs_kept (take k replies)) kept.0 objects
+      writes = agrees_with_prefix T (emitted_pairs (take k replies)) passed.0 (subst (λ (ps : List Pair). AgreesWithPairs T ps) passed.1 agrees.writes);
+      stores = agrees_throughout_prefix T (pairs_kept (take k replies)) kept.0 objects
           (subst (λ (ps : List Pair). AgreesThroughout T ps objects) kept.1 agrees.stores);
     }
 
-pub agrees_written : {E : Type 0} (T : Table) (replies : List (Reply E)) → AgreesWithPairs T (emitted_pairs replies) → (k : ℕ) (written : Written)
+pub agrees_with_written_pairs : {E : Type 0} (T : Table) (replies : List (Reply E)) → AgreesWithPairs T (emitted_pairs replies) → (k : ℕ) (written : Written)
     → written_at replies k ≡ Some written → AgreesWithPairs T written.trees.items
-agrees_written T [] agrees k written is = absurd (cc is)
-agrees_written T (r ∷ replies) agrees zero written is = subst (λ (ps : List Pair). AgreesWithPairs T ps) (pairs_are r written is)
-    (agrees_first T (pairs_of r) (emitted_pairs replies) agrees)
-agrees_written T (r ∷ replies) agrees (suc k) written is =
-    agrees_written T replies (agrees_then T (pairs_of r) (emitted_pairs replies) agrees) k written is
+agrees_with_written_pairs T [] agrees k written is = absurd (cc is)
+agrees_with_written_pairs T (r ∷ replies) agrees zero written is = subst (λ (ps : List Pair). AgreesWithPairs T ps) (pairs_are r written is)
+    (agrees_with_prefix T (pairs_of r) (emitted_pairs replies) agrees)
+agrees_with_written_pairs T (r ∷ replies) agrees (suc k) written is =
+    agrees_with_written_pairs T replies (agrees_with_suffix T (pairs_of r) (emitted_pairs replies) agrees) k written is
 
 module _ {S E : Type 0} (means : StoreModel S) (answers : Answers E) where
   pub edit_keeps : (place : Place) (old new : State S) (it : Edit) (its_reply : EditReply E) → IsEditReply means answers place old it its_reply new
@@ -93,7 +93,8 @@ module _ {S E : Type 0} (means : StoreModel S) (answers : Answers E) where
       → means.objects new.store ≡ with_trees (flat_map kept_of_edit replies) (means.objects old.store)
   edits_keep place old new [] [] h = ap (λ (s : State S). means.objects s.store) h
   edits_keep place old new (it ∷ edits) (r ∷ replies) (between, first, rest) =
-      then_stored (kept_of_edit r) (flat_map kept_of_edit replies) (means.objects old.store) (means.objects between.store) (means.objects new.store)
+      with_trees_append_stored (kept_of_edit r) (flat_map kept_of_edit replies) (means.objects old.store) (means.objects between.store)
+          (means.objects new.store)
       (edit_keeps place old between it r first)
       (edits_keep place between new edits replies rest)
   edits_keep place old new [] (r ∷ replies) h = absurd h
@@ -106,7 +107,7 @@ module _ {S E : Type 0} (means : StoreModel S) (answers : Answers E) where
   at_keeps : (prefix : Path) (old new : State S) (edits : List Edit) (its_reply : Reply E) → IsReplyAt means answers prefix old edits its_reply new
       → means.objects new.store ≡ with_trees (kept_of its_reply) (means.objects old.store)
   at_keeps prefix old new edits (reply.At replies) (between, ensured, rest) =
-      then_stored [] (flat_map kept_of_edit replies.items) (means.objects old.store) (means.objects between.store) (means.objects new.store)
+      with_trees_append_stored [] (flat_map kept_of_edit replies.items) (means.objects old.store) (means.objects between.store) (means.objects new.store)
       (ensured_keeps prefix old between ensured)
       (edits_keep (at_cursor prefix) between new edits replies.items rest)
   at_keeps prefix old new edits (reply.AtRefused error) h = ⊎_elim (λ wanting. ap (λ (s : State S). means.objects s.store) wanting.1)
@@ -131,7 +132,7 @@ module _ {S E : Type 0} (means : StoreModel S) (answers : Answers E) where
         of_some (means.objects old.store) P says in (it.0, (λ id entries other is. agrees id entries other ((it.1 id entries).0 is)), it.2)
 
     unchanged : (old new : State S) → new ≡ old → SameFiles (EditorFiles T n new) (EditorFiles T n old)
-    unchanged old new same = subst (λ (s : State S). SameFiles (EditorFiles T n s) (EditorFiles T n old)) (sym same) (same_refl (EditorFiles T n old))
+    unchanged old new same = subst (λ (s : State S). SameFiles (EditorFiles T n s) (EditorFiles T n old)) (sym same) (same_files_refl (EditorFiles T n old))
 
     written_files : (place : Place) (old new : State S) (it : Written) → IsWrittenAt answers place it old new → AgreesWithPairs T it.trees.items
         → HasBases T (open_dirs old) (open_bases old) → SameFiles (EditorFiles T n new) (EditorFiles T n old)
@@ -183,7 +184,7 @@ module _ {S E : Type 0} (means : StoreModel S) (answers : Answers E) where
         → HasBases T (open_dirs new) (open_bases new)
     edits_based place old new [] [] h agrees has = unmoved old new h has
     edits_based place old new (it ∷ edits) (r ∷ replies) (between, first, rest) agrees has =
-        edits_based place between new edits replies rest (throughout_then T (kept_of_edit r) (flat_map kept_of_edit replies) (means.objects old.store)
+        edits_based place between new edits replies rest (agrees_throughout_suffix T (kept_of_edit r) (flat_map kept_of_edit replies) (means.objects old.store)
         (means.objects between.store) (edit_keeps place old between it r first) agrees)
         (edit_based place old between it r first (agrees zero) has)
     edits_based place old new [] (r ∷ replies) h agrees has = absurd h
@@ -195,7 +196,7 @@ module _ {S E : Type 0} (means : StoreModel S) (answers : Answers E) where
     at_based prefix old new edits (reply.At replies) (between, ensured, rest) agrees has =
         let it = agreed old _ (agrees zero) ensured in
         edits_based (at_cursor prefix) between new edits replies.items rest
-        (throughout_then T [] (flat_map kept_of_edit replies.items) (means.objects old.store) (means.objects between.store)
+        (agrees_throughout_suffix T [] (flat_map kept_of_edit replies.items) (means.objects old.store) (means.objects between.store)
         (ensured_keeps prefix old between ensured) agrees) (it.2.has_bases T it.1 has)
     at_based prefix old new edits (reply.AtRefused error) h agrees has =
         ⊎_elim (λ wanting. unmoved old new wanting.1 has)
@@ -237,13 +238,13 @@ module _ {S E : Type 0} (means : StoreModel S) (answers : Answers E) where
     edits_files place old new [] [] h agrees pairs has = unchanged old new h
     edits_files place old new (it ∷ edits) (r ∷ replies) (between, first, rest) agrees pairs has =
         let kept = edit_keeps place old between it r first in
-        then_steps T n (steps_of_edit place it r) (steps_of_edits place edits replies) (EditorFiles T n old) (EditorFiles T n between)
+        history_append_same_files T n (steps_of_edit place it r) (steps_of_edits place edits replies) (EditorFiles T n old) (EditorFiles T n between)
         (EditorFiles T n new)
-        (edit_files place old between it r first (agrees zero) (agrees_first T (pairs_of_edit r) (flat_map pairs_of_edit replies) pairs) has)
+        (edit_files place old between it r first (agrees zero) (agrees_with_prefix T (pairs_of_edit r) (flat_map pairs_of_edit replies) pairs) has)
         (edits_files place between new edits replies rest
-        (throughout_then T (kept_of_edit r) (flat_map kept_of_edit replies) (means.objects old.store)
+        (agrees_throughout_suffix T (kept_of_edit r) (flat_map kept_of_edit replies) (means.objects old.store)
         (means.objects between.store) kept agrees)
-        (agrees_then T (pairs_of_edit r) (flat_map pairs_of_edit replies) pairs) (edit_based place old between it r first (agrees zero) has))
+        (agrees_with_suffix T (pairs_of_edit r) (flat_map pairs_of_edit replies) pairs) (edit_based place old between it r first (agrees zero) has))
     edits_files place old new [] (r ∷ replies) h agrees pairs has = absurd h
     edits_files place old new (it ∷ edits) [] h agrees pairs has = absurd h
 
@@ -253,11 +254,12 @@ module _ {S E : Type 0} (means : StoreModel S) (answers : Answers E) where
         → SameFiles (EditorFiles T n new) (History T n (steps_at prefix edits its_reply) (EditorFiles T n old))
     at_files prefix old new edits (reply.At replies) (between, ensured, rest) agrees pairs has =
         let it = agreed old _ (agrees zero) ensured in
-        then_steps T n (ensure prefix ∷ []) (steps_of_edits (at_cursor prefix) edits replies.items) (EditorFiles T n old) (EditorFiles T n between)
+        history_append_same_files T n (ensure prefix ∷ []) (steps_of_edits (at_cursor prefix) edits replies.items) (EditorFiles T n old)
+            (EditorFiles T n between)
         (EditorFiles T n new)
         (it.2.files T n it.1)
         (edits_files (at_cursor prefix) between new edits replies.items rest
-        (throughout_then T [] (flat_map kept_of_edit replies.items) (means.objects old.store) (means.objects between.store)
+        (agrees_throughout_suffix T [] (flat_map kept_of_edit replies.items) (means.objects old.store) (means.objects between.store)
         (ensured_keeps prefix old between ensured) agrees) pairs (it.2.has_bases T it.1 has))
     at_files prefix old new edits (reply.AtRefused error) h agrees pairs has =
         ⊎_elim (λ wanting. unchanged old new wanting.1) (λ rejected. let it = agreed old _ (agrees zero) rejected.0.remaining in it.2.files T n it.1)
@@ -307,8 +309,8 @@ module _ {S E : Type 0} (means : StoreModel S) (answers : Answers E) where
     pub agrees_later : (first : Reply E) (replies : List (Reply E)) (old between : Objects) → between ≡ with_trees (kept_of first) old
         → AgreesWithRun T old (first ∷ replies) → AgreesWithRun T between replies
     agrees_later first replies old between kept agrees = record {
-      writes = agrees_then T (pairs_of first) (emitted_pairs replies) agrees.writes;
-      stores = throughout_then T (kept_of first) (pairs_kept replies) old between kept agrees.stores;
+      writes = agrees_with_suffix T (pairs_of first) (emitted_pairs replies) agrees.writes;
+      stores = agrees_throughout_suffix T (kept_of first) (pairs_kept replies) old between kept agrees.stores;
     }
 
     -- a successful write of the root names what the accepted commands before it make of the files at the start
@@ -322,10 +324,10 @@ module _ {S E : Type 0} (means : StoreModel S) (answers : Answers E) where
     names_history start last (c ∷ commands) (r ∷ replies) (between, first, run) zero written is agrees pairs has =
         write_names start between c r written first is (subst (λ (ps : List Pair). AgreesWithPairs T ps) (sym (pairs_are r written is)) pairs) has
     names_history start last (c ∷ commands) (r ∷ replies) (between, first, run) (suc k) written is agrees pairs has =
-        let stores = throughout_first T (kept_of r) (pairs_kept (take k replies)) (means.objects start.store) agrees.stores in
-        then_steps T n (steps_of c r) (accepted_steps (take k commands) (take k replies)) (EditorFiles T n start) (EditorFiles T n between)
+        let stores = agrees_throughout_prefix T (kept_of r) (pairs_kept (take k replies)) (means.objects start.store) agrees.stores in
+        history_append_same_files T n (steps_of c r) (accepted_steps (take k commands) (take k replies)) (EditorFiles T n start) (EditorFiles T n between)
         (NamedFiles T n written.id)
-        (command_files start between c r first stores (agrees_first T (pairs_of r) (emitted_pairs (take k replies)) agrees.writes) has)
+        (command_files start between c r first stores (agrees_with_prefix T (pairs_of r) (emitted_pairs (take k replies)) agrees.writes) has)
         (names_history between last commands replies run k written is
         (agrees_later r (take k replies) (means.objects start.store) (means.objects between.store)
         (command_keeps start between c r first) agrees) pairs (command_based start between c r first stores has))

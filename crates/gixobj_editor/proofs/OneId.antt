@@ -9,14 +9,14 @@ use Rattle.gixobj_editor.specs.declared.command.Command.TheVariants as command
 use Rattle.gixobj_editor.specs.declared.command.Edit.{Edit}
 use Rattle.gixobj_editor.specs.declared.command.Edit.TheVariants as edit
 use Rattle.gixobj_object.specs.Stores.{StoreModel, Objects}
-use Rattle.gixobj_directories.proofs.NamedTrees.{trees_of}
+use Rattle.gixobj_directories.proofs.NamedTrees.{trees_of_objects_exist}
 use Rattle.gixobj_directories.specs.Calls.{names_of}
 use Rattle.gixobj_directories.specs.declared.write.Written.{Written}
 use Rattle.gixobj_editor.specs.Cursors.{prefix_of}
-use Rattle.gixobj_files.proofs.Calls.{root_based}
-use Rattle.gixobj_files.proofs.EditedFiles.{root_open, root_unopened}
+use Rattle.gixobj_files.proofs.Calls.{root_alone_has_bases}
+use Rattle.gixobj_files.proofs.EditedFiles.{root_alone_at_root, root_alone_below_root}
 use Rattle.gixobj_files.proofs.Everywhere.{Everywhere}
-use Rattle.gixobj_files.proofs.Formed.{opened_root}
+use Rattle.gixobj_files.proofs.Formed.{root_alone_is_opened}
 use Rattle.gixobj_files.proofs.PlainHistories.{IsUpTo}
 use Rattle.gixobj_files.proofs.Plain.{HasBuilt, Plain, all_joined, all_remaining, all_right}
 use Rattle.gixobj_files.specs.Bases.{HasBases}
@@ -25,9 +25,9 @@ use Rattle.gixobj_files.specs.Opening.{Dirs, HasAt, IsOpened}
 use Rattle.gixobj_files.specs.State.{DirMap, State, open_bases, open_dirs, root_alone}
 use Rattle.gixobj_files.specs.Tables.{AgreesWithPairs, AgreesWithStore}
 use Rattle.gixobj_tree.specs.Entries.{EntryView, Pair}
-use Rattle.gixobj_editor.proofs.Keeping.{AgreesThroughout, throughout_first, throughout_then}
-use Rattle.gixobj_editor.proofs.Named.{agrees_prefix, agrees_later, agrees_written, ensured_keeps, command_keeps, edit_keeps, names_history}
-use Rattle.gixobj_editor.proofs.Reported.{no_tree_mode, plain_before, known_by_trees, up_to_like}
+use Rattle.gixobj_editor.proofs.Keeping.{AgreesThroughout, agrees_throughout_prefix, agrees_throughout_suffix}
+use Rattle.gixobj_editor.proofs.Named.{agrees_with_run_prefix, agrees_later, agrees_with_written_pairs, ensured_keeps, command_keeps, edit_keeps, names_history}
+use Rattle.gixobj_editor.proofs.Reported.{mode_of_kind_not_tree, plain_history_of_prefix, known_by_trees, is_up_to_of_same_files}
 use Rattle.gixobj_editor.proofs.Plainly.{AreBuilt, IsPlainState, Within, plain_ensured, plain_below, plain_failed, plain_removed, plain_root, plain_upserted}
 use Rattle.gixobj_editor.specs.Commands.{Place, at_cursor, at_root, kept_of, kept_of_edit, emitted_pairs, pairs_kept, pairs_of, pairs_of_edit, written_at, written_by}
 use Rattle.gixobj_editor.specs.OneId.{IdsDetermineFiles, IsPlainRun, NamesNoTree, InsertsNoTree, files_before}
@@ -47,7 +47,7 @@ module _ {S E : Type 0} (means : StoreModel S) (answers : Answers E) (T : Table)
       → (trees : Trees)
       × AgreesWithStore T trees × P trees
   agreed old P agrees says = let it =
-      trees_of (means.objects old.store) in (it.0, (λ id entries other is. agrees id entries other ((it.1 id entries).0 is)), says it.0 it.1)
+      trees_of_objects_exist (means.objects old.store) in (it.0, (λ id entries other is. agrees id entries other ((it.1 id entries).0 is)), says it.0 it.1)
 
   same_state : (old new : State S) → new ≡ old → Holds old → Holds new
   same_state old new same holds = subst (λ (s : State S). Holds s) (sym same) holds
@@ -70,7 +70,7 @@ module _ {S E : Type 0} (means : StoreModel S) (answers : Answers E) (T : Table)
       → Within T pairs known (pairs_of_edit its_reply)
       → Holds new × AreBuilt T pairs known (pairs_of_edit its_reply)
   edit_plain place old new (edit.Upsert path k id) edit_reply.Done other h agrees holds within = let it =
-      agreed old _ agrees h in (plain_upserted T pairs known it.0 it.1 old new holds _ _ _ (no_tree_mode k other) it.2, tt)
+      agreed old _ agrees h in (plain_upserted T pairs known it.0 it.1 old new holds _ _ _ (mode_of_kind_not_tree k other) it.2, tt)
   edit_plain place old new (edit.Upsert path k id) (edit_reply.Refused error) other h agrees holds within = let it =
       agreed old _ agrees h.0.remaining in (plain_failed T pairs known it.0 it.1 old new holds _ it.2, tt)
   edit_plain place old new (edit.Remove path) edit_reply.Done other h agrees holds within = let it =
@@ -96,7 +96,7 @@ module _ {S E : Type 0} (means : StoreModel S) (answers : Answers E) (T : Table)
       let one = edit_plain place old between it r other.0 first (agrees zero) holds
       (all_remaining (λ pair. Contains pairs pair) (pairs_of_edit r) (flat_map pairs_of_edit replies) within) in
       let more = edits_plain place between new edits replies other.1 rest
-      (throughout_then T (kept_of_edit r) (flat_map kept_of_edit replies) (means.objects old.store) (means.objects between.store)
+      (agrees_throughout_suffix T (kept_of_edit r) (flat_map kept_of_edit replies) (means.objects old.store) (means.objects between.store)
       (edit_keeps means answers place old between it r first) agrees) one.0
       (all_right (λ pair. Contains pairs pair) (pairs_of_edit r) (flat_map pairs_of_edit replies) within) in
       (more.0, all_joined (HasBuilt pairs) (pairs_of_edit r) (flat_map pairs_of_edit replies) one.1 more.1)
@@ -109,7 +109,7 @@ module _ {S E : Type 0} (means : StoreModel S) (answers : Answers E) (T : Table)
   at_plain prefix old new edits (reply.At replies) other (between, ensured, rest) agrees holds within =
       let it = agreed old _ (agrees zero) ensured in
       edits_plain (at_cursor prefix) between new edits replies.items other rest
-      (throughout_then T [] (flat_map kept_of_edit replies.items) (means.objects old.store) (means.objects between.store)
+      (agrees_throughout_suffix T [] (flat_map kept_of_edit replies.items) (means.objects old.store) (means.objects between.store)
       (ensured_keeps means answers prefix old between ensured) agrees)
       (plain_ensured T pairs known it.0 it.1 old between holds prefix it.2) within
   at_plain prefix old new edits (reply.AtRefused error) other h agrees holds within = (
@@ -121,12 +121,12 @@ module _ {S E : Type 0} (means : StoreModel S) (answers : Answers E) (T : Table)
 
   -- an empty root has no entries
   nothing_in : (bases : Dirs) → Everywhere (Plain pairs) (λ path. map.get (root_alone []) path) bases
-  nothing_in bases [] e h = absurd (subst (λ o. HasAt o e) (root_open []) h)
-  nothing_in bases (name ∷ path) e h = absurd (subst (λ o. HasAt o e) (root_unopened [] name path) h)
+  nothing_in bases [] e h = absurd (subst (λ o. HasAt o e) (root_alone_at_root []) h)
+  nothing_in bases (name ∷ path) e h = absurd (subst (λ o. HasAt o e) (root_alone_below_root [] name path) h)
 
   empty_plain : (state : State S) → state.dirs ≡ root_alone [] → Holds state
   empty_plain state is =
-      let opened : IsOpened (λ path. map.get (root_alone []) path) = opened_root [] (record { names = tt; apart = tt; ascending = tt }) in (
+      let opened : IsOpened (λ path. map.get (root_alone []) path) = root_alone_is_opened [] (record { names = tt; apart = tt; ascending = tt }) in (
         subst (λ (m : DirMap). IsOpened (λ path. map.get m path)) (sym is) opened,
         subst
             (λ (m : DirMap). Everywhere (Plain pairs) (λ path. map.get m path) (open_bases state)) (sym is) (nothing_in (open_bases state)),
@@ -152,7 +152,7 @@ module _ {S E : Type 0} (means : StoreModel S) (answers : Answers E) (T : Table)
   run_plain old new [] [] other run agrees holds within = tt
   run_plain old new (c ∷ commands) (r ∷ replies) other (between, first, run) agrees holds within =
       let one = command_plain old between c r other.0 first
-      (throughout_first T (kept_of r) (pairs_kept replies) (means.objects old.store) agrees.stores) holds
+      (agrees_throughout_prefix T (kept_of r) (pairs_kept replies) (means.objects old.store) agrees.stores) holds
       (all_remaining (λ pair. Contains pairs pair) (pairs_of r) (emitted_pairs replies) within) in
       all_joined (HasBuilt pairs) (pairs_of r) (emitted_pairs replies) one.1
       (run_plain between new commands replies other.1 run
@@ -223,17 +223,17 @@ module _ {S E : Type 0} (means : StoreModel S) (answers : Answers E) where
       let known : AgreesWithPairs T pairs = plain.agrees.writes in
       let no_tree = recursion_from_All NamesNoTree commands plain.no_tree in
       let has : HasBases T (open_dirs start) (open_bases start) = subst (λ (m : DirMap). HasBases T (open_dirs start) (λ path. map.get m path))
-      (sym plain.bases) (root_based T (open_dirs start)) in
+      (sym plain.bases) (root_alone_has_bases T (open_dirs start)) in
       let built = run_plain means answers T pairs known start last commands replies no_tree run plain.agrees
       (empty_plain means answers T pairs known start plain.dirs)
       (recursion_from_All (λ pair. Contains pairs pair) pairs (All-contains_itself pairs)) in
       let names : (j : ℕ) (written : Written) → written_at replies j ≡ Some written → (n : ℕ)
       → IsUpTo n (NamedFiles T n written.id) (files_before j commands replies) = λ j written at_j n.
-      up_to_like n (NamedFiles T n written.id) _ (files_before j commands replies)
+      is_up_to_of_same_files n (NamedFiles T n written.id) _ (files_before j commands replies)
       (names_history means answers T n start last commands replies run j written at_j
-      (agrees_prefix T (means.objects start.store) j replies plain.agrees)
-      (agrees_written T replies known j written at_j) has)
-      (plain_before T n start j commands replies plain.dirs no_tree) in
+      (agrees_with_run_prefix T (means.objects start.store) j replies plain.agrees)
+      (agrees_with_written_pairs T replies known j written at_j) has)
+      (plain_history_of_prefix T n start j commands replies plain.dirs no_tree) in
       let mine = run_own start last commands replies run k first at_k in
       let its = run_own start last commands replies run l second at_l in
       known_by_trees T pairs known plain.one_id built first.id second.id mine.0 its.0 mine.1 its.1 (files_before k commands replies)

@@ -7,19 +7,19 @@ use Rattle.gixobj_directories.specs.Calls.{names_of}
 use Rattle.gixobj_files.specs.Files.{Path}
 use Rattle.gixobj_editor.specs.Upserts.{directory_of}
 
-pub directory_is : (prefix : Path) (last : List ℕ) → directory_of (prefix ++ last ∷ []) ≡ prefix
-directory_is [] last = refl
-directory_is (name ∷ []) last = refl
-directory_is (name ∷ next ∷ rest) last = ap (λ p. name ∷ p) (directory_is (next ∷ rest) last)
+pub directory_of_snoc : (prefix : Path) (last : List ℕ) → directory_of (prefix ++ last ∷ []) ≡ prefix
+directory_of_snoc [] last = refl
+directory_of_snoc (name ∷ []) last = refl
+directory_of_snoc (name ∷ next ∷ rest) last = ap (λ p. name ∷ p) (directory_of_snoc (next ∷ rest) last)
 
 -- the directory of a path is a prefix of the path
-pub directory_begins : (path : Path) → (more : Path) × (path ≡ directory_of path ++ more)
-directory_begins [] = ([], refl)
-directory_begins (name ∷ []) = (name ∷ [], refl)
-directory_begins (name ∷ next ∷ rest) = let deeper = directory_begins (next ∷ rest) in (deeper.0, ap (λ p. name ∷ p) deeper.1)
+pub directory_is_prefix : (path : Path) → (more : Path) × (path ≡ directory_of path ++ more)
+directory_is_prefix [] = ([], refl)
+directory_is_prefix (name ∷ []) = (name ∷ [], refl)
+directory_is_prefix (name ∷ next ∷ rest) = let deeper = directory_is_prefix (next ∷ rest) in (deeper.0, ap (λ p. name ∷ p) deeper.1)
 
-pub names_last : (path rest : List BString) (last : BString) → path ≡ rest ++ last ∷ [] → names_of path ≡ names_of rest ++ bstring_bytes last ∷ []
-names_last path rest last is = ap names_of is ∙ map-append bstring_bytes rest (last ∷ [])
+pub names_of_snoc : (path rest : List BString) (last : BString) → path ≡ rest ++ last ∷ [] → names_of path ≡ names_of rest ++ bstring_bytes last ∷ []
+names_of_snoc path rest last is = ap names_of is ∙ map-append bstring_bytes rest (last ∷ [])
 
 first_of : (x y : List ℕ) (xs ys : Path) → x ∷ xs ≡ y ∷ ys → x ≡ y
 first_of x y xs ys is = cc is
@@ -28,25 +28,25 @@ others_of : (x y : List ℕ) (xs ys : Path) → x ∷ xs ≡ y ∷ ys → xs ≡
 others_of x y xs ys is = cc is
 
 -- of two splits of one path, the second is within the first part, at the same position, or after it
-pub cuts : (prefix : Path) (last : List ℕ) (after place : Path) (next : List ℕ) (rest : Path) → prefix ++ last ∷ after ≡ place ++ next ∷ rest
+pub snoc_prefix_cases : (prefix : Path) (last : List ℕ) (after place : Path) (next : List ℕ) (rest : Path) → prefix ++ last ∷ after ≡ place ++ next ∷ rest
     → ((more : Path) × (prefix ≡ place ++ next ∷ more)) ⊎ ((prefix ≡ place) × (last ≡ next) × (after ≡ rest))
     ⊎ ((more : Path) × (place ≡ prefix ++ last ∷ more))
-cuts [] last after [] next rest is = inr (inl (refl, cc is, cc is))
-cuts [] last after (p ∷ place) next rest is = inr (inr (place, ap (λ x. x ∷ place) (first_of p last (place ++ next ∷ rest) after (sym is))))
-cuts (f ∷ prefix) last after [] next rest is = inl (prefix, ap (λ x. x ∷ prefix) (first_of f next (prefix ++ last ∷ after) rest is))
-cuts (f ∷ prefix) last after (p ∷ place) next rest is =
+snoc_prefix_cases [] last after [] next rest is = inr (inl (refl, cc is, cc is))
+snoc_prefix_cases [] last after (p ∷ place) next rest is = inr (inr (place, ap (λ x. x ∷ place) (first_of p last (place ++ next ∷ rest) after (sym is))))
+snoc_prefix_cases (f ∷ prefix) last after [] next rest is = inl (prefix, ap (λ x. x ∷ prefix) (first_of f next (prefix ++ last ∷ after) rest is))
+snoc_prefix_cases (f ∷ prefix) last after (p ∷ place) next rest is =
     let same = first_of f p (prefix ++ last ∷ after) (place ++ next ∷ rest) is in
-    elim (cuts prefix last after place next rest (others_of f p (prefix ++ last ∷ after) (place ++ next ∷ rest) is)) [
+    elim (snoc_prefix_cases prefix last after place next rest (others_of f p (prefix ++ last ∷ after) (place ++ next ∷ rest) is)) [
       | inl within ↦ inl (within.0, ap (λ x. x ∷ prefix) same ∙ ap (λ q. p ∷ q) within.1)
       | inr (inl at) ↦ inr (inl (ap (λ x. x ∷ prefix) same ∙ ap (λ q. p ∷ q) at.0, at.1, at.2))
       | inr (inr after_it) ↦ inr (inr (after_it.0, ap (λ x. x ∷ place) (sym same) ∙ ap (λ q. f ∷ q) after_it.1))
     ]
 
 -- what is above a path is a prefix of the path's directory
-pub strictly_above : (prefix : Path) (last : List ℕ) (place : Path) (next : List ℕ) (rest : Path) → prefix ++ last ∷ [] ≡ place ++ next ∷ rest → (more : Path)
+pub prefix_extends : (prefix : Path) (last : List ℕ) (place : Path) (next : List ℕ) (rest : Path) → prefix ++ last ∷ [] ≡ place ++ next ∷ rest → (more : Path)
     × (prefix ≡ place ++ more)
-strictly_above prefix last place next rest is =
-    elim (cuts prefix last [] place next rest is) [
+prefix_extends prefix last place next rest is =
+    elim (snoc_prefix_cases prefix last [] place next rest is) [
       | inl within ↦ (next ∷ within.0, within.1)
       | inr (inl at) ↦ ([], at.0 ∙ sym (append-nil place))
       | inr (inr after_it) ↦ absurd (

@@ -11,14 +11,14 @@ use Rattle.gixobj_editor.specs.Cursors.{IsEnsured, IsWrittenBelow}
 use Rattle.gixobj_editor.specs.Removals.{IsRemoved}
 use Rattle.gixobj_editor.specs.Upserts.{IsEditFailure, IsUpserted, directory_of}
 use Rattle.gixobj_editor.specs.Writes.{IsWrittenEditor}
-use Rattle.gixobj_files.proofs.EnsuredFiles.{opens_along}
+use Rattle.gixobj_files.proofs.EnsuredFiles.{is_open_along_of_opens}
 use Rattle.gixobj_files.proofs.Canonical.{IsClean}
-use Rattle.gixobj_files.proofs.EditedFiles.{root_open, root_unopened}
-use Rattle.gixobj_files.proofs.Lasting.{everywhere_at}
+use Rattle.gixobj_files.proofs.EditedFiles.{root_alone_at_root, root_alone_below_root}
+use Rattle.gixobj_files.proofs.Lasting.{everywhere_in_path}
 use Rattle.gixobj_files.proofs.Everywhere.{Everywhere, everywhere_ensured, everywhere_opened, everywhere_removed, everywhere_upserted, everywhere_written}
-use Rattle.gixobj_files.proofs.OpeningFiles.{opens_ready}
-use Rattle.gixobj_files.proofs.Plain.{IsEmitted, HasBuilt, Plain, all_joined, all_remaining, all_right, built_of, closed, leaves_plain, plain_lasts}
-use Rattle.gixobj_files.proofs.StillOpenedOpenings.{opened_only, opened_opening}
+use Rattle.gixobj_files.proofs.OpeningFiles.{opens_makes_ready}
+use Rattle.gixobj_files.proofs.Plain.{IsEmitted, HasBuilt, Plain, all_joined, all_remaining, all_right, is_built_of_rests_on, is_plain_of_rests_on, leaves_plain, plain_lasts}
+use Rattle.gixobj_files.proofs.StillOpenedOpenings.{is_opened_of_only, is_opened_of_opens}
 use Rattle.gixobj_files.proofs.UpsertedFiles.{IsReady}
 use Rattle.gixobj_files.specs.Bases.{edited_bases, opened_bases}
 use Rattle.gixobj_files.specs.Edits.{IsNoTree, Opens, ensured_dirs, only, removed_dirs, upserted_dirs, with_path}
@@ -31,8 +31,8 @@ use Rattle.gixobj_hash.specs.Hash.{null_id}
 use Rattle.gixobj_hash.specs.declared.hash.object_id.ObjectId.{ObjectId}
 use Rattle.gixobj_tree.specs.Entries.{EntryView, Pair}
 use Rattle.gixobj_mode.specs.Mode.{is_tree_mode}
-use Rattle.gixobj_editor.proofs.Paths.{directory_is}
-use Rattle.gixobj_editor.proofs.Removing.{path_ends}
+use Rattle.gixobj_editor.proofs.Paths.{directory_of_snoc}
+use Rattle.gixobj_editor.proofs.Removing.{path_nil_or_snoc}
 
 abbrev no_trees : Trees
 no_trees = λ id. None
@@ -62,8 +62,8 @@ open_there prefix dirs bases below own saved (leaves d b entries ps os n is walk
     ∙ none in cc bad
 
 alone_at : (es : List EntryView) (at : Path) → map.get (root_alone es) at ≡ only es at
-alone_at es [] = root_open es
-alone_at es (name ∷ path) = root_unopened es name path
+alone_at es [] = root_alone_at_root es
+alone_at es (name ∷ path) = root_alone_below_root es name path
 
 module _ (T : Table) (pairs : List Pair) (known : AgreesWithPairs T pairs) where
   abbrev pub IsPlainState : {S : Type 0} → State S → Type 0
@@ -84,11 +84,11 @@ module _ (T : Table) (pairs : List Pair) (known : AgreesWithPairs T pairs) where
 
   ready : (trees : Trees) (path : Path) (old opened : Dirs) (queries : List ObjectId) → Opens IsNoTree trees (directory_of path) old opened queries
       → IsReady path opened
-  ready trees path old opened queries opens = elim (path_ends path) [
+  ready trees path old opened queries opens = elim (path_nil_or_snoc path) [
     | inl none ↦ subst (λ p. IsReady p opened) (sym none) tt
     | inr ends ↦ subst (λ p. IsReady p opened) (sym ends.2)
-        (opens_ready trees ends.0 ends.1 old opened queries
-        (subst (λ p. Opens IsNoTree trees p old opened queries) (ap directory_of ends.2 ∙ directory_is ends.0 ends.1) opens))
+        (opens_makes_ready trees ends.0 ends.1 old opened queries
+        (subst (λ p. Opens IsNoTree trees p old opened queries) (ap directory_of ends.2 ∙ directory_of_snoc ends.0 ends.1) opens))
   ]
 
   module _ {S : Type 0} (trees : Trees) (agrees : AgreesWithStore T trees) (old new : State S) (holds : IsPlainState old) where
@@ -105,7 +105,7 @@ module _ (T : Table) (pairs : List Pair) (known : AgreesWithPairs T pairs) where
             based = λ list is. absurd
                 (cc is);
           }) (ready trees path (open_dirs old) h.opened h.requested h.opens)
-          ((opened_opening trees (directory_of path) (open_dirs old) h.opened h.requested h.opens holds.0).above)
+          ((is_opened_of_opens trees (directory_of path) (open_dirs old) h.opened h.requested h.opens holds.0).above)
           (everywhere_opened (Plain pairs) trees (null_id old.object_hash) (plain_lasts T pairs known trees (null_id old.object_hash) agrees)
           (directory_of path) (open_dirs old) h.opened h.requested h.opens (open_bases old) holds.1)),
     )
@@ -126,8 +126,8 @@ module _ (T : Table) (pairs : List Pair) (known : AgreesWithPairs T pairs) where
       edited (open_dirs old) (open_bases old) h.opened (ensured_dirs path (null_id old.object_hash) h.opened) (open_dirs new) (open_bases new) h.dirs h.bases
           (everywhere_ensured (Plain pairs) trees (null_id old.object_hash) (plain_lasts T pairs known trees (null_id old.object_hash) agrees) path h.opened
           (opened_bases (open_dirs old) h.opened (open_bases old))
-          (opens_along trees path (open_dirs old) h.opened h.requested h.opens)
-          ((opened_opening trees path (open_dirs old) h.opened h.requested h.opens holds.0).above)
+          (is_open_along_of_opens trees path (open_dirs old) h.opened h.requested h.opens)
+          ((is_opened_of_opens trees path (open_dirs old) h.opened h.requested h.opens holds.0).above)
           (everywhere_opened (Plain pairs) trees (null_id old.object_hash) (plain_lasts T pairs known trees (null_id old.object_hash) agrees) path
           (open_dirs old) h.opened h.requested h.opens (open_bases old) holds.1)),
     )
@@ -161,14 +161,14 @@ module _ (T : Table) (pairs : List Pair) (known : AgreesWithPairs T pairs) where
       let out = goes_out (below ++ (id, own) ∷ []) within storable in
       let mine = all_right (IsEmitted pairs) below ((id, own) ∷ []) out in
       let it = leaves_plain pairs (in_path prefix (open_dirs old)) (in_path prefix (open_bases old)) below own saved going
-      (everywhere_at (Plain pairs) prefix (open_dirs old) (open_bases old) holds.1) (all_remaining (IsEmitted pairs) below ((id, own) ∷ []) out) in
+      (everywhere_in_path (Plain pairs) prefix (open_dirs old) (open_bases old) holds.1) (all_remaining (IsEmitted pairs) below ((id, own) ∷ []) out) in
       let made : Dirs = with_path prefix (only own) (open_dirs old) in (
         carried made (edited_bases (open_dirs old) made (open_bases old)) (open_dirs new) (open_bases new) dirs_are
             (subst (λ (d : Dirs). (at : Path) → open_bases new at ≡ edited_bases (open_dirs old) d (open_bases old) at) (λ i at. dirs_are at i) bases_are)
             (everywhere_written (Plain pairs) no_trees (null_id old.object_hash)
             (plain_lasts T pairs known no_trees (null_id old.object_hash) (λ it entries searched is. absurd (cc is))) prefix own (open_dirs old)
-            (open_bases old) (open_there prefix (open_dirs old) (open_bases old) below own saved going) (closed pairs own it.0) holds.1),
-        all_joined (HasBuilt pairs) below ((id, own) ∷ []) it.1 (built_of pairs own (mine.0.1) it.0, tt),
+            (open_bases old) (open_there prefix (open_dirs old) (open_bases old) below own saved going) (is_plain_of_rests_on pairs own it.0) holds.1),
+        all_joined (HasBuilt pairs) below ((id, own) ∷ []) it.1 (is_built_of_rests_on pairs own (mine.0.1) it.0, tt),
       )
 
   pub plain_below : {S F : Type 0} (gave : F → Pair → F → Type 0) (queries answered : F) (old new : State S) (prefix : Path) (it : Written) → IsPlainState old
@@ -194,7 +194,7 @@ module _ (T : Table) (pairs : List Pair) (known : AgreesWithPairs T pairs) where
       let remaining = went old new [] out.0 out.1 out.2 out.3.0 holds out.3.1 (subst Within out.4 within) storable alone h.bases in (
         (
           subst (λ (d : Dirs). IsOpened d) (sym (λ i at. alone at i))
-              (opened_only out.2 (all_right (λ (pair : Pair). IsStorable pair.1) out.0 ((out.1, out.2) ∷ []) storable).0.well_formed),
+              (is_opened_of_only out.2 (all_right (λ (pair : Pair). IsStorable pair.1) out.0 ((out.1, out.2) ∷ []) storable).0.well_formed),
           remaining.0,
         ),
         subst AreBuilt

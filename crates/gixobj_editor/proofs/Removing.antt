@@ -13,7 +13,7 @@ use Rattle.gixobj_files.specs.Files.{Path, Trees}
 use Rattle.gixobj_files.specs.OpeningStops.{ReachesDirectory, StopsOpening, at_once, without_answer}
 use Rattle.gixobj_files.specs.OpeningStops as halting
 use Rattle.gixobj_files.specs.Opening.{Dirs}
-use Rattle.gixobj_files.proofs.Coming.{comes_open, open_comes, opens_longer}
+use Rattle.gixobj_files.proofs.Coming.{comes_open, open_comes, opens_of_longer_path}
 use Rattle.gixobj_files.proofs.Halted.{halted_at, halted_unopened}
 use Rattle.gixobj_files.proofs.UnopenedCounts.{IsIdle}
 use Rattle.gixobj_editor.specs.Upserts.{IsValidated, IsOpenedInPart, IsEntryNameError, IsFirstNameError, directory_of, edit_error}
@@ -21,21 +21,21 @@ use Rattle.gixobj_editor.specs.Removals.{ValidatesUpTo, IsRemovalError}
 use Rattle.gixobj_editor.specs.declared.editor.error.Error.{Error}
 use Rattle.gixobj_editor.specs.declared.editor.error.Error.TheVariants as error
 use Rattle.gixobj_editor.proofs.InPart.{halted_in_part, opened_in_part}
-use Rattle.gixobj_editor.proofs.Paths.{cuts, directory_is}
+use Rattle.gixobj_editor.proofs.Paths.{snoc_prefix_cases, directory_of_snoc}
 
 -- valid names of a path and of its parts
-pub names_before : (prefix back : Path) → AreNames (prefix ++ back) → AreNames prefix
-names_before [] back names = All-nil IsEntryName
-names_before (name ∷ prefix) back names = All-cons IsEntryName name prefix (All-head IsEntryName name (prefix ++ back) names)
-    (names_before prefix back (All-tail IsEntryName name (prefix ++ back) names))
+pub are_names_prefix : (prefix back : Path) → AreNames (prefix ++ back) → AreNames prefix
+are_names_prefix [] back names = All-nil IsEntryName
+are_names_prefix (name ∷ prefix) back names = All-cons IsEntryName name prefix (All-head IsEntryName name (prefix ++ back) names)
+    (are_names_prefix prefix back (All-tail IsEntryName name (prefix ++ back) names))
 
-pub name_at : (prefix : Path) (name : List ℕ) (back : Path) → AreNames (prefix ++ name ∷ back) → IsEntryName name
-name_at [] name back names = All-head IsEntryName name back names
-name_at (first ∷ prefix) name back names = name_at prefix name back (All-tail IsEntryName first (prefix ++ name ∷ back) names)
+pub is_entry_name_of_member : (prefix : Path) (name : List ℕ) (back : Path) → AreNames (prefix ++ name ∷ back) → IsEntryName name
+is_entry_name_of_member [] name back names = All-head IsEntryName name back names
+is_entry_name_of_member (first ∷ prefix) name back names = is_entry_name_of_member prefix name back (All-tail IsEntryName first (prefix ++ name ∷ back) names)
 
-pub path_ends : (path : Path) → (path ≡ []) ⊎ ((prefix : Path) × (last : List ℕ) × (path ≡ prefix ++ last ∷ []))
-path_ends [] = inl refl
-path_ends (name ∷ path) = elim (path_ends path) [
+pub path_nil_or_snoc : (path : Path) → (path ≡ []) ⊎ ((prefix : Path) × (last : List ℕ) × (path ≡ prefix ++ last ∷ []))
+path_nil_or_snoc [] = inl refl
+path_nil_or_snoc (name ∷ path) = elim (path_nil_or_snoc path) [
   | inl none ↦ inr ([], name, ap (λ p. name ∷ p) none)
   | inr ends ↦ inr (name ∷ ends.0, ends.1, ap (λ p. name ∷ p) ends.2)
 ]
@@ -48,16 +48,16 @@ directory_deeper (first ∷ second ∷ prefix) name back = ap (λ p. first ∷ p
 -- a split path is empty, or has a name after those that are opened
 after_names : (path names rejected : Path) → IsValidated path names rejected → ((path ≡ []) × (names ≡ []))
     ⊎ ((last : List ℕ) × (following : Path) × (path ≡ names ++ last ∷ following) × AreNames names)
-after_names path names [] validated = elim (path_ends path) [
+after_names path names [] validated = elim (path_nil_or_snoc path) [
   | inl none ↦ inl (none, validated.1 ∙ ap directory_of none)
   | inr ends ↦
-      let prefix : names ≡ ends.0 = validated.1 ∙ ap directory_of ends.2 ∙ directory_is ends.0 ends.1 in
+      let prefix : names ≡ ends.0 = validated.1 ∙ ap directory_of ends.2 ∙ directory_of_snoc ends.0 ends.1 in
       inr (
         ends.1,
         [],
         ends.2 ∙ ap (λ p. p ++ ends.1 ∷ []) (sym prefix),
         subst AreNames (sym prefix)
-            (names_before ends.0 (ends.1 ∷ []) (subst AreNames ends.2 validated.0)),
+            (are_names_prefix ends.0 (ends.1 ∷ []) (subst AreNames ends.2 validated.0)),
       )
 ]
 after_names path names (name ∷ rest) validated = inr (name, rest, validated.2, validated.0)
@@ -86,12 +86,12 @@ module _ {Ends : EntryView → Type 0} (idle : IsIdle Ends) (objects : Objects) 
   stopped_opening_fails path names last following is good old new requested (Some it) halts opening.MalformedTree at =
       let h = halted_at trees names last following old new requested (Some it) halts it refl in
       subst (λ p. IsRemovalError Ends objects may_fail trees old p error.MalformedTree) (sym is)
-      (it, h.0, names_before h.0.place h.1 (subst AreNames h.2 good), at)
+      (it, h.0, are_names_prefix h.0.place h.1 (subst AreNames h.2 good), at)
   stopped_opening_fails path names last following is good old new requested None halts (opening.FindExistingObject why) at = absurd (cc at)
   stopped_opening_fails path names last following is good old new requested (Some it) halts (opening.FindExistingObject why) at =
       let h = halted_at trees names last following old new requested (Some it) halts it refl in
       subst (λ p. IsRemovalError Ends objects may_fail trees old p (error.FindExistingObject why)) (sym is)
-      (it, h.0, names_before h.0.place h.1 (subst AreNames h.2 good), at)
+      (it, h.0, are_names_prefix h.0.place h.1 (subst AreNames h.2 good), at)
 
   pub halted_removal : (path names rejected : Path) → IsValidated path names rejected → (old new : Dirs) (requested : List ObjectId) (vain : Option ObjectId)
       → StopsOpening Ends trees names old new requested vain → (cause : directory.Error) → IsOpenErrorAt objects may_fail vain cause
@@ -132,19 +132,20 @@ abbrev pub IsOpenedFor : (EntryView → Type 0) → Trees → Path → Dirs → 
 IsOpenedFor Ends trees path old new requested = Opens Ends trees (directory_of path) old new requested
     × ((name : List ℕ) → ValidatesUpTo Ends trees old path name → IsEntryName name)
 
-pub opened_for : {Ends : EntryView → Type 0} → IsIdle Ends → (trees : Trees) (path names rejected : Path) → IsValidated path names rejected → (old new : Dirs)
+pub is_opened_for_of_opens : {Ends : EntryView → Type 0} → IsIdle Ends → (trees : Trees) (path names rejected : Path) → IsValidated path names rejected
+    → (old new : Dirs)
     → old [] ≢ None → (requested : List ObjectId) → Opens Ends trees names old new requested → (new names ≡ None) ⊎ AreNames rejected
     → IsOpenedFor Ends trees path old new requested
-opened_for {Ends = Ends} idle trees path names [] validated old new root requested opens came =
-    (subst (λ p. Opens Ends trees p old new requested) validated.1 opens, λ name it. name_at it.0 name it.1 (subst AreNames it.2 validated.0))
-opened_for {Ends = Ends} idle trees path names (bad ∷ rest) validated old new root requested opens (inr good) =
+is_opened_for_of_opens {Ends = Ends} idle trees path names [] validated old new root requested opens came =
+    (subst (λ p. Opens Ends trees p old new requested) validated.1 opens, λ name it. is_entry_name_of_member it.0 name it.1 (subst AreNames it.2 validated.0))
+is_opened_for_of_opens {Ends = Ends} idle trees path names (bad ∷ rest) validated old new root requested opens (inr good) =
     absurd (validated.1 (All-head IsEntryName bad rest good))
-opened_for {Ends = Ends} idle trees path names (bad ∷ rest) validated old new root requested opens (inl ended) = (
+is_opened_for_of_opens {Ends = Ends} idle trees path names (bad ∷ rest) validated old new root requested opens (inl ended) = (
   subst (λ p. Opens Ends trees p old new requested) (sym (ap directory_of validated.2 ∙ directory_deeper names bad rest))
-      (opens_longer trees names (directory_of (bad ∷ rest)) old new requested opens root ended),
-  λ name it. elim (cuts names bad rest it.0 name it.1 (sym validated.2 ∙ it.2)) [
-    | inl within ↦ name_at it.0 name within.0 (subst AreNames within.1 validated.0)
+      (opens_of_longer_path trees names (directory_of (bad ∷ rest)) old new requested opens root ended),
+  λ name it. elim (snoc_prefix_cases names bad rest it.0 name it.1 (sym validated.2 ∙ it.2)) [
+    | inl within ↦ is_entry_name_of_member it.0 name within.0 (subst AreNames within.1 validated.0)
     | inr (inl at) ↦ absurd (comes_open idle trees names old new requested opens root (subst (λ p. ReachesDirectory Ends trees old p) (sym at.0) it.4) ended)
-    | inr (inr following) ↦ absurd (validated.1 (name_at names bad following.0 (subst AreNames following.1 it.3)))
+    | inr (inr following) ↦ absurd (validated.1 (is_entry_name_of_member names bad following.0 (subst AreNames following.1 it.3)))
   ],
 )

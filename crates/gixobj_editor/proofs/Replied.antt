@@ -87,9 +87,9 @@ module _ {S E : Type 0} (means : StoreModel S) (answers : Answers E) (prefix at 
   )
 
 -- a new root, by the contract of the call for the editor that it returns
-pub root_set : {S : Type 0} (old new pending : State S) (entries : List EntryView) → new ≡ pending → IsWellFormed entries
+pub is_root_set_of_reply : {S : Type 0} (old new pending : State S) (entries : List EntryView) → new ≡ pending → IsWellFormed entries
     → pending ≡ record old { dirs = root_alone entries; bases = root_alone [] }
     → ((T : Table) (n : ℕ) → SameFiles (EditorFiles T n pending) (Files T n entries)) → ((T : Table) → HasBases T (open_dirs pending) (open_bases pending))
     → IsRootSet old entries new
-root_set {S} old new pending entries same formed state files has = subst (λ (s : State S). IsRootSet old entries s) (sym same)
+is_root_set_of_reply {S} old new pending entries same formed state files has = subst (λ (s : State S). IsRootSet old entries s) (sym same)
     (record { well_formed = formed; state = state; files = files; has_bases = has })

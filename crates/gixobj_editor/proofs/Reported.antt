@@ -12,8 +12,8 @@ use Rattle.gixobj_editor.specs.declared.command.Edit.TheVariants as edit
 use Rattle.gixobj_directories.specs.Calls.{names_of}
 use Rattle.gixobj_editor.specs.Cursors.{prefix_of}
 use Rattle.gixobj_files.proofs.Canonical.{IsBuilt, same_trees}
-use Rattle.gixobj_files.proofs.EditedFiles.{root_files, same_refl}
-use Rattle.gixobj_files.proofs.OpenedFiles.{no_entries}
+use Rattle.gixobj_files.proofs.EditedFiles.{root_alone_files, same_files_refl}
+use Rattle.gixobj_files.proofs.OpenedFiles.{no_open_files_of_no_entries}
 use Rattle.gixobj_files.proofs.Plain.{HasBuilt}
 use Rattle.gixobj_files.proofs.PlainHistories.{IsUpTo, steps_plain}
 use Rattle.gixobj_files.specs.Files.{FileSet, Files, NamedFiles, SameFiles, Table}
@@ -34,19 +34,19 @@ use Rattle.gixobj_editor.specs.declared.reply.EditReply.TheVariants as edit_repl
 use Rattle.gixobj_editor.specs.declared.reply.Reply.{Reply}
 use Rattle.gixobj_editor.specs.declared.reply.Reply.TheVariants as reply
 
-pub no_tree_mode : (it : EntryKind) → (it ≡ kind.Tree → ⊥) → is_tree_mode (mode_of_kind it) ≡ false
-no_tree_mode kind.Tree other = absurd (other refl)
-no_tree_mode kind.Blob other = refl
-no_tree_mode kind.BlobExecutable other = refl
-no_tree_mode kind.Link other = refl
-no_tree_mode kind.Commit other = refl
+pub mode_of_kind_not_tree : (it : EntryKind) → (it ≡ kind.Tree → ⊥) → is_tree_mode (mode_of_kind it) ≡ false
+mode_of_kind_not_tree kind.Tree other = absurd (other refl)
+mode_of_kind_not_tree kind.Blob other = refl
+mode_of_kind_not_tree kind.BlobExecutable other = refl
+mode_of_kind_not_tree kind.Link other = refl
+mode_of_kind_not_tree kind.Commit other = refl
 
 -- the files of the tree that an id names
 module _ (T : Table) (pairs : List Pair) (known : AgreesWithPairs T pairs) where
   named_files : (n : ℕ) (id : ObjectId) (tree : List EntryView) → Contains pairs (id, tree) → SameFiles (NamedFiles T n id) (Files T n tree)
   named_files n id tree has =
       subst (λ (o : Option (List EntryView)). SameFiles (λ path mode it. MatchOption o ⊥ (λ es. Files T n es path mode it)) (Files T n tree))
-      (sym (All-contains (λ pair. T.tree_at pair.0 ≡ Some pair.1) pairs (id, tree) known has)) (same_refl (Files T n tree))
+      (sym (All-contains (λ pair. T.tree_at pair.0 ≡ Some pair.1) pairs (id, tree) known has)) (same_files_refl (Files T n tree))
 
   -- the ids of trees that are built up from pairs are equal if and only if the files are
   pub known_by_trees : HasOneId pairs → AllByRecursion (HasBuilt pairs) pairs → (x y : ObjectId) (xs ys : List EntryView) → Contains pairs (x, xs)
@@ -79,7 +79,7 @@ steps_joined (x ∷ xs) ys h k = (h.0, steps_joined xs ys h.1 k)
 
 module _ {E : Type 0} where
   edit_steps : (place : Place) (it : Edit) (its_reply : EditReply E) → InsertsNoTree it → AllByRecursion HasNoTree (steps_of_edit place it its_reply)
-  edit_steps place (edit.Upsert path k id) edit_reply.Done other = (no_tree_mode k other, tt)
+  edit_steps place (edit.Upsert path k id) edit_reply.Done other = (mode_of_kind_not_tree k other, tt)
   edit_steps place (edit.Remove path) edit_reply.Done other = (tt, tt)
   edit_steps place (edit.RemoveLeaf path) edit_reply.Done other = (tt, tt)
   edit_steps place it its_reply other = tt
@@ -107,17 +107,17 @@ module _ {E : Type 0} where
       (steps_before k commands replies other.1)
 
 -- a set that equals a set of files of at most n names has files of at most n names
-pub up_to_like : (n : ℕ) (A B C : FileSet) → SameFiles A B → IsUpTo n B C → IsUpTo n A C
-up_to_like n A B C same is path mode id = ((λ h. (is path mode id).0 ((same path mode id).0 h)), λ h. (same path mode id).1 ((is path mode id).1 h))
+pub is_up_to_of_same_files : (n : ℕ) (A B C : FileSet) → SameFiles A B → IsUpTo n B C → IsUpTo n A C
+is_up_to_of_same_files n A B C same is path mode id = ((λ h. (is path mode id).0 ((same path mode id).0 h)), λ h. (same path mode id).1 ((is path mode id).1 h))
 
 -- the history of a plain run on an editor of no files needs no table
-pub plain_before : {S E : Type 0} (T : Table) (n : ℕ) (start : State S) (k : ℕ) (commands : List Command) (replies : List (Reply E))
+pub plain_history_of_prefix : {S E : Type 0} (T : Table) (n : ℕ) (start : State S) (k : ℕ) (commands : List Command) (replies : List (Reply E))
     → start.dirs ≡ root_alone [] → AllByRecursion NamesNoTree commands
     → IsUpTo n (History T n (accepted_steps (take k commands) (take k replies)) (EditorFiles T n start)) (files_before k commands replies)
-plain_before T n start k commands replies empty other =
+plain_history_of_prefix T n start k commands replies empty other =
     let nothing : IsUpTo n (EditorFiles T n start) NoFiles = λ path mode id. (
-      (λ h. absurd (no_entries T n path mode id
-          ((root_files T n [] path mode id).0 (subst (λ (m : DirMap). OpenFiles T n (λ at. map.get m at) path mode id) empty h)))),
+      (λ h. absurd (no_open_files_of_no_entries T n path mode id
+          ((root_alone_files T n [] path mode id).0 (subst (λ (m : DirMap). OpenFiles T n (λ at. map.get m at) path mode id) empty h)))),
       λ h. absurd h.1,
     ) in
     steps_plain T n (accepted_steps (take k commands) (take k replies)) (steps_before k commands replies other) (EditorFiles T n start) NoFiles nothing

@@ -9,22 +9,22 @@ use Rattle.gixobj_hash.specs.declared.hash.kind.Kind.TheVariants as hash
 use Rattle.gixobj_hash.specs.declared.hash.object_id.ObjectId.{ObjectId}
 use Rattle.gixobj_directories.specs.Calls.{AreNames, IsStorable}
 use Rattle.gixobj_directories.specs.Nested.{Opened, bases_of, dirs_of, opened}
-use Rattle.gixobj_directories.proofs.BaseSteps.{no_base}
-use Rattle.gixobj_directories.proofs.OpeningSteps.{only_is}
+use Rattle.gixobj_directories.proofs.BaseSteps.{base_none_where_unopened}
+use Rattle.gixobj_directories.proofs.OpeningSteps.{dirs_of_childless}
 use Rattle.gixobj_files.specs.Bases.{base_edited, edited_bases, opened_bases}
 use Rattle.gixobj_files.specs.Edits.{IsNoTree, Opens, ensured_dirs, only, removed_dirs, upserted_dirs, with_path}
 use Rattle.gixobj_files.specs.Files.{Path, Trees}
 use Rattle.gixobj_files.specs.OpeningStops.{StopsOpening}
 use Rattle.gixobj_files.specs.Opening.{Dirs}
-use Rattle.gixobj_files.proofs.Calls.{ensured_null_based, none_null_based, opened_null_based, removed_null_based, upserted_null_based, written_null_based}
+use Rattle.gixobj_files.proofs.Calls.{ensured_null_based, are_null_based_of_none, opened_null_based, removed_null_based, upserted_null_based, written_null_based}
 use Rattle.gixobj_files.proofs.Halted.{halts_opens}
-use Rattle.gixobj_files.proofs.StillOpenedOpenings.{opened_opening}
+use Rattle.gixobj_files.proofs.StillOpenedOpenings.{is_opened_of_opens}
 use Rattle.gixobj_editor.specs.Upserts.{IsOpenedInPart}
-use Rattle.gixobj_editor.proofs.EnsuredAt.{still_ensured}
-use Rattle.gixobj_editor.proofs.Edited.{EditedSo, OpenedOn, OpenedSo, still_inserted}
-use Rattle.gixobj_editor.proofs.RemovedAt.{still_taken}
-use Rattle.gixobj_editor.proofs.RootAlone.{alone_opened}
-use Rattle.gixobj_editor.proofs.WrittenBelow.{still_written}
+use Rattle.gixobj_editor.proofs.EnsuredAt.{is_opened_after_ensured}
+use Rattle.gixobj_editor.proofs.Edited.{EditedSo, OpenedOn, OpenedSo, is_opened_after_upsert}
+use Rattle.gixobj_editor.proofs.RemovedAt.{is_opened_after_removal}
+use Rattle.gixobj_editor.proofs.RootAlone.{root_alone_is_opened}
+use Rattle.gixobj_editor.proofs.WrittenBelow.{is_opened_after_write}
 
 -- the bases after directories were opened, and then edited
 both_so : (ds mid ds' : Opened) → OpenedSo ds mid → EditedSo mid ds' → (at : Path)
@@ -33,20 +33,20 @@ both_so ds mid ds' first then at = then at ∙ ap (λ b. base_edited (dirs_of mi
 
 -- the root alone is open
 no_bases : (root base : List EntryView) (name : List ℕ) (path : Path) → bases_of (opened root base []) (name ∷ path) ≡ None
-no_bases root base name path = no_base (opened root base []) (name ∷ path) (ap (λ (d : Dirs). d (name ∷ path)) (only_is root))
+no_bases root base name path = base_none_where_unopened (opened root base []) (name ∷ path) (ap (λ (d : Dirs). d (name ∷ path)) (dirs_of_childless root))
 
-pub root_on : (ds : Opened) (root base : List EntryView) → ds ≡ opened root base [] → IsWellFormed root → OpenedOn ds
-root_on ds root base is formed =
+pub root_opened_on : (ds : Opened) (root base : List EntryView) → ds ≡ opened root base [] → IsWellFormed root → OpenedOn ds
+root_opened_on ds root base is formed =
     subst OpenedOn (sym is) (record {
-      opened = alone_opened (opened root [] []) root refl formed;
-      null_based = none_null_based (dirs_of (opened root base [])) (bases_of (opened root base [])) (no_bases root base);
+      opened = root_alone_is_opened (opened root [] []) root refl formed;
+      null_based = are_null_based_of_none (dirs_of (opened root base [])) (bases_of (opened root base [])) (no_bases root base);
     })
 
 module _ (trees : Trees) (ds mid : Opened) (first : OpenedSo ds mid) (was : OpenedOn ds) where
   -- the invariant after directories were opened
   pub opened_on : {Ends : EntryView → Type 0} (path : Path) (queries : List ObjectId) → Opens Ends trees path (dirs_of ds) (dirs_of mid) queries → OpenedOn mid
   opened_on path queries opens = record {
-    opened = opened_opening trees path (dirs_of ds) (dirs_of mid) queries opens was.opened;
+    opened = is_opened_of_opens trees path (dirs_of ds) (dirs_of mid) queries opens was.opened;
     null_based = opened_null_based trees hash.Sha1 (dirs_of ds) (bases_of ds) (dirs_of mid) (bases_of mid) was path queries opens first;
   }
 
@@ -64,7 +64,7 @@ module _ (trees : Trees) (ds mid : Opened) (first : OpenedSo ds mid) (was : Open
         → Opens IsNoTree trees head (dirs_of ds) (dirs_of mid) queries
         → ((at : Path) → dirs_of ds' at ≡ upserted_dirs path mode id (null_id kind) (dirs_of mid) at) → OpenedOn ds'
     inserted_on kind path head last is names mode id queries opens insert_entry = record {
-      opened = still_inserted path mode id (null_id kind) mid ds' (recursion_from_All IsEntryName path names)
+      opened = is_opened_after_upsert path mode id (null_id kind) mid ds' (recursion_from_All IsEntryName path names)
           (opened_on head queries opens).opened insert_entry;
       null_based = upserted_null_based trees kind (dirs_of ds) (bases_of ds) (dirs_of ds') (bases_of ds') was head last mode id (dirs_of mid) queries opens
           (λ at. insert_entry at ∙ ap (λ p. upserted_dirs p mode id (null_id kind) (dirs_of mid) at) is) (both_so ds mid ds' first then);
@@ -73,7 +73,7 @@ module _ (trees : Trees) (ds mid : Opened) (first : OpenedSo ds mid) (was : Open
     pub ensured_on : (kind : Kind) (path : Path) → AreNames path → (queries : List ObjectId) → Opens IsNoTree trees path (dirs_of ds) (dirs_of mid) queries
         → ((at : Path) → dirs_of ds' at ≡ ensured_dirs path (null_id kind) (dirs_of mid) at) → OpenedOn ds'
     ensured_on kind path names queries opens ensured = record {
-      opened = still_ensured path (null_id kind) mid ds' (recursion_from_All IsEntryName path names) (opened_on path queries opens).opened ensured;
+      opened = is_opened_after_ensured path (null_id kind) mid ds' (recursion_from_All IsEntryName path names) (opened_on path queries opens).opened ensured;
       null_based = ensured_null_based trees kind (dirs_of ds) (bases_of ds) (dirs_of ds') (bases_of ds') was path (dirs_of mid) queries opens ensured
           (both_so ds mid ds' first then);
     }
@@ -81,28 +81,28 @@ module _ (trees : Trees) (ds mid : Opened) (first : OpenedSo ds mid) (was : Open
     pub taken_on : {Ends : EntryView → Type 0} (head path : Path) (queries : List ObjectId) → Opens Ends trees head (dirs_of ds) (dirs_of mid) queries
         → ((at : Path) → dirs_of ds' at ≡ removed_dirs path (dirs_of mid) at) → OpenedOn ds'
     taken_on head path queries opens taken = record {
-      opened = still_taken path mid ds' (opened_on head queries opens).opened taken;
+      opened = is_opened_after_removal path mid ds' (opened_on head queries opens).opened taken;
       null_based = removed_null_based trees hash.Sha1 (dirs_of ds) (bases_of ds) (dirs_of ds') (bases_of ds') was head path (dirs_of mid) queries opens taken
           (both_so ds mid ds' first then);
     }
 
 -- the invariant after a write
-pub written_on : {W X : Type 0} (result : Result W X) (ds ds' : Opened)
+pub written_opened_on : {W X : Type 0} (result : Result W X) (ds ds' : Opened)
     → IfOk result (λ _. (own : List EntryView) × IsStorable own × ((base : List EntryView) × (ds' ≡ opened own base [])))
     → OnErr result (ds' ≡ ds) → OpenedOn ds → OpenedOn ds'
-written_on (Ok it) ds ds' (own, storable, remaining) unchanged was = root_on ds' own remaining.0 remaining.1 storable.well_formed
-written_on (Err error) ds ds' ok unchanged was = subst OpenedOn (sym unchanged) was
+written_opened_on (Ok it) ds ds' (own, storable, remaining) unchanged was = root_opened_on ds' own remaining.0 remaining.1 storable.well_formed
+written_opened_on (Err error) ds ds' ok unchanged was = subst OpenedOn (sym unchanged) was
 
 -- the invariant after a write of a directory at a prefix
 abbrev pub IsWrittenSo : Path → Opened → Opened → Type 0
 IsWrittenSo prefix ds ds' = (own : List EntryView) × IsStorable own × ((at : Path) → dirs_of ds' at ≡ with_path prefix (only own) (dirs_of ds) at)
     × EditedSo ds ds'
 
-pub written_below_on : {W X : Type 0} (result : Result W X) (prefix : Path) (ds ds' : Opened) → IfOk result (λ _. IsWrittenSo prefix ds ds')
+pub written_below_opened_on : {W X : Type 0} (result : Result W X) (prefix : Path) (ds ds' : Opened) → IfOk result (λ _. IsWrittenSo prefix ds ds')
     → OnErr result (ds' ≡ ds) → dirs_of ds prefix ≢ None
     → OpenedOn ds → OpenedOn ds'
-written_below_on (Ok it) prefix ds ds' (own, storable, remaining, edited) unchanged there was = record {
-  opened = still_written prefix own ds ds' was.opened there storable remaining;
+written_below_opened_on (Ok it) prefix ds ds' (own, storable, remaining, edited) unchanged there was = record {
+  opened = is_opened_after_write prefix own ds ds' was.opened there storable remaining;
   null_based = written_null_based (dirs_of ds) (bases_of ds) (dirs_of ds') (bases_of ds') was prefix own there remaining edited;
 }
-written_below_on (Err error) prefix ds ds' ok unchanged there was = subst OpenedOn (sym unchanged) was
+written_below_opened_on (Err error) prefix ds ds' ok unchanged there was = subst OpenedOn (sym unchanged) was

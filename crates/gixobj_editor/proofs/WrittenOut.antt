@@ -10,25 +10,25 @@ use Rattle.gixobj_files.specs.Emission.{EmitsBelow, Saves}
 use Rattle.gixobj_files.specs.Opening.{Dirs, OpenFiles}
 use Rattle.gixobj_files.specs.State.{State}
 use Rattle.gixobj_files.specs.Tables.{AgreesWithPairs}
-use Rattle.gixobj_files.proofs.EditedFiles.{root_files, same_trans}
-use Rattle.gixobj_files.proofs.WrittenFiles.{known_remaining, known_right, leaves_files, opened_trees}
+use Rattle.gixobj_files.proofs.EditedFiles.{root_alone_files, same_files_trans}
+use Rattle.gixobj_files.proofs.WrittenFiles.{known_append_left, known_append_right, leaves_files, are_trees_of_opened}
 use Rattle.gixobj_directories.specs.Calls.{IsStorable}
 use Rattle.gixobj_directories.specs.Nested.{Opened, bases_of, dirs_of, opened}
-use Rattle.gixobj_directories.proofs.OpeningSteps.{only_is}
+use Rattle.gixobj_directories.proofs.OpeningSteps.{dirs_of_childless}
 use Rattle.gixobj_directories.proofs.StorablePairs.{leaves_storable}
 use Rattle.gixobj_directories.specs.declared.write.Written.{Written}
 use Rattle.gixobj_editor.specs.Writes.{IsWrittenEditor}
-use Rattle.gixobj_editor.proofs.Edited.{EditedSo, OpenedOn, dirs_at, map_bases, map_dirs, on_map, only_edited_map, same_bases, same_dirs, state_of}
+use Rattle.gixobj_editor.proofs.Edited.{EditedSo, OpenedOn, map_dirs_at, map_bases, map_dirs, map_is_opened_on, only_edited_bases_of_map, map_bases_eq, map_dirs_eq, state_of}
 use Rattle.gixobj_files.specs.Bases.{HasBases, base_edited}
 use Rattle.gixobj_files.specs.Edits.{only}
-use Rattle.gixobj_files.proofs.Based.{based_of}
-use Rattle.gixobj_files.proofs.Calls.{none_based}
+use Rattle.gixobj_files.proofs.Based.{everywhere_based}
+use Rattle.gixobj_files.proofs.Calls.{has_bases_of_none}
 
 -- each pair may be emitted
-pub each_storable : (head : List Pair) (pair : Pair) → AllByRecursion (λ p. IsStorable p.1) head → IsStorable pair.1
+pub all_storable_snoc : (head : List Pair) (pair : Pair) → AllByRecursion (λ p. IsStorable p.1) head → IsStorable pair.1
     → AllByRecursion (λ p. IsStorable p.1) (head ++ pair ∷ [])
-each_storable [] pair h k = (k, tt)
-each_storable (first ∷ head) pair h k = (h.0, each_storable head pair h.1 k)
+all_storable_snoc [] pair h k = (k, tt)
+all_storable_snoc (first ∷ head) pair h k = (h.0, all_storable_snoc head pair h.1 k)
 
 module _ {S F : Type 0} (store : S) (hash : Kind) (prefix : Path) (gave : F → Pair → F → Type 0) where
   went_out : (ds : Opened) (n : ℕ) → OpenedOn ds → (it : Written) (below : List Pair) (own base : List EntryView) (requested answered : F)
@@ -37,34 +37,34 @@ module _ {S F : Type 0} (store : S) (hash : Kind) (prefix : Path) (gave : F → 
       → IsWrittenEditor gave requested (state_of store hash prefix ds n) it (state_of store hash prefix (opened own base []) n) answered
   went_out ds n was it below own base requested answered going is called storable remaining =
       let there : EmitsBelow (map_dirs ds) (map_bases ds) below own going.0 = subst (λ (b : Dirs). EmitsBelow (map_dirs ds) b below own going.0)
-      (sym (same_bases ds)) (subst (λ (d : Dirs). EmitsBelow d (bases_of ds) below own going.0) (sym (same_dirs ds)) going.1) in
-      let on = on_map ds was in
+      (sym (map_bases_eq ds)) (subst (λ (d : Dirs). EmitsBelow d (bases_of ds) below own going.0) (sym (map_dirs_eq ds)) going.1) in
+      let on = map_is_opened_on ds was in
       let known : (T : Table) → AgreesWithPairs T it.trees.items → AllByRecursion (λ p. T.tree_at p.0 ≡ Some p.1) (below ++ (it.id, own) ∷ []) =
       λ T agrees. recursion_from_All (λ (p : Pair). T.tree_at p.0 ≡ Some p.1) (below ++ (it.id, own) ∷ [])
       (subst (λ (ps : List Pair). AgreesWithPairs T ps) is agrees) in
       let files : (T : Table) (k : ℕ) → AgreesWithPairs T it.trees.items → HasBases T (map_dirs ds) (map_bases ds)
       → SameFiles (Files T k own) (OpenFiles T k (map_dirs ds)) =
-      λ T k agrees has. leaves_files T (map_dirs ds) (map_bases ds) below own going.0 there (opened_trees (map_dirs ds) on.opened)
-      (based_of T (map_dirs ds) (map_bases ds) on.null_based has) (known_remaining T below ((it.id, own) ∷ []) (known T agrees)) k in
-      let new_is : (at : Path) → map_dirs (opened own base []) at ≡ only own at = λ at. dirs_at (opened own base []) at ∙ ap (λ (d : Dirs). d at)
-      (only_is own) in
+      λ T k agrees has. leaves_files T (map_dirs ds) (map_bases ds) below own going.0 there (are_trees_of_opened (map_dirs ds) on.opened)
+      (everywhere_based T (map_dirs ds) (map_bases ds) on.null_based has) (known_append_left T below ((it.id, own) ∷ []) (known T agrees)) k in
+      let new_is : (at : Path) → map_dirs (opened own base []) at ≡ only own at = λ at. map_dirs_at (opened own base []) at ∙ ap (λ (d : Dirs). d at)
+      (dirs_of_childless own) in
       record {
         emitted = (below, it.id, own, (going.0, there, going.2), is);
         called = subst (λ (ps : List Pair). FoldsTo gave requested ps answered) (sym is) called;
         storable = subst (λ (ps : List Pair). All (λ pair. IsStorable pair.1) ps) (sym is)
             (All-from_recursion (λ (p : Pair). IsStorable p.1) (below ++ (it.id, own) ∷ [])
-            (each_storable below (it.id, own) (leaves_storable (map_dirs ds) (map_bases ds) below own going.0 there on.opened.well_formed).0 storable));
+            (all_storable_snoc below (it.id, own) (leaves_storable (map_dirs ds) (map_bases ds) below own going.0 there on.opened.well_formed).0 storable));
         below = below;
         own = own;
         last = is;
         dirs = refl;
-        bases = only_edited_map ds (opened own base []) remaining;
+        bases = only_edited_bases_of_map ds (opened own base []) remaining;
         rest = refl;
         files = λ T k agrees has. subst (λ (o : Option (List EntryView)). SameFiles (λ path mode it. MatchOption o ⊥ (λ es. Files T k es path mode it))
-            (OpenFiles T k (map_dirs ds))) (sym ((known_right T below ((it.id, own) ∷ []) (known T agrees)).0)) (files T k agrees has);
-        same_files = λ T k agrees has. same_trans _ _ _ (root_files T k own) (files T k agrees has);
-        has_bases = λ T. none_based T (map_dirs (opened own base [])) (map_bases (opened own base []))
-            (λ name path. only_edited_map ds (opened own base []) remaining (name ∷ path)
+            (OpenFiles T k (map_dirs ds))) (sym ((known_append_right T below ((it.id, own) ∷ []) (known T agrees)).0)) (files T k agrees has);
+        same_files = λ T k agrees has. same_files_trans _ _ _ (root_alone_files T k own) (files T k agrees has);
+        has_bases = λ T. has_bases_of_none T (map_dirs (opened own base [])) (map_bases (opened own base []))
+            (λ name path. only_edited_bases_of_map ds (opened own base []) remaining (name ∷ path)
             ∙ ap (λ (o : Option (List EntryView)). base_edited (map_dirs ds (name ∷ path)) o (map_bases ds (name ∷ path))) (new_is (name ∷ path)));
       }
 

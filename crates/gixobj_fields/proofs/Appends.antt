@@ -7,29 +7,29 @@ use Rattle.std.proofs.KnownBytes.{Appends-kept}
 use Rattle.std.specs.Io.KnownBytes.{Appends, Keeps}
 use Rattle.gixobj_fields.specs.Streams.{AppendsAll, AppendsPrefix, AppendsOrFails, SinkView, writer_view}
 
-pub appends_more : (a b c : Option (List ℕ)) (x y : List ℕ) → Appends a b x → Appends b c y → Appends a c (x ++ y)
-appends_more None b c x y p q = tt
-appends_more (Some a) None c x y p q = absurd p
-appends_more (Some a) (Some b) None x y p q = absurd q
-appends_more (Some a) (Some b) (Some c) x y p q = rw (q, p) (append_assoc a x y)
+pub appends_append : (a b c : Option (List ℕ)) (x y : List ℕ) → Appends a b x → Appends b c y → Appends a c (x ++ y)
+appends_append None b c x y p q = tt
+appends_append (Some a) None c x y p q = absurd p
+appends_append (Some a) (Some b) None x y p q = absurd q
+appends_append (Some a) (Some b) (Some c) x y p q = rw (q, p) (append_assoc a x y)
 
-pub appends_nothing : (held : Option (List ℕ)) → Appends held held []
-appends_nothing None = tt
-appends_nothing (Some bytes) = sym (append-nil bytes)
+pub appends_nil : (held : Option (List ℕ)) → Appends held held []
+appends_nil None = tt
+appends_nil (Some bytes) = sym (append-nil bytes)
 
-pub nothing_appended : (a : SinkView) → AppendsAll a a []
-nothing_appended a = record { held = appends_nothing a.held; room = omega arith }
+pub appends_all_nil : (a : SinkView) → AppendsAll a a []
+appends_all_nil a = record { held = appends_nil a.held; room = omega arith }
 
-pub more_appended : (a b c : SinkView) (x y : List ℕ) → AppendsAll a b x → AppendsAll b c y → AppendsAll a c (x ++ y)
-more_appended a b c x y first second =
+pub appends_all_append : (a b c : SinkView) (x y : List ℕ) → AppendsAll a b x → AppendsAll b c y → AppendsAll a c (x ++ y)
+appends_all_append a b c x y first second =
     record {
-      held = appends_more a.held b.held c.held x y first.held second.held;
+      held = appends_append a.held b.held c.held x y first.held second.held;
       room = omega (arith, first.room, second.room, length-append x y);
     }
 
 -- a proper prefix of the first part is one of all the bytes
-pub prefix_first : (a b : SinkView) (x y : List ℕ) → AppendsPrefix a b x → AppendsPrefix a b (x ++ y)
-prefix_first a b x y part =
+pub appends_prefix_first : (a b : SinkView) (x y : List ℕ) → AppendsPrefix a b x → AppendsPrefix a b (x ++ y)
+appends_prefix_first a b x y part =
     record {
       prefix = part.prefix;
       rest = part.rest ++ y;
@@ -40,48 +40,48 @@ prefix_first a b x y part =
     }
 
 -- the first part and a proper prefix of the second are a proper prefix of both
-pub prefix_more : (a b c : SinkView) (x y : List ℕ) → AppendsAll a b x → AppendsPrefix b c y → AppendsPrefix a c (x ++ y)
-prefix_more a b c x y first part =
+pub appends_prefix_append : (a b c : SinkView) (x y : List ℕ) → AppendsAll a b x → AppendsPrefix b c y → AppendsPrefix a c (x ++ y)
+appends_prefix_append a b c x y first part =
     record {
       prefix = x ++ part.prefix;
       rest = part.rest;
       joined = ap (λ (it : List ℕ). x ++ it) part.joined ∙ sym (append_assoc x part.prefix part.rest);
       missing = part.missing;
-      held = appends_more a.held b.held c.held x part.prefix first.held part.held;
+      held = appends_append a.held b.held c.held x part.prefix first.held part.held;
       short = omega (arith, first.room, part.short, length-append x y);
     }
 
 -- the first part and a proper prefix of the second are a proper prefix of all three parts
-pub prefix_within : (a b c : SinkView) (x y z : List ℕ) → AppendsAll a b x → AppendsPrefix b c y → AppendsPrefix a c (x ++ (y ++ z))
-prefix_within a b c x y z first part = prefix_more a b c x (y ++ z) first (prefix_first b c y z part)
+pub appends_prefix_middle : (a b c : SinkView) (x y z : List ℕ) → AppendsAll a b x → AppendsPrefix b c y → AppendsPrefix a c (x ++ (y ++ z))
+appends_prefix_middle a b c x y z first part = appends_prefix_append a b c x (y ++ z) first (appends_prefix_first b c y z part)
 
 -- a proper prefix of a part and its last byte is one of all the bytes
-pub prefix_of_byte : (a b : SinkView) (x : List ℕ) (byte : ℕ) (z : List ℕ) → AppendsPrefix a b (x ++ byte ∷ []) → AppendsPrefix a b (x ++ byte ∷ z)
-prefix_of_byte a b x byte z part = rw (← append_assoc x (byte ∷ []) z) (prefix_first a b (x ++ byte ∷ []) z part)
+pub appends_prefix_before_byte : (a b : SinkView) (x : List ℕ) (byte : ℕ) (z : List ℕ) → AppendsPrefix a b (x ++ byte ∷ []) → AppendsPrefix a b (x ++ byte ∷ z)
+appends_prefix_before_byte a b x byte z part = rw (← append_assoc x (byte ∷ []) z) (appends_prefix_first a b (x ++ byte ∷ []) z part)
 
-pub prefix_after_byte : (a b c : SinkView) (x : List ℕ) (byte : ℕ) (z : List ℕ) → AppendsAll a b (x ++ byte ∷ []) → AppendsPrefix b c z
+pub appends_prefix_after_byte : (a b c : SinkView) (x : List ℕ) (byte : ℕ) (z : List ℕ) → AppendsAll a b (x ++ byte ∷ []) → AppendsPrefix b c z
     → AppendsPrefix a c (x ++ byte ∷ z)
-prefix_after_byte a b c x byte z first part = rw (← append_assoc x (byte ∷ []) z) (prefix_more a b c (x ++ byte ∷ []) z first part)
+appends_prefix_after_byte a b c x byte z first part = rw (← append_assoc x (byte ∷ []) z) (appends_prefix_append a b c (x ++ byte ∷ []) z first part)
 
 -- a list splits after a prefix and `n` more elements
-pub split_after : (head all rest : List ℕ) (n : ℕ) → all ≡ head ++ rest → n ≤ length rest → all ≡ (head ++ take n rest) ++ take (length rest - n)
+pub append_take_drop : (head all rest : List ℕ) (n : ℕ) → all ≡ head ++ rest → n ≤ length rest → all ≡ (head ++ take n rest) ++ take (length rest - n)
     (drop n rest)
-split_after head all rest n joined short =
+append_take_drop head all rest n joined short =
     let following : take (length rest - n) (drop n rest) ≡ drop n rest =
     take_all (length rest - n) (drop n rest) (omega (arith, length-drop n rest)) in
     rw following (joined ∙ ap (λ (it : List ℕ). head ++ it) (sym (take-append-drop n rest)) ∙ sym (append_assoc head (take n rest) (drop n rest)))
 
 -- an append after the first part is an append of both parts
-pub appends_or_fails_more : {T E : Type 0} (r : Result T E) (a b c : SinkView) (x y : List ℕ) → AppendsAll a b x → AppendsOrFails r b c y
+pub appends_or_fails_append : {T E : Type 0} (r : Result T E) (a b c : SinkView) (x y : List ℕ) → AppendsAll a b x → AppendsOrFails r b c y
     → AppendsOrFails r a c (x ++ y)
-appends_or_fails_more (Ok value) a b c x y first more = more_appended a b c x y first more
-appends_or_fails_more (Err why) a b c x y first more = prefix_more a b c x y first more
+appends_or_fails_append (Ok value) a b c x y first more = appends_all_append a b c x y first more
+appends_or_fails_append (Err why) a b c x y first more = appends_prefix_append a b c x y first more
 
 pub appends_or_fails_after_byte : {T E : Type 0} (r : Result T E) (a b c : SinkView) (x : List ℕ) (byte : ℕ) (z : List ℕ)
     → AppendsAll a b (x ++ byte ∷ [])
     → AppendsOrFails r b c z → AppendsOrFails r a c (x ++ byte ∷ z)
 appends_or_fails_after_byte r a b c x byte z first more =
-    rw (← append_assoc x (byte ∷ []) z) (appends_or_fails_more r a b c (x ++ byte ∷ []) z first more)
+    rw (← append_assoc x (byte ∷ []) z) (appends_or_fails_append r a b c (x ++ byte ∷ []) z first more)
 
 -- an append to a sink with more room is an append to the sink before it had that room
 pub appends_with_more_room : (a b c : SinkView) (x : List ℕ) → a.held ≡ b.held → a.room ≤ b.room → AppendsAll b c x → AppendsAll a c x
@@ -100,19 +100,19 @@ prefix_with_more_room a b c x same less part =
 
 -- ---- a writer that accepts the remaining bytes
 
-pub some_remaining : (rest : List ℕ) → false ≡ (length rest == 0) → 0 < length rest
-some_remaining [] test = absurd (cc)
-some_remaining (first ∷ rest) test = omega arith
+pub rest_len_pos : (rest : List ℕ) → false ≡ (length rest == 0) → 0 < length rest
+rest_len_pos [] test = absurd (cc)
+rest_len_pos (first ∷ rest) test = omega arith
 
-pub none_remaining : (rest : List ℕ) → true ≡ (length rest == 0) → rest ≡ []
-none_remaining [] test = refl
-none_remaining (first ∷ rest) test = absurd (omega (arith, eqb-true (length (first ∷ rest)) 0 (sym test)))
+pub rest_nil : (rest : List ℕ) → true ≡ (length rest == 0) → rest ≡ []
+rest_nil [] test = refl
+rest_nil (first ∷ rest) test = absurd (omega (arith, eqb-true (length (first ∷ rest)) 0 (sym test)))
 
 -- a write of no byte keeps the known bytes
-pub kept_by_none : (here after : Option (List ℕ)) (count : ℕ) (rest : List ℕ) → count ≡ 0 → Appends here after (take count rest) → Keeps here after
-kept_by_none None after count rest none held = tt
-kept_by_none (Some a) None count rest none held = absurd held
-kept_by_none (Some a) (Some b) count rest none held = (rw none at held) ∙ append-nil a
+pub keeps_nil : (here after : Option (List ℕ)) (count : ℕ) (rest : List ℕ) → count ≡ 0 → Appends here after (take count rest) → Keeps here after
+keeps_nil None after count rest none held = tt
+keeps_nil (Some a) None count rest none held = absurd held
+keeps_nil (Some a) (Some b) count rest none held = (rw none at held) ∙ append-nil a
 
 -- a writer that accepts no more of the bytes has a proper prefix of them
 pub writer_prefix : (first here after : Option (List ℕ)) (bytes head rest : List ℕ) → bytes ≡ head ++ rest → 0 < length rest → Appends first here head

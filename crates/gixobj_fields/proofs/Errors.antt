@@ -5,12 +5,12 @@ use Rattle.gixobj_fields.specs.Streams.{AppendsAll, AppendsPrefix, SinkView}
 use Rattle.gixobj_fields.specs.declared.encode.Error.{Error}
 use Rattle.gixobj_fields.specs.declared.encode.Error.TheVariants as error
 use Rattle.gixobj_fields.specs.Writing.{FailsAsSink, RejectedValue, RejectsNothing, IsWritingError, StopsAt}
-use Rattle.gixobj_fields.proofs.Appends.{prefix_with_more_room, prefix_within, more_appended, appends_with_more_room}
+use Rattle.gixobj_fields.proofs.Appends.{prefix_with_more_room, appends_prefix_middle, appends_all_append, appends_with_more_room}
 
 stops_after : (R Q : RejectedValue → List ℕ → Type 0) (a b c : SinkView) (prefix : List ℕ) → AppendsAll a b prefix
     → ((value : RejectedValue) (parts : List ℕ) → R value parts → Q value (prefix ++ parts)) → (value : RejectedValue) → StopsAt R b c value
     → StopsAt Q a c value
-stops_after R Q a b c prefix p step value s = (prefix ++ s.0, step value s.0 s.1, more_appended a b c prefix s.0 p s.2)
+stops_after R Q a b c prefix p step value s = (prefix ++ s.0, step value s.0 s.1, appends_all_append a b c prefix s.0 p s.2)
 
 -- the error of a part after a written prefix is an error of the entire encoding
 pub writing_error_append : (R Q : RejectedValue → List ℕ → Type 0) (a b c : SinkView) (prefix part entire : List ℕ) → AppendsAll a b prefix
@@ -31,7 +31,7 @@ pub writing_error_within : (R Q : RejectedValue → List ℕ → Type 0) (a b c 
     → ((value : RejectedValue) (parts : List ℕ) → R value parts → Q value (prefix ++ parts)) → (e : Error) → IsWritingError R b c part e
     → IsWritingError Q a c (prefix ++ (part ++ rest)) e
 writing_error_within R Q a b c prefix part rest p step e s =
-    writing_error_append R Q a b c prefix part (prefix ++ (part ++ rest)) p step (prefix_within a b c prefix part rest p) e s
+    writing_error_append R Q a b c prefix part (prefix ++ (part ++ rest)) p step (appends_prefix_middle a b c prefix part rest p) e s
 
 -- the error of a part is an error of a longer encoding that has the part's proper prefixes
 pub writing_error_longer : (R : RejectedValue → List ℕ → Type 0) (a b : SinkView) (part entire : List ℕ) → (AppendsPrefix a b part → AppendsPrefix a b entire)
@@ -66,14 +66,15 @@ none_stops : (R : RejectedValue → List ℕ → Type 0) (a b : SinkView) (value
 none_stops R a b value nothing s = nothing value s.0 s.1
 
 -- a writer that rejects no value fails as its sink does
-pub fails_as_sink : (R : RejectedValue → List ℕ → Type 0) (a b : SinkView) (bytes : List ℕ) (e : Error) → RejectsNothing R → IsWritingError R a b bytes e
+pub fails_as_sink_of_error : (R : RejectedValue → List ℕ → Type 0) (a b : SinkView) (bytes : List ℕ) (e : Error) → RejectsNothing R
+    → IsWritingError R a b bytes e
     → FailsAsSink a b bytes e
-fails_as_sink R a b bytes (error.Writer cause) nothing s = s
-fails_as_sink R a b bytes (error.NewlineInHeaderValue value) nothing s = none_stops R a b _ nothing s
-fails_as_sink R a b bytes error.EmptyValue nothing s = none_stops R a b _ nothing s
-fails_as_sink R a b bytes error.StartsWithDash nothing s = none_stops R a b _ nothing s
-fails_as_sink R a b bytes (error.InvalidRefName fault) nothing s = none_stops R a b _ nothing s
-fails_as_sink R a b bytes (error.NullbyteInFilename name) nothing s = none_stops R a b _ nothing s
-fails_as_sink R a b bytes error.IllegalActor nothing s = none_stops R a b _ nothing s
-fails_as_sink R a b bytes error.OutOfMemory nothing (value, inl s) = none_stops R a b _ nothing s
-fails_as_sink R a b bytes error.OutOfMemory nothing (value, inr s) = none_stops R a b _ nothing s
+fails_as_sink_of_error R a b bytes (error.Writer cause) nothing s = s
+fails_as_sink_of_error R a b bytes (error.NewlineInHeaderValue value) nothing s = none_stops R a b _ nothing s
+fails_as_sink_of_error R a b bytes error.EmptyValue nothing s = none_stops R a b _ nothing s
+fails_as_sink_of_error R a b bytes error.StartsWithDash nothing s = none_stops R a b _ nothing s
+fails_as_sink_of_error R a b bytes (error.InvalidRefName fault) nothing s = none_stops R a b _ nothing s
+fails_as_sink_of_error R a b bytes (error.NullbyteInFilename name) nothing s = none_stops R a b _ nothing s
+fails_as_sink_of_error R a b bytes error.IllegalActor nothing s = none_stops R a b _ nothing s
+fails_as_sink_of_error R a b bytes error.OutOfMemory nothing (value, inl s) = none_stops R a b _ nothing s
+fails_as_sink_of_error R a b bytes error.OutOfMemory nothing (value, inr s) = none_stops R a b _ nothing s

@@ -15,17 +15,17 @@ use Rattle.gixobj_fields.specs.HeaderFormat.{encode_field, encode_continuation, 
 use Rattle.gixobj_hash.specs.ByteStrings.{IsByteFree, SplitsAt}
 use Rattle.gixobj_fields.specs.Streams.{AppendsAll, AppendsPrefix, SinkView}
 use Rattle.gixobj_fields.specs.Writing.{RejectsNothing}
-use Rattle.gixobj_fields.proofs.Appends.{prefix_within}
+use Rattle.gixobj_fields.proofs.Appends.{appends_prefix_middle}
 use Rattle.gixobj_fields.specs.FieldWriting.{IsLastLine, IsFieldError, folded, value_lines}
 
 -- bytes without a byte do not contain it
-pub holds_none : (byte : ℕ) (bytes : List ℕ) → IsByteFree byte bytes → Contains bytes byte → ⊥
-holds_none byte bytes free has = All-contains (λ (it : ℕ). it ≡ byte → ⊥) bytes byte free has refl
+pub no_byte_of_byte_free : (byte : ℕ) (bytes : List ℕ) → IsByteFree byte bytes → Contains bytes byte → ⊥
+no_byte_of_byte_free byte bytes free has = All-contains (λ (it : ℕ). it ≡ byte → ⊥) bytes byte free has refl
 
 -- a value that is neither empty nor has a newline is accepted
-pub not_rejected : (value : List ℕ) → (length value == 0) ≡ false → IsByteFree 10 value → RejectsNothing (IsFieldError value)
-not_rejected value some free rejected parts (inl (none, is), nothing) = absurd (grind (arith, some, none))
-not_rejected value some free rejected parts (inr (has, is), nothing) = holds_none 10 value free has
+pub field_rejects_nothing : (value : List ℕ) → (length value == 0) ≡ false → IsByteFree 10 value → RejectsNothing (IsFieldError value)
+field_rejects_nothing value some free rejected parts (inl (none, is), nothing) = absurd (grind (arith, some, none))
+field_rejects_nothing value some free rejected parts (inr (has, is), nothing) = no_byte_of_byte_free 10 value free has
 
 -- ---- lines of a value
 
@@ -63,23 +63,23 @@ lines_of_more (first ∷ next ∷ rest) byte after free =
     (ap (λ (lines : List ℕ × List (List ℕ)). (first ∷ lines.0, lines.1))
     (lines_of_more (next ∷ rest) byte after (free-tail first (next ∷ rest) free)))
 
-pub folded_without_newline : (value : List ℕ) → IsByteFree 10 value → folded value ≡ value ++ 10 ∷ []
-folded_without_newline value free = written_so value value [] (lines_of_one value free) ∙ append-nil (encode_line value)
+pub folded_of_newline_free : (value : List ℕ) → IsByteFree 10 value → folded value ≡ value ++ 10 ∷ []
+folded_of_newline_free value free = written_so value value [] (lines_of_one value free) ∙ append-nil (encode_line value)
 
-pub folded_line : (line : List ℕ) → IsByteFree 10 line → folded (line ++ 10 ∷ []) ≡ line ++ 10 ∷ []
-folded_line line free = written_so (line ++ 10 ∷ []) line [] (lines_of_ended line free) ∙ append-nil (encode_line line)
+pub folded_of_one_line : (line : List ℕ) → IsByteFree 10 line → folded (line ++ 10 ∷ []) ≡ line ++ 10 ∷ []
+folded_of_one_line line free = written_so (line ++ 10 ∷ []) line [] (lines_of_ended line free) ∙ append-nil (encode_line line)
 
 -- a last line is its own encoding if its last byte is a newline
-pub folded_ended : (value : List ℕ) → IsLastLine value → slice_get value (length value - 1) ≡ Some 10 → folded value ≡ value
-folded_ended value (inl free) ends =
+pub folded_of_last_line : (value : List ℕ) → IsLastLine value → slice_get value (length value - 1) ≡ Some 10 → folded value ≡ value
+folded_of_last_line value (inl free) ends =
     let place = length value - 1 in
     absurd (All-get_or (λ (it : ℕ). it ≢ 10) value place 0 (slice_get_within value place 10 ends) free (get_or_from_slice_get value place 10 0 ends))
-folded_ended value (inr (line, is, free)) ends = rw is (folded_line line free)
+folded_of_last_line value (inr (line, is, free)) ends = rw is (folded_of_one_line line free)
 
-pub folded_open : (value : List ℕ) → IsLastLine value → (last : ℕ) → slice_get value (length value - 1) ≡ Some last → last ≢ 10
+pub folded_of_open_line : (value : List ℕ) → IsLastLine value → (last : ℕ) → slice_get value (length value - 1) ≡ Some last → last ≢ 10
     → folded value ≡ value ++ 10 ∷ []
-folded_open value (inl free) last ends other = folded_without_newline value free
-folded_open value (inr (line, is, free)) last ends other =
+folded_of_open_line value (inl free) last ends other = folded_of_newline_free value free
+folded_of_open_line value (inr (line, is, free)) last ends other =
     let len : length value ≡ length line + 1 = ap length is ∙ length-append line (10 ∷ []) in
     let place : length value - 1 ≡ length line = omega arith in
     let found : get_or value (length line) 0 ≡ last = ap (λ (it : ℕ). get_or value it 0) (sym place) ∙ get_or_from_slice_get value
@@ -95,43 +95,43 @@ folded_lines line byte after free =
     ∷ (encode_line rest.0 ++ flat_map encode_continuation rest.1) = simp append_assoc in
     written_so (line ++ 10 ∷ byte ∷ after) line (rest.0 ∷ rest.1) (lines_of_more line byte after free) ∙ flat
 
-pub lines_again : (line after : List ℕ) → IsByteFree 10 line → (length after == 0) ≡ false
+pub folded_cons_line : (line after : List ℕ) → IsByteFree 10 line → (length after == 0) ≡ false
     → folded (line ++ 10 ∷ after) ≡ line ++ 10 ∷ 32 ∷ folded after
-lines_again line [] free some = absurd (true≢false some)
-lines_again line (byte ∷ after) free some = folded_lines line byte after free
+folded_cons_line line [] free some = absurd (true≢false some)
+folded_cons_line line (byte ∷ after) free some = folded_lines line byte after free
 
-pub folded_cut : (value line after : List ℕ) → SplitsAt 10 value line after → (length after == 0) ≡ false
+pub folded_split_at_newline : (value line after : List ℕ) → SplitsAt 10 value line after → (length after == 0) ≡ false
     → folded value ≡ line ++ 10 ∷ 32 ∷ folded after
-folded_cut value line after cut some = ap folded cut.joined ∙ lines_again line after cut.first some
+folded_split_at_newline value line after cut some = ap folded cut.joined ∙ folded_cons_line line after cut.first some
 
-pub cut_shorter : (value line after : List ℕ) → SplitsAt 10 value line after → length after < length value
-cut_shorter value line after cut = omega (arith, ap length cut.joined, length-append line (10 ∷ after))
+pub rest_after_newline_len_lt : (value line after : List ℕ) → SplitsAt 10 value line after → length after < length value
+rest_after_newline_len_lt value line after cut = omega (arith, ap length cut.joined, length-append line (10 ∷ after))
 
 nothing_after : (after : List ℕ) → (length after == 0) ≡ true → after ≡ []
 nothing_after [] none = refl
 nothing_after (byte ∷ after) none = absurd (let none' : suc (length after) ≡ 0 = eqb-true (suc (length after)) 0 none in omega (arith, none'))
 
-pub last_line : (value line after : List ℕ) → SplitsAt 10 value line after → (length after == 0) ≡ true → IsLastLine value
-last_line value line after cut none = inr (line, cut.joined ∙ ap (λ (it : List ℕ). line ++ 10 ∷ it) (nothing_after after none), cut.first)
+pub is_last_line_of_split : (value line after : List ℕ) → SplitsAt 10 value line after → (length after == 0) ≡ true → IsLastLine value
+is_last_line_of_split value line after cut none = inr (line, cut.joined ∙ ap (λ (it : List ℕ). line ++ 10 ∷ it) (nothing_after after none), cut.first)
 
-pub folded_more : (value prefix rest line after : List ℕ) → folded value ≡ prefix ++ folded rest → folded rest ≡ line ++ 10 ∷ 32 ∷ folded after
+pub folded_prefix_append : (value prefix rest line after : List ℕ) → folded value ≡ prefix ++ folded rest → folded rest ≡ line ++ 10 ∷ 32 ∷ folded after
     → folded value ≡ (prefix ++ (line ++ 10 ∷ 32 ∷ [])) ++ folded after
-folded_more value prefix rest line after so_far one =
+folded_prefix_append value prefix rest line after so_far one =
     so_far ∙ ap (λ (it : List ℕ). prefix ++ it) (one ∙ sym (append_assoc line (10 ∷ 32 ∷ []) (folded after)))
     ∙ sym (append_assoc prefix (line ++ 10 ∷ 32 ∷ []) (folded after))
 
 -- a proper prefix of the next line, after the written lines, is a proper prefix of the value's encoding
-pub line_prefix : (a b c : SinkView) (value prefix rest line after : List ℕ) → AppendsAll a b prefix → folded value ≡ prefix ++ folded rest
+pub appends_prefix_of_folded : (a b c : SinkView) (value prefix rest line after : List ℕ) → AppendsAll a b prefix → folded value ≡ prefix ++ folded rest
     → folded rest ≡ line ++ 10 ∷ 32 ∷ folded after
     → AppendsPrefix b c (line ++ 10 ∷ 32 ∷ []) → AppendsPrefix a c (folded value)
-line_prefix a b c value prefix rest line after write_bytes so_far one part =
-    rw (folded_more value prefix rest line after so_far one, append_assoc prefix (line ++ 10 ∷ 32 ∷ []) (folded after))
-    (prefix_within a b c prefix (line ++ 10 ∷ 32 ∷ []) (folded after) write_bytes part)
+appends_prefix_of_folded a b c value prefix rest line after write_bytes so_far one part =
+    rw (folded_prefix_append value prefix rest line after so_far one, append_assoc prefix (line ++ 10 ∷ 32 ∷ []) (folded after))
+    (appends_prefix_middle a b c prefix (line ++ 10 ∷ 32 ∷ []) (folded after) write_bytes part)
 
 -- ---- sizes
 
-pub id_field_len : (name : List ℕ) (id : ObjectId) → length (encode_field name (encode_id_hex id)) ≡ length name + 2 + 2 * length (id_bytes id)
-id_field_len name id =
+pub encode_id_field_len : (name : List ℕ) (id : ObjectId) → length (encode_field name (encode_id_hex id)) ≡ length name + 2 + 2 * length (id_bytes id)
+encode_id_field_len name id =
     omega (
       arith,
       length-append name (32 ∷ encode_line (encode_id_hex id)),

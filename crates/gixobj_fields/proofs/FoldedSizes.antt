@@ -8,15 +8,15 @@ use Rattle.std.proofs.lemmas.List.Sums.{count_by-le-length, sum_by-append, sum_b
 use Rattle.gixobj_fields.specs.FieldWriting.{folded, newlines, value_lines}
 use Rattle.gixobj_fields.specs.HeaderFormat.{encode_continuation, encode_line}
 
-pub newlines_within : (content : List ℕ) → newlines content ≤ length content
-newlines_within content = count_by-le-length (λ byte. byte == 10) content
+pub newlines_le_len : (content : List ℕ) → newlines content ≤ length content
+newlines_le_len content = count_by-le-length (λ byte. byte == 10) content
 
-pub newlines_cut : (prefix rest : List ℕ) → newlines (prefix ++ rest) ≡ newlines prefix + newlines rest
-newlines_cut prefix rest = sum_by-append (λ (byte : ℕ). cond (byte == 10) 1 0) prefix rest
+pub newlines_append : (prefix rest : List ℕ) → newlines (prefix ++ rest) ≡ newlines prefix + newlines rest
+newlines_append prefix rest = sum_by-append (λ (byte : ℕ). cond (byte == 10) 1 0) prefix rest
 
-pub newlines_more : (content : List ℕ) (i byte : ℕ) → i < length content → byte ≡ get_or content i byte
+pub newlines_take_succ : (content : List ℕ) (i byte : ℕ) → i < length content → byte ≡ get_or content i byte
     → newlines (take (i + 1) content) ≡ newlines (take i content) + cond (byte == 10) 1 0
-newlines_more content i byte within is =
+newlines_take_succ content i byte within is =
     sum_by_more (λ (it : ℕ). cond (it == 10) 1 0) content i byte within ∙ ap (λ (it : ℕ). newlines (take i content) + cond (it == 10) 1 0) (sym is)
 
 newlines_first : (byte : ℕ) (rest : List ℕ) → newlines (byte ∷ rest) ≡ cond (byte == 10) 1 0 + newlines rest

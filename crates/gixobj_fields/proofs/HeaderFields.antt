@@ -12,7 +12,7 @@ use Rattle.std.specs.Cmp.Lexicographic.{pointwise}
 use Rattle.std.specs.List.{AllPass, flat_map}
 use Rattle.std.specs.Prelude.{true, false, MatchOption, Option, nat_eq, take, drop}
 use Rattle.hex.specs.Hex.{is_hex_digit}
-use Rattle.gixobj_hash.proofs.Splits.{free_of_split, one_cut}
+use Rattle.gixobj_hash.proofs.Splits.{no_split_of_byte_free, split_parts_unique}
 use Rattle.gixobj_fields.specs.HeaderFormat.{BeginsSeveralLines, EndsHeader, HasField, HasHeader, HasNoField, HasNoHeader, Header, IsHeaderName, encode_field, encode_continuation, encode_line, value_of_lines}
 use Rattle.gixobj_fields.specs.HeaderReading.{HasNoId, HasNoKind, HasNoLines, IsUnfolded, IsHeaderFieldError}
 use Rattle.gixobj_hash.specs.ByteStrings.{IsByteFree, SplitsAt}
@@ -26,12 +26,12 @@ use Rattle.gixobj_hash.specs.declared.hash.kind.Kind.TheVariants as hash
 
 -- ---- prefixes
 
-pub prefix_is : (input prefix : List ℕ) → (result : Option (Bor (List ℕ)))
+pub strip_prefix_match : (input prefix : List ℕ) → (result : Option (Bor (List ℕ)))
     → MatchOption result (pointwise nat_eq (take (length prefix) input) prefix ≡ false)
     (λ x. (pointwise nat_eq (take (length prefix) input) prefix ≡ true)
     × (x.now ≡ drop (length prefix) input) × (length x.now + length prefix ≡ length input))
     → MatchOption result ((rest : List ℕ) → input ≢ prefix ++ rest) (λ x. input ≡ prefix ++ x.now)
-prefix_is input prefix result is = strip_prefix_is Decides-eqb input prefix result is
+strip_prefix_match input prefix result is = strip_prefix_is Decides-eqb input prefix result is
 
 -- ---- a field of one line
 
@@ -39,13 +39,13 @@ flat_field : (name value rest : List ℕ) → encode_field name value ++ rest �
 flat_field name value rest = simp append_assoc
 
 -- a name that no space follows is not the name of a field
-pub no_space_after : (input name following : List ℕ) → input ≡ name ++ following → EndsHeader following → (rest : List ℕ) → input ≢ name ++ 32 ∷ rest
-no_space_after input name following joined ends rest same =
+pub not_name_and_space : (input name following : List ℕ) → input ≡ name ++ following → EndsHeader following → (rest : List ℕ) → input ≢ name ++ 32 ∷ rest
+not_name_and_space input name following joined ends rest same =
     let e : following ≡ 32 ∷ rest = append_cancel_left name following (32 ∷ rest) (sym joined ∙ same) in
     let k : EndsHeader (32 ∷ rest) = subst EndsHeader e ends in k refl
 
-pub field_of_parts : (name input line value rest : List ℕ) → input ≡ name ++ 32 ∷ line → SplitsAt 10 line value rest → HasField name input value rest
-field_of_parts name input line value rest joined split =
+pub has_field_of_parts : (name input line value rest : List ℕ) → input ≡ name ++ 32 ∷ line → SplitsAt 10 line value rest → HasField name input value rest
+has_field_of_parts name input line value rest joined split =
     record { joined = joined ∙ ap (λ (it : List ℕ). name ++ 32 ∷ it) split.joined ∙ sym (flat_field name value rest); one_line = split.first }
 
 pub no_field_without_name : (name input : List ℕ) → ((rest : List ℕ) → input ≢ name ++ 32 ∷ rest) → HasNoField name input
@@ -59,37 +59,37 @@ name_after name input line value rest joined field =
 
 pub no_field_without_newline : (name input line : List ℕ) → input ≡ name ++ 32 ∷ line → IsByteFree 10 line → HasNoField name input
 no_field_without_newline name input line joined free value rest field =
-    free_of_split 10 value rest (subst (IsByteFree 10) (name_after name input line value rest joined field) free)
+    no_split_of_byte_free 10 value rest (subst (IsByteFree 10) (name_after name input line value rest joined field) free)
 
-pub one_field : (name input a x b y : List ℕ) → HasField name input a x → HasField name input b y → (a ≡ b) × (x ≡ y)
-one_field name input a x b y first second =
-    one_cut 10 a x b y first.one_line second.one_line (name_after name input (a ++ 10 ∷ x) b y (first.joined ∙ flat_field name a x) second)
+pub field_unique : (name input a x b y : List ℕ) → HasField name input a x → HasField name input b y → (a ≡ b) × (x ≡ y)
+field_unique name input a x b y first second =
+    split_parts_unique 10 a x b y first.one_line second.one_line (name_after name input (a ++ 10 ∷ x) b y (first.joined ∙ flat_field name a x) second)
 
 -- a field at the beginning of an input is a field by itself
-pub field_alone : (name input value rest : List ℕ) → HasField name input value rest → HasField name (encode_field name value) value []
-field_alone name input value rest has = record { joined = sym (append-nil (encode_field name value)); one_line = has.one_line }
+pub has_field_of_encoded : (name input value rest : List ℕ) → HasField name input value rest → HasField name (encode_field name value) value []
+has_field_of_encoded name input value rest has = record { joined = sym (append-nil (encode_field name value)); one_line = has.one_line }
 
-pub first_bytes : (a b : ℕ) (x y : List ℕ) → a ∷ x ≡ b ∷ y → a ≡ b
-first_bytes a b x y same = cc same
+pub first_bytes_eq : (a b : ℕ) (x y : List ℕ) → a ∷ x ≡ b ∷ y → a ≡ b
+first_bytes_eq a b x y same = cc same
 
 -- the hex of an id of some kind is the hex of an id
-pub of_an_id : (kind : Kind) (hex : List ℕ) → IsIdHexOfKind kind hex → IsIdHex hex
-of_an_id hash.Sha1 hex (is, digits) = (inl is, digits)
-of_an_id hash.Sha256 hex (is, digits) = (inr is, digits)
+pub is_id_hex_of_decoded : (kind : Kind) (hex : List ℕ) → IsIdHexOfKind kind hex → IsIdHex hex
+is_id_hex_of_decoded hash.Sha1 hex (is, digits) = (inl is, digits)
+is_id_hex_of_decoded hash.Sha256 hex (is, digits) = (inr is, digits)
 
 hex_digit_is_no_newline : (byte : ℕ) → is_hex_digit byte ≡ true → byte ≢ 10
 hex_digit_is_no_newline byte digit same = true≢false (sym digit ∙ ap is_hex_digit same)
 
-pub digits_are_one_line : (bytes : List ℕ) → AllPass is_hex_digit bytes → IsByteFree 10 bytes
-digits_are_one_line [] digits = All-nil (λ it. it ≢ 10)
-digits_are_one_line (byte ∷ bytes) digits =
+pub hex_digits_newline_free : (bytes : List ℕ) → AllPass is_hex_digit bytes → IsByteFree 10 bytes
+hex_digits_newline_free [] digits = All-nil (λ it. it ≢ 10)
+hex_digits_newline_free (byte ∷ bytes) digits =
     let P : ℕ → Type 0 = λ it. is_hex_digit it ≡ true in
     All-cons (λ it. it ≢ 10) byte bytes (hex_digit_is_no_newline byte (All-head P byte bytes digits))
-    (digits_are_one_line bytes (All-tail P byte bytes digits))
+    (hex_digits_newline_free bytes (All-tail P byte bytes digits))
 
-pub no_kind_of_field : (name input value rest : List ℕ) → HasField name input value rest → IsUnknownKindName value → HasNoKind name input
-no_kind_of_field name input value rest field bad kind following second =
-    bad kind (one_field name input value rest (kind_name kind) following field second).0
+pub no_kind_of_unknown_name : (name input value rest : List ℕ) → HasField name input value rest → IsUnknownKindName value → HasNoKind name input
+no_kind_of_unknown_name name input value rest field bad kind following second =
+    bad kind (field_unique name input value rest (kind_name kind) following field second).0
 
 -- ---- the hex of an id, whose length is the position of the newline
 
@@ -104,19 +104,19 @@ same_prefix : (a x b y : List ℕ) → a ++ x ≡ b ++ y → length a ≡ length
 same_prefix a x b y same long =
     sym (take-append_seam a x) ∙ ap (take (length a)) same ∙ ap (λ (it : ℕ). take it (b ++ y)) long ∙ take-append_seam b y
 
-pub no_id_of_other_bytes : (name : List ℕ) (kind : Kind) (input line value rest : List ℕ) (len : ℕ) → input ≡ name ++ 32 ∷ line
+pub no_id_of_other_hex : (name : List ℕ) (kind : Kind) (input line value rest : List ℕ) (len : ℕ) → input ≡ name ++ 32 ∷ line
     → len ≡ 2 * hash_len kind
     → line ≡ value ++ 10 ∷ rest → length value ≡ len
     → (IsIdHexOfKind kind value → ⊥) → HasNoId name kind input
-no_id_of_other_bytes name kind input line value rest len joined long cut placed bad hex following has =
+no_id_of_other_hex name kind input line value rest len joined long cut placed bad hex following has =
     let same : hex ≡ value = same_prefix hex (10 ∷ following) value (10 ∷ rest) (sym (name_after name input line hex following joined has.0) ∙ cut)
     (has.1.0 ∙ sym (placed ∙ long)) in
     bad (subst (IsIdHexOfKind kind) same has.1)
 
 -- a list splits before and after the byte at a position
-pub cut_at_place : (bytes : List ℕ) (place byte : ℕ) → place < length bytes → byte ≡ get_or bytes place 0
+pub take_cons_drop : (bytes : List ℕ) (place byte : ℕ) → place < length bytes → byte ≡ get_or bytes place 0
     → bytes ≡ take place bytes ++ byte ∷ drop (place + 1) bytes
-cut_at_place bytes place byte within is =
+take_cons_drop bytes place byte within is =
     let next : suc place ≡ place + 1 = omega arith in
     let following : drop place bytes ≡ byte ∷ drop (place + 1) bytes = drop-cons bytes place 0 within
     ∙ ap (λ (it : ℕ). get_or bytes place 0 ∷ drop it bytes) next ∙ ap (λ (it : ℕ). it ∷ drop (place + 1) bytes) (sym is) in
@@ -132,45 +132,45 @@ not_space : (rest following : List ℕ) → EndsHeader rest → rest ≡ 32 ∷ 
 not_space rest following ends same = (let k : EndsHeader (32 ∷ following) = subst EndsHeader same ends in k refl)
 
 -- continuation lines decode uniquely
-pub one_run : (a b : List (List ℕ)) (x y : List ℕ) → All (λ line. IsByteFree 10 line) a → All (λ line. IsByteFree 10 line) b → EndsHeader x
+pub run_unique : (a b : List (List ℕ)) (x y : List ℕ) → All (λ line. IsByteFree 10 line) a → All (λ line. IsByteFree 10 line) b → EndsHeader x
     → EndsHeader y
     → flat_map encode_continuation a ++ x ≡ flat_map encode_continuation b ++ y → (a ≡ b) × (x ≡ y)
-one_run [] [] x y free_a free_b ends_x ends_y same = (refl, same)
-one_run [] (line ∷ b) x y free_a free_b ends_x ends_y same =
+run_unique [] [] x y free_a free_b ends_x ends_y same = (refl, same)
+run_unique [] (line ∷ b) x y free_a free_b ends_x ends_y same =
     absurd (not_space x (line ++ 10 ∷ (flat_map encode_continuation b ++ y)) ends_x (same ∙ one_following line y b))
-one_run (line ∷ a) [] x y free_a free_b ends_x ends_y same =
+run_unique (line ∷ a) [] x y free_a free_b ends_x ends_y same =
     absurd (not_space y (line ++ 10 ∷ (flat_map encode_continuation a ++ x)) ends_y (sym same ∙ one_following line x a))
-one_run (line ∷ a) (other ∷ b) x y free_a free_b ends_x ends_y same =
+run_unique (line ∷ a) (other ∷ b) x y free_a free_b ends_x ends_y same =
     let P : List ℕ → Type 0 = IsByteFree 10 in
     let entire : 32 ∷ (line ++ 10 ∷ (flat_map encode_continuation a ++ x)) ≡ 32 ∷ (other ++ 10 ∷ (flat_map encode_continuation b ++ y)) =
     sym (one_following line x a) ∙ same ∙ one_following other y b in
     let tails : line ++ 10 ∷ (flat_map encode_continuation a ++ x) ≡ other ++ 10 ∷ (flat_map encode_continuation b ++ y) = cc in
-    let cut = one_cut 10 line (flat_map encode_continuation a ++ x) other (flat_map encode_continuation b ++ y) (All-head P line a free_a)
+    let cut = split_parts_unique 10 line (flat_map encode_continuation a ++ x) other (flat_map encode_continuation b ++ y) (All-head P line a free_a)
     (All-head P other b free_b) tails in
-    let rest = one_run a b x y (All-tail P line a free_a) (All-tail P other b free_b) ends_x ends_y cut.1 in
+    let rest = run_unique a b x y (All-tail P line a free_a) (All-tail P other b free_b) ends_x ends_y cut.1 in
     (cc (cut.0, rest.0), rest.1)
 
 -- an incomplete continuation line makes the continuation lines invalid
-pub no_run : (a b : List (List ℕ)) (following y : List ℕ) → All (λ line. IsByteFree 10 line) a → All (λ line. IsByteFree 10 line) b
+pub no_run_of_unindented : (a b : List (List ℕ)) (following y : List ℕ) → All (λ line. IsByteFree 10 line) a → All (λ line. IsByteFree 10 line) b
     → IsByteFree 10 following
     → EndsHeader y
     → flat_map encode_continuation a ++ 32 ∷ following ≡ flat_map encode_continuation b ++ y → ⊥
-no_run [] [] following y free_a free_b free ends same = not_space y following ends (sym same)
-no_run [] (line ∷ b) following y free_a free_b free ends same =
+no_run_of_unindented [] [] following y free_a free_b free ends same = not_space y following ends (sym same)
+no_run_of_unindented [] (line ∷ b) following y free_a free_b free ends same =
     let entire : 32 ∷ following ≡ 32 ∷ (line ++ 10 ∷ (flat_map encode_continuation b ++ y)) = same ∙ one_following line y b in
     let tails : following ≡ line ++ 10 ∷ (flat_map encode_continuation b ++ y) = cc in
-    free_of_split 10 line (flat_map encode_continuation b ++ y) (subst (IsByteFree 10) tails free)
-no_run (line ∷ a) [] following y free_a free_b free ends same = not_space y (line ++ 10 ∷ (flat_map encode_continuation a ++ 32 ∷ following)) ends
+    no_split_of_byte_free 10 line (flat_map encode_continuation b ++ y) (subst (IsByteFree 10) tails free)
+no_run_of_unindented (line ∷ a) [] following y free_a free_b free ends same = not_space y (line ++ 10 ∷ (flat_map encode_continuation a ++ 32 ∷ following)) ends
     (sym same ∙ one_following line (32 ∷ following) a)
-no_run (line ∷ a) (other ∷ b) following y free_a free_b free ends same =
+no_run_of_unindented (line ∷ a) (other ∷ b) following y free_a free_b free ends same =
     let P : List ℕ → Type 0 = IsByteFree 10 in
     let entire : 32 ∷ (line ++ 10 ∷ (flat_map encode_continuation a ++ 32 ∷ following)) ≡ 32 ∷ (other ++ 10 ∷ (flat_map encode_continuation b ++ y)) =
     sym (one_following line (32 ∷ following) a) ∙ same ∙ one_following other y b in
     let tails : line ++ 10 ∷ (flat_map encode_continuation a ++ 32 ∷ following) ≡ other ++ 10 ∷ (flat_map encode_continuation b ++ y) = cc in
-    let cut = one_cut 10 line (flat_map encode_continuation a ++ 32 ∷ following) other (flat_map encode_continuation b ++ y)
+    let cut = split_parts_unique 10 line (flat_map encode_continuation a ++ 32 ∷ following) other (flat_map encode_continuation b ++ y)
     (All-head P line a free_a)
     (All-head P other b free_b) tails in
-    no_run a b following y (All-tail P line a free_a) (All-tail P other b free_b) free ends cut.1
+    no_run_of_unindented a b following y (All-tail P line a free_a) (All-tail P other b free_b) free ends cut.1
 
 -- the continuation lines that were decoded, and the value that they make
 pub record Unfolding (first input unfolded rest : List ℕ) : Type 0 where
@@ -179,14 +179,14 @@ pub record Unfolding (first input unfolded rest : List ℕ) : Type 0 where
   pub each_one_line : All (λ line. IsByteFree 10 line) more
   pub value : unfolded ≡ flat_map encode_line (first ∷ more)
 
-pub unfolding_starts : (first input : List ℕ) → Unfolding first input (first ++ 10 ∷ []) input
-unfolding_starts first input =
+pub unfolding_first : (first input : List ℕ) → Unfolding first input (first ++ 10 ∷ []) input
+unfolding_first first input =
     record { more = []; joined = refl; each_one_line = All-nil (λ (line : List ℕ). IsByteFree 10 line); value = sym (append-nil (first ++ 10 ∷ [])) }
 
-pub unfolding_more : (first input value rest following line after : List ℕ) → Unfolding first input value rest → rest ≡ 32 ∷ following
+pub unfolding_append : (first input value rest following line after : List ℕ) → Unfolding first input value rest → rest ≡ 32 ∷ following
     → SplitsAt 10 following line after
     → Unfolding first input ((value ++ line) ++ 10 ∷ []) after
-unfolding_more first input value rest following line after so_far space split =
+unfolding_append first input value rest following line after so_far space split =
     let one : rest ≡ flat_map encode_continuation (line ∷ []) ++ after = space ∙ ap (λ (it : List ℕ). 32 ∷ it) split.joined
     ∙ sym (one_following line after []) in
     let regrouped : flat_map encode_continuation so_far.more ++ (flat_map encode_continuation (line ∷ []) ++ after) ≡ flat_map encode_continuation
@@ -208,20 +208,20 @@ pub unfolding_step : (first input value rest following line after grown unfolded
     → grown ≡ value ++ line → unfolded ≡ grown ++ 10 ∷ [] → Unfolding first input unfolded after
 unfolding_step first input value rest following line after grown unfolded so_far space split more last =
     let U : List ℕ → Type 0 = λ it. Unfolding first input it after in
-    subst U (sym (last ∙ ap (λ (it : List ℕ). it ++ 10 ∷ []) more)) (unfolding_more first input value rest following line after so_far space split)
+    subst U (sym (last ∙ ap (λ (it : List ℕ). it ++ 10 ∷ []) more)) (unfolding_append first input value rest following line after so_far space split)
 
-pub unfolding_ends : (first input value rest : List ℕ) → Unfolding first input value rest → EndsHeader rest → IsUnfolded first input value rest
-unfolding_ends first input value rest so_far ends =
+pub is_unfolded_at_end : (first input value rest : List ℕ) → Unfolding first input value rest → EndsHeader rest → IsUnfolded first input value rest
+is_unfolded_at_end first input value rest so_far ends =
     (so_far.more, record { joined = so_far.joined; each_one_line = so_far.each_one_line; ends = ends }, so_far.value)
 
-pub unfolding_split : (first input value rest following : List ℕ) → Unfolding first input value rest → rest ≡ 32 ∷ following → IsByteFree 10 following
+pub no_lines_of_split : (first input value rest following : List ℕ) → Unfolding first input value rest → rest ≡ 32 ∷ following → IsByteFree 10 following
     → HasNoLines input
-unfolding_split first input value rest following so_far space free more tail lines =
-    no_run so_far.more more following tail so_far.each_one_line lines.each_one_line free lines.ends
+no_lines_of_split first input value rest following so_far space free more tail lines =
+    no_run_of_unindented so_far.more more following tail so_far.each_one_line lines.each_one_line free lines.ends
     (ap (λ (it : List ℕ). flat_map encode_continuation so_far.more ++ it) (sym space) ∙ sym so_far.joined ∙ lines.joined)
 
-pub unfolding_shorter : (rest following line after : List ℕ) → rest ≡ 32 ∷ following → SplitsAt 10 following line after → length after < length rest
-unfolding_shorter rest following line after space split = omega (arith, ap length space, ap length split.joined, length-append line (10 ∷ after))
+pub unfolding_len_lt : (rest following line after : List ℕ) → rest ≡ 32 ∷ following → SplitsAt 10 following line after → length after < length rest
+unfolding_len_lt rest following line after space split = omega (arith, ap length space, ap length split.joined, length-append line (10 ∷ after))
 
 -- ---- a header
 
@@ -247,10 +247,10 @@ name_of_parts : (input name following first after : List ℕ) → HeaderParts in
 name_of_parts input name following first after parts =
     record { not_empty = parts.named.0; no_space = parts.split_parts.first; no_newline = parts.named.1 }
 
-pub header_of_one_line : (input name following first after : List ℕ) → SplitsAt 32 input name following → (name ≢ []) × IsByteFree 10 name
+pub has_header_of_one_line : (input name following first after : List ℕ) → SplitsAt 32 input name following → (name ≢ []) × IsByteFree 10 name
     → SplitsAt 10 following first after → EndsHeader after
     → HasHeader input (record { name = name; value = first }) after
-header_of_one_line input name following first after cut named line ends =
+has_header_of_one_line input name following first after cut named line ends =
     let parts : HeaderParts input name following first after = record { split_parts = cut; named = named; line = line } in
     record {
       encoded = name ++ 32 ∷ encode_line first ++ flat_map encode_continuation [];
@@ -273,10 +273,10 @@ several : (first after rest value : List ℕ) (more : List (List ℕ)) → after
 several first after rest value [] same ends goes_on is = absurd (goes_on (subst EndsHeader (sym same) ends))
 several first after rest value (second ∷ more) same ends goes_on is = is
 
-pub header_of_lines : (input name following first after value rest : List ℕ) → SplitsAt 32 input name following → (name ≢ []) × IsByteFree 10 name
+pub has_header_of_lines : (input name following first after value rest : List ℕ) → SplitsAt 32 input name following → (name ≢ []) × IsByteFree 10 name
     → SplitsAt 10 following first after
     → (EndsHeader after → ⊥) → IsUnfolded first after value rest → HasHeader input (record { name = name; value = value }) rest
-header_of_lines input name following first after value rest cut named line goes_on (more, lines, is) =
+has_header_of_lines input name following first after value rest cut named line goes_on (more, lines, is) =
     let parts : HeaderParts input name following first after = record { split_parts = cut; named = named; line = line } in
     record {
       encoded = name ++ 32 ∷ encode_line first ++ flat_map encode_continuation more;
@@ -301,24 +301,24 @@ flat_of input h rest it = it.joined ∙ ap (λ (bytes : List ℕ). bytes ++ rest
 
 pub no_header_without_space : (input : List ℕ) → IsByteFree 32 input → HasNoHeader input
 no_header_without_space input free h rest it =
-    free_of_split 32 h.name (it.written.first ++ 10 ∷ (flat_map encode_continuation it.written.more ++ rest))
+    no_split_of_byte_free 32 h.name (it.written.first ++ 10 ∷ (flat_map encode_continuation it.written.more ++ rest))
     (subst (IsByteFree 32) (flat_of input h rest it) free)
 
 -- the first space of a header splits its name from its lines
 name_cut : (input name following : List ℕ) (h : Header) (rest : List ℕ) → SplitsAt 32 input name following → (it : HasHeader input h rest)
     → (name ≡ h.name) × (following ≡ it.written.first ++ 10 ∷ (flat_map encode_continuation it.written.more ++ rest))
 name_cut input name following h rest cut it =
-    one_cut 32 name following h.name (it.written.first ++ 10 ∷ (flat_map encode_continuation it.written.more ++ rest)) cut.first
+    split_parts_unique 32 name following h.name (it.written.first ++ 10 ∷ (flat_map encode_continuation it.written.more ++ rest)) cut.first
     it.written.named.no_space
     (sym cut.joined ∙ flat_of input h rest it)
 
-pub no_header_of_no_name : (input name following : List ℕ) → SplitsAt 32 input name following → (IsHeaderName name → ⊥) → HasNoHeader input
-no_header_of_no_name input name following cut bad h rest it =
+pub no_header_of_empty_name : (input name following : List ℕ) → SplitsAt 32 input name following → (IsHeaderName name → ⊥) → HasNoHeader input
+no_header_of_empty_name input name following cut bad h rest it =
     bad (subst IsHeaderName (sym (name_cut input name following h rest cut it).0) it.written.named)
 
 pub no_header_without_newline : (input name following : List ℕ) → SplitsAt 32 input name following → IsByteFree 10 following → HasNoHeader input
 no_header_without_newline input name following cut free h rest it =
-    free_of_split 10 it.written.first (flat_map encode_continuation it.written.more ++ rest)
+    no_split_of_byte_free 10 it.written.first (flat_map encode_continuation it.written.more ++ rest)
     (subst (IsByteFree 10) (name_cut input name following h rest cut it).1 free)
 
 -- the first newline of a header's lines splits the first line from the continuation lines
@@ -327,7 +327,7 @@ line_cut : (input name following first after : List ℕ) (h : Header) (rest : Li
     → (it : HasHeader input h rest)
     → (first ≡ it.written.first) × (after ≡ flat_map encode_continuation it.written.more ++ rest)
 line_cut input name following first after h rest cut line it =
-    one_cut 10 first after it.written.first (flat_map encode_continuation it.written.more ++ rest) line.first it.written.one_line
+    split_parts_unique 10 first after it.written.first (flat_map encode_continuation it.written.more ++ rest) line.first it.written.one_line
     (sym line.joined ∙ (name_cut input name following h rest cut it).1)
 
 pub no_header_without_lines : (input name following first after : List ℕ) → SplitsAt 32 input name following → SplitsAt 10 following first after
@@ -343,9 +343,9 @@ goes_with_space : (after : List ℕ) → (EndsHeader after → ⊥) → (rest : 
 goes_with_space [] goes_on = absurd (goes_on tt)
 goes_with_space (byte ∷ rest) goes_on = (rest, grind (arith, goes_on))
 
-pub begins_several : (input name following first after tail : List ℕ) → SplitsAt 32 input name following → (name ≢ []) × IsByteFree 10 name
+pub begins_several_of_indented : (input name following first after tail : List ℕ) → SplitsAt 32 input name following → (name ≢ []) × IsByteFree 10 name
     → SplitsAt 10 following first after → after ≡ 32 ∷ tail → BeginsSeveralLines input
-begins_several input name following first after tail cut named line space =
+begins_several_of_indented input name following first after tail cut named line space =
     record {
       name = name;
       first = first;
@@ -363,25 +363,25 @@ same_header : (a b : Header) → a.name ≡ b.name → a.value ≡ b.value → a
 same_header a b name value = ap (λ (it : List ℕ). header_from it a.value) name ∙ ap (header_from b.name) value
 
 -- an error of the continuation lines is an error of the header
-pub rejects_lines : (input name following first after tail : List ℕ) (f e : Error) → f ≡ e → SplitsAt 32 input name following → (name ≢ [])
+pub header_error_of_lines : (input name following first after tail : List ℕ) (f e : Error) → f ≡ e → SplitsAt 32 input name following → (name ≢ [])
     × IsByteFree 10 name
     → SplitsAt 10 following first after → after ≡ 32 ∷ tail
     → (e ≡ Malformed → HasNoLines after) → IsHeaderFieldError input f
-rejects_lines input name following first after tail f Malformed same cut named line space bad =
+header_error_of_lines input name following first after tail f Malformed same cut named line space bad =
     rw same (no_header_without_lines input name following first after cut line (bad refl))
-rejects_lines input name following first after tail f OutOfMemory same cut named line space bad =
-    rw same (begins_several input name following first after tail cut named line space)
+header_error_of_lines input name following first after tail f OutOfMemory same cut named line space bad =
+    rw same (begins_several_of_indented input name following first after tail cut named line space)
 
 -- an input begins with at most one header
-pub one_header : (input : List ℕ) (h k : Header) (x y : List ℕ) → HasHeader input h x → HasHeader input k y → (h ≡ k) × (x ≡ y)
-one_header input h k x y first second =
+pub header_unique : (input : List ℕ) (h k : Header) (x y : List ℕ) → HasHeader input h x → HasHeader input k y → (h ≡ k) × (x ≡ y)
+header_unique input h k x y first second =
     let cut : SplitsAt 32 input h.name (first.written.first ++ 10 ∷ (flat_map encode_continuation first.written.more ++ x)) =
     record { joined = flat_of input h x first; first = first.written.named.no_space } in
     let line : SplitsAt 10 (first.written.first ++ 10 ∷ (flat_map encode_continuation first.written.more ++ x)) first.written.first
     (flat_map encode_continuation first.written.more ++ x) = record { joined = refl; first = first.written.one_line } in
     let names = name_cut input h.name _ k y cut second in
     let lines = line_cut input h.name _ first.written.first _ k y cut line second in
-    let run = one_run first.written.more second.written.more x y first.written.each_one_line second.written.each_one_line first.ends second.ends
+    let run = run_unique first.written.more second.written.more x y first.written.each_one_line second.written.each_one_line first.ends second.ends
     lines.1 in (
       same_header h k names.0 (first.written.value ∙ ap (λ (it : List ℕ). value_of_lines it first.written.more) lines.0
           ∙ ap (value_of_lines second.written.first) run.0 ∙ sym second.written.value),
@@ -389,7 +389,7 @@ one_header input h k x y first second =
     )
 
 -- the value of several lines has a newline
-pub lines_have_newlines : (first input value rest : List ℕ) → IsUnfolded first input value rest → Contains value 10
-lines_have_newlines first input value rest (more, lines, is) =
+pub folded_value_has_newline : (first input value rest : List ℕ) → IsUnfolded first input value rest → Contains value 10
+folded_value_has_newline first input value rest (more, lines, is) =
     let here : Contains (encode_line first) 10 = Contains-append_right first (10 ∷ []) 10 (0, lit< tt, refl) in
     subst (λ (it : List ℕ). Contains it 10) (sym is) (Contains-append_left (encode_line first) (flat_map encode_line more) 10 here)

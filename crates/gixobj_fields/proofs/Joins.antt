@@ -3,12 +3,12 @@ use Rattle.std.proofs.Common.{◌≡◌, ℕ, ◌+◌, ◌<◌, ◌≤◌, ◌^�
 use Rattle.std.specs.List.{flat_map}
 use Rattle.std.proofs.lemmas.List.{append-nil, take_all, take_more, take-append-drop, drop_more}
 use Rattle.std.proofs.lemmas.List.Concat.{flat_map-append}
-use Rattle.gixobj_fields.proofs.Appends.{prefix_within}
+use Rattle.gixobj_fields.proofs.Appends.{appends_prefix_middle}
 use Rattle.gixobj_fields.specs.Streams.{AppendsAll, AppendsPrefix, SinkView}
 
-pub joined_more : {X : Type 0} (bytes : X → List ℕ) (items : List X) (i : ℕ) (e : X) → i < length items → e ≡ get_or items i e
+pub flat_map_take_succ : {X : Type 0} (bytes : X → List ℕ) (items : List X) (i : ℕ) (e : X) → i < length items → e ≡ get_or items i e
     → flat_map bytes (take (i + 1) items) ≡ flat_map bytes (take i items) ++ bytes e
-joined_more bytes items i e h is =
+flat_map_take_succ bytes items i e h is =
     rw (take_more items i e h, ← is) (flat_map-append bytes (take i items) (e ∷ []) ∙ ap (λ (xs : List ℕ). flat_map bytes (take i items) ++ xs)
     (append-nil (bytes e)))
 
@@ -22,15 +22,16 @@ joined_at : {X : Type 0} (bytes : X → List ℕ) (items : List X) (i : ℕ) (e 
 joined_at bytes items i e h is = ap (flat_map bytes) (cut_at items i e h is) ∙ flat_map-append bytes (take i items) (e ∷ drop (i + 1) items)
 
 -- a proper prefix of an item, after the items before it, is a proper prefix of all items
-pub item_prefix : {X : Type 0} (bytes : X → List ℕ) (a b c : SinkView) (items : List X) (i : ℕ) (e : X) → i < length items → e ≡ get_or items i e
+pub appends_prefix_of_item : {X : Type 0} (bytes : X → List ℕ) (a b c : SinkView) (items : List X) (i : ℕ) (e : X) → i < length items → e ≡ get_or items i e
     → AppendsAll a b (flat_map bytes (take i items)) → AppendsPrefix b c (bytes e) → AppendsPrefix a c (flat_map bytes items)
-item_prefix bytes a b c items i e h is write_bytes part =
-    rw (joined_at bytes items i e h is) (prefix_within a b c (flat_map bytes (take i items)) (bytes e) (flat_map bytes (drop (i + 1) items)) write_bytes part)
+appends_prefix_of_item bytes a b c items i e h is write_bytes part =
+    rw (joined_at bytes items i e h is) (appends_prefix_middle a b c (flat_map bytes (take i items)) (bytes e)
+        (flat_map bytes (drop (i + 1) items)) write_bytes part)
 
 -- all items are too long if the first of them are
-pub joined_too_long : {X : Type 0} (bytes : X → List ℕ) (items : List X) (i : ℕ) (e : X) (start n : ℕ) → i < length items → e ≡ get_or items i e
+pub no_overflow_of_joined : {X : Type 0} (bytes : X → List ℕ) (items : List X) (i : ℕ) (e : X) (start n : ℕ) → i < length items → e ≡ get_or items i e
     → n ≡ start + length (flat_map bytes (take i items)) → (n + length (bytes e) < 2 ^ 64 → ⊥) → start + length (flat_map bytes items) < 2 ^ 64 → ⊥
-joined_too_long bytes items i e start n h is len over short =
+no_overflow_of_joined bytes items i e start n h is len over short =
     over (omega (
       arith,
       short,
@@ -41,6 +42,6 @@ joined_too_long bytes items i e start n h is len over short =
       length-append (bytes e) (flat_map bytes (drop (i + 1) items)),
     ))
 
-pub joined_size : {X : Type 0} (bytes : X → List ℕ) (items : List X) (i start n : ℕ) → length items ≤ i → n ≡ start + length (flat_map bytes (take i items))
+pub joined_len : {X : Type 0} (bytes : X → List ℕ) (items : List X) (i start n : ℕ) → length items ≤ i → n ≡ start + length (flat_map bytes (take i items))
     → n ≡ start + length (flat_map bytes items)
-joined_size {X} bytes items i start n h is = is ∙ ap (λ (it : List X). start + length (flat_map bytes it)) (take_all i items h)
+joined_len {X} bytes items i start n h is = is ∙ ap (λ (it : List X). start + length (flat_map bytes it)) (take_all i items h)

@@ -115,7 +115,7 @@ impl From<AllocError> for Error {
 ///
 /// The error of the sink. A proper prefix of the field has then been written.
 #[inline(always)]
-#[tactic(auto, using(crate::proofs::Appends::prefix_of_byte, crate::proofs::Appends::appends_or_fails_after_byte))]
+#[tactic(auto, using(crate::proofs::Appends::appends_prefix_before_byte, crate::proofs::Appends::appends_or_fails_after_byte))]
 pub fn trusted_header_field<S: Sink>(name: &[u8], value: &[u8], sink: &mut S) -> io::Result<()>
     ensures appended { AppendsOrFails result (S.view sink.old) (S.view sink.new)
         (encode_field name.now value.now) }
@@ -192,7 +192,7 @@ fn write_lower_case<S: Sink>(name: &[u8], content: &[u8], sink: &mut S) -> io::R
 /// - [`Error::Writer`] if the sink failed. A proper prefix of the field has then been written.
 ///
 /// At the first three errors nothing was written.
-#[tactic(auto, using(crate::proofs::Appends::nothing_appended))]
+#[tactic(auto, using(crate::proofs::Appends::appends_all_nil))]
 pub fn header_field<S: Sink>(
     alloc: Global,
     name: &[u8],
@@ -225,7 +225,7 @@ pub fn header_field<S: Sink>(
 /// # Errors
 ///
 /// The error of the sink. A proper prefix of the header has then been written.
-#[tactic(auto, using(crate::proofs::Appends::prefix_of_byte, crate::proofs::Appends::appends_or_fails_after_byte))]
+#[tactic(auto, using(crate::proofs::Appends::appends_prefix_before_byte, crate::proofs::Appends::appends_or_fails_after_byte))]
 pub fn header_field_multi_line<S: Sink>(name: &[u8], value: &[u8], sink: &mut S) -> io::Result<()>
     ensures appended { AppendsOrFails result (S.view sink.old) (S.view sink.new)
         (name.now ++ space ∷ folded value.now) }
@@ -236,7 +236,7 @@ pub fn header_field_multi_line<S: Sink>(name: &[u8], value: &[u8], sink: &mut S)
 }
 
 /// Appends the lines of a value.
-#[tactic(auto, using(crate::proofs::FieldWrites::line_prefix, crate::proofs::Appends::appends_or_fails_more))]
+#[tactic(auto, using(crate::proofs::FieldWrites::appends_prefix_of_folded, crate::proofs::Appends::appends_or_fails_append))]
 fn write_folded<S: Sink>(value: &[u8], sink: &mut S) -> io::Result<()>
     ensures appended { AppendsOrFails result (S.view sink.old) (S.view sink.new) (folded value.now) }
     ensures same_loan { S.loan sink.new ≡ S.loan sink.old }
@@ -280,7 +280,7 @@ fn missing_newline(line: &[u8]) -> &[u8]
 }
 
 /// Splits after the first line, or returns `None` if no byte follows the first newline.
-#[tactic(auto, using(crate::proofs::FieldWrites::folded_cut, crate::proofs::FieldWrites::cut_shorter, crate::proofs::FieldWrites::last_line))]
+#[tactic(auto, using(crate::proofs::FieldWrites::folded_split_at_newline, crate::proofs::FieldWrites::rest_after_newline_len_lt, crate::proofs::FieldWrites::is_last_line_of_split))]
 fn first_line(value: &[u8]) -> Option<(&[u8], &[u8])>
     ensures { MatchOption result (IsLastLine value.now)
         (λ it. (folded value.now ≡ it.0.now ++ newline ∷ space ∷ folded it.1.now)
@@ -317,7 +317,7 @@ pub fn size_with_hex(size: u64, name: &[u8], hex: &[u8]) -> Option<u64>
 /// Adds the length of the output of [`trusted_header_id`] to a size in bytes.
 ///
 /// Returns `None` if the sum exceeds 64 bits. Allocates nothing.
-#[tactic(auto, using(crate::proofs::FieldWrites::id_field_len))]
+#[tactic(auto, using(crate::proofs::FieldWrites::encode_id_field_len))]
 pub fn size_plus_id(size: u64, name: &[u8], id: &ObjectId) -> Option<u64>
     ensures { AddsSize result size (encode_field name.now (encode_id_hex id.now)) }
 {
@@ -359,7 +359,7 @@ fn len_folded_in(value: &[u8]) -> u64
 
 /// Counts the newlines.
 #[inline(always)]
-#[tactic(auto, using(crate::proofs::FoldedSizes::newlines_cut, crate::proofs::FoldedSizes::newlines_within))]
+#[tactic(auto, using(crate::proofs::FoldedSizes::newlines_append, crate::proofs::FoldedSizes::newlines_le_len))]
 fn count_newlines(content: &[u8]) -> u64
     ensures count { result ≡ newlines content.now }
     ensures bound { result ≤ length content.now }
@@ -376,7 +376,7 @@ fn count_newlines(content: &[u8]) -> u64
 
 /// Counts the newlines of at most 128 bytes in a byte, so that many bytes are compared at a time.
 #[inline(always)]
-#[tactic(auto, using(crate::proofs::FoldedSizes::newlines_more, crate::proofs::FoldedSizes::newlines_within))]
+#[tactic(auto, using(crate::proofs::FoldedSizes::newlines_take_succ, crate::proofs::FoldedSizes::newlines_le_len))]
 fn count_in_part(part: &[u8]) -> u8
     requires { length part.now ≤ 128 }
     ensures { result ≡ newlines part.now }

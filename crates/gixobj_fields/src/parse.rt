@@ -21,7 +21,7 @@ use std::borrow::CowSlice;
 ///
 /// Returns `None` unless the input begins with the name, a space and a line that ends in a newline.
 #[inline(always)]
-#[tactic(auto, using(crate::proofs::HeaderFields::field_of_parts, crate::proofs::HeaderFields::no_field_without_name))]
+#[tactic(auto, using(crate::proofs::HeaderFields::has_field_of_parts, crate::proofs::HeaderFields::no_field_without_name))]
 pub fn header_field<'a>(input: &'a [u8], name: &[u8]) -> Option<(&'a [u8], &'a [u8])>
     ensures found { IfSome result (λ it. HasField name.now input.now it.0.now it.1.now) }
     ensures none { IfNone result (HasNoField name.now input.now) }
@@ -58,7 +58,7 @@ pub fn header_id<'a>(input: &'a [u8], name: &[u8], kind: Kind) -> Option<(BStr<'
 
 /// Splits at the newline at this position, or returns `None` if another byte or none is there.
 #[inline(always)]
-#[tactic(auto, using(crate::proofs::HeaderFields::cut_at_place))]
+#[tactic(auto, using(crate::proofs::HeaderFields::take_cons_drop))]
 fn split_at_newline(bytes: &[u8], place: usize) -> Option<(&[u8], &[u8])>
     ensures split { IfSome result (λ parts. bytes.now ≡ parts.0.now ++ newline ∷ parts.1.now) }
     ensures placed { IfSome result (λ parts. length parts.0.now ≡ place) }
@@ -125,7 +125,7 @@ pub fn after_newline(input: &[u8]) -> Option<&[u8]>
 ///
 /// - [`Error::Malformed`] if the input does not begin with a header.
 /// - [`Error::OutOfMemory`] if the allocation of a value of several lines failed.
-#[tactic(auto, using(crate::proofs::HeaderFields::header_of_one_line, crate::proofs::HeaderFields::header_of_lines))]
+#[tactic(auto, using(crate::proofs::HeaderFields::has_header_of_one_line, crate::proofs::HeaderFields::has_header_of_lines))]
 pub fn any_header_field(
     alloc: Global,
     input: &[u8],
@@ -153,7 +153,7 @@ pub fn any_header_field(
 }
 
 /// Decodes continuation lines, and returns the first line and these with their newlines, and the rest.
-#[tactic(auto, using(crate::proofs::HeaderFields::unfolding_starts, crate::proofs::HeaderFields::unfolding_ends, crate::proofs::HeaderFields::unfolding_shorter))]
+#[tactic(auto, using(crate::proofs::HeaderFields::unfolding_first, crate::proofs::HeaderFields::is_unfolded_at_end, crate::proofs::HeaderFields::unfolding_len_lt))]
 fn unfolded<'a>(alloc: Global, first: &[u8], input: &'a [u8]) -> Result<(Vec<u8>, &'a [u8]), Error>
     ensures found { IfOk result (λ it. IsUnfolded first.now input.now it.0.items it.1.now) }
     ensures error { IfErr result (λ e. e ≡ Malformed → HasNoLines input.now) }
@@ -174,7 +174,7 @@ fn unfolded<'a>(alloc: Global, first: &[u8], input: &'a [u8]) -> Result<(Vec<u8>
 
 /// Returns the bytes after this prefix.
 #[inline(always)]
-#[tactic(auto, using(crate::proofs::HeaderFields::prefix_is))]
+#[tactic(auto, using(crate::proofs::HeaderFields::strip_prefix_match))]
 fn after_prefix<'a>(input: &'a [u8], prefix: &[u8]) -> Option<&'a [u8]>
     ensures { MatchOption result ((rest : List ℕ) → input.now ≢ prefix.now ++ rest)
         (λ rest. input.now ≡ prefix.now ++ rest.now) }

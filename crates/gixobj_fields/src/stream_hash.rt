@@ -77,7 +77,7 @@ pub fn compute_stream_hash<R: Read>(
 /// # Errors
 ///
 /// [`Error::UnexpectedEof`] if and only if the slice has fewer bytes. The slice is then empty.
-#[tactic(auto, using(crate::proofs::StreamReads::slice_accepts, crate::proofs::StreamReads::slice_value, crate::proofs::StreamReads::slice_rest, crate::proofs::StreamReads::slice_error))]
+#[tactic(auto, using(crate::proofs::StreamReads::slice_digest_ok_iff, crate::proofs::StreamReads::slice_digest_id, crate::proofs::StreamReads::slice_digest_rest, crate::proofs::StreamReads::slice_digest_error))]
 pub fn compute_slice_hash(
     hash: hash::Kind,
     kind: Kind,
@@ -99,7 +99,7 @@ pub fn compute_slice_hash(
 ///
 /// - [`Error::Io`] if the source fails, only if it may fail.
 /// - [`Error::UnexpectedEof`] if the source ends before `len` bytes.
-#[tactic(auto, using(crate::proofs::StreamReads::id_of_content))]
+#[tactic(auto, using(crate::proofs::StreamReads::reads_object_of_digest))]
 pub fn compute_source_hash<S: Source>(
     hash: hash::Kind,
     kind: Kind,
@@ -177,7 +177,7 @@ fn update_from<S: Source>(hasher: &mut Hasher, source: &mut S, len: u64) -> Resu
 
 /// Reads some of the next `most` bytes of a source into the beginning of the buffer, and returns their
 /// number, which is at least 1.
-#[tactic(auto, using(crate::proofs::StreamReads::failed_at_once, crate::proofs::StreamReads::ended_at_once, crate::proofs::StreamReads::prefix_of_buffer))]
+#[tactic(auto, using(crate::proofs::StreamReads::stream_error_of_read, crate::proofs::StreamReads::stream_error_of_end, crate::proofs::StreamReads::consumes_take))]
 fn read_piece<S: Source>(source: &mut S, buffer: &mut [u8], most: u64) -> Result<usize, Error>
     requires some { 0 < most }
     requires has_capacity { 0 < length buffer.old }

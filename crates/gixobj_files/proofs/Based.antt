@@ -10,22 +10,23 @@ use Rattle.gixobj_files.specs.Tables.{AgreesWithStore}
 use Rattle.gixobj_files.proofs.OpenedFiles.{IsAt}
 use Rattle.gixobj_files.proofs.Everywhere.{Everywhere, Lasts, OfEntry}
 use Rattle.gixobj_files.specs.Bases.{AreNullBased, HasBases}
-use Rattle.gixobj_files.proofs.OpeningFiles.{agrees_at}
+use Rattle.gixobj_files.proofs.OpeningFiles.{is_at_of_agreement}
 
 -- the base, if there is one, is what the id of the entry names
 abbrev pub Based : Table → OfEntry
 Based T e here base = (list : List EntryView) → base ≡ Some list → IsAt T e.id list
 
-pub some_list : (x y : List EntryView) → Some x ≡ Some y → x ≡ y
-some_list x y e = cc e
+pub some_list_unique : (x y : List EntryView) → Some x ≡ Some y → x ≡ y
+some_list_unique x y e = cc e
 
-pub based_lasts : (T : Table) (trees : Trees) (null : ObjectId) → AgreesWithStore T trees → is_null null ≡ true → Lasts (Based T) trees null
-based_lasts T trees null agrees nothing = record {
+pub based_is_lasting : (T : Table) (trees : Trees) (null : ObjectId) → AgreesWithStore T trees → is_null null ≡ true → Lasts (Based T) trees null
+based_is_lasting T trees null agrees nothing = record {
   not_open = λ e base p list is. absurd (cc is);
   still = λ e was now base p. p;
-  made = λ name now list is. inl (nothing, sym (some_list [] list is));
+  made = λ name now list is. inl (nothing, sym (some_list_unique [] list is));
   opened = λ e base entries requested p tree finds.
-      ((λ list is. subst (IsAt T e.id) (some_list entries list is) (agrees_at T trees agrees e.id entries requested finds)), λ x h list is. absurd (cc is));
+      ((λ list is. subst (IsAt T e.id) (some_list_unique entries list is) (is_at_of_agreement T trees agrees e.id entries requested finds)),
+          λ x h list is. absurd (cc is));
 }
 
 -- the base of a directory with the null id is empty
@@ -37,33 +38,33 @@ found_empty : (trees : Trees) (id : ObjectId) (entries : List EntryView) (reques
 found_empty trees id entries requested (formed, inl (is, empty, none)) null = empty
 found_empty trees id entries requested (formed, inr (filled, is, requests)) null = absurd (filled (inl null))
 
-pub null_based_lasts : (trees : Trees) (null : ObjectId) → Lasts NullBased trees null
-null_based_lasts trees null = record {
+pub null_based_is_lasting : (trees : Trees) (null : ObjectId) → Lasts NullBased trees null
+null_based_is_lasting trees null = record {
   not_open = λ e base p list is. absurd (cc is);
   still = λ e was now base p. p;
-  made = λ name now list is nothing. sym (some_list [] list is);
+  made = λ name now list is nothing. sym (some_list_unique [] list is);
   opened = λ e base entries requested p tree finds. (
-    (λ list is nothing. sym (some_list entries list is) ∙ found_empty trees e.id entries requested finds nothing),
+    (λ list is nothing. sym (some_list_unique entries list is) ∙ found_empty trees e.id entries requested finds nothing),
     λ x h list is. absurd (cc is),
   );
 }
 
-pub null_based_of : (dirs bases : Dirs) → AreNullBased dirs bases → Everywhere NullBased dirs bases
-null_based_of dirs bases nulls path e h list is null = nulls path e list h is null
+pub everywhere_null_based : (dirs bases : Dirs) → AreNullBased dirs bases → Everywhere NullBased dirs bases
+everywhere_null_based dirs bases nulls path e h list is null = nulls path e list h is null
 
-pub are_null_based : (dirs bases : Dirs) → Everywhere NullBased dirs bases → AreNullBased dirs bases
-are_null_based dirs bases all path e list h is null = all path e h list is null
+pub are_null_based_of_everywhere : (dirs bases : Dirs) → Everywhere NullBased dirs bases → AreNullBased dirs bases
+are_null_based_of_everywhere dirs bases all path e list h is null = all path e h list is null
 
 -- the premise of a write holds at every entry, if the base of each null id is empty
-pub based_of : (T : Table) (dirs bases : Dirs) → AreNullBased dirs bases → HasBases T dirs bases → Everywhere (Based T) dirs bases
-based_of T dirs bases nulls has path e h list is =
+pub everywhere_based : (T : Table) (dirs bases : Dirs) → AreNullBased dirs bases → HasBases T dirs bases → Everywhere (Based T) dirs bases
+everywhere_based T dirs bases nulls has path e h list is =
     elim (is_null e.id) as (λ b. is_null e.id ≡ b → IsAt T e.id list) [
       | true ↦ λ null. inl (null, nulls path e list h is null)
       | false ↦ λ filled. inr (has path e list h is filled)
     ] refl
 
-pub has_bases : (T : Table) (dirs bases : Dirs) → Everywhere (Based T) dirs bases → HasBases T dirs bases
-has_bases T dirs bases all path e list h is filled = known (all path e h list is)
+pub has_bases_of_everywhere : (T : Table) (dirs bases : Dirs) → Everywhere (Based T) dirs bases → HasBases T dirs bases
+has_bases_of_everywhere T dirs bases all path e list h is filled = known (all path e h list is)
   where
     known : IsAt T e.id list → T.tree_at e.id ≡ Some list
     known (inl none) = absurd (let bad : true ≡ false = sym none.0 ∙ filled in cc bad)

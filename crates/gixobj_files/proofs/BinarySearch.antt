@@ -16,7 +16,7 @@ use Rattle.std.proofs.lemmas.List.Quantifiers.{position-Some}
 use Rattle.std.proofs.lemmas.List.Sorted.{searchable_from_sorted}
 use Rattle.std.proofs.lemmas.List.Sums.{prefix_len_is}
 use Rattle.std.proofs.lemmas.Option.{slice_get-get_or, slice_get_past}
-use Rattle.gixobj_tree.proofs.WellFormed.{same_key, tied}
+use Rattle.gixobj_tree.proofs.WellFormed.{eq_of_slice_cmp_equal, slice_cmp_equal_of_eq}
 use Rattle.gixobj_tree.specs.Entries.{EachLater}
 
 -- the first position at which a test passes, and a list in which it never does
@@ -59,9 +59,9 @@ module _ {X : Type 0} (p : X → Bool) where
   prefix_is [] i low passes stops = omega arith
   prefix_is (x ∷ xs) i low passes stops = sym (prefix_len_is p (x ∷ xs) i x low (λ k l. passes k x l) (stops x))
 
-pub first : {X : Type 0} (xs : List X) (i : ℕ) → i < length xs → X
-first [] i low = absurd (omega arith)
-first (x ∷ xs) i low = x
+pub element_at : {X : Type 0} (xs : List X) (i : ℕ) → i < length xs → X
+element_at [] i low = absurd (omega arith)
+element_at (x ∷ xs) i low = x
 
 module _ {X : Type 0} (R : X → X → Type 0) where
   pub later_at : (xs : List X) → EachLater R xs → (i j : ℕ) (d : X) → i < j → j < length xs → R (get_or xs i d) (get_or xs j d)
@@ -77,15 +77,15 @@ less_only o is tie = true≢false (ap is_lt (sym is ∙ tie))
 greater_only : (o : Ordering) → o ≡ Greater → o ≢ Equal
 greater_only o is tie = true≢false (ap is_eq (sym tie ∙ is))
 
-pub lt_is : (o : Ordering) → is_lt o ≡ true → o ≡ Less
-lt_is Less h = refl
-lt_is Equal h = absurd (true≢false (sym h))
-lt_is Greater h = absurd (true≢false (sym h))
+pub less_of_compare : (o : Ordering) → is_lt o ≡ true → o ≡ Less
+less_of_compare Less h = refl
+less_of_compare Equal h = absurd (true≢false (sym h))
+less_of_compare Greater h = absurd (true≢false (sym h))
 
-pub gt_is : (o : Ordering) → true ≡ is_gt o → o ≡ Greater
-gt_is Less h = absurd (true≢false h)
-gt_is Equal h = absurd (true≢false h)
-gt_is Greater h = refl
+pub greater_of_compare : (o : Ordering) → true ≡ is_gt o → o ≡ Greater
+greater_of_compare Less h = absurd (true≢false h)
+greater_of_compare Equal h = absurd (true≢false h)
+greater_of_compare Greater h = refl
 
 -- elements whose keys ascend
 module _ {X : Type 0} (key : X → List ℕ) where
@@ -107,7 +107,7 @@ module _ {X : Type 0} (key : X → List ℕ) where
 
   pub halved_key : (xs : List X) (searched : List ℕ) (i : ℕ) (d : X) → HoldsAt (λ x. compared searched x ≡ Equal) xs i
       → key (get_or xs i d) ≡ searched
-  halved_key xs searched i d held = same_key (key (get_or xs i d)) searched (held d)
+  halved_key xs searched i d held = eq_of_slice_cmp_equal (key (get_or xs i d)) searched (held d)
 
   -- each element before one that is less than the searched key is less too; each element after a greater one is greater
   -- too
@@ -162,7 +162,7 @@ module _ {X : Type 0} (key : X → List ℕ) where
       → k < length xs → key (get_or xs k d) ≢ searched
   halved_none xs up searched i is k d low same =
       let split = is (searchable_from_sorted nat_list_cmp_total key xs searched (sorted xs up)) in
-      let tie : slice_cmp nat_cmp (key (get_or xs k d)) searched ≡ Equal = tied (key (get_or xs k d)) searched same in
+      let tie : slice_cmp nat_cmp (key (get_or xs k d)) searched ≡ Equal = slice_cmp_equal_of_eq (key (get_or xs k d)) searched same in
       elim (leb_tells i k) [
         | inl after ↦ greater_only _ (split.1 k d after.1 low) tie
         | inr ahead ↦ less_only _ (split.0 k d (omega arith) ahead.1) tie

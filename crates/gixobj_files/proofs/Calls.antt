@@ -11,15 +11,15 @@ use Rattle.gixobj_files.specs.Files.{Has, Path, Table, Trees, is_null}
 use Rattle.gixobj_files.specs.Opening.{Dirs, IsOpened}
 use Rattle.gixobj_files.specs.State.{root_alone}
 use Rattle.gixobj_files.specs.Tables.{AgreesWithStore}
-use Rattle.gixobj_files.proofs.Based.{Based, NullBased, are_null_based, based_lasts, based_of, has_bases, null_based_lasts, null_based_of}
-use Rattle.gixobj_files.proofs.EditedFiles.{root_unopened}
+use Rattle.gixobj_files.proofs.Based.{Based, NullBased, are_null_based_of_everywhere, based_is_lasting, everywhere_based, has_bases_of_everywhere, null_based_is_lasting, everywhere_null_based}
+use Rattle.gixobj_files.proofs.EditedFiles.{root_alone_below_root}
 use Rattle.gixobj_files.proofs.Everywhere.{Everywhere, Lasts, OfEntry, everywhere_opened}
 use Rattle.gixobj_files.proofs.Lasting.{lasts_ensured, lasts_removed, lasts_upserted, lasts_written}
 use Rattle.gixobj_files.specs.Bases.{AreNullBased, AreOpenedOn, HasBases, edited_bases, opened_bases}
 
-pub null_means_nothing : (kind : Kind) → is_null (null_id kind) ≡ true
-null_means_nothing hash.Sha1 = refl
-null_means_nothing hash.Sha256 = refl
+pub null_id_is_null : (kind : Kind) → is_null (null_id kind) ≡ true
+null_id_is_null hash.Sha1 = refl
+null_id_is_null hash.Sha256 = refl
 
 -- a property of all entries depends on the directories and bases at each path alone
 carried : (P : OfEntry) (dirs bases new remaining : Dirs) → ((at : Path) → new at ≡ dirs at) → ((at : Path) → remaining at ≡ bases at) → Everywhere P dirs bases
@@ -33,14 +33,14 @@ no_base_below : (bases : Dirs) → ((name : List ℕ) (path : Path) → bases (n
 no_base_below bases none base [] name is = let bad : None ≡ Some base = sym (none name []) ∙ is in cc bad
 no_base_below bases none base (first ∷ path) name is = let bad : None ≡ Some base = sym (none first (path ++ name ∷ [])) ∙ is in cc bad
 
-pub none_based : (T : Table) (dirs bases : Dirs) → ((name : List ℕ) (path : Path) → bases (name ∷ path) ≡ None) → HasBases T dirs bases
-none_based T dirs bases none path e base has is filled = absurd (no_base_below bases none base path e.name is)
+pub has_bases_of_none : (T : Table) (dirs bases : Dirs) → ((name : List ℕ) (path : Path) → bases (name ∷ path) ≡ None) → HasBases T dirs bases
+has_bases_of_none T dirs bases none path e base has is filled = absurd (no_base_below bases none base path e.name is)
 
-pub none_null_based : (dirs bases : Dirs) → ((name : List ℕ) (path : Path) → bases (name ∷ path) ≡ None) → AreNullBased dirs bases
-none_null_based dirs bases none path e base has is null = absurd (no_base_below bases none base path e.name is)
+pub are_null_based_of_none : (dirs bases : Dirs) → ((name : List ℕ) (path : Path) → bases (name ∷ path) ≡ None) → AreNullBased dirs bases
+are_null_based_of_none dirs bases none path e base has is null = absurd (no_base_below bases none base path e.name is)
 
-pub root_based : (T : Table) (dirs : Dirs) → HasBases T dirs (λ path. map.get (root_alone []) path)
-root_based T dirs = none_based T dirs (λ path. map.get (root_alone []) path) (λ name path. root_unopened [] name path)
+pub root_alone_has_bases : (T : Table) (dirs : Dirs) → HasBases T dirs (λ path. map.get (root_alone []) path)
+root_alone_has_bases T dirs = has_bases_of_none T dirs (λ path. map.get (root_alone []) path) (λ name path. root_alone_below_root [] name path)
 
 -- a property that lasts holds after each call
 module _ (P : OfEntry) (trees : Trees) (kind : Kind) (lasts : Lasts P trees (null_id kind)) (old bases new remaining : Dirs) (is_opened : IsOpened old)
@@ -95,58 +95,60 @@ module _ (P : OfEntry) (trees : Trees) (kind : Kind) (lasts : Lasts P trees (nul
 module _ (T : Table) (trees : Trees) (kind : Kind) (old bases new remaining : Dirs) (was : AreOpenedOn old bases) (agrees : AgreesWithStore T trees)
     (has : HasBases T old bases) where
   all : Everywhere (Based T) old bases
-  all = based_of T old bases was.null_based has
+  all = everywhere_based T old bases was.null_based has
 
   lasting : Lasts (Based T) trees (null_id kind)
-  lasting = based_lasts T trees (null_id kind) agrees (null_means_nothing kind)
+  lasting = based_is_lasting T trees (null_id kind) agrees (null_id_is_null kind)
 
   pub upserted_based : (head : Path) (last : List ℕ) (mode : ℕ) (id : ObjectId) (opened : Dirs) (requested : List ObjectId)
       → Opens IsNoTree trees head old opened requested
       → ((at : Path) → new at ≡ upserted_dirs (head ++ last ∷ []) mode id (null_id kind) opened at)
       → ((at : Path) → remaining at ≡ edited_bases opened new (opened_bases old opened bases) at) → HasBases T new remaining
   upserted_based head last mode id opened requested opens dirs_are bases_are =
-      has_bases T new remaining (after_upsert (Based T) trees kind lasting old bases new remaining was.opened all head last mode id opened requested opens
+      has_bases_of_everywhere T new remaining (after_upsert (Based T) trees kind lasting old bases new remaining was.opened all head last mode id opened
+          requested opens
       (λ name list is. absurd (cc is)) dirs_are bases_are)
 
   pub ensured_based : (path : Path) (opened : Dirs) (requested : List ObjectId) → Opens IsNoTree trees path old opened requested
       → ((at : Path) → new at ≡ ensured_dirs path (null_id kind) opened at)
       → ((at : Path) → remaining at ≡ edited_bases opened new (opened_bases old opened bases) at) → HasBases T new remaining
   ensured_based path opened requested opens dirs_are bases_are =
-      has_bases T new remaining
+      has_bases_of_everywhere T new remaining
       (after_assuring (Based T) trees kind lasting old bases new remaining was.opened all path opened requested opens dirs_are bases_are)
 
   pub removed_based : {Ends : EntryView → Type 0} (head path : Path) (opened : Dirs) (requested : List ObjectId) → Opens Ends trees head old opened requested
       → ((at : Path) → new at ≡ removed_dirs path opened at)
       → ((at : Path) → remaining at ≡ edited_bases opened new (opened_bases old opened bases) at) → HasBases T new remaining
   removed_based head path opened requested opens dirs_are bases_are =
-      has_bases T new remaining
+      has_bases_of_everywhere T new remaining
       (after_removal (Based T) trees kind lasting old bases new remaining was.opened all head path opened requested opens dirs_are bases_are)
 
   pub opened_based : {Ends : EntryView → Type 0} (path : Path) (requested : List ObjectId) → Opens Ends trees path old new requested
       → ((at : Path) → remaining at ≡ opened_bases old new bases at) → HasBases T new remaining
   opened_based path requested opens bases_are =
-      has_bases T new remaining (after_opening (Based T) trees kind lasting old bases new remaining was.opened all path requested opens bases_are)
+      has_bases_of_everywhere T new remaining (after_opening (Based T) trees kind lasting old bases new remaining was.opened all path requested opens bases_are)
 
 -- a null id has an empty base after each call, without a table
 module _ (trees : Trees) (kind : Kind) (old bases new remaining : Dirs) (was : AreOpenedOn old bases) where
   nulls : Everywhere NullBased old bases
-  nulls = null_based_of old bases was.null_based
+  nulls = everywhere_null_based old bases was.null_based
 
   pub upserted_null_based : (head : Path) (last : List ℕ) (mode : ℕ) (id : ObjectId) (opened : Dirs) (requested : List ObjectId)
       → Opens IsNoTree trees head old opened requested
       → ((at : Path) → new at ≡ upserted_dirs (head ++ last ∷ []) mode id (null_id kind) opened at)
       → ((at : Path) → remaining at ≡ edited_bases opened new (opened_bases old opened bases) at) → AreNullBased new remaining
   upserted_null_based head last mode id opened requested opens dirs_are bases_are =
-      are_null_based new remaining
-      (after_upsert NullBased trees kind (null_based_lasts trees (null_id kind)) old bases new remaining was.opened nulls head last mode id opened requested
+      are_null_based_of_everywhere new remaining
+      (after_upsert NullBased trees kind (null_based_is_lasting trees (null_id kind)) old bases new remaining was.opened nulls head last mode id opened
+          requested
       opens (λ name list is. absurd (cc is)) dirs_are bases_are)
 
   pub ensured_null_based : (path : Path) (opened : Dirs) (requested : List ObjectId) → Opens IsNoTree trees path old opened requested
       → ((at : Path) → new at ≡ ensured_dirs path (null_id kind) opened at)
       → ((at : Path) → remaining at ≡ edited_bases opened new (opened_bases old opened bases) at) → AreNullBased new remaining
   ensured_null_based path opened requested opens dirs_are bases_are =
-      are_null_based new remaining
-      (after_assuring NullBased trees kind (null_based_lasts trees (null_id kind)) old bases new remaining was.opened nulls path opened requested opens
+      are_null_based_of_everywhere new remaining
+      (after_assuring NullBased trees kind (null_based_is_lasting trees (null_id kind)) old bases new remaining was.opened nulls path opened requested opens
       dirs_are bases_are)
 
   pub removed_null_based : {Ends : EntryView → Type 0} (head path : Path) (opened : Dirs) (requested : List ObjectId)
@@ -154,15 +156,15 @@ module _ (trees : Trees) (kind : Kind) (old bases new remaining : Dirs) (was : A
       → ((at : Path) → new at ≡ removed_dirs path opened at)
       → ((at : Path) → remaining at ≡ edited_bases opened new (opened_bases old opened bases) at) → AreNullBased new remaining
   removed_null_based head path opened requested opens dirs_are bases_are =
-      are_null_based new remaining
-      (after_removal NullBased trees kind (null_based_lasts trees (null_id kind)) old bases new remaining was.opened nulls head path opened requested opens
+      are_null_based_of_everywhere new remaining
+      (after_removal NullBased trees kind (null_based_is_lasting trees (null_id kind)) old bases new remaining was.opened nulls head path opened requested opens
       dirs_are bases_are)
 
   pub opened_null_based : {Ends : EntryView → Type 0} (path : Path) (requested : List ObjectId) → Opens Ends trees path old new requested
       → ((at : Path) → remaining at ≡ opened_bases old new bases at) → AreNullBased new remaining
   opened_null_based path requested opens bases_are =
-      are_null_based new remaining
-      (after_opening NullBased trees kind (null_based_lasts trees (null_id kind)) old bases new remaining was.opened nulls path requested opens bases_are)
+      are_null_based_of_everywhere new remaining
+      (after_opening NullBased trees kind (null_based_is_lasting trees (null_id kind)) old bases new remaining was.opened nulls path requested opens bases_are)
 
 -- a write at a prefix needs no store
 abbrev no_trees : Trees
@@ -172,12 +174,14 @@ module _ (old bases new remaining : Dirs) (was : AreOpenedOn old bases) (prefix 
     (dirs_are : (at : Path) → new at ≡ with_path prefix (only own) old at) (bases_are : (at : Path) → remaining at ≡ edited_bases old new bases at) where
   pub written_based : (T : Table) → HasBases T old bases → HasBases T new remaining
   written_based T has =
-      let lasting : Lasts (Based T) no_trees (null_id hash.Sha1) = based_lasts T no_trees (null_id hash.Sha1) (λ id entries searched is. absurd (cc is)) refl in
-      has_bases T new remaining
-      (after_write (Based T) no_trees hash.Sha1 lasting old bases new remaining was.opened (based_of T old bases was.null_based has) prefix own there
+      let lasting : Lasts (Based T) no_trees (null_id hash.Sha1) = based_is_lasting T no_trees (null_id hash.Sha1)
+          (λ id entries searched is. absurd (cc is)) refl in
+      has_bases_of_everywhere T new remaining
+      (after_write (Based T) no_trees hash.Sha1 lasting old bases new remaining was.opened (everywhere_based T old bases was.null_based has) prefix own there
       (λ e h list is. absurd (cc is)) dirs_are bases_are)
 
   pub written_null_based : AreNullBased new remaining
   written_null_based =
-      are_null_based new remaining (after_write NullBased no_trees hash.Sha1 (null_based_lasts no_trees (null_id hash.Sha1)) old bases new remaining was.opened
-      (null_based_of old bases was.null_based) prefix own there (λ e h list is. absurd (cc is)) dirs_are bases_are)
+      are_null_based_of_everywhere new remaining (after_write NullBased no_trees hash.Sha1
+          (null_based_is_lasting no_trees (null_id hash.Sha1)) old bases new remaining was.opened
+      (everywhere_null_based old bases was.null_based) prefix own there (λ e h list is. absurd (cc is)) dirs_are bases_are)

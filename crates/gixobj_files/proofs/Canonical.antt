@@ -10,8 +10,8 @@ use Rattle.gixobj_mode.specs.Mode.{is_tree_mode, tree_type}
 use Rattle.gixobj_hash.specs.declared.hash.object_id.ObjectId.{ObjectId}
 use Rattle.gixobj_files.specs.Files.{Below, Files, Has, Path, SameFiles, Table, is_null}
 use Rattle.gixobj_files.specs.Tables.{AgreesWithPairs, HasOneId}
-use Rattle.gixobj_files.proofs.OpenedFiles.{below_is_at}
-use Rattle.gixobj_tree.proofs.WellFormed.{comes_trans}
+use Rattle.gixobj_files.proofs.OpenedFiles.{files_below_of_table}
+use Rattle.gixobj_tree.proofs.WellFormed.{comes_before_trans}
 
 -- an entry comes before those after it, and never before itself
 later_has : (x : EntryView) (ys : List EntryView) (y : EntryView) → AllByRecursion (ComesBefore x) ys → Has ys y → ComesBefore x y
@@ -30,7 +30,7 @@ same_lists [] (y ∷ ys) a b f g = absurd (g y (inl refl))
 same_lists (x ∷ xs) [] a b f g = absurd (f x (inl refl))
 same_lists (x ∷ xs) (y ∷ ys) a b f g =
     let head : x ≡ y = ⊎_elim (λ s. sym s)
-    (λ k. ⊎_elim (λ s. s) (λ l. absurd (never_before_itself x (comes_trans x y x (later_has x xs y a.0 l) (later_has y ys x b.0 k)))) (g y (inl refl)))
+    (λ k. ⊎_elim (λ s. s) (λ l. absurd (never_before_itself x (comes_before_trans x y x (later_has x xs y a.0 l) (later_has y ys x b.0 k)))) (g y (inl refl)))
     (f x (inl refl)) in
     let rest : xs ≡ ys = same_lists xs ys a.1 b.1
     (λ e h. ⊎_elim (λ s. absurd (never_before_itself x (subst (ComesBefore x) (sym s ∙ sym head) (later_has x xs e a.0 h)))) (λ k. k) (f e (inr h)))
@@ -43,20 +43,20 @@ differs x [] y h k = absurd k
 differs x (z ∷ ys) y h (inl same) = λ q. h.0 (q ∙ ap (λ (w : EntryView). w.name) (sym same))
 differs x (z ∷ ys) y h (inr k) = differs x ys y h.1 k
 
-pub one_entry : (es : List EntryView) → EachLater (λ x y. x.name ≢ y.name) es → (x y : EntryView) → Has es x → Has es y → x.name ≡ y.name → x ≡ y
-one_entry [] apart x y h k q = absurd h
-one_entry (e ∷ es) apart x y (inl s) (inl t) q = sym s ∙ t
-one_entry (e ∷ es) apart x y (inl s) (inr k) q = absurd (differs e es y apart.0 k (ap (λ (w : EntryView). w.name) s ∙ q))
-one_entry (e ∷ es) apart x y (inr h) (inl t) q = absurd (differs e es x apart.0 h (ap (λ (w : EntryView). w.name) t ∙ sym q))
-one_entry (e ∷ es) apart x y (inr h) (inr k) q = one_entry es apart.1 x y h k q
+pub entry_of_name_unique : (es : List EntryView) → EachLater (λ x y. x.name ≢ y.name) es → (x y : EntryView) → Has es x → Has es y → x.name ≡ y.name → x ≡ y
+entry_of_name_unique [] apart x y h k q = absurd h
+entry_of_name_unique (e ∷ es) apart x y (inl s) (inl t) q = sym s ∙ t
+entry_of_name_unique (e ∷ es) apart x y (inl s) (inr k) q = absurd (differs e es y apart.0 k (ap (λ (w : EntryView). w.name) s ∙ q))
+entry_of_name_unique (e ∷ es) apart x y (inr h) (inl t) q = absurd (differs e es x apart.0 h (ap (λ (w : EntryView). w.name) t ∙ sym q))
+entry_of_name_unique (e ∷ es) apart x y (inr h) (inr k) q = entry_of_name_unique es apart.1 x y h k q
 
 -- entries with the same mode, name and id are equal
 same_entry : (mode other : ℕ) (name its_name : List ℕ) (id its_id : ObjectId) → mode ≡ other → name ≡ its_name → id ≡ its_id
     → entry_of mode name id ≡ entry_of other its_name its_id
 same_entry mode other name its_name id its_id m n i = cc (m, n, i)
 
-pub named_alike : (x y : EntryView) → x.mode ≡ y.mode → x.name ≡ y.name → x.id ≡ y.id → x ≡ y
-named_alike x y m n i = same_entry x.mode y.mode x.name y.name x.id y.id m n i
+pub entries_named_alike_eq : (x y : EntryView) → x.mode ≡ y.mode → x.name ≡ y.name → x.id ≡ y.id → x ≡ y
+entries_named_alike_eq x y m n i = same_entry x.mode y.mode x.name y.name x.id y.id m n i
 
 -- a well-formed list without null ids
 pub record IsClean (entries : List EntryView) : Type 0 where
@@ -92,7 +92,7 @@ module _ (T : Table) where
   at_entry : (xs : List EntryView) → IsClean xs → (e : EntryView) → Has xs e → (k : ℕ) (path : Path) (mode : ℕ) (id : ObjectId)
       → Files T (suc k) xs (e.name ∷ path) mode id → Below T (Files T k) e.mode e.id path mode id
   at_entry xs clean e h k path mode id f =
-      subst (λ (x : EntryView). Below T (Files T k) x.mode x.id path mode id) (one_entry xs clean.formed.apart f.0 e f.1 h f.2) f.3
+      subst (λ (x : EntryView). Below T (Files T k) x.mode x.id path mode id) (entry_of_name_unique xs clean.formed.apart f.0 e f.1 h f.2) f.3
 
 module _ (T : Table) (pairs : List Pair) (known : AgreesWithPairs T pairs) where
   its_tree : (id : ObjectId) (tree : List EntryView) → Contains pairs (id, tree) → T.tree_at id ≡ Some tree
@@ -102,12 +102,12 @@ module _ (T : Table) (pairs : List Pair) (known : AgreesWithPairs T pairs) where
   into_tree : (xs : List EntryView) → IsClean xs → (e : EntryView) → Has xs e → is_tree_mode e.mode ≡ true → (tree : List EntryView)
       → Contains pairs (e.id, tree)
       → (k : ℕ) (path : Path) (mode : ℕ) (id : ObjectId) → Files T (suc k) xs (e.name ∷ path) mode id → Files T k tree path mode id
-  into_tree xs clean e h t tree has k path mode id f = (below_is_at T k e.mode e.id tree t (inr (its_tree e.id tree has)) path mode id).0
+  into_tree xs clean e h t tree has k path mode id f = (files_below_of_table T k e.mode e.id tree t (inr (its_tree e.id tree has)) path mode id).0
       (at_entry T xs clean e h k path mode id f)
 
   of_tree : (xs : List EntryView) (e : EntryView) → Has xs e → is_tree_mode e.mode ≡ true → (tree : List EntryView) → Contains pairs (e.id, tree)
       → (k : ℕ) (path : Path) (mode : ℕ) (id : ObjectId) → Files T k tree path mode id → Files T (suc k) xs (e.name ∷ path) mode id
-  of_tree xs e h t tree has k path mode id f = (e, h, refl, (below_is_at T k e.mode e.id tree t (inr (its_tree e.id tree has)) path mode id).1 f)
+  of_tree xs e h t tree has k path mode id f = (e, h, refl, (files_below_of_table T k e.mode e.id tree t (inr (its_tree e.id tree has)) path mode id).1 f)
 
   -- each entry of a built tree has a file at or below it
   abbrev HasFile : List EntryView → Type 0
@@ -157,7 +157,7 @@ module _ (T : Table) (pairs : List Pair) (known : AgreesWithPairs T pairs) where
                     (subst (λ n. Files T (suc k) xs (n ∷ path) mode id) (sym called)
                     ((same (suc k) (y.name ∷ path) mode id).1 (of_tree ys y hy u (yt u) (ny u) k path mode id f))),
               )) in
-              named_alike x y (mx t ∙ sym (my u)) called (one (xt t) x.id y.id (nx t) (subst (λ l. Contains pairs (y.id, l)) (sym trees) (ny u)))
+              entries_named_alike_eq x y (mx t ∙ sym (my u)) called (one (xt t) x.id y.id (nx t) (subst (λ l. Contains pairs (y.id, l)) (sym trees) (ny u)))
           | false ↦ λ u. absurd (into_tree xs cx x hx t (xt t) (nx t) zero [] y.mode y.id
               (subst (λ n. Files T (suc zero) xs (n ∷ []) y.mode y.id) (sym called)
               ((same (suc zero) (y.name ∷ []) y.mode y.id).1 (y, hy, refl, own_file T zero y u (cy.filled y hy)))))
@@ -167,7 +167,8 @@ module _ (T : Table) (pairs : List Pair) (known : AgreesWithPairs T pairs) where
             ((same (suc zero) (x.name ∷ []) x.mode x.id).0 (x, hx, refl, own_file T zero x t (cx.filled x hx))) in
             elim (is_tree_mode y.mode) as (λ b. is_tree_mode y.mode ≡ b → x ≡ y) [
               | true ↦ λ u. absurd (into_tree ys cy y hy u (yt u) (ny u) zero [] x.mode x.id there)
-              | false ↦ λ u. let is = of_file T zero y u x.mode x.id (at_entry T ys cy y hy zero [] x.mode x.id there) in named_alike x y is.0 called is.1
+              | false ↦ λ u. let is = of_file T zero y u x.mode x.id (at_entry T ys cy y hy zero [] x.mode x.id there) in
+                  entries_named_alike_eq x y is.0 called is.1
             ] refl
       ] refl
 

@@ -9,9 +9,9 @@ use Rattle.gixobj_files.specs.OpeningStops.{ReachesDirectory}
 use Rattle.gixobj_files.specs.Opening.{Dirs, HasAt, in_dir}
 use Rattle.gixobj_files.specs.Tables.{IsNeverLookedUp}
 use Rattle.gixobj_files.specs.Unopened.{looked_up_entry}
-use Rattle.gixobj_files.proofs.OpeningFiles.{inside_is, opens_root}
+use Rattle.gixobj_files.proofs.OpeningFiles.{with_dir_in_dir, opens_keeps_root}
 use Rattle.gixobj_files.proofs.RemovedFiles.{IsBare, IsReached}
-use Rattle.gixobj_files.proofs.UnopenedCounts.{IsIdle, entry_has, found_below, the_entry, known_nowhere, known_open}
+use Rattle.gixobj_files.proofs.UnopenedCounts.{IsIdle, has_at_of_entry_at, found_below, first_entry_of_has_at, known_nowhere, known_open}
 
 -- if no directory is open there is no entry
 entry_nowhere : (path : Path) (dirs : Dirs) → ((at : Path) → dirs at ≡ None) → entry_at path dirs ≡ None
@@ -25,10 +25,11 @@ entry_below : (name : List ℕ) (rest : Path) (last : List ℕ) (following : Pat
 entry_below name [] last following dirs none = entry_nowhere (last ∷ following) (in_dir name dirs) none
 entry_below name (next ∷ rest) last following dirs none = entry_nowhere (next ∷ (rest ++ last ∷ following)) (in_dir name dirs) none
 
-pub entry_inside : (name : List ℕ) (rest : Path) (last : List ℕ) (following : Path) (dirs : Dirs) → entry_at (name ∷ (rest ++ last ∷ following)) dirs ≡ entry_at
+pub entry_at_in_dir : (name : List ℕ) (rest : Path) (last : List ℕ) (following : Path) (dirs : Dirs)
+    → entry_at (name ∷ (rest ++ last ∷ following)) dirs ≡ entry_at
     (rest ++ last ∷ following) (in_dir name dirs)
-entry_inside name [] last following dirs = refl
-entry_inside name (next ∷ rest) last following dirs = refl
+entry_at_in_dir name [] last following dirs = refl
+entry_at_in_dir name (next ∷ rest) last following dirs = refl
 
 -- a path has a name after each of its directories
 a_name : (rest : Path) (last : List ℕ) (following : Path) → (next : List ℕ) × (more : Path) × (rest ++ last ∷ following ≡ next ∷ more)
@@ -47,13 +48,13 @@ module _ {Ends : EntryView → Type 0} (idle : IsIdle Ends) (trees : Trees) wher
       (known_nowhere trees name remaining.0 remaining.1 d (λ e h n. idle e (other e h n)) none))
   known_after path last dirs new requested (down name rest d inner e entries more has named is opens) =
       let remaining = a_name rest last [] in
-      entry_inside name rest last [] (with_dir name inner d) ∙ ap (entry_at (rest ++ last ∷ [])) (inside_is name inner d) ∙ known_after rest last
+      entry_at_in_dir name rest last [] (with_dir name inner d) ∙ ap (entry_at (rest ++ last ∷ [])) (with_dir_in_dir name inner d) ∙ known_after rest last
       (in_dir name d) inner more opens
       ∙ subst (λ q. looked_up_entry trees q (in_dir name d) ≡ looked_up_entry trees (name ∷ q) d) (sym remaining.2)
       (sym (known_open trees name remaining.0 remaining.1 d entries is))
   known_after path last dirs new requested (found name rest d inner e entries first more entry tree free none finds opens) =
       let remaining = a_name rest last [] in
-      entry_inside name rest last [] (with_dir name inner d) ∙ ap (entry_at (rest ++ last ∷ [])) (inside_is name inner d) ∙ known_after rest last
+      entry_at_in_dir name rest last [] (with_dir name inner d) ∙ ap (entry_at (rest ++ last ∷ [])) (with_dir_in_dir name inner d) ∙ known_after rest last
       (only entries) inner more opens
       ∙ subst (λ q. looked_up_entry trees q (only entries) ≡ looked_up_entry trees (name ∷ q) d) (sym remaining.2)
       (sym (found_below trees name remaining.0 remaining.1 d e entries first entry tree (none []) finds))
@@ -69,26 +70,26 @@ module _ {Ends : EntryView → Type 0} (idle : IsIdle Ends) (trees : Trees) wher
   comes_open path dirs new requested (stops name rest d other none) root (inr (inl (entries, is))) =
       absurd (let bad : None ≡ Some entries = sym (none rest) ∙ is in cc bad)
   comes_open path dirs new requested (stops name [] d other none) root (inr (inr (e, seen, tree, free, known))) = let has =
-      entry_has name (d []) e seen in absurd (free (other e has.0 has.1))
+      has_at_of_entry_at name (d []) e seen in absurd (free (other e has.0 has.1))
   comes_open path dirs new requested (stops name (next ∷ rest) d other none) root (inr (inr (e, seen, tree, free, known))) =
       absurd (known_some _ _ e seen refl (known_nowhere trees name next rest d (λ x h n. idle x (other x h n)) none))
   comes_open path dirs new requested (down name [] d inner e entries more has named is opens) root comes =
-      λ unopened. let bad : Some entries ≡ None = sym is ∙ sym (opens_root trees [] (in_dir name d) inner more opens)
-      ∙ sym (ap (λ (x : Dirs). x []) (inside_is name inner d)) ∙ unopened in cc bad
+      λ unopened. let bad : Some entries ≡ None = sym is ∙ sym (opens_keeps_root trees [] (in_dir name d) inner more opens)
+      ∙ sym (ap (λ (x : Dirs). x []) (with_dir_in_dir name inner d)) ∙ unopened in cc bad
   comes_open path dirs new requested (down name (next ∷ rest) d inner e entries more has named is opens) root comes =
       λ unopened. comes_open (next ∷ rest) (in_dir name d) inner more opens (λ no_root. let bad : Some entries ≡ None = sym is ∙ no_root in cc bad)
-      (inside comes) (sym (ap (λ (x : Dirs). x (next ∷ rest)) (inside_is name inner d)) ∙ unopened)
+      (inside comes) (sym (ap (λ (x : Dirs). x (next ∷ rest)) (with_dir_in_dir name inner d)) ∙ unopened)
     where
       inside : ReachesDirectory Ends trees d (name ∷ next ∷ rest) → ReachesDirectory Ends trees (in_dir name d) (next ∷ rest)
       inside (inl empty) = absurd (cc empty)
       inside (inr (inl there)) = inr (inl there)
       inside (inr (inr (x, seen, tree, free, known))) = inr (inr (x, sym (known_open trees name next rest d entries is) ∙ seen, tree, free, known))
   comes_open path dirs new requested (found name [] d inner e entries first more entry tree free none finds opens) root comes =
-      λ unopened. let bad : Some entries ≡ None = sym (opens_root trees [] (only entries) inner more opens)
-      ∙ sym (ap (λ (x : Dirs). x []) (inside_is name inner d)) ∙ unopened in cc bad
+      λ unopened. let bad : Some entries ≡ None = sym (opens_keeps_root trees [] (only entries) inner more opens)
+      ∙ sym (ap (λ (x : Dirs). x []) (with_dir_in_dir name inner d)) ∙ unopened in cc bad
   comes_open path dirs new requested (found name (next ∷ rest) d inner e entries first more entry tree free none finds opens) root comes =
       λ unopened. comes_open (next ∷ rest) (only entries) inner more opens (λ no_root. let bad : Some entries ≡ None = no_root in cc bad) (inside comes)
-      (sym (ap (λ (x : Dirs). x (next ∷ rest)) (inside_is name inner d)) ∙ unopened)
+      (sym (ap (λ (x : Dirs). x (next ∷ rest)) (with_dir_in_dir name inner d)) ∙ unopened)
     where
       inside : ReachesDirectory Ends trees d (name ∷ next ∷ rest) → ReachesDirectory Ends trees (only entries) (next ∷ rest)
       inside (inl empty) = absurd (cc empty)
@@ -108,16 +109,16 @@ module _ {Ends : EntryView → Type 0} (idle : IsIdle Ends) (trees : Trees) wher
   open_comes path dirs new requested (stops name rest d other none) es is_open = absurd (let bad : None ≡ Some es = sym (none rest) ∙ is_open in cc bad)
   open_comes path dirs new requested (down name [] d inner e entries more has named is opens) es is_open = inr (inl (entries, is))
   open_comes path dirs new requested (down name (next ∷ rest) d inner e entries more has named is opens) es is_open =
-      outside (open_comes (next ∷ rest) (in_dir name d) inner more opens es (sym (ap (λ (x : Dirs). x (next ∷ rest)) (inside_is name inner d)) ∙ is_open))
+      outside (open_comes (next ∷ rest) (in_dir name d) inner more opens es (sym (ap (λ (x : Dirs). x (next ∷ rest)) (with_dir_in_dir name inner d)) ∙ is_open))
     where
       outside : ReachesDirectory Ends trees (in_dir name d) (next ∷ rest) → ReachesDirectory Ends trees d (name ∷ next ∷ rest)
       outside (inl empty) = absurd (cc empty)
       outside (inr (inl there)) = inr (inl there)
       outside (inr (inr (x, seen, tree, free, known))) = inr (inr (x, known_open trees name next rest d entries is ∙ seen, tree, free, known))
   open_comes path dirs new requested (found name [] d inner e entries first more entry tree free none finds opens) es is_open =
-      inr (inr (e, the_entry name (d []) e entry, tree, free, finds_known e.id entries first finds))
+      inr (inr (e, first_entry_of_has_at name (d []) e entry, tree, free, finds_known e.id entries first finds))
   open_comes path dirs new requested (found name (next ∷ rest) d inner e entries first more entry tree free none finds opens) es is_open =
-      outside (open_comes (next ∷ rest) (only entries) inner more opens es (sym (ap (λ (x : Dirs). x (next ∷ rest)) (inside_is name inner d)) ∙ is_open))
+      outside (open_comes (next ∷ rest) (only entries) inner more opens es (sym (ap (λ (x : Dirs). x (next ∷ rest)) (with_dir_in_dir name inner d)) ∙ is_open))
     where
       outside : ReachesDirectory Ends trees (only entries) (next ∷ rest) → ReachesDirectory Ends trees d (name ∷ next ∷ rest)
       outside (inl empty) = absurd (cc empty)
@@ -147,26 +148,26 @@ module _ {Ends : EntryView → Type 0} (idle : IsIdle Ends) (trees : Trees) wher
   opens_reached T path last dirs new requested (stops name rest d other none) =
       reached_nowhere T name (rest ++ last ∷ []) d ((λ e h n. bare T e (idle e (other e h n))), none)
   opens_reached T path last dirs new requested (down name rest d inner e entries more has named is opens) =
-      let inside = inside_is name inner d in
+      let inside = with_dir_in_dir name inner d in
       reached_down T name (rest ++ last ∷ []) (with_dir name inner d)
-      (entries, ap (λ (x : Dirs). x []) inside ∙ opens_root trees rest (in_dir name d) inner more opens ∙ is)
+      (entries, ap (λ (x : Dirs). x []) inside ∙ opens_keeps_root trees rest (in_dir name d) inner more opens ∙ is)
       (subst (IsReached T (rest ++ last ∷ [])) (sym inside) (opens_reached T rest last (in_dir name d) inner more opens))
   opens_reached T path last dirs new requested (found name rest d inner e entries first more entry tree free none finds opens) =
-      let inside = inside_is name inner d in
+      let inside = with_dir_in_dir name inner d in
       reached_down T name (rest ++ last ∷ []) (with_dir name inner d)
-      (entries, ap (λ (x : Dirs). x []) inside ∙ opens_root trees rest (only entries) inner more opens)
+      (entries, ap (λ (x : Dirs). x []) inside ∙ opens_keeps_root trees rest (only entries) inner more opens)
       (subst (IsReached T (rest ++ last ∷ [])) (sym inside) (opens_reached T rest last (only entries) inner more opens))
 
 -- an opening that ended above the directory of the path opens no more on a longer path
-pub opens_longer : {Ends : EntryView → Type 0} (trees : Trees) (path more : Path) (dirs new : Dirs) (requested : List ObjectId)
+pub opens_of_longer_path : {Ends : EntryView → Type 0} (trees : Trees) (path more : Path) (dirs new : Dirs) (requested : List ObjectId)
     → Opens Ends trees path dirs new requested → dirs [] ≢ None → new path ≡ None → Opens Ends trees (path ++ more) dirs new requested
-opens_longer trees path more dirs new requested (arrived d) root ended = absurd (root ended)
-opens_longer trees path more dirs new requested (stops name rest d other none) root ended = stops name (rest ++ more) d other none
-opens_longer trees path more dirs new requested (down name rest d inner e entries requests has named is opens) root ended =
+opens_of_longer_path trees path more dirs new requested (arrived d) root ended = absurd (root ended)
+opens_of_longer_path trees path more dirs new requested (stops name rest d other none) root ended = stops name (rest ++ more) d other none
+opens_of_longer_path trees path more dirs new requested (down name rest d inner e entries requests has named is opens) root ended =
     down name (rest ++ more) d inner e entries requests has named is
-    (opens_longer trees rest more (in_dir name d) inner requests opens (λ none. let bad : Some entries ≡ None = sym is ∙ none in cc bad)
-    (sym (ap (λ (x : Dirs). x rest) (inside_is name inner d)) ∙ ended))
-opens_longer trees path more dirs new requested (found name rest d inner e entries first requests entry tree free none finds opens) root ended =
+    (opens_of_longer_path trees rest more (in_dir name d) inner requests opens (λ none. let bad : Some entries ≡ None = sym is ∙ none in cc bad)
+    (sym (ap (λ (x : Dirs). x rest) (with_dir_in_dir name inner d)) ∙ ended))
+opens_of_longer_path trees path more dirs new requested (found name rest d inner e entries first requests entry tree free none finds opens) root ended =
     found name (rest ++ more) d inner e entries first requests entry tree free none finds
-    (opens_longer trees rest more (only entries) inner requests opens (λ nothing. let bad : Some entries ≡ None = nothing in cc bad)
-    (sym (ap (λ (x : Dirs). x rest) (inside_is name inner d)) ∙ ended))
+    (opens_of_longer_path trees rest more (only entries) inner requests opens (λ nothing. let bad : Some entries ≡ None = nothing in cc bad)
+    (sym (ap (λ (x : Dirs). x rest) (with_dir_in_dir name inner d)) ∙ ended))

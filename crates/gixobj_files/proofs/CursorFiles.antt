@@ -9,24 +9,24 @@ use Rattle.gixobj_files.specs.Files.{Ensured, Files, NamedFiles, Path, SameFiles
 use Rattle.gixobj_files.specs.Emission.{EmitsBelow}
 use Rattle.gixobj_files.specs.Opening.{Dirs, IsOpened, OpenFiles, in_path}
 use Rattle.gixobj_files.specs.Tables.{AgreesWithPairs, AgreesWithStore}
-use Rattle.gixobj_files.proofs.EnsuredFiles.{ensured_files, opens_along}
+use Rattle.gixobj_files.proofs.EnsuredFiles.{ensured_dirs_files_of_open, is_open_along_of_opens}
 use Rattle.gixobj_files.proofs.Based.{Based}
 use Rattle.gixobj_files.proofs.Everywhere.{Everywhere}
-use Rattle.gixobj_files.proofs.Lasting.{everywhere_at}
-use Rattle.gixobj_files.proofs.BelowPrefix.{files_below, opened_in, replaced_files}
-use Rattle.gixobj_files.proofs.EditedFiles.{same_ensured, same_trans}
-use Rattle.gixobj_files.proofs.OpenedFiles.{root_only}
-use Rattle.gixobj_files.proofs.OpeningFiles.{opens_files}
-use Rattle.gixobj_files.proofs.WrittenFiles.{known_remaining, known_right, leaves_files, opened_trees}
+use Rattle.gixobj_files.proofs.Lasting.{everywhere_in_path}
+use Rattle.gixobj_files.proofs.BelowPrefix.{files_in_path, is_opened_in_path, files_with_same_inner}
+use Rattle.gixobj_files.proofs.EditedFiles.{ensured_congruent, same_files_trans}
+use Rattle.gixobj_files.proofs.OpenedFiles.{open_files_of_root_alone}
+use Rattle.gixobj_files.proofs.OpeningFiles.{opens_keeps_files}
+use Rattle.gixobj_files.proofs.WrittenFiles.{known_append_left, known_append_right, leaves_files, are_trees_of_opened}
 
 -- a directory that is ensured after an opening of its path drops the files at the path, and those at the paths of
 -- parent directories
-pub ensured_at_files : (T : Table) (trees : Trees) → AgreesWithStore T trees → (path : Path) (null : ObjectId) (old mid : Dirs) (requested : List ObjectId)
+pub ensured_dirs_files : (T : Table) (trees : Trees) → AgreesWithStore T trees → (path : Path) (null : ObjectId) (old mid : Dirs) (requested : List ObjectId)
     → Opens IsNoTree trees path old mid requested
     → (n : ℕ) → SameFiles (OpenFiles T n (ensured_dirs path null mid)) (Ensured path (OpenFiles T n old))
-ensured_at_files T trees agrees path null old mid requested opens n =
-    same_trans _ _ _ (ensured_files T n path null mid (opens_along trees path old mid requested opens))
-    (same_ensured path (OpenFiles T n mid) (OpenFiles T n old) (opens_files T trees agrees path old mid requested opens n))
+ensured_dirs_files T trees agrees path null old mid requested opens n =
+    same_files_trans _ _ _ (ensured_dirs_files_of_open T n path null mid (is_open_along_of_opens trees path old mid requested opens))
+    (ensured_congruent path (OpenFiles T n mid) (OpenFiles T n old) (opens_keeps_files T trees agrees path old mid requested opens n))
 
 -- the written tree of the directory at a path has the files of the directories at and below it
 own_files : (T : Table) (prefix : Path) (dirs bases : Dirs) (below : List Pair) (own : List EntryView) (saved : ℕ) (id : ObjectId) → IsOpened dirs
@@ -34,30 +34,32 @@ own_files : (T : Table) (prefix : Path) (dirs bases : Dirs) (below : List Pair) 
     → AgreesWithPairs T (below ++ (id, own) ∷ [])
     → (n : ℕ) → SameFiles (Files T n own) (OpenFiles T n (in_path prefix dirs))
 own_files T prefix dirs bases below own saved id all based there going agrees =
-    leaves_files T (in_path prefix dirs) (in_path prefix bases) below own saved going (opened_trees (in_path prefix dirs) (opened_in prefix dirs all there))
-    (everywhere_at (Based T) prefix dirs bases based)
-    (known_remaining T below ((id, own) ∷ []) (recursion_from_All (λ (p : Pair). T.tree_at p.0 ≡ Some p.1) (below ++ (id, own) ∷ []) agrees))
+    leaves_files T (in_path prefix dirs) (in_path prefix bases) below own saved going
+        (are_trees_of_opened (in_path prefix dirs) (is_opened_in_path prefix dirs all there))
+    (everywhere_in_path (Based T) prefix dirs bases based)
+    (known_append_left T below ((id, own) ∷ []) (recursion_from_All (λ (p : Pair). T.tree_at p.0 ≡ Some p.1) (below ++ (id, own) ∷ []) agrees))
 
 -- the id of a written directory names the files below its path
-pub written_below_files : (T : Table) (n : ℕ) (prefix : Path) (dirs bases : Dirs) (below : List Pair) (own : List EntryView) (saved : ℕ) (id : ObjectId)
+pub written_id_files_below_prefix : (T : Table) (n : ℕ) (prefix : Path) (dirs bases : Dirs) (below : List Pair) (own : List EntryView)
+    (saved : ℕ) (id : ObjectId)
     → IsOpened dirs → Everywhere (Based T) dirs bases → dirs prefix ≢ None → EmitsBelow (in_path prefix dirs) (in_path prefix bases) below own saved
     → AgreesWithPairs T (below ++ (id, own) ∷ [])
     → SameFiles (NamedFiles T n id) (λ path. OpenFiles T (n + length prefix) dirs (prefix ++ path))
-written_below_files T n prefix dirs bases below own saved id all based there going agrees =
+written_id_files_below_prefix T n prefix dirs bases below own saved id all based there going agrees =
     let inner : Dirs = in_path prefix dirs in
     let named : T.tree_at id ≡ Some own =
-    (known_right T below ((id, own) ∷ []) (recursion_from_All (λ (p : Pair). T.tree_at p.0 ≡ Some p.1) (below ++ (id, own) ∷ []) agrees)).0 in
+    (known_append_right T below ((id, own) ∷ []) (recursion_from_All (λ (p : Pair). T.tree_at p.0 ≡ Some p.1) (below ++ (id, own) ∷ []) agrees)).0 in
     let files : SameFiles (NamedFiles T n id) (OpenFiles T n inner) =
     subst (λ (o : Option (List EntryView)). SameFiles (λ path mode it. MatchOption o ⊥ (λ es. Files T n es path mode it)) (OpenFiles T n inner)) (sym named)
     (own_files T prefix dirs bases below own saved id all based there going agrees n) in
-    same_trans _ _ _ files (files_below T n prefix dirs all there)
+    same_files_trans _ _ _ files (files_in_path T n prefix dirs all there)
 
 -- a write leaves open directories with the same files
-pub written_same_files : (T : Table) (n : ℕ) (prefix : Path) (dirs bases : Dirs) (below : List Pair) (own : List EntryView) (saved : ℕ) (id : ObjectId)
+pub write_keeps_files : (T : Table) (n : ℕ) (prefix : Path) (dirs bases : Dirs) (below : List Pair) (own : List EntryView) (saved : ℕ) (id : ObjectId)
     → IsOpened dirs → Everywhere (Based T) dirs bases → dirs prefix ≢ None → EmitsBelow (in_path prefix dirs) (in_path prefix bases) below own saved
     → AgreesWithPairs T (below ++ (id, own) ∷ [])
     → SameFiles (OpenFiles T n (with_path prefix (only own) dirs)) (OpenFiles T n dirs)
-written_same_files T n prefix dirs bases below own saved id all based there going agrees =
-    replaced_files T prefix (only own) dirs all there (λ none. cc none)
-    (λ k. same_trans _ _ _ (root_only T k (only own) own refl (λ name. refl))
+write_keeps_files T n prefix dirs bases below own saved id all based there going agrees =
+    files_with_same_inner T prefix (only own) dirs all there (λ none. cc none)
+    (λ k. same_files_trans _ _ _ (open_files_of_root_alone T k (only own) own refl (λ name. refl))
     (own_files T prefix dirs bases below own saved id all based there going agrees k)) n

@@ -11,22 +11,22 @@ use Rattle.gixobj_files.specs.Editing.{comes_before, non_null_entries, same_name
 use Rattle.gixobj_files.specs.Files.{Ensured, Below, FileSet, Files, Has, Path, Removed, SameFiles, Table, Upserted, is_null}
 use Rattle.gixobj_files.specs.Opening.{OpenFiles}
 use Rattle.gixobj_files.specs.State.{root_alone}
-use Rattle.gixobj_files.proofs.OpenedFiles.{root_only}
+use Rattle.gixobj_files.proofs.OpenedFiles.{open_files_of_root_alone}
 
 -- the entries of an appended list are those of its parts
-pub Has-append : (xs ys : List EntryView) (e : EntryView) → Has (xs ++ ys) e → Has xs e ⊎ Has ys e
-Has-append [] ys e h = inr h
-Has-append (x ∷ xs) ys e (inl p) = inl (inl p)
-Has-append (x ∷ xs) ys e (inr h) = ⊎_elim (λ k. inl (inr k)) inr (Has-append xs ys e h)
+pub has_append_cases : (xs ys : List EntryView) (e : EntryView) → Has (xs ++ ys) e → Has xs e ⊎ Has ys e
+has_append_cases [] ys e h = inr h
+has_append_cases (x ∷ xs) ys e (inl p) = inl (inl p)
+has_append_cases (x ∷ xs) ys e (inr h) = ⊎_elim (λ k. inl (inr k)) inr (has_append_cases xs ys e h)
 
-pub Has-left : (xs ys : List EntryView) (e : EntryView) → Has xs e → Has (xs ++ ys) e
-Has-left (x ∷ xs) ys e (inl p) = inl p
-Has-left (x ∷ xs) ys e (inr h) = inr (Has-left xs ys e h)
-Has-left [] ys e h = absurd h
+pub has_append_left : (xs ys : List EntryView) (e : EntryView) → Has xs e → Has (xs ++ ys) e
+has_append_left (x ∷ xs) ys e (inl p) = inl p
+has_append_left (x ∷ xs) ys e (inr h) = inr (has_append_left xs ys e h)
+has_append_left [] ys e h = absurd h
 
-pub Has-right : (xs ys : List EntryView) (e : EntryView) → Has ys e → Has (xs ++ ys) e
-Has-right [] ys e h = h
-Has-right (x ∷ xs) ys e h = inr (Has-right xs ys e h)
+pub has_append_right : (xs ys : List EntryView) (e : EntryView) → Has ys e → Has (xs ++ ys) e
+has_append_right [] ys e h = h
+has_append_right (x ∷ xs) ys e h = inr (has_append_right xs ys e h)
 
 -- a filter keeps the entries that pass
 Has-kept : (p : EntryView → Bool) (xs : List EntryView) (e : EntryView) → Has (filter p xs) e → Has xs e × (p e ≡ true)
@@ -44,13 +44,13 @@ Has-keeps p (x ∷ xs) e (inr h) t =
     elim (p x) as (λ b. Has (cond b (x ∷ filter p xs) (filter p xs)) e) [ true ↦ inr (Has-keeps p xs e h t) | false ↦ Has-keeps p xs e h t ]
 
 -- the entries of other names are those whose names differ
-pub has_without : (name : List ℕ) (es : List EntryView) (e : EntryView) → Has (without name es) e → Has es e × (e.name ≢ name)
-has_without name es e h =
+pub has_of_without : (name : List ℕ) (es : List EntryView) (e : EntryView) → Has (without name es) e → Has es e × (e.name ≢ name)
+has_of_without name es e h =
     let s = Has-kept (λ y. not (same_name y.name name)) es e h in
     (s.0, λ q. cc (ap not ((bytes_decides e.name name).1 q), s.1))
 
-pub has_other : (name : List ℕ) (es : List EntryView) (e : EntryView) → Has es e → e.name ≢ name → Has (without name es) e
-has_other name es e h n = Has-keeps (λ y. not (same_name y.name name)) es e h
+pub has_without_other : (name : List ℕ) (es : List EntryView) (e : EntryView) → Has es e → e.name ≢ name → Has (without name es) e
+has_without_other name es e h n = Has-keeps (λ y. not (same_name y.name name)) es e h
     (apart (same_name e.name name) (λ t. n ((bytes_decides e.name name).0 t)))
   where
     apart : (b : Bool) → b ≢ true → not b ≡ true
@@ -62,49 +62,49 @@ either true = inl refl
 either false = inr refl
 
 -- after an insertion the list has the inserted entry, and those of other names
-pub has_inserted : (x : EntryView) (es : List EntryView) (e : EntryView) → Has (with_entry x es) e → (x ≡ e) ⊎ (Has es e × (e.name ≢ x.name))
-has_inserted x es e h =
-    let others : Has (without x.name es) e → Has es e × (e.name ≢ x.name) = has_without x.name es e in
+pub has_of_with_entry : (x : EntryView) (es : List EntryView) (e : EntryView) → Has (with_entry x es) e → (x ≡ e) ⊎ (Has es e × (e.name ≢ x.name))
+has_of_with_entry x es e h =
+    let others : Has (without x.name es) e → Has es e × (e.name ≢ x.name) = has_of_without x.name es e in
     ⊎_elim (λ k. inr (others (Has-kept (λ y. comes_before y x) (without x.name es) e k).0))
     (⊎_elim inl (λ k. inr (others (Has-kept (λ y. not (comes_before y x)) (without x.name es) e k).0)))
-    (Has-append (filter (λ y. comes_before y x) (without x.name es)) (x ∷ filter (λ y. not (comes_before y x)) (without x.name es)) e h)
+    (has_append_cases (filter (λ y. comes_before y x) (without x.name es)) (x ∷ filter (λ y. not (comes_before y x)) (without x.name es)) e h)
 
-pub has_new : (x : EntryView) (es : List EntryView) → Has (with_entry x es) x
-has_new x es = Has-right (filter (λ y. comes_before y x) (without x.name es)) (x ∷ filter (λ y. not (comes_before y x)) (without x.name es)) x
+pub has_with_entry_new : (x : EntryView) (es : List EntryView) → Has (with_entry x es) x
+has_with_entry_new x es = has_append_right (filter (λ y. comes_before y x) (without x.name es)) (x ∷ filter (λ y. not (comes_before y x)) (without x.name es)) x
     (inl refl)
 
-pub has_still : (x : EntryView) (es : List EntryView) (e : EntryView) → Has es e → e.name ≢ x.name → Has (with_entry x es) e
-has_still x es e h n =
-    let remaining = has_other x.name es e h n in
-    ⊎_elim (λ l. Has-left (filter (λ y. comes_before y x) (without x.name es)) _ e
+pub has_with_entry_other : (x : EntryView) (es : List EntryView) (e : EntryView) → Has es e → e.name ≢ x.name → Has (with_entry x es) e
+has_with_entry_other x es e h n =
+    let remaining = has_without_other x.name es e h n in
+    ⊎_elim (λ l. has_append_left (filter (λ y. comes_before y x) (without x.name es)) _ e
     (Has-keeps (λ y. comes_before y x) (without x.name es) e remaining l))
-    (λ g. Has-right (filter (λ y. comes_before y x) (without x.name es)) _ e
+    (λ g. has_append_right (filter (λ y. comes_before y x) (without x.name es)) _ e
     (inr (Has-keeps (λ y. not (comes_before y x)) (without x.name es) e remaining g)))
     (either (comes_before e x))
 
-pub one_less : (n : ℕ) (name : List ℕ) → suc n - length (name ∷ []) ≡ n
-one_less n name = omega arith
+pub sub_len_one : (n : ℕ) (name : List ℕ) → suc n - length (name ∷ []) ≡ n
+sub_len_one n name = omega arith
 
-pub files_inserted : (T : Table) (n : ℕ) (x : EntryView) (es : List EntryView)
+pub files_with_entry : (T : Table) (n : ℕ) (x : EntryView) (es : List EntryView)
     → SameFiles (Files T n (with_entry x es)) (Upserted T n (x.name ∷ []) x.mode x.id (Files T n es))
-files_inserted T zero x es path mode id = ((λ h. absurd h), ⊎_elim (λ h. absurd h.0) (λ h. absurd (omega (arith, h.0))))
-files_inserted T (suc n) x es [] mode id = ((λ h. absurd h), ⊎_elim (λ h. absurd h.0) (λ h. cc (h.2)))
-files_inserted T (suc n) x es (name ∷ path) mode id =
-    let depth : suc n - length (x.name ∷ []) ≡ n = one_less n x.name in
+files_with_entry T zero x es path mode id = ((λ h. absurd h), ⊎_elim (λ h. absurd h.0) (λ h. absurd (omega (arith, h.0))))
+files_with_entry T (suc n) x es [] mode id = ((λ h. absurd h), ⊎_elim (λ h. absurd h.0) (λ h. cc (h.2)))
+files_with_entry T (suc n) x es (name ∷ path) mode id =
+    let depth : suc n - length (x.name ∷ []) ≡ n = sub_len_one n x.name in
     let At : ℕ → Path → EntryView → Type 0 = λ k p e. Below T (Files T k) e.mode e.id p mode id in (
       (λ h. ⊎_elim
           (λ new.
           let named : name ≡ x.name = sym h.2 ∙ ap (λ (e : EntryView). e.name) (sym new) in
           inr (omega arith, path, rw named refl, subst (λ k. At k path x) (sym depth) (subst (At n path) (sym new) h.3)))
           (λ old. inl ((h.0, old.0, h.2, h.3), (λ b. old.1 (cc (h.2, b.1))), (λ b. old.1 (cc (h.2, b.1)))))
-          (has_inserted x es h.0 h.1)),
+          (has_of_with_entry x es h.0 h.1)),
       ⊎_elim
           (λ h.
           let other : (h.0.0).name ≢ x.name = λ q. h.1 (path, (let named : name ≡ x.name = sym (h.0.2) ∙ q in rw named refl)) in
-          (h.0.0, has_still x es h.0.0 h.0.1 other, h.0.2, h.0.3))
+          (h.0.0, has_with_entry_other x es h.0.0 h.0.1 other, h.0.2, h.0.3))
           (λ h.
           let rest : path ≡ h.1 = cc (h.2) in
-          (x, has_new x es, cc (h.2), subst (λ p. At n p x) (sym rest) (subst (λ k. At k h.1 x) depth h.3))),
+          (x, has_with_entry_new x es, cc (h.2), subst (λ p. At n p x) (sym rest) (subst (λ k. At k h.1 x) depth h.3))),
     )
 
 pub files_without : (T : Table) (n : ℕ) (name : List ℕ) (es : List EntryView)
@@ -112,52 +112,53 @@ pub files_without : (T : Table) (n : ℕ) (name : List ℕ) (es : List EntryView
 files_without T zero name es path mode id = ((λ h. absurd h), λ h. absurd h.0)
 files_without T (suc n) name es [] mode id = ((λ h. absurd h), λ h. absurd h.0)
 files_without T (suc n) name es (first ∷ path) mode id = (
-  (λ h. let o = has_without name es h.0 h.1 in ((h.0, o.0, h.2, h.3), λ b. o.1 (cc (h.2, b.1)))),
+  (λ h. let o = has_of_without name es h.0 h.1 in ((h.0, o.0, h.2, h.3), λ b. o.1 (cc (h.2, b.1)))),
   λ h. let ne : (h.0.0).name ≢ name = λ q. h.1 (path, (let r : first ≡ name = sym (h.0.2) ∙ q in rw r refl)) in
-      (h.0.0, has_other name es h.0.0 h.0.1 ne, h.0.2, h.0.3),
+      (h.0.0, has_without_other name es h.0.0 h.0.1 ne, h.0.2, h.0.3),
 )
 
-pub files_kept : (T : Table) (n : ℕ) (es : List EntryView) → SameFiles (Files T n (non_null_entries es)) (Files T n es)
-files_kept T zero es path mode id = ((λ h. absurd h), λ h. absurd h)
-files_kept T (suc n) es [] mode id = ((λ h. absurd h), λ h. absurd h)
-files_kept T (suc n) es (name ∷ path) mode id = (
+pub files_of_non_null_entries : (T : Table) (n : ℕ) (es : List EntryView) → SameFiles (Files T n (non_null_entries es)) (Files T n es)
+files_of_non_null_entries T zero es path mode id = ((λ h. absurd h), λ h. absurd h)
+files_of_non_null_entries T (suc n) es [] mode id = ((λ h. absurd h), λ h. absurd h)
+files_of_non_null_entries T (suc n) es (name ∷ path) mode id = (
   (λ h. (h.0, (Has-kept (λ e. not (is_null e.id)) es h.0 h.1).0, h.2, h.3)),
   λ h. (h.0, Has-keeps (λ e. not (is_null e.id)) es h.0 h.1 (ap not h.3.0), h.2, h.3),
 )
 
 -- having the same files is an equivalence of sets of files
-pub same_refl : (A : FileSet) → SameFiles A A
-same_refl A path mode id = ((λ h. h), λ h. h)
+pub same_files_refl : (A : FileSet) → SameFiles A A
+same_files_refl A path mode id = ((λ h. h), λ h. h)
 
-pub same_sym : (A B : FileSet) → SameFiles A B → SameFiles B A
-same_sym A B same path mode id = ((same path mode id).1, (same path mode id).0)
+pub same_files_sym : (A B : FileSet) → SameFiles A B → SameFiles B A
+same_files_sym A B same path mode id = ((same path mode id).1, (same path mode id).0)
 
-pub same_trans : (A B C : FileSet) → SameFiles A B → SameFiles B C → SameFiles A C
-same_trans A B C prefix back path mode id =
+pub same_files_trans : (A B C : FileSet) → SameFiles A B → SameFiles B C → SameFiles A C
+same_files_trans A B C prefix back path mode id =
     ((λ h. (back path mode id).0 ((prefix path mode id).0 h)), λ h. (prefix path mode id).1 ((back path mode id).1 h))
 
-pub same_upserted : (T : Table) (n : ℕ) (path : Path) (mode : ℕ) (id : ObjectId) (A B : FileSet) → SameFiles A B
+pub upserted_congruent : (T : Table) (n : ℕ) (path : Path) (mode : ℕ) (id : ObjectId) (A B : FileSet) → SameFiles A B
     → SameFiles (Upserted T n path mode id A) (Upserted T n path mode id B)
-same_upserted T n [] mode id A B same at mode' id' = same at mode' id'
-same_upserted T n (name ∷ path) mode id A B same at mode' id' =
+upserted_congruent T n [] mode id A B same at mode' id' = same at mode' id'
+upserted_congruent T n (name ∷ path) mode id A B same at mode' id' =
     (⊎_elim (λ h. inl ((same at mode' id').0 h.0, h.1, h.2)) inr, ⊎_elim (λ h. inl ((same at mode' id').1 h.0, h.1, h.2)) inr)
 
-pub same_removed : (path : Path) (A B : FileSet) → SameFiles A B → SameFiles (Removed path A) (Removed path B)
-same_removed [] A B same at mode id = same at mode id
-same_removed (name ∷ path) A B same at mode id = ((λ h. ((same at mode id).0 h.0, h.1)), λ h. ((same at mode id).1 h.0, h.1))
+pub removed_congruent : (path : Path) (A B : FileSet) → SameFiles A B → SameFiles (Removed path A) (Removed path B)
+removed_congruent [] A B same at mode id = same at mode id
+removed_congruent (name ∷ path) A B same at mode id = ((λ h. ((same at mode id).0 h.0, h.1)), λ h. ((same at mode id).1 h.0, h.1))
 
-pub same_ensured : (path : Path) (A B : FileSet) → SameFiles A B → SameFiles (Ensured path A) (Ensured path B)
-same_ensured [] A B same at mode id = same at mode id
-same_ensured (name ∷ path) A B same at mode id = ((λ h. ((same at mode id).0 h.0, h.1)), λ h. ((same at mode id).1 h.0, h.1))
+pub ensured_congruent : (path : Path) (A B : FileSet) → SameFiles A B → SameFiles (Ensured path A) (Ensured path B)
+ensured_congruent [] A B same at mode id = same at mode id
+ensured_congruent (name ∷ path) A B same at mode id = ((λ h. ((same at mode id).0 h.0, h.1)), λ h. ((same at mode id).1 h.0, h.1))
 
 -- if the root alone is open, it is the only directory
-pub root_open : (es : List EntryView) → map.get (root_alone es) [] ≡ Some es
-root_open es = map.get-insert (lists_total nat_list_cmp_total) map.empty [] es []
+pub root_alone_at_root : (es : List EntryView) → map.get (root_alone es) [] ≡ Some es
+root_alone_at_root es = map.get-insert (lists_total nat_list_cmp_total) map.empty [] es []
 
-pub root_unopened : (es : List EntryView) (name : List ℕ) (path : Path) → map.get (root_alone es) (name ∷ path) ≡ None
-root_unopened es name path = map.get-insert (lists_total nat_list_cmp_total) map.empty [] es (name ∷ path)
+pub root_alone_below_root : (es : List EntryView) (name : List ℕ) (path : Path) → map.get (root_alone es) (name ∷ path) ≡ None
+root_alone_below_root es name path = map.get-insert (lists_total nat_list_cmp_total) map.empty [] es (name ∷ path)
     ∙ map.get-empty (slice_cmp (slice_cmp nat_cmp))
     (name ∷ path)
 
-pub root_files : (T : Table) (n : ℕ) (es : List EntryView) → SameFiles (OpenFiles T n (λ path. map.get (root_alone es) path)) (Files T n es)
-root_files T n es = root_only T n (λ path. map.get (root_alone es) path) es (root_open es) (λ name. root_unopened es name [])
+pub root_alone_files : (T : Table) (n : ℕ) (es : List EntryView) → SameFiles (OpenFiles T n (λ path. map.get (root_alone es) path)) (Files T n es)
+root_alone_files T n es = open_files_of_root_alone T n (λ path. map.get (root_alone es) path) es (root_alone_at_root es)
+    (λ name. root_alone_below_root es name [])

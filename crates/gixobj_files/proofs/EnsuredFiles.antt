@@ -7,9 +7,9 @@ use Rattle.gixobj_hash.specs.declared.hash.object_id.ObjectId.{ObjectId}
 use Rattle.gixobj_files.specs.Edits.{IsNoTree, Opens, arrived, ensured_dirs, down, found, only, or_empty, stops, with_directory}
 use Rattle.gixobj_files.specs.Files.{Ensured, Begins, FileSet, Files, Path, SameFiles, Table, Trees}
 use Rattle.gixobj_files.specs.Opening.{Dirs, HasAt, OpenFiles, in_dir}
-use Rattle.gixobj_files.proofs.OpenedFiles.{elsewhere, from_open, into_open, into_unopened, name_itself, name_other, no_tree_below, none_open, same_names}
-use Rattle.gixobj_files.proofs.OpeningFiles.{inside_is, opens_root}
-use Rattle.gixobj_files.proofs.UpsertedFiles.{begins_less, begins_more, begins_name, directory_has, has_directory, has_or_empty, made, or_empty_has}
+use Rattle.gixobj_files.proofs.OpenedFiles.{open_files_of_other_name, open_files_of_open, open_files_into_open, open_files_into_unopened, same_name_refl, same_name_false, path_nil_below_file, no_open_files_of_none, name_eq_or_ne}
+use Rattle.gixobj_files.proofs.OpeningFiles.{with_dir_in_dir, opens_keeps_root}
+use Rattle.gixobj_files.proofs.UpsertedFiles.{begins_of_cons, begins_cons, begins_cons_name, has_with_directory, has_of_with_directory, has_or_empty_of_has_at, has_made_directory, has_at_of_or_empty}
 
 -- the path and each parent directory of it is open, as far as there are entries of tree mode
 abbrev pub IsOpenAlong : Path → Dirs → Type 0
@@ -23,36 +23,37 @@ open_nowhere [] dirs none = tt
 open_nowhere (name ∷ rest) dirs none = inl ((λ e h named. absurd (subst (λ (o : Option (List EntryView)). HasAt o e) (none []) h)), λ path. none (name ∷ path))
 
 -- an opening leaves the directories on its path open
-pub opens_along : (trees : Trees) (path : Path) (dirs new : Dirs) (requested : List ObjectId) → Opens IsNoTree trees path dirs new requested
+pub is_open_along_of_opens : (trees : Trees) (path : Path) (dirs new : Dirs) (requested : List ObjectId) → Opens IsNoTree trees path dirs new requested
     → IsOpenAlong path new
-opens_along trees path dirs new requested (arrived d) = tt
-opens_along trees path dirs new requested (stops name rest d other none) = inl (other, none)
-opens_along trees path dirs new requested (down name rest d inner e entries more has named is opens) =
-    let inside = inside_is name inner d in
+is_open_along_of_opens trees path dirs new requested (arrived d) = tt
+is_open_along_of_opens trees path dirs new requested (stops name rest d other none) = inl (other, none)
+is_open_along_of_opens trees path dirs new requested (down name rest d inner e entries more has named is opens) =
+    let inside = with_dir_in_dir name inner d in
     inr (
       (e, has, named),
-      (entries, ap (λ (x : Dirs). x []) inside ∙ opens_root trees rest (in_dir name d) inner more opens ∙ is),
+      (entries, ap (λ (x : Dirs). x []) inside ∙ opens_keeps_root trees rest (in_dir name d) inner more opens ∙ is),
       subst (IsOpenAlong rest)
-          (sym inside) (opens_along trees rest (in_dir name d) inner more opens),
+          (sym inside) (is_open_along_of_opens trees rest (in_dir name d) inner more opens),
     )
-opens_along trees path dirs new requested (found name rest d inner e entries first more entry tree free none finds opens) =
-    let inside = inside_is name inner d in
+is_open_along_of_opens trees path dirs new requested (found name rest d inner e entries first more entry tree free none finds opens) =
+    let inside = with_dir_in_dir name inner d in
     inr (
       (e, entry.0, entry.1),
-      (entries, ap (λ (x : Dirs). x []) inside ∙ opens_root trees rest (only entries) inner more opens),
+      (entries, ap (λ (x : Dirs). x []) inside ∙ opens_keeps_root trees rest (only entries) inner more opens),
       subst (IsOpenAlong rest)
-          (sym inside) (opens_along trees rest (only entries) inner more opens),
+          (sym inside) (is_open_along_of_opens trees rest (only entries) inner more opens),
     )
 
 -- the directories in the first name of an ensured path, and in another name
-pub ensured_in : (name : List ℕ) (rest : Path) (null : ObjectId) (dirs : Dirs) → in_dir name (ensured_dirs (name ∷ rest) null dirs) ≡ ensured_dirs rest null
+pub ensured_dirs_in_dir : (name : List ℕ) (rest : Path) (null : ObjectId) (dirs : Dirs)
+    → in_dir name (ensured_dirs (name ∷ rest) null dirs) ≡ ensured_dirs rest null
     (in_dir name dirs)
-ensured_in name rest null dirs = ap (λ b path. cond b (ensured_dirs rest null (in_dir name dirs) path) (dirs (name ∷ path))) (name_itself name)
+ensured_dirs_in_dir name rest null dirs = ap (λ b path. cond b (ensured_dirs rest null (in_dir name dirs) path) (dirs (name ∷ path))) (same_name_refl name)
 
-pub ensured_next_to : (name first : List ℕ) (rest : Path) (null : ObjectId) (dirs : Dirs) → name ≢ first
+pub ensured_dirs_in_other_dir : (name first : List ℕ) (rest : Path) (null : ObjectId) (dirs : Dirs) → name ≢ first
     → in_dir first (ensured_dirs (name ∷ rest) null dirs) ≡ in_dir first dirs
-ensured_next_to name first rest null dirs differ = ap (λ b path. cond b (ensured_dirs rest null (in_dir name dirs) path) (dirs (first ∷ path)))
-    (name_other name first differ)
+ensured_dirs_in_other_dir name first rest null dirs differ = ap (λ b path. cond b (ensured_dirs rest null (in_dir name dirs) path) (dirs (first ∷ path)))
+    (same_name_false name first differ)
 
 ensured_root : (path : Path) (null : ObjectId) (dirs : Dirs) → (es : List EntryView) × (ensured_dirs path null dirs [] ≡ Some es)
 ensured_root [] null dirs = (or_empty (dirs []), refl)
@@ -77,61 +78,61 @@ not_above T k [] dirs [] mode id h b = no_file_here T k dirs mode id h
 not_above T k [] dirs (name ∷ at) mode id h b = cc (b.1)
 not_above T k (name ∷ rest) dirs at mode id h b = h.1 b
 
-pub ensured_files : (T : Table) (n : ℕ) (path : Path) (null : ObjectId) (dirs : Dirs) → IsOpenAlong path dirs
+pub ensured_dirs_files_of_open : (T : Table) (n : ℕ) (path : Path) (null : ObjectId) (dirs : Dirs) → IsOpenAlong path dirs
     → SameFiles (OpenFiles T n (ensured_dirs path null dirs)) (Ensured path (OpenFiles T n dirs))
-ensured_files T zero [] null dirs along path mode id = ((λ h. h), λ h. h)
-ensured_files T (suc k) [] null dirs along [] mode id = ((λ h. h), λ h. h)
-ensured_files T (suc k) [] null dirs along (first ∷ path) mode id = (
-  elsewhere T k (ensured_dirs [] null dirs) dirs first (λ e named has. or_empty_has (dirs []) e has) refl path mode id,
-  elsewhere T k dirs (ensured_dirs [] null dirs) first (λ e named has. has_or_empty (dirs []) e has) refl path mode id,
+ensured_dirs_files_of_open T zero [] null dirs along path mode id = ((λ h. h), λ h. h)
+ensured_dirs_files_of_open T (suc k) [] null dirs along [] mode id = ((λ h. h), λ h. h)
+ensured_dirs_files_of_open T (suc k) [] null dirs along (first ∷ path) mode id = (
+  open_files_of_other_name T k (ensured_dirs [] null dirs) dirs first (λ e named has. has_at_of_or_empty (dirs []) e has) refl path mode id,
+  open_files_of_other_name T k dirs (ensured_dirs [] null dirs) first (λ e named has. has_or_empty_of_has_at (dirs []) e has) refl path mode id,
 )
-ensured_files T zero (name ∷ rest) null dirs along path mode id = ((λ h. absurd h), λ h. absurd h.0)
-ensured_files T (suc k) (name ∷ rest) null dirs along [] mode id = ((λ h. absurd h), λ h. absurd h.0)
-ensured_files T (suc k) (name ∷ rest) null dirs along (first ∷ path) mode id =
+ensured_dirs_files_of_open T zero (name ∷ rest) null dirs along path mode id = ((λ h. absurd h), λ h. absurd h.0)
+ensured_dirs_files_of_open T (suc k) (name ∷ rest) null dirs along [] mode id = ((λ h. absurd h), λ h. absurd h.0)
+ensured_dirs_files_of_open T (suc k) (name ∷ rest) null dirs along (first ∷ path) mode id =
     let new : Dirs = ensured_dirs (name ∷ rest) null dirs in
     let below : Dirs = ensured_dirs rest null (in_dir name dirs) in
     let old : FileSet = OpenFiles T (suc k) dirs in
-    elim (same_names name first) [
+    elim (name_eq_or_ne name first) [
       | inl same ↦ subst (λ f. (OpenFiles T (suc k) new (f ∷ path) mode id → Ensured (name ∷ rest) old (f ∷ path) mode id)
           × (Ensured (name ∷ rest) old (f ∷ path) mode id → OpenFiles T (suc k) new (f ∷ path) mode id)) same
-          (let inside : in_dir name new ≡ below = ensured_in name rest null dirs in
+          (let inside : in_dir name new ≡ below = ensured_dirs_in_dir name rest null dirs in
           let root = ensured_root rest null (in_dir name dirs) in
           let is_open : new (name ∷ []) ≡ Some root.0 = ap (λ (d : Dirs). d []) inside ∙ root.1 in
-          let entry = made name null (or_empty (dirs [])) in
+          let entry = has_made_directory name null (or_empty (dirs [])) in
           let into : OpenFiles T (suc k) new (name ∷ path) mode id → OpenFiles T k below path mode id =
-          λ h. subst (λ (d : Dirs). OpenFiles T k d path mode id) inside (into_open T k new name root.0 is_open path mode id h) in
+          λ h. subst (λ (d : Dirs). OpenFiles T k d path mode id) inside (open_files_into_open T k new name root.0 is_open path mode id h) in
           let back : OpenFiles T k below path mode id → OpenFiles T (suc k) new (name ∷ path) mode id =
-          λ h. from_open T k new name root.0 entry.0 entry.1 entry.2 is_open path mode id
+          λ h. open_files_of_open T k new name root.0 entry.0 entry.1 entry.2 is_open path mode id
           (subst (λ (d : Dirs). OpenFiles T k d path mode id) (sym inside) h) in
           elim along [
             | inl unopened ↦
                 let none : (at : Path) → in_dir name dirs at ≡ None = unopened.1 in
-                let step = ensured_files T k rest null (in_dir name dirs) (open_nowhere rest (in_dir name dirs) none) path mode id in (
-                  (λ h. absurd (none_open T k (in_dir name dirs) (none []) path mode id
+                let step = ensured_dirs_files_of_open T k rest null (in_dir name dirs) (open_nowhere rest (in_dir name dirs) none) path mode id in (
+                  (λ h. absurd (no_open_files_of_none T k (in_dir name dirs) (none []) path mode id
                       (was_file rest (OpenFiles T k (in_dir name dirs)) path mode id (step.0 (into h))))),
-                  λ h. let s = into_unopened T k dirs name (none []) path mode id h.0 in
-                      let short : path ≡ [] = no_tree_below T (Files T k) (s.0.mode) (s.0.id) (unopened.0 s.0 s.1 s.2) path mode id s.3 in
+                  λ h. let s = open_files_into_unopened T k dirs name (none []) path mode id h.0 in
+                      let short : path ≡ [] = path_nil_below_file T (Files T k) (s.0.mode) (s.0.id) (unopened.0 s.0 s.1 s.2) path mode id s.3 in
                       absurd (h.1 (rest, subst (λ p. name ∷ rest ≡ (name ∷ p) ++ rest) (sym short) refl)),
                 )
             | inr opened ↦
-                let step = ensured_files T k rest null (in_dir name dirs) opened.2 path mode id in (
+                let step = ensured_dirs_files_of_open T k rest null (in_dir name dirs) opened.2 path mode id in (
                   (λ h. let l = step.0 (into h) in (
-                    from_open T k dirs name (opened.1.0) (opened.0.0) (opened.0.1) (opened.0.2) (opened.1.1) path mode id
+                    open_files_of_open T k dirs name (opened.1.0) (opened.0.0) (opened.0.1) (opened.0.2) (opened.1.1) path mode id
                         (was_file rest (OpenFiles T k (in_dir name dirs)) path mode id l),
-                    λ b. not_above T k rest (in_dir name dirs) path mode id l (begins_less name path rest b),
+                    λ b. not_above T k rest (in_dir name dirs) path mode id l (begins_of_cons name path rest b),
                   )),
                   λ h. back (step.1 (still_file rest (OpenFiles T k (in_dir name dirs)) path mode id
-                      (into_open T k dirs name (opened.1.0) (opened.1.1) path mode id h.0) (λ b. h.1 (begins_more name path rest b)))),
+                      (open_files_into_open T k dirs name (opened.1.0) (opened.1.1) path mode id h.0) (λ b. h.1 (begins_cons name path rest b)))),
                 )
           ])
       | inr differ ↦ (
         (λ h. (
-          elsewhere T k new dirs first
-              (λ e named_so has. or_empty_has (dirs []) e (has_directory name null (or_empty (dirs [])) e (λ q. differ (sym q ∙ named_so)) has))
-              (ensured_next_to name first rest null dirs differ) path mode id h,
-          λ b. differ (begins_name first name path rest b),
+          open_files_of_other_name T k new dirs first
+              (λ e named_so has. has_at_of_or_empty (dirs []) e (has_of_with_directory name null (or_empty (dirs [])) e (λ q. differ (sym q ∙ named_so)) has))
+              (ensured_dirs_in_other_dir name first rest null dirs differ) path mode id h,
+          λ b. differ (begins_cons_name first name path rest b),
         )),
-        λ h. elsewhere T k dirs new first (λ e named_so has. directory_has name null (or_empty (dirs [])) e (λ q. differ (sym q ∙ named_so))
-            (has_or_empty (dirs []) e has)) (sym (ensured_next_to name first rest null dirs differ)) path mode id h.0,
+        λ h. open_files_of_other_name T k dirs new first (λ e named_so has. has_with_directory name null (or_empty (dirs [])) e (λ q. differ (sym q ∙ named_so))
+            (has_or_empty_of_has_at (dirs []) e has)) (sym (ensured_dirs_in_other_dir name first rest null dirs differ)) path mode id h.0,
       )
     ]

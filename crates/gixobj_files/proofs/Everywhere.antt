@@ -10,16 +10,16 @@ use Rattle.gixobj_files.specs.Editing.{has_tree, with_entry, without}
 use Rattle.gixobj_files.specs.Edits.{Finds, Opens, arrived, ensured_dirs, down, found, only, or_empty, removed_dirs, stops, upserted_dirs, with_dir, with_directory, with_path}
 use Rattle.gixobj_files.specs.Files.{Has, Path, Trees}
 use Rattle.gixobj_files.specs.Opening.{Dirs, HasAt, in_dir}
-use Rattle.gixobj_files.proofs.EnsuredFiles.{IsOpenAlong, ensured_next_to, ensured_in}
-use Rattle.gixobj_files.proofs.EditedFiles.{has_inserted}
-use Rattle.gixobj_files.proofs.HasTrees.{directory_same, has_tree_of, of_has_tree}
-use Rattle.gixobj_files.proofs.OpenedFiles.{name_itself, same_names}
-use Rattle.gixobj_files.proofs.OpeningFiles.{shares_base_is, inside_is, opens_root}
-use Rattle.gixobj_files.proofs.RemovedFiles.{removed_next_to, removed_in, taken_next_to, taken_has}
+use Rattle.gixobj_files.proofs.EnsuredFiles.{IsOpenAlong, ensured_dirs_in_other_dir, ensured_dirs_in_dir}
+use Rattle.gixobj_files.proofs.EditedFiles.{has_of_with_entry}
+use Rattle.gixobj_files.proofs.HasTrees.{with_directory_of_tree, entry_of_has_tree, has_tree_of_entry}
+use Rattle.gixobj_files.proofs.OpenedFiles.{same_name_refl, name_eq_or_ne}
+use Rattle.gixobj_files.proofs.OpeningFiles.{with_dir_in_other_dir, with_dir_in_dir, opens_keeps_root}
+use Rattle.gixobj_files.proofs.RemovedFiles.{removed_dirs_in_other_dir, removed_dirs_in_dir, removed_name_in_other_dir, has_at_of_without}
 use Rattle.gixobj_files.proofs.StillOpened.{AreAbove}
-use Rattle.gixobj_files.proofs.UpsertedFiles.{IsReady, has_directory, or_empty_has, inserted_next_to, inserted_in, upserted_next_to, upserted_in, upserted_root}
+use Rattle.gixobj_files.proofs.UpsertedFiles.{IsReady, has_of_with_directory, has_at_of_or_empty, inserted_name_in_other_dir, inserted_name_in_dir, upserted_dirs_in_other_dir, upserted_dirs_in_dir, upserted_dirs_keep_root}
 use Rattle.gixobj_files.specs.Bases.{base_edited, base_opened, edited_bases, opened_bases}
-use Rattle.gixobj_files.proofs.BelowPrefix.{list_at}
+use Rattle.gixobj_files.proofs.BelowPrefix.{list_at_open_prefix}
 
 -- a property of an entry, of what is open at its name, and of the base there
 abbrev pub OfEntry : Type 1
@@ -77,18 +77,18 @@ module _ (P : OfEntry) (trees : Trees) (null : ObjectId) (lasts : Lasts P trees 
   opened_with name dirs inner bases here inside all =
       let new : Dirs = with_dir name inner dirs in
       by_level new (opened_bases dirs new bases)
-      (λ e h. elim (same_names name e.name) [
+      (λ e h. elim (name_eq_or_ne name e.name) [
         | inl same ↦ subst (λ n. P e (new (n ∷ [])) (base_opened (dirs (n ∷ [])) (new (n ∷ [])) (bases (n ∷ [])))) same
-            (subst (λ (d : Dirs). P e (d []) (base_opened (dirs (name ∷ [])) (d []) (bases (name ∷ [])))) (sym (inside_is name inner dirs))
+            (subst (λ (d : Dirs). P e (d []) (base_opened (dirs (name ∷ [])) (d []) (bases (name ∷ [])))) (sym (with_dir_in_dir name inner dirs))
             (here e h (sym same)))
         | inr differ ↦ subst (λ (d : Dirs). P e (d []) (base_opened (dirs (e.name ∷ [])) (d []) (bases (e.name ∷ []))))
-            (sym (shares_base_is name e.name inner dirs differ)) (settled e (dirs (e.name ∷ [])) (bases (e.name ∷ [])) (all [] e h))
+            (sym (with_dir_in_other_dir name e.name inner dirs differ)) (settled e (dirs (e.name ∷ [])) (bases (e.name ∷ [])) (all [] e h))
       ])
-      (λ first. elim (same_names name first) [
+      (λ first. elim (name_eq_or_ne name first) [
         | inl same ↦ subst (λ n. Everywhere P (in_dir n new) (in_dir n (opened_bases dirs new bases))) same
-            (subst (λ (d : Dirs). Everywhere P d (opened_bases (in_dir name dirs) d (in_dir name bases))) (sym (inside_is name inner dirs)) inside)
+            (subst (λ (d : Dirs). Everywhere P d (opened_bases (in_dir name dirs) d (in_dir name bases))) (sym (with_dir_in_dir name inner dirs)) inside)
         | inr differ ↦ subst (λ (d : Dirs). Everywhere P d (opened_bases (in_dir first dirs) d (in_dir first bases)))
-            (sym (shares_base_is name first inner dirs differ)) (all_settled (in_dir first dirs) (in_dir first bases) (λ q. all (first ∷ q)))
+            (sym (with_dir_in_other_dir name first inner dirs differ)) (all_settled (in_dir first dirs) (in_dir first bases) (λ q. all (first ∷ q)))
       ])
 
   -- a property below a directory that wasn't open
@@ -116,7 +116,7 @@ module _ (P : OfEntry) (trees : Trees) (null : ObjectId) (lasts : Lasts P trees 
   everywhere_opened path dirs new requested (down name rest d inner e entries more has named is opens) bases all =
       opened_with name d inner bases
       (λ x h called. subst (λ o. P x o (base_opened (d (name ∷ [])) o (bases (name ∷ []))))
-      (sym (opens_root trees rest (in_dir name d) inner more opens))
+      (sym (opens_keeps_root trees rest (in_dir name d) inner more opens))
       (settled x (d (name ∷ [])) (bases (name ∷ [])) (subst (λ n. P x (d (n ∷ [])) (bases (n ∷ []))) called (all [] x h))))
       (everywhere_opened rest (in_dir name d) inner more opens (in_dir name bases) (λ q. all (name ∷ q))) all
   everywhere_opened path dirs new requested (found name rest d inner e entries first more entry tree free none finds opens) bases all =
@@ -126,7 +126,7 @@ module _ (P : OfEntry) (trees : Trees) (null : ObjectId) (lasts : Lasts P trees 
       opened_with name d inner bases
       (λ x h called. subst (λ (y : EntryView). P y (inner []) (base_opened (d (name ∷ [])) (inner []) (bases (name ∷ [])))) (sym (entry.2 x h called))
       (subst (λ o. P e (inner []) (base_opened o (inner []) (bases (name ∷ [])))) (sym (none []))
-      (subst (λ o. P e o o) (sym (opens_root trees rest (only entries) inner more opens)) is.0)))
+      (subst (λ o. P e o o) (sym (opens_keeps_root trees rest (only entries) inner more opens)) is.0)))
       (below_found name d inner bases entries none
       (everywhere_opened rest (only entries) inner more opens (λ _. None) (alone_everywhere entries is.1))) all
 
@@ -139,13 +139,13 @@ module _ (P : OfEntry) (trees : Trees) (null : ObjectId) (lasts : Lasts P trees 
       → Everywhere P new (edited_bases dirs new bases)
   edited_in name dirs new inner bases is next_to here others inside all =
       by_level new (edited_bases dirs new bases)
-      (λ e h. elim (same_names name e.name) [
+      (λ e h. elim (name_eq_or_ne name e.name) [
         | inl same ↦ subst (λ n. P e (new (n ∷ [])) (base_edited (dirs (n ∷ [])) (new (n ∷ [])) (bases (n ∷ [])))) same
             (subst (λ (d : Dirs). P e (d []) (base_edited (dirs (name ∷ [])) (d []) (bases (name ∷ [])))) (sym is) (here e h (sym same)))
         | inr differ ↦ subst (λ (d : Dirs). P e (d []) (base_edited (dirs (e.name ∷ [])) (d []) (bases (e.name ∷ [])))) (sym (next_to e.name differ))
             (edited e (dirs (e.name ∷ [])) (bases (e.name ∷ [])) (all [] e (others e h (λ q. differ (sym q)))))
       ])
-      (λ first. elim (same_names name first) [
+      (λ first. elim (name_eq_or_ne name first) [
         | inl same ↦ subst (λ n. Everywhere P (in_dir n new) (in_dir n (edited_bases dirs new bases))) same
             (subst (λ (d : Dirs). Everywhere P d (edited_bases (in_dir name dirs) d (in_dir name bases))) (sym is) inside)
         | inr differ ↦ subst (λ (d : Dirs). Everywhere P d (edited_bases (in_dir first dirs) d (in_dir first bases))) (sym (next_to first differ))
@@ -156,20 +156,20 @@ module _ (P : OfEntry) (trees : Trees) (null : ObjectId) (lasts : Lasts P trees 
   no_tree : (name : List ℕ) (o : Option (List EntryView)) → ((e : EntryView) → HasAt o e → e.name ≡ name → is_tree_mode e.mode ≡ false)
       → has_tree name (or_empty o) ≡ false
   no_tree name o none = elim (has_tree name (or_empty o)) as (λ b. has_tree name (or_empty o) ≡ b → b ≡ false) [
-    | true ↦ λ is. let e = has_tree_of name (or_empty o) is in absurd (true≢false (sym e.3 ∙ none e.0 (or_empty_has o e.0 e.1) e.2))
+    | true ↦ λ is. let e = entry_of_has_tree name (or_empty o) is in absurd (true≢false (sym e.3 ∙ none e.0 (has_at_of_or_empty o e.0 e.1) e.2))
     | false ↦ λ is. refl
   ] refl
 
   a_tree : (name : List ℕ) (o : Option (List EntryView)) (e : EntryView) → HasAt o e → e.name ≡ name → is_tree_mode e.mode ≡ true
       → has_tree name (or_empty o) ≡ true
   a_tree name None e h named tree = absurd h
-  a_tree name (Some es) e h named tree = of_has_tree name es e h named tree
+  a_tree name (Some es) e h named tree = has_tree_of_entry name es e h named tree
 
   made_entry : (name : List ℕ) (es : List EntryView) (e : EntryView) → has_tree name es ≡ false → Has (with_directory name null es) e → e.name ≡ name
       → record { mode = tree_type; name = name; id = null } ≡ e
   made_entry name es e none h called =
       let x : EntryView = record { mode = tree_type; name = name; id = null } in
-      ⊎_elim (λ same. same) (λ old. absurd (old.1 called)) (has_inserted x es e (subst (λ b. Has (cond b es (with_entry x es)) e) none h))
+      ⊎_elim (λ same. same) (λ old. absurd (old.1 called)) (has_of_with_entry x es e (subst (λ b. Has (cond b es (with_entry x es)) e) none h))
 
   -- the entry of a directory that an edit creates or finds open has the property
   directory_here : (name : List ℕ) (dirs bases : Dirs) (inner : Option (List EntryView)) (root : List EntryView) → inner ≡ Some root → AreAbove dirs
@@ -187,7 +187,8 @@ module _ (P : OfEntry) (trees : Trees) (null : ObjectId) (lasts : Lasts P trees 
   directory_here name dirs bases inner root is above all (inr there) e h called =
       let up = above [] name there.0 there.1 in
       let old : HasAt (dirs []) e =
-      or_empty_has (dirs []) e (subst (λ l. Has l e) (directory_same name null (or_empty (dirs [])) (a_tree name (dirs []) up.0 up.1 up.2 up.3)) h) in
+      has_at_of_or_empty (dirs []) e (subst (λ l. Has l e) (with_directory_of_tree name null (or_empty (dirs [])) (a_tree name (dirs []) up.0 up.1 up.2 up.3))
+          h) in
       stays_open e (dirs (name ∷ [])) inner (bases (name ∷ [])) there.0 root there.1 is
       (subst (λ n. P e (dirs (n ∷ [])) (bases (n ∷ []))) called (all [] e old))
 
@@ -197,12 +198,12 @@ module _ (P : OfEntry) (trees : Trees) (null : ObjectId) (lasts : Lasts P trees 
       → Everywhere P (upserted_dirs (name ∷ []) mode id null dirs) (edited_bases dirs (upserted_dirs (name ∷ []) mode id null dirs) bases)
   inserted_here name mode id dirs bases new all =
       let x : EntryView = record { mode = mode; name = name; id = id } in
-      edited_in name dirs (upserted_dirs (name ∷ []) mode id null dirs) (λ _. None) bases (inserted_in name mode id null dirs)
-      (λ first differ. inserted_next_to name first mode id null dirs differ)
+      edited_in name dirs (upserted_dirs (name ∷ []) mode id null dirs) (λ _. None) bases (inserted_name_in_dir name mode id null dirs)
+      (λ first differ. inserted_name_in_other_dir name first mode id null dirs differ)
       (λ e h called. ⊎_elim (λ same. subst (λ (y : EntryView). P y None None) same new) (λ old. absurd (old.1 called))
-      (has_inserted x (or_empty (dirs [])) e h))
-      (λ e h other. ⊎_elim (λ same. absurd (other (ap (λ (y : EntryView). y.name) (sym same)))) (λ old. or_empty_has (dirs []) e old.0)
-      (has_inserted x (or_empty (dirs [])) e h))
+      (has_of_with_entry x (or_empty (dirs [])) e h))
+      (λ e h other. ⊎_elim (λ same. absurd (other (ap (λ (y : EntryView). y.name) (sym same)))) (λ old. has_at_of_or_empty (dirs []) e old.0)
+      (has_of_with_entry x (or_empty (dirs [])) e h))
       (nowhere (λ _. None) (edited_bases (in_dir name dirs) (λ _. None) (in_dir name bases)) (λ at. refl)) all
 
   ready_below : (name next : List ℕ) (rest : Path) (dirs : Dirs) → IsReady (name ∷ next ∷ rest) dirs → IsReady (next ∷ rest) (in_dir name dirs)
@@ -223,12 +224,12 @@ module _ (P : OfEntry) (trees : Trees) (null : ObjectId) (lasts : Lasts P trees 
   everywhere_upserted [] mode id dirs bases new ready above all = all_edited dirs bases all
   everywhere_upserted (name ∷ []) mode id dirs bases new ready above all = inserted_here name mode id dirs bases (new name) all
   everywhere_upserted (name ∷ next ∷ rest) mode id dirs bases new ready above all =
-      let root = upserted_root next rest mode id null (in_dir name dirs) in
+      let root = upserted_dirs_keep_root next rest mode id null (in_dir name dirs) in
       edited_in name dirs (upserted_dirs (name ∷ next ∷ rest) mode id null dirs) (upserted_dirs (next ∷ rest) mode id null (in_dir name dirs)) bases
-      (upserted_in name next rest mode id null dirs) (λ first differ. upserted_next_to name first next rest mode id null dirs differ)
+      (upserted_dirs_in_dir name next rest mode id null dirs) (λ first differ. upserted_dirs_in_other_dir name first next rest mode id null dirs differ)
       (directory_here name dirs bases (upserted_dirs (next ∷ rest) mode id null (in_dir name dirs) []) root.0 root.1 above all
       (ready_here name next rest dirs ready))
-      (λ e h other. or_empty_has (dirs []) e (has_directory name null (or_empty (dirs [])) e other h))
+      (λ e h other. has_at_of_or_empty (dirs []) e (has_of_with_directory name null (or_empty (dirs [])) e other h))
       (everywhere_upserted (next ∷ rest) mode id (in_dir name dirs) (in_dir name bases) new (ready_below name next rest dirs ready)
       (λ q. above (name ∷ q))
       (λ q. all (name ∷ q))) all
@@ -254,14 +255,14 @@ module _ (P : OfEntry) (trees : Trees) (null : ObjectId) (lasts : Lasts P trees 
       → Everywhere P (ensured_dirs path null dirs) (edited_bases dirs (ensured_dirs path null dirs) bases)
   everywhere_ensured [] dirs bases along above all =
       by_level (ensured_dirs [] null dirs) (edited_bases dirs (ensured_dirs [] null dirs) bases)
-      (λ e h. edited e (dirs (e.name ∷ [])) (bases (e.name ∷ [])) (all [] e (or_empty_has (dirs []) e h)))
+      (λ e h. edited e (dirs (e.name ∷ [])) (bases (e.name ∷ [])) (all [] e (has_at_of_or_empty (dirs []) e h)))
       (λ first. all_edited (in_dir first dirs) (in_dir first bases) (λ q. all (first ∷ q)))
   everywhere_ensured (name ∷ rest) dirs bases along above all =
       let root = ensured_list rest (in_dir name dirs) in
       edited_in name dirs (ensured_dirs (name ∷ rest) null dirs) (ensured_dirs rest null (in_dir name dirs)) bases
-      (ensured_in name rest null dirs) (λ first differ. ensured_next_to name first rest null dirs differ)
+      (ensured_dirs_in_dir name rest null dirs) (λ first differ. ensured_dirs_in_other_dir name first rest null dirs differ)
       (directory_here name dirs bases (ensured_dirs rest null (in_dir name dirs) []) root.0 root.1 above all (along_here name rest dirs along))
-      (λ e h other. or_empty_has (dirs []) e (has_directory name null (or_empty (dirs [])) e other h))
+      (λ e h other. has_at_of_or_empty (dirs []) e (has_of_with_directory name null (or_empty (dirs [])) e other h))
       (everywhere_ensured rest (in_dir name dirs) (in_dir name bases) (along_below name rest dirs along) (λ q. above (name ∷ q))
       (λ q. all (name ∷ q))) all
 
@@ -277,20 +278,20 @@ module _ (P : OfEntry) (trees : Trees) (null : ObjectId) (lasts : Lasts P trees 
   removed_here (name ∷ next ∷ rest) dirs e base p = edited e (dirs []) base p
 
   taken_in : (name : List ℕ) (dirs : Dirs) → in_dir name (removed_dirs (name ∷ []) dirs) ≡ (λ _. None)
-  taken_in name dirs = ap (λ b path. cond b None (dirs (name ∷ path))) (name_itself name)
+  taken_in name dirs = ap (λ b path. cond b None (dirs (name ∷ path))) (same_name_refl name)
 
   pub everywhere_removed : (path : Path) (dirs bases : Dirs) → Everywhere P dirs bases
       → Everywhere P (removed_dirs path dirs) (edited_bases dirs (removed_dirs path dirs) bases)
   everywhere_removed [] dirs bases all = all_edited dirs bases all
   everywhere_removed (name ∷ []) dirs bases all =
       edited_in name dirs (removed_dirs (name ∷ []) dirs) (λ _. None) bases (taken_in name dirs)
-      (λ first differ. taken_next_to name first dirs differ)
-      (λ e h called. absurd ((taken_has name (dirs []) e h).1 called)) (λ e h other. (taken_has name (dirs []) e h).0)
+      (λ first differ. removed_name_in_other_dir name first dirs differ)
+      (λ e h called. absurd ((has_at_of_without name (dirs []) e h).1 called)) (λ e h other. (has_at_of_without name (dirs []) e h).0)
       (nowhere (λ _. None) (edited_bases (in_dir name dirs) (λ _. None) (in_dir name bases)) (λ at. refl)) all
   everywhere_removed (name ∷ next ∷ rest) dirs bases all =
       edited_in name dirs (removed_dirs (name ∷ next ∷ rest) dirs) (removed_dirs (next ∷ rest) (in_dir name dirs)) bases
-      (removed_in name next rest dirs)
-      (λ first differ. removed_next_to name first next rest dirs differ)
+      (removed_dirs_in_dir name next rest dirs)
+      (λ first differ. removed_dirs_in_other_dir name first next rest dirs differ)
       (λ e h called. removed_here (next ∷ rest) (in_dir name dirs) e (bases (name ∷ []))
       (subst (λ n. P e (dirs (n ∷ [])) (bases (n ∷ []))) called (all [] e h)))
       (λ e h other. h) (everywhere_removed (next ∷ rest) (in_dir name dirs) (in_dir name bases) (λ q. all (name ∷ q))) all
@@ -299,7 +300,7 @@ module _ (P : OfEntry) (trees : Trees) (null : ObjectId) (lasts : Lasts P trees 
   replaced_here : (rest : Path) (own : List EntryView) (dirs : Dirs) (e : EntryView) (base : Option (List EntryView)) → dirs rest ≢ None
       → P e (dirs []) base
       → P e (with_path rest (only own) dirs []) (base_edited (dirs []) (with_path rest (only own) dirs []) base)
-  replaced_here [] own dirs e base there p = let was = list_at (dirs []) there in stays_open e (dirs []) (Some own) base was.0 own was.1 refl p
+  replaced_here [] own dirs e base there p = let was = list_at_open_prefix (dirs []) there in stays_open e (dirs []) (Some own) base was.0 own was.1 refl p
   replaced_here (name ∷ rest) own dirs e base there p = edited e (dirs []) base p
 
   pub everywhere_written : (prefix : Path) (own : List EntryView) (dirs bases : Dirs) → dirs prefix ≢ None
@@ -310,8 +311,8 @@ module _ (P : OfEntry) (trees : Trees) (null : ObjectId) (lasts : Lasts P trees 
       (λ first path e h. absurd h)
   everywhere_written (name ∷ rest) own dirs bases there each all =
       let below : Dirs = with_path rest (only own) (in_dir name dirs) in
-      edited_in name dirs (with_path (name ∷ rest) (only own) dirs) below bases (inside_is name below dirs)
-      (λ first differ. shares_base_is name first below dirs differ)
+      edited_in name dirs (with_path (name ∷ rest) (only own) dirs) below bases (with_dir_in_dir name below dirs)
+      (λ first differ. with_dir_in_other_dir name first below dirs differ)
       (λ e h called. replaced_here rest own (in_dir name dirs) e (bases (name ∷ [])) there
       (subst (λ n. P e (dirs (n ∷ [])) (bases (n ∷ []))) called (all [] e h)))
       (λ e h other. h) (everywhere_written rest own (in_dir name dirs) (in_dir name bases) there each (λ q. all (name ∷ q))) all

@@ -43,11 +43,11 @@ kept_one x filled = ap (λ b. cond (not b) (x ∷ []) []) filled
 same_with : (e x : EntryView) (id : ObjectId) → x ≡ with_id e id → with_id e x.id ≡ x
 same_with e x id is = ap (λ (y : EntryView). with_id e y.id) is ∙ sym is
 
-pub sift_step : (e : EntryView) (rest remaining : List EntryView) → AllByRecursion (λ y. e.name ≢ y.name) rest → AreFilled remaining
+pub filters_step : (e : EntryView) (rest remaining : List EntryView) → AllByRecursion (λ y. e.name ≢ y.name) rest → AreFilled remaining
     → IsFilteredTree remaining (e ∷ rest) → Sifts e rest remaining (id_among e.name remaining) (filtered_out e.name remaining)
-sift_step e rest [] apart filled (inl h) = record { here = refl; is_filtered = h; filled = tt }
-sift_step e rest [] apart filled (inr h) = absurd (cc h.2)
-sift_step e rest (x ∷ xs) apart filled h =
+filters_step e rest [] apart filled (inl h) = record { here = refl; is_filtered = h; filled = tt }
+filters_step e rest [] apart filled (inr h) = absurd (cc h.2)
+filters_step e rest (x ∷ xs) apart filled h =
     elim (same_name x.name e.name) as (λ b. same_name x.name e.name ≡ b → Sifts e rest (x ∷ xs) (cond b x.id (null_id Sha1)) (cond b xs (x ∷ xs))) [
       | true ↦ λ is. ⊎_elim (λ following. absurd (first_named e.name x xs rest following apart (sym ((bytes_decides x.name e.name).0 is))))
           (λ (here : (id : ObjectId) × (more : List EntryView) × (x ∷ xs ≡ with_id e id ∷ more) × IsFilteredTree more rest). record {
@@ -78,7 +78,7 @@ some_is : (xs ys : List EntryView) → Some xs ≡ Some ys → xs ≡ ys
 some_is xs ys is = cc is
 
 -- the written tree of a directory has some of its entries
-pub leaves_filtered : (dirs bases : Dirs) (ps : List Pair) (own : List EntryView) (n : ℕ) (es : List EntryView) → EmitsBelow dirs bases ps own n
+pub is_filtered_tree_of_walk : (dirs bases : Dirs) (ps : List Pair) (own : List EntryView) (n : ℕ) (es : List EntryView) → EmitsBelow dirs bases ps own n
     → dirs [] ≡ Some es → IsFilteredTree own es
-leaves_filtered dirs bases ps own n es (leaves d b items below os m is walk) there = subst (IsFilteredTree own) (some_is items es (sym is ∙ there))
+is_filtered_tree_of_walk dirs bases ps own n es (leaves d b items below os m is walk) there = subst (IsFilteredTree own) (some_is items es (sym is ∙ there))
     (walk_filtered d b items below own m walk)

@@ -12,23 +12,23 @@ use Rattle.gixobj_files.specs.Editing.{comes_before, non_null_entries, same_name
 use Rattle.gixobj_files.specs.Files.{Path, is_null}
 use Rattle.gixobj_files.specs.Opening.{IsOpened}
 use Rattle.gixobj_files.specs.State.{root_alone}
-use Rattle.gixobj_files.proofs.KeyOrder.{before_other, before_passing}
+use Rattle.gixobj_files.proofs.KeyOrder.{comes_before_of_false, comes_before_of_true}
 use Rattle.gixobj_files.proofs.Sublists.{all_append, all_both, all_kept, all_pass, all_weaker, later_append, later_kept, later_parted}
-use Rattle.gixobj_tree.proofs.WellFormed.{comes_trans}
+use Rattle.gixobj_tree.proofs.WellFormed.{comes_before_trans}
 
 -- a filtered list is well-formed
-pub well_formed_filtered : (p : EntryView → Bool) (es : List EntryView) → IsWellFormed es → IsWellFormed (filter p es)
-well_formed_filtered p es formed = record {
+pub is_well_formed_filter : (p : EntryView → Bool) (es : List EntryView) → IsWellFormed es → IsWellFormed (filter p es)
+is_well_formed_filter p es formed = record {
   names = all_kept (λ e. IsEntryName e.name) p es formed.names;
   apart = later_kept (λ x y. x.name ≢ y.name) p es formed.apart;
   ascending = later_kept ComesBefore p es formed.ascending;
 }
 
-pub well_formed_without : (name : List ℕ) (es : List EntryView) → IsWellFormed es → IsWellFormed (without name es)
-well_formed_without name = well_formed_filtered (λ e. not (same_name e.name name))
+pub is_well_formed_without : (name : List ℕ) (es : List EntryView) → IsWellFormed es → IsWellFormed (without name es)
+is_well_formed_without name = is_well_formed_filter (λ e. not (same_name e.name name))
 
-pub well_formed_kept : (es : List EntryView) → IsWellFormed es → IsWellFormed (non_null_entries es)
-well_formed_kept = well_formed_filtered (λ e. not (is_null e.id))
+pub is_well_formed_non_null : (es : List EntryView) → IsWellFormed es → IsWellFormed (non_null_entries es)
+is_well_formed_non_null = is_well_formed_filter (λ e. not (is_null e.id))
 
 -- a list is well-formed with an entry at its position, among entries of other names
 module _ (x : EntryView) (es : List EntryView) (formed : IsWellFormed es) (name : IsEntryName x.name) (others : AllByRecursion (λ e. e.name ≢ x.name) es) where
@@ -43,7 +43,7 @@ module _ (x : EntryView) (es : List EntryView) (formed : IsWellFormed es) (name 
       (all_kept (λ (e : EntryView). e.name ≢ x.name) (λ e. not (comes_before e x)) es others)
 
   lower_below : AllByRecursion (λ e. ComesBefore e x) lower
-  lower_below = all_weaker (λ (e : EntryView). comes_before e x ≡ true) (λ (e : EntryView). ComesBefore e x) (λ e passes. before_passing e x passes) lower
+  lower_below = all_weaker (λ (e : EntryView). comes_before e x ≡ true) (λ (e : EntryView). ComesBefore e x) (λ e passes. comes_before_of_true e x passes) lower
       (all_pass (λ e. comes_before e x) es)
 
   upper_above : AllByRecursion (ComesBefore x) upper
@@ -51,7 +51,7 @@ module _ (x : EntryView) (es : List EntryView) (formed : IsWellFormed es) (name 
       let facts = all_both (λ (e : EntryView). IsEntryName e.name) (λ (e : EntryView). e.name ≢ x.name) es formed.names others in
       let upper_facts = all_kept (λ (e : EntryView). IsEntryName e.name × (e.name ≢ x.name)) (λ e. not (comes_before e x)) es facts in
       all_weaker (λ (e : EntryView). (IsEntryName e.name × (e.name ≢ x.name)) × (not (comes_before e x) ≡ true)) (ComesBefore x)
-      (λ e h. before_other e x h.0.0.one_name name.one_name h.0.1 h.1) upper
+      (λ e h. comes_before_of_false e x h.0.0.one_name name.one_name h.0.1 h.1) upper
       (all_both (λ (e : EntryView). IsEntryName e.name × (e.name ≢ x.name)) (λ (e : EntryView). not (comes_before e x) ≡ true) upper upper_facts
       (all_pass (λ e. not (comes_before e x)) es))
 
@@ -75,7 +75,7 @@ module _ (x : EntryView) (es : List EntryView) (formed : IsWellFormed es) (name 
       later_append ComesBefore lower (x ∷ upper) (later_kept ComesBefore (λ e. comes_before e x) es formed.ascending)
       (upper_above, later_kept ComesBefore (λ e. not (comes_before e x)) es formed.ascending)
       (all_weaker (λ (e : EntryView). ComesBefore e x) (λ (e : EntryView). ComesBefore e x × AllByRecursion (ComesBefore e) upper)
-      (λ e below. (below, all_weaker (ComesBefore x) (ComesBefore e) (λ z above. comes_trans e x z below above) upper upper_above)) lower lower_below)
+      (λ e below. (below, all_weaker (ComesBefore x) (ComesBefore e) (λ z above. comes_before_trans e x z below above) upper upper_above)) lower lower_below)
 
   inserted_formed : IsWellFormed (lower ++ x ∷ upper)
   inserted_formed = record { names = inserted_names; apart = inserted_apart; ascending = inserted_ascending }
@@ -85,8 +85,8 @@ other_names name es =
     all_weaker (λ (e : EntryView). not (same_name e.name name) ≡ true) (λ (e : EntryView). e.name ≢ name)
     (λ e passes same. true≢false (sym passes ∙ ap not ((bytes_decides e.name name).1 same))) (without name es) (all_pass (λ e. not (same_name e.name name)) es)
 
-pub well_formed_with : (x : EntryView) (es : List EntryView) → IsWellFormed es → IsEntryName x.name → IsWellFormed (with_entry x es)
-well_formed_with x es formed name = inserted_formed x (without x.name es) (well_formed_without x.name es formed) name (other_names x.name es)
+pub is_well_formed_with_entry : (x : EntryView) (es : List EntryView) → IsWellFormed es → IsEntryName x.name → IsWellFormed (with_entry x es)
+is_well_formed_with_entry x es formed name = inserted_formed x (without x.name es) (is_well_formed_without x.name es formed) name (other_names x.name es)
 
 -- the open directories if the root alone is open
 abbrev alone : Path → List EntryView → Option (List EntryView)
@@ -106,8 +106,8 @@ not_empty : (path : Path) (name : List ℕ) → path ++ name ∷ [] ≢ []
 not_empty [] name e = cc e
 not_empty (first ∷ path) name e = cc e
 
-pub opened_root : (es : List EntryView) → IsWellFormed es → IsOpened (λ path. map.get (root_alone es) path)
-opened_root es formed = record {
+pub root_alone_is_opened : (es : List EntryView) → IsWellFormed es → IsOpened (λ path. map.get (root_alone es) path)
+root_alone_is_opened es formed = record {
   root = λ none. cc (sym (root_alone_at es []) ∙ none);
   well_formed = λ path entries opened. subst IsWellFormed (only_root path es entries (sym (root_alone_at es path) ∙ opened)).1 formed;
   above = λ path name entries opened. absurd

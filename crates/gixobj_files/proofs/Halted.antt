@@ -11,7 +11,7 @@ use Rattle.gixobj_files.specs.OpeningStops.{StopsOpening, IsAbove, IsNextUnopene
 use Rattle.gixobj_files.specs.OpeningStops as halting
 use Rattle.gixobj_files.specs.Opening.{Dirs, in_dir}
 use Rattle.gixobj_files.specs.Unopened.{needs_opening, needs_lookup, needs_tree_lookup, is_unopened, looked_up_entry, unopened_count}
-use Rattle.gixobj_files.proofs.UnopenedCounts.{IsIdle, count_found, count_open, count_vain, found_below, lookup_needed, the_entry, known_open, unopened_found, unopened_here, unopened_nowhere, unopened_open, unsought}
+use Rattle.gixobj_files.proofs.UnopenedCounts.{IsIdle, count_found, count_open, count_vain, found_below, lookup_needed, first_entry_of_has_at, known_open, unopened_found, unopened_here, unopened_nowhere, unopened_open, needs_no_lookup}
 
 module _ (trees : Trees) where
   -- a path has a name after each of its directories
@@ -76,7 +76,7 @@ module _ (trees : Trees) where
       e,
       refl,
       unopened_here trees name d e entry tree (none []) ∙ lookup_needed e.id filled,
-      the_entry name (d []) e entry,
+      first_entry_of_has_at name (d []) e entry,
       cc is,
     ),
   )
@@ -174,7 +174,7 @@ module _ (trees : Trees) where
           entry = e;
           above = (name, [], remaining.0, remaining.1, refl, ap (λ p. name ∷ p) remaining.2);
           unopened = unopened_here trees name d e entry tree (none []) ∙ lookup_needed e.id filled;
-          yielded = the_entry name (d []) e entry;
+          yielded = first_entry_of_has_at name (d []) e entry;
           named = cc is;
         },
         rest,
@@ -198,7 +198,7 @@ module _ (trees : Trees) where
         entry = e;
         above = (name, [], remaining.0, remaining.1, refl, ap (λ p. name ∷ p) remaining.2);
         not_open = none [];
-        yielded = the_entry name (d []) e entry;
+        yielded = first_entry_of_has_at name (d []) e entry;
         tree = tree;
         free = free;
       }
@@ -251,7 +251,7 @@ module _ (trees : Trees) where
 
   known_one : (it : ObjectId) (entries : List EntryView) (first : List ObjectId) → Finds trees it entries first → needs_lookup it ≡ true
       → trees it ≡ Some entries
-  known_one it entries first (formed, inl (empty, nothing, none)) is = absurd (let bad : true ≡ false = sym is ∙ unsought it empty in cc bad)
+  known_one it entries first (formed, inl (empty, nothing, none)) is = absurd (let bad : true ≡ false = sym is ∙ needs_no_lookup it empty in cc bad)
   known_one it entries first (formed, inr (filled, named, requests)) is = named
 
   pub opens_known : {Ends : EntryView → Type 0} → IsIdle Ends → (path : Path) (old new : Dirs) (requested : List ObjectId)
@@ -283,7 +283,7 @@ module _ (trees : Trees) where
       [] rest joined unopened entry seen =
       let same = same_head name first _ _ joined in
       let here : first_entry_of name (d []) ≡ Some entry = subst (λ n. first_entry_of n (d []) ≡ Some entry) (sym same) seen in
-      let it : e ≡ entry = one_known e entry (first_entry_of name (d [])) (the_entry name (d []) e own) here in
+      let it : e ≡ entry = one_known e entry (first_entry_of name (d [])) (first_entry_of_has_at name (d []) e own) here in
       let requested_for : needs_lookup e.id ≡ true = sym (unopened_here trees name d e own tree (none []))
       ∙ subst (λ n. is_unopened trees d (n ∷ []) ≡ true)
       (sym same) unopened in

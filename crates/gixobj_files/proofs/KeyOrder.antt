@@ -8,15 +8,15 @@ use Rattle.gixobj_tree.specs.Entries.{ComesBefore, EntryView, entry_key, key_of}
 use Rattle.gixobj_mode.specs.Mode.{is_tree_mode}
 use Rattle.gixobj_hash.specs.ByteStrings.{IsByteFree}
 use Rattle.gixobj_files.specs.Editing.{comes_before}
-use Rattle.gixobj_tree.proofs.WellFormed.{slash_ends}
+use Rattle.gixobj_tree.proofs.WellFormed.{no_slash_at_end}
 
 less : (o : Ordering) → is_lt o ≡ true → o ≡ Less
 less Less h = refl
 less Equal h = absurd (true≢false (sym h))
 less Greater h = absurd (true≢false (sym h))
 
-pub before_passing : (x y : EntryView) → comes_before x y ≡ true → ComesBefore x y
-before_passing x y = less (slice_cmp nat_cmp (entry_key x) (entry_key y))
+pub comes_before_of_true : (x y : EntryView) → comes_before x y ≡ true → ComesBefore x y
+comes_before_of_true x y = less (slice_cmp nat_cmp (entry_key x) (entry_key y))
 
 same_prefix : (xs ys : List ℕ) → xs ++ 47 ∷ [] ≡ ys ++ 47 ∷ [] → xs ≡ ys
 same_prefix [] [] e = refl
@@ -29,8 +29,8 @@ same_prefix (x ∷ xs) (y ∷ ys) e = let rest = same_prefix xs ys (cc e) in cc 
 same_names : (xs : List ℕ) (t : Bool) (ys : List ℕ) (u : Bool) → IsByteFree 47 xs → IsByteFree 47 ys → key_of xs t ≡ key_of ys u → xs ≡ ys
 same_names xs true ys true a b e = same_prefix xs ys e
 same_names xs false ys false a b e = e
-same_names xs true ys false a b e = absurd (slash_ends xs (subst (IsByteFree 47) (sym e) b))
-same_names xs false ys true a b e = absurd (slash_ends ys (subst (IsByteFree 47) e a))
+same_names xs true ys false a b e = absurd (no_slash_at_end xs (subst (IsByteFree 47) (sym e) b))
+same_names xs false ys true a b e = absurd (no_slash_at_end ys (subst (IsByteFree 47) e a))
 
 tied_names : (x y : EntryView) → IsByteFree 47 x.name → IsByteFree 47 y.name → slice_cmp nat_cmp (entry_key x) (entry_key y) ≡ Equal → x.name ≡ y.name
 tied_names x y a b tie = same_names x.name (is_tree_mode x.mode) y.name (is_tree_mode y.mode) a b
@@ -42,8 +42,9 @@ other_way Equal back e fails untied = absurd (untied refl)
 other_way Greater back e fails untied = e
 
 -- of two entries whose names differ, one comes before the other
-pub before_other : (x y : EntryView) → IsByteFree 47 x.name → IsByteFree 47 y.name → (x.name ≢ y.name) → not (comes_before x y) ≡ true → ComesBefore y x
-before_other x y a b differ fails =
+pub comes_before_of_false : (x y : EntryView) → IsByteFree 47 x.name → IsByteFree 47 y.name → (x.name ≢ y.name) → not (comes_before x y) ≡ true
+    → ComesBefore y x
+comes_before_of_false x y a b differ fails =
     let back = nat_list_cmp_total.antisymm (entry_key y) (entry_key x) in
     other_way (slice_cmp nat_cmp (entry_key x) (entry_key y)) (slice_cmp nat_cmp (entry_key y) (entry_key x)) back fails
     (λ tie. differ (tied_names x y a b tie))

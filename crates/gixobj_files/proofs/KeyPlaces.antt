@@ -17,30 +17,30 @@ use Rattle.std.proofs.lemmas.List.Quantifiers.{position-Some}
 use Rattle.std.proofs.lemmas.List.Sums.{prefix_len-le-length, prefix_len_passes, prefix_len_stops}
 use Rattle.gixobj_files.specs.Editing.{has_tree, same_name}
 use Rattle.gixobj_hash.specs.ByteStrings.{IsByteFree}
-use Rattle.gixobj_tree.proofs.NameKeys.{by_keys}
-use Rattle.gixobj_tree.proofs.WellFormed.{found, same_key, slash_ends}
+use Rattle.gixobj_tree.proofs.NameKeys.{name_cmp_eq_key_cmp}
+use Rattle.gixobj_tree.proofs.WellFormed.{has_key_of_test, eq_of_slice_cmp_equal, no_slash_at_end}
 use Rattle.gixobj_tree.specs.Entries.{EntryView, IsEntryName, IsWellFormed, entry_key, key_of, name_cmp}
 use Rattle.gixobj_mode.specs.Mode.{is_tree_mode}
 use Rattle.gixobj_tree.specs.WellFormed.{HasKey}
-use Rattle.gixobj_files.proofs.BinarySearch.{IsNarrowed, compared, first, greater_from, halved_key, halved_place, is_before, later_at, less_to, lt_is, narrowed_none, position_at, position_none}
+use Rattle.gixobj_files.proofs.BinarySearch.{IsNarrowed, compared, element_at, greater_from, halved_key, halved_place, is_before, later_at, less_to, less_of_compare, narrowed_none, position_at, position_none}
 
 -- a key has one name and one kind
 same_parts : (xs : List ℕ) (t : Bool) (ys : List ℕ) (u : Bool) → IsByteFree 47 xs → IsByteFree 47 ys → key_of xs t ≡ key_of ys u → (xs ≡ ys) × (t ≡ u)
 same_parts xs true ys true a b e = (append_cancel_right xs ys (47 ∷ []) e, refl)
 same_parts xs false ys false a b e = (e, refl)
-same_parts xs true ys false a b e = absurd (slash_ends xs (subst (IsByteFree 47) (sym e) b))
-same_parts xs false ys true a b e = absurd (slash_ends ys (subst (IsByteFree 47) e a))
+same_parts xs true ys false a b e = absurd (no_slash_at_end xs (subst (IsByteFree 47) (sym e) b))
+same_parts xs false ys true a b e = absurd (no_slash_at_end ys (subst (IsByteFree 47) e a))
 
 -- whether an entry of tree mode was found
-pub tree_looked_up : (name : List ℕ) (es : List EntryView) (r : Result ℕ ℕ)
+pub search_is_ok_eq_has_tree : (name : List ℕ) (es : List EntryView) (r : Result ℕ ℕ)
     → IfOk r (λ i. position (λ (e : EntryView). same_name e.name name) es ≡ Some i)
     → IfOk r (HoldsAt (λ (e : EntryView). is_tree_mode e.mode ≡ true) es)
     → IfErr r (λ (i : ℕ). HasKey es (key_of name true) → ⊥) → is_ok r ≡ has_tree name es
-tree_looked_up name [] (Ok i) place kind none = absurd (cc place)
-tree_looked_up name (e ∷ es) (Ok i) place kind none =
+search_is_ok_eq_has_tree name [] (Ok i) place kind none = absurd (cc place)
+search_is_ok_eq_has_tree name (e ∷ es) (Ok i) place kind none =
     let there = position-Some (λ (x : EntryView). same_name x.name name) (e ∷ es) i e place in
     sym (list_any_at (λ (x : EntryView). same_name x.name name && is_tree_mode x.mode) (e ∷ es) i e there.0 (rw (there.1, kind e) refl))
-tree_looked_up name es (Err i) place kind none =
+search_is_ok_eq_has_tree name es (Err i) place kind none =
     let is_such : EntryView → Bool = λ x. same_name x.name name && is_tree_mode x.mode in
     sym (list_any_none is_such es (λ k d low. false_from_ne_true (is_such (get_or es k d)) (λ such.
     let parts = and_parts (same_name (get_or es k d).name name) (is_tree_mode (get_or es k d).mode) such in
@@ -60,7 +60,7 @@ above name key fails =
     ∙ ap ordering_reverse
     (elim (slice_cmp nat_cmp key long) as (λ o. slice_cmp nat_cmp key long ≡ o → is_lt o ≡ false → slice_cmp nat_cmp name key ≡ Less) [
       | Less ↦ λ is f. absurd (true≢false f)
-      | Equal ↦ λ is f. subst (λ (k : List ℕ). slice_cmp nat_cmp name k ≡ Less) (sym (same_key key long is)) (shorter name)
+      | Equal ↦ λ is f. subst (λ (k : List ℕ). slice_cmp nat_cmp name k ≡ Less) (sym (eq_of_slice_cmp_equal key long is)) (shorter name)
       | Greater ↦ λ is f. nat_list_cmp_total.trans name long key (shorter name) (nat_list_cmp_total.antisymm long key ∙ ap ordering_reverse is)
     ] refl fails)
 
@@ -101,12 +101,12 @@ module _ (es : List EntryView) (formed : IsWellFormed es) (name : List ℕ) wher
   no_directory place no_file is next =
       let none : IsNarrowed entry_key es (key_of name true) place place = record {
         prefix = λ k d l. nat_list_cmp_total.trans (entry_key (get_or es k d)) name (key_of name true)
-            (lt_is (compared entry_key name (get_or es k d)) (prefix_len_passes (is_before entry_key name) es k d (omega (arith, is, l))))
+            (less_of_compare (compared entry_key name (get_or es k d)) (prefix_len_passes (is_before entry_key name) es k d (omega (arith, is, l))))
             (shorter name);
         back = λ k d from_place l. greater_from entry_key es formed.ascending (key_of name true) place
             (next (omega (arith, from_place, l))) k d from_place l;
       } in
-      no_place no_file (found es (key_of name true) (Err place) false refl formed.ascending
+      no_place no_file (has_key_of_test es (key_of name true) (Err place) false refl formed.ascending
       (omega (arith, is, prefix_len-le-length (is_before entry_key name) es)) (narrowed_none entry_key es (key_of name true) place none))
 
   -- if the entry before a directory's position comes before a file of its name, no entry has the name
@@ -125,7 +125,7 @@ module _ (es : List EntryView) (formed : IsWellFormed es) (name : List ℕ) wher
             (omega (arith, l));
         back = λ k d from_place l. greater_from entry_key es formed.ascending name place (stops (omega (arith, from_place, l))) k d from_place l;
       } in
-      no_place (found es name (Err place) false refl formed.ascending short (narrowed_none entry_key es name place none)) no_tree
+      no_place (has_key_of_test es name (Err place) false refl formed.ascending short (narrowed_none entry_key es name place none)) no_tree
 
   -- if one kind is missing, a search for the other finds the first entry of the name
   pub first_of_two : (r : Result ℕ ℕ) → (HasKey es (key_of name true) → ⊥)
@@ -148,7 +148,7 @@ module _ (es : List EntryView) (formed : IsWellFormed es) (name : List ℕ) wher
     -- entries compare by name and kind as their keys do
     keyed : (i : ℕ) (d : EntryView) → i < length es → (o : Ordering) → o ≡ name_cmp (get_or es i d).name (is_tree_mode (get_or es i d).mode) name t
         → by_key (get_or es i d) ≡ o
-    keyed i d low o is = sym (is ∙ by_keys (get_or es i d).name (is_tree_mode (get_or es i d).mode) name t (free_at i d low) free)
+    keyed i d low o is = sym (is ∙ name_cmp_eq_key_cmp (get_or es i d).name (is_tree_mode (get_or es i d).mode) name t (free_at i d low) free)
 
     pub first_in_pairs : (i : ℕ) (e : EntryView) → i < length es → e ≡ get_or es i e → (o : Ordering)
         → o ≡ name_cmp e.name (is_tree_mode e.mode) name t
@@ -165,7 +165,7 @@ module _ (es : List EntryView) (formed : IsWellFormed es) (name : List ℕ) wher
 
     pub found_place : (r : Result ℕ ℕ) → IsSearchInRange r (length es) → IsBinarySearchResult by_key es r
         → IfOk r (λ i. position (λ (e : EntryView). same_name e.name name) es ≡ Some i)
-    found_place (Ok i) range is = let d = first es i range in only_place i d range (at_key i d range is).0
+    found_place (Ok i) range is = let d = element_at es i range in only_place i d range (at_key i d range is).0
     found_place (Err i) range is = tt
 
     pub found_kind : (r : Result ℕ ℕ) → IsSearchInRange r (length es) → IsBinarySearchResult by_key es r
@@ -176,7 +176,7 @@ module _ (es : List EntryView) (formed : IsWellFormed es) (name : List ℕ) wher
     pub found_none : (r : Result ℕ ℕ) → IsSearchInRange r (length es) → IsBinarySearchResult by_key es r
         → IfErr r (λ (i : ℕ). HasKey es (key_of name t) → ⊥)
     found_none (Ok i) range is = tt
-    found_none (Err i) range is = found es (key_of name t) (Err i) false refl formed.ascending range is
+    found_none (Err i) range is = has_key_of_test es (key_of name t) (Err i) false refl formed.ascending range is
 
     pub found_before : (r : Result ℕ ℕ) → IsSearchInRange r (length es) → IsBinarySearchResult by_key es r
         → MatchResult r (λ i. i ≡ prefix_len (is_before entry_key (key_of name t)) es) (λ i. i ≡ prefix_len (is_before entry_key (key_of name t)) es)

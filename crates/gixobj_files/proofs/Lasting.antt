@@ -5,23 +5,23 @@ use Rattle.gixobj_hash.specs.declared.hash.object_id.ObjectId.{ObjectId}
 use Rattle.gixobj_files.specs.Edits.{IsNoTree, Opens, ensured_dirs, only, removed_dirs, upserted_dirs, with_path}
 use Rattle.gixobj_files.specs.Files.{Has, Path, Trees}
 use Rattle.gixobj_files.specs.Opening.{Dirs, IsOpened, in_dir, in_path}
-use Rattle.gixobj_files.proofs.EnsuredFiles.{opens_along}
-use Rattle.gixobj_files.proofs.OpeningFiles.{opens_ready}
-use Rattle.gixobj_files.proofs.StillOpenedOpenings.{opened_opening}
+use Rattle.gixobj_files.proofs.EnsuredFiles.{is_open_along_of_opens}
+use Rattle.gixobj_files.proofs.OpeningFiles.{opens_makes_ready}
+use Rattle.gixobj_files.proofs.StillOpenedOpenings.{is_opened_of_opens}
 use Rattle.gixobj_files.proofs.Everywhere.{Everywhere, Lasts, OfEntry, everywhere_ensured, everywhere_opened, everywhere_removed, everywhere_upserted, everywhere_written}
 use Rattle.gixobj_files.specs.Bases.{edited_bases, opened_bases}
 
 -- a property of all entries holds below a path
-pub everywhere_at : (P : OfEntry) (prefix : Path) (dirs bases : Dirs) → Everywhere P dirs bases
+pub everywhere_in_path : (P : OfEntry) (prefix : Path) (dirs bases : Dirs) → Everywhere P dirs bases
     → Everywhere P (in_path prefix dirs) (in_path prefix bases)
-everywhere_at P [] dirs bases all = all
-everywhere_at P (name ∷ rest) dirs bases all = everywhere_at P rest (in_dir name dirs) (in_dir name bases) (λ q. all (name ∷ q))
+everywhere_in_path P [] dirs bases all = all
+everywhere_in_path P (name ∷ rest) dirs bases all = everywhere_in_path P rest (in_dir name dirs) (in_dir name bases) (λ q. all (name ∷ q))
 
 -- if the root alone is open, no directory has a base
-pub everywhere_only : (P : OfEntry) (entries : List EntryView) → ((e : EntryView) → Has entries e → P e None None)
+pub everywhere_of_only : (P : OfEntry) (entries : List EntryView) → ((e : EntryView) → Has entries e → P e None None)
     → Everywhere P (only entries) (λ _. None)
-everywhere_only P entries each [] e h = each e h
-everywhere_only P entries each (name ∷ path) e h = absurd h
+everywhere_of_only P entries each [] e h = each e h
+everywhere_of_only P entries each (name ∷ path) e h = absurd h
 
 module _ (P : OfEntry) (trees : Trees) (null : ObjectId) (lasts : Lasts P trees null) (old bases : Dirs) (is_opened : IsOpened old)
     (all : Everywhere P old bases) where
@@ -35,15 +35,15 @@ module _ (P : OfEntry) (trees : Trees) (null : ObjectId) (lasts : Lasts P trees 
       → Everywhere P (upserted_dirs (head ++ last ∷ []) mode id null opened) (after opened (upserted_dirs (head ++ last ∷ []) mode id null opened))
   lasts_upserted head last mode id opened requested opens new =
       everywhere_upserted P trees null lasts (head ++ last ∷ []) mode id opened (opened_bases old opened bases) new
-      (opens_ready trees head last old opened requested opens)
-      ((opened_opening trees head old opened requested opens is_opened).above)
+      (opens_makes_ready trees head last old opened requested opens)
+      ((is_opened_of_opens trees head old opened requested opens is_opened).above)
       (everywhere_opened P trees null lasts head old opened requested opens bases all)
 
   pub lasts_ensured : (path : Path) (opened : Dirs) (requested : List ObjectId) → Opens IsNoTree trees path old opened requested
       → Everywhere P (ensured_dirs path null opened) (after opened (ensured_dirs path null opened))
   lasts_ensured path opened requested opens =
-      everywhere_ensured P trees null lasts path opened (opened_bases old opened bases) (opens_along trees path old opened requested opens)
-      ((opened_opening trees path old opened requested opens is_opened).above)
+      everywhere_ensured P trees null lasts path opened (opened_bases old opened bases) (is_open_along_of_opens trees path old opened requested opens)
+      ((is_opened_of_opens trees path old opened requested opens is_opened).above)
       (everywhere_opened P trees null lasts path old opened requested opens bases all)
 
   pub lasts_removed : {Ends : EntryView → Type 0} (head path : Path) (opened : Dirs) (requested : List ObjectId)

@@ -13,7 +13,7 @@ use Rattle.gixobj_hash.specs.declared.hash.object_id.ObjectId.{ObjectId}
 use Rattle.gixobj_hash.specs.declared.kind.Kind.TheVariants.{Tree}
 use Rattle.gixobj_files.specs.Files.{Table, Trees, is_null}
 use Rattle.gixobj_files.specs.Tables.{AgreesWithPairs, AgreesWithStore, IsConsistentWith, IsNeverLookedUp, IsFirst, IsTableOfStore, IsTableOf}
-use Rattle.gixobj_hash.proofs.SameIds.{same_ids}
+use Rattle.gixobj_hash.proofs.SameIds.{id_eq_or_ne}
 
 -- the ids of the empty tree, as digests, aren't null
 sha1_not_null : is_null (id_of hash.Sha1 Tree []) ≡ false
@@ -41,8 +41,8 @@ filled it one other hash.Sha256 = other
 empty_or_filled : (it : ObjectId) → IsEmpty it ⊎ IsFilled it
 empty_or_filled it =
     ⊎_elim (λ is. inl (hash.Sha1, is))
-    (λ one. ⊎_elim (λ is. inl (hash.Sha256, is)) (λ other. inr (filled it one other)) (same_ids it (id_of hash.Sha256 Tree [])))
-    (same_ids it (id_of hash.Sha1 Tree []))
+    (λ one. ⊎_elim (λ is. inl (hash.Sha256, is)) (λ other. inr (filled it one other)) (id_eq_or_ne it (id_of hash.Sha256 Tree [])))
+    (id_eq_or_ne it (id_of hash.Sha1 Tree []))
 
 -- a table of chosen trees; the null ids and those of the empty tree are as in every table
 module _ (choose : Trees) where
@@ -75,10 +75,10 @@ module _ (choose : Trees) where
 first_of : (pairs : List Pair) (it : ObjectId) → (found : Option (List EntryView)) × IsFirst pairs it found
 first_of [] it = (None, refl)
 first_of (pair ∷ pairs) it = ⊎_elim (λ same. (Some pair.1, inl (same, refl))) (λ other. let rest = first_of pairs it in (rest.0, inr (other, rest.1)))
-    (same_ids pair.0 it)
+    (id_eq_or_ne pair.0 it)
 
-pub table_of : (pairs : List Pair) → (T : Table) × IsTableOf T pairs
-table_of pairs =
+pub table_of_pairs_exists : (pairs : List Pair) → (T : Table) × IsTableOf T pairs
+table_of_pairs_exists pairs =
     let choose : Trees = λ it. (first_of pairs it).0 in
     (chosen_table choose, λ it some other. subst (IsFirst pairs it) (sym (chooses choose it some other)) (first_of pairs it).1)
 
@@ -93,8 +93,8 @@ kind_of_empty hash.Sha256 = refl
 no_empty_id : (it : ObjectId) → (IsNeverLookedUp it → ⊥) → IsFilled it
 no_empty_id it searched hash is = searched (inr (is ∙ ap (λ (h : Kind). id_of h Tree []) (sym (ap id_kind is ∙ kind_of_empty hash))))
 
-pub own_table : (trees : Trees) → (T : Table) × IsTableOfStore T trees
-own_table trees = (chosen_table trees, λ it searched. chooses trees it (filled_id it searched) (no_empty_id it searched))
+pub table_of_store_exists : (trees : Trees) → (T : Table) × IsTableOfStore T trees
+table_of_store_exists trees = (chosen_table trees, λ it searched. chooses trees it (filled_id it searched) (no_empty_id it searched))
 
 -- the pair is in the list
 abbrev IsIn : List Pair → Pair → Type 0

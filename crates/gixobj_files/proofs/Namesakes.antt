@@ -53,16 +53,16 @@ unchosen true k e = absurd (cc)
 unchosen false k e = refl
 
 -- the removal of the entry at the name's position leaves the entries of other names
-pub removed_at : (name : List ℕ) (es : List EntryView) (i : ℕ) → Some i ≡ position (λ e. same_name e.name name) es
+pub remove_eq_without : (name : List ℕ) (es : List EntryView) (i : ℕ) → Some i ≡ position (λ e. same_name e.name name) es
     → EachLater (λ x y. x.name ≢ y.name) es
     → remove es i ≡ without name es
-removed_at name es i e apart =
+remove_eq_without name es i e apart =
     let place : ℕ = position_or_len (λ e. same_name e.name name) es in
     let at = chosen (nat_lt place (length es)) place i (sym e) in
     rw (sym at.1) (first_removed (λ e. same_name e.name name) es (named_once name es apart) (ltb-true _ _ at.0))
 
 -- if no entry has the name, all entries are of other names
-pub none_removed : (name : List ℕ) (es : List EntryView) → None ≡ position (λ e. same_name e.name name) es → without name es ≡ es
-none_removed name es e =
+pub without_absent_name : (name : List ℕ) (es : List EntryView) → None ≡ position (λ e. same_name e.name name) es → without name es ≡ es
+without_absent_name name es e =
     let place : ℕ = position_or_len (λ e. same_name e.name name) es in
     none_passes (λ e. same_name e.name name) es (ltb-false _ _ (unchosen (nat_lt place (length es)) place (sym e)))

@@ -8,14 +8,14 @@ use Rattle.gixobj_hash.specs.Hash.{IsNull, id_bytes}
 use Rattle.gixobj_hash.specs.declared.hash.object_id.ObjectId.{ObjectId}
 use Rattle.gixobj_files.specs.Files.{is_null}
 
-pub null_passes : (id : ObjectId) → IsNull id → is_null id ≡ true
-null_passes id null = list_all-from_AllPass (λ byte. byte == 0) (id_bytes id)
+pub is_null_true : (id : ObjectId) → IsNull id → is_null id ≡ true
+is_null_true id null = list_all-from_AllPass (λ byte. byte == 0) (id_bytes id)
     (All-weaker (λ byte. byte ≡ 0) (λ byte. (byte == 0) ≡ true) (λ byte zero. eq-eqb byte 0 zero) (id_bytes id) null)
 
-pub passing_null : (id : ObjectId) → is_null id ≡ true → IsNull id
-passing_null id passes = All-weaker (λ byte. (byte == 0) ≡ true) (λ byte. byte ≡ 0) (λ byte zero. eqb-true byte 0 zero) (id_bytes id)
+pub is_null_of_true : (id : ObjectId) → is_null id ≡ true → IsNull id
+is_null_of_true id passes = All-weaker (λ byte. (byte == 0) ≡ true) (λ byte. byte ≡ 0) (λ byte zero. eqb-true byte 0 zero) (id_bytes id)
     (AllPass-from_list_all (λ byte. byte == 0) (id_bytes id) passes)
 
-pub null_tested : (id : ObjectId) (b : Bool) → (IsTrue b ↔ IsNull id) → b ≡ is_null id
-null_tested id true yields = sym (null_passes id (yields.0 refl))
-null_tested id false yields = sym (false_from_ne_true (is_null id) (λ passes. cc (yields.1 (passing_null id passes))))
+pub is_null_of_test : (id : ObjectId) (b : Bool) → (IsTrue b ↔ IsNull id) → b ≡ is_null id
+is_null_of_test id true yields = sym (is_null_true id (yields.0 refl))
+is_null_of_test id false yields = sym (false_from_ne_true (is_null id) (λ passes. cc (yields.1 (is_null_of_true id passes))))

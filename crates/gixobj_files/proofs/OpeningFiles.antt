@@ -9,82 +9,82 @@ use Rattle.gixobj_files.specs.Edits.{Finds, IsNoTree, Opens, arrived, down, foun
 use Rattle.gixobj_files.specs.Files.{Below, Files, Path, SameFiles, Table, Trees}
 use Rattle.gixobj_files.specs.Opening.{Dirs, HasAt, OpenFiles, in_dir}
 use Rattle.gixobj_files.specs.Tables.{AgreesWithStore}
-use Rattle.gixobj_files.proofs.EditedFiles.{same_refl}
+use Rattle.gixobj_files.proofs.EditedFiles.{same_files_refl}
 use Rattle.gixobj_files.proofs.UpsertedFiles.{IsReady}
-use Rattle.gixobj_files.proofs.OpenedFiles.{IsAt, below_is_at, elsewhere, from_open, from_unopened, into_open, into_unopened, name_itself, name_other, root_only, same_names}
+use Rattle.gixobj_files.proofs.OpenedFiles.{IsAt, files_below_of_table, open_files_of_other_name, open_files_of_open, open_files_of_unopened, open_files_into_open, open_files_into_unopened, same_name_refl, same_name_false, open_files_of_root_alone, name_eq_or_ne}
 
-pub agrees_at : (T : Table) (trees : Trees) → AgreesWithStore T trees → (id : ObjectId) (entries : List EntryView) (requested : List ObjectId)
+pub is_at_of_agreement : (T : Table) (trees : Trees) → AgreesWithStore T trees → (id : ObjectId) (entries : List EntryView) (requested : List ObjectId)
     → Finds trees id entries requested → IsAt T id entries
-agrees_at T trees agrees id entries requested (formed, inl (inl null, empty, none)) = inl (null, empty)
-agrees_at T trees agrees id entries requested (formed, inl (inr is, empty, none)) =
+is_at_of_agreement T trees agrees id entries requested (formed, inl (inl null, empty, none)) = inl (null, empty)
+is_at_of_agreement T trees agrees id entries requested (formed, inl (inr is, empty, none)) =
     inr (subst (λ (o : Option (List EntryView)). o ≡ Some entries) (sym (ap T.tree_at is ∙ T.none_in_empty (id_kind id))) (ap Some (sym empty)))
-agrees_at T trees agrees id entries requested (formed, inr (filled, is, requests)) = inr (agrees id entries filled is)
+is_at_of_agreement T trees agrees id entries requested (formed, inr (filled, is, requests)) = inr (agrees id entries filled is)
 
-pub inside_is : (name : List ℕ) (inner dirs : Dirs) → in_dir name (with_dir name inner dirs) ≡ inner
-inside_is name inner dirs = ap (λ b path. cond b (inner path) (dirs (name ∷ path))) (name_itself name)
+pub with_dir_in_dir : (name : List ℕ) (inner dirs : Dirs) → in_dir name (with_dir name inner dirs) ≡ inner
+with_dir_in_dir name inner dirs = ap (λ b path. cond b (inner path) (dirs (name ∷ path))) (same_name_refl name)
 
-pub shares_base_is : (name first : List ℕ) (inner dirs : Dirs) → name ≢ first → in_dir first (with_dir name inner dirs) ≡ in_dir first dirs
-shares_base_is name first inner dirs differ = ap (λ b path. cond b (inner path) (dirs (first ∷ path))) (name_other name first differ)
+pub with_dir_in_other_dir : (name first : List ℕ) (inner dirs : Dirs) → name ≢ first → in_dir first (with_dir name inner dirs) ≡ in_dir first dirs
+with_dir_in_other_dir name first inner dirs differ = ap (λ b path. cond b (inner path) (dirs (first ∷ path))) (same_name_false name first differ)
 
-pub opens_root : {Ends : EntryView → Type 0} (trees : Trees) (path : Path) (dirs new : Dirs) (requested : List ObjectId)
+pub opens_keeps_root : {Ends : EntryView → Type 0} (trees : Trees) (path : Path) (dirs new : Dirs) (requested : List ObjectId)
     → Opens Ends trees path dirs new requested → new [] ≡ dirs []
-opens_root trees path dirs new requested (arrived d) = refl
-opens_root trees path dirs new requested (stops name rest d other none) = refl
-opens_root trees path dirs new requested (down name rest d inner e entries more has named is opens) = refl
-opens_root trees path dirs new requested (found name rest d inner e entries first more entry tree free none finds opens) = refl
+opens_keeps_root trees path dirs new requested (arrived d) = refl
+opens_keeps_root trees path dirs new requested (stops name rest d other none) = refl
+opens_keeps_root trees path dirs new requested (down name rest d inner e entries more has named is opens) = refl
+opens_keeps_root trees path dirs new requested (found name rest d inner e entries first more entry tree free none finds opens) = refl
 
 -- at one level, the directories in a name have the same files as before
-pub same_level : (T : Table) (k : ℕ) (name : List ℕ) (inner dirs : Dirs)
+pub with_dir_files_of_level : (T : Table) (k : ℕ) (name : List ℕ) (inner dirs : Dirs)
     → ((path : Path) (mode : ℕ) (id : ObjectId)
     → (OpenFiles T (suc k) (with_dir name inner dirs) (name ∷ path) mode id → OpenFiles T (suc k) dirs (name ∷ path) mode id)
     × (OpenFiles T (suc k) dirs (name ∷ path) mode id → OpenFiles T (suc k) (with_dir name inner dirs) (name ∷ path) mode id))
     → SameFiles (OpenFiles T (suc k) (with_dir name inner dirs)) (OpenFiles T (suc k) dirs)
-same_level T k name inner dirs here [] mode id = ((λ h. absurd h), λ h. absurd h)
-same_level T k name inner dirs here (first ∷ path) mode id =
+with_dir_files_of_level T k name inner dirs here [] mode id = ((λ h. absurd h), λ h. absurd h)
+with_dir_files_of_level T k name inner dirs here (first ∷ path) mode id =
     let new : Dirs = with_dir name inner dirs in
-    elim (same_names name first) [
+    elim (name_eq_or_ne name first) [
       | inl same ↦ subst (λ f. (OpenFiles T (suc k) new (f ∷ path) mode id → OpenFiles T (suc k) dirs (f ∷ path) mode id)
           × (OpenFiles T (suc k) dirs (f ∷ path) mode id → OpenFiles T (suc k) new (f ∷ path) mode id)) same (here path mode id)
       | inr differ ↦ (
-        elsewhere T k new dirs first (λ e named has. has) (shares_base_is name first inner dirs differ) path mode id,
-        elsewhere T k dirs new first
-            (λ e named has. has) (sym (shares_base_is name first inner dirs differ)) path mode id,
+        open_files_of_other_name T k new dirs first (λ e named has. has) (with_dir_in_other_dir name first inner dirs differ) path mode id,
+        open_files_of_other_name T k dirs new first
+            (λ e named has. has) (sym (with_dir_in_other_dir name first inner dirs differ)) path mode id,
       )
     ]
 
-pub opens_files : {Ends : EntryView → Type 0} (T : Table) (trees : Trees) → AgreesWithStore T trees
+pub opens_keeps_files : {Ends : EntryView → Type 0} (T : Table) (trees : Trees) → AgreesWithStore T trees
     → (path : Path) (dirs new : Dirs) (requested : List ObjectId) → Opens Ends trees path dirs new requested → (n : ℕ)
     → SameFiles (OpenFiles T n new) (OpenFiles T n dirs)
-opens_files T trees agrees path dirs new requested (arrived d) n = same_refl (OpenFiles T n d)
-opens_files T trees agrees path dirs new requested (stops name rest d other none) n = same_refl (OpenFiles T n d)
-opens_files T trees agrees path dirs new requested (down name rest d inner e entries more has named is opens) zero =
+opens_keeps_files T trees agrees path dirs new requested (arrived d) n = same_files_refl (OpenFiles T n d)
+opens_keeps_files T trees agrees path dirs new requested (stops name rest d other none) n = same_files_refl (OpenFiles T n d)
+opens_keeps_files T trees agrees path dirs new requested (down name rest d inner e entries more has named is opens) zero =
     λ path mode id. ((λ h. absurd h), λ h. absurd h)
-opens_files T trees agrees path dirs new requested (down name rest d inner e entries more has named is opens) (suc k) =
-    same_level T k name inner d (λ path mode id.
+opens_keeps_files T trees agrees path dirs new requested (down name rest d inner e entries more has named is opens) (suc k) =
+    with_dir_files_of_level T k name inner d (λ path mode id.
     let new : Dirs = with_dir name inner d in
-    let inside = inside_is name inner d in
-    let is_new : new (name ∷ []) ≡ Some entries = ap (λ (x : Dirs). x []) inside ∙ opens_root trees rest (in_dir name d) inner more opens ∙ is in
-    let step = opens_files T trees agrees rest (in_dir name d) inner more opens k path mode id in (
-      (λ h. from_open T k d name entries e has named is path mode id
-          (step.0 (subst (λ (x : Dirs). OpenFiles T k x path mode id) inside (into_open T k new name entries is_new path mode id h)))),
-      λ h. from_open T k new name entries e has named is_new path mode id
-          (subst (λ (x : Dirs). OpenFiles T k x path mode id) (sym inside) (step.1 (into_open T k d name entries is path mode id h))),
+    let inside = with_dir_in_dir name inner d in
+    let is_new : new (name ∷ []) ≡ Some entries = ap (λ (x : Dirs). x []) inside ∙ opens_keeps_root trees rest (in_dir name d) inner more opens ∙ is in
+    let step = opens_keeps_files T trees agrees rest (in_dir name d) inner more opens k path mode id in (
+      (λ h. open_files_of_open T k d name entries e has named is path mode id
+          (step.0 (subst (λ (x : Dirs). OpenFiles T k x path mode id) inside (open_files_into_open T k new name entries is_new path mode id h)))),
+      λ h. open_files_of_open T k new name entries e has named is_new path mode id
+          (subst (λ (x : Dirs). OpenFiles T k x path mode id) (sym inside) (step.1 (open_files_into_open T k d name entries is path mode id h))),
     ))
-opens_files T trees agrees path dirs new requested (found name rest d inner e entries first more entry tree free none finds opens) zero =
+opens_keeps_files T trees agrees path dirs new requested (found name rest d inner e entries first more entry tree free none finds opens) zero =
     λ path mode id. ((λ h. absurd h), λ h. absurd h)
-opens_files T trees agrees path dirs new requested (found name rest d inner e entries first more entry tree free none finds opens) (suc k) =
-    same_level T k name inner d (λ path mode id.
+opens_keeps_files T trees agrees path dirs new requested (found name rest d inner e entries first more entry tree free none finds opens) (suc k) =
+    with_dir_files_of_level T k name inner d (λ path mode id.
     let new : Dirs = with_dir name inner d in
-    let inside = inside_is name inner d in
-    let is_new : new (name ∷ []) ≡ Some entries = ap (λ (x : Dirs). x []) inside ∙ opens_root trees rest (only entries) inner more opens in
-    let step = opens_files T trees agrees rest (only entries) inner more opens k path mode id in
-    let alone = root_only T k (only entries) entries refl (λ other. refl) path mode id in
-    let below = below_is_at T k e.mode e.id entries tree (agrees_at T trees agrees e.id entries first finds) path mode id in (
-      (λ h. from_unopened T k d name (none []) e entry.0 entry.1 path mode id
+    let inside = with_dir_in_dir name inner d in
+    let is_new : new (name ∷ []) ≡ Some entries = ap (λ (x : Dirs). x []) inside ∙ opens_keeps_root trees rest (only entries) inner more opens in
+    let step = opens_keeps_files T trees agrees rest (only entries) inner more opens k path mode id in
+    let alone = open_files_of_root_alone T k (only entries) entries refl (λ other. refl) path mode id in
+    let below = files_below_of_table T k e.mode e.id entries tree (is_at_of_agreement T trees agrees e.id entries first finds) path mode id in (
+      (λ h. open_files_of_unopened T k d name (none []) e entry.0 entry.1 path mode id
           (below.1 (alone.0 (step.0
-          (subst (λ (x : Dirs). OpenFiles T k x path mode id) inside (into_open T k new name entries is_new path mode id h)))))),
-      λ h. let s = into_unopened T k d name (none []) path mode id h in
-          from_open T k new name entries e entry.0 entry.1 is_new path mode id
+          (subst (λ (x : Dirs). OpenFiles T k x path mode id) inside (open_files_into_open T k new name entries is_new path mode id h)))))),
+      λ h. let s = open_files_into_unopened T k d name (none []) path mode id h in
+          open_files_of_open T k new name entries e entry.0 entry.1 is_new path mode id
           (subst (λ (x : Dirs). OpenFiles T k x path mode id) (sym inside)
           (step.1 (alone.1 (below.0 (subst (λ (x : EntryView). Below T (Files T k) x.mode x.id path mode id) (entry.2 s.0 s.1 s.2) s.3))))),
     ))
@@ -100,18 +100,18 @@ ready_down : (name : List ℕ) (q : Path) (dirs : Dirs) → ((e : EntryView) × 
 ready_down name [] dirs entry is ready = tt
 ready_down name (next ∷ rest) dirs entry is ready = inr (entry, is, ready)
 
-pub opens_ready : (trees : Trees) (path : Path) (last : List ℕ) (dirs new : Dirs) (requested : List ObjectId)
+pub opens_makes_ready : (trees : Trees) (path : Path) (last : List ℕ) (dirs new : Dirs) (requested : List ObjectId)
     → Opens IsNoTree trees path dirs new requested
     → IsReady (path ++ last ∷ []) new
-opens_ready trees path last dirs new requested (arrived d) = tt
-opens_ready trees path last dirs new requested (stops name rest d other none) = ready_more name (rest ++ last ∷ []) d (other, none)
-opens_ready trees path last dirs new requested (down name rest d inner e entries more has named is opens) =
-    let inside = inside_is name inner d in
+opens_makes_ready trees path last dirs new requested (arrived d) = tt
+opens_makes_ready trees path last dirs new requested (stops name rest d other none) = ready_more name (rest ++ last ∷ []) d (other, none)
+opens_makes_ready trees path last dirs new requested (down name rest d inner e entries more has named is opens) =
+    let inside = with_dir_in_dir name inner d in
     ready_down name (rest ++ last ∷ []) (with_dir name inner d) (e, has, named)
-    (entries, ap (λ (x : Dirs). x []) inside ∙ opens_root trees rest (in_dir name d) inner more opens ∙ is)
-    (subst (IsReady (rest ++ last ∷ [])) (sym inside) (opens_ready trees rest last (in_dir name d) inner more opens))
-opens_ready trees path last dirs new requested (found name rest d inner e entries first more entry tree free none finds opens) =
-    let inside = inside_is name inner d in
+    (entries, ap (λ (x : Dirs). x []) inside ∙ opens_keeps_root trees rest (in_dir name d) inner more opens ∙ is)
+    (subst (IsReady (rest ++ last ∷ [])) (sym inside) (opens_makes_ready trees rest last (in_dir name d) inner more opens))
+opens_makes_ready trees path last dirs new requested (found name rest d inner e entries first more entry tree free none finds opens) =
+    let inside = with_dir_in_dir name inner d in
     ready_down name (rest ++ last ∷ []) (with_dir name inner d) (e, entry.0, entry.1)
-    (entries, ap (λ (x : Dirs). x []) inside ∙ opens_root trees rest (only entries) inner more opens)
-    (subst (IsReady (rest ++ last ∷ [])) (sym inside) (opens_ready trees rest last (only entries) inner more opens))
+    (entries, ap (λ (x : Dirs). x []) inside ∙ opens_keeps_root trees rest (only entries) inner more opens)
+    (subst (IsReady (rest ++ last ∷ [])) (sym inside) (opens_makes_ready trees rest last (only entries) inner more opens))

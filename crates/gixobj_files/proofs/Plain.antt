@@ -13,9 +13,9 @@ use Rattle.gixobj_files.specs.Opening.{Dirs, HasAt, in_dir}
 use Rattle.gixobj_files.specs.Tables.{AgreesWithPairs, AgreesWithStore}
 use Rattle.gixobj_files.proofs.Canonical.{IsBuilt, IsClean, built}
 use Rattle.gixobj_files.proofs.Everywhere.{Everywhere, Lasts, OfEntry}
-use Rattle.gixobj_files.proofs.WrittenFiles.{non_null_has}
+use Rattle.gixobj_files.proofs.WrittenFiles.{has_non_null_cons}
 use Rattle.gixobj_files.specs.Emission.{EmitsBelow, Walks, emptied, end, entry_with, leaves, unopened, unchanged, written}
-use Rattle.gixobj_files.proofs.Based.{some_list}
+use Rattle.gixobj_files.proofs.Based.{some_list_unique}
 
 -- the id of the entry is that of a pair whose tree is built and isn't empty
 pub record IsOfPair (pairs : List Pair) (id : ObjectId) : Type 0 where
@@ -38,15 +38,15 @@ Plain pairs e here base = IsPlain pairs e here base
 abbrev pub RestsOn : List Pair → List EntryView → Type 0
 RestsOn pairs entries = (e : EntryView) → Has entries e → is_tree_mode e.mode ≡ true → (e.mode ≡ tree_type) × IsOfPair pairs e.id
 
-pub closed : (pairs : List Pair) (entries : List EntryView) → RestsOn pairs entries → (e : EntryView) → Has entries e → IsPlain pairs e None None
-closed pairs entries rests e h = record { mode = λ t. (rests e h t).0; its_pair = λ t none. (rests e h t).1; based = λ list is. absurd (cc is) }
+pub is_plain_of_rests_on : (pairs : List Pair) (entries : List EntryView) → RestsOn pairs entries → (e : EntryView) → Has entries e → IsPlain pairs e None None
+is_plain_of_rests_on pairs entries rests e h = record { mode = λ t. (rests e h t).0; its_pair = λ t none. (rests e h t).1; based = λ list is. absurd (cc is) }
 
-pub rests_of : (pairs : List Pair) (entries : List EntryView) → IsBuilt pairs entries → RestsOn pairs entries
-rests_of pairs entries (built l clean modes tree filled named deep) e h t =
+pub rests_on_of_is_built : (pairs : List Pair) (entries : List EntryView) → IsBuilt pairs entries → RestsOn pairs entries
+rests_on_of_is_built pairs entries (built l clean modes tree filled named deep) e h t =
     (modes e h t, record { tree = tree e h t; filled = filled e h t; named = named e h t; is_built = deep e h t })
 
-pub built_of : (pairs : List Pair) (entries : List EntryView) → IsClean entries → RestsOn pairs entries → IsBuilt pairs entries
-built_of pairs entries clean rests =
+pub is_built_of_rests_on : (pairs : List Pair) (entries : List EntryView) → IsClean entries → RestsOn pairs entries → IsBuilt pairs entries
+is_built_of_rests_on pairs entries clean rests =
     built entries clean (λ e h t. (rests e h t).0) (λ e h t. (rests e h t).1.tree) (λ e h t. (rests e h t).1.filled) (λ e h t. (rests e h t).1.named)
     (λ e h t. (rests e h t).1.is_built)
 
@@ -60,15 +60,16 @@ module _ (T : Table) (pairs : List Pair) (known : AgreesWithPairs T pairs) where
   found_is trees agrees id it entries requested (formed, inl (inl null, empty, none)) =
       absurd (let bad : Some it.tree ≡ None = sym (its_tree id it.tree it.named) ∙ T.nothing_by_null id null in cc bad)
   found_is trees agrees id it entries requested (formed, inl (inr is, empty, none)) =
-      some_list it.tree entries (sym (its_tree id it.tree it.named) ∙ ap T.tree_at is ∙ T.none_in_empty (id_kind id) ∙ ap Some (sym empty))
+      some_list_unique it.tree entries (sym (its_tree id it.tree it.named) ∙ ap T.tree_at is ∙ T.none_in_empty (id_kind id) ∙ ap Some (sym empty))
   found_is trees agrees id it entries requested (formed, inr (filled, is, requests)) =
-      some_list it.tree entries (sym (its_tree id it.tree it.named) ∙ agrees id entries filled is)
+      some_list_unique it.tree entries (sym (its_tree id it.tree it.named) ∙ agrees id entries filled is)
 
   pub plain_lasts : (trees : Trees) (null : ObjectId) → AgreesWithStore T trees → Lasts (Plain pairs) trees null
   plain_lasts trees null agrees = record {
     not_open = λ e base p. record { mode = p.mode; its_pair = p.its_pair; based = λ list is. absurd (cc is) };
     still = λ e was now base p. record { mode = p.mode; its_pair = λ t none. absurd (cc none); based = p.based };
-    made = λ name now. record { mode = λ t. refl; its_pair = λ t none. absurd (cc none); based = λ list is some. absurd (some (sym (some_list [] list is))) };
+    made = λ name now. record { mode = λ t. refl; its_pair = λ t none. absurd (cc none); based =
+        λ list is some. absurd (some (sym (some_list_unique [] list is))) };
     opened = λ e base entries requested p tree finds.
         let it : IsOfPair pairs e.id = p.its_pair tree refl in
         let same : it.tree ≡ entries = found_is trees agrees e.id it entries requested finds in (
@@ -76,9 +77,9 @@ module _ (T : Table) (pairs : List Pair) (known : AgreesWithPairs T pairs) where
             mode = p.mode;
             its_pair = λ t none. absurd (cc none);
             based = λ list is some. let is_list : it.tree ≡ list =
-                same ∙ some_list entries list is in (subst (λ l. Contains pairs (e.id, l)) is_list it.named, subst (IsBuilt pairs) is_list it.is_built);
+                same ∙ some_list_unique entries list is in (subst (λ l. Contains pairs (e.id, l)) is_list it.named, subst (IsBuilt pairs) is_list it.is_built);
           },
-          closed pairs entries (subst (RestsOn pairs) same (rests_of pairs it.tree it.is_built)),
+          is_plain_of_rests_on pairs entries (subst (RestsOn pairs) same (rests_on_of_is_built pairs it.tree it.is_built)),
         );
   }
 
@@ -109,7 +110,7 @@ module _ (pairs : List Pair) where
       → RestsOn pairs os → RestsOn pairs (entry_with e id ++ os)
   rests_more e id os here rests x h =
       ⊎_elim (λ one. subst (λ (y : EntryView). is_tree_mode y.mode ≡ true → (y.mode ≡ tree_type) × IsOfPair pairs y.id) one.1 here) (λ after. rests x after)
-      (non_null_has e id os x h)
+      (has_non_null_cons e id os x h)
 
   mutual
     pub leaves_plain : (dirs bases : Dirs) (ps : List Pair) (own : List EntryView) (saved : ℕ) → EmitsBelow dirs bases ps own saved
@@ -149,7 +150,7 @@ module _ (pairs : List Pair) where
         (all_remaining (IsEmitted pairs) inner ((named_id, first ∷ more_own) ∷ below) out) in
         let mine = here e (inl refl) in
         let some : first ∷ more_own ≢ [] = λ none. cc none in
-        let is : IsBuilt pairs (first ∷ more_own) = built_of pairs (first ∷ more_own) (pair.0.1) lower.0 in (
+        let is : IsBuilt pairs (first ∷ more_own) = is_built_of_rests_on pairs (first ∷ more_own) (pair.0.1) lower.0 in (
           rests_more e named_id os (λ t. (mine.mode t, record { tree = first ∷ more_own; filled = some; named = pair.0.0; is_built = is })) w.0,
           all_joined
               (HasBuilt pairs) inner ((named_id, first ∷ more_own) ∷ below) lower.1 (is, w.1),

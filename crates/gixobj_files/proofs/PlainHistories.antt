@@ -9,7 +9,7 @@ use Rattle.gixobj_hash.specs.declared.hash.object_id.ObjectId.{ObjectId}
 use Rattle.gixobj_files.specs.Files.{Below, FileSet, Files, Path, PlacedFile, Table, is_null}
 use Rattle.gixobj_files.specs.History.{History, Step, after_step, ensure, remove, set_root, upsert}
 use Rattle.gixobj_files.specs.PlainHistory.{HasNoTree, NoFiles, PlainHistory, after_plain_step}
-use Rattle.gixobj_files.proofs.OpenedFiles.{no_entries}
+use Rattle.gixobj_files.proofs.OpenedFiles.{no_open_files_of_no_entries}
 
 -- the files of the first set are those of the second whose paths have at most `n` names
 abbrev pub IsUpTo : ℕ → FileSet → FileSet → Type 0
@@ -59,7 +59,7 @@ module _ (T : Table) where
     step_plain (ensure (name ∷ p)) other A B same path mode id =
         ((λ h. let was = (same path mode id).0 h.0 in (was.0, (was.1, h.1))), λ h. ((same path mode id).1 (h.0, h.1.0), h.1.1))
     step_plain (set_root entries) empty A B same path mode id =
-        ((λ h. absurd (no_entries T n path mode id (subst (λ es. Files T n es path mode id) empty h))), λ h. absurd h.1)
+        ((λ h. absurd (no_open_files_of_no_entries T n path mode id (subst (λ es. Files T n es path mode id) empty h))), λ h. absurd h.1)
 
     pub steps_plain : (steps : List Step) → AllByRecursion HasNoTree steps → (A B : FileSet) → IsUpTo n A B
         → IsUpTo n (History T n steps A) (PlainHistory steps B)
@@ -67,6 +67,6 @@ module _ (T : Table) where
     steps_plain (step ∷ steps) none A B same = steps_plain steps none.1 (after_step T n step A) (after_plain_step step B) (step_plain step none.0 A B same)
 
 -- all steps make the same files in every table, to the depth `n`
-pub plain_history : (steps : List Step) → All HasNoTree steps → (T : Table) (n : ℕ) → IsUpTo n (History T n steps NoFiles) (PlainHistory steps NoFiles)
-plain_history steps none T n = steps_plain T n steps (recursion_from_All HasNoTree steps none) NoFiles NoFiles
+pub history_is_up_to_plain : (steps : List Step) → All HasNoTree steps → (T : Table) (n : ℕ) → IsUpTo n (History T n steps NoFiles) (PlainHistory steps NoFiles)
+history_is_up_to_plain steps none T n = steps_plain T n steps (recursion_from_All HasNoTree steps none) NoFiles NoFiles
     (λ path mode id. ((λ h. absurd h), λ h. absurd h.1))

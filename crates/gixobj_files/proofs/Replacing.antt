@@ -9,8 +9,8 @@ use Rattle.std.proofs.lemmas.List.Sums.{prefix_len_passes}
 use Rattle.gixobj_tree.specs.Entries.{ComesBefore, EntryView, IsWellFormed, entry_key, key_of}
 use Rattle.gixobj_mode.specs.Mode.{is_tree_mode}
 use Rattle.gixobj_files.specs.Editing.{comes_before, same_name, with_entry}
-use Rattle.gixobj_files.proofs.Namesakes.{removed_at}
-use Rattle.gixobj_files.proofs.Placing.{placed}
+use Rattle.gixobj_files.proofs.Namesakes.{remove_eq_without}
+use Rattle.gixobj_files.proofs.Placing.{insert_eq_with_entry}
 use Rattle.gixobj_files.proofs.BinarySearch.{later_at}
 
 module _ {X : Type 0} where
@@ -31,11 +31,11 @@ module _ {X : Type 0} where
       rw (passes 0 x (omega arith)) (omega (arith, more))
 
 -- an entry with the name and kind of the entry at a position replaces it
-pub inserted_over : (x : EntryView) (es : List EntryView) (i : ℕ) → IsWellFormed es
+pub slice_set_eq_with_entry : (x : EntryView) (es : List EntryView) (i : ℕ) → IsWellFormed es
     → position (λ (e : EntryView). same_name e.name x.name) es ≡ Some i
     → HoldsAt (λ (e : EntryView). is_tree_mode e.mode ≡ is_tree_mode x.mode) es i
     → i ≡ prefix_len (λ e. comes_before e x) es → slice_set es i x ≡ with_entry x es
-inserted_over x es i formed found kind is =
+slice_set_eq_with_entry x es i formed found kind is =
     let there = position-Some (λ (e : EntryView). same_name e.name x.name) es i x found in
     let key : (d : EntryView) → entry_key (get_or es i d) ≡ entry_key x = λ d.
     ap (key_of (get_or es i d).name) (kind d) ∙ ap (λ (n : List ℕ). key_of n (is_tree_mode x.mode))
@@ -47,4 +47,4 @@ inserted_over x es i formed found kind is =
     let same : i ≡ prefix_len (λ e. comes_before e x) (remove es i) =
     stays (λ e. comes_before e x) es i there.0 (λ k d l. prefix_len_passes (λ e. comes_before e x) es k d (omega (arith, l, is))) after in
     sym (swapped es i x there.0)
-    ∙ placed x es (remove es i) (remove es i) i formed.ascending (removed_at x.name es i (sym found) formed.apart) refl same
+    ∙ insert_eq_with_entry x es (remove es i) (remove es i) i formed.ascending (remove_eq_without x.name es i (sym found) formed.apart) refl same

@@ -10,11 +10,11 @@ use Rattle.gixobj_files.specs.Editing.{same_name}
 use Rattle.gixobj_files.specs.Edits.{or_empty, upserted_dirs, with_directory}
 use Rattle.gixobj_files.specs.Files.{Path}
 use Rattle.gixobj_files.specs.Opening.{Dirs, HasAt, IsOpened, in_dir}
-use Rattle.gixobj_files.proofs.EditedFiles.{has_still}
-use Rattle.gixobj_files.proofs.Formed.{well_formed_with}
-use Rattle.gixobj_files.proofs.HasTrees.{formed_directory, has_tree_of, tree_there}
-use Rattle.gixobj_files.proofs.UpsertedFiles.{directory_has, has_or_empty, inserted_in, inserted_next_to, upserted_next_to}
-use Rattle.gixobj_files.proofs.OpenedFiles.{same_names}
+use Rattle.gixobj_files.proofs.EditedFiles.{has_with_entry_other}
+use Rattle.gixobj_files.proofs.Formed.{is_well_formed_with_entry}
+use Rattle.gixobj_files.proofs.HasTrees.{is_well_formed_with_directory, entry_of_has_tree, has_tree_with_directory}
+use Rattle.gixobj_files.proofs.UpsertedFiles.{has_with_directory, has_or_empty_of_has_at, inserted_name_in_dir, inserted_name_in_other_dir, upserted_dirs_in_other_dir}
+use Rattle.gixobj_files.proofs.OpenedFiles.{name_eq_or_ne}
 
 abbrev pub AreFormed : Dirs → Type 0
 AreFormed dirs = (path : Path) (entries : List EntryView) → dirs path ≡ Some entries → IsWellFormed entries
@@ -23,73 +23,76 @@ abbrev pub AreAbove : Dirs → Type 0
 AreAbove dirs = (path : Path) (name : List ℕ) (entries : List EntryView) → dirs (path ++ name ∷ []) ≡ Some entries → (e : EntryView) × HasAt (dirs path) e
     × (e.name ≡ name) × IsTrue (is_tree_mode e.mode)
 
-pub some_is : {X : Type 0} (x y : X) → Some x ≡ Some y → x ≡ y
-some_is x y e = cc e
+pub some_unique : {X : Type 0} (x y : X) → Some x ≡ Some y → x ≡ y
+some_unique x y e = cc e
 
-pub formed_or_empty : (o : Option (List EntryView)) → ((es : List EntryView) → o ≡ Some es → IsWellFormed es) → IsWellFormed (or_empty o)
-formed_or_empty None h = record { names = tt; apart = tt; ascending = tt }
-formed_or_empty (Some es) h = h es refl
+pub is_well_formed_or_empty : (o : Option (List EntryView)) → ((es : List EntryView) → o ≡ Some es → IsWellFormed es) → IsWellFormed (or_empty o)
+is_well_formed_or_empty None h = record { names = tt; apart = tt; ascending = tt }
+is_well_formed_or_empty (Some es) h = h es refl
 
-pub formed_upserted : (path : Path) (mode : ℕ) (id null : ObjectId) (dirs : Dirs) → AllByRecursion IsEntryName path → AreFormed dirs
+pub are_formed_upserted : (path : Path) (mode : ℕ) (id null : ObjectId) (dirs : Dirs) → AllByRecursion IsEntryName path → AreFormed dirs
     → AreFormed (upserted_dirs path mode id null dirs)
-formed_upserted [] mode id null dirs names formed at es is = formed at es is
-formed_upserted (name ∷ []) mode id null dirs names formed [] es is =
-    subst IsWellFormed (some_is _ _ is) (well_formed_with (record { mode = mode; name = name; id = id }) (or_empty (dirs []))
-    (formed_or_empty (dirs []) (formed [])) names.0)
-formed_upserted (name ∷ []) mode id null dirs names formed (first ∷ at) es is =
+are_formed_upserted [] mode id null dirs names formed at es is = formed at es is
+are_formed_upserted (name ∷ []) mode id null dirs names formed [] es is =
+    subst IsWellFormed (some_unique _ _ is) (is_well_formed_with_entry (record { mode = mode; name = name; id = id }) (or_empty (dirs []))
+    (is_well_formed_or_empty (dirs []) (formed [])) names.0)
+are_formed_upserted (name ∷ []) mode id null dirs names formed (first ∷ at) es is =
     elim (same_name name first) as (λ b. cond b None (dirs (first ∷ at)) ≡ Some es → IsWellFormed es)
     [ true ↦ λ k. absurd (cc k) | false ↦ λ k. formed (first ∷ at) es k ] is
-formed_upserted (name ∷ next ∷ rest) mode id null dirs names formed [] es is =
-    subst IsWellFormed (some_is _ _ is) (formed_directory name null (or_empty (dirs [])) (formed_or_empty (dirs []) (formed [])) names.0)
-formed_upserted (name ∷ next ∷ rest) mode id null dirs names formed (first ∷ at) es is =
+are_formed_upserted (name ∷ next ∷ rest) mode id null dirs names formed [] es is =
+    subst IsWellFormed (some_unique _ _ is) (is_well_formed_with_directory name null (or_empty (dirs []))
+        (is_well_formed_or_empty (dirs []) (formed [])) names.0)
+are_formed_upserted (name ∷ next ∷ rest) mode id null dirs names formed (first ∷ at) es is =
     elim (same_name name first) as (λ b. cond b (upserted_dirs (next ∷ rest) mode id null (in_dir name dirs) at) (dirs (first ∷ at)) ≡ Some es
     → IsWellFormed es) [
-      | true ↦ λ k. formed_upserted (next ∷ rest) mode id null (in_dir name dirs) names.1 (λ q. formed (name ∷ q)) at es k
+      | true ↦ λ k. are_formed_upserted (next ∷ rest) mode id null (in_dir name dirs) names.1 (λ q. formed (name ∷ q)) at es k
       | false ↦ λ k. formed (first ∷ at) es k
     ] is
 
-pub above_upserted : (path : Path) (mode : ℕ) (id null : ObjectId) (dirs : Dirs) → AreAbove dirs → AreAbove (upserted_dirs path mode id null dirs)
-above_upserted [] mode id null dirs above at other es is = above at other es is
-above_upserted (name ∷ []) mode id null dirs above [] other es is =
-    elim (same_names name other) [
+pub are_above_upserted : (path : Path) (mode : ℕ) (id null : ObjectId) (dirs : Dirs) → AreAbove dirs → AreAbove (upserted_dirs path mode id null dirs)
+are_above_upserted [] mode id null dirs above at other es is = above at other es is
+are_above_upserted (name ∷ []) mode id null dirs above [] other es is =
+    elim (name_eq_or_ne name other) [
       | inl same ↦ absurd (let gone : upserted_dirs (name ∷ []) mode id null dirs (other ∷ []) ≡ None = subst
           (λ n. upserted_dirs (name ∷ []) mode id null dirs (n ∷ []) ≡ None) same
-          (ap (λ (d : Dirs). d []) (inserted_in name mode id null dirs)) in let no_one : None ≡ Some es = sym gone ∙ is in cc no_one)
-      | inr differ ↦ let e = above [] other es (sym (ap (λ (d : Dirs). d []) (inserted_next_to name other mode id null dirs differ)) ∙ is) in (
+          (ap (λ (d : Dirs). d []) (inserted_name_in_dir name mode id null dirs)) in let no_one : None ≡ Some es = sym gone ∙ is in cc no_one)
+      | inr differ ↦ let e = above [] other es (sym (ap (λ (d : Dirs). d []) (inserted_name_in_other_dir name other mode id null dirs differ)) ∙ is) in (
         e.0,
-        has_still (record { mode = mode; name = name; id = id }) (or_empty (dirs [])) e.0 (has_or_empty (dirs []) e.0 e.1) (λ q. differ (sym q ∙ e.2)),
+        has_with_entry_other (record { mode = mode; name = name; id = id }) (or_empty (dirs [])) e.0 (has_or_empty_of_has_at (dirs []) e.0 e.1)
+            (λ q. differ (sym q ∙ e.2)),
         e.2,
         e.3,
       )
     ]
-above_upserted (name ∷ []) mode id null dirs above (first ∷ at) other es is =
+are_above_upserted (name ∷ []) mode id null dirs above (first ∷ at) other es is =
     elim (same_name name first) as (λ b. cond b None (dirs (first ∷ (at ++ other ∷ []))) ≡ Some es → (e : EntryView) × HasAt (cond b None (dirs (first ∷ at))) e
     × (e.name ≡ other) × IsTrue (is_tree_mode e.mode)) [
       | true ↦ λ k. absurd (cc k)
       | false ↦ λ k. above (first ∷ at) other es k
     ] is
-above_upserted (name ∷ next ∷ rest) mode id null dirs above [] other es is =
-    elim (same_names name other) [
-      | inl same ↦ let e = has_tree_of name (with_directory name null (or_empty (dirs []))) (tree_there name null (or_empty (dirs []))) in
+are_above_upserted (name ∷ next ∷ rest) mode id null dirs above [] other es is =
+    elim (name_eq_or_ne name other) [
+      | inl same ↦ let e = entry_of_has_tree name (with_directory name null (or_empty (dirs []))) (has_tree_with_directory name null (or_empty (dirs []))) in
           (e.0, e.1, e.2 ∙ same, e.3)
-      | inr differ ↦ let e = above [] other es (sym (ap (λ (d : Dirs). d []) (upserted_next_to name other next rest mode id null dirs differ)) ∙ is) in
-          (e.0, directory_has name null (or_empty (dirs [])) e.0 (λ q. differ (sym q ∙ e.2)) (has_or_empty (dirs []) e.0 e.1), e.2, e.3)
+      | inr differ ↦ let e = above [] other es (sym (ap (λ (d : Dirs). d []) (upserted_dirs_in_other_dir name other next rest mode id null dirs differ))
+          ∙ is) in
+          (e.0, has_with_directory name null (or_empty (dirs [])) e.0 (λ q. differ (sym q ∙ e.2)) (has_or_empty_of_has_at (dirs []) e.0 e.1), e.2, e.3)
     ]
-above_upserted (name ∷ next ∷ rest) mode id null dirs above (first ∷ at) other es is =
+are_above_upserted (name ∷ next ∷ rest) mode id null dirs above (first ∷ at) other es is =
     elim (same_name name first) as (λ b. cond b (upserted_dirs (next ∷ rest) mode id null (in_dir name dirs) (at ++ other ∷ []))
     (dirs (first ∷ (at ++ other ∷ []))) ≡ Some es
     → (e : EntryView) × HasAt (cond b (upserted_dirs (next ∷ rest) mode id null (in_dir name dirs) at) (dirs (first ∷ at))) e × (e.name ≡ other)
     × IsTrue (is_tree_mode e.mode)) [
-      | true ↦ λ k. above_upserted (next ∷ rest) mode id null (in_dir name dirs) (λ q. above (name ∷ q)) at other es k
+      | true ↦ λ k. are_above_upserted (next ∷ rest) mode id null (in_dir name dirs) (λ q. above (name ∷ q)) at other es k
       | false ↦ λ k. above (first ∷ at) other es k
     ] is
 
-pub opened_upserted : (path : Path) (mode : ℕ) (id null : ObjectId) (dirs : Dirs) → AllByRecursion IsEntryName path → IsOpened dirs
+pub is_opened_upserted : (path : Path) (mode : ℕ) (id null : ObjectId) (dirs : Dirs) → AllByRecursion IsEntryName path → IsOpened dirs
     → IsOpened (upserted_dirs path mode id null dirs)
-opened_upserted path mode id null dirs names opened = record {
+is_opened_upserted path mode id null dirs names opened = record {
   root = root_still path;
-  well_formed = formed_upserted path mode id null dirs names opened.well_formed;
-  above = above_upserted path mode id null dirs opened.above;
+  well_formed = are_formed_upserted path mode id null dirs names opened.well_formed;
+  above = are_above_upserted path mode id null dirs opened.above;
 }
   where
     root_still : (p : Path) → upserted_dirs p mode id null dirs [] ≢ None

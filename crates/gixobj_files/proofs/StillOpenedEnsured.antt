@@ -9,17 +9,18 @@ use Rattle.gixobj_files.specs.Editing.{same_name}
 use Rattle.gixobj_files.specs.Edits.{ensured_dirs, or_empty, with_directory}
 use Rattle.gixobj_files.specs.Files.{Path}
 use Rattle.gixobj_files.specs.Opening.{Dirs, HasAt, IsOpened, in_dir}
-use Rattle.gixobj_files.proofs.EnsuredFiles.{ensured_next_to}
-use Rattle.gixobj_files.proofs.HasTrees.{formed_directory, has_tree_of, tree_there}
-use Rattle.gixobj_files.proofs.OpenedFiles.{same_names}
-use Rattle.gixobj_files.proofs.StillOpened.{AreAbove, AreFormed, formed_or_empty, some_is}
-use Rattle.gixobj_files.proofs.UpsertedFiles.{directory_has, has_or_empty}
+use Rattle.gixobj_files.proofs.EnsuredFiles.{ensured_dirs_in_other_dir}
+use Rattle.gixobj_files.proofs.HasTrees.{is_well_formed_with_directory, entry_of_has_tree, has_tree_with_directory}
+use Rattle.gixobj_files.proofs.OpenedFiles.{name_eq_or_ne}
+use Rattle.gixobj_files.proofs.StillOpened.{AreAbove, AreFormed, is_well_formed_or_empty, some_unique}
+use Rattle.gixobj_files.proofs.UpsertedFiles.{has_with_directory, has_or_empty_of_has_at}
 
 formed_ensured : (path : Path) (null : ObjectId) (dirs : Dirs) → AllByRecursion IsEntryName path → AreFormed dirs → AreFormed (ensured_dirs path null dirs)
-formed_ensured [] null dirs names formed [] es is = subst IsWellFormed (some_is _ _ is) (formed_or_empty (dirs []) (formed []))
+formed_ensured [] null dirs names formed [] es is = subst IsWellFormed (some_unique _ _ is) (is_well_formed_or_empty (dirs []) (formed []))
 formed_ensured [] null dirs names formed (first ∷ at) es is = formed (first ∷ at) es is
 formed_ensured (name ∷ rest) null dirs names formed [] es is =
-    subst IsWellFormed (some_is _ _ is) (formed_directory name null (or_empty (dirs [])) (formed_or_empty (dirs []) (formed [])) names.0)
+    subst IsWellFormed (some_unique _ _ is) (is_well_formed_with_directory name null (or_empty (dirs []))
+        (is_well_formed_or_empty (dirs []) (formed [])) names.0)
 formed_ensured (name ∷ rest) null dirs names formed (first ∷ at) es is =
     elim (same_name name first) as (λ b. cond b (ensured_dirs rest null (in_dir name dirs) at) (dirs (first ∷ at)) ≡ Some es → IsWellFormed es) [
       | true ↦ λ k. formed_ensured rest null (in_dir name dirs) names.1 (λ q. formed (name ∷ q)) at es k
@@ -27,14 +28,14 @@ formed_ensured (name ∷ rest) null dirs names formed (first ∷ at) es is =
     ] is
 
 above_ensured : (path : Path) (null : ObjectId) (dirs : Dirs) → AreAbove dirs → AreAbove (ensured_dirs path null dirs)
-above_ensured [] null dirs above [] other es is = let e = above [] other es is in (e.0, has_or_empty (dirs []) e.0 e.1, e.2, e.3)
+above_ensured [] null dirs above [] other es is = let e = above [] other es is in (e.0, has_or_empty_of_has_at (dirs []) e.0 e.1, e.2, e.3)
 above_ensured [] null dirs above (first ∷ at) other es is = above (first ∷ at) other es is
 above_ensured (name ∷ rest) null dirs above [] other es is =
-    elim (same_names name other) [
-      | inl same ↦ let e = has_tree_of name (with_directory name null (or_empty (dirs []))) (tree_there name null (or_empty (dirs []))) in
+    elim (name_eq_or_ne name other) [
+      | inl same ↦ let e = entry_of_has_tree name (with_directory name null (or_empty (dirs []))) (has_tree_with_directory name null (or_empty (dirs []))) in
           (e.0, e.1, e.2 ∙ same, e.3)
-      | inr differ ↦ let e = above [] other es (sym (ap (λ (d : Dirs). d []) (ensured_next_to name other rest null dirs differ)) ∙ is) in
-          (e.0, directory_has name null (or_empty (dirs [])) e.0 (λ q. differ (sym q ∙ e.2)) (has_or_empty (dirs []) e.0 e.1), e.2, e.3)
+      | inr differ ↦ let e = above [] other es (sym (ap (λ (d : Dirs). d []) (ensured_dirs_in_other_dir name other rest null dirs differ)) ∙ is) in
+          (e.0, has_with_directory name null (or_empty (dirs [])) e.0 (λ q. differ (sym q ∙ e.2)) (has_or_empty_of_has_at (dirs []) e.0 e.1), e.2, e.3)
     ]
 above_ensured (name ∷ rest) null dirs above (first ∷ at) other es is =
     elim (same_name name first) as (λ b. cond b (ensured_dirs rest null (in_dir name dirs) (at ++ other ∷ [])) (dirs (first ∷ (at ++ other ∷ []))) ≡ Some es
@@ -43,8 +44,8 @@ above_ensured (name ∷ rest) null dirs above (first ∷ at) other es is =
       | false ↦ λ k. above (first ∷ at) other es k
     ] is
 
-pub opened_ensured : (path : Path) (null : ObjectId) (dirs : Dirs) → AllByRecursion IsEntryName path → IsOpened dirs → IsOpened (ensured_dirs path null dirs)
-opened_ensured path null dirs names opened = record {
+pub is_opened_ensured : (path : Path) (null : ObjectId) (dirs : Dirs) → AllByRecursion IsEntryName path → IsOpened dirs → IsOpened (ensured_dirs path null dirs)
+is_opened_ensured path null dirs names opened = record {
   root = root_still path;
   well_formed = formed_ensured path null dirs names opened.well_formed;
   above = above_ensured path null dirs opened.above;

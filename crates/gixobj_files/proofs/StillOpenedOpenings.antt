@@ -10,7 +10,7 @@ use Rattle.gixobj_files.specs.Editing.{same_name}
 use Rattle.gixobj_files.specs.Edits.{Opens, arrived, down, found, only, stops, with_dir}
 use Rattle.gixobj_files.specs.Files.{Path, Trees}
 use Rattle.gixobj_files.specs.Opening.{Dirs, HasAt, IsOpened, in_dir}
-use Rattle.gixobj_files.proofs.OpeningFiles.{opens_root}
+use Rattle.gixobj_files.proofs.OpeningFiles.{opens_keeps_root}
 use Rattle.gixobj_files.proofs.StillOpened.{AreAbove, AreFormed}
 
 formed_with_dir : (name : List ℕ) (inner dirs : Dirs) → AreFormed inner → AreFormed dirs → AreFormed (with_dir name inner dirs)
@@ -63,46 +63,47 @@ above_opening trees path dirs new requested (down name rest d inner e entries mo
 above_opening trees path dirs new requested (found name rest d inner e entries first more entry tree free none finds opens) above =
     above_with_dir name inner d (above_opening trees rest (only entries) inner more opens (above_only entries)) above (e, entry.0, entry.1, tree)
 
-pub opened_opening : {Ends : EntryView → Type 0} (trees : Trees) (path : Path) (dirs new : Dirs) (requested : List ObjectId)
+pub is_opened_of_opens : {Ends : EntryView → Type 0} (trees : Trees) (path : Path) (dirs new : Dirs) (requested : List ObjectId)
     → Opens Ends trees path dirs new requested → IsOpened dirs → IsOpened new
-opened_opening trees path dirs new requested opens opened = record {
-  root = λ none. opened.root (sym (opens_root trees path dirs new requested opens) ∙ none);
+is_opened_of_opens trees path dirs new requested opens opened = record {
+  root = λ none. opened.root (sym (opens_keeps_root trees path dirs new requested opens) ∙ none);
   well_formed = formed_opening trees path dirs new requested opens opened.well_formed;
   above = above_opening trees path dirs new requested opens opened.above;
 }
 
 -- the open directories in an open directory satisfy the invariant
-pub opened_in_dir : (name : List ℕ) (dirs : Dirs) (entries : List EntryView) → dirs (name ∷ []) ≡ Some entries → IsOpened dirs → IsOpened (in_dir name dirs)
-opened_in_dir name dirs entries is all = record {
+pub is_opened_in_dir : (name : List ℕ) (dirs : Dirs) (entries : List EntryView) → dirs (name ∷ []) ≡ Some entries → IsOpened dirs → IsOpened (in_dir name dirs)
+is_opened_in_dir name dirs entries is all = record {
   root = λ none. cc (sym is ∙ none);
   well_formed = λ path. all.well_formed (name ∷ path);
   above = λ path. all.above (name ∷ path);
 }
 
-pub opened_only : (entries : List EntryView) → IsWellFormed entries → IsOpened (only entries)
-opened_only entries formed = record { root = λ none. cc none; well_formed = formed_only entries formed; above = above_only entries }
+pub is_opened_of_only : (entries : List EntryView) → IsWellFormed entries → IsOpened (only entries)
+is_opened_of_only entries formed = record { root = λ none. cc none; well_formed = formed_only entries formed; above = above_only entries }
 
-pub opened_with_dir : (name : List ℕ) (inner dirs : Dirs) → IsOpened inner → IsOpened dirs
+pub is_opened_with_dir : (name : List ℕ) (inner dirs : Dirs) → IsOpened inner → IsOpened dirs
     → ((e : EntryView) × HasAt (dirs []) e × (e.name ≡ name) × IsTrue (is_tree_mode e.mode)) → IsOpened (with_dir name inner dirs)
-opened_with_dir name inner dirs inside next_to entry = record {
+is_opened_with_dir name inner dirs inside next_to entry = record {
   root = next_to.root;
   well_formed = formed_with_dir name inner dirs inside.well_formed next_to.well_formed;
   above = above_with_dir name inner dirs inside.above next_to.above entry;
 }
 
 -- an opening leaves each open directory unchanged
-pub opening_keeps : {Ends : EntryView → Type 0} (trees : Trees) (path : Path) (dirs new : Dirs) (requested : List ObjectId)
+pub opens_keeps_open_lists : {Ends : EntryView → Type 0} (trees : Trees) (path : Path) (dirs new : Dirs) (requested : List ObjectId)
     → Opens Ends trees path dirs new requested → (at : Path) (es : List EntryView) → dirs at ≡ Some es → new at ≡ Some es
-opening_keeps trees path dirs new requested (arrived d) at es is = is
-opening_keeps trees path dirs new requested (stops name rest d other none) at es is = is
-opening_keeps trees path dirs new requested (down name rest d inner e entries more has named there opens) [] es is = is
-opening_keeps trees path dirs new requested (down name rest d inner e entries more has named there opens) (first ∷ at) es is =
+opens_keeps_open_lists trees path dirs new requested (arrived d) at es is = is
+opens_keeps_open_lists trees path dirs new requested (stops name rest d other none) at es is = is
+opens_keeps_open_lists trees path dirs new requested (down name rest d inner e entries more has named there opens) [] es is = is
+opens_keeps_open_lists trees path dirs new requested (down name rest d inner e entries more has named there opens) (first ∷ at) es is =
     elim (same_name name first) as (λ b. same_name name first ≡ b → cond b (inner at) (d (first ∷ at)) ≡ Some es) [
-      | true ↦ λ called. opening_keeps trees rest (in_dir name d) inner more opens at es (ap (λ n. d (n ∷ at)) ((bytes_decides name first).0 called) ∙ is)
+      | true ↦ λ called. opens_keeps_open_lists trees rest (in_dir name d) inner more opens at es (ap (λ n. d (n ∷ at)) ((bytes_decides name first).0 called)
+          ∙ is)
       | false ↦ λ called. is
     ] refl
-opening_keeps trees path dirs new requested (found name rest d inner e entries first more entry tree free none finds opens) [] es is = is
-opening_keeps trees path dirs new requested (found name rest d inner e entries first more entry tree free none finds opens) (other ∷ at) es is =
+opens_keeps_open_lists trees path dirs new requested (found name rest d inner e entries first more entry tree free none finds opens) [] es is = is
+opens_keeps_open_lists trees path dirs new requested (found name rest d inner e entries first more entry tree free none finds opens) (other ∷ at) es is =
     elim (same_name name other) as (λ b. same_name name other ≡ b → cond b (inner at) (d (other ∷ at)) ≡ Some es) [
       | true ↦ λ called. absurd (let bad : None ≡ Some es = sym (none at) ∙ ap (λ n. d (n ∷ at)) ((bytes_decides name other).0 called) ∙ is in cc bad)
       | false ↦ λ called. is

@@ -9,15 +9,15 @@ use Rattle.gixobj_files.specs.Editing.{same_name, without}
 use Rattle.gixobj_files.specs.Edits.{removed_dirs}
 use Rattle.gixobj_files.specs.Files.{Path}
 use Rattle.gixobj_files.specs.Opening.{Dirs, HasAt, IsOpened, in_dir}
-use Rattle.gixobj_files.proofs.Formed.{well_formed_without}
-use Rattle.gixobj_files.proofs.OpenedFiles.{name_itself, same_names}
-use Rattle.gixobj_files.proofs.RemovedFiles.{has_taken, taken_next_to}
+use Rattle.gixobj_files.proofs.Formed.{is_well_formed_without}
+use Rattle.gixobj_files.proofs.OpenedFiles.{same_name_refl, name_eq_or_ne}
+use Rattle.gixobj_files.proofs.RemovedFiles.{has_at_without_other, removed_name_in_other_dir}
 use Rattle.gixobj_files.proofs.StillOpened.{AreAbove, AreFormed}
 
 formed_taken : (name : List ℕ) (here : Option (List EntryView)) → ((es : List EntryView) → here ≡ Some es → IsWellFormed es) → (es : List EntryView)
     → option_map (without name) here ≡ Some es → IsWellFormed es
 formed_taken name None formed es is = absurd (cc is)
-formed_taken name (Some old) formed es is = subst IsWellFormed (some_is is) (well_formed_without name old (formed old refl))
+formed_taken name (Some old) formed es is = subst IsWellFormed (some_is is) (is_well_formed_without name old (formed old refl))
   where
     some_is : Some (without name old) ≡ Some es → without name old ≡ es
     some_is e = cc e
@@ -48,11 +48,11 @@ was_open (name ∷ next ∷ rest) dirs es is = (es, is)
 above_removed : (path : Path) (dirs : Dirs) → AreAbove dirs → AreAbove (removed_dirs path dirs)
 above_removed [] dirs above at other es is = above at other es is
 above_removed (name ∷ []) dirs above [] other es is =
-    elim (same_names name other) [
+    elim (name_eq_or_ne name other) [
       | inl same ↦ absurd (let gone : removed_dirs (name ∷ []) dirs (other ∷ []) ≡ None = subst (λ n. removed_dirs (name ∷ []) dirs (n ∷ []) ≡ None) same
-          (ap (λ b. cond b None (dirs (name ∷ []))) (name_itself name)) in let bad : None ≡ Some es = sym gone ∙ is in cc bad)
-      | inr differ ↦ let e = above [] other es (sym (ap (λ (d : Dirs). d []) (taken_next_to name other dirs differ)) ∙ is) in
-          (e.0, has_taken name (dirs []) e.0 e.1 (λ q. differ (sym q ∙ e.2)), e.2, e.3)
+          (ap (λ b. cond b None (dirs (name ∷ []))) (same_name_refl name)) in let bad : None ≡ Some es = sym gone ∙ is in cc bad)
+      | inr differ ↦ let e = above [] other es (sym (ap (λ (d : Dirs). d []) (removed_name_in_other_dir name other dirs differ)) ∙ is) in
+          (e.0, has_at_without_other name (dirs []) e.0 e.1 (λ q. differ (sym q ∙ e.2)), e.2, e.3)
     ]
 above_removed (name ∷ []) dirs above (first ∷ at) other es is =
     elim (same_name name first) as (λ b. cond b None (dirs (first ∷ (at ++ other ∷ []))) ≡ Some es → (e : EntryView) × HasAt (cond b None (dirs (first ∷ at))) e
@@ -75,18 +75,18 @@ above_removed (name ∷ next ∷ rest) dirs above (first ∷ at) other es is =
       | false ↦ λ k. above (first ∷ at) other es k
     ] is
 
-pub still_root : (path : Path) (dirs : Dirs) → dirs [] ≢ None → removed_dirs path dirs [] ≢ None
-still_root [] dirs root = root
-still_root (name ∷ []) dirs root = left (dirs []) root
+pub removed_dirs_keep_root : (path : Path) (dirs : Dirs) → dirs [] ≢ None → removed_dirs path dirs [] ≢ None
+removed_dirs_keep_root [] dirs root = root
+removed_dirs_keep_root (name ∷ []) dirs root = left (dirs []) root
   where
     left : (here : Option (List EntryView)) → here ≢ None → option_map (without name) here ≢ None
     left None some is = some refl
     left (Some old) some is = cc is
-still_root (name ∷ next ∷ rest) dirs root = root
+removed_dirs_keep_root (name ∷ next ∷ rest) dirs root = root
 
-pub opened_removed : (path : Path) (dirs : Dirs) → IsOpened dirs → IsOpened (removed_dirs path dirs)
-opened_removed path dirs opened = record {
-  root = still_root path dirs opened.root;
+pub is_opened_removed : (path : Path) (dirs : Dirs) → IsOpened dirs → IsOpened (removed_dirs path dirs)
+is_opened_removed path dirs opened = record {
+  root = removed_dirs_keep_root path dirs opened.root;
   well_formed = formed_removed path dirs opened.well_formed;
   above = above_removed path dirs opened.above;
 }

@@ -24,8 +24,8 @@ empty_tree_id : (it : ObjectId) → is_empty_tree_id it ≡ true → it ≡ id_o
 empty_tree_id (id.Sha1 bytes) is = ap id.Sha1 ((bytes_decides bytes (id_bytes (id_of hash.Sha1 Tree []))).0 is)
 empty_tree_id (id.Sha256 bytes) is = ap id.Sha256 ((bytes_decides bytes (id_bytes (id_of hash.Sha256 Tree []))).0 is)
 
-pub searched_if : (it : ObjectId) → (IsNeverLookedUp it → ⊥) → (is_null it ≡ false) × (is_empty_tree_id it ≡ false)
-searched_if it filled = (
+pub not_null_and_not_empty_of_lookup : (it : ObjectId) → (IsNeverLookedUp it → ⊥) → (is_null it ≡ false) × (is_empty_tree_id it ≡ false)
+not_null_and_not_empty_of_lookup it filled = (
   elim (is_null it) as (λ b. is_null it ≡ b → b ≡ false) [ true ↦ λ is. absurd (filled (inl is)) | false ↦ λ is. refl ] refl,
   elim (is_empty_tree_id it) as (λ b. is_empty_tree_id it ≡ b → b ≡ false)
       [ true ↦ λ is. absurd (filled (inr (empty_tree_id it is))) | false ↦ λ is. refl ]
@@ -33,7 +33,7 @@ searched_if it filled = (
 )
 
 pub lookup_needed : (it : ObjectId) → (IsNeverLookedUp it → ⊥) → needs_lookup it ≡ true
-lookup_needed it filled = let both = searched_if it filled in rw (both.0, both.1) refl
+lookup_needed it filled = let both = not_null_and_not_empty_of_lookup it filled in rw (both.0, both.1) refl
 
 not_either : (x y : Bool) → (x ≡ true) ⊎ (y ≡ true) → (not x && not y) ≡ false
 not_either true y h = refl
@@ -44,9 +44,9 @@ not_either false false (inr h) = absurd (cc h)
 is_empty_id : (it : ObjectId) → it ≡ id_of (id_kind it) Tree [] → is_empty_tree_id it ≡ true
 is_empty_id it is = (bytes_decides (id_bytes it) (id_bytes (id_of (id_kind it) Tree []))).1 (ap id_bytes is)
 
-pub unsought : (it : ObjectId) → IsNeverLookedUp it → needs_lookup it ≡ false
-unsought it (inl null) = not_either (is_null it) (is_empty_tree_id it) (inl null)
-unsought it (inr is) = not_either (is_null it) (is_empty_tree_id it) (inr (is_empty_id it is))
+pub needs_no_lookup : (it : ObjectId) → IsNeverLookedUp it → needs_lookup it ≡ false
+needs_no_lookup it (inl null) = not_either (is_null it) (is_empty_tree_id it) (inl null)
+needs_no_lookup it (inr is) = not_either (is_null it) (is_empty_tree_id it) (inr (is_empty_id it is))
 
 -- entries by name
 find_has : (name : List ℕ) (es : List EntryView) (e : EntryView) → find (λ x. same_name x.name name) es ≡ Some e → Has es e × (e.name ≡ name)
@@ -71,24 +71,24 @@ find_none name (x ∷ xs) is e h named =
         (bytes_decides x.name name).1 (ap (λ (y : EntryView). y.name) same ∙ named) in let bad : true ≡ false = sym yes ∙ other in cc bad
     here (inr l) other k = k l
 
-pub entry_has : (name : List ℕ) (here : Option (List EntryView)) (e : EntryView) → first_entry_of name here ≡ Some e → HasAt here e × (e.name ≡ name)
-entry_has name None e is = absurd (cc is)
-entry_has name (Some es) e is = find_has name es e is
+pub has_at_of_entry_at : (name : List ℕ) (here : Option (List EntryView)) (e : EntryView) → first_entry_of name here ≡ Some e → HasAt here e × (e.name ≡ name)
+has_at_of_entry_at name None e is = absurd (cc is)
+has_at_of_entry_at name (Some es) e is = find_has name es e is
 
 entry_none : (name : List ℕ) (here : Option (List EntryView)) → first_entry_of name here ≡ None → (e : EntryView) → HasAt here e → e.name ≡ name → ⊥
 entry_none name None is e h named = h
 entry_none name (Some es) is e h named = find_none name es is e h named
 
-pub found_or_none : (o : Option EntryView) → (o ≡ None) ⊎ ((e : EntryView) × (o ≡ Some e))
-found_or_none None = inl refl
-found_or_none (Some e) = inr (e, refl)
+pub option_none_or_some : (o : Option EntryView) → (o ≡ None) ⊎ ((e : EntryView) × (o ≡ Some e))
+option_none_or_some None = inl refl
+option_none_or_some (Some e) = inr (e, refl)
 
-pub the_entry : (name : List ℕ) (here : Option (List EntryView)) (e : EntryView) → IsEntryOf name here e → first_entry_of name here ≡ Some e
-the_entry name here e entry = by_cases (found_or_none (first_entry_of name here))
+pub first_entry_of_has_at : (name : List ℕ) (here : Option (List EntryView)) (e : EntryView) → IsEntryOf name here e → first_entry_of name here ≡ Some e
+first_entry_of_has_at name here e entry = by_cases (option_none_or_some (first_entry_of name here))
   where
     by_cases : (first_entry_of name here ≡ None) ⊎ ((x : EntryView) × (first_entry_of name here ≡ Some x)) → first_entry_of name here ≡ Some e
     by_cases (inl none) = absurd (entry_none name here none e entry.0 entry.1)
-    by_cases (inr some) = let has = entry_has name here some.0 some.1 in some.1 ∙ ap Some (entry.2 some.0 has.0 has.1)
+    by_cases (inr some) = let has = has_at_of_entry_at name here some.0 some.1 in some.1 ∙ ap Some (entry.2 some.0 has.0 has.1)
 
 -- the number of parent directories of a path that pass a test
 abbrev passes : (Path → Bool) → Path → ℕ
@@ -197,7 +197,7 @@ module _ (trees : Trees) where
   idle_entry : (name : List ℕ) (dirs : Dirs) → ((e : EntryView) → HasAt (dirs []) e → e.name ≡ name → IsNotLookedUp e)
       → (needs_tree_lookup (first_entry_of name (dirs [])) ≡ false)
       × ((path : Path) → entry_in_store trees path (list_of trees (first_entry_of name (dirs []))) ≡ None)
-  idle_entry name dirs idle = by_cases (found_or_none (first_entry_of name (dirs [])))
+  idle_entry name dirs idle = by_cases (option_none_or_some (first_entry_of name (dirs [])))
     where
       by_kind : (e : EntryView) → IsNotLookedUp e → (needs_tree_lookup (Some e) ≡ false)
           × ((path : Path) → entry_in_store trees path (list_of trees (Some e)) ≡ None)
@@ -207,7 +207,7 @@ module _ (trees : Trees) where
             ∙ known_none path,
       )
       by_kind e (inr empty) = (
-        elim (is_tree_mode e.mode) as (λ b. (b && needs_lookup e.id) ≡ false) [ true ↦ unsought e.id empty | false ↦ refl ],
+        elim (is_tree_mode e.mode) as (λ b. (b && needs_lookup e.id) ≡ false) [ true ↦ needs_no_lookup e.id empty | false ↦ refl ],
         λ path. elim (is_tree_mode e.mode) as (λ b. entry_in_store trees path (cond b (tree_of trees e.id) None) ≡ None)
             [ true ↦ not_looked_up_known e.id empty path | false ↦ known_none path ],
       )
@@ -217,7 +217,7 @@ module _ (trees : Trees) where
           × ((path : Path) → entry_in_store trees path (list_of trees (first_entry_of name (dirs []))) ≡ None)
       by_cases (inl none) = (ap needs_tree_lookup none, λ path. ap (λ o. entry_in_store trees path (list_of trees o)) none ∙ known_none path)
       by_cases (inr some) =
-          let has = entry_has name (dirs []) some.0 some.1 in
+          let has = has_at_of_entry_at name (dirs []) some.0 some.1 in
           let it = by_kind some.0 (idle some.0 has.0 has.1) in
           (ap needs_tree_lookup some.1 ∙ it.0, λ path. ap (λ o. entry_in_store trees path (list_of trees o)) some.1 ∙ it.1 path)
 
@@ -228,12 +228,13 @@ module _ (trees : Trees) where
   -- an entry of tree mode that isn't open counts one if its id is looked up
   first_requested : (it : ObjectId) (entries : List EntryView) (first : List ObjectId) → Finds trees it entries first
       → length first ≡ one_if (needs_lookup it)
-  first_requested it entries first (formed, inl (empty, nothing, none)) = ap length none ∙ sym (ap one_if (unsought it empty))
+  first_requested it entries first (formed, inl (empty, nothing, none)) = ap length none ∙ sym (ap one_if (needs_no_lookup it empty))
   first_requested it entries first (formed, inr (filled, is, requests)) = ap length requests ∙ sym (ap one_if (lookup_needed it filled))
 
   below_found : (it : ObjectId) (entries : List EntryView) (first : List ObjectId) → Finds trees it entries first → (path : Path)
       → entry_in_store trees path (tree_of trees it) ≡ entry_in_store trees path (Some entries)
-  below_found it entries first (formed, inr (filled, is, requests)) path = let both = searched_if it filled in ap (entry_in_store trees path)
+  below_found it entries first (formed, inr (filled, is, requests)) path = let both = not_null_and_not_empty_of_lookup it filled in
+      ap (entry_in_store trees path)
       (ap (λ b. cond b None (cond (is_empty_tree_id it) (Some []) (trees it))) both.0 ∙ ap (λ b. cond b (Some []) (trees it)) both.1 ∙ is)
   below_found it entries first (formed, inl (empty, nothing, none)) path = not_looked_up_known it empty path
       ∙ sym (ap (λ es. entry_in_store trees path (Some es)) nothing ∙ known_nothing path)
@@ -243,7 +244,7 @@ module _ (trees : Trees) where
       → looked_up_entry trees (name ∷ first ∷ path) dirs ≡ looked_up_entry trees (first ∷ path) (only entries)
   found_below name first path dirs e entries requests entry tree none finds =
       known_unopened name first path dirs none
-      ∙ ap (λ o. entry_in_store trees (first ∷ path) (list_of trees o)) (the_entry name (dirs []) e entry)
+      ∙ ap (λ o. entry_in_store trees (first ∷ path) (list_of trees o)) (first_entry_of_has_at name (dirs []) e entry)
       ∙ ap (λ b. entry_in_store trees (first ∷ path) (cond b (tree_of trees e.id) None)) tree
       ∙ below_found e.id entries requests finds (first ∷ path)
       ∙ sym (known_only (first ∷ path) entries)
@@ -273,7 +274,7 @@ module _ (trees : Trees) where
       → dirs (name ∷ []) ≡ None
       → is_unopened trees dirs (name ∷ []) ≡ needs_lookup e.id
   unopened_here name dirs e entry tree none =
-      ap (λ o. needs_opening o && needs_tree_lookup (first_entry_of name (dirs []))) none ∙ ap needs_tree_lookup (the_entry name (dirs []) e entry)
+      ap (λ o. needs_opening o && needs_tree_lookup (first_entry_of name (dirs []))) none ∙ ap needs_tree_lookup (first_entry_of_has_at name (dirs []) e entry)
       ∙ ap (λ b. b && needs_lookup e.id) tree
 
   -- a name without a directory that is looked up has no unopened directory at or below it

@@ -11,8 +11,8 @@ use Rattle.gixobj_files.proofs.Based.{Based}
 use Rattle.gixobj_files.proofs.Everywhere.{Everywhere}
 use Rattle.gixobj_files.specs.Emission.{EmitsBelow, Walks, emptied, end, entry_with, leaves, unopened, unchanged, written}
 use Rattle.gixobj_files.specs.Opening.{Dirs, HasAt, IsOpened, OpenFiles, in_dir}
-use Rattle.gixobj_files.proofs.OpenedFiles.{IsAt, no_entries}
-use Rattle.gixobj_files.proofs.Canonical.{one_entry}
+use Rattle.gixobj_files.proofs.OpenedFiles.{IsAt, no_open_files_of_no_entries}
+use Rattle.gixobj_files.proofs.Canonical.{entry_of_name_unique}
 
 -- the entries of open directories are of tree mode
 abbrev pub AreTrees : Dirs → Type 0
@@ -22,13 +22,13 @@ abbrev pub Known : Table → List Pair → Type 0
 Known T pairs = AllByRecursion (λ pair. T.tree_at pair.0 ≡ Some pair.1) pairs
 
 -- a table that has pairs has a prefix of them, and the rest
-pub known_remaining : (T : Table) (xs ys : List Pair) → Known T (xs ++ ys) → Known T xs
-known_remaining T [] ys h = tt
-known_remaining T (x ∷ xs) ys h = (h.0, known_remaining T xs ys h.1)
+pub known_append_left : (T : Table) (xs ys : List Pair) → Known T (xs ++ ys) → Known T xs
+known_append_left T [] ys h = tt
+known_append_left T (x ∷ xs) ys h = (h.0, known_append_left T xs ys h.1)
 
-pub known_right : (T : Table) (xs ys : List Pair) → Known T (xs ++ ys) → Known T ys
-known_right T [] ys h = h
-known_right T (x ∷ xs) ys h = known_right T xs ys h.1
+pub known_append_right : (T : Table) (xs ys : List Pair) → Known T (xs ++ ys) → Known T ys
+known_append_right T [] ys h = h
+known_append_right T (x ∷ xs) ys h = known_append_right T xs ys h.1
 
 -- the files at a name of some entries
 abbrev Part : Table → ℕ → Dirs → List EntryView → List ℕ → Path → ℕ → ObjectId → Type 0
@@ -37,9 +37,9 @@ Part T k dirs es name path mode id =
     (λ _. OpenFiles T k (in_dir name dirs) path mode id)
 
 -- the entries of a list that begins with a kept entry are that entry and the others
-pub non_null_has : (e : EntryView) (id : ObjectId) (os : List EntryView) (x : EntryView) → Has (entry_with e id ++ os) x
+pub has_non_null_cons : (e : EntryView) (id : ObjectId) (os : List EntryView) (x : EntryView) → Has (entry_with e id ++ os) x
     → ((is_null id ≡ false) × (record { mode = e.mode; name = e.name; id = id } ≡ x)) ⊎ Has os x
-non_null_has e id os x h =
+has_non_null_cons e id os x h =
     elim (is_null id) as (λ b. is_null id ≡ b → Has (cond b [] ((record { mode = e.mode; name = e.name; id = id }) ∷ []) ++ os) x
     → ((is_null id ≡ false) × (record { mode = e.mode; name = e.name; id = id } ≡ x)) ⊎ Has os x) [
       | true ↦ λ is k. inr k
@@ -100,7 +100,7 @@ emitted_at T k d e rest os l root named_id known tree there name path mode id lo
             of_open T k d name root e path mode id (subst (λ n. d (n ∷ []) ≡ Some root) named there)
                 (subst (λ n. OpenFiles T k (in_dir n d) path mode id) named (lower.0 (subst At is_at mine.1))),
           ))
-          (λ l. more T k d e rest name path mode id (w.0 (h.0, l, h.2, h.3))) (non_null_has e named_id os h.0 h.1)),
+          (λ l. more T k d e rest name path mode id (w.0 (h.0, l, h.2, h.3))) (has_non_null_cons e named_id os h.0 h.1)),
       λ p. ⊎_elim (λ same. let named : e.name ≡ name = ap (λ (x : EntryView). x.name) same ∙ p.2 in
           let files = lower.1 (subst (λ n. OpenFiles T k (in_dir n d) path mode id) (sym named)
           (at_open T k d name root p.0 path mode id (subst (λ n. d (n ∷ []) ≡ Some root) named there) p.3)) in
@@ -146,7 +146,7 @@ mutual
           subst (At e) (sym (subst (λ n. d (n ∷ []) ≡ None) (ap (λ (x : EntryView). x.name) one.1 ∙ h.2) none))
               (subst (λ (x : EntryView). Below T (Files T k) x.mode x.id path mode id) (sym one.1) h.3),
         ))
-            (λ l. more T k d e rest name path mode id (w.0 (h.0, l, h.2, h.3))) (non_null_has e e.id os h.0 h.1)),
+            (λ l. more T k d e rest name path mode id (w.0 (h.0, l, h.2, h.3))) (has_non_null_cons e e.id os h.0 h.1)),
         λ p. ⊎_elim (λ same. let named : e.name ≡ name = ap (λ (x : EntryView). x.name) same ∙ p.2 in
             let here = subst (At p.0) (subst (λ n. d (n ∷ []) ≡ None) named none) p.3 in
             let mine = subst (λ (x : EntryView). Below T (Files T k) x.mode x.id path mode id) (sym same) here in
@@ -155,13 +155,13 @@ mutual
       )
   walk_files T dirs bases es ps own saved (emptied d b e rest inner below os m n found walk) trees deeper based basing known k name path mode id =
       let w = walk_files T d b rest below os n walk (λ x l h. trees x l (inr h)) deeper (λ x l h. based x l (inr h)) basing
-      (known_right T inner below known) k name path mode id in
+      (known_append_right T inner below known) k name path mode id in
       let root = root_of (in_dir e.name d) (in_dir e.name b) inner [] m found in
       let lower = leaves_files T (in_dir e.name d) (in_dir e.name b) inner [] m found (deeper e.name) (basing e.name)
-      (known_remaining T inner below known) k path mode id in (
+      (known_append_left T inner below known) k path mode id in (
         (λ h. more T k d e rest name path mode id (w.0 h)),
         λ p. ⊎_elim (λ same. let named : e.name ≡ name = ap (λ (x : EntryView). x.name) same ∙ p.2 in
-            absurd (no_entries T k path mode id
+            absurd (no_open_files_of_no_entries T k path mode id
             (lower.1 (subst (λ n. OpenFiles T k (in_dir n d) path mode id) (sym named)
             (at_open T k d name root.0 p.0 path mode id (subst (λ n. d (n ∷ []) ≡ Some root.0) named root.1) p.3)))))
             (λ l. w.1 (p.0, l, p.2, p.3)) p.1,
@@ -169,29 +169,29 @@ mutual
   walk_files T dirs bases es ps own saved (unchanged d b e first rest more_own inner below os m n found same walk) trees deeper based basing known k name path
       mode id =
       let w = walk_files T d b rest below os n walk (λ x l h. trees x l (inr h)) deeper (λ x l h. based x l (inr h)) basing
-      (known_right T inner below known) k name path mode id in
+      (known_append_right T inner below known) k name path mode id in
       let root = root_of (in_dir e.name d) (in_dir e.name b) inner (first ∷ more_own) m found in
       let lower = leaves_files T (in_dir e.name d) (in_dir e.name b) inner (first ∷ more_own) m found (deeper e.name) (basing e.name)
-      (known_remaining T inner below known) k path mode id in
+      (known_append_left T inner below known) k path mode id in
       emitted_at T k d e rest os (first ∷ more_own) root.0 e.id (is_at_known T e.id first more_own (based e (first ∷ more_own) (inl refl) same))
       (trees e root.0 (inl refl) root.1) root.1 name path mode id lower w
   walk_files T dirs bases es ps own saved (written d b e first rest more_own inner below os m n named_id found differ walk) trees deeper based basing known k
       name path mode id =
-      let pair = known_right T inner ((named_id, first ∷ more_own) ∷ below) known in
+      let pair = known_append_right T inner ((named_id, first ∷ more_own) ∷ below) known in
       let w = walk_files T d b rest below os n walk (λ x l h. trees x l (inr h)) deeper (λ x l h. based x l (inr h)) basing pair.1 k name path mode id in
       let root = root_of (in_dir e.name d) (in_dir e.name b) inner (first ∷ more_own) m found in
       let lower = leaves_files T (in_dir e.name d) (in_dir e.name b) inner (first ∷ more_own) m found (deeper e.name) (basing e.name)
-      (known_remaining T inner ((named_id, first ∷ more_own) ∷ below) known) k path mode id in
+      (known_append_left T inner ((named_id, first ∷ more_own) ∷ below) known) k path mode id in
       emitted_at T k d e rest os (first ∷ more_own) root.0 named_id pair.0 (trees e root.0 (inl refl) root.1) root.1 name path mode id lower w
 
 at_some : (o : Option (List EntryView)) (e : EntryView) → HasAt o e → (es : List EntryView) × (o ≡ Some es) × Has es e
 at_some None e h = absurd h
 at_some (Some es) e h = (es, refl, h)
 
-pub opened_trees : (dirs : Dirs) → IsOpened dirs → AreTrees dirs
-opened_trees dirs is path e es has there =
+pub are_trees_of_opened : (dirs : Dirs) → IsOpened dirs → AreTrees dirs
+are_trees_of_opened dirs is path e es has there =
     let above = is.above path e.name es there in
     let here = at_some (dirs path) e has in
     let other = subst (λ o. HasAt o above.0) here.1 above.1 in
-    let same = one_entry here.0 (is.well_formed path here.0 here.1).apart above.0 e other here.2 above.2 in
+    let same = entry_of_name_unique here.0 (is.well_formed path here.0 here.1).apart above.0 e other here.2 above.2 in
     ap (λ (x : EntryView). is_tree_mode x.mode) (sym same) ∙ above.3

@@ -15,18 +15,18 @@ use Rattle.gixobj_find.specs.Nothing.{AnswersId, AnswersKnownId}
 nothing : (id : ObjectId) → None ≡ named finite.empty id
 nothing id = sym (finite.get-empty id_cmp id)
 
-pub none_found : (id : ObjectId) → IsFound finite.empty id None
-none_found id = nothing id
+pub is_found_none_in_empty : (id : ObjectId) → IsFound finite.empty id None
+is_found_none_in_empty id = nothing id
 
-pub no_header_found : (id : ObjectId) → IsHeaderFound finite.empty id None
-no_header_found id = ap (option_map header) (nothing id)
+pub is_header_found_none_in_empty : (id : ObjectId) → IsHeaderFound finite.empty id None
+is_header_found_none_in_empty id = ap (option_map header) (nothing id)
 
-pub not_there : (id : ObjectId) → false ≡ is_some (named finite.empty id)
-not_there id = ap (λ (it : Option StoredObject). is_some it) (nothing id)
+pub not_named_in_empty : (id : ObjectId) → false ≡ is_some (named finite.empty id)
+not_named_in_empty id = ap (λ (it : Option StoredObject). is_some it) (nothing id)
 
 -- the id of an object whose entire content is the stream
-pub answers_entire : (kind : Kind) (content : List ℕ) → AnswersId kind (length content) (Some content) (Ok (id_of Sha1 kind content))
-answers_entire kind content = (Some [], (content, record { consumed = sym (append-nil content); counted = refl }, refl))
+pub answers_id_of_content : (kind : Kind) (content : List ℕ) → AnswersId kind (length content) (Some content) (Ok (id_of Sha1 kind content))
+answers_id_of_content kind content = (Some [], (content, record { consumed = sym (append-nil content); counted = refl }, refl))
 
-pub answers_known : (id : ObjectId) (kind : Kind) (content : List ℕ) → AnswersKnownId id kind (length content) (Some content) (Ok id)
-answers_known id kind content = (refl, (Some [], (content, record { consumed = sym (append-nil content); counted = refl })))
+pub answers_known_id_of_content : (id : ObjectId) (kind : Kind) (content : List ℕ) → AnswersKnownId id kind (length content) (Some content) (Ok id)
+answers_known_id_of_content id kind content = (refl, (Some [], (content, record { consumed = sym (append-nil content); counted = refl })))

@@ -26,9 +26,9 @@ is_blob hash kind.Blob content blob is = (refl, is)
 is_blob hash kind.Commit content blob is = absurd is
 is_blob hash kind.Tag content blob is = absurd is
 
-pub blob_named : (objects : Objects) (id : ObjectId) (blob : BlobRef) → NamesEncoding objects id (ref.Blob blob)
+pub names_blob : (objects : Objects) (id : ObjectId) (blob : BlobRef) → NamesEncoding objects id (ref.Blob blob)
     → NamesSuch objects id kind.Blob (λ hash content. blob.bytes.now ≡ content)
-blob_named objects id blob (kept, names, is) = let of_kind = is_blob kept.object_hash kept.kind kept.bytes blob is in (kept, names, of_kind.0, of_kind.1)
+names_blob objects id blob (kept, names, is) = let of_kind = is_blob kept.object_hash kept.kind kept.bytes blob is in (kept, names, of_kind.0, of_kind.1)
 
 is_tree : (hash : hash.Kind) (of : Kind) (content : List ℕ) (tree : TreeRef) → DecodesToObject hash of content (ref.Tree tree) → (of ≡ kind.Tree)
     × (DecodesToTree hash content (tree_entries tree))
@@ -37,9 +37,9 @@ is_tree hash kind.Blob content tree is = absurd is
 is_tree hash kind.Commit content tree is = absurd is
 is_tree hash kind.Tag content tree is = absurd is
 
-pub tree_named : (objects : Objects) (id : ObjectId) (tree : TreeRef) → NamesEncoding objects id (ref.Tree tree)
+pub names_tree : (objects : Objects) (id : ObjectId) (tree : TreeRef) → NamesEncoding objects id (ref.Tree tree)
     → NamesSuch objects id kind.Tree (λ hash content. DecodesToTree hash content (tree_entries tree))
-tree_named objects id tree (kept, names, is) = let of_kind = is_tree kept.object_hash kept.kind kept.bytes tree is in (kept, names, of_kind.0, of_kind.1)
+names_tree objects id tree (kept, names, is) = let of_kind = is_tree kept.object_hash kept.kind kept.bytes tree is in (kept, names, of_kind.0, of_kind.1)
 
 is_commit : (hash : hash.Kind) (of : Kind) (content : List ℕ) (commit : CommitRef) → DecodesToObject hash of content (ref.Commit commit) → (of ≡ kind.Commit)
     × (DecodesToCommit hash content (commit_lines commit))
@@ -48,9 +48,9 @@ is_commit hash kind.Blob content commit is = absurd is
 is_commit hash kind.Commit content commit is = (refl, is)
 is_commit hash kind.Tag content commit is = absurd is
 
-pub commit_named : (objects : Objects) (id : ObjectId) (commit : CommitRef) → NamesEncoding objects id (ref.Commit commit)
+pub names_commit : (objects : Objects) (id : ObjectId) (commit : CommitRef) → NamesEncoding objects id (ref.Commit commit)
     → NamesSuch objects id kind.Commit (λ hash content. DecodesToCommit hash content (commit_lines commit))
-commit_named objects id commit (kept, names, is) = let of_kind = is_commit kept.object_hash kept.kind kept.bytes commit is in
+names_commit objects id commit (kept, names, is) = let of_kind = is_commit kept.object_hash kept.kind kept.bytes commit is in
     (kept, names, of_kind.0, of_kind.1)
 
 is_tag : (hash : hash.Kind) (of : Kind) (content : List ℕ) (tag : TagRef) → DecodesToObject hash of content (ref.Tag tag) → (of ≡ kind.Tag)
@@ -60,6 +60,6 @@ is_tag hash kind.Blob content tag is = absurd is
 is_tag hash kind.Commit content tag is = absurd is
 is_tag hash kind.Tag content tag is = (refl, is)
 
-pub tag_named : (objects : Objects) (id : ObjectId) (tag : TagRef) → NamesEncoding objects id (ref.Tag tag)
+pub names_tag : (objects : Objects) (id : ObjectId) (tag : TagRef) → NamesEncoding objects id (ref.Tag tag)
     → NamesSuch objects id kind.Tag (λ hash content. DecodesToTag hash content (tag_lines tag))
-tag_named objects id tag (kept, names, is) = let of_kind = is_tag kept.object_hash kept.kind kept.bytes tag is in (kept, names, of_kind.0, of_kind.1)
+names_tag objects id tag (kept, names, is) = let of_kind = is_tag kept.object_hash kept.kind kept.bytes tag is in (kept, names, of_kind.0, of_kind.1)

@@ -8,9 +8,9 @@ use Rattle.gixobj_find.specs.Keeping.{with_tree, with_trees}
 use Rattle.gixobj_tree.specs.TreeEncoding.{IsEncodableTree}
 
 -- a list of trees is kept by keeping its two parts in order
-pub stored_on : (first then : List Pair) (objects : Objects) → with_trees (first ++ then) objects ≡ with_trees then (with_trees first objects)
-stored_on [] then objects = refl
-stored_on (it ∷ first) then objects = stored_on first then (with_tree it objects)
+pub with_trees_append : (first then : List Pair) (objects : Objects) → with_trees (first ++ then) objects ≡ with_trees then (with_trees first objects)
+with_trees_append [] then objects = refl
+with_trees_append (it ∷ first) then objects = with_trees_append first then (with_tree it objects)
 
 module _ (trees : List Pair) (number : ℕ) (it : Pair) (within : number < length trees) (is : it ≡ get_or trees number it) where
   one_more : take (number + 1) trees ≡ take number trees ++ it ∷ []
@@ -19,7 +19,7 @@ module _ (trees : List Pair) (number : ℕ) (it : Pair) (within : number < lengt
   pub more_kept : (old before after : Objects) → before ≡ with_trees (take number trees) old → after ≡ with_tree it before
       → after ≡ with_trees (take (number + 1) trees) old
   more_kept old before after so_far kept =
-      kept ∙ ap (with_tree it) so_far ∙ sym (stored_on (take number trees) (it ∷ []) old) ∙ ap (λ (ts : List Pair). with_trees ts old) (sym one_more)
+      kept ∙ ap (with_tree it) so_far ∙ sym (with_trees_append (take number trees) (it ∷ []) old) ∙ ap (λ (ts : List Pair). with_trees ts old) (sym one_more)
 
   pub more_have_encodings : All (λ kept. IsEncodableTree kept.1) (take number trees) → IsEncodableTree it.1
       → All (λ kept. IsEncodableTree kept.1) (take (number + 1) trees)

@@ -96,7 +96,7 @@ impl Store for Memory {
 
 /// Lookups fail only if an allocation for the copy of a found object fails.
 impl Find for Memory {
-    #[tactic(auto, using(crate::proofs::Objects::kept))]
+    #[tactic(auto, using(crate::proofs::Objects::named_memory_objects))]
     fn try_find<'a>(
         &self,
         id: oid<'_>,
@@ -117,7 +117,7 @@ impl Find for Memory {
 
 /// Lookups of headers never fail. Allocates nothing.
 impl FindHeader for Memory {
-    #[tactic(auto, using(crate::proofs::Objects::kept))]
+    #[tactic(auto, using(crate::proofs::Objects::named_memory_objects))]
     fn try_header(&self, id: oid<'_>) -> Result<Option<Header>, find::Error>
         ensures found { IfOk result (IsHeaderFound (memory_objects self.now)
             (borrowed_id id.entry)) }
@@ -135,7 +135,7 @@ impl FindHeader for Memory {
 
 /// Allocates nothing.
 impl Exists for Memory {
-    #[tactic(auto, using(crate::proofs::Objects::kept))]
+    #[tactic(auto, using(crate::proofs::Objects::named_memory_objects))]
     fn exists(&self, id: oid<'_>) -> bool
         ensures { result ≡ is_some (named (memory_objects self.now) (borrowed_id id.entry)) }
     {

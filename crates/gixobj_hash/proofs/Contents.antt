@@ -5,14 +5,14 @@ use Rattle.gixobj_hash.specs.Decode.{BeginsWithHeader, HasContent, HasLooseHeade
 use Rattle.gixobj_hash.specs.declared.kind.Kind.{Kind}
 
 -- the input after a decoded header is the rest that follows the header
-pub header_begins : (input : List ℕ) (kind : Kind) (size used : ℕ)
+pub begins_with_header_of_rest : (input : List ℕ) (kind : Kind) (size used : ℕ)
     → HasLooseHeader input kind size used → BeginsWithHeader input kind size (take (length input - used) (drop used input))
-header_begins input kind size used has = rw (take_rest input used) (take used input, sym (take-append-drop used input), has.1)
+begins_with_header_of_rest input kind size used has = rw (take_rest input used) (take used input, sym (take-append-drop used input), has.1)
 
 -- the prefix of the rest whose length the header states is the content
-pub content_follows : (input : List ℕ) (kind : Kind) (size : ℕ) (after content : List ℕ)
+pub has_content_of_header : (input : List ℕ) (kind : Kind) (size : ℕ) (after content : List ℕ)
     → BeginsWithHeader input kind size after → size ≤ length after → content ≡ take size after → HasContent input kind content
-content_follows input kind size after content begins fits is =
+has_content_of_header input kind size after content begins fits is =
     let rest : List ℕ = drop size after in
     let said : length content ≡ size = ap length is ∙ length-take-le size after fits in
     let joined : content ++ rest ≡ after = ap (λ it. it ++ rest) is ∙ take-append-drop size after in (

@@ -13,13 +13,13 @@ use Rattle.gixobj_hash.specs.ByteStrings.{IsByteFree}
 use Rattle.gixobj_hash.specs.declared.decode.ParseIntegerErrorKind.{ParseIntegerErrorKind}
 use Rattle.gixobj_hash.specs.declared.decode.ParseIntegerErrorKind.TheVariants.{Empty, InvalidDigit, NegOverflow, PosOverflow}
 
-pub no_fault : (bytes : List ℕ) (size : ℕ) (fault : ParseIntegerErrorKind) → DecodesToSize bytes size → HasSizeFault bytes fault → ⊥
-no_fault bytes size Empty reads fault =
+pub no_size_fault_of_digits : (bytes : List ℕ) (size : ℕ) (fault : ParseIntegerErrorKind) → DecodesToSize bytes size → HasSizeFault bytes fault → ⊥
+no_size_fault_of_digits bytes size Empty reads fault =
     let none : length (size_digits bytes) ≡ 0 = ap length fault in
     omega (arith, reads.digits.0)
-no_fault bytes size InvalidDigit reads fault = fault.1 reads.digits
-no_fault bytes size PosOverflow reads fault = omega (arith, reads.value, reads.fits, fault.2)
-no_fault bytes size NegOverflow reads fault = fault.2 (sym reads.value ∙ reads.minus fault.1)
+no_size_fault_of_digits bytes size InvalidDigit reads fault = fault.1 reads.digits
+no_size_fault_of_digits bytes size PosOverflow reads fault = omega (arith, reads.value, reads.fits, fault.2)
+no_size_fault_of_digits bytes size NegOverflow reads fault = fault.2 (sym reads.value ∙ reads.minus fault.1)
 
 digit_not_zero : (byte : ℕ) → digit_value byte < 10 → byte ≢ 0
 digit_not_zero byte digit zero =
@@ -42,25 +42,25 @@ signed_free byte bytes false true minus plus digits =
     All-cons (λ it. it ≢ 0) byte bytes (sign_not_zero byte 43 (lit< tt) plus) (digits_free bytes digits)
 signed_free byte bytes false false minus plus digits = digits_free (byte ∷ bytes) digits
 
-pub size_bytes_free : (bytes : List ℕ) (size : ℕ) → DecodesToSize bytes size → IsByteFree 0 bytes
-size_bytes_free [] size reads = All-nil (λ it. it ≢ 0)
-size_bytes_free (byte ∷ bytes) size reads = signed_free byte bytes (byte == 45) (byte == 43) refl refl reads.digits.1
+pub size_bytes_zero_free : (bytes : List ℕ) (size : ℕ) → DecodesToSize bytes size → IsByteFree 0 bytes
+size_bytes_zero_free [] size reads = All-nil (λ it. it ≢ 0)
+size_bytes_zero_free (byte ∷ bytes) size reads = signed_free byte bytes (byte == 45) (byte == 43) refl refl reads.digits.1
 
 unequal : (a b : ℕ) → a ≢ b → (a == b) ≡ false
 unequal a b other = elim (eqb_tells a b) [ inl same ↦ absurd (other same.1) | inr not_same ↦ not_same.0 ]
 
 -- decimal digits have no sign
-pub unsigned_digits : (digits : List ℕ) → IsNumeral 10 digits → (starts_with_minus digits ≡ false) × (size_digits digits ≡ digits)
-unsigned_digits digits numeral =
+pub digits_without_minus : (digits : List ℕ) → IsNumeral 10 digits → (starts_with_minus digits ≡ false) × (size_digits digits ≡ digits)
+digits_without_minus digits numeral =
     let range = digit_at digits 0 numeral.1 numeral.0 in
     let no_minus : starts_with_minus digits ≡ false = unequal (slice_index digits 0) 45 (omega arith) in
     let no_plus : (slice_index digits 0 == 43) ≡ false = unequal (slice_index digits 0) 43 (omega arith) in
     (no_minus, rw (no_minus, no_plus) refl)
 
-pub written_size : (size : ℕ) → size < 2 ^ 64 → DecodesToSize (decimal size) size
-written_size size fits =
+pub decimal_decodes_to_size : (size : ℕ) → size < 2 ^ 64 → DecodesToSize (decimal size) size
+decimal_decodes_to_size size fits =
     let written = decimal_is_IsNumeral size fits in
-    let unsigned = unsigned_digits (decimal size) written.0 in
+    let unsigned = digits_without_minus (decimal size) written.0 in
     record {
       digits = rw unsigned.1 written.0;
       value = rw unsigned.1 (sym written.1);

@@ -7,44 +7,44 @@ use Rattle.std.specs.Prelude.{◌&&◌}
 use Rattle.std.specs.Str.Parse.{AllDigits, digits_value}
 use Rattle.std.proofs.lemmas.Str.Parse.{digit_at, digits_value-take-le}
 
-pub AllDigits-from_pass : (radix : ℕ) (p : ℕ → Bool) → ((byte : ℕ) → p byte ≡ true → digit_value byte < radix) → (bytes : List ℕ) → AllPass p bytes
+pub all_digits_of_all_pass : (radix : ℕ) (p : ℕ → Bool) → ((byte : ℕ) → p byte ≡ true → digit_value byte < radix) → (bytes : List ℕ) → AllPass p bytes
     → AllDigits radix bytes
-AllDigits-from_pass radix p digit [] pass = tt
-AllDigits-from_pass radix p digit (byte ∷ bytes) pass =
-    (digit byte (All-head (λ it. p it ≡ true) byte bytes pass), AllDigits-from_pass radix p digit bytes (All-tail (λ it. p it ≡ true) byte bytes pass))
+all_digits_of_all_pass radix p digit [] pass = tt
+all_digits_of_all_pass radix p digit (byte ∷ bytes) pass =
+    (digit byte (All-head (λ it. p it ≡ true) byte bytes pass), all_digits_of_all_pass radix p digit bytes (All-tail (λ it. p it ≡ true) byte bytes pass))
 
-pub pass-from_AllDigits : (radix : ℕ) (p : ℕ → Bool) → ((byte : ℕ) → digit_value byte < radix → p byte ≡ true) → (bytes : List ℕ) → AllDigits radix bytes
+pub all_pass_of_all_digits : (radix : ℕ) (p : ℕ → Bool) → ((byte : ℕ) → digit_value byte < radix → p byte ≡ true) → (bytes : List ℕ) → AllDigits radix bytes
     → AllPass p bytes
-pass-from_AllDigits radix p test [] digits = All-nil (λ it. p it ≡ true)
-pass-from_AllDigits radix p test (byte ∷ bytes) digits =
-    All-cons (λ it. p it ≡ true) byte bytes (test byte digits.0) (pass-from_AllDigits radix p test bytes digits.1)
+all_pass_of_all_digits radix p test [] digits = All-nil (λ it. p it ≡ true)
+all_pass_of_all_digits radix p test (byte ∷ bytes) digits =
+    All-cons (λ it. p it ≡ true) byte bytes (test byte digits.0) (all_pass_of_all_digits radix p test bytes digits.1)
 
-pub digit_from_test : (byte : ℕ) → is_ascii_digit byte ≡ true → digit_value byte < 10
-digit_from_test byte passes = grind (arith, passes)
+pub digit_value_lt_ten : (byte : ℕ) → is_ascii_digit byte ≡ true → digit_value byte < 10
+digit_value_lt_ten byte passes = grind (arith, passes)
 
-pub test_from_digit : (byte : ℕ) → digit_value byte < 10 → is_ascii_digit byte ≡ true
-test_from_digit byte digit = grind (arith, digit)
+pub is_ascii_digit_of_value : (byte : ℕ) → digit_value byte < 10 → is_ascii_digit byte ≡ true
+is_ascii_digit_of_value byte digit = grind (arith, digit)
 
 -- an octal digit
 abbrev pub is_octal : ℕ → Bool
 is_octal byte = nat_le 48 byte && nat_le byte 55
 
-pub octal_from_test : (byte : ℕ) → is_octal byte ≡ true → digit_value byte < 8
-octal_from_test byte passes = grind (arith, passes)
+pub digit_value_lt_eight : (byte : ℕ) → is_octal byte ≡ true → digit_value byte < 8
+digit_value_lt_eight byte passes = grind (arith, passes)
 
-pub test_from_octal : (byte : ℕ) → digit_value byte < 8 → is_octal byte ≡ true
-test_from_octal byte digit = grind (arith, digit)
+pub is_octal_of_value : (byte : ℕ) → digit_value byte < 8 → is_octal byte ≡ true
+is_octal_of_value byte digit = grind (arith, digit)
 
 -- ---- numbers
 
 -- the number of a prefix is at most the number of all digits
-pub number_of_prefix : (digits : List ℕ) (i : ℕ) → digits_value 10 (take i digits) ≤ digits_value 10 digits
-number_of_prefix digits i = digits_value-take-le 10 digits i (omega arith)
+pub digits_value_take_le : (digits : List ℕ) (i : ℕ) → digits_value 10 (take i digits) ≤ digits_value 10 digits
+digits_value_take_le digits i = digits_value-take-le 10 digits i (omega arith)
 
 -- the byte at each position of decimal digits is at least `0`, and its value is its distance from `0`
-pub digit_in_place : (digits : List ℕ) (i : ℕ) → AllDigits 10 digits → i < length digits → (48 ≤ get_or digits i 0)
+pub digit_value_at : (digits : List ℕ) (i : ℕ) → AllDigits 10 digits → i < length digits → (48 ≤ get_or digits i 0)
     × (digit_value (get_or digits i 0) ≡ get_or digits i 0 - 48)
-digit_in_place digits i all within =
+digit_value_at digits i all within =
     let range = digit_at digits i all within in
     let least : 48 ≤ get_or digits i 0 = omega arith in
     let most : get_or digits i 0 < 58 = omega arith in

@@ -9,7 +9,7 @@ use Rattle.hex.specs.Hex.{IsBytes, decode_pairs, encode_lower, encode_with, hex_
 use Rattle.gixobj_hash.specs.Hash.{IsIdHex, IsId, DecodesToId, hash_len, encode_id_hex, id_bytes, id_kind, is_lower_hex_digit}
 use Rattle.gixobj_hash.specs.declared.hash.object_id.ObjectId.{ObjectId}
 use Rattle.gixobj_hash.specs.declared.hash.object_id.ObjectId.TheVariants.{Sha1, Sha256}
-use Rattle.gixobj_hash.proofs.HexSteps.{IsLower, at_number, bound, chosen, digit_value_of, value_small}
+use Rattle.gixobj_hash.proofs.HexSteps.{IsLower, all_pass_at, ok_of_bind, true_of_cond, hex_digit_value_some, hex_value_lt_sixteen}
 
 -- each of the sixteen encoded digits is in lower case
 abbrev is_lower_at : ℕ → Bool
@@ -21,15 +21,15 @@ bytes-head byte bytes small = small 0
 bytes-tail : (byte : ℕ) (bytes : List ℕ) → IsBytes (byte ∷ bytes) → IsBytes bytes
 bytes-tail byte bytes small = λ i. small (suc i)
 
-pub lower_written : (bytes : List ℕ) → IsBytes bytes → AllPass is_lower_hex_digit (encode_lower bytes)
+pub encode_lower_is_lower_hex : (bytes : List ℕ) → IsBytes bytes → AllPass is_lower_hex_digit (encode_lower bytes)
 unfolding encode_with
-lower_written [] small = All-nil IsLower
-lower_written (byte ∷ bytes) small =
+encode_lower_is_lower_hex [] small = All-nil IsLower
+encode_lower_is_lower_hex (byte ∷ bytes) small =
     let low = bytes-head byte bytes small in
-    let high_digit = at_number is_lower_at 16 (byte / 16) refl (omega arith) in
-    let low_digit = at_number is_lower_at 16 (byte % 16) refl (omega arith) in
+    let high_digit = all_pass_at is_lower_at 16 (byte / 16) refl (omega arith) in
+    let low_digit = all_pass_at is_lower_at 16 (byte % 16) refl (omega arith) in
     All-cons IsLower (slice_index lower_digits (byte / 16)) (slice_index lower_digits (byte % 16) ∷ encode_lower bytes) high_digit
-    (All-cons IsLower (slice_index lower_digits (byte % 16)) (encode_lower bytes) low_digit (lower_written bytes (bytes-tail byte bytes small)))
+    (All-cons IsLower (slice_index lower_digits (byte % 16)) (encode_lower bytes) low_digit (encode_lower_is_lower_hex bytes (bytes-tail byte bytes small)))
 
 -- a digit in lower case is the encoded digit of its value
 abbrev is_written : ℕ → Bool
@@ -40,52 +40,52 @@ lower_small byte lower = grind (arith, lower)
 
 digit_written : (byte value : ℕ) → is_lower_hex_digit byte ≡ true → hex_digit_value byte ≡ Some value → slice_index lower_digits value ≡ byte
 digit_written byte value lower reads =
-    let written = at_number is_written 103 byte refl (lower_small byte lower) in
-    let same = eqb-true (slice_index lower_digits (unwrap_or (hex_digit_value byte) 0)) byte (chosen (is_lower_hex_digit byte) _ written lower) in
+    let written = all_pass_at is_written 103 byte refl (lower_small byte lower) in
+    let same = eqb-true (slice_index lower_digits (unwrap_or (hex_digit_value byte) 0)) byte (true_of_cond (is_lower_hex_digit byte) _ written lower) in
     ap (λ it. slice_index lower_digits (unwrap_or it 0)) (sym reads) ∙ same
 
-pub reencoded : (i : ℕ) (content bytes : List ℕ) → AllPass is_lower_hex_digit content → decode_pairs i content ≡ Ok bytes
+pub encode_lower_of_decoded : (i : ℕ) (content bytes : List ℕ) → AllPass is_lower_hex_digit content → decode_pairs i content ≡ Ok bytes
     → encode_lower bytes ≡ content
 unfolding decode_pairs encode_with
-reencoded i [] bytes lower ok =
+encode_lower_of_decoded i [] bytes lower ok =
     let none : [] ≡ bytes = cc ok in
     rw (← none) refl
-reencoded i (digit ∷ []) bytes lower ok = cc ok
-reencoded i (high ∷ low ∷ content) bytes lower ok =
+encode_lower_of_decoded i (digit ∷ []) bytes lower ok = cc ok
+encode_lower_of_decoded i (high ∷ low ∷ content) bytes lower ok =
     let lower_bytes = All-tail IsLower high (low ∷ content) lower in
-    let pair = bound (pair_value high low i) _ bytes ok in
-    let rest = bound (decode_pairs (i + 2) content) _ bytes pair.2 in
-    let first = bound (value_at high i) _ pair.0 pair.1 in
-    let second = bound (value_at low (i + 1)) _ pair.0 first.2 in
-    let high_value = digit_value_of high i first.0 (hex_digit_value high) first.1 in
-    let low_value = digit_value_of low (i + 1) second.0 (hex_digit_value low) second.1 in
-    let small_high = value_small high first.0 high_value in
-    let small_low = value_small low second.0 low_value in
+    let pair = ok_of_bind (pair_value high low i) _ bytes ok in
+    let rest = ok_of_bind (decode_pairs (i + 2) content) _ bytes pair.2 in
+    let first = ok_of_bind (value_at high i) _ pair.0 pair.1 in
+    let second = ok_of_bind (value_at low (i + 1)) _ pair.0 first.2 in
+    let high_value = hex_digit_value_some high i first.0 (hex_digit_value high) first.1 in
+    let low_value = hex_digit_value_some low (i + 1) second.0 (hex_digit_value low) second.1 in
+    let small_high = hex_value_lt_sixteen high first.0 high_value in
+    let small_low = hex_value_lt_sixteen low second.0 low_value in
     let byte : first.0 * 16 + second.0 ≡ pair.0 = cc second.2 in
     let all : pair.0 ∷ rest.0 ≡ bytes = cc rest.2 in
     let over : pair.0 / 16 ≡ first.0 = omega arith in
     let under : pair.0 % 16 ≡ second.0 = omega arith in
     let one = ap (slice_index lower_digits) over ∙ digit_written high first.0 (All-head IsLower high (low ∷ content) lower) high_value in
     let two = ap (slice_index lower_digits) under ∙ digit_written low second.0 (All-head IsLower low content lower_bytes) low_value in
-    let more = reencoded (i + 2) content rest.0 (All-tail IsLower low content lower_bytes) rest.1 in
+    let more = encode_lower_of_decoded (i + 2) content rest.0 (All-tail IsLower low content lower_bytes) rest.1 in
     rw (← all) (cc (one, two, more))
 
 -- the laws of ids
 
-pub own_hex_decodes : (id : ObjectId) → IsId id → DecodesToId (encode_id_hex id) id
-own_hex_decodes id proper = record {
+pub encode_id_hex_decodes : (id : ObjectId) → IsId id → DecodesToId (encode_id_hex id) id
+encode_id_hex_decodes id proper = record {
   len = length-encode_with lower_digits (id_bytes id) ∙ ap (λ n. 2 * n) proper.0;
   digits = decode_of-encode_lower (id_bytes id) proper.1;
 }
 
-pub hex_of_decoded_id : (content : List ℕ) (id : ObjectId) → AllPass is_lower_hex_digit content → DecodesToId content id → encode_id_hex id ≡ content
-hex_of_decoded_id content id lower spells =
+pub encode_id_hex_of_decoded : (content : List ℕ) (id : ObjectId) → AllPass is_lower_hex_digit content → DecodesToId content id → encode_id_hex id ≡ content
+encode_id_hex_of_decoded content id lower spells =
     let read = decode_of-ok content (id_bytes id) spells.digits in
-    reencoded 0 content (id_bytes id) lower (sym (decode_of-even content read.0) ∙ spells.digits)
+    encode_lower_of_decoded 0 content (id_bytes id) lower (sym (decode_of-even content read.0) ∙ spells.digits)
 
 id_hex_len : (content : List ℕ) (id : ObjectId) → length content ≡ 2 * hash_len (id_kind id) → (length content ≡ 40) ⊎ (length content ≡ 64)
 id_hex_len content (Sha1 bytes) len = inl len
 id_hex_len content (Sha256 bytes) len = inr len
 
-pub hex_of_decoded : (content : List ℕ) (id : ObjectId) → DecodesToId content id → IsIdHex content
-hex_of_decoded content id spells = (id_hex_len content id spells.len, (decode_of-ok content (id_bytes id) spells.digits).1)
+pub is_id_hex_of_decodes : (content : List ℕ) (id : ObjectId) → DecodesToId content id → IsIdHex content
+is_id_hex_of_decodes content id spells = (id_hex_len content id spells.len, (decode_of-ok content (id_bytes id) spells.digits).1)

@@ -4,8 +4,8 @@ use Rattle.std.proofs.Common.{◌≡◌, ◌<◌, ◌+◌, inl, inr, ℕ, List, 
 use Rattle.std.proofs.Math.Seq.{take-append_seam}
 use Rattle.std.proofs.lemmas.List.{take-append-drop, length-take-le}
 use Rattle.bstr.specs.Owned.{bstring_bytes}
-use Rattle.gixobj_hash.proofs.DecodedSizes.{no_fault, size_bytes_free, written_size}
-use Rattle.gixobj_hash.proofs.Splits.{free_by_test, free_of_split, one_cut}
+use Rattle.gixobj_hash.proofs.DecodedSizes.{no_size_fault_of_digits, size_bytes_zero_free, decimal_decodes_to_size}
+use Rattle.gixobj_hash.proofs.Splits.{byte_free_of_all_pass, no_split_of_byte_free, split_parts_unique}
 use Rattle.std.specs.Prelude.{◌^◌, ◌==◌, decimal, if◌then◌else◌, IfErr, IfOk, Result, Ok, Err}
 use Rattle.gixobj_hash.specs.Decode.{HasFaultySize, HasLooseHeader, HasSizeFault, HasUnknownKind, DecodesToSize, IsLooseHeaderError}
 use Rattle.gixobj_hash.specs.Encode.{encode_loose_header}
@@ -29,15 +29,15 @@ kind_of_name-kind_keyword Blob = refl
 kind_of_name-kind_keyword Commit = refl
 kind_of_name-kind_keyword Tag = refl
 
-pub one_kind : (a b : Kind) → kind_name a ≡ kind_name b → a ≡ b
-one_kind a b same = sym (kind_of_name-kind_keyword a) ∙ ap kind_of_name same ∙ kind_of_name-kind_keyword b
+pub kind_keyword_injective : (a b : Kind) → kind_name a ≡ kind_name b → a ≡ b
+kind_keyword_injective a b same = sym (kind_of_name-kind_keyword a) ∙ ap kind_of_name same ∙ kind_of_name-kind_keyword b
 
 -- the name of a kind has no space
 keyword_free : (kind : Kind) → IsByteFree 32 (kind_name kind)
-keyword_free Tree = free_by_test 32 (kind_name Tree) refl
-keyword_free Blob = free_by_test 32 (kind_name Blob) refl
-keyword_free Commit = free_by_test 32 (kind_name Commit) refl
-keyword_free Tag = free_by_test 32 (kind_name Tag) refl
+keyword_free Tree = byte_free_of_all_pass 32 (kind_name Tree) refl
+keyword_free Blob = byte_free_of_all_pass 32 (kind_name Blob) refl
+keyword_free Commit = byte_free_of_all_pass 32 (kind_name Commit) refl
+keyword_free Tag = byte_free_of_all_pass 32 (kind_name Tag) refl
 
 -- an input that begins with a loose header, with the parts of the header
 pub record Parts (input : List ℕ) (kind : Kind) (size used : ℕ) : Type 0 where
@@ -53,8 +53,8 @@ regrouped word size_bytes rest = simp append_assoc
 header_len : (word size_bytes : List ℕ) → length ((word ++ 32 ∷ size_bytes) ++ 0 ∷ []) ≡ length word + length size_bytes + 2
 header_len word size_bytes = simp length-append (omega arith)
 
-pub parts_of : (input : List ℕ) (kind : Kind) (size used : ℕ) → HasLooseHeader input kind size used → Parts input kind size used
-parts_of input kind size used header =
+pub parts_of_loose_header : (input : List ℕ) (kind : Kind) (size used : ℕ) → HasLooseHeader input kind size used → Parts input kind size used
+parts_of_loose_header input kind size used header =
     let prefix = header.1 in
     record {
       size_bytes = prefix.size_bytes;
@@ -65,8 +65,8 @@ parts_of input kind size used header =
       len = sym (length-take-le used input header.0) ∙ ap length prefix.joined ∙ header_len (kind_name kind) prefix.size_bytes;
     }
 
-pub header_from_parts : (input : List ℕ) (kind : Kind) (size used : ℕ) → Parts input kind size used → HasLooseHeader input kind size used
-header_from_parts input kind size used parts =
+pub loose_header_of_parts : (input : List ℕ) (kind : Kind) (size used : ℕ) → Parts input kind size used → HasLooseHeader input kind size used
+loose_header_of_parts input kind size used parts =
     let prefix = (kind_name kind ++ 32 ∷ parts.size_bytes) ++ 0 ∷ [] in
     let entire : input ≡ prefix ++ parts.rest = parts.joined ∙ sym (regrouped (kind_name kind) parts.size_bytes parts.rest) in
     let len : used ≡ length prefix = parts.len ∙ sym (header_len (kind_name kind) parts.size_bytes) in
@@ -77,16 +77,16 @@ header_from_parts input kind size used parts =
 same_parts : (input : List ℕ) (kind : Kind) (size used : ℕ) (parts : Parts input kind size used) (other : Kind) (after : List ℕ)
     → input ≡ kind_name other ++ 32 ∷ after → (kind ≡ other) × (after ≡ parts.size_bytes ++ 0 ∷ parts.rest)
 same_parts input kind size used parts other after joined =
-    let cut = one_cut 32 (kind_name kind) (parts.size_bytes ++ 0 ∷ parts.rest) (kind_name other) after (keyword_free kind) (keyword_free other)
+    let cut = split_parts_unique 32 (kind_name kind) (parts.size_bytes ++ 0 ∷ parts.rest) (kind_name other) after (keyword_free kind) (keyword_free other)
     (sym parts.joined ∙ joined) in
-    (one_kind kind other cut.0, sym cut.1)
+    (kind_keyword_injective kind other cut.0, sym cut.1)
 
-pub one_header : (input : List ℕ) (kind : Kind) (size used : ℕ) (other : Kind) (size' used' : ℕ)
+pub loose_header_unique : (input : List ℕ) (kind : Kind) (size used : ℕ) (other : Kind) (size' used' : ℕ)
     → Parts input kind size used → Parts input other size' used' → (kind ≡ other) × (size ≡ size') × (used ≡ used')
-one_header input kind size used other size' used' first second =
+loose_header_unique input kind size used other size' used' first second =
     let same = same_parts input kind size used first other (second.size_bytes ++ 0 ∷ second.rest) second.joined in
-    let cut = one_cut 0 second.size_bytes second.rest first.size_bytes first.rest (size_bytes_free second.size_bytes size' second.decodes)
-    (size_bytes_free first.size_bytes size first.decodes) same.1 in (
+    let cut = split_parts_unique 0 second.size_bytes second.rest first.size_bytes first.rest (size_bytes_zero_free second.size_bytes size' second.decodes)
+    (size_bytes_zero_free first.size_bytes size first.decodes) same.1 in (
       same.0,
       cc (first.decodes.value, second.decodes.value, cut.0),
       cc (first.len, second.len, cut.0, same.0),
@@ -94,7 +94,7 @@ one_header input kind size used other size' used' first second =
 
 known_kind : (input : List ℕ) (kind : Kind) (size used : ℕ) (word : List ℕ) → Parts input kind size used → HasUnknownKind input word → ⊥
 known_kind input kind size used word parts unknown =
-    let cut = one_cut 32 word unknown.0 (kind_name kind) (parts.size_bytes ++ 0 ∷ parts.rest) unknown.1.first (keyword_free kind)
+    let cut = split_parts_unique 32 word unknown.0 (kind_name kind) (parts.size_bytes ++ 0 ∷ parts.rest) unknown.1.first (keyword_free kind)
     (sym unknown.1.joined ∙ parts.joined) in
     unknown.2 kind cut.0
 
@@ -102,44 +102,44 @@ good_size : (input : List ℕ) (kind : Kind) (size used : ℕ) (size_bytes : Lis
     → HasFaultySize input size_bytes fault → ⊥
 good_size input kind size used size_bytes fault parts faulty =
     let same = same_parts input kind size used parts faulty.0 faulty.1 faulty.3 in
-    let cut = one_cut 0 size_bytes faulty.2 parts.size_bytes parts.rest faulty.4.first (size_bytes_free parts.size_bytes size parts.decodes)
+    let cut = split_parts_unique 0 size_bytes faulty.2 parts.size_bytes parts.rest faulty.4.first (size_bytes_zero_free parts.size_bytes size parts.decodes)
     (sym faulty.4.joined ∙ same.1) in
-    no_fault parts.size_bytes size fault parts.decodes (let P : List ℕ → Type 0 = λ it. HasSizeFault it fault in subst P cut.0 faulty.5)
+    no_size_fault_of_digits parts.size_bytes size fault parts.decodes (let P : List ℕ → Type 0 = λ it. HasSizeFault it fault in subst P cut.0 faulty.5)
 
-pub not_rejected : (input : List ℕ) (kind : Kind) (size used : ℕ) (error : LooseHeaderDecodeError) → Parts input kind size used
+pub no_error_of_loose_header : (input : List ℕ) (kind : Kind) (size used : ℕ) (error : LooseHeaderDecodeError) → Parts input kind size used
     → IsLooseHeaderError input error
     → ⊥
-not_rejected input kind size used (InvalidHeader message) parts (inl free) =
-    free_of_split 32 (kind_name kind) (parts.size_bytes ++ 0 ∷ parts.rest) (let P : List ℕ → Type 0 = IsByteFree 32 in subst P parts.joined free)
-not_rejected input kind size used (InvalidHeader message) parts (inr lacks) =
+no_error_of_loose_header input kind size used (InvalidHeader message) parts (inl free) =
+    no_split_of_byte_free 32 (kind_name kind) (parts.size_bytes ++ 0 ∷ parts.rest) (let P : List ℕ → Type 0 = IsByteFree 32 in subst P parts.joined free)
+no_error_of_loose_header input kind size used (InvalidHeader message) parts (inr lacks) =
     let same = same_parts input kind size used parts lacks.0 lacks.1 lacks.2 in
-    free_of_split 0 parts.size_bytes parts.rest (let P : List ℕ → Type 0 = IsByteFree 0 in subst P same.1 lacks.3)
-not_rejected input kind size used (ObjectHeader (word.InvalidObjectKind copy)) parts unknown =
+    no_split_of_byte_free 0 parts.size_bytes parts.rest (let P : List ℕ → Type 0 = IsByteFree 0 in subst P same.1 lacks.3)
+no_error_of_loose_header input kind size used (ObjectHeader (word.InvalidObjectKind copy)) parts unknown =
     known_kind input kind size used (bstring_bytes copy) parts unknown
-not_rejected input kind size used (ObjectHeader word.OutOfMemory) parts never = never
-not_rejected input kind size used (ParseIntegerError fault message copy) parts faulty =
+no_error_of_loose_header input kind size used (ObjectHeader word.OutOfMemory) parts never = never
+no_error_of_loose_header input kind size used (ParseIntegerError fault message copy) parts faulty =
     good_size input kind size used (bstring_bytes copy) fault parts faulty
-not_rejected input kind size used OutOfMemory parts (inl (size_bytes, unknown)) = known_kind input kind size used size_bytes parts unknown
-not_rejected input kind size used OutOfMemory parts (inr faulty) = good_size input kind size used faulty.0 faulty.1 parts faulty.2
+no_error_of_loose_header input kind size used OutOfMemory parts (inl (size_bytes, unknown)) = known_kind input kind size used size_bytes parts unknown
+no_error_of_loose_header input kind size used OutOfMemory parts (inr faulty) = good_size input kind size used faulty.0 faulty.1 parts faulty.2
 
 -- a decoder whose results and errors are right accepts each header
-pub accepts_header : (input : List ℕ) (result : Result (Kind × ℕ × ℕ) LooseHeaderDecodeError)
+pub decode_header_of_loose_header : (input : List ℕ) (result : Result (Kind × ℕ × ℕ) LooseHeaderDecodeError)
     → IfOk result (λ header. HasLooseHeader input header.0 header.1 header.2) → IfErr result (IsLooseHeaderError input)
     → (kind : Kind) (size used : ℕ) → HasLooseHeader input kind size used → result ≡ Ok (kind, size, used)
-accepts_header input (Ok (kind', size', used')) found failure kind size used header =
-    let same = one_header _ _ _ _ _ _ _ (parts_of _ kind' size' used' found) (parts_of _ kind size used header) in
+decode_header_of_loose_header input (Ok (kind', size', used')) found failure kind size used header =
+    let same = loose_header_unique _ _ _ _ _ _ _ (parts_of_loose_header _ kind' size' used' found) (parts_of_loose_header _ kind size used header) in
     cc (same.0, same.1, same.2)
-accepts_header input (Err error) found failure kind size used header =
-    absurd (not_rejected _ kind size used error (parts_of _ kind size used header) failure)
+decode_header_of_loose_header input (Err error) found failure kind size used header =
+    absurd (no_error_of_loose_header _ kind size used error (parts_of_loose_header _ kind size used header) failure)
 
-pub written_header : (kind : Kind) (size : ℕ) (rest : List ℕ) → size < 2 ^ 64
+pub encode_loose_header_decodes : (kind : Kind) (size : ℕ) (rest : List ℕ) → size < 2 ^ 64
     → HasLooseHeader (encode_loose_header kind size ++ rest) kind size (length (encode_loose_header kind size))
-written_header kind size rest fits =
+encode_loose_header_decodes kind size rest fits =
     let header_bytes = encode_loose_header kind size in (
       omega (arith, length-append header_bytes rest),
       record {
         size_bytes = decimal size;
         joined = take-append_seam header_bytes rest;
-        decodes = written_size size fits;
+        decodes = decimal_decodes_to_size size fits;
       },
     )

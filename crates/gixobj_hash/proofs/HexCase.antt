@@ -9,7 +9,7 @@ use Rattle.hex.proofs.HexLemmas.{decode_of-even, decode_of-ok}
 use Rattle.hex.specs.Hex.{decode_pairs, encode_lower, encode_with, hex_digit_value, is_hex_digit, lower_digits, pair_value, value_at}
 use Rattle.gixobj_hash.specs.Hash.{DecodesToId, encode_id_hex, id_bytes, is_lower_hex_digit}
 use Rattle.gixobj_hash.specs.declared.hash.object_id.ObjectId.{ObjectId}
-use Rattle.gixobj_hash.proofs.HexSteps.{IsLower, at_number, bound, chosen, digit_value_of, value_small}
+use Rattle.gixobj_hash.proofs.HexSteps.{IsLower, all_pass_at, ok_of_bind, true_of_cond, hex_digit_value_some, hex_value_lt_sixteen}
 
 -- a hex digit in lower case is the encoded digit of its value, for each case of the digit
 abbrev is_written : ℕ → Bool
@@ -20,10 +20,10 @@ digit_small byte value reads = grind arith
 
 digit_written : (byte value : ℕ) → hex_digit_value byte ≡ Some value → slice_index lower_digits value ≡ to_ascii_lowercase byte
 digit_written byte value reads =
-    let written = at_number is_written 103 byte refl (digit_small byte value reads) in
+    let written = all_pass_at is_written 103 byte refl (digit_small byte value reads) in
     let digit : is_hex_digit byte ≡ true = ap is_some reads in
     let same = eqb-true (slice_index lower_digits (unwrap_or (hex_digit_value byte) 0)) (to_ascii_lowercase byte)
-    (chosen (is_hex_digit byte) _ written digit) in
+    (true_of_cond (is_hex_digit byte) _ written digit) in
     ap (λ it. slice_index lower_digits (unwrap_or it 0)) (sym reads) ∙ same
 
 written_in_lower_case : (i : ℕ) (content bytes : List ℕ) → decode_pairs i content ≡ Ok bytes → encode_lower bytes ≡ str_to_ascii_lowercase content
@@ -33,14 +33,14 @@ written_in_lower_case i [] bytes ok =
     rw (← none) refl
 written_in_lower_case i (digit ∷ []) bytes ok = cc ok
 written_in_lower_case i (high ∷ low ∷ content) bytes ok =
-    let pair = bound (pair_value high low i) _ bytes ok in
-    let rest = bound (decode_pairs (i + 2) content) _ bytes pair.2 in
-    let first = bound (value_at high i) _ pair.0 pair.1 in
-    let second = bound (value_at low (i + 1)) _ pair.0 first.2 in
-    let high_value = digit_value_of high i first.0 (hex_digit_value high) first.1 in
-    let low_value = digit_value_of low (i + 1) second.0 (hex_digit_value low) second.1 in
-    let small_high = value_small high first.0 high_value in
-    let small_low = value_small low second.0 low_value in
+    let pair = ok_of_bind (pair_value high low i) _ bytes ok in
+    let rest = ok_of_bind (decode_pairs (i + 2) content) _ bytes pair.2 in
+    let first = ok_of_bind (value_at high i) _ pair.0 pair.1 in
+    let second = ok_of_bind (value_at low (i + 1)) _ pair.0 first.2 in
+    let high_value = hex_digit_value_some high i first.0 (hex_digit_value high) first.1 in
+    let low_value = hex_digit_value_some low (i + 1) second.0 (hex_digit_value low) second.1 in
+    let small_high = hex_value_lt_sixteen high first.0 high_value in
+    let small_low = hex_value_lt_sixteen low second.0 low_value in
     let byte : first.0 * 16 + second.0 ≡ pair.0 = cc second.2 in
     let all : pair.0 ∷ rest.0 ≡ bytes = cc rest.2 in
     let over : pair.0 / 16 ≡ first.0 = omega arith in
@@ -51,8 +51,8 @@ written_in_lower_case i (high ∷ low ∷ content) bytes ok =
     rw (← all) (cc (one, two, more))
 
 -- the re-encoded hex of an id is the decoded hex in lower case
-pub hex_in_lower_case : (content : List ℕ) (id : ObjectId) → DecodesToId content id → encode_id_hex id ≡ str_to_ascii_lowercase content
-hex_in_lower_case content id spells =
+pub encode_id_hex_lower_case : (content : List ℕ) (id : ObjectId) → DecodesToId content id → encode_id_hex id ≡ str_to_ascii_lowercase content
+encode_id_hex_lower_case content id spells =
     let read = decode_of-ok content (id_bytes id) spells.digits in
     written_in_lower_case 0 content (id_bytes id) (sym (decode_of-even content read.0) ∙ spells.digits)
 
@@ -60,9 +60,9 @@ hex_in_lower_case content id spells =
 lower_stays : (byte : ℕ) → is_lower_hex_digit byte ≡ true → to_ascii_lowercase byte ≡ byte
 lower_stays byte lower = grind (arith, lower)
 
-pub lower_case_stays : (content : List ℕ) → AllPass is_lower_hex_digit content → str_to_ascii_lowercase content ≡ content
-lower_case_stays [] lower = refl
-lower_case_stays (byte ∷ content) lower =
+pub lower_case_of_lower_hex : (content : List ℕ) → AllPass is_lower_hex_digit content → str_to_ascii_lowercase content ≡ content
+lower_case_of_lower_hex [] lower = refl
+lower_case_of_lower_hex (byte ∷ content) lower =
     let first = lower_stays byte (All-head IsLower byte content lower) in
-    let rest = lower_case_stays content (All-tail IsLower byte content lower) in
+    let rest = lower_case_of_lower_hex content (All-tail IsLower byte content lower) in
     cc (first, rest)

@@ -14,5 +14,5 @@ ascii_by_test (byte ∷ content) passes =
     let parts = and_parts (nat_lt byte 128) (list_all (λ byte. nat_lt byte 128) content) passes in
     IsAscii-cons byte content (ltb-true byte 128 parts.0) (ascii_by_test content parts.1)
 
-pub lower_digits_ascii : IsAscii lower_digits
-lower_digits_ascii = ascii_by_test lower_digits refl
+pub lower_digits_are_ascii : IsAscii lower_digits
+lower_digits_are_ascii = ascii_by_test lower_digits refl

@@ -21,31 +21,32 @@ long_id : (n : ℕ) (read : Result (List ℕ) FromHexError) (bytes : List ℕ) �
     → id_from (if n == 40 then hash.Sha1 else hash.Sha256) (result_unwrap_or read []) ≡ Sha256 bytes
 long_id n read bytes long ok = rw (long, ok) refl
 
-pub one_id : (content : List ℕ) (id : ObjectId) → DecodesToId content id → id ≡ decoded_id content
-one_id content (Sha1 bytes) spells = sym (short_id (length content) (decode_of content) bytes spells.len spells.digits)
-one_id content (Sha256 bytes) spells = sym (long_id (length content) (decode_of content) bytes spells.len spells.digits)
+pub decoded_id_unique : (content : List ℕ) (id : ObjectId) → DecodesToId content id → id ≡ decoded_id content
+decoded_id_unique content (Sha1 bytes) spells = sym (short_id (length content) (decode_of content) bytes spells.len spells.digits)
+decoded_id_unique content (Sha256 bytes) spells = sym (long_id (length content) (decode_of content) bytes spells.len spells.digits)
 
-pub spelled : (content : List ℕ) → IsIdHex content → DecodesToId content (decoded_id content)
-spelled content (inl short, digits) =
+pub decoded_id_decodes : (content : List ℕ) → IsIdHex content → DecodesToId content (decoded_id content)
+decoded_id_decodes content (inl short, digits) =
     let read = decode_of-digits content (omega arith) digits in
     subst (DecodesToId content) (sym (short_id (length content) (decode_of content) read.0 short read.1)) (record { len = short; digits = read.1 })
-spelled content (inr long, digits) =
+decoded_id_decodes content (inr long, digits) =
     let read = decode_of-digits content (omega arith) digits in
     subst (DecodesToId content) (sym (long_id (length content) (decode_of content) read.0 long read.1)) (record { len = long; digits = read.1 })
 
-pub of_its_kind : (content : List ℕ) → IsIdHex content → IsIdHexOfItsKind content
-of_its_kind content (inl short, digits) = (rw short refl, digits)
-of_its_kind content (inr long, digits) = (rw long refl, digits)
+pub is_id_hex_of_its_kind : (content : List ℕ) → IsIdHex content → IsIdHexOfItsKind content
+is_id_hex_of_its_kind content (inl short, digits) = (rw short refl, digits)
+is_id_hex_of_its_kind content (inr long, digits) = (rw long refl, digits)
 
-pub of_an_id : (content : List ℕ) → IsIdHexOfItsKind content → IsIdHex content
-of_an_id content (len, digits) = (grind arith, digits)
+pub is_id_hex_of_kind : (content : List ℕ) → IsIdHexOfItsKind content → IsIdHex content
+is_id_hex_of_kind content (len, digits) = (grind arith, digits)
 
-pub all_decode : (encodings : List (List ℕ)) (ids : List ObjectId) → All IsIdHex encodings → ids ≡ map decoded_id encodings → AllZip DecodesToId encodings ids
-all_decode [] ids all same = subst (AllZip DecodesToId []) (sym same) tt
-all_decode (content ∷ encodings) ids all same =
-    let rest = all_decode encodings (map decoded_id encodings) (All-tail IsIdHex content encodings all) refl in
-    subst (AllZip DecodesToId (content ∷ encodings)) (sym same) (spelled content (All-head IsIdHex content encodings all), rest)
+pub all_zip_decodes_to_id : (encodings : List (List ℕ)) (ids : List ObjectId) → All IsIdHex encodings → ids ≡ map decoded_id encodings
+    → AllZip DecodesToId encodings ids
+all_zip_decodes_to_id [] ids all same = subst (AllZip DecodesToId []) (sym same) tt
+all_zip_decodes_to_id (content ∷ encodings) ids all same =
+    let rest = all_zip_decodes_to_id encodings (map decoded_id encodings) (All-tail IsIdHex content encodings all) refl in
+    subst (AllZip DecodesToId (content ∷ encodings)) (sym same) (decoded_id_decodes content (All-head IsIdHex content encodings all), rest)
 
-pub kind_spelled : (kind : Kind) (content : List ℕ) → IsIdHexOfKind kind content → kind ≡ kind_of_hex content
-kind_spelled hash.Sha1 content (len, digits) = rw len refl
-kind_spelled hash.Sha256 content (len, digits) = rw len refl
+pub kind_of_hex_unique : (kind : Kind) (content : List ℕ) → IsIdHexOfKind kind content → kind ≡ kind_of_hex content
+kind_of_hex_unique hash.Sha1 content (len, digits) = rw len refl
+kind_of_hex_unique hash.Sha256 content (len, digits) = rw len refl

@@ -4,16 +4,16 @@ use Rattle.std.proofs.lemmas.List.Sums.{AllPass-from_list_all, list_all-from_All
 use Rattle.std.specs.List.{AllPass, list_all}
 use Rattle.hex.specs.Hex.{digit_or_error, hex_digit_value, is_hex_digit, pair_value, value_at}
 
-pub passed : (content : List ℕ) → list_all is_hex_digit content ≡ true → AllPass is_hex_digit content
-passed content all = AllPass-from_list_all is_hex_digit content all
+pub all_pass_of_list_all : (content : List ℕ) → list_all is_hex_digit content ≡ true → AllPass is_hex_digit content
+all_pass_of_list_all content all = AllPass-from_list_all is_hex_digit content all
 
-pub passes_test : (content : List ℕ) → AllPass is_hex_digit content → list_all is_hex_digit content ≡ true
-passes_test content all = list_all-from_AllPass is_hex_digit content all
+pub list_all_of_all_pass : (content : List ℕ) → AllPass is_hex_digit content → list_all is_hex_digit content ≡ true
+list_all_of_all_pass content all = list_all-from_AllPass is_hex_digit content all
 
 -- two hex digits decode to the byte 16 times the first value plus the second
-pub pair_read : (high low place first second : ℕ) → hex_digit_value high ≡ Some first → hex_digit_value low ≡ Some second
+pub pair_value_of_digits : (high low place first second : ℕ) → hex_digit_value high ≡ Some first → hex_digit_value low ≡ Some second
     → pair_value high low place ≡ Ok (16 * first + second)
-pair_read high low place first second one two =
+pair_value_of_digits high low place first second one two =
     let read : value_at high place ≡ Ok first = ap (digit_or_error high place) one in
     let also : value_at low (place + 1) ≡ Ok second = ap (digit_or_error low (place + 1)) two in
     let turned : 16 * first + second ≡ first * 16 + second = omega arith in

@@ -11,8 +11,8 @@ same_or_other xs ys = elim (pointwise nat_eq xs ys) as (λ b. pointwise nat_eq x
   | false ↦ λ fails. inr (λ same. cc ((bytes_decides xs ys).1 same, fails))
 ] refl
 
-pub same_ids : (x y : ObjectId) → (x ≡ y) ⊎ (x ≢ y)
-same_ids (id.Sha1 xs) (id.Sha1 ys) = ⊎_elim (λ same. inl (ap id.Sha1 same)) (λ other. inr (λ same. other (cc same))) (same_or_other xs ys)
-same_ids (id.Sha1 xs) (id.Sha256 ys) = inr (λ same. cc same)
-same_ids (id.Sha256 xs) (id.Sha1 ys) = inr (λ same. cc same)
-same_ids (id.Sha256 xs) (id.Sha256 ys) = ⊎_elim (λ same. inl (ap id.Sha256 same)) (λ other. inr (λ same. other (cc same))) (same_or_other xs ys)
+pub id_eq_or_ne : (x y : ObjectId) → (x ≡ y) ⊎ (x ≢ y)
+id_eq_or_ne (id.Sha1 xs) (id.Sha1 ys) = ⊎_elim (λ same. inl (ap id.Sha1 same)) (λ other. inr (λ same. other (cc same))) (same_or_other xs ys)
+id_eq_or_ne (id.Sha1 xs) (id.Sha256 ys) = inr (λ same. cc same)
+id_eq_or_ne (id.Sha256 xs) (id.Sha1 ys) = inr (λ same. cc same)
+id_eq_or_ne (id.Sha256 xs) (id.Sha256 ys) = ⊎_elim (λ same. inl (ap id.Sha256 same)) (λ other. inr (λ same. other (cc same))) (same_or_other xs ys)

@@ -6,7 +6,7 @@ use Rattle.std.proofs.lemmas.List.Elements.{All-append, All-cons, All-head, All-
 use Rattle.std.proofs.lemmas.List.{append-nil}
 use Rattle.std.proofs.Math.Decide.{ℕ_discrete}
 use Rattle.std.specs.List.{flat_map}
-use Rattle.gixobj_hash.proofs.Splits.{one_cut}
+use Rattle.gixobj_hash.proofs.Splits.{split_parts_unique}
 use Rattle.gixobj_hash.specs.ByteStrings.{IsByteFree, SplitsAt}
 use Rattle.gixobj_hash.specs.Splits.{IsSplitAtEach, ended}
 
@@ -17,45 +17,48 @@ pub record ArePrefixes (byte : ℕ) (bytes rest : List ℕ) (parts : List (List 
   pub joined : bytes ≡ flat_map (ended byte) parts ++ rest
   pub free : All (IsByteFree byte) parts
 
-pub none_in_prefix : (byte : ℕ) (bytes : List ℕ) → ArePrefixes byte bytes bytes []
-none_in_prefix byte bytes = record { joined = refl; free = All-nil (IsByteFree byte) }
+pub are_prefixes_nil : (byte : ℕ) (bytes : List ℕ) → ArePrefixes byte bytes bytes []
+are_prefixes_nil byte bytes = record { joined = refl; free = All-nil (IsByteFree byte) }
 
 flat_push : (byte : ℕ) (parts : List (List ℕ)) (part rest : List ℕ) → flat_map (ended byte) parts ++ (part ++ byte ∷ rest) ≡ flat_map (ended byte)
     (parts ++ part ∷ []) ++ rest
 flat_push byte [] part rest = search (rules, common_steps)
 flat_push byte (first ∷ parts) part rest = let more = flat_push byte parts part rest in search (rules, common_steps)
 
-pub one_more : (byte : ℕ) (bytes rest : List ℕ) (parts : List (List ℕ)) (part after : List ℕ) → ArePrefixes byte bytes rest parts
+pub are_prefixes_snoc : (byte : ℕ) (bytes rest : List ℕ) (parts : List (List ℕ)) (part after : List ℕ) → ArePrefixes byte bytes rest parts
     → SplitsAt byte rest part after → ArePrefixes byte bytes after (parts ++ part ∷ [])
-one_more byte bytes rest parts part after prefix splits =
+are_prefixes_snoc byte bytes rest parts part after prefix splits =
     record {
       joined = prefix.joined ∙ ap (λ (it : List ℕ). flat_map (ended byte) parts ++ it) splits.joined ∙ flat_push byte parts part after;
       free = All-push (IsByteFree byte) parts part prefix.free splits.first;
     }
 
-pub flat_join : (byte : ℕ) (parts others : List (List ℕ)) → flat_map (ended byte) (parts ++ others) ≡ flat_map (ended byte) parts ++ flat_map
+pub flat_map_ended_append : (byte : ℕ) (parts others : List (List ℕ)) → flat_map (ended byte) (parts ++ others) ≡ flat_map (ended byte) parts ++ flat_map
     (ended byte) others
-flat_join byte [] others = refl
-flat_join byte (part ∷ parts) others = ap (λ (it : List ℕ). ended byte part ++ it) (flat_join byte parts others)
+flat_map_ended_append byte [] others = refl
+flat_map_ended_append byte (part ∷ parts) others = ap (λ (it : List ℕ). ended byte part ++ it) (flat_map_ended_append byte parts others)
     ∙ sym (append_assoc (ended byte part) (flat_map (ended byte) parts) (flat_map (ended byte) others))
 
 -- the first parts and the parts of the rest are the parts of all bytes
-pub and_the_rest : (byte : ℕ) (bytes rest : List ℕ) (parts others : List (List ℕ)) → ArePrefixes byte bytes rest parts → IsSplitAtEach byte rest others
+pub is_split_at_each_append : (byte : ℕ) (bytes rest : List ℕ) (parts others : List (List ℕ)) → ArePrefixes byte bytes rest parts
+    → IsSplitAtEach byte rest others
     → IsSplitAtEach byte bytes (parts ++ others)
-and_the_rest byte bytes rest parts others prefix cut =
+is_split_at_each_append byte bytes rest parts others prefix cut =
     record {
       joined = ap (ended byte) prefix.joined ∙ append_assoc (flat_map (ended byte) parts) rest (byte ∷ [])
-          ∙ ap (λ (it : List ℕ). flat_map (ended byte) parts ++ it) cut.joined ∙ sym (flat_join byte parts others);
+          ∙ ap (λ (it : List ℕ). flat_map (ended byte) parts ++ it) cut.joined ∙ sym (flat_map_ended_append byte parts others);
       free = All-append (IsByteFree byte) parts others prefix.free cut.free;
     }
 
 -- bytes without the separator are one part
-pub one_part : (byte : ℕ) (bytes : List ℕ) → IsByteFree byte bytes → IsSplitAtEach byte bytes (bytes ∷ [])
-one_part byte bytes free = record { joined = sym (append-nil (ended byte bytes)); free = All-cons (IsByteFree byte) bytes [] free (All-nil (IsByteFree byte)) }
+pub is_split_at_each_of_byte_free : (byte : ℕ) (bytes : List ℕ) → IsByteFree byte bytes → IsSplitAtEach byte bytes (bytes ∷ [])
+is_split_at_each_of_byte_free byte bytes free = record { joined = sym (append-nil (ended byte bytes)); free =
+    All-cons (IsByteFree byte) bytes [] free (All-nil (IsByteFree byte)) }
 
-pub the_last : (byte : ℕ) (bytes rest : List ℕ) (parts : List (List ℕ)) → ArePrefixes byte bytes rest parts → IsByteFree byte rest
+pub is_split_at_each_snoc : (byte : ℕ) (bytes rest : List ℕ) (parts : List (List ℕ)) → ArePrefixes byte bytes rest parts → IsByteFree byte rest
     → IsSplitAtEach byte bytes (parts ++ rest ∷ [])
-the_last byte bytes rest parts prefix free = and_the_rest byte bytes rest parts (rest ∷ []) prefix (one_part byte rest free)
+is_split_at_each_snoc byte bytes rest parts prefix free = is_split_at_each_append byte bytes rest parts (rest ∷ []) prefix
+    (is_split_at_each_of_byte_free byte rest free)
 
 -- ---- existence
 
@@ -77,10 +80,10 @@ grown byte x bytes (part ∷ parts) other cut = (
 )
 
 -- each byte string splits into parts
-pub parts_of : (byte : ℕ) (bytes : List ℕ) → (parts : List (List ℕ)) × IsSplitAtEach byte bytes parts
-parts_of byte [] = ([] ∷ [], one_part byte [] (All-nil (λ (it : ℕ). it ≢ byte)))
-parts_of byte (x ∷ bytes) =
-    let (parts, cut) = parts_of byte bytes in
+pub split_at_each_exists : (byte : ℕ) (bytes : List ℕ) → (parts : List (List ℕ)) × IsSplitAtEach byte bytes parts
+split_at_each_exists byte [] = ([] ∷ [], is_split_at_each_of_byte_free byte [] (All-nil (λ (it : ℕ). it ≢ byte)))
+split_at_each_exists byte (x ∷ bytes) =
+    let (parts, cut) = split_at_each_exists byte bytes in
     elim (ℕ_discrete x byte) [
       | yes same ↦ (
         [] ∷ parts,
@@ -111,11 +114,11 @@ same_parts byte (part ∷ a) [] free_a free_b same = absurd (no_part part a same
     no_part [] a same = cc same
     no_part (x ∷ part) a same = cc same
 same_parts byte (first ∷ a) (second ∷ b) free_a free_b same =
-    let cut = one_cut byte first (flat_map (ended byte) a) second (flat_map (ended byte) b) (All-head (IsByteFree byte) first a free_a)
+    let cut = split_parts_unique byte first (flat_map (ended byte) a) second (flat_map (ended byte) b) (All-head (IsByteFree byte) first a free_a)
     (All-head (IsByteFree byte) second b free_b)
     (sym (group byte first (flat_map (ended byte) a)) ∙ same ∙ group byte second (flat_map (ended byte) b)) in
     let rest = same_parts byte a b (All-tail (IsByteFree byte) first a free_a) (All-tail (IsByteFree byte) second b free_b) cut.1 in
     cc (cut.0, rest)
 
-pub one_way : (byte : ℕ) (bytes : List ℕ) (a b : List (List ℕ)) → IsSplitAtEach byte bytes a → IsSplitAtEach byte bytes b → a ≡ b
-one_way byte bytes a b first second = same_parts byte a b first.free second.free (sym first.joined ∙ second.joined)
+pub split_at_each_unique : (byte : ℕ) (bytes : List ℕ) (a b : List (List ℕ)) → IsSplitAtEach byte bytes a → IsSplitAtEach byte bytes b → a ≡ b
+split_at_each_unique byte bytes a b first second = same_parts byte a b first.free second.free (sym first.joined ∙ second.joined)

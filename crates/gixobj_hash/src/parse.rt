@@ -13,7 +13,7 @@ use bstr::BStr;
 ///
 /// Such hex has 40 digits for SHA-1 and 64 for SHA-256, of either case. Any other input yields `None`.
 #[inline(always)]
-#[tactic(auto, using(crate::proofs::HexTests::passed, crate::proofs::HexTests::passes_test))]
+#[tactic(auto, using(crate::proofs::HexTests::all_pass_of_list_all, crate::proofs::HexTests::list_all_of_all_pass))]
 pub fn hex_hash(content: &[u8], kind: Kind) -> Option<BStr<'_>>
     ensures accepts { IsSome result ↔ IsIdHexOfKind kind content.now }
     ensures value { IfSome result (λ it. bstr_bytes it ≡ content.now) }
@@ -42,7 +42,7 @@ pub(crate) fn are_hex(content: &[u8]) -> bool
 /// Decodes the hex of an id: 40 or 64 digits, of either case (`gitglossary`, "object name").
 ///
 /// The contract requires such hex. Allocates nothing.
-#[tactic(auto, using(crate::proofs::HexIds::one_id))]
+#[tactic(auto, using(crate::proofs::HexIds::decoded_id_unique))]
 pub fn id_of_hex(hex: BStr<'_>) -> ObjectId
     requires { IsIdHex (bstr_bytes hex) }
     ensures spelled { DecodesToId (bstr_bytes hex.entry) result }

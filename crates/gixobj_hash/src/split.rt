@@ -40,7 +40,7 @@ pub fn are_digits(content: &[u8]) -> bool
 }
 
 /// Decodes ASCII digits, at least one, as a decimal number. Returns `None` if it exceeds 64 bits.
-#[tactic(auto, using(std::proofs::lemmas::Int::Digits::digits_value_more, crate::proofs::Digits::number_of_prefix, crate::proofs::Digits::digit_in_place))]
+#[tactic(auto, using(std::proofs::lemmas::Int::Digits::digits_value_more, crate::proofs::Digits::digits_value_take_le, crate::proofs::Digits::digit_value_at))]
 pub fn number_from_digits(digits: &[u8]) -> Option<u64>
     requires { IsNumeral 10 digits.now }
     ensures { SomeIff result (digits_value 10 digits.now < 2 ^ 64) (digits_value 10 digits.now) }

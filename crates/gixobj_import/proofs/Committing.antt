@@ -14,7 +14,7 @@ use Rattle.gixobj_import.specs.declared.import.Imported.{Imported}
 use Rattle.gixobj_import.specs.declared.import.Importer.{Importer}
 use Rattle.gixobj_import.specs.declared.import.Step.{Step}
 use Rattle.gixobj_import.proofs.Adding.{objects_of, steps_add}
-use Rattle.gixobj_import.proofs.Digests.{adds_then, names_commit, stays_named}
+use Rattle.gixobj_import.proofs.Digests.{adds_by_digest_append, names_commit, names_by_digest_of_adds}
 use Rattle.gixobj_import.proofs.Known.{OfStores}
 
 module _ {S : Type 0} (means : StoreModel S) (laws : OfStores) where
@@ -34,8 +34,9 @@ module _ {S : Type 0} (means : StoreModel S) (laws : OfStores) where
       (subst (λ (h : hash.Kind). HaveHex h (only_parent between.last)) (sym (hash_is old step it between one))
       (subst (λ (parent : Option ObjectId). HaveHex old.hash (only_parent parent)) (sym (last_is old step it between one)) one.commit.hex)) final adds in
       let bytes = encode_step step it.written.id old.last in
-      let from_here = adds_then (objects_of means laws between) (objects_of means laws new) final (steps_add means laws between new steps imported done) adds in
-      let names = stays_named (objects_of means laws between) final it.commit from_here
+      let from_here = adds_by_digest_append (objects_of means laws between) (objects_of means laws new) final
+          (steps_add means laws between new steps imported done) adds in
+      let names = names_by_digest_of_adds (objects_of means laws between) final it.commit from_here
       (subst (λ (objects : Objects). NamesByDigest objects it.commit) (sym one.commit.stored)
       (names_commit laws.inserted old.hash it.commit bytes (means.objects one.between.store) one.commit.id)) in (
         record {

@@ -28,33 +28,34 @@ kind_of_made hash_kind.Sha1 bytes = refl
 kind_of_made hash_kind.Sha256 bytes = refl
 
 -- an id that is a digest has the kind of the digest
-pub kind_of_digest : (k : hash.Kind) (o : kind.Kind) (bytes : List ℕ) (it : ObjectId) → it ≡ id_of k o bytes → id_kind it ≡ k
-kind_of_digest k o bytes it is = ap id_kind is ∙ kind_of_made k _
+pub digest_id_kind : (k : hash.Kind) (o : kind.Kind) (bytes : List ℕ) (it : ObjectId) → it ≡ id_of k o bytes → id_kind it ≡ k
+digest_id_kind k o bytes it is = ap id_kind is ∙ kind_of_made k _
 
 -- the hex digits of an id of this kind are those of its kind
-pub hex_of_id : (k : hash.Kind) (id : ObjectId) → ((it : ObjectId) → IsId it → IsIdHex (encode_id_hex it))
+pub have_hex_of_id : (k : hash.Kind) (id : ObjectId) → ((it : ObjectId) → IsId it → IsIdHex (encode_id_hex it))
     → ((it : ObjectId) → IsId it → DecodesToId (encode_id_hex it) it) → IsId id → id_kind id ≡ k → HaveHex k (id ∷ [])
-hex_of_id k id reads spells is same =
+have_hex_of_id k id reads spells is same =
     let P : ObjectId → Type 0 = λ it. IsIdHexOfKind k (encode_id_hex it) in
     All-cons P id [] ((spells id is).len ∙ ap (λ (h : hash.Kind). 2 * hash_len h) same, (reads id is).1) (All-nil P)
 
 digests_itself : (k : hash.Kind) (o : kind.Kind) (bytes : List ℕ) (it : ObjectId) → it ≡ id_of k o bytes
     → digest_id (record { kind = o; object_hash = id_kind it; bytes = bytes }) ≡ it
-digests_itself k o bytes it is = ap (λ (h : hash.Kind). id_of h o bytes) (kind_of_digest k o bytes it is) ∙ sym is
+digests_itself k o bytes it is = ap (λ (h : hash.Kind). id_of h o bytes) (digest_id_kind k o bytes it is) ∙ sym is
 
-pub adds_none : (before after : Objects) → after ≡ before → AddsByDigest before after
-adds_none before after same id = inl (ap (λ (objects : Objects). named objects id) same)
+pub adds_by_digest_nil : (before after : Objects) → after ≡ before → AddsByDigest before after
+adds_by_digest_nil before after same id = inl (ap (λ (objects : Objects). named objects id) same)
 
-pub adds_then : (before between after : Objects) → AddsByDigest before between → AddsByDigest between after → AddsByDigest before after
-adds_then before between after first then id =
+pub adds_by_digest_append : (before between after : Objects) → AddsByDigest before between → AddsByDigest between after → AddsByDigest before after
+adds_by_digest_append before between after first then id =
     ⊎_elim
     (λ same. ⊎_elim (λ as_before. inl (same ∙ as_before))
     (λ named_so. inr (record { it = named_so.it; named_so = same ∙ named_so.named_so; digest = named_so.digest })) (first id))
     inr
     (then id)
 
-pub stays_named : (before after : Objects) (id : ObjectId) → AddsByDigest before after → NamesByDigest before id → NamesByDigest after id
-stays_named before after id adds names = ⊎_elim (λ same. record { it = names.it; named_so = same ∙ names.named_so; digest = names.digest }) (λ it. it) (adds id)
+pub names_by_digest_of_adds : (before after : Objects) (id : ObjectId) → AddsByDigest before after → NamesByDigest before id → NamesByDigest after id
+names_by_digest_of_adds before after id adds names = ⊎_elim (λ same. record { it = names.it; named_so = same ∙ names.named_so; digest = names.digest })
+    (λ it. it) (adds id)
 
 abbrev pub IsDigest : hash.Kind → Pair → Type 0
 IsDigest hash pair = pair.0 ≡ id_of hash Tree (encode_tree pair.1)
@@ -67,9 +68,9 @@ module _ (laws : Inserted) where
       (laws.same_or_not other id)
 
   pub adds_trees : (hash : hash.Kind) (pairs : List Pair) (objects : Objects) → All (IsDigest hash) pairs → AddsByDigest objects (with_trees pairs objects)
-  adds_trees hash [] objects all = adds_none objects objects refl
+  adds_trees hash [] objects all = adds_by_digest_nil objects objects refl
   adds_trees hash (pair ∷ pairs) objects all =
-      adds_then objects (with_tree pair objects) (with_trees pairs (with_tree pair objects))
+      adds_by_digest_append objects (with_tree pair objects) (with_trees pairs (with_tree pair objects))
       (adds_one objects pair.0 (tree_object pair.0 pair.1) (digests_itself hash Tree (encode_tree pair.1) pair.0 (All-head (IsDigest hash) pair pairs all)))
       (adds_trees hash pairs (with_tree pair objects) (All-tail (IsDigest hash) pair pairs all))
 
@@ -87,17 +88,18 @@ module _ (laws : Inserted) where
       }
 
 -- the emitted trees have their digests as ids
-pub all_digests : (hash : hash.Kind) (pairs : List Pair) → FoldsTo (ReturnsTreeId (IsAnsweredDigest hash)) tt pairs tt → All (IsDigest hash) pairs
-all_digests hash [] folded = All-nil (IsDigest hash)
-all_digests hash (pair ∷ pairs) (next, one, rest) = All-cons (IsDigest hash) pair pairs one.1 (all_digests hash pairs rest)
+pub written_pairs_are_digests : (hash : hash.Kind) (pairs : List Pair) → FoldsTo (ReturnsTreeId (IsAnsweredDigest hash)) tt pairs tt → All (IsDigest hash) pairs
+written_pairs_are_digests hash [] folded = All-nil (IsDigest hash)
+written_pairs_are_digests hash (pair ∷ pairs) (next, one, rest) = All-cons (IsDigest hash) pair pairs one.1 (written_pairs_are_digests hash pairs rest)
 
 last_has : (P : Pair → Type 0) (xs : List Pair) (x : Pair) → All P (xs ++ x ∷ []) → P x
 last_has P [] x all = All-head P x [] all
 last_has P (y ∷ xs) x all = last_has P xs x (All-tail P y (xs ++ x ∷ []) all)
 
 -- the id of the root is a digest of this kind
-pub root_kind : {S : Type 0} (k : hash.Kind) (old new : State S) (it : Written) → IsWrittenEditor (ReturnsTreeId (IsAnsweredDigest k)) tt old it new tt
+pub written_root_id_kind : {S : Type 0} (k : hash.Kind) (old new : State S) (it : Written)
+    → IsWrittenEditor (ReturnsTreeId (IsAnsweredDigest k)) tt old it new tt
     → id_kind it.id ≡ k
-root_kind k old new it wrote =
-    let all = subst (All (IsDigest k)) wrote.last (all_digests k it.trees.items wrote.called) in
-    kind_of_digest k Tree (encode_tree wrote.own) it.id (last_has (IsDigest k) wrote.below (it.id, wrote.own) all)
+written_root_id_kind k old new it wrote =
+    let all = subst (All (IsDigest k)) wrote.last (written_pairs_are_digests k it.trees.items wrote.called) in
+    digest_id_kind k Tree (encode_tree wrote.own) it.id (last_has (IsDigest k) wrote.below (it.id, wrote.own) all)

@@ -20,8 +20,8 @@ use Rattle.gixobj_find.specs.Keeping.{with_trees}
 use Rattle.gixobj_editor.specs.RunTables.{AgreesWithObjects}
 use Rattle.gixobj_editor.specs.declared.reply.EditReply.TheVariants as reply
 use Rattle.gixobj_import.specs.Edited.{AreDone, IsFailedAt, IsReplied, IsWriteAfter, steps_if_done}
-use Rattle.gixobj_files.proofs.EditedFiles.{same_refl, same_sym, same_trans}
-use Rattle.gixobj_files.proofs.Histories.{history_append, same_history}
+use Rattle.gixobj_files.proofs.EditedFiles.{same_files_refl, same_files_sym, same_files_trans}
+use Rattle.gixobj_files.proofs.Histories.{history_append, history_congruent}
 
 -- a table that agrees with the objects agrees with their trees
 agrees_with_trees : (T : Table) (objects : Objects) (trees : Trees) → AreTreesOf objects trees → AgreesWithObjects T objects → AgreesWithStore T trees
@@ -34,9 +34,9 @@ found (edit ∷ edits) zero it within is = ap Some (sym is)
 found (edit ∷ edits) (suc index) it within is = found edits index it (omega arith) is
 
 -- no edit of a list without writes is a write
-pub no_write_at : (edits : List Edit) (index : ℕ) (it : Edit) → index < length edits → it ≡ get_or edits index it → ¬ Contains edits edit.Write
+pub no_write_in_edits : (edits : List Edit) (index : ℕ) (it : Edit) → index < length edits → it ≡ get_or edits index it → ¬ Contains edits edit.Write
     → it ≡ edit.Write → ⊥
-no_write_at edits index it within is none write = none (index, within, subst (λ (e : Edit). get_or edits index e ≡ e) write (sym is))
+no_write_in_edits edits index it within is none write = none (index, within, subst (λ (e : Edit). get_or edits index e ≡ e) write (sym is))
 
 module _ {S : Type 0} (means : StoreModel S) where
   done_then : (old between new : State S) (edits : List Edit) (it : Edit) → AreDone means old edits between → IsReplied means between it reply.Done new
@@ -127,14 +127,15 @@ module _ {S : Type 0} (means : StoreModel S) where
         edits_files : (old new : State S) (edits : List Edit) → AreDone means old edits new → AgreesWithObjects T (means.objects old.store)
             → SameFiles (EditorFiles T n new) (History T n (flat_map steps_if_done edits) (EditorFiles T n old))
         edits_files old new [] done agrees = subst (λ (s : State S). SameFiles (EditorFiles T n s) (EditorFiles T n old)) (sym done)
-            (same_refl (EditorFiles T n old))
+            (same_files_refl (EditorFiles T n old))
         edits_files old new (it ∷ edits) (between, first, done) agrees =
             let later = edits_files between new edits done
             (subst (λ (s : S). AgreesWithObjects T (means.objects s)) (sym (edit_stays old between it first)) agrees) in
-            same_trans _ _ _ later
-            (same_trans _ _ _ (same_history T n (flat_map steps_if_done edits) (EditorFiles T n between) (History T n (steps_if_done it) (EditorFiles T n old))
+            same_files_trans _ _ _ later
+            (same_files_trans _ _ _ (history_congruent T n (flat_map steps_if_done edits) (EditorFiles T n between)
+                (History T n (steps_if_done it) (EditorFiles T n old))
             (edit_files old between it first agrees))
-            (same_sym _ _ (history_append T n (steps_if_done it) (flat_map steps_if_done edits) (EditorFiles T n old))))
+            (same_files_sym _ _ (history_append T n (steps_if_done it) (flat_map steps_if_done edits) (EditorFiles T n old))))
 
     -- a write after the edits, whose trees the store has kept
     module _ (hash : hash.Kind) (old new : State S) (edits : List Edit) (it : Written)
@@ -154,10 +155,10 @@ module _ {S : Type 0} (means : StoreModel S) where
 
         -- the tree of the returned id has the files of the edits
         pub named_files : SameFiles (NamedFiles T n it.id) (History T n (flat_map steps_if_done edits) (EditorFiles T n old))
-        named_files = same_trans _ _ _ (following.write.written.files T n pairs based) (edits_files T n old following.edited edits following.done agrees)
+        named_files = same_files_trans _ _ _ (following.write.written.files T n pairs based) (edits_files T n old following.edited edits following.done agrees)
 
         -- the editor continues with the files of the tree
         pub files_remaining : SameFiles (EditorFiles T n new) (NamedFiles T n it.id)
         files_remaining =
             subst (λ (s : State S). SameFiles (EditorFiles T n s) (NamedFiles T n it.id)) (sym following.write.rest)
-            (same_trans _ _ _ (following.write.written.same_files T n pairs based) (same_sym _ _ (following.write.written.files T n pairs based)))
+            (same_files_trans _ _ _ (following.write.written.same_files T n pairs based) (same_files_sym _ _ (following.write.written.files T n pairs based)))

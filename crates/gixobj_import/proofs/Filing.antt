@@ -24,8 +24,8 @@ use Rattle.gixobj_import.proofs.Adding.{kept_so, objects_of}
 use Rattle.gixobj_import.proofs.Doing.{bases_remaining, files_remaining, named_files}
 use Rattle.gixobj_import.proofs.Known.{OfStores}
 use Rattle.gixobj_import.proofs.Sets.{nothing_based, nothing_open}
-use Rattle.gixobj_files.proofs.EditedFiles.{same_sym, same_trans}
-use Rattle.gixobj_files.proofs.Histories.{history_append, same_history}
+use Rattle.gixobj_files.proofs.EditedFiles.{same_files_sym, same_files_trans}
+use Rattle.gixobj_files.proofs.Histories.{history_append, history_congruent}
 use Rattle.gixobj_files.specs.PlainHistory.{NoFiles}
 
 all_first : (T : Table) (first then : List Pair) → AgreesWithPairs T (first ++ then) → AgreesWithPairs T first
@@ -65,11 +65,11 @@ module _ {S : Type 0} (means : StoreModel S) (laws : OfStores) where
           agrees.bases)
 
       pub step_remaining : SameFiles (EditorFiles T n new.editor) (History T n first_edits (EditorFiles T n old.editor))
-      step_remaining = same_trans _ _ _ step_goes_on step_named
+      step_remaining = same_files_trans _ _ _ step_goes_on step_named
 
       pub step_files : HasFilesOf T n old.editor step it new.editor
       step_files = record {
-        tree = same_trans _ _ _ step_named (same_sym _ _ (history_append T n first_edits [] (EditorFiles T n old.editor)));
+        tree = same_files_trans _ _ _ step_named (same_files_sym _ _ (history_append T n first_edits [] (EditorFiles T n old.editor)));
         continues = step_goes_on;
       }
 
@@ -112,14 +112,14 @@ module _ {S : Type 0} (means : StoreModel S) (laws : OfStores) where
         let later = files between new steps imported done next (step_bases old step first between one T) k it at in
         let edits = flat_map steps_if_done step.edits.items in
         let more = edits_of (take (suc k) steps) in
-        same_trans _ _ _ later
-        (same_trans _ _ _ (same_history T n more (EditorFiles T n between.editor) (History T n edits (EditorFiles T n old.editor))
+        same_files_trans _ _ _ later
+        (same_files_trans _ _ _ (history_congruent T n more (EditorFiles T n between.editor) (History T n edits (EditorFiles T n old.editor))
         (step_remaining old step first between one T n (agrees_first old step steps first imported agrees has)))
-        (same_sym _ _ (history_append T n edits more (EditorFiles T n old.editor))))
+        (same_files_sym _ _ (history_append T n edits more (EditorFiles T n old.editor))))
 
     same_have : (A B : FileSet) (steps : List Step) (imported : List Imported) → SameFiles A B → HaveFiles T n A steps imported
         → HaveFiles T n B steps imported
-    same_have A B steps imported same have k it at = same_trans _ _ _ (have k it at) (same_history T n (edits_of (take (suc k) steps)) A B same)
+    same_have A B steps imported same have k it at = same_files_trans _ _ _ (have k it at) (history_congruent T n (edits_of (take (suc k) steps)) A B same)
 
   -- the files of a new importer's steps
   pub files_of_new : (old new : Importer S) (steps : List Step) (imported : List Imported) → AreImported means old steps imported new

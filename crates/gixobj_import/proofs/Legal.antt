@@ -87,10 +87,10 @@ parents_hex k (Some id) all = let P : ObjectId → Type 0 = λ it. IsIdHexOfKind
     (All-head P id [] all) (All-nil (IsIdHexOfKind k))
 
 -- the encoding of a step's commit decodes to the commit
-pub step_encoding_decodes : (k : hash.Kind) (step : Step) (tree : ObjectId) (parent : Option ObjectId)
+pub encode_step_decodes : (k : hash.Kind) (step : Step) (tree : ObjectId) (parent : Option ObjectId)
     → NamesSignature (encode_owned_actor step.author) step.author → NamesSignature (encode_owned_actor step.committer) step.committer
     → HaveHex k (tree ∷ only_parent parent) → DecodesToCommit k (encode_step step tree parent) (step_commit step tree parent)
-step_encoding_decodes k step tree parent author committer hex =
+encode_step_decodes k step tree parent author committer hex =
     let P : ObjectId → Type 0 = λ it. IsIdHexOfKind k (encode_id_hex it) in
     record {
       headers_encoding = [];

@@ -27,12 +27,12 @@ found (step ∷ steps) zero it within is = ap Some (sym is)
 found (step ∷ steps) (suc index) it within is = found steps index it (omega arith) is
 
 -- one of the edits is a write, by the test of the borrowed list
-pub has_a_write : (items lent : List Edit) (b : Bool) → lent ≡ items → b ≡ true → IsTrue b ↔ Contains lent edit.Write → Contains items edit.Write
-has_a_write items lent b same is iff = subst (λ (es : List Edit). Contains es edit.Write) same (iff.0 is)
+pub contains_write_of_reply : (items lent : List Edit) (b : Bool) → lent ≡ items → b ≡ true → IsTrue b ↔ Contains lent edit.Write → Contains items edit.Write
+contains_write_of_reply items lent b same is iff = subst (λ (es : List Edit). Contains es edit.Write) same (iff.0 is)
 
 -- none of the edits is a write, by the test of the borrowed list
-pub free_of : (items lent : List Edit) (b : Bool) → lent ≡ items → b ≡ false → IsTrue b ↔ Contains lent edit.Write → ¬ Contains items edit.Write
-free_of items lent b same is iff has =
+pub no_write_of_step : (items lent : List Edit) (b : Bool) → lent ≡ items → b ≡ false → IsTrue b ↔ Contains lent edit.Write → ¬ Contains items edit.Write
+no_write_of_step items lent b same is iff has =
     let holds : b ≡ true = iff.1 (subst (λ (es : List Edit). Contains es edit.Write) (sym same) has) in
     true≢false (sym holds ∙ is)
 

@@ -9,7 +9,7 @@ use Rattle.gixobj_import.specs.declared.import.Importer.{Importer}
 use Rattle.gixobj_import.specs.declared.import.Step.{Step}
 use Rattle.gixobj_import.proofs.Adding.{objects_of, rejected_adds, steps_add}
 use Rattle.gixobj_import.proofs.Committing.{commits_of_new}
-use Rattle.gixobj_import.proofs.Digests.{adds_none, adds_then}
+use Rattle.gixobj_import.proofs.Digests.{adds_by_digest_nil, adds_by_digest_append}
 use Rattle.gixobj_import.proofs.Filing.{files_of_new}
 use Rattle.gixobj_import.proofs.Known.{OfStores}
 use Rattle.gixobj_object.specs.Stores.{StoreModel}
@@ -18,10 +18,10 @@ module _ {S : Type 0} (means : StoreModel S) (laws : OfStores) where
   pub stopped_adds : (old new : Importer S) (steps : List Step) (imported : List Imported) (error : ImportError) → Stops means old steps imported error new
       → AddsByDigest (objects_of means laws old) (objects_of means laws new)
   stopped_adds old new steps imported error (inl at) =
-      adds_then (objects_of means laws old) (objects_of means laws at.reached) (objects_of means laws new)
+      adds_by_digest_append (objects_of means laws old) (objects_of means laws at.reached) (objects_of means laws new)
       (steps_add means laws old at.reached (take (length imported) steps) imported at.imported)
       (rejected_adds means laws at.reached new at.error_state error at.cause)
-  stopped_adds old new steps imported error (inr nothing) = adds_none _ _ (ap (objects_of means laws) nothing.unchanged)
+  stopped_adds old new steps imported error (inr nothing) = adds_by_digest_nil _ _ (ap (objects_of means laws) nothing.unchanged)
 
   pub commits_of_stopped : (old new : Importer S) (steps : List Step) (imported : List Imported) (error : ImportError)
       → Stops means old steps imported error new → IsNewImporter old

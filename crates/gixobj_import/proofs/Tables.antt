@@ -84,12 +84,12 @@ module _ (laws : Inserted) (T : Table) where
       (then_of DecodesToItself pairs more reads)
 
 -- some table agrees with the imports if their pairs are consistent with the store
-pub imports_table : Inserted → ((pairs : List Pair) (trees : Trees) → IsConsistentWith pairs trees → (T : Table) × AgreesWithStore T trees
+pub table_of_imports_exists : Inserted → ((pairs : List Pair) (trees : Trees) → IsConsistentWith pairs trees → (T : Table) × AgreesWithStore T trees
     × AgreesWithPairs T pairs)
     → (steps : List Step) (imported : List Imported) (objects : Objects) (trees : Trees) → AreTreesOf objects trees
     → IsConsistentWith (pairs_of_imports imported) trees → All DecodesToItself (pairs_of_imports imported)
     → (T : Table) × AgreesWithImports T objects None steps imported
-imports_table laws fitting steps imported objects trees fits next_to reads =
+table_of_imports_exists laws fitting steps imported objects trees fits next_to reads =
     let table = fitting (pairs_of_imports imported) trees next_to in
     let T = table.0 in
     let agrees : AgreesWithObjects T objects = λ id entries searched names. table.1 id entries searched ((fits id entries).1 names) in

@@ -158,7 +158,7 @@ fn read_encoding_or_header(alloc: Global, input: &[u8]) -> Result<(Line<'_>, Sta
 
 /// Decodes the message after an empty line, or else a header.
 #[inline(always)]
-#[tactic(auto, using(crate::specs::Lines::header_comes, crate::specs::Lines::message_comes, crate::proofs::LineErrors::rejects_header))]
+#[tactic(auto, using(crate::specs::Lines::header_comes, crate::specs::Lines::message_comes, crate::proofs::LineErrors::line_error_at_headers))]
 fn read_header_or_message(alloc: Global, input: &[u8]) -> Result<(Line<'_>, State, &[u8]), Error>
     ensures found { (kind : Kind) → IfOk result
         (λ it. HasLine kind state.ExtraHeaders input.now (line_view it.0) it.1 it.2.now) }

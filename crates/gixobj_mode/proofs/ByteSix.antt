@@ -13,7 +13,7 @@ six_of_bytes mode rest false true true some = λ is other. refl
 six_of_bytes mode rest false true false some = λ is other. absurd (other refl)
 six_of_bytes mode rest false false one some = λ is other. refl
 
-pub six_kept : (mode : ℕ) (rest : List ℕ) → 0 < mode → HasSixDigits (encode_mode mode ++ 32 ∷ rest) (encode_mode mode)
-six_kept mode rest some =
+pub encode_mode_has_six_digits : (mode : ℕ) (rest : List ℕ) → 0 < mode → HasSixDigits (encode_mode mode ++ 32 ∷ rest) (encode_mode mode)
+encode_mode_has_six_digits mode rest some =
     let filled : (mode == 0) ≡ false = grind (arith, nat_tests, some) in
     six_of_bytes mode rest (mode == 0) (second_digit mode == 4) (first_digit mode == 1) filled

@@ -5,7 +5,7 @@ use Rattle.std.proofs.Math.Seq.{drop-append_seam, take-append_seam}
 use Rattle.std.proofs.lemmas.List.{length-take, take-append-drop}
 use Rattle.std.proofs.lemmas.Nat.{be_bytes_8}
 use Rattle.std.specs.Int.{from_be_bytes, to_be_bytes, w64}
-use Rattle.gixobj_mode.proofs.ByteSix.{six_kept}
+use Rattle.gixobj_mode.proofs.ByteSix.{encode_mode_has_six_digits}
 use Rattle.gixobj_mode.proofs.ModesRoundTrip.{mode_round_trips}
 use Rattle.gixobj_mode.specs.Mode.{BeginsWithKind, BeginsWithMode, DecodesToMode, mode_of_kind, encode_mode}
 use Rattle.gixobj_mode.specs.declared.entry_kind.EntryKind.{EntryKind}
@@ -69,29 +69,29 @@ found kind digits content count is same =
           (sym cut);
     }
 
-pub blob_found : (content : List ℕ) → Bytes content → 8 ≤ length content → from_be_bytes w64 (0 ∷ take 7 content) ≡ from_be_bytes w64
+pub begins_with_blob_mode : (content : List ℕ) → Bytes content → 8 ≤ length content → from_be_bytes w64 (0 ∷ take 7 content) ≡ from_be_bytes w64
     (0 ∷ codes "100644 ")
     → BeginsWithKind content kind.Blob (drop 6 content)
-blob_found content small long same = found kind.Blob (codes "100644") content 7 refl (seven_back content (codes "100644 ") small long refl same)
+begins_with_blob_mode content small long same = found kind.Blob (codes "100644") content 7 refl (seven_back content (codes "100644 ") small long refl same)
 
-pub tree_found : (content : List ℕ) → Bytes content → 8 ≤ length content → from_be_bytes w64 (0 ∷ take 7 content) / 256 ≡ from_be_bytes w64
+pub begins_with_tree_mode : (content : List ℕ) → Bytes content → 8 ≤ length content → from_be_bytes w64 (0 ∷ take 7 content) / 256 ≡ from_be_bytes w64
     (0 ∷ 0 ∷ codes "40000 ") → BeginsWithKind content kind.Tree (drop 5 content)
-tree_found content small long same = found kind.Tree (codes "40000") content 6 refl (six_back content (codes "40000 ") small long refl same)
+begins_with_tree_mode content small long same = found kind.Tree (codes "40000") content 6 refl (six_back content (codes "40000 ") small long refl same)
 
-pub executable_found : (content : List ℕ) → Bytes content → 8 ≤ length content → from_be_bytes w64 (0 ∷ take 7 content) ≡ from_be_bytes w64
+pub begins_with_executable_mode : (content : List ℕ) → Bytes content → 8 ≤ length content → from_be_bytes w64 (0 ∷ take 7 content) ≡ from_be_bytes w64
     (0 ∷ codes "100755 ") → BeginsWithKind content kind.BlobExecutable (drop 6 content)
-executable_found content small long same = found kind.BlobExecutable (codes "100755") content 7 refl
+begins_with_executable_mode content small long same = found kind.BlobExecutable (codes "100755") content 7 refl
     (seven_back content (codes "100755 ") small long refl same)
 
-pub link_found : (content : List ℕ) → Bytes content → 8 ≤ length content → from_be_bytes w64 (0 ∷ take 7 content) ≡ from_be_bytes w64
+pub begins_with_link_mode : (content : List ℕ) → Bytes content → 8 ≤ length content → from_be_bytes w64 (0 ∷ take 7 content) ≡ from_be_bytes w64
     (0 ∷ codes "120000 ")
     → BeginsWithKind content kind.Link (drop 6 content)
-link_found content small long same = found kind.Link (codes "120000") content 7 refl (seven_back content (codes "120000 ") small long refl same)
+begins_with_link_mode content small long same = found kind.Link (codes "120000") content 7 refl (seven_back content (codes "120000 ") small long refl same)
 
-pub commit_found : (content : List ℕ) → Bytes content → 8 ≤ length content → from_be_bytes w64 (0 ∷ take 7 content) ≡ from_be_bytes w64
+pub begins_with_commit_mode : (content : List ℕ) → Bytes content → 8 ≤ length content → from_be_bytes w64 (0 ∷ take 7 content) ≡ from_be_bytes w64
     (0 ∷ codes "160000 ")
     → BeginsWithKind content kind.Commit (drop 6 content)
-commit_found content small long same = found kind.Commit (codes "160000") content 7 refl (seven_back content (codes "160000 ") small long refl same)
+begins_with_commit_mode content small long same = found kind.Commit (codes "160000") content 7 refl (seven_back content (codes "160000 ") small long refl same)
 
 -- ---- not found
 
@@ -107,21 +107,21 @@ prefix_of kind content rest begins =
 number_of_seven : (content entire : List ℕ) → take 7 content ≡ entire → from_be_bytes w64 (0 ∷ take 7 content) ≡ from_be_bytes w64 (0 ∷ entire)
 number_of_seven content entire same = ap (λ (it : List ℕ). from_be_bytes w64 (0 ∷ it)) same
 
-pub no_kind : (content : List ℕ) → Bytes content → 8 ≤ length content → from_be_bytes w64 (0 ∷ take 7 content) ≢ from_be_bytes w64
+pub no_kind_of_other_prefix : (content : List ℕ) → Bytes content → 8 ≤ length content → from_be_bytes w64 (0 ∷ take 7 content) ≢ from_be_bytes w64
     (0 ∷ codes "100644 ")
     → from_be_bytes w64 (0 ∷ take 7 content) / 256 ≢ from_be_bytes w64 (0 ∷ 0 ∷ codes "40000 ")
     → from_be_bytes w64 (0 ∷ take 7 content) ≢ from_be_bytes w64 (0 ∷ codes "100755 ") → from_be_bytes w64 (0 ∷ take 7 content) ≢ from_be_bytes w64
     (0 ∷ codes "120000 ") → from_be_bytes w64 (0 ∷ take 7 content) ≢ from_be_bytes w64 (0 ∷ codes "160000 ")
     → (kind : EntryKind) (rest : List ℕ) → BeginsWithKind content kind rest → ⊥
-no_kind content small long blob tree executable link commit kind.Blob rest begins =
+no_kind_of_other_prefix content small long blob tree executable link commit kind.Blob rest begins =
     blob (number_of_seven content (codes "100644 ") (prefix_of kind.Blob content rest begins))
-no_kind content small long blob tree executable link commit kind.Tree rest begins =
+no_kind_of_other_prefix content small long blob tree executable link commit kind.Tree rest begins =
     tree (six_remaining content small long ∙ ap (λ (it : List ℕ). from_be_bytes w64 (0 ∷ 0 ∷ it)) (prefix_of kind.Tree content rest begins))
-no_kind content small long blob tree executable link commit kind.BlobExecutable rest begins =
+no_kind_of_other_prefix content small long blob tree executable link commit kind.BlobExecutable rest begins =
     executable (number_of_seven content (codes "100755 ") (prefix_of kind.BlobExecutable content rest begins))
-no_kind content small long blob tree executable link commit kind.Link rest begins =
+no_kind_of_other_prefix content small long blob tree executable link commit kind.Link rest begins =
     link (number_of_seven content (codes "120000 ") (prefix_of kind.Link content rest begins))
-no_kind content small long blob tree executable link commit kind.Commit rest begins =
+no_kind_of_other_prefix content small long blob tree executable link commit kind.Commit rest begins =
     commit (number_of_seven content (codes "160000 ") (prefix_of kind.Commit content rest begins))
 
 -- ---- the decoded mode
@@ -151,12 +151,12 @@ mode_there kind name = record {
   joined = refl;
   ends = refl;
   decodes = reads kind;
-  byte_six = six_kept (mode_of_kind kind) name (some kind);
+  byte_six = encode_mode_has_six_digits (mode_of_kind kind) name (some kind);
 }
 
-pub mode_of_found : (content : List ℕ) (kind : EntryKind) (mode : ℕ) (rest : List ℕ) → mode ≡ mode_of_kind kind → BeginsWithKind content kind rest
+pub begins_with_mode_of_kind : (content : List ℕ) (kind : EntryKind) (mode : ℕ) (rest : List ℕ) → mode ≡ mode_of_kind kind → BeginsWithKind content kind rest
     → BeginsWithMode content mode rest
-mode_of_found content kind mode rest is begins =
+begins_with_mode_of_kind content kind mode rest is begins =
     let entire : encode_mode (mode_of_kind kind) ++ 32 ∷ begins.name ≡ content = ap (λ (it : List ℕ). encode_mode (mode_of_kind kind) ++ it)
     (sym begins.spaced)
     ∙ sym begins.joined in

@@ -11,22 +11,22 @@ octal_not_space byte digit space =
     let value : digit_value byte ≡ 36 = ap digit_value space in
     omega arith
 
-pub octal_free : (digits : List ℕ) → AllDigits 8 digits → IsByteFree 32 digits
-octal_free [] octal = All-nil (λ it. it ≢ 32)
-octal_free (digit ∷ digits) octal = All-cons (λ it. it ≢ 32) digit digits (octal_not_space digit octal.0) (octal_free digits octal.1)
+pub octal_digits_space_free : (digits : List ℕ) → AllDigits 8 digits → IsByteFree 32 digits
+octal_digits_space_free [] octal = All-nil (λ it. it ≢ 32)
+octal_digits_space_free (digit ∷ digits) octal = All-cons (λ it. it ≢ 32) digit digits (octal_not_space digit octal.0) (octal_digits_space_free digits octal.1)
 
-pub one_ending : (a x b y : List ℕ) → IsByteFree 32 a → IsByteFree 32 b → EndsMode x → EndsMode y → a ++ x ≡ b ++ y → (a ≡ b) × (x ≡ y)
-one_ending [] x [] y free_a free_b ends_x ends_y same = (refl, same)
-one_ending [] [] (second ∷ b) y free_a free_b ends_x ends_y same = cc same
-one_ending [] (first ∷ x) (second ∷ b) y free_a free_b ends_x ends_y same =
+pub split_at_space_unique : (a x b y : List ℕ) → IsByteFree 32 a → IsByteFree 32 b → EndsMode x → EndsMode y → a ++ x ≡ b ++ y → (a ≡ b) × (x ≡ y)
+split_at_space_unique [] x [] y free_a free_b ends_x ends_y same = (refl, same)
+split_at_space_unique [] [] (second ∷ b) y free_a free_b ends_x ends_y same = cc same
+split_at_space_unique [] (first ∷ x) (second ∷ b) y free_a free_b ends_x ends_y same =
     let heads : first ≡ second = cc same in
     absurd (All-head (λ it. it ≢ 32) second b free_b (sym heads ∙ ends_x))
-one_ending (first ∷ a) x [] [] free_a free_b ends_x ends_y same = cc same
-one_ending (first ∷ a) x [] (second ∷ y) free_a free_b ends_x ends_y same =
+split_at_space_unique (first ∷ a) x [] [] free_a free_b ends_x ends_y same = cc same
+split_at_space_unique (first ∷ a) x [] (second ∷ y) free_a free_b ends_x ends_y same =
     let heads : first ≡ second = cc same in
     absurd (All-head (λ it. it ≢ 32) first a free_a (heads ∙ ends_y))
-one_ending (first ∷ a) x (second ∷ b) y free_a free_b ends_x ends_y same =
+split_at_space_unique (first ∷ a) x (second ∷ b) y free_a free_b ends_x ends_y same =
     let tails : a ++ x ≡ b ++ y = cc same in
-    let rest = one_ending a x b y (All-tail (λ it. it ≢ 32) first a free_a) (All-tail (λ it. it ≢ 32) second b free_b) ends_x ends_y tails in
+    let rest = split_at_space_unique a x b y (All-tail (λ it. it ≢ 32) first a free_a) (All-tail (λ it. it ≢ 32) second b free_b) ends_x ends_y tails in
     let heads : first ≡ second = cc same in
     (cc (heads, rest.0), rest.1)

@@ -77,14 +77,14 @@ all_octal : (n : ℕ) → AllDigits 8 (octal_digits n)
 all_octal n = (octal (n / 32768), all_octal_last n)
 
 -- a mode whose second digit differs from 4 decodes from its six digits
-pub six_digits_back : (n : ℕ) → n < 65536 → (n / 4096 % 8 == 4) ≡ false → DecodesToMode (octal_digits n) n
-six_digits_back n small other =
+pub octal_digits_decode : (n : ℕ) → n < 65536 → (n / 4096 % 8 == 4) ≡ false → DecodesToMode (octal_digits n) n
+octal_digits_decode n small other =
     let no_tree : (n == tree_type) ≡ false = grind (arith, nat_tests, other) in
     record { octal = all_octal n; short = omega arith; value = plain_mode (octal_digits n) n (octal_value n small) small (rw no_tree refl) }
 
 -- a mode whose second digit is 4 and whose first digit is 0 decodes from its last five digits
-pub five_digits_back : (n : ℕ) → n < 32768 → (n / 4096 % 8 == 4) ≡ true → DecodesToMode (last_digits n) n
-five_digits_back n small four =
+pub last_digits_decode : (n : ℕ) → n < 32768 → (n / 4096 % 8 == 4) ≡ true → DecodesToMode (last_digits n) n
+last_digits_decode n small four =
     let value : digits_value 8 (last_digits n) ≡ n = last_value n ∙ omega arith in
     let first : (48 + n / 4096 % 8 == 48) ≡ false = grind (arith, nat_tests, four) in
     record {
@@ -106,9 +106,9 @@ by_cases : (n : ℕ) (zero four one : Bool) → (n == 0) ≡ zero → (n / 4096 
 by_cases n true four one is_zero is_four is_one small kept =
     let same : 0 ≡ n = grind (arith, nat_tests, is_zero) in
     let P : ℕ → Type 0 = λ it. DecodesToMode (codes "0") it in subst P same zero_back
-by_cases n false false one is_zero is_four is_one small kept = six_digits_back n small is_four
+by_cases n false false one is_zero is_four is_one small kept = octal_digits_decode n small is_four
 by_cases n false true false is_zero is_four is_one small kept =
-    let low : n < 32768 = grind (arith, nat_tests, is_one, small) in five_digits_back n low is_four
+    let low : n < 32768 = grind (arith, nat_tests, is_one, small) in last_digits_decode n low is_four
 by_cases n false true true is_zero is_four is_one small kept =
     let four : n / 4096 % 8 ≡ 4 = grind (arith, nat_tests, is_four) in
     let one : n / 32768 % 8 ≡ 1 = grind (arith, nat_tests, is_one) in

@@ -8,9 +8,10 @@ same_step : (a b digit : ℕ) → a % 65536 ≡ b % 65536 → (a * 8 + digit) % 
 same_step a b digit same = omega arith
 
 -- the number after more digits depends on the number before them modulo 65536 alone
-pub same_after : (a b : ℕ) (digits : List ℕ) → a % 65536 ≡ b % 65536 → digits_value_after 8 a digits % 65536 ≡ digits_value_after 8 b digits % 65536
-same_after a b [] same = same
-same_after a b (digit ∷ digits) same = same_after (a * 8 + digit_value digit) (b * 8 + digit_value digit) digits (same_step a b (digit_value digit) same)
+pub digits_value_after_mod : (a b : ℕ) (digits : List ℕ) → a % 65536 ≡ b % 65536 → digits_value_after 8 a digits % 65536 ≡ digits_value_after 8 b digits % 65536
+digits_value_after_mod a b [] same = same
+digits_value_after_mod a b (digit ∷ digits) same = digits_value_after_mod (a * 8 + digit_value digit) (b * 8 + digit_value digit) digits
+    (same_step a b (digit_value digit) same)
 
 octal_value : (digit : ℕ) → digit_value digit < 8 → digit_value digit ≡ digit - 48
 octal_value digit small = grind (arith, small)
@@ -25,11 +26,11 @@ one_more_of : (number value digit : ℕ) (rest : List ℕ) → value ≡ digit -
 one_more_of number value digit rest is octal =
     let spelled : digit_value digit ≡ value = octal_value digit octal.0 ∙ sym is in
     let same : ((number * 8 + value) % 65536) % 65536 ≡ (number * 8 + digit_value digit) % 65536 = omega arith in
-    same_after ((number * 8 + value) % 65536) (number * 8 + digit_value digit) rest same
+    digits_value_after_mod ((number * 8 + value) % 65536) (number * 8 + digit_value digit) rest same
 
-pub one_more : (digits : List ℕ) (at number value : ℕ) → at < length digits → value ≡ get_or digits at 0 - 48 → AllDigits 8 (drop at digits)
+pub one_more_digit : (digits : List ℕ) (at number value : ℕ) → at < length digits → value ≡ get_or digits at 0 - 48 → AllDigits 8 (drop at digits)
     → OneMore digits at number value
-one_more digits at number value within is octal =
+one_more_digit digits at number value within is octal =
     let cut : drop at digits ≡ get_or digits at 0 ∷ drop (at + 1) digits = drop_more digits at 0 within in
     let entire : AllDigits 8 (get_or digits at 0 ∷ drop (at + 1) digits) = (let P : List ℕ → Type 0 = AllDigits 8 in subst P cut octal) in
     record {

@@ -180,7 +180,7 @@ impl EntryMode {
     /// Decodes the mode at the beginning of the bytes by the rules of [`EntryMode::from_bytes`], and
     /// returns the bytes after its digits.
     #[inline(always)]
-    #[tactic(auto, using(crate::proofs::EncodedKinds::mode_of_found))]
+    #[tactic(auto, using(crate::proofs::EncodedKinds::begins_with_mode_of_kind))]
     pub fn extract_from_bytes(i: &[u8]) -> Option<(EntryMode, &[u8])>
         ensures found { IfSome result (λ parts.
             BeginsWithMode i.now (mode_bits parts.0) parts.1.now) }
@@ -288,7 +288,7 @@ pub fn encoded_len(mode: EntryMode) -> usize
 /// Finds the kind whose mode and a space begin the bytes, and the rest from the space on. It compares seven
 /// bytes at once, as a number, and finds none in fewer than eight.
 #[inline(always)]
-#[tactic(auto, using(crate::proofs::EncodedKinds::blob_found, crate::proofs::EncodedKinds::tree_found, crate::proofs::EncodedKinds::executable_found, crate::proofs::EncodedKinds::link_found, crate::proofs::EncodedKinds::commit_found, crate::proofs::EncodedKinds::no_kind))]
+#[tactic(auto, using(crate::proofs::EncodedKinds::begins_with_blob_mode, crate::proofs::EncodedKinds::begins_with_tree_mode, crate::proofs::EncodedKinds::begins_with_executable_mode, crate::proofs::EncodedKinds::begins_with_link_mode, crate::proofs::EncodedKinds::begins_with_commit_mode, crate::proofs::EncodedKinds::no_kind_of_other_prefix))]
 fn kind_prefix(i: &[u8]) -> Option<(EntryKind, &[u8])>
     ensures found { IfSome result (λ it. BeginsWithKind i.now it.0 it.1.now) }
     ensures none { 8 ≤ length i.now → IfNone result ((kind : EntryKind) (rest : List ℕ)

@@ -4,7 +4,7 @@ use Rattle.std.specs.List.{AllZip, concat}
 use Rattle.gixobj_fields.specs.Runs.{Ending, broken, yields_end, yields_error, yields_piece}
 use Rattle.gixobj_hash.specs.declared.hash.kind.Kind.{Kind}
 use Rattle.gixobj_tree.specs.Entries.{EntryView}
-use Rattle.gixobj_tree.proofs.OneEntry.{one_entry}
+use Rattle.gixobj_tree.proofs.OneEntry.{entry_unique}
 use Rattle.gixobj_tree.specs.TreeDecoding.{BeginsWithEntry, BeginsWithNoEntry, DecodesToEntry, DecodesToTree, YieldsEntries}
 use Rattle.gixobj_object.specs.TreeReaders.{IsLongestPrefix}
 
@@ -43,7 +43,7 @@ goes_on kind bytes rest e entries has after [] (first ∷ encodings) others are 
 goes_on kind bytes rest e entries has after (it ∷ them) [] others are same = absurd are
 goes_on kind bytes rest e entries has after (it ∷ them) (first ∷ encodings) others are same =
     after.minimum them encodings others are.1
-    (one_entry kind bytes e it rest (concat encodings ++ others) has (first_of kind bytes first others encodings it are.0 same)).1
+    (entry_unique kind bytes e it rest (concat encodings ++ others) has (first_of kind bytes first others encodings it are.0 same)).1
 
 breaks : (kind : Kind) (bytes : List ℕ) (entries : List EntryView) (ending : Ending) → ending ≡ broken → YieldsEntries kind bytes entries ending
     → Break kind bytes entries
@@ -63,8 +63,9 @@ breaks kind bytes entries ending stops (yields_piece _ _ _ rest e others _ (firs
       minimum = goes_on kind bytes rest e others (first, joined, is) after;
     }
 
-pub longest_prefix : (kind : Kind) (bytes : List ℕ) (entries : List EntryView) → YieldsEntries kind bytes entries broken → IsLongestPrefix kind bytes entries
-longest_prefix kind bytes entries seen =
+pub is_longest_prefix_of_walk : (kind : Kind) (bytes : List ℕ) (entries : List EntryView) → YieldsEntries kind bytes entries broken
+    → IsLongestPrefix kind bytes entries
+is_longest_prefix_of_walk kind bytes entries seen =
     let stop = breaks kind bytes entries broken refl seen in
     record {
       prefix = stop.prefix;

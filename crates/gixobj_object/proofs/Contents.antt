@@ -8,11 +8,11 @@ use Rattle.gixobj_object.specs.LooseObjects.{ConvertsContentError, IsTooLarge, I
 use Rattle.gixobj_object.specs.declared.object.borrowed.decode.LooseDecodeError.{LooseDecodeError}
 use Rattle.gixobj_object.specs.declared.object.borrowed.decode.LooseDecodeError.TheVariants.{InvalidContent, InvalidHeader, OutOfMemory}
 
-pub no_content : (kinds : hash.Kind) (input : List ℕ) (cause : LooseContentError) (error : LooseDecodeError)
+pub loose_object_error_of_header : (kinds : hash.Kind) (input : List ℕ) (cause : LooseContentError) (error : LooseDecodeError)
     → IsLooseContentError input cause → ConvertsContentError cause error → IsLooseObjectError kinds input error
-no_content kinds input (content.Header cause) error rejected is =
+loose_object_error_of_header kinds input (content.Header cause) error rejected is =
     subst (λ (it : LooseDecodeError). IsLooseObjectError kinds input it) (sym is) (inl rejected)
-no_content kinds input (content.Short size) (InvalidHeader error) (kind, rest, begins, less) is = inr ((kind, size, rest, begins, less), is)
-no_content kinds input (content.Short size) (OutOfMemory said) (kind, rest, begins, less) is =
+loose_object_error_of_header kinds input (content.Short size) (InvalidHeader error) (kind, rest, begins, less) is = inr ((kind, size, rest, begins, less), is)
+loose_object_error_of_header kinds input (content.Short size) (OutOfMemory said) (kind, rest, begins, less) is =
     subst (λ (it : ℕ). IsTooLarge input it) (sym is.1) (kind, rest, begins, is.0)
-no_content kinds input (content.Short size) (InvalidContent error) rejected is = absurd is
+loose_object_error_of_header kinds input (content.Short size) (InvalidContent error) rejected is = absurd is

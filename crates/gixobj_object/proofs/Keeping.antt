@@ -36,11 +36,11 @@ same_bytes : (a b : List ℕ) → slice_cmp nat_cmp a b ≡ Equal → a ≡ b
 same_bytes = slice_cmp-IsAntisymmetric nat_cmp-IsAntisymmetric
 
 -- two ids that compare as equal are the same id
-pub id_ties_itself : IsAntisymmetric id_cmp
-id_ties_itself (Sha1 a) (Sha1 b) same = ap Sha1 (same_bytes a b (first_equal (slice_cmp nat_cmp a b) same))
-id_ties_itself (Sha256 a) (Sha256 b) same = ap Sha256 (same_bytes a b (first_equal (slice_cmp nat_cmp a b) same))
-id_ties_itself (Sha1 a) (Sha256 b) same = absurd (never_less (slice_cmp nat_cmp a b) same)
-id_ties_itself (Sha256 a) (Sha1 b) same = absurd (never_greater (slice_cmp nat_cmp a b) same)
+pub id_cmp_antisymmetric : IsAntisymmetric id_cmp
+id_cmp_antisymmetric (Sha1 a) (Sha1 b) same = ap Sha1 (same_bytes a b (first_equal (slice_cmp nat_cmp a b) same))
+id_cmp_antisymmetric (Sha256 a) (Sha256 b) same = ap Sha256 (same_bytes a b (first_equal (slice_cmp nat_cmp a b) same))
+id_cmp_antisymmetric (Sha1 a) (Sha256 b) same = absurd (never_less (slice_cmp nat_cmp a b) same)
+id_cmp_antisymmetric (Sha256 a) (Sha1 b) same = absurd (never_greater (slice_cmp nat_cmp a b) same)
 
 viewed : {X : Type 0} (view : X → StoredObject) (b : Bool) (x : X) (rest : Option X) (same : Option StoredObject) → same ≡ option_map view rest
     → cond b (Some (view x)) same ≡ option_map view (cond b (Some x) rest)
@@ -54,15 +54,15 @@ found_first view q (pair ∷ pairs) = viewed view (eq_by_cmp id_cmp q pair.0) pa
     (find id_cmp q (map (λ pair. (pair.0, view pair.1)) pairs)) (found_first view q pairs)
 
 -- in a list of objects an id names the first object listed with it
-pub looked_up : {X : Type 0} (view : X → StoredObject) (q : ObjectId) (pairs : List (ObjectId × X))
+pub named_from_entries : {X : Type 0} (view : X → StoredObject) (q : ObjectId) (pairs : List (ObjectId × X))
     → named (finite.from_entries (map (λ pair. (pair.0, view pair.1)) pairs)) q ≡ option_map view (lookup (is_at (id_cmp q)) pairs)
-looked_up view q pairs = finite.get-from_entries id_cmp_total (map (λ pair. (pair.0, view pair.1)) pairs) q ∙ found_first view q pairs
+named_from_entries view q pairs = finite.get-from_entries id_cmp_total (map (λ pair. (pair.0, view pair.1)) pairs) q ∙ found_first view q pairs
 
 -- a map of objects that differs at one id is the insertion of an object at this id
-pub inserted_in : (before after : Objects) (id : ObjectId) (it : StoredObject)
+pub is_insert_of_map_insert : (before after : Objects) (id : ObjectId) (it : StoredObject)
     → ((q : ObjectId) → named after q ≡ cond (is_at (id_cmp id) q) (Some it) (named before q)) → after ≡ finite.insert before id it
-inserted_in before after id it changed =
-    finite.same_map id_cmp_total id_ties_itself after (finite.insert before id it)
+is_insert_of_map_insert before after id it changed =
+    finite.same_map id_cmp_total id_cmp_antisymmetric after (finite.insert before id it)
     (λ q. changed q ∙ ap (λ (b : Bool). cond b (Some it) (named before q)) ((eq_by_cmp_equiv id_cmp_total).symm id q)
     ∙ sym (finite.get-insert id_cmp_total before id it q))
 
@@ -71,14 +71,15 @@ tied Less same = cc same
 tied Equal same = refl
 tied Greater same = cc same
 
-pub there : (objects : Objects) (id : ObjectId) (it : StoredObject) → named (finite.insert objects id it) id ≡ Some it
-there objects id it = finite.get-insert id_cmp_total objects id it id ∙ ap (λ (b : Bool). cond b (Some it) (named objects id))
+pub named_insert_same : (objects : Objects) (id : ObjectId) (it : StoredObject) → named (finite.insert objects id it) id ≡ Some it
+named_insert_same objects id it = finite.get-insert id_cmp_total objects id it id ∙ ap (λ (b : Bool). cond b (Some it) (named objects id))
     ((eq_by_cmp_equiv id_cmp_total).refl id)
 
 apart : (id other : ObjectId) → other ≢ id → (b : Bool) → eq_by_cmp id_cmp other id ≡ b → b ≡ false
-apart id other differ true same = absurd (differ (id_ties_itself other id (tied (id_cmp other id) same)))
+apart id other differ true same = absurd (differ (id_cmp_antisymmetric other id (tied (id_cmp other id) same)))
 apart id other differ false same = refl
 
-pub elsewhere : (objects : Objects) (id other : ObjectId) (it : StoredObject) → other ≢ id → named (finite.insert objects id it) other ≡ named objects other
-elsewhere objects id other it differ = finite.get-insert id_cmp_total objects id it other ∙ ap (λ (b : Bool). cond b (Some it) (named objects other))
+pub named_insert_other : (objects : Objects) (id other : ObjectId) (it : StoredObject) → other ≢ id
+    → named (finite.insert objects id it) other ≡ named objects other
+named_insert_other objects id other it differ = finite.get-insert id_cmp_total objects id it other ∙ ap (λ (b : Bool). cond b (Some it) (named objects other))
     (apart id other differ (eq_by_cmp id_cmp other id) refl)

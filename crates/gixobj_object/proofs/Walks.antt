@@ -15,22 +15,22 @@ use Rattle.gixobj_tree.specs.declared.tree.borrowed.entry_ref.EntryRef.{EntryRef
 use Rattle.gixobj_object.specs.EntrySteps.{NextEntry, HasConsumedEntries, IsAtEntry, IsTail, remaining_tree_bytes, tree_reader_state}
 use Rattle.gixobj_object.specs.declared.tree.TreeRefIter.{TreeRefIter}
 
-pub starts : (kind : Kind) (content : List ℕ) (reader : TreeRefIter) → IsAtEntry kind content reader → HasConsumedEntries kind content [] reader
-starts kind content reader start = ((refl, sym (ap (λ (it : ReaderState Kind ⊤). it.bytes) start)), ap (λ (it : ReaderState Kind ⊤). it.kind) start)
+pub has_consumed_nil : (kind : Kind) (content : List ℕ) (reader : TreeRefIter) → IsAtEntry kind content reader → HasConsumedEntries kind content [] reader
+has_consumed_nil kind content reader start = ((refl, sym (ap (λ (it : ReaderState Kind ⊤). it.bytes) start)), ap (λ (it : ReaderState Kind ⊤). it.kind) start)
 
-pub goes_on : (kind : Kind) (content : List ℕ) (entries : List EntryView) (at after : TreeRefIter) (entry : EntryRef)
+pub has_consumed_snoc : (kind : Kind) (content : List ℕ) (entries : List EntryView) (at after : TreeRefIter) (entry : EntryRef)
     → HasConsumedEntries kind content entries at → NextEntry at (Some (Ok entry)) after
     → HasConsumedEntries kind content (entries ++ entry_view entry ∷ []) after
-goes_on kind content entries at after entry (passed, same_kind) (has, kept, such) =
+has_consumed_snoc kind content entries at after entry (passed, same_kind) (has, kept, such) =
     let here = subst (λ (it : Kind). HasEntry it tt (tree_reader_state at).bytes (entry_view entry) tt (tree_reader_state after).bytes) same_kind has in (
       passes_one (HasEntry kind) tt tt tt content (tree_reader_state at).bytes (tree_reader_state after).bytes entries (entry_view entry) passed here,
       kept
           ∙ same_kind,
     )
 
-pub ends : (kind : Kind) (content : List ℕ) (entries : List EntryView) (at after : TreeRefIter) → HasConsumedEntries kind content entries at
+pub yields_entries_complete : (kind : Kind) (content : List ℕ) (entries : List EntryView) (at after : TreeRefIter) → HasConsumedEntries kind content entries at
     → NextEntry at None after → YieldsEntries kind content entries complete
-ends kind content entries at after (passed, same_kind) gives =
+yields_entries_complete kind content entries at after (passed, same_kind) gives =
     let end : YieldsEntries kind (tree_reader_state at).bytes [] complete = rw gives.0 (yields_end tt) in
     yields_passed (HasEntry kind) tt tt content (tree_reader_state at).bytes entries complete passed end
 
@@ -38,9 +38,10 @@ malformed_only : (at after : TreeRefIter) (error : Error) → NextEntry at (Some
 malformed_only at after Malformed gives = gives
 malformed_only at after OutOfMemory gives = absurd gives.1
 
-pub stops : (kind : Kind) (content : List ℕ) (entries : List EntryView) (at after : TreeRefIter) (error : Error) → HasConsumedEntries kind content entries at
+pub yields_entries_broken : (kind : Kind) (content : List ℕ) (entries : List EntryView) (at after : TreeRefIter) (error : Error)
+    → HasConsumedEntries kind content entries at
     → NextEntry at (Some (Err error)) after → YieldsEntries kind content entries broken
-stops kind content entries at after error (passed, same_kind) gives =
+yields_entries_broken kind content entries at after error (passed, same_kind) gives =
     let rejected = malformed_only at after error gives in
     let none = subst (λ (it : Kind). (e : EntryView) (following : ⊤) (rest : List ℕ) → HasEntry it tt (tree_reader_state at).bytes e following rest
     → ⊥) same_kind rejected.1 in
@@ -49,15 +50,15 @@ stops kind content entries at after error (passed, same_kind) gives =
 
 -- ---- the remaining bytes are a suffix
 
-pub tail_at_start : (kind : Kind) (content : List ℕ) (reader : TreeRefIter) → IsAtEntry kind content reader → IsTail content (remaining_tree_bytes reader)
-tail_at_start kind content reader start = ([], sym (ap (λ (it : ReaderState Kind ⊤). it.bytes) start))
+pub is_tail_refl : (kind : Kind) (content : List ℕ) (reader : TreeRefIter) → IsAtEntry kind content reader → IsTail content (remaining_tree_bytes reader)
+is_tail_refl kind content reader start = ([], sym (ap (λ (it : ReaderState Kind ⊤). it.bytes) start))
 
 tail_at_end : (content : List ℕ) → IsTail content []
 tail_at_end content = (content, sym (append-nil content))
 
-pub tail_after : (content : List ℕ) (at after : TreeRefIter) (item : Option (Result EntryRef Error)) → IsTail content (remaining_tree_bytes at)
+pub is_tail_after_entry : (content : List ℕ) (at after : TreeRefIter) (item : Option (Result EntryRef Error)) → IsTail content (remaining_tree_bytes at)
     → NextEntry at item after → IsTail content (remaining_tree_bytes after)
-tail_after content at after (Some (Ok entry)) (prefix, joined) (has, kept, such) =
+is_tail_after_entry content at after (Some (Ok entry)) (prefix, joined) (has, kept, such) =
     (prefix ++ has.0, joined ∙ ap (λ (it : List ℕ). prefix ++ it) has.1 ∙ sym (append_assoc prefix has.0 (remaining_tree_bytes after)))
-tail_after content at after (Some (Err error)) is_tail gives = rw gives.2 (tail_at_end content)
-tail_after content at after None is_tail gives = rw gives.1 (tail_at_end content)
+is_tail_after_entry content at after (Some (Err error)) is_tail gives = rw gives.2 (tail_at_end content)
+is_tail_after_entry content at after None is_tail gives = rw gives.1 (tail_at_end content)

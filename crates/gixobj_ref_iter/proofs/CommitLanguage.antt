@@ -4,15 +4,15 @@ use Rattle.std.specs.List.{AllZip}
 use Rattle.gixobj_fields.specs.Runs as runs
 use Rattle.gixobj_fields.specs.Runs.{Passes, complete, yields_end, yields_piece}
 use Rattle.gixobj_hash.specs.declared.hash.kind.Kind.{Kind}
-use Rattle.gixobj_commit.proofs.LinesYielded.{token_bytes_yielded}
-use Rattle.gixobj_commit.proofs.EntireCommits.{ends_after_message, message_last, decodes_entire}
+use Rattle.gixobj_commit.proofs.LinesYielded.{yields_lines_of_commit}
+use Rattle.gixobj_commit.proofs.EntireCommits.{end_state_of_message, lines_end_with_message, decodes_commit_of_gathered}
 use Rattle.gixobj_commit.specs.Commit.{CommitLines, DecodesToCommit}
 use Rattle.gixobj_commit.specs.Gathering.{gathered, empty_commit}
 use Rattle.gixobj_line.specs.Lines.{HasLine, LineView, message_line}
 use Rattle.gixobj_line.specs.declared.lines.State.{State}
 use Rattle.gixobj_line.specs.declared.lines.State.TheVariants as state
-use Rattle.gixobj_ref_iter.proofs.CommitRuns.{one_run}
-use Rattle.gixobj_ref_iter.proofs.CommitTokens.{lines_of_tokens, tokens_of_lines}
+use Rattle.gixobj_ref_iter.proofs.CommitRuns.{token_run_unique}
+use Rattle.gixobj_ref_iter.proofs.CommitTokens.{lines_of_tokens_exist, tokens_of_lines_exist}
 use Rattle.gixobj_ref_iter.specs.CommitRuns.{YieldsCommitTokens}
 use Rattle.gixobj_ref_iter.specs.CommitTokens.{IsTokenOfLine, CommitTokenView, message_token, yields_message}
 use Rattle.gixobj_ref_iter.specs.Readers.{AreTokensOfCommit, EndsInMessage}
@@ -47,21 +47,22 @@ passed kind before input lines (yields_piece _ next _ after line others _ has yi
 
 -- ---- the law
 
-pub yields_decoded : (kind : Kind) (bytes : List ℕ) (commit : CommitLines) → DecodesToCommit kind bytes commit
+pub yields_tokens_of_commit : (kind : Kind) (bytes : List ℕ) (commit : CommitLines) → DecodesToCommit kind bytes commit
     → (tokens : List CommitTokenView) × YieldsCommitTokens kind state.Tree bytes tokens complete × AreTokensOfCommit commit tokens × EndsInMessage tokens
-yields_decoded kind bytes commit is =
-    let it = tokens_of_lines kind state.Tree bytes _ (token_bytes_yielded kind bytes commit is) in
-    let last = message_last commit in
+yields_tokens_of_commit kind bytes commit is =
+    let it = tokens_of_lines_exist kind state.Tree bytes _ (yields_lines_of_commit kind bytes commit is) in
+    let last = lines_end_with_message commit in
     (it.0, it.1, it.2, last_token it.0 last.0 commit.message (subst (λ (lines : List LineView). AllZip IsTokenOfLine lines it.0) last.1 it.2))
 
-pub read : (kind : Kind) (bytes : List ℕ) (tokens : List CommitTokenView) → YieldsCommitTokens kind state.Tree bytes tokens complete → EndsInMessage tokens
+pub commit_of_tokens_exists : (kind : Kind) (bytes : List ℕ) (tokens : List CommitTokenView) → YieldsCommitTokens kind state.Tree bytes tokens complete
+    → EndsInMessage tokens
     → (commit : CommitLines) × DecodesToCommit kind bytes commit × AreTokensOfCommit commit tokens
-read kind bytes tokens yields (prefix, message, ends) =
-    let it = lines_of_tokens kind state.Tree bytes tokens yields in
+commit_of_tokens_exists kind bytes tokens yields (prefix, message, ends) =
+    let it = lines_of_tokens_exist kind state.Tree bytes tokens yields in
     let last = last_line it.0 prefix message (subst (λ (all : List CommitTokenView). AllZip IsTokenOfLine it.0 all) ends it.2) in
     let passes = passed kind state.Tree bytes it.0 it.1 in
-    let at_end = ends_after_message kind state.Tree bytes it.0 last.0 message passes.0 [] passes.1 last.1 in
-    let is = decodes_entire kind bytes passes.0 [] (gathered empty_commit it.0) (it.0, passes.1, refl) at_end in
-    let other = yields_decoded kind bytes (gathered empty_commit it.0) is in
-    let same = one_run kind state.Tree bytes other.0 tokens complete complete other.1 yields in
+    let at_end = end_state_of_message kind state.Tree bytes it.0 last.0 message passes.0 [] passes.1 last.1 in
+    let is = decodes_commit_of_gathered kind bytes passes.0 [] (gathered empty_commit it.0) (it.0, passes.1, refl) at_end in
+    let other = yields_tokens_of_commit kind bytes (gathered empty_commit it.0) is in
+    let same = token_run_unique kind state.Tree bytes other.0 tokens complete complete other.1 yields in
     (gathered empty_commit it.0, is, subst (λ (all : List CommitTokenView). AreTokensOfCommit (gathered empty_commit it.0) all) same.0 other.2)

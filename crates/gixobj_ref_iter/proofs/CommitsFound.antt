@@ -13,14 +13,14 @@ use Rattle.gixobj_hash.specs.declared.decode.Error.{Error}
 use Rattle.gixobj_hash.specs.declared.decode.Error.TheVariants.{Malformed, OutOfMemory}
 use Rattle.gixobj_hash.specs.declared.hash.kind.Kind.{Kind}
 use Rattle.gixobj_hash.specs.declared.hash.object_id.ObjectId.{ObjectId}
-use Rattle.gixobj_commit.proofs.EntireCommits.{message_last}
+use Rattle.gixobj_commit.proofs.EntireCommits.{lines_end_with_message}
 use Rattle.gixobj_commit.specs.Commit.{CommitLines, DecodesToCommit, encoding_lines, lines_of_commit}
 use Rattle.gixobj_line.specs.Lines.{LineView, MayFold, author_line, committer_line, encoding_line, header_line, message_line, parent_line, tree_line}
 use Rattle.gixobj_line.specs.declared.lines.State.{State}
 use Rattle.gixobj_line.specs.declared.lines.State.TheVariants as state
 use Rattle.gixobj_ref_iter.proofs.CommitLanguage as language
-use Rattle.gixobj_ref_iter.proofs.CommitRuns.{one_run}
-use Rattle.gixobj_ref_iter.proofs.CommitTokens.{no_token_of_nothing, one_token}
+use Rattle.gixobj_ref_iter.proofs.CommitRuns.{token_run_unique}
+use Rattle.gixobj_ref_iter.proofs.CommitTokens.{no_commit_token_of_nil, commit_token_unique}
 use Rattle.gixobj_ref_iter.specs.CommitRuns.{YieldsCommitTokens}
 use Rattle.gixobj_ref_iter.specs.CommitTokens.{CommitTokenView, HasCommitToken, IsTokenOfLine, author_token, commit_token_view, committer_token, message_token, yields_author, yields_committer, yields_message, yields_tree, tree_token}
 use Rattle.gixobj_ref_iter.specs.Readers.{AreTokensOfCommit, EndsInMessage}
@@ -124,10 +124,10 @@ is_message message token (yields_message _) = tt
 
 -- ---- the run of an iterator at the start of a commit's encoding
 
-pub from_start : (kind : Kind) (content : List ℕ) (reader : CommitRefIter) (tokens : List CommitTokenView) → IsAtStartOfCommit kind content reader
+pub yields_tokens_from_start : (kind : Kind) (content : List ℕ) (reader : CommitRefIter) (tokens : List CommitTokenView) → IsAtStartOfCommit kind content reader
     → YieldsCommitTokens kind state.Tree content tokens complete
     → YieldsCommitTokens (commit_reader_state reader).kind (commit_reader_state reader).state (commit_reader_state reader).bytes tokens complete
-from_start kind content reader tokens start yields_decoded =
+yields_tokens_from_start kind content reader tokens start yields_decoded =
     subst (λ (it : ReaderState Kind State). YieldsCommitTokens it.kind it.state it.bytes tokens complete) (sym start) yields_decoded
 
 begins_token : (kind : Kind) (before : State) (input : List ℕ) (line : LineView) (lines : List LineView) (tokens : List CommitTokenView)
@@ -140,18 +140,18 @@ module _ (kind : Kind) (content : List ℕ) (commit : CommitLines) (reader : Com
     (start : IsAtStartOfCommit kind content reader) where
   run : (tokens : List CommitTokenView) × YieldsCommitTokens kind state.Tree content tokens complete × AreTokensOfCommit commit tokens
       × EndsInMessage tokens
-  run = language.yields_decoded kind content commit is
+  run = language.yields_tokens_of_commit kind content commit is
 
   yields_decoded : YieldsCommitTokens (commit_reader_state reader).kind (commit_reader_state reader).state
       (commit_reader_state reader).bytes run.0 complete
-  yields_decoded = from_start kind content reader run.0 start run.1
+  yields_decoded = yields_tokens_from_start kind content reader run.0 start run.1
 
   line_found : (Is : CommitTokenView → Type 0) (token : CommitTokenView) → EndsSearch Is reader (first_token token) → (line : LineView) × IsLineOf commit line
       × IsTokenOfLine line token
   line_found Is token (before, following, here, rest, (passed, passes, none), has) =
       let has_token = HasCommitToken (commit_reader_state reader).kind in
-      let one = one_token (commit_reader_state reader).kind in
-      let some = no_token_of_nothing (commit_reader_state reader).kind in
+      let one = commit_token_unique (commit_reader_state reader).kind in
+      let some = no_commit_token_of_nil (commit_reader_state reader).kind in
       let at = after_passed has_token one some (commit_reader_state reader).state before (commit_reader_state reader).bytes here passed run.0 complete
       passes
       yields_decoded in
@@ -164,7 +164,7 @@ module _ (kind : Kind) (content : List ℕ) (commit : CommitLines) (reader : Com
       → lines_of_commit commit ≡ leading ++ line ∷ more → ((token : CommitTokenView) → IsTokenOfLine line token → Is token)
       → EndsSearch Is reader (no_token ending) → ⊥
   lacks_none Is ending leading line more joined is_such (tokens, lacks, none) =
-      let same = (one_run (commit_reader_state reader).kind (commit_reader_state reader).state (commit_reader_state reader).bytes tokens run.0 ending
+      let same = (token_run_unique (commit_reader_state reader).kind (commit_reader_state reader).state (commit_reader_state reader).bytes tokens run.0 ending
       complete
       lacks yields_decoded).0 in
       let here = token_here leading line more run.0 (subst (λ (it : List LineView). AllZip IsTokenOfLine it run.0) joined run.2) in
@@ -194,11 +194,11 @@ module _ (kind : Kind) (content : List ℕ) (commit : CommitLines) (reader : Com
   pub its_message : (message : List ℕ) → FindsMessage reader message → message ≡ commit.message
   its_message message (inl finds) = let it = line_found IsMessageToken (message_token message) finds in message_of commit it.0 message it.1 it.2
   its_message message (inr (lacks, empty)) =
-      absurd (lacks_none IsMessageToken complete (message_last commit).0 (message_line commit.message) [] (message_last commit).1
+      absurd (lacks_none IsMessageToken complete (lines_end_with_message commit).0 (message_line commit.message) [] (lines_end_with_message commit).1
       (is_message commit.message) lacks)
 
   pub has_message : ¬ EndsSearch IsMessageToken reader (optional_error Malformed)
-  has_message = λ lacks. lacks_none IsMessageToken broken (message_last commit).0 (message_line commit.message) [] (message_last commit).1
+  has_message = λ lacks. lacks_none IsMessageToken broken (lines_end_with_message commit).0 (message_line commit.message) [] (lines_end_with_message commit).1
       (is_message commit.message) lacks
 
   -- ---- the tree
@@ -212,7 +212,7 @@ module _ (kind : Kind) (content : List ℕ) (commit : CommitLines) (reader : Com
       × (answered_commit_id answer ≡ Ok id) × DecodesToId commit.tree id
   its_answer (Some (Ok token)) after gives =
       let kind' = (commit_reader_state reader).kind in
-      let first = after_first (HasCommitToken kind') (one_token kind') (no_token_of_nothing kind') (commit_reader_state reader).state
+      let first = after_first (HasCommitToken kind') (commit_token_unique kind') (no_commit_token_of_nil kind') (commit_reader_state reader).state
       (commit_reader_state after).state (commit_reader_state reader).bytes (commit_reader_state after).bytes
       (commit_token_view token) run.0 complete gives.0 yields_decoded in
       let tree = tree_of commit _ (commit_token_view token) first.others
@@ -221,7 +221,7 @@ module _ (kind : Kind) (content : List ℕ) (commit : CommitLines) (reader : Com
   its_answer (Some (Err Malformed)) after gives = absurd (gives.1 _ _ _ tree_begins.3)
   its_answer (Some (Err OutOfMemory)) after gives = absurd (subst (λ (it : ReaderState Kind State). MayFold it.state it.bytes) start gives.1.0)
   its_answer None after gives =
-      absurd (no_token_of_nothing (commit_reader_state reader).kind (commit_reader_state reader).state
+      absurd (no_commit_token_of_nil (commit_reader_state reader).kind (commit_reader_state reader).state
       (commit_reader_state reader).bytes tree_begins.0 _ _
       gives.0 tree_begins.3)
 

@@ -17,10 +17,10 @@ use Rattle.gixobj_commit.specs.Commit.{CommitLines, DecodesToCommit, encoding_li
 use Rattle.gixobj_line.specs.Lines.{HasLine, LineView, MayFold, author_comes, committer_comes, encoding_comes, first_header_comes, first_message_comes, header_comes, header_line, message_comes, message_line, parent_comes, parent_line, tree_comes}
 use Rattle.gixobj_line.specs.declared.lines.State.{State}
 use Rattle.gixobj_line.specs.declared.lines.State.TheVariants as state
-use Rattle.gixobj_ref_iter.proofs.CommitsFound.{from_start}
+use Rattle.gixobj_ref_iter.proofs.CommitsFound.{yields_tokens_from_start}
 use Rattle.gixobj_ref_iter.proofs.CommitLanguage as language
-use Rattle.gixobj_ref_iter.proofs.CommitRuns.{one_run}
-use Rattle.gixobj_ref_iter.proofs.CommitTokens.{no_token_of_nothing, one_token}
+use Rattle.gixobj_ref_iter.proofs.CommitRuns.{token_run_unique}
+use Rattle.gixobj_ref_iter.proofs.CommitTokens.{no_commit_token_of_nil, commit_token_unique}
 use Rattle.gixobj_ref_iter.specs.CommitRuns.{YieldsCommitTokens}
 use Rattle.gixobj_ref_iter.specs.CommitTokens.{HasCommitToken, IsTokenOfLine, CommitTokenView, author_token, committer_token, encoding_token, header_token, message_token, parent_token, yields_author, yields_committer, yields_encoding, yields_header, yields_message, yields_parent, yields_tree, tree_token}
 use Rattle.gixobj_ref_iter.specs.Readers.{AreTokensOfCommit}
@@ -110,9 +110,10 @@ module _ (it : ParentIds) (tokens : List CommitTokenView)
   some_passed : (id : ObjectId) (after : ParentIds) → NextParent it (Some id) after → Given id tokens after
   some_passed id after (before, input, token, (passed, passes, none), has, is, same_kind) =
       let kind = (commit_reader_state (parents_reader it)).kind in
-      let at = after_passed (HasCommitToken kind) (one_token kind) (no_token_of_nothing kind) (commit_reader_state (parents_reader it)).state before
+      let at = after_passed (HasCommitToken kind) (commit_token_unique kind) (no_commit_token_of_nil kind)
+          (commit_reader_state (parents_reader it)).state before
       (commit_reader_state (parents_reader it)).bytes input passed tokens complete passes seen in
-      let one = after_first (HasCommitToken kind) (one_token kind) (no_token_of_nothing kind) before _ input _ token at.others complete has
+      let one = after_first (HasCommitToken kind) (commit_token_unique kind) (no_commit_token_of_nil kind) before _ input _ token at.others complete has
       at.yielded in
       record {
         others = one.others;
@@ -124,11 +125,12 @@ module _ (it : ParentIds) (tokens : List CommitTokenView)
 
   none_passed : (after : ParentIds) → NextParent it None after → parents_of tokens ≡ []
   none_passed after (Malformed, (ending, (others, run, none)), ended, same_kind) =
-      let same = (one_run _ _ _ others tokens ending complete run seen).0 in
+      let same = (token_run_unique _ _ _ others tokens ending complete run seen).0 in
       no_parents tokens (subst (HasNone IsParentToken) same none)
   none_passed after (OutOfMemory, (before, input, (passed, passes, none), rejected), ended, same_kind) =
       let kind = (commit_reader_state (parents_reader it)).kind in
-      let at = after_passed (HasCommitToken kind) (one_token kind) (no_token_of_nothing kind) (commit_reader_state (parents_reader it)).state before
+      let at = after_passed (HasCommitToken kind) (commit_token_unique kind) (no_commit_token_of_nil kind)
+          (commit_reader_state (parents_reader it)).state before
       (commit_reader_state (parents_reader it)).bytes input passed tokens complete passes seen in
       ap parents_of at.joined ∙ after_others passed at.others none ∙ no_parents at.others
       (none_after _ before input at.others complete (after_folded before input rejected.0) at.yielded)
@@ -186,10 +188,10 @@ parents_spelled commit tokens are =
     (hexes_in commit.parents _ (none_in_encoding commit.encoding commit.extra_headers commit.message))
     (all_yielded (lines_of_commit commit) tokens are)
 
-pub its_parents : (kind : Kind) (content : List ℕ) (commit : CommitLines) (it : ParentIds) → DecodesToCommit kind content commit
+pub yields_parents_of_commit : (kind : Kind) (content : List ℕ) (commit : CommitLines) (it : ParentIds) → DecodesToCommit kind content commit
     → IsAtStartOfCommit kind content (parents_reader it)
     → (ids : List ObjectId) × AllZip DecodesToId commit.parents ids × YieldsList NextParent (λ id. id) it ids
-its_parents kind content commit it is start =
-    let run = language.yields_decoded kind content commit is in
-    let seen = from_start kind content (parents_reader it) run.0 start run.1 in
+yields_parents_of_commit kind content commit it is start =
+    let run = language.yields_tokens_of_commit kind content commit is in
+    let seen = yields_tokens_from_start kind content (parents_reader it) run.0 start run.1 in
     (parents_of run.0, parents_spelled commit run.0 run.2, record { runs = always (parents_of run.0) it run.0 seen refl })

@@ -18,18 +18,18 @@ use Rattle.gixobj_commit.specs.ExtraHeaders.{signature_field}
 use Rattle.gixobj_ref_iter.specs.Extracting.{IsNamedLine, IsCommitSignatureError}
 
 -- the bytes of a line are a prefix of the input
-pub line_prefix : (kind : Kind) (before : State) (input : List ℕ) (line : LineView) (after : State) (rest : List ℕ)
+pub token_bytes_are_prefix : (kind : Kind) (before : State) (input : List ℕ) (line : LineView) (after : State) (rest : List ℕ)
     → HasLine kind before input line after rest
     → (one : List ℕ) × (input ≡ one ++ rest)
-line_prefix kind before input line after rest (tree_comes _ hex _ has) = (encode_field (codes "tree") hex, has.0.joined)
-line_prefix kind before input line after rest (parent_comes _ hex _ has) = (encode_field (codes "parent") hex, has.0.joined)
-line_prefix kind before input line after rest (author_comes _ content _ has) = (encode_field (codes "author") content, has.0.joined)
-line_prefix kind before input line after rest (committer_comes _ content _ has) = (encode_field (codes "committer") content, has.0.joined)
-line_prefix kind before input line after rest (encoding_comes _ encoding _ has) = (encode_field (codes "encoding") encoding, has.joined)
-line_prefix kind before input line after rest (first_header_comes _ header _ has other) = (has.encoded, has.joined)
-line_prefix kind before input line after rest (header_comes _ header _ has) = (has.encoded, has.joined)
-line_prefix kind before input line after rest (first_message_comes _ message is) = (10 ∷ message, is ∙ sym (append-nil (10 ∷ message)))
-line_prefix kind before input line after rest (message_comes _ message is) = (10 ∷ message, is ∙ sym (append-nil (10 ∷ message)))
+token_bytes_are_prefix kind before input line after rest (tree_comes _ hex _ has) = (encode_field (codes "tree") hex, has.0.joined)
+token_bytes_are_prefix kind before input line after rest (parent_comes _ hex _ has) = (encode_field (codes "parent") hex, has.0.joined)
+token_bytes_are_prefix kind before input line after rest (author_comes _ content _ has) = (encode_field (codes "author") content, has.0.joined)
+token_bytes_are_prefix kind before input line after rest (committer_comes _ content _ has) = (encode_field (codes "committer") content, has.0.joined)
+token_bytes_are_prefix kind before input line after rest (encoding_comes _ encoding _ has) = (encode_field (codes "encoding") encoding, has.joined)
+token_bytes_are_prefix kind before input line after rest (first_header_comes _ header _ has other) = (has.encoded, has.joined)
+token_bytes_are_prefix kind before input line after rest (header_comes _ header _ has) = (has.encoded, has.joined)
+token_bytes_are_prefix kind before input line after rest (first_message_comes _ message is) = (10 ∷ message, is ∙ sym (append-nil (10 ∷ message)))
+token_bytes_are_prefix kind before input line after rest (message_comes _ message is) = (10 ∷ message, is ∙ sym (append-nil (10 ∷ message)))
 
 -- the position advances with each line
 prefix_of : (one prefix rest all : List ℕ) (n : ℕ) → all ≡ (prefix ++ one) ++ rest → length (prefix ++ one) ≡ n → all ≡ take n all ++ rest
@@ -37,10 +37,10 @@ prefix_of one prefix rest all n is as_long =
     is ∙ ap (λ (xs : List ℕ). xs ++ rest)
     (sym (ap (take n) is ∙ ap (λ m. take m ((prefix ++ one) ++ rest)) (sym as_long) ∙ take-append_seam (prefix ++ one) rest))
 
-pub place_on : (content rest one after : List ℕ) (place : ℕ) → place + length rest ≡ length content → content ≡ take place content ++ rest
+pub offset_advances : (content rest one after : List ℕ) (place : ℕ) → place + length rest ≡ length content → content ≡ take place content ++ rest
     → rest ≡ one ++ after
     → content ≡ take (place + (length rest - length after)) content ++ after
-place_on content rest one after place placed joined is =
+offset_advances content rest one after place placed joined is =
     let longer : length rest ≡ length one + length after = ap length is ∙ length-append one after in
     let taken : length (take place content) ≡ place = length-take place content ∙ omega arith in
     prefix_of one (take place content) after content (place + (length rest - length after))
@@ -72,10 +72,10 @@ module _ (kind : Kind) (content : List ℕ) (here : State) (rest : List ℕ)
   rejected OutOfMemory some wants = (here, rest, passes, wants)
 
 -- whether bytes remain, by their length
-pub some_of : (xs : List ℕ) → (length xs == 0) ≡ false → xs ≢ []
-some_of [] is = cc is
-some_of (x ∷ xs) is = λ none. cc none
+pub not_nil_of_test : (xs : List ℕ) → (length xs == 0) ≡ false → xs ≢ []
+not_nil_of_test [] is = cc is
+not_nil_of_test (x ∷ xs) is = λ none. cc none
 
-pub none_of : (xs : List ℕ) → (length xs == 0) ≡ true → xs ≡ []
-none_of [] is = refl
-none_of (x ∷ xs) is = absurd (let e : length (x ∷ xs) ≡ 0 = eqb-true (length (x ∷ xs)) 0 is in omega (arith, e))
+pub nil_of_test : (xs : List ℕ) → (length xs == 0) ≡ true → xs ≡ []
+nil_of_test [] is = refl
+nil_of_test (x ∷ xs) is = absurd (let e : length (x ∷ xs) ≡ 0 = eqb-true (length (x ∷ xs)) 0 is in omega (arith, e))

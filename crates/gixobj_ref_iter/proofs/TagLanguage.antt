@@ -3,19 +3,19 @@
 use Rattle.std.proofs.Common.{◌≡◌, ◌≢◌, ℕ, List, [], ◌∷◌, ◌++◌, Option, Some, None, ap, refl, subst, sym}
 use Rattle.std.specs.Prelude.{codes}
 use Rattle.gixobj_actor.specs.Actor.{ActorView, IsActorLineOf}
-use Rattle.gixobj_fields.proofs.HeaderFields.{of_an_id}
+use Rattle.gixobj_fields.proofs.HeaderFields.{is_id_hex_of_decoded}
 use Rattle.gixobj_fields.specs.HeaderReading.{HasId}
 use Rattle.gixobj_fields.specs.HeaderFormat.{HasField}
 use Rattle.gixobj_fields.specs.Runs.{complete, yields_end, yields_piece}
-use Rattle.gixobj_hash.proofs.HexIds.{spelled}
+use Rattle.gixobj_hash.proofs.HexIds.{decoded_id_decodes}
 use Rattle.gixobj_hash.specs.Hash.{DecodesToId}
 use Rattle.gixobj_hash.specs.Hash.Hex.{decoded_id}
 use Rattle.gixobj_hash.specs.Kind.{kind_name}
 use Rattle.gixobj_hash.specs.declared.hash.kind.Kind as hash
 use Rattle.gixobj_hash.specs.declared.hash.object_id.ObjectId.{ObjectId}
 use Rattle.gixobj_hash.specs.declared.kind.Kind.{Kind}
-use Rattle.gixobj_tag.proofs.Bodies.{one_body}
-use Rattle.gixobj_tag.proofs.EntireTags.{Reads, parts_append, take_apart}
+use Rattle.gixobj_tag.proofs.Bodies.{body_unique}
+use Rattle.gixobj_tag.proofs.EntireTags.{Reads, decodes_tag_of_parts, parts_of_decoded_tag}
 use Rattle.gixobj_tag.specs.LineReading.{HasName, HasTagger}
 use Rattle.gixobj_ref_iter.specs.TagReaders.{AreTokensOfTag, IsOptionalToken, IsAfterName, IsTokenOfTagger, misses_body, misses_nothing, misses_tagger_and_body, yields_no_tagger, yields_tagger}
 use Rattle.gixobj_tag.specs.TagFormat.{IsBody, DecodesToTag, TagLines, newlines_alone}
@@ -35,7 +35,7 @@ record TailYielded (kind : hash.Kind) (before : State) (input : List ℕ) (all :
 -- ---- the tokens of a body
 
 empty_body : (message : List ℕ) (signature : Option (List ℕ)) → IsBody [] message signature → body_token message signature ≡ body_token [] None
-empty_body message signature is = let same = one_body [] message [] signature None is (newlines_alone [] refl) in cc (same.0, same.1)
+empty_body message signature is = let same = body_unique [] message [] signature None is (newlines_alone [] refl) in cc (same.0, same.1)
 
 body_yielded : (kind : hash.Kind) (body message : List ℕ) (signature : Option (List ℕ)) → IsBody body message signature
     → TailYielded kind state.Body body (body_token message signature ∷ [])
@@ -127,11 +127,11 @@ tail_yielded kind input (Some line) body message signature (field, (name, email,
 
 -- ---- the law: a tag yields its tokens
 
-pub yields_decoded : (kind : hash.Kind) (content : List ℕ) (tag : TagLines) → DecodesToTag kind content tag → (tokens : List TagTokenView)
+pub yields_tokens_of_tag : (kind : hash.Kind) (content : List ℕ) (tag : TagLines) → DecodesToTag kind content tag → (tokens : List TagTokenView)
     × YieldsTagTokens kind state.Target content tokens complete × AreTokensOfTag tag tokens × IsAfterName tokens
-yields_decoded kind content tag is =
-    let reads = take_apart kind content tag is in
-    let spells = spelled tag.target (of_an_id kind tag.target reads.target.1) in
+yields_tokens_of_tag kind content tag is =
+    let reads = parts_of_decoded_tag kind content tag is in
+    let spells = decoded_id_decodes tag.target (is_id_hex_of_decoded kind tag.target reads.target.1) in
     let id = decoded_id tag.target in
     let it = tail_yielded kind reads.after_name tag.tagger reads.body tag.message tag.signature reads.tagger reads.parted in
     let tail = it.tail in
@@ -255,7 +255,7 @@ found kind content hex after following name rest id of tokens has spells field n
     } in
     let joined = ap (λ (it : List TagTokenView). target_token id ∷ kind_token of ∷ name_token name ∷ it) tail.joined in (
       tag,
-      parts_append kind content tag reads,
+      decodes_tag_of_parts kind content tag reads,
       (tail.missing, tail.may, record { id = id; tagger = tail.token; hex_of_id = spells; yielded = tail.yields; joined = joined }),
     )
 
@@ -275,9 +275,9 @@ read_kind kind content hex input id tokens has spells (yields_end _) came = absu
 read_kind kind content hex input id tokens has spells (yields_piece _ _ _ rest _ others _ (kind_comes _ _ of field) yields_decoded) came =
     read_name kind content hex input rest id of others has spells field yields_decoded came
 
-pub read : (kind : hash.Kind) (content : List ℕ) (tokens : List TagTokenView) → YieldsTagTokens kind state.Target content tokens complete
+pub tag_of_tokens_exists : (kind : hash.Kind) (content : List ℕ) (tokens : List TagTokenView) → YieldsTagTokens kind state.Target content tokens complete
     → IsAfterName tokens
     → (tag : TagLines) × DecodesToTag kind content tag × AreTokensOfTag tag tokens
-read kind content tokens (yields_end _) came = absurd came
-read kind content tokens (yields_piece _ _ _ rest _ others _ (target_comes _ hex _ id has spells) yields_decoded) came =
+tag_of_tokens_exists kind content tokens (yields_end _) came = absurd came
+tag_of_tokens_exists kind content tokens (yields_piece _ _ _ rest _ others _ (target_comes _ hex _ id has spells) yields_decoded) came =
     read_kind kind content hex rest id others has spells yields_decoded came

@@ -8,7 +8,7 @@ use Rattle.gixobj_fields.specs.Runs.{Ending, complete}
 use Rattle.gixobj_hash.specs.declared.decode.Error.{Error}
 use Rattle.gixobj_hash.specs.declared.decode.Error.TheVariants.{Malformed, OutOfMemory}
 use Rattle.gixobj_hash.specs.declared.hash.kind.Kind.{Kind}
-use Rattle.gixobj_ref_iter.proofs.TagTokens.{no_longer, no_token_of_nothing, one_token, bytes_of_token}
+use Rattle.gixobj_ref_iter.proofs.TagTokens.{remaining_len_le, no_tag_token_of_nil, tag_token_unique, tag_token_bytes_exist}
 use Rattle.gixobj_ref_iter.specs.TagTokens.{HasTagToken, DecodesToTagToken, TagTokenView, tag_token_view}
 use Rattle.gixobj_ref_iter.specs.TagTokenSteps.{DecodesToTagTokens, NextTagToken, IsTaggerToken, YieldsTagTokens, NoTokenAllocates, tag_reader_state}
 use Rattle.gixobj_ref_iter.specs.declared.tag.State.{State}
@@ -17,13 +17,13 @@ use Rattle.gixobj_ref_iter.specs.declared.tag.Token.{Token}
 use Rattle.gixobj_ref_iter.specs.declared.tag.Token.TheVariants as token
 use Rattle.gixobj_actor.specs.declared.actor.SignatureRef.{SignatureRef}
 
-pub one_run : (kind : Kind) (before : State) (input : List ℕ) (a b : List TagTokenView) (e f : Ending) → YieldsTagTokens kind before input a e
+pub token_run_unique : (kind : Kind) (before : State) (input : List ℕ) (a b : List TagTokenView) (e f : Ending) → YieldsTagTokens kind before input a e
     → YieldsTagTokens kind before input b f → (a ≡ b) × (e ≡ f)
-one_run kind = runs.one_run (HasTagToken kind) (one_token kind) (no_token_of_nothing kind)
+token_run_unique kind = runs.one_run (HasTagToken kind) (tag_token_unique kind) (no_tag_token_of_nil kind)
 
-pub encodings_of_run : (kind : Kind) (before : State) (input : List ℕ) (tokens : List TagTokenView) → YieldsTagTokens kind before input tokens complete
+pub decodes_tokens_of_run : (kind : Kind) (before : State) (input : List ℕ) (tokens : List TagTokenView) → YieldsTagTokens kind before input tokens complete
     → DecodesToTagTokens kind input tokens
-encodings_of_run kind = runs.run_encodings (HasTagToken kind) (DecodesToTagToken kind) (bytes_of_token kind)
+decodes_tokens_of_run kind = runs.run_encodings (HasTagToken kind) (DecodesToTagToken kind) (tag_token_bytes_exist kind)
 
 -- ---- searches
 
@@ -33,20 +33,20 @@ Every token = ⊤
 
 -- the second iterator is the first one after tokens without the property
 abbrev pub Searches : (TagTokenView → Type 0) → TagRefIter → TagRefIter → Type 0
-Searches = readers.SearchInvariant tag_reader_state HasTagToken NoTokenAllocates tag_token_view Every no_longer
+Searches = readers.SearchInvariant tag_reader_state HasTagToken NoTokenAllocates tag_token_view Every remaining_len_le
 
-pub searches_start : (Is : TagTokenView → Type 0) (reader : TagRefIter) → Searches Is reader reader
-searches_start = readers.search_start tag_reader_state HasTagToken NoTokenAllocates tag_token_view Every no_longer
+pub searches_nil : (Is : TagTokenView → Type 0) (reader : TagRefIter) → Searches Is reader reader
+searches_nil = readers.search_start tag_reader_state HasTagToken NoTokenAllocates tag_token_view Every remaining_len_le
 
-pub searches_on : (Is : TagTokenView → Type 0) (reader at after : TagRefIter) (item : Result Token Error) (token : Token) → Searches Is reader at
+pub searches_snoc : (Is : TagTokenView → Type 0) (reader at after : TagRefIter) (item : Result Token Error) (token : Token) → Searches Is reader at
     → NextTagToken at (Some item) after → item ≡ Ok token
     → ¬ Is (tag_token_view token) → Searches Is reader after
-searches_on = readers.search_on tag_reader_state HasTagToken NoTokenAllocates tag_token_view Every no_longer
+searches_snoc = readers.search_on tag_reader_state HasTagToken NoTokenAllocates tag_token_view Every remaining_len_le
 
-pub searches_first : (Is : TagTokenView → Type 0) (reader at after : TagRefIter) (item : Result Token Error) (token : Token) → Searches Is reader at
+pub finds_first_at_token : (Is : TagTokenView → Type 0) (reader at after : TagRefIter) (item : Result Token Error) (token : Token) → Searches Is reader at
     → NextTagToken at (Some item) after → item ≡ Ok token
     → FindsFirst tag_reader_state HasTagToken Is reader (tag_token_view token)
-searches_first = readers.search_first tag_reader_state HasTagToken NoTokenAllocates tag_token_view Every no_longer
+finds_first_at_token = readers.search_first tag_reader_state HasTagToken NoTokenAllocates tag_token_view Every remaining_len_le
 
 -- no token allocates
 malformed : (Is : TagTokenView → Type 0) (reader : TagRefIter) (error : Error) → FindsNone tag_reader_state HasTagToken NoTokenAllocates Is reader error
@@ -54,22 +54,23 @@ malformed : (Is : TagTokenView → Type 0) (reader : TagRefIter) (error : Error)
 malformed Is reader Malformed none = (refl, none)
 malformed Is reader OutOfMemory (before, input, passes, wants) = absurd wants
 
-pub searches_error : (Is : TagTokenView → Type 0) (reader at after : TagRefIter) (item : Result Token Error) (passed error : Error) → passed ≡ error
+pub yields_none_at_error : (Is : TagTokenView → Type 0) (reader at after : TagRefIter) (item : Result Token Error) (passed error : Error) → passed ≡ error
     → Searches Is reader at → NextTagToken at (Some item) after → item ≡ Err error
     → (passed ≡ Malformed) × ((ending : Ending) × YieldsNone tag_reader_state HasTagToken Is reader ending)
-searches_error Is reader at after item passed error same searches gives err =
+yields_none_at_error Is reader at after item passed error same searches gives err =
     malformed Is reader passed
-    (readers.search_errors tag_reader_state HasTagToken NoTokenAllocates tag_token_view Every no_longer Is reader at after item passed error same searches
+    (readers.search_errors tag_reader_state HasTagToken NoTokenAllocates tag_token_view Every remaining_len_le Is reader at after item passed error same
+        searches
     gives err)
 
-pub searches_end : (Is : TagTokenView → Type 0) (reader at after : TagRefIter) → Searches Is reader at → NextTagToken at None after
+pub yields_none_at_end : (Is : TagTokenView → Type 0) (reader at after : TagRefIter) → Searches Is reader at → NextTagToken at None after
     → YieldsNone tag_reader_state HasTagToken Is reader complete
-searches_end = readers.search_ends tag_reader_state HasTagToken NoTokenAllocates tag_token_view Every no_longer
+yields_none_at_end = readers.search_ends tag_reader_state HasTagToken NoTokenAllocates tag_token_view Every remaining_len_le
 
-pub not_tagger : (it : Token) → ((tagger : Option SignatureRef) → it ≡ token.Tagger tagger → ⊥) → ¬ IsTaggerToken (tag_token_view it)
-not_tagger (token.Target id) other = λ is. is
-not_tagger (token.TargetKind kind) other = λ is. is
-not_tagger (token.Name name) other = λ is. is
-not_tagger (token.Tagger (Some actor)) other = λ is. other (Some actor) refl
-not_tagger (token.Tagger None) other = λ is. other None refl
-not_tagger (token.Body message signature) other = λ is. is
+pub is_not_tagger_token : (it : Token) → ((tagger : Option SignatureRef) → it ≡ token.Tagger tagger → ⊥) → ¬ IsTaggerToken (tag_token_view it)
+is_not_tagger_token (token.Target id) other = λ is. is
+is_not_tagger_token (token.TargetKind kind) other = λ is. is
+is_not_tagger_token (token.Name name) other = λ is. is
+is_not_tagger_token (token.Tagger (Some actor)) other = λ is. other (Some actor) refl
+is_not_tagger_token (token.Tagger None) other = λ is. other None refl
+is_not_tagger_token (token.Body message signature) other = λ is. is

@@ -5,21 +5,21 @@ use Rattle.std.proofs.lemmas.List.{append-nil}
 use Rattle.std.specs.Prelude.{codes}
 use Rattle.bstr.specs.BStr.{bstr_bytes}
 use Rattle.bstr.specs.declared.bstr.BStr.{BStr}
-use Rattle.gixobj_actor.proofs.ActorLines.{one_view}
+use Rattle.gixobj_actor.proofs.ActorLines.{actor_view_unique}
 use Rattle.gixobj_actor.specs.Actor.{IsActorLineOf, actor_view}
 use Rattle.gixobj_actor.specs.declared.actor.SignatureRef.{SignatureRef}
-use Rattle.gixobj_fields.proofs.HeaderFields.{field_alone, one_field}
+use Rattle.gixobj_fields.proofs.HeaderFields.{has_field_of_encoded, field_unique}
 use Rattle.gixobj_fields.specs.HeaderReading.{HasId}
 use Rattle.gixobj_fields.specs.HeaderFormat.{HasField, encode_field}
 use Rattle.gixobj_fields.specs.Runs.{HasNoPiece}
-use Rattle.gixobj_hash.proofs.Headers.{one_kind}
-use Rattle.gixobj_hash.proofs.HexIds.{one_id}
+use Rattle.gixobj_hash.proofs.Headers.{kind_keyword_injective}
+use Rattle.gixobj_hash.proofs.HexIds.{decoded_id_unique}
 use Rattle.gixobj_hash.specs.Hash.{DecodesToId}
 use Rattle.gixobj_hash.specs.Kind.{kind_name}
 use Rattle.gixobj_hash.specs.declared.hash.kind.Kind as hash
 use Rattle.gixobj_hash.specs.declared.hash.object_id.ObjectId.{ObjectId}
-use Rattle.gixobj_tag.proofs.Bodies.{one_body}
-use Rattle.gixobj_tag.proofs.Lines.{begins_field}
+use Rattle.gixobj_tag.proofs.Bodies.{body_unique}
+use Rattle.gixobj_tag.proofs.Lines.{no_tagger_and_begins_field}
 use Rattle.gixobj_tag.specs.LineReading.{HasNoTagger, HasTagger}
 use Rattle.gixobj_tag.specs.LineViews.{IsParsedTagger, line_if_some}
 use Rattle.gixobj_ref_iter.specs.TagReaders.{IsTokenOfTagger, yields_no_tagger, yields_tagger}
@@ -30,9 +30,9 @@ use Rattle.gixobj_ref_iter.specs.declared.tag.State.TheVariants as state
 
 -- ---- the tagger
 
-pub yielded_actor : (tagger : Option (BStr × SignatureRef)) (line : BStr) (actor : SignatureRef) → IsParsedTagger tagger → tagger ≡ Some (line, actor)
+pub is_token_of_tagger : (tagger : Option (BStr × SignatureRef)) (line : BStr) (actor : SignatureRef) → IsParsedTagger tagger → tagger ≡ Some (line, actor)
     → IsTokenOfTagger (line_if_some tagger) (tagger_token (actor_view actor))
-yielded_actor tagger line actor parsed same =
+is_token_of_tagger tagger line actor parsed same =
     let it : IsParsedTagger (Some (line, actor)) = subst IsParsedTagger same parsed in
     rw same (yields_tagger (bstr_bytes line) (actor_view actor) it.0 it.1)
 
@@ -42,10 +42,10 @@ yielded_comes kind input rest (Some line) token filled (field, _) (yields_tagger
 yielded_comes kind input rest None token filled (lacks, same) yields_no_tagger =
     rw same (no_tagger_comes input filled lacks)
 
-pub tagger_yielded : (kind : hash.Kind) (before : State) (input rest : List ℕ) (line : Option (List ℕ)) (token : TagTokenView) → before ≡ state.Tagger
+pub has_tagger_token : (kind : hash.Kind) (before : State) (input rest : List ℕ) (line : Option (List ℕ)) (token : TagTokenView) → before ≡ state.Tagger
     → input ≢ [] → HasTagger input line rest → IsTokenOfTagger line token
     → HasTagToken kind before input token state.Body rest
-tagger_yielded kind before input rest line token same filled has yields = rw same (yielded_comes kind input rest line token filled has yields)
+has_tagger_token kind before input rest line token same filled has yields = rw same (yielded_comes kind input rest line token filled has yields)
 
 -- ---- no token
 
@@ -55,9 +55,9 @@ none_yielded kind input token after rest none (tagger_comes _ line _ actor bytes
     none (Some line) rest (field, (actor.name, actor.email, actor.time, bytes, is))
 none_yielded kind input token after rest none (no_tagger_comes _ filled lacks) = none None input (lacks, refl)
 
-pub no_tagger_token_comes : (kind : hash.Kind) (before : State) (input : List ℕ) → before ≡ state.Tagger → HasNoTagger input
+pub has_no_tagger_token : (kind : hash.Kind) (before : State) (input : List ℕ) → before ≡ state.Tagger → HasNoTagger input
     → HasNoPiece (HasTagToken kind) before input
-no_tagger_token_comes kind before input same none token after rest has = none_yielded kind input token after rest none
+has_no_tagger_token kind before input same none token after rest has = none_yielded kind input token after rest none
     (subst (λ (it : State). HasTagToken kind it input token after rest) same has)
 
 -- ---- a token consumes bytes, or at least a state
@@ -67,20 +67,20 @@ field_shortens : (name input value rest : List ℕ) → HasField name input valu
 field_shortens name input value rest field =
     omega (arith, ap length field.joined, length-append (encode_field name value) rest, length-append name (32 ∷ (value ++ 10 ∷ [])))
 
-pub no_longer : (kind : hash.Kind) (before : State) (input : List ℕ) (token : TagTokenView) (after : State) (rest : List ℕ)
+pub remaining_len_le : (kind : hash.Kind) (before : State) (input : List ℕ) (token : TagTokenView) (after : State) (rest : List ℕ)
     → HasTagToken kind before input token after rest → length rest ≤ length input
-no_longer kind before input token after rest (target_comes _ hex _ id has spells) = let less =
+remaining_len_le kind before input token after rest (target_comes _ hex _ id has spells) = let less =
     field_shortens (codes "object") input hex rest has.0 in omega
     (arith, less)
-no_longer kind before input token after rest (kind_comes _ _ of field) = let less =
+remaining_len_le kind before input token after rest (kind_comes _ _ of field) = let less =
     field_shortens (codes "type") input (kind_name of) rest field in omega
     (arith, less)
-no_longer kind before input token after rest (name_comes _ name _ has) = let less = field_shortens (codes "tag") input name rest has.0 in omega
+remaining_len_le kind before input token after rest (name_comes _ name _ has) = let less = field_shortens (codes "tag") input name rest has.0 in omega
     (arith, less)
-no_longer kind before input token after rest (tagger_comes _ line _ actor bytes field is) = let less =
+remaining_len_le kind before input token after rest (tagger_comes _ line _ actor bytes field is) = let less =
     field_shortens (codes "tagger") input line rest field in omega (arith, less)
-no_longer kind before input token after rest (no_tagger_comes _ filled lacks) = omega arith
-no_longer kind before input token after rest (body_comes _ message signature filled is) = omega arith
+remaining_len_le kind before input token after rest (no_tagger_comes _ filled lacks) = omega arith
+remaining_len_le kind before input token after rest (body_comes _ message signature filled is) = omega arith
 
 fewer_states : (kind : hash.Kind) (before : State) (input : List ℕ) (token : TagTokenView) (after : State) (rest : List ℕ)
     → HasTagToken kind before input token after rest → remaining_states after < remaining_states before
@@ -91,79 +91,79 @@ fewer_states kind before input token after rest (tagger_comes _ line _ actor byt
 fewer_states kind before input token after rest (no_tagger_comes _ filled lacks) = omega arith
 fewer_states kind before input token after rest (body_comes _ message signature filled is) = omega arith
 
-pub goes_on : (kind : hash.Kind) (before : State) (input : List ℕ) (token : TagTokenView) (after : State) (rest : List ℕ)
+pub remaining_measure_lt : (kind : hash.Kind) (before : State) (input : List ℕ) (token : TagTokenView) (after : State) (rest : List ℕ)
     → HasTagToken kind before input token after rest
     → length rest + remaining_states after < length input + remaining_states before
-goes_on kind before input token after rest has =
-    omega (arith, no_longer kind before input token after rest has, fewer_states kind before input token after rest has)
+remaining_measure_lt kind before input token after rest has =
+    omega (arith, remaining_len_le kind before input token after rest has, fewer_states kind before input token after rest has)
 
 -- ---- one token
 
-pub no_token_of_nothing : (kind : hash.Kind) (before : State) (input : List ℕ) (token : TagTokenView) (after : State) (rest : List ℕ) → input ≡ []
+pub no_tag_token_of_nil : (kind : hash.Kind) (before : State) (input : List ℕ) (token : TagTokenView) (after : State) (rest : List ℕ) → input ≡ []
     → HasTagToken kind before input token after rest → ⊥
-no_token_of_nothing kind before input token after rest bare (target_comes _ hex _ id has spells) = let less =
+no_tag_token_of_nil kind before input token after rest bare (target_comes _ hex _ id has spells) = let less =
     field_shortens (codes "object") input hex rest has.0 in omega (arith, less, ap length bare)
-no_token_of_nothing kind before input token after rest bare (kind_comes _ _ of field) = let less =
+no_tag_token_of_nil kind before input token after rest bare (kind_comes _ _ of field) = let less =
     field_shortens (codes "type") input (kind_name of) rest field in omega (arith, less, ap length bare)
-no_token_of_nothing kind before input token after rest bare (name_comes _ name _ has) = let less =
+no_tag_token_of_nil kind before input token after rest bare (name_comes _ name _ has) = let less =
     field_shortens (codes "tag") input name rest has.0 in omega
     (arith, less, ap length bare)
-no_token_of_nothing kind before input token after rest bare (tagger_comes _ line _ actor bytes field is) = let less =
+no_tag_token_of_nil kind before input token after rest bare (tagger_comes _ line _ actor bytes field is) = let less =
     field_shortens (codes "tagger") input line rest field in omega (arith, less, ap length bare)
-no_token_of_nothing kind before input token after rest bare (no_tagger_comes _ filled lacks) = filled bare
-no_token_of_nothing kind before input token after rest bare (body_comes _ message signature filled is) = filled bare
+no_tag_token_of_nil kind before input token after rest bare (no_tagger_comes _ filled lacks) = filled bare
+no_tag_token_of_nil kind before input token after rest bare (body_comes _ message signature filled is) = filled bare
 
 one_target : (kind : hash.Kind) (input a x : List ℕ) (i : ObjectId) (b y : List ℕ) (j : ObjectId) → HasId (codes "object") kind input a x
     → DecodesToId a i
     → HasId (codes "object") kind input b y → DecodesToId b j → (i ≡ j) × (x ≡ y)
 one_target kind input a x i b y j has spells has' spells' =
-    let same = one_field (codes "object") input a x b y has.0 has'.0 in
+    let same = field_unique (codes "object") input a x b y has.0 has'.0 in
     let there : DecodesToId b i = subst (λ (it : List ℕ). DecodesToId it i) same.0 spells in
-    (one_id b i there ∙ sym (one_id b j spells'), same.1)
+    (decoded_id_unique b i there ∙ sym (decoded_id_unique b j spells'), same.1)
 
-pub one_token : (kind : hash.Kind) (before : State) (input : List ℕ) (a b : TagTokenView) (s t : State) (x y : List ℕ)
+pub tag_token_unique : (kind : hash.Kind) (before : State) (input : List ℕ) (a b : TagTokenView) (s t : State) (x y : List ℕ)
     → HasTagToken kind before input a s x
     → HasTagToken kind before input b t y → (a ≡ b) × (s ≡ t) × (x ≡ y)
-one_token kind before input a b s t x y (target_comes _ hex _ id has spells) (target_comes _ hex' _ id' has' spells') =
+tag_token_unique kind before input a b s t x y (target_comes _ hex _ id has spells) (target_comes _ hex' _ id' has' spells') =
     let same = one_target kind input hex x id hex' y id' has spells has' spells' in (ap target_token same.0, refl, same.1)
-one_token kind before input a b s t x y (kind_comes _ _ of field) (kind_comes _ _ of' field') =
-    let same = one_field (codes "type") input (kind_name of) x (kind_name of') y field field' in
-    (ap kind_token (one_kind of of' same.0), refl, same.1)
-one_token kind before input a b s t x y (name_comes _ name _ has) (name_comes _ name' _ has') =
-    let same = one_field (codes "tag") input name x name' y has.0 has'.0 in (ap name_token same.0, refl, same.1)
-one_token kind before input a b s t x y (tagger_comes _ line _ actor bytes field is) (tagger_comes _ line' _ actor' bytes' field' is') =
-    let same = one_field (codes "tagger") input line x line' y field field' in
+tag_token_unique kind before input a b s t x y (kind_comes _ _ of field) (kind_comes _ _ of' field') =
+    let same = field_unique (codes "type") input (kind_name of) x (kind_name of') y field field' in
+    (ap kind_token (kind_keyword_injective of of' same.0), refl, same.1)
+tag_token_unique kind before input a b s t x y (name_comes _ name _ has) (name_comes _ name' _ has') =
+    let same = field_unique (codes "tag") input name x name' y has.0 has'.0 in (ap name_token same.0, refl, same.1)
+tag_token_unique kind before input a b s t x y (tagger_comes _ line _ actor bytes field is) (tagger_comes _ line' _ actor' bytes' field' is') =
+    let same = field_unique (codes "tagger") input line x line' y field field' in
     let there = subst (λ (it : List ℕ). IsActorLineOf it actor bytes) same.0 is in
-    (ap tagger_token (one_view line' actor actor' bytes bytes' there is'), refl, same.1)
-one_token kind before input a b s t x y (tagger_comes _ line _ actor bytes field is) (no_tagger_comes _ filled lacks) =
-    absurd (begins_field (codes "tagger") input line x field lacks)
-one_token kind before input a b s t x y (no_tagger_comes _ filled lacks) (tagger_comes _ line _ actor bytes field is) =
-    absurd (begins_field (codes "tagger") input line y field lacks)
-one_token kind before input a b s t x y (no_tagger_comes _ filled lacks) (no_tagger_comes _ _ _) = (refl, refl, refl)
-one_token kind before input a b s t x y (body_comes _ message signature filled is) (body_comes _ message' signature' _ is') =
-    let same = one_body input message message' signature signature' is is' in (cc (same.0, same.1), refl, refl)
+    (ap tagger_token (actor_view_unique line' actor actor' bytes bytes' there is'), refl, same.1)
+tag_token_unique kind before input a b s t x y (tagger_comes _ line _ actor bytes field is) (no_tagger_comes _ filled lacks) =
+    absurd (no_tagger_and_begins_field (codes "tagger") input line x field lacks)
+tag_token_unique kind before input a b s t x y (no_tagger_comes _ filled lacks) (tagger_comes _ line _ actor bytes field is) =
+    absurd (no_tagger_and_begins_field (codes "tagger") input line y field lacks)
+tag_token_unique kind before input a b s t x y (no_tagger_comes _ filled lacks) (no_tagger_comes _ _ _) = (refl, refl, refl)
+tag_token_unique kind before input a b s t x y (body_comes _ message signature filled is) (body_comes _ message' signature' _ is') =
+    let same = body_unique input message message' signature signature' is is' in (cc (same.0, same.1), refl, refl)
 
 -- ---- the encoding of a token
 
-pub bytes_of_token : (kind : hash.Kind) (before : State) (input : List ℕ) (token : TagTokenView) (after : State) (rest : List ℕ)
+pub tag_token_bytes_exist : (kind : hash.Kind) (before : State) (input : List ℕ) (token : TagTokenView) (after : State) (rest : List ℕ)
     → HasTagToken kind before input token after rest → (content : List ℕ) × (input ≡ content ++ rest) × DecodesToTagToken kind token content
-bytes_of_token kind before input token after rest (target_comes _ hex _ id has spells) = (
+tag_token_bytes_exist kind before input token after rest (target_comes _ hex _ id has spells) = (
   encode_field (codes "object") hex,
   has.0.joined,
-  (before, after, target_comes _ hex [] id (field_alone (codes "object") input hex rest has.0, has.1) spells),
+  (before, after, target_comes _ hex [] id (has_field_of_encoded (codes "object") input hex rest has.0, has.1) spells),
 )
-bytes_of_token kind before input token after rest (kind_comes _ _ of field) = (
+tag_token_bytes_exist kind before input token after rest (kind_comes _ _ of field) = (
   encode_field (codes "type") (kind_name of),
   field.joined,
-  (before, after, kind_comes _ [] of (field_alone (codes "type") input (kind_name of) rest field)),
+  (before, after, kind_comes _ [] of (has_field_of_encoded (codes "type") input (kind_name of) rest field)),
 )
-bytes_of_token kind before input token after rest (name_comes _ name _ has) =
-    (encode_field (codes "tag") name, has.0.joined, (before, after, name_comes _ name [] (field_alone (codes "tag") input name rest has.0, has.1)))
-bytes_of_token kind before input token after rest (tagger_comes _ line _ actor bytes field is) = (
+tag_token_bytes_exist kind before input token after rest (name_comes _ name _ has) =
+    (encode_field (codes "tag") name, has.0.joined, (before, after, name_comes _ name [] (has_field_of_encoded (codes "tag") input name rest has.0, has.1)))
+tag_token_bytes_exist kind before input token after rest (tagger_comes _ line _ actor bytes field is) = (
   encode_field (codes "tagger") line,
   field.joined,
-  (before, after, tagger_comes _ line [] actor bytes (field_alone (codes "tagger") input line rest field) is),
+  (before, after, tagger_comes _ line [] actor bytes (has_field_of_encoded (codes "tagger") input line rest field) is),
 )
-bytes_of_token kind before input token after rest (no_tagger_comes _ filled lacks) = ([], refl, refl)
-bytes_of_token kind before input token after rest (body_comes _ message signature filled is) =
+tag_token_bytes_exist kind before input token after rest (no_tagger_comes _ filled lacks) = ([], refl, refl)
+tag_token_bytes_exist kind before input token after rest (body_comes _ message signature filled is) =
     (input, sym (append-nil input), (before, after, body_comes input message signature filled is))

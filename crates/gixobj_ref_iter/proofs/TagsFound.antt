@@ -12,8 +12,8 @@ use Rattle.gixobj_hash.specs.declared.hash.kind.Kind.{Kind}
 use Rattle.gixobj_hash.specs.declared.kind.Kind as object
 use Rattle.gixobj_hash.specs.declared.hash.object_id.ObjectId.{ObjectId}
 use Rattle.gixobj_ref_iter.proofs.TagLanguage as language
-use Rattle.gixobj_ref_iter.proofs.TagRuns.{one_run}
-use Rattle.gixobj_ref_iter.proofs.TagTokens.{no_token_of_nothing, one_token}
+use Rattle.gixobj_ref_iter.proofs.TagRuns.{token_run_unique}
+use Rattle.gixobj_ref_iter.proofs.TagTokens.{no_tag_token_of_nil, tag_token_unique}
 use Rattle.gixobj_ref_iter.specs.TagReaders.{AreTokensOfTag, EndsAfterItsName, IsOptionalToken, IsAfterName, AreAllTokensOfTag, IsTokenOfTagger, misses_body, misses_nothing, misses_tagger_and_body, yields_no_tagger, yields_tagger}
 use Rattle.gixobj_tag.specs.TagFormat.{DecodesToTag, TagLines}
 use Rattle.gixobj_ref_iter.specs.TagTokens.{HasTagToken, TagTokenView, body_token, kind_token, name_token, no_tagger_token, target_token, tag_token_view}
@@ -116,7 +116,7 @@ begins_token kind before input tokens (yields_piece _ following _ rest token _ _
 module _ (kind : Kind) (content : List ℕ) (tag : TagLines) (reader : TagRefIter) (is : DecodesToTag kind content tag)
     (start : IsAtStartOfTag kind content reader) where
   run : (tokens : List TagTokenView) × YieldsTagTokens kind state.Target content tokens complete × AreTokensOfTag tag tokens × IsAfterName tokens
-  run = language.yields_decoded kind content tag is
+  run = language.yields_tokens_of_tag kind content tag is
 
   yields_decoded : YieldsTagTokens (tag_reader_state reader).kind (tag_reader_state reader).state (tag_reader_state reader).bytes run.0 complete
   yields_decoded = subst (λ (it : ReaderState Kind State). YieldsTagTokens it.kind it.state it.bytes run.0 complete) (sym start) run.1
@@ -129,7 +129,7 @@ module _ (kind : Kind) (content : List ℕ) (tag : TagLines) (reader : TagRefIte
       × (answered_tag_id answer ≡ Ok id) × DecodesToId tag.target id
   its_answer (Some (Ok token)) after gives =
       let kind' = (tag_reader_state reader).kind in
-      let first = after_first (HasTagToken kind') (one_token kind') (no_token_of_nothing kind') (tag_reader_state reader).state
+      let first = after_first (HasTagToken kind') (tag_token_unique kind') (no_tag_token_of_nil kind') (tag_reader_state reader).state
       (tag_reader_state after).state
       (tag_reader_state reader).bytes (tag_reader_state after).bytes (tag_token_view token) run.0 complete gives.0 yields_decoded in
       let all = run.2.2 in
@@ -138,7 +138,7 @@ module _ (kind : Kind) (content : List ℕ) (tag : TagLines) (reader : TagRefIte
   its_answer (Some (Err Malformed)) after gives = absurd (gives.1 _ _ _ begins.3)
   its_answer (Some (Err OutOfMemory)) after gives = absurd gives.1
   its_answer None after gives =
-      absurd (no_token_of_nothing (tag_reader_state reader).kind (tag_reader_state reader).state (tag_reader_state reader).bytes begins.0 _ _ gives.0
+      absurd (no_tag_token_of_nil (tag_reader_state reader).kind (tag_reader_state reader).state (tag_reader_state reader).bytes begins.0 _ _ gives.0
       begins.3)
 
   pub its_target : (result : Result ObjectId Error) → NextIdOfTag reader result → (id : ObjectId) × (result ≡ Ok id) × DecodesToId tag.target id
@@ -147,9 +147,9 @@ module _ (kind : Kind) (content : List ℕ) (tag : TagLines) (reader : TagRefIte
   pub its_tagger : (tagger : Option SignatureRef) → FindsTagger reader tagger → IsTokenOfTagger tag.tagger (token_of_tagger tagger)
   its_tagger tagger (before, following, here, rest, (passed, passes, none), has) =
       let kind' = (tag_reader_state reader).kind in
-      let at = after_passed (HasTagToken kind') (one_token kind') (no_token_of_nothing kind') (tag_reader_state reader).state before
+      let at = after_passed (HasTagToken kind') (tag_token_unique kind') (no_tag_token_of_nil kind') (tag_reader_state reader).state before
       (tag_reader_state reader).bytes here passed run.0 complete passes yields_decoded in
-      let first = after_first (HasTagToken kind') (one_token kind') (no_token_of_nothing kind') before following here rest
+      let first = after_first (HasTagToken kind') (tag_token_unique kind') (no_tag_token_of_nil kind') before following here rest
       (token_of_tagger tagger) at.others complete has at.yielded in
       let all = run.2.2 in
       let joined : passed ++ token_of_tagger tagger ∷ (first.others ++ run.2.0) ≡ (passed ++ token_of_tagger tagger ∷ first.others) ++ run.2.0 =
@@ -164,7 +164,7 @@ module _ (kind : Kind) (content : List ℕ) (tag : TagLines) (reader : TagRefIte
 
   pub ends_after_name : (ending : Ending) → YieldsNoTagger reader ending → EndsAfterItsName tag
   ends_after_name ending (tokens, lacks, none) =
-      let same = (one_run (tag_reader_state reader).kind (tag_reader_state reader).state (tag_reader_state reader).bytes tokens run.0 ending complete
+      let same = (token_run_unique (tag_reader_state reader).kind (tag_reader_state reader).state (tag_reader_state reader).bytes tokens run.0 ending complete
       lacks
       yields_decoded).0 in
       lacks_all tag run.0 run.2.0 run.2.1 run.2.2 (subst (HasNone IsTaggerToken) same none)

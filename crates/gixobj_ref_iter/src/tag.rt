@@ -89,7 +89,7 @@ impl<'a> TagRefIter<'a> {
     ///
     /// [`Error::Malformed`] if a token up to the tagger is malformed, or if the bytes end with the name or
     /// earlier.
-    #[tactic(auto, using(crate::proofs::TagRuns::searches_start, crate::proofs::TagRuns::searches_first))]
+    #[tactic(auto, using(crate::proofs::TagRuns::searches_nil, crate::proofs::TagRuns::finds_first_at_token))]
     pub fn tagger(self) -> Result<Option<SignatureRef<'a>>, Error>
         ensures found { IfOk result (FindsTagger self.entry) }
         ensures error { IfErr result (λ e. (e ≡ Malformed)

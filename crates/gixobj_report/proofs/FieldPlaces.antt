@@ -25,15 +25,15 @@ token_before (byte ∷ prefix) rest line free is =
     ap (λ (xs : List ℕ). byte ∷ xs) (token_before prefix rest (prefix ++ space ∷ rest) (All-tail (λ it. it ≢ space) byte prefix free) refl)
     ∙ sym (ap first_token is ∙ ap (λ (t : Bool). cond t [] (byte ∷ first_token (prefix ++ space ∷ rest))) other)
 
-pub token_alone : (line : List ℕ) → IsByteFree space line → line ≡ first_token line
-token_alone [] free = refl
-token_alone (byte ∷ line) free =
+pub first_token_of_spaceless : (line : List ℕ) → IsByteFree space line → line ≡ first_token line
+first_token_of_spaceless [] free = refl
+first_token_of_spaceless (byte ∷ line) free =
     let other : (byte == space) ≡ false = no_space byte (All-head (λ it. it ≢ space) byte line free) in
-    ap (λ (xs : List ℕ). byte ∷ xs) (token_alone line (All-tail (λ it. it ≢ space) byte line free))
+    ap (λ (xs : List ℕ). byte ∷ xs) (first_token_of_spaceless line (All-tail (λ it. it ≢ space) byte line free))
     ∙ sym (ap (λ (t : Bool). cond t [] (byte ∷ first_token line)) other)
 
-pub token_split : (prefix rest line : List ℕ) → SplitsAt space line prefix rest → prefix ≡ first_token line
-token_split prefix rest line splits = token_before prefix rest line splits.first splits.joined
+pub first_token_of_split : (prefix rest line : List ℕ) → SplitsAt space line prefix rest → prefix ≡ first_token line
+first_token_of_split prefix rest line splits = token_before prefix rest line splits.first splits.joined
 
 -- the bytes after the first space are the rest, or nothing
 rest_after : (prefix rest line : List ℕ) → IsByteFree space prefix → line ≡ prefix ++ space ∷ rest → rest ≡ after_space line
@@ -43,14 +43,14 @@ rest_after (byte ∷ prefix) rest line free is =
     rest_after prefix rest (prefix ++ space ∷ rest) (All-tail (λ it. it ≢ space) byte prefix free) refl
     ∙ sym (ap after_space is ∙ ap (λ (t : Bool). cond t (prefix ++ space ∷ rest) (after_space (prefix ++ space ∷ rest))) other)
 
-pub after_split : (prefix rest line : List ℕ) → SplitsAt space line prefix rest → rest ≡ after_space line
-after_split prefix rest line splits = rest_after prefix rest line splits.first splits.joined
+pub after_space_of_split : (prefix rest line : List ℕ) → SplitsAt space line prefix rest → rest ≡ after_space line
+after_space_of_split prefix rest line splits = rest_after prefix rest line splits.first splits.joined
 
-pub after_alone : (line : List ℕ) → IsByteFree space line → [] ≡ after_space line
-after_alone [] free = refl
-after_alone (byte ∷ line) free =
+pub after_space_of_spaceless : (line : List ℕ) → IsByteFree space line → [] ≡ after_space line
+after_space_of_spaceless [] free = refl
+after_space_of_spaceless (byte ∷ line) free =
     let other : (byte == space) ≡ false = no_space byte (All-head (λ it. it ≢ space) byte line free) in
-    after_alone line (All-tail (λ it. it ≢ space) byte line free)
+    after_space_of_spaceless line (All-tail (λ it. it ≢ space) byte line free)
     ∙ sym (ap (λ (t : Bool). cond t line (after_space line)) other)
 
 -- the field with number 0
@@ -96,9 +96,9 @@ fields_after_spaces : (number : ℕ) (line : List ℕ) → slice_get (fields_of 
 fields_after_spaces zero line = first_field line
 fields_after_spaces (suc number) line = later_fields number line ∙ field_after number (after_some_space line) (fields_after_spaces number)
 
-pub field_so : (number : ℕ) (line : List ℕ) (after_them : Option (List ℕ)) → after_them ≡ after_spaces number line
+pub field_at_eq : (number : ℕ) (line : List ℕ) (after_them : Option (List ℕ)) → after_them ≡ after_spaces number line
     → field_at number (fields_of line) ≡ if_not_empty (option_map first_token after_them)
-field_so number line after_them is = ap if_not_empty (fields_after_spaces number line ∙ ap (option_map first_token) (sym is))
+field_at_eq number line after_them is = ap if_not_empty (fields_after_spaces number line ∙ ap (option_map first_token) (sym is))
 
 -- the bytes after some space are the rest, or none
 some_after : (prefix rest : List ℕ) → IsByteFree space prefix → Some rest ≡ after_some_space (prefix ++ space ∷ rest)
@@ -108,50 +108,50 @@ some_after (byte ∷ prefix) rest free =
     some_after prefix rest (All-tail (λ it. it ≢ space) byte prefix free)
     ∙ sym (ap (λ (t : Bool). cond t (Some (prefix ++ space ∷ rest)) (after_some_space (prefix ++ space ∷ rest))) other)
 
-pub some_split : (prefix rest line : List ℕ) → SplitsAt space line prefix rest → Some rest ≡ after_some_space line
-some_split prefix rest line splits = some_after prefix rest splits.first ∙ sym (ap after_some_space splits.joined)
+pub after_some_space_of_split : (prefix rest line : List ℕ) → SplitsAt space line prefix rest → Some rest ≡ after_some_space line
+after_some_space_of_split prefix rest line splits = some_after prefix rest splits.first ∙ sym (ap after_some_space splits.joined)
 
-pub none_alone : (line : List ℕ) → IsByteFree space line → None ≡ after_some_space line
-none_alone [] free = refl
-none_alone (byte ∷ line) free =
+pub after_some_space_of_spaceless : (line : List ℕ) → IsByteFree space line → None ≡ after_some_space line
+after_some_space_of_spaceless [] free = refl
+after_some_space_of_spaceless (byte ∷ line) free =
     let other : (byte == space) ≡ false = no_space byte (All-head (λ it. it ≢ space) byte line free) in
-    none_alone line (All-tail (λ it. it ≢ space) byte line free)
+    after_some_space_of_spaceless line (All-tail (λ it. it ≢ space) byte line free)
     ∙ sym (ap (λ (t : Bool). cond t (Some line) (after_some_space line)) other)
 
 -- steps over spaces: one is skipped, none remains to skip, or none is there
-pub spaces_more : (remaining : ℕ) (line next : List ℕ) (found : Option (List ℕ)) → remaining ≢ 0 → Some next ≡ after_some_space line
+pub after_spaces_step : (remaining : ℕ) (line next : List ℕ) (found : Option (List ℕ)) → remaining ≢ 0 → Some next ≡ after_some_space line
     → found ≡ after_spaces (remaining - 1) next → found ≡ after_spaces remaining line
-spaces_more zero line next found some is same = absurd (some refl)
-spaces_more (suc remaining) line next found some is same =
+after_spaces_step zero line next found some is same = absurd (some refl)
+after_spaces_step (suc remaining) line next found some is same =
     let one : suc remaining - 1 ≡ remaining = omega arith in
     same ∙ ap (λ m. after_spaces m next) one ∙ ap (if_some (after_spaces remaining)) is
 
-pub spaces_none : (remaining : ℕ) (line : List ℕ) (entire : Option (List ℕ)) → remaining ≤ 0 → after_spaces remaining line ≡ entire
+pub after_spaces_zero : (remaining : ℕ) (line : List ℕ) (entire : Option (List ℕ)) → remaining ≤ 0 → after_spaces remaining line ≡ entire
     → Some line ≡ entire
-spaces_none zero line entire none same = same
-spaces_none (suc remaining) line entire none same = absurd (omega arith)
+after_spaces_zero zero line entire none same = same
+after_spaces_zero (suc remaining) line entire none same = absurd (omega arith)
 
-pub spaces_out : (remaining : ℕ) (line : List ℕ) → remaining ≢ 0 → None ≡ after_some_space line → None ≡ after_spaces remaining line
-spaces_out zero line some is = absurd (some refl)
-spaces_out (suc remaining) line some is = ap (if_some (after_spaces remaining)) is
+pub after_spaces_none : (remaining : ℕ) (line : List ℕ) → remaining ≢ 0 → None ≡ after_some_space line → None ≡ after_spaces remaining line
+after_spaces_none zero line some is = absurd (some refl)
+after_spaces_none (suc remaining) line some is = ap (if_some (after_spaces remaining)) is
 
 -- steps over single bytes: a space or another byte
-pub space_more : (remaining byte : ℕ) (line next : List ℕ) (entire : Option (List ℕ)) → 0 < remaining → line ≡ byte ∷ next → byte ≡ space
+pub after_spaces_of_space : (remaining byte : ℕ) (line next : List ℕ) (entire : Option (List ℕ)) → 0 < remaining → line ≡ byte ∷ next → byte ≡ space
     → after_spaces remaining line ≡ entire → after_spaces (remaining - 1) next ≡ entire
-space_more zero byte line next entire some is same all = absurd (omega arith)
-space_more (suc remaining) byte line next entire some is same all =
+after_spaces_of_space zero byte line next entire some is same all = absurd (omega arith)
+after_spaces_of_space (suc remaining) byte line next entire some is same all =
     let one : suc remaining - 1 ≡ remaining = omega arith in
     ap (λ m. after_spaces m next) one ∙ sym (ap (after_spaces (suc remaining)) (is ∙ ap (λ b. b ∷ next) same)) ∙ all
 
-pub byte_more : (remaining byte : ℕ) (line next : List ℕ) (entire : Option (List ℕ)) → 0 < remaining → line ≡ byte ∷ next → byte ≢ space
+pub after_spaces_of_byte : (remaining byte : ℕ) (line next : List ℕ) (entire : Option (List ℕ)) → 0 < remaining → line ≡ byte ∷ next → byte ≢ space
     → after_spaces remaining line ≡ entire → after_spaces remaining next ≡ entire
-byte_more zero byte line next entire some is other all = absurd (omega arith)
-byte_more (suc remaining) byte line next entire some is other all =
+after_spaces_of_byte zero byte line next entire some is other all = absurd (omega arith)
+after_spaces_of_byte (suc remaining) byte line next entire some is other all =
     sym (ap (λ (t : Bool). if_some (after_spaces remaining) (cond t (Some next) (after_some_space next))) (no_space byte other))
     ∙ sym (ap (after_spaces (suc remaining)) is) ∙ all
 
-pub bytes_out : (remaining : ℕ) (line : List ℕ) (entire : Option (List ℕ)) → 0 < remaining → length line ≡ 0 → after_spaces remaining line ≡ entire
+pub after_spaces_of_nil : (remaining : ℕ) (line : List ℕ) (entire : Option (List ℕ)) → 0 < remaining → length line ≡ 0 → after_spaces remaining line ≡ entire
     → None ≡ entire
-bytes_out zero line entire some empty all = absurd (omega arith)
-bytes_out (suc remaining) [] entire some empty all = all
-bytes_out (suc remaining) (byte ∷ line) entire some empty all = absurd (cc empty)
+after_spaces_of_nil zero line entire some empty all = absurd (omega arith)
+after_spaces_of_nil (suc remaining) [] entire some empty all = all
+after_spaces_of_nil (suc remaining) (byte ∷ line) entire some empty all = absurd (cc empty)

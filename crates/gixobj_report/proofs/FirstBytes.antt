@@ -17,27 +17,27 @@ either_none None = refl
 moved : (byte first : ℕ) (line rest : List ℕ) → line ≡ first ∷ rest → first ≡ byte → line ≡ byte ∷ rest
 moved byte first line rest is same = is ∙ ap (λ b. b ∷ rest) same
 
-pub good_first : (line rest : List ℕ) (first : ℕ) (found : Option (Status × List ℕ)) → line ≡ first ∷ rest → first ≡ 71
+pub status_of_goodsig : (line rest : List ℕ) (first : ℕ) (found : Option (Status × List ℕ)) → line ≡ first ∷ rest → first ≡ 71
     → found ≡ either (option_map (with_status status.Good) (after_prefix (codes "GOODSIG ") line)) None → found ≡ status_of line
-good_first line rest first found is same says =
+status_of_goodsig line rest first found is same says =
     let at = moved 71 first line rest is same in
     says ∙ ap (λ it. either (option_map (with_status status.Good) (after_prefix (codes "GOODSIG ") it)) None) at ∙ sym (ap status_of at)
 
-pub bad_first : (line rest : List ℕ) (first : ℕ) (found : Option (Status × List ℕ)) → line ≡ first ∷ rest → first ≡ 66
+pub status_of_badsig : (line rest : List ℕ) (first : ℕ) (found : Option (Status × List ℕ)) → line ≡ first ∷ rest → first ≡ 66
     → found ≡ either (option_map (with_status status.Bad) (after_prefix (codes "BADSIG ") line)) None → found ≡ status_of line
-bad_first line rest first found is same says =
+status_of_badsig line rest first found is same says =
     let at = moved 66 first line rest is same in
     says ∙ ap (λ it. either (option_map (with_status status.Bad) (after_prefix (codes "BADSIG ") it)) None) at ∙ sym (ap status_of at)
 
-pub error_first : (line rest : List ℕ) (first : ℕ) (found : Option (Status × List ℕ)) → line ≡ first ∷ rest → first ≡ 69
+pub status_of_errsig : (line rest : List ℕ) (first : ℕ) (found : Option (Status × List ℕ)) → line ≡ first ∷ rest → first ≡ 69
     → found ≡ error_of line → found ≡ status_of line
-error_first line rest first found is same says =
+status_of_errsig line rest first found is same says =
     let at = moved 69 first line rest is same in
     says ∙ ap error_of at ∙ sym (ap status_of at)
 
-pub revoked_first : (line rest : List ℕ) (first : ℕ) (found : Option (Status × List ℕ)) → line ≡ first ∷ rest → first ≡ 82
+pub status_of_revoked : (line rest : List ℕ) (first : ℕ) (found : Option (Status × List ℕ)) → line ≡ first ∷ rest → first ≡ 82
     → found ≡ either (option_map (with_status status.RevokedKey) (after_prefix (codes "REVKEYSIG ") line)) None → found ≡ status_of line
-revoked_first line rest first found is same says =
+status_of_revoked line rest first found is same says =
     let at = moved 82 first line rest is same in
     says ∙ ap (λ it. either (option_map (with_status status.RevokedKey) (after_prefix (codes "REVKEYSIG ") it)) None) at
     ∙ either_none (option_map (with_status status.RevokedKey) (after_prefix (codes "REVKEYSIG ") (82 ∷ rest))) ∙ sym (ap status_of at)
@@ -64,8 +64,8 @@ none_of_six None None None (Some d) e f p q r s t u = absurd (cc s)
 none_of_six None None None None (Some e) f p q r s t u = absurd (cc t)
 none_of_six None None None None None (Some f) p q r s t u = absurd (cc u)
 
-pub other_first : (line rest : List ℕ) (first : ℕ) → line ≡ first ∷ rest → first ≢ 71 → first ≢ 66 → first ≢ 69 → first ≢ 82 → None ≡ status_of line
-other_first line rest first is good bad error revoked =
+pub status_of_other_byte : (line rest : List ℕ) (first : ℕ) → line ≡ first ∷ rest → first ≢ 71 → first ≢ 66 → first ≢ 69 → first ≢ 82 → None ≡ status_of line
+status_of_other_byte line rest first is good bad error revoked =
     none_of_six (after_prefix (codes "GOODSIG ") (first ∷ rest)) (after_prefix (codes "BADSIG ") (first ∷ rest))
     (after_prefix (codes "ERRSIG ") (first ∷ rest))
     (after_prefix (codes "EXPSIG ") (first ∷ rest)) (after_prefix (codes "EXPKEYSIG ") (first ∷ rest))
@@ -75,17 +75,17 @@ other_first line rest first is good bad error revoked =
     (not_begun 82 first (codes "EVKEYSIG ") rest revoked)
     ∙ sym (ap status_of is)
 
-pub no_first : (line : List ℕ) → length line ≡ 0 → None ≡ status_of line
-no_first [] empty = refl
-no_first (byte ∷ line) empty = absurd (cc empty)
+pub status_of_nil : (line : List ℕ) → length line ≡ 0 → None ≡ status_of line
+status_of_nil [] empty = refl
+status_of_nil (byte ∷ line) empty = absurd (cc empty)
 
 -- with another first byte, or none, the keyword `VALIDSIG` doesn't match
-pub not_valid : (line rest : List ℕ) (first : ℕ) (before : Option (List ℕ)) → line ≡ first ∷ rest → first ≢ 86
+pub no_validsig_of_other_byte : (line rest : List ℕ) (first : ℕ) (before : Option (List ℕ)) → line ≡ first ∷ rest → first ≢ 86
     → before ≡ either (after_prefix (codes "VALIDSIG ") line) before
-not_valid line rest first before is other =
+no_validsig_of_other_byte line rest first before is other =
     sym (ap (λ it. either (after_prefix (codes "VALIDSIG ") it) before) is
     ∙ ap (λ it. either it before) (not_begun 86 first (codes "ALIDSIG ") rest other))
 
-pub no_valid : (line : List ℕ) (before : Option (List ℕ)) → length line ≡ 0 → before ≡ either (after_prefix (codes "VALIDSIG ") line) before
-no_valid [] before empty = refl
-no_valid (byte ∷ line) before empty = absurd (cc empty)
+pub no_validsig_of_nil : (line : List ℕ) (before : Option (List ℕ)) → length line ≡ 0 → before ≡ either (after_prefix (codes "VALIDSIG ") line) before
+no_validsig_of_nil [] before empty = refl
+no_validsig_of_nil (byte ∷ line) before empty = absurd (cc empty)

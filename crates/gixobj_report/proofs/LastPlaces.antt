@@ -71,12 +71,12 @@ module _ (line remaining prefix rest : List ℕ) (entire : line ≡ remaining ++
       → after_last key_token (drop (length prefix) line) ≡ None
   no_key_here none is = here none ∙ is
 
-pub shorter : (remaining prefix rest : List ℕ) → SplitsAtLast space remaining prefix rest → length prefix < length remaining
-shorter remaining prefix rest cut = let sum = ap length cut.joined ∙ length-append prefix (space ∷ rest) in omega (arith, sum)
+pub prefix_len_lt : (remaining prefix rest : List ℕ) → SplitsAtLast space remaining prefix rest → length prefix < length remaining
+prefix_len_lt remaining prefix rest cut = let sum = ap length cut.joined ∙ length-append prefix (space ∷ rest) in omega (arith, sum)
 
-pub no_key_remaining : (line remaining : List ℕ) → line ≡ remaining ++ drop (length remaining) line → IsByteFree space remaining
+pub no_key_after_last : (line remaining : List ℕ) → line ≡ remaining ++ drop (length remaining) line → IsByteFree space remaining
     → after_last key_token (drop (length remaining) line) ≡ None → None ≡ after_last key_token line
-no_key_remaining line remaining entire free none =
+no_key_after_last line remaining entire free none =
     sym (ap (after_last key_token) entire ∙ none_passed remaining (drop (length remaining) line) free none)
 
 -- empty output has no key
@@ -84,5 +84,5 @@ no_key : ssh_key [] ≡ None
 unfolding computing
 no_key = refl
 
-pub key_of_bytes : (output : List ℕ) → ssh_key output ≢ None → output ≢ []
-key_of_bytes output some none = some (ap ssh_key none ∙ no_key)
+pub output_not_nil_of_key : (output : List ℕ) → ssh_key output ≢ None → output ≢ []
+output_not_nil_of_key output some none = some (ap ssh_key none ∙ no_key)

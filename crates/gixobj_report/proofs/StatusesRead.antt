@@ -21,19 +21,19 @@ last_cons (Some x) xs found = last_more x xs found
 last_cons None xs found = refl
 
 -- one more line: its value is found, or the value found before
-pub one_line_more : (bytes line : List ℕ) (lines rest : List (List ℕ)) (found next total : Option (List ℕ)) → lines ≡ line ∷ rest
+pub reported_after_cons : (bytes line : List ℕ) (lines rest : List (List ℕ)) (found next total : Option (List ℕ)) → lines ≡ line ∷ rest
     → next ≡ either (status_after bytes line) found
     → either (last_of (reported_after bytes lines)) found ≡ total → either (last_of (reported_after bytes rest)) next ≡ total
-one_line_more bytes line lines rest found next total is gives entire =
+reported_after_cons bytes line lines rest found next total is gives entire =
     ap (either (last_of (reported_after bytes rest))) gives
     ∙ sym (last_cons (status_after bytes line) (reported_after bytes rest) found)
     ∙ ap (λ (ls : List (List ℕ)). either (last_of (reported_after bytes ls)) found) (sym is) ∙ entire
 
 -- one more line: its status is added to the statuses
-pub one_status_more : (line : List ℕ) (lines rest : List (List ℕ)) (before after : Statuses) (total : Verdict) → lines ≡ line ∷ rest
+pub statuses_in_cons : (line : List ℕ) (lines rest : List (List ℕ)) (before after : Statuses) (total : Verdict) → lines ≡ line ∷ rest
     → HasOneMore before (line_status line) after
     → verdict_of before (statuses_in lines) ≡ total → verdict_of after (statuses_in rest) ≡ total
-one_status_more line lines rest before after total is more entire =
+statuses_in_cons line lines rest before after total is more entire =
     more (statuses_in rest) ∙ ap (λ (ls : List (List ℕ)). verdict_of before (statuses_in ls)) (sym is) ∙ entire
 
 -- two passes, over status lines and then over their values, are one pass over all lines
@@ -51,12 +51,13 @@ said_so : (bytes raw : List ℕ) → filter_map (λ line. after_prefix bytes lin
 said_so bytes raw = one_walk (λ line. after_prefix (codes "[GNUPG:] ") line) (λ line. after_prefix bytes line) (after_status_prefix bytes) refl (λ y. refl)
     (map without_terminator (lines_of raw))
 
-pub statuses_so : (raw : List ℕ) → filter_map status_of (status_lines raw) ≡ statuses_in (map without_terminator (lines_of raw))
-statuses_so raw = one_walk (λ line. after_prefix (codes "[GNUPG:] ") line) status_of status_from refl (λ y. refl) (map without_terminator (lines_of raw))
+pub statuses_of_raw : (raw : List ℕ) → filter_map status_of (status_lines raw) ≡ statuses_in (map without_terminator (lines_of raw))
+statuses_of_raw raw = one_walk (λ line. after_prefix (codes "[GNUPG:] ") line) status_of status_from refl (λ y. refl) (map without_terminator (lines_of raw))
 
-pub trust_so : (raw : List ℕ) → trust_in (status_lines raw) ≡ reported_trust (last_of (reported_after (codes "TRUST_") (map without_terminator (lines_of raw))))
-trust_so raw = ap (λ (xs : List (List ℕ)). reported_trust (last_of xs)) (said_so (codes "TRUST_") raw)
+pub trust_of_raw : (raw : List ℕ) → trust_in (status_lines raw) ≡ reported_trust
+    (last_of (reported_after (codes "TRUST_") (map without_terminator (lines_of raw))))
+trust_of_raw raw = ap (λ (xs : List (List ℕ)). reported_trust (last_of xs)) (said_so (codes "TRUST_") raw)
 
-pub valid_so : (raw : List ℕ) → valid_fields (status_lines raw) ≡ reported_fields
+pub valid_fields_of_raw : (raw : List ℕ) → valid_fields (status_lines raw) ≡ reported_fields
     (last_of (reported_after (codes "VALIDSIG ") (map without_terminator (lines_of raw))))
-valid_so raw = ap (λ (xs : List (List ℕ)). reported_fields (last_of xs)) (said_so (codes "VALIDSIG ") raw)
+valid_fields_of_raw raw = ap (λ (xs : List (List ℕ)). reported_fields (last_of xs)) (said_so (codes "VALIDSIG ") raw)

@@ -8,10 +8,10 @@ use Rattle.hex.specs.Hex.{is_hex_digit}
 use Rattle.gixobj_editor.specs.Views.{CommandView, EditView, edits_at, one_edit, remove, remove_leaf, set_root, upsert, write}
 use Rattle.gixobj_hash.specs.declared.hash.kind.Kind as hash
 use Rattle.gixobj_hash.specs.declared.hash.object_id.ObjectId.{ObjectId}
-use Rattle.gixobj_hash.proofs.SplitsAtEach.{one_way, parts_of}
+use Rattle.gixobj_hash.proofs.SplitsAtEach.{split_at_each_unique, split_at_each_exists}
 use Rattle.gixobj_script.specs.Lines.{HasCommand, HasEdit, HasNoCommand, HasNoEdit, DecodesToCommand, IsEditAt, DecodesToEdit, IsEntryAt, IsHexOfId, keyword_and}
 use Rattle.gixobj_script.specs.Paths.{ArePathNames, dot}
-use Rattle.gixobj_hash.proofs.Splits.{free_by_test, free_of_split, one_cut}
+use Rattle.gixobj_hash.proofs.Splits.{byte_free_of_all_pass, no_split_of_byte_free, split_parts_unique}
 use Rattle.gixobj_hash.specs.Bytes.{slash}
 use Rattle.gixobj_hash.specs.ByteStrings.{IsByteFree, SplitsAt}
 use Rattle.gixobj_mode.specs.Mode.{entry_kind_name}
@@ -21,33 +21,33 @@ use Rattle.gixobj_mode.specs.declared.entry_kind.EntryKind.TheVariants.{Blob, Bl
 -- ---- the names of a path
 
 -- a path other than `.` has names
-pub names_unless_dot : (path : List ℕ) → path ≢ dot → (names : List (List ℕ)) × ArePathNames path names
-names_unless_dot path other = (let (names, cut) = parts_of slash path in (names, inr (other, cut)))
+pub path_names_unless_dot_exist : (path : List ℕ) → path ≢ dot → (names : List (List ℕ)) × ArePathNames path names
+path_names_unless_dot_exist path other = (let (names, cut) = split_at_each_exists slash path in (names, inr (other, cut)))
 
 -- each path has a list of names
-pub names_of : (path : List ℕ) → (names : List (List ℕ)) × ArePathNames path names
-names_of [] = names_unless_dot [] (λ same. cc same)
-names_of (x ∷ y ∷ path) = names_unless_dot (x ∷ y ∷ path) (λ same. cc same)
-names_of (x ∷ []) =
+pub path_names_exist : (path : List ℕ) → (names : List (List ℕ)) × ArePathNames path names
+path_names_exist [] = path_names_unless_dot_exist [] (λ same. cc same)
+path_names_exist (x ∷ y ∷ path) = path_names_unless_dot_exist (x ∷ y ∷ path) (λ same. cc same)
+path_names_exist (x ∷ []) =
     elim (ℕ_discrete x 46) [
       | yes same ↦ ([], inl (ap (λ (it : ℕ). it ∷ []) same, refl))
-      | no other ↦ names_unless_dot (x ∷ []) (λ same. other (cc same))
+      | no other ↦ path_names_unless_dot_exist (x ∷ []) (λ same. other (cc same))
     ]
 
-pub one_path : (path : List ℕ) (a b : List (List ℕ)) → ArePathNames path a → ArePathNames path b → a ≡ b
-one_path path a b (inl (is, none)) (inl (too, nothing)) = none ∙ sym nothing
-one_path path a b (inl (is, none)) (inr (other, cut)) = absurd (other is)
-one_path path a b (inr (other, cut)) (inl (is, none)) = absurd (other is)
-one_path path a b (inr (other, cut)) (inr (too, again)) = one_way slash path a b cut again
+pub path_names_unique : (path : List ℕ) (a b : List (List ℕ)) → ArePathNames path a → ArePathNames path b → a ≡ b
+path_names_unique path a b (inl (is, none)) (inl (too, nothing)) = none ∙ sym nothing
+path_names_unique path a b (inl (is, none)) (inr (other, cut)) = absurd (other is)
+path_names_unique path a b (inr (other, cut)) (inl (is, none)) = absurd (other is)
+path_names_unique path a b (inr (other, cut)) (inr (too, again)) = split_at_each_unique slash path a b cut again
 
 -- ---- `KIND HEX PATH`
 
 keyword_free : (kind : EntryKind) → IsByteFree 32 (entry_kind_name kind)
-keyword_free Tree = free_by_test 32 (entry_kind_name Tree) refl
-keyword_free Blob = free_by_test 32 (entry_kind_name Blob) refl
-keyword_free BlobExecutable = free_by_test 32 (entry_kind_name BlobExecutable) refl
-keyword_free Link = free_by_test 32 (entry_kind_name Link) refl
-keyword_free Commit = free_by_test 32 (entry_kind_name Commit) refl
+keyword_free Tree = byte_free_of_all_pass 32 (entry_kind_name Tree) refl
+keyword_free Blob = byte_free_of_all_pass 32 (entry_kind_name Blob) refl
+keyword_free BlobExecutable = byte_free_of_all_pass 32 (entry_kind_name BlobExecutable) refl
+keyword_free Link = byte_free_of_all_pass 32 (entry_kind_name Link) refl
+keyword_free Commit = byte_free_of_all_pass 32 (entry_kind_name Commit) refl
 
 -- the entry kind of a name, by its first byte
 kind_of_name : List ℕ → EntryKind
@@ -77,7 +77,7 @@ parted : (hash : hash.Kind) (entry token after : List ℕ) (kind : EntryKind) (i
     → (is : IsEntryAt hash entry kind id path)
     → (token ≡ entry_kind_name kind) × (after ≡ keyword_and is.hex path)
 parted hash entry token after kind id path splits is =
-    one_cut 32 token after (entry_kind_name kind) (keyword_and is.hex path) splits.first (keyword_free kind) (sym splits.joined ∙ is.joined)
+    split_parts_unique 32 token after (entry_kind_name kind) (keyword_and is.hex path) splits.first (keyword_free kind) (sym splits.joined ∙ is.joined)
 
 -- the bytes before the second space are the hex digits of the id
 parted_twice : (hash : hash.Kind) (entry token after hex rest : List ℕ) (kind : EntryKind) (id : ObjectId) (path : List ℕ)
@@ -85,27 +85,28 @@ parted_twice : (hash : hash.Kind) (entry token after hex rest : List ℕ) (kind 
     → SplitsAt 32 after hex rest
     → (is : IsEntryAt hash entry kind id path) → (hex ≡ is.hex) × (rest ≡ path)
 parted_twice hash entry token after hex rest kind id path splits again is =
-    one_cut 32 hex rest is.hex path again.first (hex_free hash is.hex id is.is_hex_of_id)
+    split_parts_unique 32 hex rest is.hex path again.first (hex_free hash is.hex id is.is_hex_of_id)
     (sym again.joined ∙ (parted hash entry token after kind id path splits is).1)
 
-pub no_space : (hash : hash.Kind) (entry : List ℕ) → IsByteFree 32 entry → (kind : EntryKind) (id : ObjectId) (path : List ℕ)
+pub no_space_in_token : (hash : hash.Kind) (entry : List ℕ) → IsByteFree 32 entry → (kind : EntryKind) (id : ObjectId) (path : List ℕ)
     → IsEntryAt hash entry kind id path → ⊥
-no_space hash entry free = λ kind id path is. free_of_split 32 (entry_kind_name kind) (keyword_and is.hex path) (subst (IsByteFree 32) is.joined free)
+no_space_in_token hash entry free = λ kind id path is. no_split_of_byte_free 32 (entry_kind_name kind) (keyword_and is.hex path)
+    (subst (IsByteFree 32) is.joined free)
 
-pub no_kind : (hash : hash.Kind) (entry token after : List ℕ) → SplitsAt 32 entry token after
+pub no_kind_of_token : (hash : hash.Kind) (entry token after : List ℕ) → SplitsAt 32 entry token after
     → ((kind : EntryKind) → token ≡ entry_kind_name kind → ⊥)
     → (kind : EntryKind) (id : ObjectId) (path : List ℕ) → IsEntryAt hash entry kind id path → ⊥
-no_kind hash entry token after splits none = λ kind id path is. none kind (parted hash entry token after kind id path splits is).0
+no_kind_of_token hash entry token after splits none = λ kind id path is. none kind (parted hash entry token after kind id path splits is).0
 
-pub no_second_space : (hash : hash.Kind) (entry token after : List ℕ) → SplitsAt 32 entry token after → IsByteFree 32 after
+pub no_second_space_in_entry : (hash : hash.Kind) (entry token after : List ℕ) → SplitsAt 32 entry token after → IsByteFree 32 after
     → (kind : EntryKind) (id : ObjectId) (path : List ℕ) → IsEntryAt hash entry kind id path → ⊥
-no_second_space hash entry token after splits free = λ kind id path is.
-    free_of_split 32 is.hex path (subst (IsByteFree 32) (parted hash entry token after kind id path splits is).1 free)
+no_second_space_in_entry hash entry token after splits free = λ kind id path is.
+    no_split_of_byte_free 32 is.hex path (subst (IsByteFree 32) (parted hash entry token after kind id path splits is).1 free)
 
-pub no_id : (hash : hash.Kind) (entry token after hex rest : List ℕ) → SplitsAt 32 entry token after → SplitsAt 32 after hex rest
+pub no_id_of_token : (hash : hash.Kind) (entry token after hex rest : List ℕ) → SplitsAt 32 entry token after → SplitsAt 32 after hex rest
     → ((id : ObjectId) → IsHexOfId hash hex id → ⊥)
     → (kind : EntryKind) (id : ObjectId) (path : List ℕ) → IsEntryAt hash entry kind id path → ⊥
-no_id hash entry token after hex rest splits again none = λ kind id path is.
+no_id_of_token hash entry token after hex rest splits again none = λ kind id path is.
     let same = (parted_twice hash entry token after hex rest kind id path splits again is).0 in
     let P : List ℕ → Type 0 = λ it. IsHexOfId hash it id in
     none id (subst P (sym same) is.is_hex_of_id)
@@ -113,10 +114,10 @@ no_id hash entry token after hex rest splits again none = λ kind id path is.
 one_entry : (hash : hash.Kind) (entry : List ℕ) (kind kind' : EntryKind) (id id' : ObjectId) (path path' : List ℕ) → IsEntryAt hash entry kind id path
     → IsEntryAt hash entry kind' id' path' → (kind ≡ kind') × (id ≡ id') × (path ≡ path')
 one_entry hash entry kind kind' id id' path path' first second =
-    let words = one_cut 32 (entry_kind_name kind) (keyword_and first.hex path) (entry_kind_name kind') (keyword_and second.hex path')
+    let words = split_parts_unique 32 (entry_kind_name kind) (keyword_and first.hex path) (entry_kind_name kind') (keyword_and second.hex path')
     (keyword_free kind)
     (keyword_free kind') (sym first.joined ∙ second.joined) in
-    let encodings = one_cut 32 first.hex path second.hex path' (hex_free hash first.hex id first.is_hex_of_id)
+    let encodings = split_parts_unique 32 first.hex path second.hex path' (hex_free hash first.hex id first.is_hex_of_id)
     (hex_free hash second.hex id' second.is_hex_of_id) words.1 in
     (one_kind kind kind' words.0, cc (first.is_hex_of_id.1, second.is_hex_of_id.1, encodings.0), encodings.1)
 
@@ -135,24 +136,24 @@ apart_at_second z x y a b other same = (let tails : x ∷ a ≡ y ∷ b = cc sam
 
 -- ---- edits
 
-pub no_upsert : (hash : hash.Kind) (entry : List ℕ) → ((kind : EntryKind) (id : ObjectId) (path : List ℕ) → IsEntryAt hash entry kind id path → ⊥)
+pub has_no_edit_of_upsert : (hash : hash.Kind) (entry : List ℕ) → ((kind : EntryKind) (id : ObjectId) (path : List ℕ) → IsEntryAt hash entry kind id path → ⊥)
     → HasNoEdit hash (keyword_and (codes "upsert") entry)
-no_upsert hash entry none (upsert names kind id) (other, path, joined, is, are) =
+has_no_edit_of_upsert hash entry none (upsert names kind id) (other, path, joined, is, are) =
     let P : List ℕ → Type 0 = λ it. IsEntryAt hash it kind id path in
     none kind id path (subst P (sym (after_keyword (codes "upsert") entry other joined)) is)
-no_upsert hash entry none (remove names) (path, joined, are) = apart 117 114 _ _ refl joined
-no_upsert hash entry none (remove_leaf names) (path, joined, are) = apart 117 108 _ _ refl joined
-no_upsert hash entry none write joined = apart 117 119 _ _ refl joined
+has_no_edit_of_upsert hash entry none (remove names) (path, joined, are) = apart 117 114 _ _ refl joined
+has_no_edit_of_upsert hash entry none (remove_leaf names) (path, joined, are) = apart 117 108 _ _ refl joined
+has_no_edit_of_upsert hash entry none write joined = apart 117 119 _ _ refl joined
 
-pub an_upsert : (hash : hash.Kind) (entry : List ℕ) (kind : EntryKind) (id : ObjectId) (path : List ℕ) → IsEntryAt hash entry kind id path
+pub has_edit_of_upsert : (hash : hash.Kind) (entry : List ℕ) (kind : EntryKind) (id : ObjectId) (path : List ℕ) → IsEntryAt hash entry kind id path
     → HasEdit hash (keyword_and (codes "upsert") entry)
-an_upsert hash entry kind id path is = (let (names, are) = names_of path in (upsert names kind id, (entry, path, refl, is, are)))
+has_edit_of_upsert hash entry kind id path is = (let (names, are) = path_names_exist path in (upsert names kind id, (entry, path, refl, is, are)))
 
-pub a_removal : (hash : hash.Kind) (bytes path : List ℕ) → bytes ≡ keyword_and (codes "remove") path → HasEdit hash bytes
-a_removal hash bytes path joined = (let (names, are) = names_of path in (remove names, (path, joined, are)))
+pub has_edit_of_removal : (hash : hash.Kind) (bytes path : List ℕ) → bytes ≡ keyword_and (codes "remove") path → HasEdit hash bytes
+has_edit_of_removal hash bytes path joined = (let (names, are) = path_names_exist path in (remove names, (path, joined, are)))
 
-pub a_leaf_removal : (hash : hash.Kind) (bytes path : List ℕ) → bytes ≡ keyword_and (codes "leaf") path → HasEdit hash bytes
-a_leaf_removal hash bytes path joined = (let (names, are) = names_of path in (remove_leaf names, (path, joined, are)))
+pub has_edit_of_leaf_removal : (hash : hash.Kind) (bytes path : List ℕ) → bytes ≡ keyword_and (codes "leaf") path → HasEdit hash bytes
+has_edit_of_leaf_removal hash bytes path joined = (let (names, are) = path_names_exist path in (remove_leaf names, (path, joined, are)))
 
 one_edit_line : (hash : hash.Kind) (bytes : List ℕ) (a b : EditView) → DecodesToEdit hash bytes a → DecodesToEdit hash bytes b → a ≡ b
 one_edit_line hash bytes (upsert names kind id) (upsert names' kind' id') (entry, path, joined, is, are) (entry', path', joined', is', are') =
@@ -160,16 +161,16 @@ one_edit_line hash bytes (upsert names kind id) (upsert names' kind' id') (entry
     let P : List ℕ → Type 0 = λ it. IsEntryAt hash it kind' id' path' in
     let parts = one_entry hash entry kind kind' id id' path path' is (subst P same is') in
     let Q : List ℕ → Type 0 = λ it. ArePathNames it names' in
-    let names_are = one_path path names names' are (subst Q (sym parts.2) are') in
+    let names_are = path_names_unique path names names' are (subst Q (sym parts.2) are') in
     cc (parts.0, parts.1, names_are)
 one_edit_line hash bytes (remove names) (remove names') (path, joined, are) (path', joined', are') =
     let same = after_keyword (codes "remove") path' path (sym joined' ∙ joined) in
     let Q : List ℕ → Type 0 = λ it. ArePathNames it names' in
-    ap remove (one_path path names names' are (subst Q same are'))
+    ap remove (path_names_unique path names names' are (subst Q same are'))
 one_edit_line hash bytes (remove_leaf names) (remove_leaf names') (path, joined, are) (path', joined', are') =
     let same = after_keyword (codes "leaf") path' path (sym joined' ∙ joined) in
     let Q : List ℕ → Type 0 = λ it. ArePathNames it names' in
-    ap remove_leaf (one_path path names names' are (subst Q same are'))
+    ap remove_leaf (path_names_unique path names names' are (subst Q same are'))
 one_edit_line hash bytes write write is too = refl
 one_edit_line hash bytes (upsert names kind id) (remove names') (entry, path, joined, is, are) (path', joined', are') =
     absurd (apart 117 114 _ _ refl (sym joined ∙ joined'))
@@ -214,21 +215,22 @@ none_at hash bytes none (edits_at names edits) (rest, joined, is) =
     none names edits (subst P (sym (after_keyword (codes "at") bytes rest joined)) is)
 none_at hash bytes none (set_root entries) (joined, empty) = apart 97 114 _ _ refl joined
 
-pub none_without_space : (hash : hash.Kind) (bytes : List ℕ) → IsByteFree 32 bytes → HasNoCommand hash (keyword_and (codes "at") bytes)
-none_without_space hash bytes free = none_at hash bytes (λ names edits is. free_of_split 32 is.prefix is.rest (subst (IsByteFree 32) is.joined free))
+pub no_command_without_space : (hash : hash.Kind) (bytes : List ℕ) → IsByteFree 32 bytes → HasNoCommand hash (keyword_and (codes "at") bytes)
+no_command_without_space hash bytes free = none_at hash bytes (λ names edits is. no_split_of_byte_free 32 is.prefix is.rest
+    (subst (IsByteFree 32) is.joined free))
 
-pub none_without_edit : (hash : hash.Kind) (bytes prefix rest : List ℕ) → SplitsAt 32 bytes prefix rest → HasNoEdit hash rest
+pub no_command_without_edit : (hash : hash.Kind) (bytes prefix rest : List ℕ) → SplitsAt 32 bytes prefix rest → HasNoEdit hash rest
     → HasNoCommand hash (keyword_and (codes "at") bytes)
-none_without_edit hash bytes prefix rest splits none =
+no_command_without_edit hash bytes prefix rest splits none =
     none_at hash bytes (λ names edits is.
-    let cut = one_cut 32 prefix rest is.prefix is.rest splits.first is.no_space (sym splits.joined ∙ is.joined) in
+    let cut = split_parts_unique 32 prefix rest is.prefix is.rest splits.first is.no_space (sym splits.joined ∙ is.joined) in
     let P : List ℕ → Type 0 = λ it. DecodesToEdit hash it is.edit in
     none is.edit (subst P (sym cut.1) is.is))
 
-pub an_edit_at : (hash : hash.Kind) (bytes prefix rest : List ℕ) → SplitsAt 32 bytes prefix rest → HasEdit hash rest
+pub has_command_of_edit_at : (hash : hash.Kind) (bytes prefix rest : List ℕ) → SplitsAt 32 bytes prefix rest → HasEdit hash rest
     → HasCommand hash (keyword_and (codes "at") bytes)
-an_edit_at hash bytes prefix rest splits (edit, is) =
-    let (names, are) = names_of prefix in (
+has_command_of_edit_at hash bytes prefix rest splits (edit, is) =
+    let (names, are) = path_names_exist prefix in (
       edits_at names (edit ∷ []),
       (
         bytes,
@@ -246,35 +248,35 @@ an_edit_at hash bytes prefix rest splits (edit, is) =
       ),
     )
 
-pub an_edit : (hash : hash.Kind) (bytes : List ℕ) → HasEdit hash bytes → HasCommand hash bytes
-an_edit hash bytes (edit, is) = (one_edit edit, is)
+pub has_command_of_edit : (hash : hash.Kind) (bytes : List ℕ) → HasEdit hash bytes → HasCommand hash bytes
+has_command_of_edit hash bytes (edit, is) = (one_edit edit, is)
 
 one_edit_at : (hash : hash.Kind) (bytes : List ℕ) (names names' : List (List ℕ)) (edits edits' : List EditView) → IsEditAt hash bytes names edits
     → IsEditAt hash bytes names' edits' → (names ≡ names') × (edits ≡ edits')
 one_edit_at hash bytes names names' edits edits' first second =
-    let cut = one_cut 32 first.prefix first.rest second.prefix second.rest first.no_space second.no_space (sym first.joined ∙ second.joined) in
+    let cut = split_parts_unique 32 first.prefix first.rest second.prefix second.rest first.no_space second.no_space (sym first.joined ∙ second.joined) in
     let P : List ℕ → Type 0 = λ it. DecodesToEdit hash it second.edit in
     let Q : List ℕ → Type 0 = λ it. ArePathNames it names' in
     let edit = one_edit_line hash first.rest first.edit second.edit first.is (subst P (sym cut.1) second.is) in
-    (one_path first.prefix names names' first.names_of_prefix (subst Q (sym cut.0) second.names_of_prefix), cc (first.one, second.one, edit))
+    (path_names_unique first.prefix names names' first.names_of_prefix (subst Q (sym cut.0) second.names_of_prefix), cc (first.one, second.one, edit))
 
-pub one_command : (hash : hash.Kind) (bytes : List ℕ) (a b : CommandView) → DecodesToCommand hash bytes a → DecodesToCommand hash bytes b → a ≡ b
-one_command hash bytes (one_edit edit) (one_edit edit') is is' = ap one_edit (one_edit_line hash bytes edit edit' is is')
-one_command hash bytes (edits_at names edits) (edits_at names' edits') (rest, joined, is) (rest', joined', is') =
+pub command_unique : (hash : hash.Kind) (bytes : List ℕ) (a b : CommandView) → DecodesToCommand hash bytes a → DecodesToCommand hash bytes b → a ≡ b
+command_unique hash bytes (one_edit edit) (one_edit edit') is is' = ap one_edit (one_edit_line hash bytes edit edit' is is')
+command_unique hash bytes (edits_at names edits) (edits_at names' edits') (rest, joined, is) (rest', joined', is') =
     let same = after_keyword (codes "at") rest' rest (sym joined' ∙ joined) in
     let P : List ℕ → Type 0 = λ it. IsEditAt hash it names' edits' in
     let parts = one_edit_at hash rest names names' edits edits' is (subst P same is') in
     cc (parts.0, parts.1)
-one_command hash bytes (set_root entries) (set_root entries') (joined, empty) (joined', empty') = ap set_root (empty ∙ sym empty')
-one_command hash bytes (one_edit edit) (edits_at names edits) is (rest, joined, is') =
+command_unique hash bytes (set_root entries) (set_root entries') (joined, empty) (joined', empty') = ap set_root (empty ∙ sym empty')
+command_unique hash bytes (one_edit edit) (edits_at names edits) is (rest, joined, is') =
     (let P : List ℕ → Type 0 = λ it. DecodesToEdit hash it edit in absurd (at_is_no_edit hash rest edit (subst P joined is)))
-one_command hash bytes (one_edit edit) (set_root entries) is (joined, empty) =
+command_unique hash bytes (one_edit edit) (set_root entries) is (joined, empty) =
     (let P : List ℕ → Type 0 = λ it. DecodesToEdit hash it edit in absurd (root_is_no_edit hash edit (subst P joined is)))
-one_command hash bytes (edits_at names edits) (one_edit edit) (rest, joined, is) is' =
+command_unique hash bytes (edits_at names edits) (one_edit edit) (rest, joined, is) is' =
     (let P : List ℕ → Type 0 = λ it. DecodesToEdit hash it edit in absurd (at_is_no_edit hash rest edit (subst P joined is')))
-one_command hash bytes (edits_at names edits) (set_root entries) (rest, joined, is) (joined', empty) =
+command_unique hash bytes (edits_at names edits) (set_root entries) (rest, joined, is) (joined', empty) =
     absurd (apart 97 114 _ _ refl (sym joined ∙ joined'))
-one_command hash bytes (set_root entries) (one_edit edit) (joined, empty) is =
+command_unique hash bytes (set_root entries) (one_edit edit) (joined, empty) is =
     (let P : List ℕ → Type 0 = λ it. DecodesToEdit hash it edit in absurd (root_is_no_edit hash edit (subst P joined is)))
-one_command hash bytes (set_root entries) (edits_at names edits) (joined, empty) (rest, joined', is) =
+command_unique hash bytes (set_root entries) (edits_at names edits) (joined, empty) (rest, joined', is) =
     absurd (apart 114 97 _ _ refl (sym joined ∙ joined'))

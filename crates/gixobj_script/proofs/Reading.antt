@@ -4,7 +4,7 @@ use Rattle.std.proofs.lemmas.List.Elements.{All-nil, All-push}
 use Rattle.std.specs.List.{AllZip}
 use Rattle.gixobj_editor.specs.Views.{CommandView}
 use Rattle.gixobj_hash.specs.declared.hash.kind.Kind as hash
-use Rattle.gixobj_hash.proofs.SplitsAtEach.{ArePrefixes, and_the_rest, none_in_prefix, one_more, parts_of, the_last}
+use Rattle.gixobj_hash.proofs.SplitsAtEach.{ArePrefixes, is_split_at_each_append, are_prefixes_nil, are_prefixes_snoc, split_at_each_exists, is_split_at_each_snoc}
 use Rattle.gixobj_script.specs.Lines.{DecodesToCommand}
 use Rattle.gixobj_hash.specs.Splits.{IsSplitAtEach}
 use Rattle.gixobj_script.specs.Scripts.{IsFirstBad, IsGoodLine, IsReached, IsScript, AppendsLine, IsScriptLineError, IsScriptParseError, filled_lines}
@@ -22,24 +22,24 @@ pub record IsReadTo (hash : hash.Kind) (content rest : List ℕ) (commands : Lis
   pub counted : number ≡ length lines + 1
   pub bound : number + length rest ≤ length content + 1
 
-pub nothing_read : (hash : hash.Kind) (content : List ℕ) → IsReadTo hash content content [] 1
-nothing_read hash content =
-    record { lines = []; prefix = none_in_prefix newline content; each = tt; good = All-nil (IsGoodLine hash); counted = refl; bound = omega arith }
+pub is_read_to_nil : (hash : hash.Kind) (content : List ℕ) → IsReadTo hash content content [] 1
+is_read_to_nil hash content =
+    record { lines = []; prefix = are_prefixes_nil newline content; each = tt; good = All-nil (IsGoodLine hash); counted = refl; bound = omega arith }
 
 -- ---- one line
 
 -- a line that is not empty appends its command
-pub a_command_appended : (hash : hash.Kind) (line : List ℕ) (command : CommandView) (old new : List CommandView) → line ≢ []
+pub appends_line_of_command : (hash : hash.Kind) (line : List ℕ) (command : CommandView) (old new : List CommandView) → line ≢ []
     → DecodesToCommand hash line command → new ≡ old ++ command ∷ [] → AppendsLine hash line old new
-a_command_appended hash [] command old new some is inserted = absurd (some refl)
-a_command_appended hash (byte ∷ bytes) command old new some is inserted = (command ∷ [], (is, tt), inserted)
+appends_line_of_command hash [] command old new some is inserted = absurd (some refl)
+appends_line_of_command hash (byte ∷ bytes) command old new some is inserted = (command ∷ [], (is, tt), inserted)
 
 -- ---- line by line
 
-pub filled_push : (lines : List (List ℕ)) (line : List ℕ) → filled_lines (lines ++ line ∷ []) ≡ filled_lines lines ++ filled_lines (line ∷ [])
-filled_push [] line = refl
-filled_push ([] ∷ lines) line = filled_push lines line
-filled_push ((byte ∷ bytes) ∷ lines) line = ap (λ (it : List (List ℕ)). (byte ∷ bytes) ∷ it) (filled_push lines line)
+pub filled_lines_snoc : (lines : List (List ℕ)) (line : List ℕ) → filled_lines (lines ++ line ∷ []) ≡ filled_lines lines ++ filled_lines (line ∷ [])
+filled_lines_snoc [] line = refl
+filled_lines_snoc ([] ∷ lines) line = filled_lines_snoc lines line
+filled_lines_snoc ((byte ∷ bytes) ∷ lines) line = ap (λ (it : List (List ℕ)). (byte ∷ bytes) ∷ it) (filled_lines_snoc lines line)
 
 zip_join : {X Y : Type 0} (R : X → Y → Type 0) (xs xs' : List X) (ys ys' : List Y) → AllZip R xs ys → AllZip R xs' ys' → AllZip R (xs ++ xs') (ys ++ ys')
 zip_join R [] xs' [] ys' first second = second
@@ -55,7 +55,7 @@ good_line hash (byte ∷ bytes) (command ∷ own) are = inr (command, are.0)
 each_more : (hash : hash.Kind) (lines : List (List ℕ)) (line : List ℕ) (old new : List CommandView) → AllZip (DecodesToCommand hash) (filled_lines lines) old
     → AppendsLine hash line old new → AllZip (DecodesToCommand hash) (filled_lines (lines ++ line ∷ [])) new
 each_more hash lines line old new each (own, are, inserted) =
-    rw (filled_push lines line, inserted) (zip_join (DecodesToCommand hash) (filled_lines lines) (filled_lines (line ∷ [])) old own each are)
+    rw (filled_lines_snoc lines line, inserted) (zip_join (DecodesToCommand hash) (filled_lines lines) (filled_lines (line ∷ [])) old own each are)
 
 length_push : (lines : List (List ℕ)) (line : List ℕ) → length (lines ++ line ∷ []) ≡ length lines + 1
 length_push lines line = length-append lines (line ∷ [])
@@ -63,13 +63,13 @@ length_push lines line = length-append lines (line ∷ [])
 split_length : (rest line after : List ℕ) → SplitsAt newline rest line after → length after + 1 ≤ length rest
 split_length rest line after splits = omega (arith, ap length splits.joined, length-append line (newline ∷ after))
 
-pub one_line_more : (hash : hash.Kind) (content rest line after : List ℕ) (old new : List CommandView) (number : ℕ) → IsReadTo hash content rest old number
+pub is_read_to_snoc : (hash : hash.Kind) (content rest line after : List ℕ) (old new : List CommandView) (number : ℕ) → IsReadTo hash content rest old number
     → SplitsAt newline rest line after → AppendsLine hash line old new
     → IsReadTo hash content after new (number + 1)
-one_line_more hash content rest line after old new number so_far splits inserts =
+is_read_to_snoc hash content rest line after old new number so_far splits inserts =
     record {
       lines = so_far.lines ++ line ∷ [];
-      prefix = one_more newline content rest so_far.lines line after so_far.prefix splits;
+      prefix = are_prefixes_snoc newline content rest so_far.lines line after so_far.prefix splits;
       each = each_more hash so_far.lines line old new so_far.each inserts;
       good = All-push (IsGoodLine hash) so_far.lines line so_far.good (good_line hash line inserts.0 inserts.1);
       counted = ap (λ (it : ℕ). it + 1) so_far.counted ∙ ap (λ (it : ℕ). it + 1) (sym (length_push so_far.lines line));
@@ -77,12 +77,13 @@ one_line_more hash content rest line after old new number so_far splits inserts 
     }
 
 -- the current line is reached
-pub reached : (hash : hash.Kind) (content rest line after : List ℕ) (commands : List CommandView) (number : ℕ) → IsReadTo hash content rest commands number
+pub is_reached_at_line : (hash : hash.Kind) (content rest line after : List ℕ) (commands : List CommandView) (number : ℕ)
+    → IsReadTo hash content rest commands number
     → SplitsAt newline rest line after → IsReached hash content number line
-reached hash content rest line after commands number so_far splits =
-    let (others, cut) = parts_of newline after in
-    let entire = and_the_rest newline content after (so_far.lines ++ line ∷ []) others
-    (one_more newline content rest so_far.lines line after so_far.prefix splits) cut in
+is_reached_at_line hash content rest line after commands number so_far splits =
+    let (others, cut) = split_at_each_exists newline after in
+    let entire = is_split_at_each_append newline content after (so_far.lines ++ line ∷ []) others
+    (are_prefixes_snoc newline content rest so_far.lines line after so_far.prefix splits) cut in
     let P : List (List ℕ) → Type 0 = IsSplitAtEach newline content in
     record {
       before = so_far.lines;
@@ -92,28 +93,29 @@ reached hash content rest line after commands number so_far splits =
       counted = so_far.counted;
     }
 
-pub last_reached : (hash : hash.Kind) (content rest : List ℕ) (commands : List CommandView) (number : ℕ) → IsReadTo hash content rest commands number
+pub is_reached_at_last_line : (hash : hash.Kind) (content rest : List ℕ) (commands : List CommandView) (number : ℕ) → IsReadTo hash content rest commands number
     → IsByteFree newline rest → IsReached hash content number rest
-last_reached hash content rest commands number so_far free =
+is_reached_at_last_line hash content rest commands number so_far free =
     record {
       before = so_far.lines;
       following = [];
-      split_parts = the_last newline content rest so_far.lines so_far.prefix free;
+      split_parts = is_split_at_each_snoc newline content rest so_far.lines so_far.prefix free;
       good = so_far.good;
       counted = so_far.counted;
     }
 
 -- an error of a reached line is an error of the script
-pub line_rejected : (hash : hash.Kind) (content line : List ℕ) (number : ℕ) (error : ScriptError) → IsReached hash content number line
+pub script_error_of_line : (hash : hash.Kind) (content line : List ℕ) (number : ℕ) (error : ScriptError) → IsReached hash content number line
     → IsScriptLineError hash number line error → IsScriptParseError hash content error
-line_rejected hash content line number (BadLine bad) is (same, wrong) = (let P : ℕ → Type 0 = IsFirstBad hash content in subst P (sym same) (line, is, wrong))
-line_rejected hash content line number OutOfMemory is has = (number, line, is, has)
+script_error_of_line hash content line number (BadLine bad) is (same, wrong) =
+    (let P : ℕ → Type 0 = IsFirstBad hash content in subst P (sym same) (line, is, wrong))
+script_error_of_line hash content line number OutOfMemory is has = (number, line, is, has)
 
-pub all_read : (hash : hash.Kind) (content rest : List ℕ) (old new : List CommandView) (number : ℕ) → IsReadTo hash content rest old number
+pub is_script_at_end : (hash : hash.Kind) (content rest : List ℕ) (old new : List CommandView) (number : ℕ) → IsReadTo hash content rest old number
     → IsByteFree newline rest → AppendsLine hash rest old new → IsScript hash content new
-all_read hash content rest old new number so_far free inserts =
+is_script_at_end hash content rest old new number so_far free inserts =
     record {
       lines = so_far.lines ++ rest ∷ [];
-      split_parts = the_last newline content rest so_far.lines so_far.prefix free;
+      split_parts = is_split_at_each_snoc newline content rest so_far.lines so_far.prefix free;
       each = each_more hash so_far.lines rest old new so_far.each inserts;
     }

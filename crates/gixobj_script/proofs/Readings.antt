@@ -5,9 +5,9 @@ use Rattle.std.proofs.lemmas.List.{append-nil}
 use Rattle.std.specs.List.{AllZip}
 use Rattle.gixobj_editor.specs.Views.{CommandView}
 use Rattle.gixobj_hash.specs.declared.hash.kind.Kind as hash
-use Rattle.gixobj_hash.proofs.SplitsAtEach.{flat_join, one_way, parts_of}
-use Rattle.gixobj_script.proofs.EncodedLines.{one_command}
-use Rattle.gixobj_script.proofs.Reading.{filled_push}
+use Rattle.gixobj_hash.proofs.SplitsAtEach.{flat_map_ended_append, split_at_each_unique, split_at_each_exists}
+use Rattle.gixobj_script.proofs.EncodedLines.{command_unique}
+use Rattle.gixobj_script.proofs.Reading.{filled_lines_snoc}
 use Rattle.gixobj_script.specs.Lines.{DecodesToCommand}
 use Rattle.gixobj_hash.specs.Splits.{IsSplitAtEach}
 use Rattle.gixobj_script.specs.Scripts.{IsBadLine, IsFirstBad, IsGoodLine, IsScript, filled_lines}
@@ -24,15 +24,15 @@ all_same hash [] (x ∷ a) b first second = absurd first
 all_same hash (line ∷ lines) [] b first second = absurd first
 all_same hash (line ∷ lines) (x ∷ a) [] first second = absurd second
 all_same hash (line ∷ lines) (x ∷ a) (y ∷ b) first second =
-    let heads = one_command hash line x y first.0 second.0 in
+    let heads = command_unique hash line x y first.0 second.0 in
     let tails = all_same hash lines a b first.1 second.1 in
     cc (heads, tails)
 
-pub one_script : (hash : hash.Kind) (content : List ℕ) (a b : List CommandView) → IsScript hash content a → IsScript hash content b → a ≡ b
-one_script hash content a b first second =
+pub script_unique : (hash : hash.Kind) (content : List ℕ) (a b : List CommandView) → IsScript hash content a → IsScript hash content b → a ≡ b
+script_unique hash content a b first second =
     let P : List (List ℕ) → Type 0 = λ it. AllZip (DecodesToCommand hash) (filled_lines it) b in
     all_same hash (filled_lines first.lines) a b first.each
-    (subst P (one_way newline content second.lines first.lines second.split_parts first.split_parts) second.each)
+    (subst P (split_at_each_unique newline content second.lines first.lines second.split_parts first.split_parts) second.each)
 
 -- ---- bad lines
 
@@ -55,9 +55,10 @@ as_many hash (first ∷ a) (second ∷ b) x y line line' good good' bad bad' sam
     let tails : a ++ line ∷ x ≡ b ++ line' ∷ y = cc same in
     ap suc (as_many hash a b x y line line' (All-tail (IsGoodLine hash) first a good) (All-tail (IsGoodLine hash) second b good') bad bad' tails)
 
-pub one_bad : (hash : hash.Kind) (content : List ℕ) (number number' : ℕ) → IsFirstBad hash content number → IsFirstBad hash content number' → number ≡ number'
-one_bad hash content number number' (line, first, bad) (line', second, bad') =
-    let same = one_way newline content _ _ first.split_parts second.split_parts in
+pub malformed_line_unique : (hash : hash.Kind) (content : List ℕ) (number number' : ℕ) → IsFirstBad hash content number → IsFirstBad hash content number'
+    → number ≡ number'
+malformed_line_unique hash content number number' (line, first, bad) (line', second, bad') =
+    let same = split_at_each_unique newline content _ _ first.split_parts second.split_parts in
     let many = as_many hash first.before second.before first.following second.following line line' first.good second.good bad bad' same in
     first.counted ∙ ap (λ (it : ℕ). it + 1) many ∙ sym second.counted
 
@@ -74,10 +75,11 @@ within : (hash : hash.Kind) (before after : List (List ℕ)) (line : List ℕ) �
 within hash [] after line good = All-head (IsGoodLine hash) line after good
 within hash (first ∷ before) after line good = within hash before after line (All-tail (IsGoodLine hash) first (before ++ line ∷ after) good)
 
-pub no_bad : (hash : hash.Kind) (content : List ℕ) (commands : List CommandView) (number : ℕ) → IsScript hash content commands → IsFirstBad hash content number
+pub no_malformed_line_of_script : (hash : hash.Kind) (content : List ℕ) (commands : List CommandView) (number : ℕ) → IsScript hash content commands
+    → IsFirstBad hash content number
     → ⊥
-no_bad hash content commands number script (line, is, bad) =
-    let same = one_way newline content _ _ script.split_parts is.split_parts in
+no_malformed_line_of_script hash content commands number script (line, is, bad) =
+    let same = split_at_each_unique newline content _ _ script.split_parts is.split_parts in
     let good = subst (All (IsGoodLine hash)) same (all_good hash script.lines commands script.each) in
     no_good hash line (within hash is.before is.following line good) bad
 
@@ -88,16 +90,16 @@ and_empty : (content : List ℕ) (lines : List (List ℕ)) → IsSplitAtEach new
     (lines ++ [] ∷ [])
 and_empty content lines cut =
     record {
-      joined = ap (λ (it : List ℕ). it ++ newline ∷ []) cut.joined ∙ sym (flat_join newline lines ([] ∷ []));
+      joined = ap (λ (it : List ℕ). it ++ newline ∷ []) cut.joined ∙ sym (flat_map_ended_append newline lines ([] ∷ []));
       free = All-push (IsByteFree newline) lines [] cut.free (All-nil (λ (it : ℕ). it ≡ newline → ⊥));
     }
 
 none_filled : (lines : List (List ℕ)) → filled_lines (lines ++ [] ∷ []) ≡ filled_lines lines
-none_filled lines = filled_push lines [] ∙ append-nil (filled_lines lines)
+none_filled lines = filled_lines_snoc lines [] ∙ append-nil (filled_lines lines)
 
-pub newline_or_not : (hash : hash.Kind) (content : List ℕ) (commands : List CommandView) → IsScript hash content commands ↔ IsScript hash
+pub is_script_iff_with_newline : (hash : hash.Kind) (content : List ℕ) (commands : List CommandView) → IsScript hash content commands ↔ IsScript hash
     (content ++ newline ∷ []) commands
-newline_or_not hash content commands = (with_newline, without)
+is_script_iff_with_newline hash content commands = (with_newline, without)
   where
     P : List (List ℕ) → Type 0
     P it = AllZip (DecodesToCommand hash) it commands
@@ -112,6 +114,6 @@ newline_or_not hash content commands = (with_newline, without)
 
     without : IsScript hash (content ++ newline ∷ []) commands → IsScript hash content commands
     without script =
-        let (lines, cut) = parts_of newline content in
-        let same = one_way newline (content ++ newline ∷ []) script.lines (lines ++ [] ∷ []) script.split_parts (and_empty content lines cut) in
+        let (lines, cut) = split_at_each_exists newline content in
+        let same = split_at_each_unique newline (content ++ newline ∷ []) script.lines (lines ++ [] ∷ []) script.split_parts (and_empty content lines cut) in
         record { lines = lines; split_parts = cut; each = subst P (ap filled_lines same ∙ none_filled lines) script.each }

@@ -17,13 +17,13 @@ use Rattle.gixobj_script.specs.declared.script.ScriptError.{ScriptError}
 use Rattle.gixobj_script.proofs.Wider.{run_wider}
 
 -- the report of a run is that of `edit` if the closure returns digests only
-pub is_edit : {F : Type 0} (of : Shared F (Bor (List EntryView) × Unit {0}) (Result ObjectId Error)) (out : F) (hash : hash.Kind) (script : List ℕ)
+pub is_edit_of_report : {F : Type 0} (of : Shared F (Bor (List EntryView) × Unit {0}) (Result ObjectId Error)) (out : F) (hash : hash.Kind) (script : List ℕ)
     (old new : State Memory) (result : Result (Vec ℕ Global) ScriptError)
     → ((tree : List EntryView) (answer : Result ObjectId Error) → FnReturnsAt of out tree answer → IsAnsweredDigest hash tree answer)
     → IsNewEditor hash old
     → IfOk result (λ bytes. IsReported memory_model (λ tree answer. FnReturnsAt of out tree answer) hash script old bytes.items new)
     → IfOk result (λ bytes. IsEdit hash script bytes.items)
-is_edit of out hash script old new (Ok bytes) within begun seen = record {
+is_edit_of_report of out hash script old new (Ok bytes) within begun seen = record {
   old = old;
   new = new;
   begun = begun;
@@ -35,4 +35,4 @@ is_edit of out hash script old new (Ok bytes) within begun seen = record {
     yields = seen.yields;
   };
 }
-is_edit of out hash script old new (Err error) within begun seen = tt
+is_edit_of_report of out hash script old new (Err error) within begun seen = tt

@@ -6,7 +6,7 @@ use Rattle.gixobj_hash.specs.declared.decode.LooseContentError.{LooseContentErro
 use Rattle.gixobj_hash.specs.declared.hash.kind.Kind as hash
 use Rattle.gixobj_fields.specs.Streams.{SinkView}
 use Rattle.gixobj_script.specs.Listing.{IsUnlisted, IsListError, IsListedTreeError, IsListingError}
-use Rattle.gixobj_show.proofs.Contents.{rejected_content}
+use Rattle.gixobj_show.proofs.Contents.{show_error_of_content}
 use Rattle.gixobj_show.specs.Engine.{ReadsAll, HasWrittenNothing}
 use Rattle.gixobj_show.specs.Failure.{content_error}
 use Rattle.gixobj_show.specs.Show.{IsShowError}
@@ -24,21 +24,22 @@ tree_failed input ShortData rejected = rejected
 tree_failed input NotATree rejected = absurd rejected
 tree_failed input BadTree rejected = absurd rejected
 
-pub rejected_tree : (input : List ℕ) (error : LooseContentError) → IsLooseContentError input error → IsListedTreeError input (content_error error)
-rejected_tree input error rejected = tree_failed input (content_error error) (rejected_content input error rejected)
+pub listed_tree_error_of_content : (input : List ℕ) (error : LooseContentError) → IsLooseContentError input error
+    → IsListedTreeError input (content_error error)
+listed_tree_error_of_content input error rejected = tree_failed input (content_error error) (show_error_of_content input error rejected)
 
-pub rejected_list : (words : List (List ℕ)) (rest rest' : Option (List ℕ)) (may_fail : Type 0) (out out' : SinkView) (cause : Failure) (hash : hash.Kind)
+pub list_error_of_answer : (words : List (List ℕ)) (rest rest' : Option (List ℕ)) (may_fail : Type 0) (out out' : SinkView) (cause : Failure) (hash : hash.Kind)
     (input : List ℕ)
     → IsCommandOfHash words (codes "tree") hash → ReadsAll rest rest' input → IsListingError hash input cause
     → IsListError words rest rest' may_fail out out' cause
-rejected_list words rest rest' may_fail out out' Usage hash input requests read rejected = absurd rejected
-rejected_list words rest rest' may_fail out out' InputFailed hash input requests read rejected = absurd rejected
-rejected_list words rest rest' may_fail out out' OutputFailed hash input requests read rejected = absurd rejected
-rejected_list words rest rest' may_fail out out' OutOfMemory hash input requests read rejected = (hash, requests)
-rejected_list words rest rest' may_fail out out' BadHeader hash input requests read rejected = ((hash, requests), input, read, rejected)
-rejected_list words rest rest' may_fail out out' ShortData hash input requests read rejected = ((hash, requests), input, read, rejected)
-rejected_list words rest rest' may_fail out out' NotATree hash input requests read rejected = ((hash, requests), input, read, rejected)
-rejected_list words rest rest' may_fail out out' BadTree hash input requests read rejected = (hash, input, requests, read, rejected)
+list_error_of_answer words rest rest' may_fail out out' Usage hash input requests read rejected = absurd rejected
+list_error_of_answer words rest rest' may_fail out out' InputFailed hash input requests read rejected = absurd rejected
+list_error_of_answer words rest rest' may_fail out out' OutputFailed hash input requests read rejected = absurd rejected
+list_error_of_answer words rest rest' may_fail out out' OutOfMemory hash input requests read rejected = (hash, requests)
+list_error_of_answer words rest rest' may_fail out out' BadHeader hash input requests read rejected = ((hash, requests), input, read, rejected)
+list_error_of_answer words rest rest' may_fail out out' ShortData hash input requests read rejected = ((hash, requests), input, read, rejected)
+list_error_of_answer words rest rest' may_fail out out' NotATree hash input requests read rejected = ((hash, requests), input, read, rejected)
+list_error_of_answer words rest rest' may_fail out out' BadTree hash input requests read rejected = (hash, input, requests, read, rejected)
 
 -- an output is unchanged by a fact that follows from one by which it is unchanged
 unwritten_by : {A B : Type 0} → (A → B) → (cause : Failure) → HasWrittenNothing A cause → HasWrittenNothing B cause
@@ -52,9 +53,10 @@ unwritten_by passed NotATree remaining = passed remaining
 unwritten_by passed BadTree remaining = passed remaining
 
 -- a failed list over streams is a failed list over equal streams
-pub unlisted_by : {A B may_fail : Type 0} (words : List (List ℕ)) (rest read read' : Option (List ℕ)) (out out' out'' errors errors' errors'' : SinkView)
+pub is_unlisted_of_error : {A B may_fail : Type 0} (words : List (List ℕ)) (rest read read' : Option (List ℕ))
+    (out out' out'' errors errors' errors'' : SinkView)
     (status : ℕ)
     → read ≡ read' → out' ≡ out'' → errors' ≡ errors'' → (A → B)
     → IsUnlisted words rest read may_fail out out' errors errors' A status → IsUnlisted words rest read' may_fail out out'' errors errors'' B status
-unlisted_by words rest read read' out out' out'' errors errors' errors'' status same-read same-out same-errors passed it =
+is_unlisted_of_error words rest read read' out out' out'' errors errors' errors'' status same-read same-out same-errors passed it =
     (it.0, it.1, rw (← same-read, ← same-out) it.2, rw (← same-errors) it.3, unwritten_by passed it.0 it.4)

@@ -5,16 +5,18 @@ use Rattle.gixobj_hash.specs.declared.decode.LooseContentError.{LooseContentErro
 use Rattle.gixobj_hash.specs.declared.decode.LooseContentError.TheVariants.{Header, Short}
 use Rattle.gixobj_hash.specs.declared.decode.LooseHeaderDecodeError.{LooseHeaderDecodeError}
 use Rattle.gixobj_hash.specs.declared.decode.LooseHeaderDecodeError.TheVariants as header
-use Rattle.gixobj_hash.proofs.Headers.{not_rejected, parts_of}
+use Rattle.gixobj_hash.proofs.Headers.{no_error_of_loose_header, parts_of_loose_header}
 use Rattle.gixobj_show.specs.Failure.{HasNoLooseHeader, content_error}
 use Rattle.gixobj_show.specs.Show.{IsShowError}
 
 no_header : (input : List ℕ) (error : LooseHeaderDecodeError) → IsLooseHeaderError input error → HasNoLooseHeader input
-no_header input error rejected kind size used header = not_rejected input kind size used error (parts_of input kind size used header) rejected
+no_header input error rejected kind size used header = no_error_of_loose_header input kind size used error
+    (parts_of_loose_header input kind size used header) rejected
 
-pub rejected_content : (input : List ℕ) (error : LooseContentError) → IsLooseContentError input error → IsShowError input (content_error error)
-rejected_content input (Header header.OutOfMemory) rejected = no_header input header.OutOfMemory rejected
-rejected_content input (Header (header.InvalidHeader message)) rejected = no_header input (header.InvalidHeader message) rejected
-rejected_content input (Header (header.ObjectHeader token)) rejected = no_header input (header.ObjectHeader token) rejected
-rejected_content input (Header (header.ParseIntegerError fault message copy)) rejected = no_header input (header.ParseIntegerError fault message copy) rejected
-rejected_content input (Short size) (kind, rest, begins, less) = (kind, size, rest, begins, less)
+pub show_error_of_content : (input : List ℕ) (error : LooseContentError) → IsLooseContentError input error → IsShowError input (content_error error)
+show_error_of_content input (Header header.OutOfMemory) rejected = no_header input header.OutOfMemory rejected
+show_error_of_content input (Header (header.InvalidHeader message)) rejected = no_header input (header.InvalidHeader message) rejected
+show_error_of_content input (Header (header.ObjectHeader token)) rejected = no_header input (header.ObjectHeader token) rejected
+show_error_of_content input (Header (header.ParseIntegerError fault message copy)) rejected =
+    no_header input (header.ParseIntegerError fault message copy) rejected
+show_error_of_content input (Short size) (kind, rest, begins, less) = (kind, size, rest, begins, less)

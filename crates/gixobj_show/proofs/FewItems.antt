@@ -15,10 +15,12 @@ map_two f (a ∷ b ∷ []) x y len first second = cc (first, second)
 map_two f (a ∷ b ∷ c ∷ xs) x y len first second = absurd (omega arith)
 
 -- arguments with another first argument are not the command
-pub one_else : {X : Type 0} (f : X → List ℕ) (xs : List X) (x : X) (command : List ℕ) → length xs ≡ 1 → x ≡ get_or xs 0 x → f x ≢ command → (hash : Kind)
+pub map_one_ne_command : {X : Type 0} (f : X → List ℕ) (xs : List X) (x : X) (command : List ℕ) → length xs ≡ 1 → x ≡ get_or xs 0 x → f x ≢ command
+    → (hash : Kind)
     → ¬ (map f xs ≡ command ∷ hash_arguments hash)
-one_else f xs x command len first other hash is = other (cc (map_one f xs x len first, is))
+map_one_ne_command f xs x command len first other hash is = other (cc (map_one f xs x len first, is))
 
-pub two_else : {X : Type 0} (f : X → List ℕ) (xs : List X) (x y : X) (command : List ℕ) → length xs ≡ 2 → x ≡ get_or xs 0 x → y ≡ get_or xs 1 y → f x ≢ command
+pub map_two_ne_command : {X : Type 0} (f : X → List ℕ) (xs : List X) (x y : X) (command : List ℕ) → length xs ≡ 2 → x ≡ get_or xs 0 x → y ≡ get_or xs 1 y
+    → f x ≢ command
     → (hash : Kind) → ¬ (map f xs ≡ command ∷ hash_arguments hash)
-two_else f xs x y command len first second other hash is = other (cc (map_two f xs x y len first second, is))
+map_two_ne_command f xs x y command len first second other hash is = other (cc (map_two f xs x y len first second, is))

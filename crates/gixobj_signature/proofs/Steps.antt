@@ -12,10 +12,10 @@ use Rattle.gixobj_signature.specs.Verifying.{Verified, accepts, on_output, rest_
 use Rattle.gixobj_signature.specs.VerifyingCalls.{principal_call}
 
 -- each plan may end before its first call
-pub begins_at_once : {S R : Type 0} (runs : S → CallView → Answer → S → Type 0) (plan : Plan R) (s : S) → BeginsPlan runs plan s s
-begins_at_once runs (done it) s = refl
-begins_at_once runs (ask call next) s = inl refl
-begins_at_once runs no_more s = refl
+pub begins_plan_refl : {S R : Type 0} (runs : S → CallView → Answer → S → Type 0) (plan : Plan R) (s : S) → BeginsPlan runs plan s s
+begins_plan_refl runs (done it) s = refl
+begins_plan_refl runs (ask call next) s = inl refl
+begins_plan_refl runs no_more s = refl
 
 -- after an answer, the plan that it chooses remains
 answered : {S R : Type 0} (runs : S → CallView → Answer → S → Type 0) (call : CallView) (next : Answer → Plan R) (answer : Answer) (s m u : S)
@@ -32,18 +32,18 @@ follow : {S : Type 0} (runs : S → CallView → Answer → S → Type 0) (next 
     (m t : S)
     → IsCarriedOut runs (on_output answer (λ it. no_more)) m outcome t → IsCarriedOut runs (on_output answer next) m outcome t
 follow runs next (ran it) (Some r) m t goes = absurd goes
-follow runs next (ran it) None m t goes = subst (λ (end : _). BeginsPlan runs (next it) m end) (sym goes) (begins_at_once runs (next it) m)
+follow runs next (ran it) None m t goes = subst (λ (end : _). BeginsPlan runs (next it) m end) (sym goes) (begins_plan_refl runs (next it) m)
 follow runs next (failed why) outcome m t goes = goes
 follow runs next no_memory outcome m t goes = goes
 
 -- the result of a call without output is a result of each plan that begins with the call
-pub not_answered : {S : Type 0} (runs : S → CallView → Answer → S → Type 0) (call : CallView) (next : OutputView → Plan Verified)
+pub carried_out_of_no_answer : {S : Type 0} (runs : S → CallView → Answer → S → Type 0) (call : CallView) (next : OutputView → Plan Verified)
     (outcome : Option Verified)
     (s t : S)
     → IsCarriedOut runs (call_alone call) s outcome t → IsCarriedOut runs (ask call (λ answer. on_output answer next)) s outcome t
-not_answered runs call next (Some r) s t (answer, m, run, goes) = (answer, m, run, follow runs next answer (Some r) m t goes)
-not_answered runs call next None s t (inl same) = inl same
-not_answered runs call next None s t (inr (answer, m, run, goes)) = inr (answer, m, run, follow runs next answer None m t goes)
+carried_out_of_no_answer runs call next (Some r) s t (answer, m, run, goes) = (answer, m, run, follow runs next answer (Some r) m t goes)
+carried_out_of_no_answer runs call next None s t (inl same) = inl same
+carried_out_of_no_answer runs call next None s t (inr (answer, m, run, goes)) = inr (answer, m, run, follow runs next answer None m t goes)
 
 -- the plan after an output for a principal
 abbrev after_answer : ProgramView → SshView → List ℕ → List ℕ → List ℕ → List (List ℕ) → OutputView → Bool → Plan Verified
@@ -57,7 +57,7 @@ module _ {S : Type 0} (runs : S → CallView → Answer → S → Type 0) (by : 
   tries_failed : (outcome : Option Verified) (t : S) → IsCarriedOut runs (call_alone (principal_call by ssh signature signed principal)) s outcome t
       → IsCarriedOut runs entire u outcome t
   unfolding tries
-  tries_failed outcome t goes = remaining outcome t (not_answered runs (principal_call by ssh signature signed principal) _ outcome s t goes)
+  tries_failed outcome t goes = remaining outcome t (carried_out_of_no_answer runs (principal_call by ssh signature signed principal) _ outcome s t goes)
 
   after_call : (it : OutputView) (m : S) → runs s (principal_call by ssh signature signed principal) (ran it) m
       → IsRemainingPlan runs (after_answer by ssh signature signed principal principals it (accepts it)) m entire u
@@ -114,7 +114,7 @@ module _ {S : Type 0} (runs : S → CallView → Answer → S → Type 0) (by : 
       → IsCarriedOut runs entire u None m
   item_no_memory it m run =
       after_call runs by ssh signature signed (bstring_bytes item) (map bstring_bytes (drop (k + 1) ps)) last entire s u opened it m run None m
-      (begins_at_once runs _ m)
+      (begins_plan_refl runs _ m)
 
   -- after a principal that isn't accepted, the calls for the next ones remain of the entire plan
   pub item_more : (it : OutputView) (m : S) → runs s (principal_call by ssh signature signed (bstring_bytes item)) (ran it) m → accepts it ≡ false
@@ -124,12 +124,12 @@ module _ {S : Type 0} (runs : S → CallView → Answer → S → Type 0) (by : 
       not_so
 
 -- after the last principal, the plan without an accepted one remains of the entire plan
-pub items_end : {S : Type 0} (runs : S → CallView → Answer → S → Type 0) (by : ProgramView) (ssh : SshView) (signature signed : List ℕ)
+pub remaining_plan_at_end : {S : Type 0} (runs : S → CallView → Answer → S → Type 0) (by : ProgramView) (ssh : SshView) (signature signed : List ℕ)
     (ps : List BString)
     (k : ℕ) (last : Option OutputView) (entire : Plan Verified) (s u : S)
     → length ps ≤ k → IsRemainingPlan runs (tries by ssh signature signed (map bstring_bytes (drop k ps)) last) s entire u
     → IsRemainingPlan runs (rest_plan by ssh signature signed last) s entire u
-items_end runs by ssh signature signed ps k last entire s u past remaining =
+remaining_plan_at_end runs by ssh signature signed ps k last entire s u past remaining =
     tries_end runs by ssh signature signed last entire s u
     (subst (λ (xs : List BString). IsRemainingPlan runs (tries by ssh signature signed (map bstring_bytes xs) last) s entire u)
     (drop_all k ps past) remaining)

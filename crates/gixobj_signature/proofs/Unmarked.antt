@@ -5,7 +5,7 @@ use Rattle.gixobj_signature.specs.Verifiers.{OptionsView, by_open_pgp, by_ssh, b
 use Rattle.gixobj_signature.specs.Verifying.{unsupported, verify_plan}
 
 -- without a marker the plan makes no call, for any options
-pub no_plan : (it : OptionsView) (signature signed : List ℕ) → verify_plan it signature signed None ≡ done unsupported
-no_plan (by_open_pgp by) signature signed = refl
-no_plan (by_x509 by) signature signed = refl
-no_plan (by_ssh by ssh) signature signed = refl
+pub verify_plan_of_no_format : (it : OptionsView) (signature signed : List ℕ) → verify_plan it signature signed None ≡ done unsupported
+verify_plan_of_no_format (by_open_pgp by) signature signed = refl
+verify_plan_of_no_format (by_x509 by) signature signed = refl
+verify_plan_of_no_format (by_ssh by ssh) signature signed = refl

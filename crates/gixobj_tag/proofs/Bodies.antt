@@ -4,19 +4,19 @@ use Rattle.std.proofs.Common.{◌≡◌, ◌≢◌, ◌+◌, ◌-◌, ℕ, List,
 use Rattle.std.proofs.Math.Seq.{drop-append_seam, take-append_seam}
 use Rattle.std.proofs.lemmas.Bool.{true≢false}
 use Rattle.std.proofs.lemmas.List.{take_rest}
-use Rattle.gixobj_text.proofs.MarkerPlaces.{not_both, one_marker_place}
+use Rattle.gixobj_text.proofs.MarkerPlaces.{no_marker_and_marker_place, marker_place_unique}
 use Rattle.gixobj_text.specs.Markers.{HasNoMarker, IsMarkerPlace, StartsLine}
 use Rattle.gixobj_text.specs.declared.signature.Format.{Format}
 use Rattle.gixobj_tag.specs.TagFormat.{HasNoBody, IsBody, IsParted, are_newlines, after_a_newline, newlines_alone, signed, signed_at_once, unsigned}
 
 -- ---- bytes split at their marker
 
-pub is_unsigned : (bytes message : List ℕ) → message ≡ bytes → HasNoMarker bytes → IsParted bytes message None
-is_unsigned bytes message same none = subst (λ (it : List ℕ). IsParted bytes it None) (sym same) (unsigned bytes none)
+pub is_parted_unsigned : (bytes message : List ℕ) → message ≡ bytes → HasNoMarker bytes → IsParted bytes message None
+is_parted_unsigned bytes message same none = subst (λ (it : List ℕ). IsParted bytes it None) (sym same) (unsigned bytes none)
 
-pub is_signed_at_once : (bytes message signature : List ℕ) (place : ℕ) (format : Format) → IsMarkerPlace bytes place format → place ≡ 0 → message ≡ []
+pub is_parted_at_start : (bytes message signature : List ℕ) (place : ℕ) (format : Format) → IsMarkerPlace bytes place format → place ≡ 0 → message ≡ []
     → signature ≡ bytes → IsParted bytes message (Some signature)
-is_signed_at_once bytes message signature place format is start bare same =
+is_parted_at_start bytes message signature place format is start bare same =
     let at : IsMarkerPlace bytes 0 format = subst (λ (it : ℕ). IsMarkerPlace bytes it format) start is in
     rw (bare, same) (signed_at_once bytes format at)
 
@@ -48,10 +48,10 @@ signed_by_prefix bytes message signature head rest place format is later before 
     let flat : bytes ≡ lines ++ 10 ∷ rest = joined ∙ ap (λ (it : List ℕ). it ++ rest) ends ∙ append_assoc lines (10 ∷ []) rest in
     signed_after bytes message signature lines rest place format is flat (sym long ∙ ap length ends ∙ length-append lines (10 ∷ [])) before after
 
-pub is_signed : (bytes message signature : List ℕ) (place : ℕ) (format : Format) → IsMarkerPlace bytes place format → (place ≡ 0 → ⊥)
+pub is_parted_at_marker : (bytes message signature : List ℕ) (place : ℕ) (format : Format) → IsMarkerPlace bytes place format → (place ≡ 0 → ⊥)
     → message ≡ take (place - 1) bytes → signature ≡ take (length bytes - place) (drop place bytes)
     → IsParted bytes message (Some signature)
-is_signed bytes message signature place format is later before after =
+is_parted_at_marker bytes message signature place format is later before after =
     signed_by_prefix bytes message signature is.here.prefix is.here.rest place format is later before after is.here.joined is.here.as_long
     is.here.starts
 
@@ -65,19 +65,19 @@ same_split a b x y long same =
 
 one_parting : (bytes m n : List ℕ) (s t : Option (List ℕ)) → IsParted bytes m s → IsParted bytes n t → (m ≡ n) × (s ≡ t)
 one_parting bytes m n s t (unsigned _ none) (unsigned _ none') = (refl, refl)
-one_parting bytes m n s t (unsigned _ none) (signed_at_once _ format is) = absurd (not_both bytes 0 format is none)
+one_parting bytes m n s t (unsigned _ none) (signed_at_once _ format is) = absurd (no_marker_and_marker_place bytes 0 format is none)
 one_parting bytes m n s t (unsigned _ none) (signed _ message signature format joined is) =
-    absurd (not_both bytes (length message + 1) format is none)
-one_parting bytes m n s t (signed_at_once _ format is) (unsigned _ none) = absurd (not_both bytes 0 format is none)
+    absurd (no_marker_and_marker_place bytes (length message + 1) format is none)
+one_parting bytes m n s t (signed_at_once _ format is) (unsigned _ none) = absurd (no_marker_and_marker_place bytes 0 format is none)
 one_parting bytes m n s t (signed_at_once _ format is) (signed_at_once _ format' is') = (refl, refl)
 one_parting bytes m n s t (signed_at_once _ format is) (signed _ message signature format' joined is') =
-    let same = (one_marker_place bytes 0 (length message + 1) format format' is is').0 in absurd (omega (arith, same))
+    let same = (marker_place_unique bytes 0 (length message + 1) format format' is is').0 in absurd (omega (arith, same))
 one_parting bytes m n s t (signed _ message signature format joined is) (unsigned _ none) =
-    absurd (not_both bytes (length message + 1) format is none)
+    absurd (no_marker_and_marker_place bytes (length message + 1) format is none)
 one_parting bytes m n s t (signed _ message signature format joined is) (signed_at_once _ format' is') =
-    let same = (one_marker_place bytes (length message + 1) 0 format format' is is').0 in absurd (omega (arith, same))
+    let same = (marker_place_unique bytes (length message + 1) 0 format format' is is').0 in absurd (omega (arith, same))
 one_parting bytes m n s t (signed _ message signature format joined is) (signed _ message' signature' format' joined' is') =
-    let same = (one_marker_place bytes (length message + 1) (length message' + 1) format format' is is').0 in
+    let same = (marker_place_unique bytes (length message + 1) (length message' + 1) format format' is is').0 in
     let long : length message ≡ length message' = omega (arith, same) in
     let cut = same_split message message' (10 ∷ signature) (10 ∷ signature') long (sym joined ∙ joined') in
     (cut.0, ap Some (cc cut.1))
@@ -89,26 +89,26 @@ not_newlines body bytes same are more =
     let all : IsTrue (are_newlines (10 ∷ bytes)) = subst (λ (it : List ℕ). IsTrue (are_newlines it)) same are in
     true≢false (sym all ∙ more)
 
-pub one_body : (body m n : List ℕ) (s t : Option (List ℕ)) → IsBody body m s → IsBody body n t → (m ≡ n) × (s ≡ t)
-one_body body m n s t (newlines_alone _ are) (newlines_alone _ are') = (refl, refl)
-one_body body m n s t (newlines_alone _ are) (after_a_newline _ bytes message signature joined more parted) =
+pub body_unique : (body m n : List ℕ) (s t : Option (List ℕ)) → IsBody body m s → IsBody body n t → (m ≡ n) × (s ≡ t)
+body_unique body m n s t (newlines_alone _ are) (newlines_alone _ are') = (refl, refl)
+body_unique body m n s t (newlines_alone _ are) (after_a_newline _ bytes message signature joined more parted) =
     absurd (not_newlines body bytes joined are more)
-one_body body m n s t (after_a_newline _ bytes message signature joined more parted) (newlines_alone _ are) =
+body_unique body m n s t (after_a_newline _ bytes message signature joined more parted) (newlines_alone _ are) =
     absurd (not_newlines body bytes joined are more)
-one_body body m n s t (after_a_newline _ bytes message signature joined more parted)
+body_unique body m n s t (after_a_newline _ bytes message signature joined more parted)
     (after_a_newline _ bytes' message' signature' joined' more' parted') =
     let same : bytes ≡ bytes' = cc (sym joined ∙ joined') in
     one_parting bytes message message' signature signature' parted (subst (λ (it : List ℕ). IsParted it message' signature') (sym same) parted')
 
-pub is_newlines : (body message : List ℕ) → IsTrue (are_newlines body) → message ≡ body → IsBody body message None
-is_newlines body message are same = subst (λ (it : List ℕ). IsBody body it None) (sym same) (newlines_alone body are)
+pub is_body_of_newlines : (body message : List ℕ) → IsTrue (are_newlines body) → message ≡ body → IsBody body message None
+is_body_of_newlines body message are same = subst (λ (it : List ℕ). IsBody body it None) (sym same) (newlines_alone body are)
 
-pub is_after_newline : (body bytes message : List ℕ) (signature : Option (List ℕ)) → IsFalse (are_newlines body) → body ≡ 10 ∷ bytes
+pub is_body_after_newline : (body bytes message : List ℕ) (signature : Option (List ℕ)) → IsFalse (are_newlines body) → body ≡ 10 ∷ bytes
     → IsParted bytes message signature → IsBody body message signature
-is_after_newline body bytes message signature more joined parted =
+is_body_after_newline body bytes message signature more joined parted =
     let after : IsFalse (are_newlines (10 ∷ bytes)) = subst (λ (it : List ℕ). IsFalse (are_newlines it)) joined more in
     after_a_newline body bytes message signature joined after parted
 
-pub no_body : (body : List ℕ) → IsFalse (are_newlines body) → ((rest : List ℕ) → body ≢ 10 ∷ rest) → HasNoBody body
-no_body body more other message signature (newlines_alone _ are) = true≢false (sym are ∙ more)
-no_body body more other message signature (after_a_newline _ bytes _ _ joined after parted) = other bytes joined
+pub no_body_of_other_byte : (body : List ℕ) → IsFalse (are_newlines body) → ((rest : List ℕ) → body ≢ 10 ∷ rest) → HasNoBody body
+no_body_of_other_byte body more other message signature (newlines_alone _ are) = true≢false (sym are ∙ more)
+no_body_of_other_byte body more other message signature (after_a_newline _ bytes _ _ joined after parted) = other bytes joined

@@ -3,19 +3,19 @@
 use Rattle.std.proofs.Common.{◌≡◌, ℕ, List, ◌∷◌, ◌++◌, IsTrue, Option, Some, None, append_assoc, ap, arith, refl, subst, sym, ◌∙◌}
 use Rattle.std.proofs.lemmas.Bool.{true≢false}
 use Rattle.std.specs.Prelude.{codes}
-use Rattle.gixobj_fields.proofs.HeaderFields.{digits_are_one_line, first_bytes, one_field}
+use Rattle.gixobj_fields.proofs.HeaderFields.{hex_digits_newline_free, first_bytes_eq, field_unique}
 use Rattle.gixobj_fields.specs.HeaderReading.{HasId, HasNoId, HasNoKind}
 use Rattle.gixobj_fields.specs.HeaderFormat.{HasField, HasOtherName, encode_field}
-use Rattle.gixobj_hash.proofs.Headers.{one_kind}
+use Rattle.gixobj_hash.proofs.Headers.{kind_keyword_injective}
 use Rattle.gixobj_hash.specs.Kind.{kind_name}
 use Rattle.gixobj_hash.specs.declared.hash.kind.Kind as hash
 use Rattle.gixobj_hash.specs.declared.kind.Kind.{Kind}
 use Rattle.gixobj_hash.specs.declared.kind.Kind.TheVariants as object
-use Rattle.gixobj_tag.proofs.Bodies.{one_body}
-use Rattle.gixobj_tag.proofs.Lines.{one_tagger}
+use Rattle.gixobj_tag.proofs.Bodies.{body_unique}
+use Rattle.gixobj_tag.proofs.Lines.{tagger_unique}
 use Rattle.gixobj_tag.specs.LineReading.{HasName, HasNoName, HasNoTagger, HasTagger}
 use Rattle.gixobj_tag.specs.TagFormat.{HasNoBody, IsBody, IsMalformedTag, DecodesToTag, IsTaggerLine, TagLines, are_newlines, after_a_newline, newlines_alone, encode_tagger}
-use Rattle.gixobj_hash.proofs.Splits.{free_by_test}
+use Rattle.gixobj_hash.proofs.Splits.{byte_free_of_all_pass}
 use Rattle.gixobj_hash.specs.ByteStrings.{IsByteFree}
 
 -- the lines of a tag, decoded in turn, and its body
@@ -44,8 +44,8 @@ tagger_begins : (tagger : Option (List ℕ)) (input rest : List ℕ) → HasTagg
 tagger_begins None input rest has = tt
 tagger_begins (Some line) input rest (field, actor) = actor
 
-pub parts_append : (kind : hash.Kind) (bytes : List ℕ) (tag : TagLines) → Reads kind bytes tag → DecodesToTag kind bytes tag
-parts_append kind bytes tag reads =
+pub decodes_tag_of_parts : (kind : hash.Kind) (bytes : List ℕ) (tag : TagLines) → Reads kind bytes tag → DecodesToTag kind bytes tag
+decodes_tag_of_parts kind bytes tag reads =
     record {
       body = reads.body;
       joined = join_lines bytes (encode_field (codes "object") tag.target) reads.after_target
@@ -67,13 +67,13 @@ lacks_tagger body message signature (newlines_alone _ are) rest same =
     let all : IsTrue (are_newlines (codes "tagger" ++ 32 ∷ rest)) = subst (λ (it : List ℕ). IsTrue (are_newlines it)) same are in
     true≢false (sym all)
 lacks_tagger body message signature (after_a_newline _ bytes _ _ joined more parted) rest same =
-    let first : 116 ≡ 10 = first_bytes 116 10 _ _ (sym same ∙ joined) in absurd (omega (arith, first))
+    let first : 116 ≡ 10 = first_bytes_eq 116 10 _ _ (sym same ∙ joined) in absurd (omega (arith, first))
 
 value_is_one_line : (kind : Kind) → IsByteFree 10 (kind_name kind)
-value_is_one_line object.Tree = free_by_test 10 (kind_name object.Tree) refl
-value_is_one_line object.Blob = free_by_test 10 (kind_name object.Blob) refl
-value_is_one_line object.Commit = free_by_test 10 (kind_name object.Commit) refl
-value_is_one_line object.Tag = free_by_test 10 (kind_name object.Tag) refl
+value_is_one_line object.Tree = byte_free_of_all_pass 10 (kind_name object.Tree) refl
+value_is_one_line object.Blob = byte_free_of_all_pass 10 (kind_name object.Blob) refl
+value_is_one_line object.Commit = byte_free_of_all_pass 10 (kind_name object.Commit) refl
+value_is_one_line object.Tag = byte_free_of_all_pass 10 (kind_name object.Tag) refl
 
 field_there : (name input value rest : List ℕ) → input ≡ encode_field name value ++ rest → IsByteFree 10 value → HasField name input value rest
 field_there name input value rest joined free = record { joined = joined; one_line = free }
@@ -84,8 +84,8 @@ tagger_there None body message signature begins parted = (lacks_tagger body mess
 tagger_there (Some line) body message signature (name, email, time, rest, actor) parted =
     (field_there (codes "tagger") (encode_field (codes "tagger") line ++ body) line body refl actor.one_line, (name, email, time, rest, actor))
 
-pub take_apart : (kind : hash.Kind) (bytes : List ℕ) (tag : TagLines) → DecodesToTag kind bytes tag → Reads kind bytes tag
-take_apart kind bytes tag is =
+pub parts_of_decoded_tag : (kind : hash.Kind) (bytes : List ℕ) (tag : TagLines) → DecodesToTag kind bytes tag → Reads kind bytes tag
+parts_of_decoded_tag kind bytes tag is =
     let target = encode_field (codes "object") tag.target in
     let kind_line = encode_field (codes "type") (kind_name tag.target_kind) in
     let name = encode_field (codes "tag") tag.name in
@@ -98,7 +98,7 @@ take_apart kind bytes tag is =
       body = is.body;
       target = (
         field_there (codes "object") bytes tag.target (kind_line ++ (name ++ (tagger ++ is.body))) (is.joined ∙ flat)
-            (digits_are_one_line tag.target is.target.1),
+            (hex_digits_newline_free tag.target is.target.1),
         is.target,
       );
       target_kind = field_there (codes "type") (kind_line ++ (name ++ (tagger ++ is.body))) (kind_name tag.target_kind)
@@ -111,19 +111,19 @@ take_apart kind bytes tag is =
 
 -- ---- malformed tags
 
-pub no_target : (kind : hash.Kind) (bytes : List ℕ) → HasNoId (codes "object") kind bytes → IsMalformedTag kind bytes
-no_target kind bytes none tag is = let reads = take_apart kind bytes tag is in none tag.target reads.after_target reads.target
+pub malformed_without_target : (kind : hash.Kind) (bytes : List ℕ) → HasNoId (codes "object") kind bytes → IsMalformedTag kind bytes
+malformed_without_target kind bytes none tag is = let reads = parts_of_decoded_tag kind bytes tag is in none tag.target reads.after_target reads.target
 
 -- after the decoded lines, the tag continues as the bytes do
 target_after : (kind : hash.Kind) (bytes hex after : List ℕ) (tag : TagLines) → HasId (codes "object") kind bytes hex after
     → (reads : Reads kind bytes tag)
     → reads.after_target ≡ after
-target_after kind bytes hex after tag has reads = (one_field (codes "object") bytes tag.target reads.after_target hex after reads.target.0 has.0).1
+target_after kind bytes hex after tag has reads = (field_unique (codes "object") bytes tag.target reads.after_target hex after reads.target.0 has.0).1
 
-pub no_kind : (kind : hash.Kind) (bytes hex after : List ℕ) → HasId (codes "object") kind bytes hex after → HasNoKind (codes "type") after
+pub malformed_without_kind : (kind : hash.Kind) (bytes hex after : List ℕ) → HasId (codes "object") kind bytes hex after → HasNoKind (codes "type") after
     → IsMalformedTag kind bytes
-no_kind kind bytes hex after has none tag is =
-    let reads = take_apart kind bytes tag is in
+malformed_without_kind kind bytes hex after has none tag is =
+    let reads = parts_of_decoded_tag kind bytes tag is in
     let here = target_after kind bytes hex after tag has reads in
     none tag.target_kind reads.after_kind
     (subst (λ (it : List ℕ). HasField (codes "type") it (kind_name tag.target_kind) reads.after_kind) here reads.target_kind)
@@ -134,40 +134,40 @@ kind_after : (kind : hash.Kind) (bytes hex after token following : List ℕ) (ta
 kind_after kind bytes hex after token following tag has typed reads =
     let here = target_after kind bytes hex after tag has reads in
     let there = subst (λ (it : List ℕ). HasField (codes "type") it (kind_name tag.target_kind) reads.after_kind) here reads.target_kind in
-    one_field (codes "type") after (kind_name tag.target_kind) reads.after_kind token following there typed
+    field_unique (codes "type") after (kind_name tag.target_kind) reads.after_kind token following there typed
 
-pub no_name : (kind : hash.Kind) (bytes hex after token following : List ℕ) → HasId (codes "object") kind bytes hex after
+pub malformed_without_name : (kind : hash.Kind) (bytes hex after token following : List ℕ) → HasId (codes "object") kind bytes hex after
     → HasField (codes "type") after token following → HasNoName following → IsMalformedTag kind bytes
-no_name kind bytes hex after token following has typed none tag is =
-    let reads = take_apart kind bytes tag is in
+malformed_without_name kind bytes hex after token following has typed none tag is =
+    let reads = parts_of_decoded_tag kind bytes tag is in
     let here = (kind_after kind bytes hex after token following tag has typed reads).1 in
     none tag.name reads.after_name (subst (λ (it : List ℕ). HasName it tag.name reads.after_name) here reads.name)
 
-pub name_after : (kind : hash.Kind) (bytes hex after token following name rest : List ℕ) (tag : TagLines)
+pub tag_name_unique : (kind : hash.Kind) (bytes hex after token following name rest : List ℕ) (tag : TagLines)
     → HasId (codes "object") kind bytes hex after
     → HasField (codes "type") after token following → HasName following name rest
     → (reads : Reads kind bytes tag) → (tag.name ≡ name) × (reads.after_name ≡ rest)
-name_after kind bytes hex after token following name rest tag has typed named reads =
+tag_name_unique kind bytes hex after token following name rest tag has typed named reads =
     let here = (kind_after kind bytes hex after token following tag has typed reads).1 in
     let there = subst (λ (it : List ℕ). HasName it tag.name reads.after_name) here reads.name in
-    one_field (codes "tag") following tag.name reads.after_name name rest there.0 named.0
+    field_unique (codes "tag") following tag.name reads.after_name name rest there.0 named.0
 
-pub no_tagger : (kind : hash.Kind) (bytes hex after token following name rest : List ℕ) → HasId (codes "object") kind bytes hex after
+pub malformed_without_tagger : (kind : hash.Kind) (bytes hex after token following name rest : List ℕ) → HasId (codes "object") kind bytes hex after
     → HasField (codes "type") after token following → HasName following name rest → HasNoTagger rest
     → IsMalformedTag kind bytes
-no_tagger kind bytes hex after token following name rest has typed named none tag is =
-    let reads = take_apart kind bytes tag is in
-    let here = (name_after kind bytes hex after token following name rest tag has typed named reads).1 in
+malformed_without_tagger kind bytes hex after token following name rest has typed named none tag is =
+    let reads = parts_of_decoded_tag kind bytes tag is in
+    let here = (tag_name_unique kind bytes hex after token following name rest tag has typed named reads).1 in
     none tag.tagger reads.body (subst (λ (it : List ℕ). HasTagger it tag.tagger reads.body) here reads.tagger)
 
-pub no_body : (kind : hash.Kind) (bytes hex after token following name rest : List ℕ) (tagger : Option (List ℕ)) (body : List ℕ)
+pub malformed_without_body : (kind : hash.Kind) (bytes hex after token following name rest : List ℕ) (tagger : Option (List ℕ)) (body : List ℕ)
     → HasId (codes "object") kind bytes hex after → HasField (codes "type") after token following
     → HasName following name rest → HasTagger rest tagger body → HasNoBody body → IsMalformedTag kind bytes
-no_body kind bytes hex after token following name rest tagger body has typed named tagged none tag is =
-    let reads = take_apart kind bytes tag is in
-    let here = (name_after kind bytes hex after token following name rest tag has typed named reads).1 in
+malformed_without_body kind bytes hex after token following name rest tagger body has typed named tagged none tag is =
+    let reads = parts_of_decoded_tag kind bytes tag is in
+    let here = (tag_name_unique kind bytes hex after token following name rest tag has typed named reads).1 in
     let there = subst (λ (it : List ℕ). HasTagger it tag.tagger reads.body) here reads.tagger in
-    let same = (one_tagger rest tag.tagger tagger reads.body body there tagged).1 in
+    let same = (tagger_unique rest tag.tagger tagger reads.body body there tagged).1 in
     none tag.message tag.signature (subst (λ (it : List ℕ). IsBody it tag.message tag.signature) same reads.parted)
 
 -- ---- unique decoding
@@ -186,20 +186,20 @@ same_tag a b target target_kind name tagger message signature =
     ∙ ap (λ (it : List ℕ). made b.target b.target_kind b.name b.tagger it a.signature) message
     ∙ ap (λ (it : Option (List ℕ)). made b.target b.target_kind b.name b.tagger b.message it) signature
 
-pub one_tag : (kind : hash.Kind) (bytes : List ℕ) (a b : TagLines) → DecodesToTag kind bytes a → DecodesToTag kind bytes b → a ≡ b
-one_tag kind bytes a b is is' =
-    let first = take_apart kind bytes a is in
-    let second = take_apart kind bytes b is' in
-    let target = one_field (codes "object") bytes a.target first.after_target b.target second.after_target first.target.0 second.target.0 in
+pub tag_unique : (kind : hash.Kind) (bytes : List ℕ) (a b : TagLines) → DecodesToTag kind bytes a → DecodesToTag kind bytes b → a ≡ b
+tag_unique kind bytes a b is is' =
+    let first = parts_of_decoded_tag kind bytes a is in
+    let second = parts_of_decoded_tag kind bytes b is' in
+    let target = field_unique (codes "object") bytes a.target first.after_target b.target second.after_target first.target.0 second.target.0 in
     let typed = subst (λ (it : List ℕ). HasField (codes "type") it (kind_name a.target_kind) first.after_kind) target.1 first.target_kind in
-    let token = one_field (codes "type") second.after_target (kind_name a.target_kind) first.after_kind
+    let token = field_unique (codes "type") second.after_target (kind_name a.target_kind) first.after_kind
     (kind_name b.target_kind) second.after_kind typed
     second.target_kind in
-    let named = name_after kind bytes b.target second.after_target (kind_name b.target_kind) second.after_kind b.name second.after_name a
+    let named = tag_name_unique kind bytes b.target second.after_target (kind_name b.target_kind) second.after_kind b.name second.after_name a
     second.target
     second.target_kind second.name first in
-    let tagged = one_tagger second.after_name a.tagger b.tagger first.body second.body
+    let tagged = tagger_unique second.after_name a.tagger b.tagger first.body second.body
     (subst (λ (it : List ℕ). HasTagger it a.tagger first.body) named.1 first.tagger) second.tagger in
-    let parted = one_body second.body a.message b.message a.signature b.signature
+    let parted = body_unique second.body a.message b.message a.signature b.signature
     (subst (λ (it : List ℕ). IsBody it a.message a.signature) tagged.1 first.parted) second.parted in
-    same_tag a b target.0 (one_kind a.target_kind b.target_kind token.0) named.0 tagged.0 parted.0 parted.1
+    same_tag a b target.0 (kind_keyword_injective a.target_kind b.target_kind token.0) named.0 tagged.0 parted.0 parted.1

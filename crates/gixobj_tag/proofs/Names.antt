@@ -15,22 +15,22 @@ use Rattle.gixobj_fields.specs.declared.encode.RefNameFault.TheVariants as fault
 use Rattle.gixobj_tag.specs.NameRule.{BeginsWith, EndsWith, HasFault, Holds, IsFirstFault, IsForbidden, IsTagName, IsTagNameError, faults}
 use Rattle.gixobj_tag.specs.declared.name.Error.{Error}
 use Rattle.gixobj_tag.specs.declared.name.Error.TheVariants.{InvalidRefName, StartsWithDash}
-use Rattle.gixobj_hash.proofs.Splits.{free_by_test}
+use Rattle.gixobj_hash.proofs.Splits.{byte_free_of_all_pass}
 use Rattle.gixobj_hash.specs.Bytes.{newline, slash}
 use Rattle.gixobj_hash.specs.ByteStrings.{IsByteFree}
 
 -- ---- searches
 
 -- the tests and the search of the library decide the relations of the name rule
-pub begins_yielded : (bytes prefix : List ℕ) (r : Bool) → r ≡ starts_with nat_eq bytes prefix → IsTrue r ↔ BeginsWith prefix bytes
-begins_yielded bytes prefix r is =
+pub begins_with_iff : (bytes prefix : List ℕ) (r : Bool) → r ≡ starts_with nat_eq bytes prefix → IsTrue r ↔ BeginsWith prefix bytes
+begins_with_iff bytes prefix r is =
     let parts = starts_is Decides-eqb bytes prefix r is in (
       λ passes. (drop (length prefix) bytes, parts.0 passes),
       λ begins. parts.1 begins.0 begins.1,
     )
 
-pub ends_yielded : (bytes end : List ℕ) (r : Bool) → r ≡ ends_with nat_eq bytes end → IsTrue r ↔ EndsWith end bytes
-ends_yielded bytes end r is =
+pub ends_with_iff : (bytes end : List ℕ) (r : Bool) → r ≡ ends_with nat_eq bytes end → IsTrue r ↔ EndsWith end bytes
+ends_with_iff bytes end r is =
     let parts = ends_is Decides-eqb bytes end r is in (
       λ passes. (_, parts.0 passes),
       λ ends. parts.1 ends.0 ends.1,
@@ -56,8 +56,8 @@ place_from_holds bytes inner (prefix, rest, joined) =
       },
     )
 
-pub holds_yielded : (bytes inner : List ℕ) (r : Bool) → ((r ≡ true) ↔ Occurs bytes inner) → IsTrue r ↔ Holds inner bytes
-holds_yielded bytes inner r yields = (
+pub holds_iff : (bytes inner : List ℕ) (r : Bool) → ((r ≡ true) ↔ Occurs bytes inner) → IsTrue r ↔ Holds inner bytes
+holds_iff bytes inner r yields = (
   λ passes. holds_from_place bytes inner (yields.0 passes),
   λ holds. yields.1 (place_from_holds bytes inner holds),
 )
@@ -135,8 +135,8 @@ dot_found name (inl (rest, begins)) = dot_start name [] rest begins (inl refl)
 dot_found name (inr (prefix, rest, holds)) =
     dot_start name (prefix ++ slash ∷ []) rest (holds ∙ simp append_assoc) (inr (prefix, refl))
 
-pub dot_only : (name : List ℕ) → HasFault fault.DotStart name → BeginsWith (codes ".") name ⊎ Holds (codes "/.") name
-dot_only name (part, is, (rest, begins)) = elim is.opens [
+pub dot_start_cases : (name : List ℕ) → HasFault fault.DotStart name → BeginsWith (codes ".") name ⊎ Holds (codes "/.") name
+dot_start_cases name (part, is, (rest, begins)) = elim is.opens [
   | inl none ↦ inl (rest ++ is.following, cc (is.joined, begins, none))
   | inr (prefix, ends) ↦
       let regrouped : prefix ++ slash ∷ [] ++ (codes "." ++ rest) ++ is.following ≡ prefix ++ codes "/." ++ (rest ++ is.following) =
@@ -144,15 +144,15 @@ dot_only name (part, is, (rest, begins)) = elim is.opens [
       inr (prefix, rest ++ is.following, cc (is.joined, begins, ends, regrouped))
 ]
 
-pub dot_first : (name : List ℕ) (r : Bool) → r ≡ true → r ≡ starts_with nat_eq name (codes ".") → IsTrue r ↔ HasFault fault.DotStart name
-dot_first name r passes is = found_first r _ _ passes (begins_yielded name (codes ".") r is) (λ begins. dot_found name (inl begins))
+pub dot_start_iff_at_start : (name : List ℕ) (r : Bool) → r ≡ true → r ≡ starts_with nat_eq name (codes ".") → IsTrue r ↔ HasFault fault.DotStart name
+dot_start_iff_at_start name r passes is = found_first r _ _ passes (begins_with_iff name (codes ".") r is) (λ begins. dot_found name (inl begins))
 
-pub dot_later : (name : List ℕ) (first r : Bool) → first ≡ false → first ≡ starts_with nat_eq name (codes ".")
+pub dot_start_iff_after_slash : (name : List ℕ) (first r : Bool) → first ≡ false → first ≡ starts_with nat_eq name (codes ".")
     → ((r ≡ true) ↔ Occurs name (codes "/."))
     → IsTrue r ↔ HasFault fault.DotStart name
-dot_later name first r fails is yields =
-    found_next first r _ _ _ fails (begins_yielded name (codes ".") first is) (holds_yielded name (codes "/.") r yields) (dot_found name)
-    (dot_only name)
+dot_start_iff_after_slash name first r fails is yields =
+    found_next first r _ _ _ fails (begins_with_iff name (codes ".") first is) (holds_iff name (codes "/.") r yields) (dot_found name)
+    (dot_start_cases name)
 
 -- ---- `.lock` at the end of a part
 
@@ -167,7 +167,7 @@ lock_end name prefix tail joined closes =
         joined = cc (joined, further.2, append_assoc further.0 further.1 (codes ".lock"));
         opens = further.3;
         closes = closes;
-        one = All-append (λ it. it ≢ slash) further.1 (codes ".lock") further.4 (free_by_test slash (codes ".lock") refl);
+        one = All-append (λ it. it ≢ slash) further.1 (codes ".lock") further.4 (byte_free_of_all_pass slash (codes ".lock") refl);
       },
       (further.1, refl),
     )
@@ -177,8 +177,8 @@ lock_found name (inl (prefix, ends)) = lock_end name prefix [] (ends ∙ sym (ap
 lock_found name (inr (prefix, rest, holds)) =
     lock_end name prefix (slash ∷ rest) (holds ∙ simp append_assoc) (inr (rest, refl))
 
-pub lock_only : (name : List ℕ) → HasFault fault.LockSuffix name → EndsWith (codes ".lock") name ⊎ Holds (codes ".lock/") name
-lock_only name (part, is, (prefix, ends)) = elim is.closes [
+pub lock_suffix_cases : (name : List ℕ) → HasFault fault.LockSuffix name → EndsWith (codes ".lock") name ⊎ Holds (codes ".lock/") name
+lock_suffix_cases name (part, is, (prefix, ends)) = elim is.closes [
   | inl none ↦
       let regrouped : is.before ++ (prefix ++ codes ".lock") ++ [] ≡ is.before ++ prefix ++ codes ".lock" = simp (append_assoc, append-nil) in
       inl (is.before ++ prefix, cc (is.joined, ends, none, regrouped))
@@ -188,29 +188,29 @@ lock_only name (part, is, (prefix, ends)) = elim is.closes [
       inr (is.before ++ prefix, rest, cc (is.joined, ends, begins, regrouped))
 ]
 
-pub lock_last : (name : List ℕ) (r : Bool) → r ≡ true → r ≡ ends_with nat_eq name (codes ".lock") → IsTrue r ↔ HasFault fault.LockSuffix name
-lock_last name r passes is = found_first r _ _ passes (ends_yielded name (codes ".lock") r is) (λ ends. lock_found name (inl ends))
+pub lock_suffix_iff_at_end : (name : List ℕ) (r : Bool) → r ≡ true → r ≡ ends_with nat_eq name (codes ".lock") → IsTrue r ↔ HasFault fault.LockSuffix name
+lock_suffix_iff_at_end name r passes is = found_first r _ _ passes (ends_with_iff name (codes ".lock") r is) (λ ends. lock_found name (inl ends))
 
-pub lock_earlier : (name : List ℕ) (first r : Bool) → first ≡ false → first ≡ ends_with nat_eq name (codes ".lock")
+pub lock_suffix_iff_before_slash : (name : List ℕ) (first r : Bool) → first ≡ false → first ≡ ends_with nat_eq name (codes ".lock")
     → ((r ≡ true) ↔ Occurs name (codes ".lock/")) → IsTrue r ↔ HasFault fault.LockSuffix name
-lock_earlier name first r fails is yields =
-    found_next first r _ _ _ fails (ends_yielded name (codes ".lock") first is) (holds_yielded name (codes ".lock/") r yields) (lock_found name)
-    (lock_only name)
+lock_suffix_iff_before_slash name first r fails is yields =
+    found_next first r _ _ _ fails (ends_with_iff name (codes ".lock") first is) (holds_iff name (codes ".lock/") r yields) (lock_found name)
+    (lock_suffix_cases name)
 
 -- ---- slashes
 
 -- a test for a last slash, and the search for two in a row if none is first or last, decide a fault
-pub slash_last : (name : List ℕ) (r last : Bool) → r ≡ true → r ≡ last → last ≡ ends_with nat_eq name (codes "/")
+pub bad_slash_iff_at_end : (name : List ℕ) (r last : Bool) → r ≡ true → r ≡ last → last ≡ ends_with nat_eq name (codes "/")
     → IsTrue r ↔ HasFault fault.BadSlash name
-slash_last name r last passes same is = found_first r _ _ passes (ends_yielded name (codes "/") r (same ∙ is)) (λ ends. inr (inl ends))
+bad_slash_iff_at_end name r last passes same is = found_first r _ _ passes (ends_with_iff name (codes "/") r (same ∙ is)) (λ ends. inr (inl ends))
 
-pub slash_doubled : (name : List ℕ) (outer first last r : Bool) → outer ≡ false → first ≡ starts_with nat_eq name (codes "/") → first ≡ false
+pub bad_slash_iff_doubled : (name : List ℕ) (outer first last r : Bool) → outer ≡ false → first ≡ starts_with nat_eq name (codes "/") → first ≡ false
     → outer ≡ last
     → last ≡ ends_with nat_eq name (codes "/") → ((r ≡ true) ↔ Occurs name (codes "//")) → IsTrue r ↔ HasFault fault.BadSlash name
-slash_doubled name outer first last r fails is other same ends yields =
-    found_next first r _ _ _ other (begins_yielded name (codes "/") first is)
-    (found_next outer r _ _ (EndsWith (codes "/") name ⊎ Holds (codes "//") name) fails (ends_yielded name (codes "/") outer (same ∙ ends))
-    (holds_yielded name (codes "//") r yields) (λ it. it) (λ it. it))
+bad_slash_iff_doubled name outer first last r fails is other same ends yields =
+    found_next first r _ _ _ other (begins_with_iff name (codes "/") first is)
+    (found_next outer r _ _ (EndsWith (codes "/") name ⊎ Holds (codes "//") name) fails (ends_with_iff name (codes "/") outer (same ∙ ends))
+    (holds_iff name (codes "//") r yields) (λ it. it) (λ it. it))
     (λ it. it) (λ it. it)
 
 -- ---- the first fault
@@ -239,9 +239,9 @@ at_its_place fault.BadSlash = refl
 at_its_place fault.DotEnd = refl
 
 -- a fault that the name has, and before which it has none, is its first
-pub first_so : (name : List ℕ) (here : RefNameFault) → AllByRecursion (λ it. ¬ HasFault it name) (take (place here) faults) → HasFault here name
+pub is_first_fault : (name : List ℕ) (here : RefNameFault) → AllByRecursion (λ it. ¬ HasFault it name) (take (place here) faults) → HasFault here name
     → IsFirstFault name here
-first_so name here none has = record {
+is_first_fault name here none has = record {
   before = take (place here) faults;
   after = drop (place here + 1) faults;
   joined = at_its_place here;
@@ -250,19 +250,19 @@ first_so name here none has = record {
 }
 
 -- a name without each fault of the list has no fault
-pub none_has : (name : List ℕ) → AllByRecursion (λ it. ¬ HasFault it name) faults → (each : RefNameFault) → ¬ HasFault each name
-none_has name none fault.Empty = none.0
-none_has name none fault.DotStart = none.1.0
-none_has name none fault.LockSuffix = none.1.1.0
-none_has name none fault.DoubleDot = none.1.1.1.0
-none_has name none fault.AtBrace = none.1.1.1.1.0
-none_has name none fault.Backslash = none.1.1.1.1.1.0
-none_has name none fault.InvalidByte = none.1.1.1.1.1.1.0
-none_has name none fault.BadSlash = none.1.1.1.1.1.1.1.0
-none_has name none fault.DotEnd = none.1.1.1.1.1.1.1.1.0
+pub no_fault_of_valid : (name : List ℕ) → AllByRecursion (λ it. ¬ HasFault it name) faults → (each : RefNameFault) → ¬ HasFault each name
+no_fault_of_valid name none fault.Empty = none.0
+no_fault_of_valid name none fault.DotStart = none.1.0
+no_fault_of_valid name none fault.LockSuffix = none.1.1.0
+no_fault_of_valid name none fault.DoubleDot = none.1.1.1.0
+no_fault_of_valid name none fault.AtBrace = none.1.1.1.1.0
+no_fault_of_valid name none fault.Backslash = none.1.1.1.1.1.0
+no_fault_of_valid name none fault.InvalidByte = none.1.1.1.1.1.1.0
+no_fault_of_valid name none fault.BadSlash = none.1.1.1.1.1.1.1.0
+no_fault_of_valid name none fault.DotEnd = none.1.1.1.1.1.1.1.1.0
 
-pub empty_so : (name : List ℕ) (r : Bool) → r ≡ true → r ≡ (length name == 0) → HasFault fault.Empty name
-empty_so name r passes is = nil_from_length name (eqb-true (length name) 0 (sym is ∙ passes))
+pub has_fault_empty : (name : List ℕ) (r : Bool) → r ≡ true → r ≡ (length name == 0) → HasFault fault.Empty name
+has_fault_empty name r passes is = nil_from_length name (eqb-true (length name) 0 (sym is ∙ passes))
 
 -- ---- one error
 
@@ -282,33 +282,33 @@ one_in_order name (other ∷ p) x (another ∷ q) y a b same none_p none_q has_a
     has_b
 
 -- a name has at most one first fault
-pub one_first_fault : (name : List ℕ) (a b : RefNameFault) → IsFirstFault name a → IsFirstFault name b → a ≡ b
-one_first_fault name a b first second =
+pub first_fault_unique : (name : List ℕ) (a b : RefNameFault) → IsFirstFault name a → IsFirstFault name b → a ≡ b
+first_fault_unique name a b first second =
     one_in_order name first.before first.after second.before second.after a b (sym first.joined ∙ second.joined) first.none second.none first.here
     second.here
 
 -- a name has at most one error
-pub one_error : (name : List ℕ) (a b : Error) → IsTagNameError name a → IsTagNameError name b → a ≡ b
-one_error name (InvalidRefName a) (InvalidRefName b) first second = ap (λ (it : RefNameFault). InvalidRefName it)
-    (one_first_fault name a b first second)
-one_error name (InvalidRefName a) StartsWithDash first second = absurd (second.0 a first.here)
-one_error name StartsWithDash (InvalidRefName b) first second = absurd (first.0 b second.here)
-one_error name StartsWithDash StartsWithDash first second = refl
+pub tag_name_error_unique : (name : List ℕ) (a b : Error) → IsTagNameError name a → IsTagNameError name b → a ≡ b
+tag_name_error_unique name (InvalidRefName a) (InvalidRefName b) first second = ap (λ (it : RefNameFault). InvalidRefName it)
+    (first_fault_unique name a b first second)
+tag_name_error_unique name (InvalidRefName a) StartsWithDash first second = absurd (second.0 a first.here)
+tag_name_error_unique name StartsWithDash (InvalidRefName b) first second = absurd (first.0 b second.here)
+tag_name_error_unique name StartsWithDash StartsWithDash first second = refl
 
 -- a name with an error is not valid for tags
-pub rejected_not_valid : (name : List ℕ) (error : Error) → IsTagNameError name error → ¬ IsTagName name
-rejected_not_valid name (InvalidRefName fault) first valid = valid.0 fault first.here
-rejected_not_valid name StartsWithDash rejected valid = valid.1 rejected.1
+pub not_tag_name_of_error : (name : List ℕ) (error : Error) → IsTagNameError name error → ¬ IsTagName name
+not_tag_name_of_error name (InvalidRefName fault) first valid = valid.0 fault first.here
+not_tag_name_of_error name StartsWithDash rejected valid = valid.1 rejected.1
 
 -- ---- names of tags
 
 -- a valid name isn't empty, and has no forbidden byte and no newline
-pub valid_not_empty : (name : List ℕ) → IsTagName name → name ≢ []
-valid_not_empty name valid = valid.0 fault.Empty
+pub tag_name_not_nil : (name : List ℕ) → IsTagName name → name ≢ []
+tag_name_not_nil name valid = valid.0 fault.Empty
 
-pub valid_without : (name : List ℕ) (byte : ℕ) → IsForbidden byte → IsTagName name → IsByteFree byte name
-valid_without name byte forbidden valid =
+pub tag_name_byte_free : (name : List ℕ) (byte : ℕ) → IsForbidden byte → IsTagName name → IsByteFree byte name
+tag_name_byte_free name byte forbidden valid =
     λ k d within same. valid.0 fault.InvalidByte (byte, (k, within, get_or_default name k byte d within ∙ same), forbidden)
 
-pub valid_one_line : (name : List ℕ) → IsTagName name → IsByteFree newline name
-valid_one_line name valid = valid_without name newline (inl (omega arith)) valid
+pub tag_name_newline_free : (name : List ℕ) → IsTagName name → IsByteFree newline name
+tag_name_newline_free name valid = tag_name_byte_free name newline (inl (omega arith)) valid

@@ -9,7 +9,7 @@ use Rattle.std.specs.List.{ends_with}
 use Rattle.std.specs.Prelude.{◌↔◌, ◌⊎◌, ◌==◌, ◌&&◌, ◌||◌, All, Contains, IsTrue, codes, nat_eq, not}
 use Rattle.gixobj_fields.specs.declared.encode.RefNameFault.TheVariants as fault
 use Rattle.gixobj_hash.specs.Bytes.{slash}
-use Rattle.gixobj_tag.proofs.Names.{dot_only, ends_yielded, lock_only}
+use Rattle.gixobj_tag.proofs.Names.{dot_start_cases, ends_with_iff, lock_suffix_cases}
 use Rattle.gixobj_tag.specs.NameRule.{EndsWith, HasNoFault, Holds, IsForbidden, backslash}
 use Rattle.gixobj_tag.specs.PlainNames.{IsDotted, IsDottedAfter, IsPlainName, dot, is_plain_byte, may_follow}
 
@@ -86,9 +86,9 @@ stops_by before byte true is may =
     ]
 
 -- the walk at a position of the name: it continues, stops, or is at the end
-pub dotted_step : (name : List ℕ) (k before : ℕ) → k < length name → may_follow before (get_or name k 0) ≡ true
+pub is_dotted_step : (name : List ℕ) (k before : ℕ) → k < length name → may_follow before (get_or name k 0) ≡ true
     → (IsDotted name ↔ IsDottedAfter before (drop k name)) → IsDotted name ↔ IsDottedAfter (get_or name k 0) (drop (k + 1) name)
-dotted_step name k before within may sofar =
+is_dotted_step name k before within may sofar =
     let remaining : drop k name ≡ get_or name k 0 ∷ drop (k + 1) name = at_drop_more (λ it. it) name k 0 within in
     let yields = follows before (get_or name k 0) may in
     let more = dotted_more before (get_or name k 0) (drop (k + 1) name) yields.0 yields.1 in (
@@ -96,16 +96,16 @@ dotted_step name k before within may sofar =
       λ dotted. sofar.1 (subst (IsDottedAfter before) (sym remaining) (more.1 dotted)),
     )
 
-pub dotted_stop : (name : List ℕ) (k before : ℕ) → k < length name → may_follow before (get_or name k 0) ≡ false
+pub not_is_dotted_at_end : (name : List ℕ) (k before : ℕ) → k < length name → may_follow before (get_or name k 0) ≡ false
     → (IsDotted name ↔ IsDottedAfter before (drop k name)) → ¬ IsDotted name
-dotted_stop name k before within may sofar dotted =
+not_is_dotted_at_end name k before within may sofar dotted =
     let remaining : drop k name ≡ get_or name k 0 ∷ drop (k + 1) name = at_drop_more (λ it. it) name k 0 within in
     not_dotted before (get_or name k 0) (drop (k + 1) name) (stops_by before (get_or name k 0) (is_plain_byte (get_or name k 0)) refl may)
     (subst (IsDottedAfter before) remaining (sofar.0 dotted))
 
-pub dotted_all : (name : List ℕ) (k before : ℕ) → length name ≤ k → (IsDotted name ↔ IsDottedAfter before (drop k name))
+pub is_dotted_of_last : (name : List ℕ) (k before : ℕ) → length name ≤ k → (IsDotted name ↔ IsDottedAfter before (drop k name))
     → IsTrue (not (before == dot)) ↔ IsDotted name
-dotted_all name k before past sofar =
+is_dotted_of_last name k before past sofar =
     let remaining : drop k name ≡ [] = at_drop_all (λ it. it) name k past in
     let end = dotted_end before in
     let test = Decides-not (before == dot) (Decides-eqb before dot) in (
@@ -114,8 +114,8 @@ dotted_all name k before past sofar =
     )
 
 -- the negated test decides that the bytes don't have this suffix
-pub not_ends : (content end : List ℕ) (r : Bool) → r ≡ ends_with nat_eq content end → IsTrue (not r) ↔ (¬ EndsWith end content)
-not_ends content end r is = Decides-not r (ends_yielded content end r is)
+pub not_ends_with_iff : (content end : List ℕ) (r : Bool) → r ≡ ends_with nat_eq content end → IsTrue (not r) ↔ (¬ EndsWith end content)
+not_ends_with_iff content end r is = Decides-not r (ends_with_iff content end r is)
 
 -- ---- no fault
 
@@ -147,30 +147,30 @@ abbrev between : List ℕ → List ℕ
 between name = dot ∷ (name ++ dot ∷ [])
 
 -- a plain name has no fault
-pub plain_no_fault : (name : List ℕ) → IsPlainName name → HasNoFault name
-plain_no_fault name (dotted, unlocked) fault.Empty empty = dotted.1 ([], [], ap between empty)
-plain_no_fault name (dotted, unlocked) fault.DotStart has = elim (dot_only name has) [
+pub no_fault_of_plain_name : (name : List ℕ) → IsPlainName name → HasNoFault name
+no_fault_of_plain_name name (dotted, unlocked) fault.Empty empty = dotted.1 ([], [], ap between empty)
+no_fault_of_plain_name name (dotted, unlocked) fault.DotStart has = elim (dot_start_cases name has) [
   | inl (rest, begins) ↦ dotted.1 ([], rest ++ dot ∷ [], ap between begins)
   | inr holds ↦ not_held name (codes "/.") slash dotted.0 (0, omega arith, refl) refl holds
 ]
-plain_no_fault name (dotted, unlocked) fault.LockSuffix has = elim (lock_only name has) [
+no_fault_of_plain_name name (dotted, unlocked) fault.LockSuffix has = elim (lock_suffix_cases name has) [
   | inl ends ↦ unlocked ends
   | inr holds ↦ not_held name (codes ".lock/") slash dotted.0 (5, omega arith, refl) refl holds
 ]
-plain_no_fault name (dotted, unlocked) fault.DoubleDot (prefix, rest, joined) =
+no_fault_of_plain_name name (dotted, unlocked) fault.DoubleDot (prefix, rest, joined) =
     let regrouped : dot ∷ ((prefix ++ codes ".." ++ rest) ++ dot ∷ []) ≡ (dot ∷ prefix) ++ codes ".." ++ (rest ++ dot ∷ []) = simp append_assoc in
     dotted.1 (dot ∷ prefix, rest ++ dot ∷ [], ap between joined ∙ regrouped)
-plain_no_fault name (dotted, unlocked) fault.AtBrace holds = not_held name (codes "@{") 64 dotted.0 (0, omega arith, refl) refl holds
-plain_no_fault name (dotted, unlocked) fault.Backslash among = no_other name backslash dotted.0 refl among
-plain_no_fault name (dotted, unlocked) fault.InvalidByte (byte, among, forbidden) =
+no_fault_of_plain_name name (dotted, unlocked) fault.AtBrace holds = not_held name (codes "@{") 64 dotted.0 (0, omega arith, refl) refl holds
+no_fault_of_plain_name name (dotted, unlocked) fault.Backslash among = no_other name backslash dotted.0 refl among
+no_fault_of_plain_name name (dotted, unlocked) fault.InvalidByte (byte, among, forbidden) =
     no_other name byte dotted.0 (forbidden_not_plain byte forbidden) among
-plain_no_fault name (dotted, unlocked) fault.BadSlash (inl (rest, begins)) = not_held name (slash ∷ []) slash dotted.0 (0, omega arith, refl) refl
+no_fault_of_plain_name name (dotted, unlocked) fault.BadSlash (inl (rest, begins)) = not_held name (slash ∷ []) slash dotted.0 (0, omega arith, refl) refl
     ([], rest, begins)
-plain_no_fault name (dotted, unlocked) fault.BadSlash (inr (inl (prefix, ends))) =
+no_fault_of_plain_name name (dotted, unlocked) fault.BadSlash (inr (inl (prefix, ends))) =
     not_held name (slash ∷ []) slash dotted.0 (0, omega arith, refl) refl
     (prefix, [], ends ∙ sym (append-nil (prefix ++ slash ∷ [])))
-plain_no_fault name (dotted, unlocked) fault.BadSlash (inr (inr holds)) = not_held name (slash ∷ slash ∷ []) slash dotted.0
+no_fault_of_plain_name name (dotted, unlocked) fault.BadSlash (inr (inr holds)) = not_held name (slash ∷ slash ∷ []) slash dotted.0
     (0, omega arith, refl) refl holds
-plain_no_fault name (dotted, unlocked) fault.DotEnd (prefix, ends) =
+no_fault_of_plain_name name (dotted, unlocked) fault.DotEnd (prefix, ends) =
     let regrouped : dot ∷ ((prefix ++ codes ".") ++ dot ∷ []) ≡ ((dot ∷ prefix) ++ codes "..") ++ [] = simp (append_assoc, append-nil) in
     dotted.1 (dot ∷ prefix, [], ap between ends ∙ regrouped)

@@ -3,14 +3,14 @@ use Rattle.std.proofs.Common.{◌≡◌, ◌≢◌, ◌⊎◌, ℕ, List, ◌∷
 use Rattle.std.proofs.lemmas.Bool.{true≢false}
 use Rattle.std.proofs.lemmas.List.{append-nil}
 use Rattle.bstr.specs.Owned.{bstring_bytes}
-use Rattle.gixobj_actor.proofs.OwnedActors.{canonical, unwritable}
+use Rattle.gixobj_actor.proofs.OwnedActors.{encode_owned_actor_is_canonical, is_unwritable_of_error}
 use Rattle.gixobj_actor.specs.declared.actor.Signature.{Signature}
 use Rattle.gixobj_fields.specs.Streams.{SinkView}
 use Rattle.gixobj_fields.specs.Writing.{RejectedValue, RejectsNothing, IsWritingError, bad_name, empty_header, header_with_newline, illegal_actor, name_with_dash, name_with_zero_byte}
 use Rattle.gixobj_fields.specs.declared.encode.Error.{Error}
 use Rattle.gixobj_fields.specs.declared.encode.Error.TheVariants as encode
 use Rattle.gixobj_fields.specs.declared.encode.RefNameFault.{RefNameFault}
-use Rattle.gixobj_hash.proofs.HexCase.{hex_in_lower_case}
+use Rattle.gixobj_hash.proofs.HexCase.{encode_id_hex_lower_case}
 use Rattle.gixobj_hash.specs.declared.hash.kind.Kind.{Kind}
 use Rattle.gixobj_tag.specs.NameRule.{BeginsWithDash, HasNoFault, IsFirstFault, IsTagName}
 use Rattle.gixobj_tag.specs.Rewriting.{AreNormalizedPartsOfTag, HasUnwritableTagger, IsCanonicalTagger, PreservesBody, IsNormalizedTagError, canonical_tagger, no_tagger}
@@ -56,8 +56,8 @@ name_not_rejected : (name : List ℕ) (value : RejectedValue) → IsTagName name
 name_not_rejected name value (faultless, undashed) (inl (fault, first, is)) = faultless fault first.here
 name_not_rejected name value (faultless, undashed) (inr (none, dash, is)) = undashed dash
 
-pub tag_not_rejected : (tag : TagLines) → IsTagName tag.name → RejectsNothing (IsTagLinesError tag)
-tag_not_rejected tag valid value parts (rejected, before) = name_not_rejected tag.name value valid rejected
+pub decoded_tag_rejects_nothing : (tag : TagLines) → IsTagName tag.name → RejectsNothing (IsTagLinesError tag)
+decoded_tag_rejects_nothing tag valid value parts (rejected, before) = name_not_rejected tag.name value valid rejected
 
 -- ---- the owned form
 
@@ -65,12 +65,12 @@ tagger_parts : (line : Option (List ℕ)) (tagger : Option Signature) → IsOwne
 tagger_parts None None is = no_tagger
 tagger_parts None (Some actor) is = absurd is
 tagger_parts (Some line) None is = absurd is
-tagger_parts (Some line) (Some actor) is = canonical_tagger line _ (canonical line actor is)
+tagger_parts (Some line) (Some actor) is = canonical_tagger line _ (encode_owned_actor_is_canonical line actor is)
 
-pub own_parts : (lines : TagLines) (tag : Tag) → IsOwnedFormOfTag lines tag → AreNormalizedPartsOfTag lines (owned_tag_lines tag)
-own_parts lines tag is =
+pub owned_parts_are_normalized : (lines : TagLines) (tag : Tag) → IsOwnedFormOfTag lines tag → AreNormalizedPartsOfTag lines (owned_tag_lines tag)
+owned_parts_are_normalized lines tag is =
     record {
-      target = hex_in_lower_case lines.target tag.target is.target;
+      target = encode_id_hex_lower_case lines.target tag.target is.target;
       target_kind = is.target_kind;
       name = is.name;
       tagger = tagger_parts lines.tagger tag.tagger is.tagger;
@@ -91,7 +91,7 @@ tagger_is_rejected lines None None value parts same is rejected = absurd rejecte
 tagger_is_rejected lines None (Some actor) value parts same is rejected = absurd is
 tagger_is_rejected lines (Some line) None value parts same is rejected = absurd rejected
 tagger_is_rejected lines (Some line) (Some actor) value parts same is (illegal, it, before) =
-    for_the_tagger value it (line, same, unwritable line actor is illegal)
+    for_the_tagger value it (line, same, is_unwritable_of_error line actor is illegal)
 
 what_is_rejected : (lines : TagLines) (tag : Tag) (value : RejectedValue) (parts : List ℕ) → IsOwnedFormOfTag lines tag
     → IsOwnedTagError tag value parts
@@ -128,25 +128,25 @@ its_tagger lines (for_a_fault _ other it first) = absurd (cc it)
 its_tagger lines (for_a_dash _ it none dash) = absurd (cc it)
 its_tagger lines (for_the_tagger _ it has) = has
 
-pub own_error : (lines : TagLines) (tag : Tag) (before after : SinkView) (error : Error) → IsOwnedFormOfTag lines tag
+pub owned_error_is_normalized : (lines : TagLines) (tag : Tag) (before after : SinkView) (error : Error) → IsOwnedFormOfTag lines tag
     → IsWritingError (IsOwnedTagError tag) before after (encode_tag (owned_tag_lines tag)) error
     → IsNormalizedTagError lines before after (encode_tag (owned_tag_lines tag)) error
-own_error lines tag before after (encode.Writer cause) own says = says
-own_error lines tag before after (encode.InvalidRefName fault) own (parts, rejected, inserts) =
+owned_error_is_normalized lines tag before after (encode.Writer cause) own says = says
+owned_error_is_normalized lines tag before after (encode.InvalidRefName fault) own (parts, rejected, inserts) =
     its_fault lines fault (what_is_rejected lines tag (bad_name fault) parts own rejected)
-own_error lines tag before after encode.StartsWithDash own (parts, rejected, inserts) =
+owned_error_is_normalized lines tag before after encode.StartsWithDash own (parts, rejected, inserts) =
     its_dash lines (what_is_rejected lines tag name_with_dash parts own rejected)
-own_error lines tag before after encode.IllegalActor own (parts, rejected, inserts) =
+owned_error_is_normalized lines tag before after encode.IllegalActor own (parts, rejected, inserts) =
     its_tagger lines (what_is_rejected lines tag illegal_actor parts own rejected)
-own_error lines tag before after encode.EmptyValue own (parts, rejected, inserts) =
+owned_error_is_normalized lines tag before after encode.EmptyValue own (parts, rejected, inserts) =
     no_other lines _ (what_is_rejected lines tag empty_header parts own rejected) (λ fault e. cc e) (λ e. cc e) (λ e. cc e)
-own_error lines tag before after (encode.NewlineInHeaderValue value) own (parts, rejected, inserts) =
+owned_error_is_normalized lines tag before after (encode.NewlineInHeaderValue value) own (parts, rejected, inserts) =
     no_other lines _ (what_is_rejected lines tag (header_with_newline (bstring_bytes value)) parts own rejected) (λ fault e. cc e) (λ e. cc e)
     (λ e. cc e)
-own_error lines tag before after (encode.NullbyteInFilename name) own (parts, rejected, inserts) =
+owned_error_is_normalized lines tag before after (encode.NullbyteInFilename name) own (parts, rejected, inserts) =
     no_other lines _ (what_is_rejected lines tag (name_with_zero_byte (bstring_bytes name)) parts own rejected) (λ fault e. cc e) (λ e. cc e)
     (λ e. cc e)
-own_error lines tag before after encode.OutOfMemory own (value, inl (parts, rejected, inserts)) =
+owned_error_is_normalized lines tag before after encode.OutOfMemory own (value, inl (parts, rejected, inserts)) =
     no_other lines _ (what_is_rejected lines tag (header_with_newline value) parts own rejected) (λ fault e. cc e) (λ e. cc e) (λ e. cc e)
-own_error lines tag before after encode.OutOfMemory own (value, inr (parts, rejected, inserts)) =
+owned_error_is_normalized lines tag before after encode.OutOfMemory own (value, inr (parts, rejected, inserts)) =
     no_other lines _ (what_is_rejected lines tag (name_with_zero_byte value) parts own rejected) (λ fault e. cc e) (λ e. cc e) (λ e. cc e)

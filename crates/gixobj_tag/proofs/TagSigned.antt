@@ -13,46 +13,46 @@ use Rattle.gixobj_tag.specs.TagViews.{owned_tag_lines}
 use Rattle.gixobj_tag.specs.TagWriting.{IsOwnedTagError, encode_tag}
 use Rattle.gixobj_tag.specs.declared.tag.Tag.{Tag}
 use Rattle.gixobj_hash.specs.Bytes.{newline}
-use Rattle.gixobj_signature.proofs.Steps.{begins_at_once}
+use Rattle.gixobj_signature.proofs.Steps.{begins_plan_refl}
 
 -- a tag without payload is rejected before any call
-pub rejected_unwritten : {S : Type 0} (runs : S → CallView → Answer → S → Type 0) (options : Options) (tag without : Tag) → without ≡ unsigned tag
+pub signing_error_of_write : {S : Type 0} (runs : S → CallView → Answer → S → Type 0) (options : Options) (tag without : Tag) → without ≡ unsigned tag
     → (old : S) (error : Error)
     → HasNoPayload without error → IsTagSigningError runs options tag old old error
-rejected_unwritten runs options tag without same old error (inl (writable, wants)) =
+signing_error_of_write runs options tag without same old error (inl (writable, wants)) =
     inl (
       subst (λ (of : Tag). RejectsNothing (IsOwnedTagError of)) same writable,
       subst (λ (it : Error). IsCarriedOut runs (sign_plan (options_view options) (payload_of_tag (owned_tag_lines tag))) old (signer_error it) old)
           (sym wants)
-          (begins_at_once runs (sign_plan (options_view options) (payload_of_tag (owned_tag_lines tag))) old),
+          (begins_plan_refl runs (sign_plan (options_view options) (payload_of_tag (owned_tag_lines tag))) old),
     )
-rejected_unwritten runs options tag without same old error (inr (cause, is, why)) =
+signing_error_of_write runs options tag without same old error (inr (cause, is, why)) =
     inr (cause, is, subst (λ (it : Tag). IsTagWriteError it cause) same why, refl)
 
 -- a tag has the signature of its payload
-pub signed : {S : Type 0} (runs : S → CallView → Answer → S → Type 0) (options : Options) (tag without : Tag) → without ≡ unsigned tag
+pub is_signed_tag_of_signature : {S : Type 0} (runs : S → CallView → Answer → S → Type 0) (options : Options) (tag without : Tag) → without ≡ unsigned tag
     → (payload : List ℕ)
     → payload ≡ encode_tag (owned_tag_lines without) ++ newline ∷ [] → RejectsNothing (IsOwnedTagError without)
     → (old new : S) (result : Result Tag Error)
     → IfOk result (GetsTagSignature runs options payload without old new) → IfOk result (IsSignedTag runs options tag old new)
-signed runs options tag without same payload content writable old new (Ok it) (bytes, went, lines) = record {
+is_signed_tag_of_signature runs options tag without same payload content writable old new (Ok it) (bytes, went, lines) = record {
   bytes = bytes;
   called = subst (λ (signs : List ℕ). Carries runs (sign_plan (options_view options) signs) old (signature bytes) new)
       (content ∙ ap (λ (of : Tag). encode_tag (owned_tag_lines of) ++ newline ∷ []) same) went;
   lines = lines ∙ ap (λ (of : Tag). signed_as (Some bytes) (owned_tag_lines of)) same;
   writable = subst (λ (of : Tag). RejectsNothing (IsOwnedTagError of)) same writable;
 }
-signed runs options tag without same payload content writable old new (Err error) is = tt
+is_signed_tag_of_signature runs options tag without same payload content writable old new (Err error) is = tt
 
 -- the error of a tag with a payload is that of the call
-pub rejected_signing : {S : Type 0} (runs : S → CallView → Answer → S → Type 0) (options : Options) (tag without : Tag) → without ≡ unsigned tag
+pub signing_error_of_runner : {S : Type 0} (runs : S → CallView → Answer → S → Type 0) (options : Options) (tag without : Tag) → without ≡ unsigned tag
     → (payload : List ℕ)
     → payload ≡ encode_tag (owned_tag_lines without) ++ newline ∷ [] → RejectsNothing (IsOwnedTagError without)
     → (old new : S) (result : Result Tag Error)
     → IfErr result (λ error. IsCarriedOut runs (sign_plan (options_view options) payload) old (signer_error error) new)
     → IfErr result (IsTagSigningError runs options tag old new)
-rejected_signing runs options tag without same payload content writable old new (Ok it) why = tt
-rejected_signing runs options tag without same payload content writable old new (Err error) why =
+signing_error_of_runner runs options tag without same payload content writable old new (Ok it) why = tt
+signing_error_of_runner runs options tag without same payload content writable old new (Err error) why =
     inl (
       subst (λ (of : Tag). RejectsNothing (IsOwnedTagError of)) same writable,
       subst (λ (signs : List ℕ). IsCarriedOut runs (sign_plan (options_view options) signs) old (signer_error error) new)

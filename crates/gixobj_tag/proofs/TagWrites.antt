@@ -2,7 +2,7 @@
 use Rattle.std.proofs.Common.{ℕ, List, [], ◌∷◌, ◌++◌, Result, ap, inl, inr, refl, ◌∙◌}
 use Rattle.std.proofs.lemmas.List.{append-nil}
 use Rattle.std.specs.Prelude.{codes}
-use Rattle.gixobj_fields.proofs.Appends.{prefix_first, nothing_appended, appends_or_fails_more}
+use Rattle.gixobj_fields.proofs.Appends.{appends_prefix_first, appends_all_nil, appends_or_fails_append}
 use Rattle.gixobj_fields.proofs.Errors.{writing_error_append}
 use Rattle.gixobj_fields.specs.HeaderFormat.{encode_field}
 use Rattle.gixobj_fields.specs.Streams.{AppendsAll, AppendsPrefix, AppendsOrFails, SinkView}
@@ -13,30 +13,31 @@ use Rattle.gixobj_tag.specs.TagFormat.{TagLines, encode_target}
 use Rattle.gixobj_tag.specs.TagWriting.{IsTagLinesError, IsTagNameError, IsNameLineError, IsTagPartsError}
 
 -- a byte is written, and then the rest
-pub byte_prefix : (a b : SinkView) (byte : ℕ) (rest : List ℕ) → AppendsPrefix a b (byte ∷ []) → AppendsPrefix a b (byte ∷ rest)
-byte_prefix a b byte rest part = prefix_first a b (byte ∷ []) rest part
+pub appends_prefix_cons : (a b : SinkView) (byte : ℕ) (rest : List ℕ) → AppendsPrefix a b (byte ∷ []) → AppendsPrefix a b (byte ∷ rest)
+appends_prefix_cons a b byte rest part = appends_prefix_first a b (byte ∷ []) rest part
 
-pub byte_then : {T E : Type 0} (r : Result T E) (a b c : SinkView) (byte : ℕ) (rest : List ℕ) → AppendsAll a b (byte ∷ []) → AppendsOrFails r b c rest
+pub appends_or_fails_cons : {T E : Type 0} (r : Result T E) (a b c : SinkView) (byte : ℕ) (rest : List ℕ) → AppendsAll a b (byte ∷ [])
+    → AppendsOrFails r b c rest
     → AppendsOrFails r a c (byte ∷ rest)
-byte_then r a b c byte rest first more = appends_or_fails_more r a b c (byte ∷ []) rest first more
+appends_or_fails_cons r a b c byte rest first more = appends_or_fails_append r a b c (byte ∷ []) rest first more
 
-pub name_rejected : (prefix name : List ℕ) (Rejects : RejectedValue → List ℕ → Type 0) (value : RejectedValue) (parts : List ℕ)
+pub parts_error_of_name : (prefix name : List ℕ) (Rejects : RejectedValue → List ℕ → Type 0) (value : RejectedValue) (parts : List ℕ)
     → IsNameLineError name value parts → IsTagPartsError prefix name Rejects value (prefix ++ parts)
-name_rejected prefix name Rejects value parts (rejected, none) = inl (rejected, ap (λ (it : List ℕ). prefix ++ it) none ∙ append-nil prefix)
+parts_error_of_name prefix name Rejects value parts (rejected, none) = inl (rejected, ap (λ (it : List ℕ). prefix ++ it) none ∙ append-nil prefix)
 
-pub tagger_rejected : (prefix name : List ℕ) (Rejects : RejectedValue → List ℕ → Type 0) (value : RejectedValue) (parts : List ℕ) → IsTagName name
+pub parts_error_of_tagger : (prefix name : List ℕ) (Rejects : RejectedValue → List ℕ → Type 0) (value : RejectedValue) (parts : List ℕ) → IsTagName name
     → Rejects value parts → IsTagPartsError prefix name Rejects value ((prefix ++ encode_field (codes "tag") name) ++ parts)
-tagger_rejected prefix name Rejects value parts valid rejected = inr (valid, (parts, rejected, refl))
+parts_error_of_tagger prefix name Rejects value parts valid rejected = inr (valid, (parts, rejected, refl))
 
 name_not_rejected : (name : List ℕ) (value : RejectedValue) → IsTagName name → IsTagNameError name value → ⊥
 name_not_rejected name value valid (inl (fault, first, is)) = valid.0 fault first.here
 name_not_rejected name value valid (inr (clean, dash, is)) = valid.1 dash
 
 -- no value is rejected if the name is valid and the tagger isn't rejected
-pub none_rejected : (prefix name : List ℕ) (Rejects : RejectedValue → List ℕ → Type 0) → IsTagName name → RejectsNothing Rejects
+pub parts_rejects_nothing : (prefix name : List ℕ) (Rejects : RejectedValue → List ℕ → Type 0) → IsTagName name → RejectsNothing Rejects
     → RejectsNothing (IsTagPartsError prefix name Rejects)
-none_rejected prefix name Rejects valid none value parts (inl it) = name_not_rejected name value valid it.0
-none_rejected prefix name Rejects valid none value parts (inr (named, (line, rejected, is))) = none value line rejected
+parts_rejects_nothing prefix name Rejects valid none value parts (inl it) = name_not_rejected name value valid it.0
+parts_rejects_nothing prefix name Rejects valid none value parts (inr (named, (line, rejected, is))) = none value line rejected
 
 -- the unchanged value of a tagger line is never rejected
 lines_rejected : (tag : TagLines) (value : RejectedValue) (parts : List ℕ) → IsTagPartsError (encode_target tag) tag.name (λ value line. ⊥) value parts
@@ -44,9 +45,9 @@ lines_rejected : (tag : TagLines) (value : RejectedValue) (parts : List ℕ) →
 lines_rejected tag value parts (inl rejected) = rejected
 lines_rejected tag value parts (inr (valid, (line, rejected, same))) = absurd rejected
 
-pub lines_say_why : (tag : TagLines) (before after : SinkView) (bytes : List ℕ) (error : Error)
+pub writing_error_of_lines : (tag : TagLines) (before after : SinkView) (bytes : List ℕ) (error : Error)
     → IsWritingError (IsTagPartsError (encode_target tag) tag.name (λ value line. ⊥)) before after bytes error
     → IsWritingError (IsTagLinesError tag) before after bytes error
-lines_say_why tag before after bytes error says =
+writing_error_of_lines tag before after bytes error says =
     writing_error_append (IsTagPartsError (encode_target tag) tag.name (λ value line. ⊥)) (IsTagLinesError tag) before before after [] bytes bytes
-    (nothing_appended before) (lines_rejected tag) (λ prefix. prefix) error says
+    (appends_all_nil before) (lines_rejected tag) (λ prefix. prefix) error says

@@ -6,7 +6,7 @@ use Rattle.bstr.proofs.Computing.{computing}
 use Rattle.bstr.specs.Text.{lines_of}
 use Rattle.gixobj_text.specs.BodyLines.{is_blank}
 use Rattle.gixobj_text.specs.TrailerBlocks.{IsTrailerBlock, IsBlockStart, count_others, trailers_in}
-use Rattle.gixobj_text.proofs.LastRuns.{no_block, parts_of}
+use Rattle.gixobj_text.proofs.LastRuns.{no_block_of_parts, parts_of}
 
 abbrev F : List ℕ → Type 0
 F line = IsFalse (is_blank line)
@@ -74,4 +74,4 @@ as_long : ◌≡◌ {A = ℕ} 85 (length long)
 as_long = refl
 
 too_many : IsBlockStart long 85
-too_many = inr (no_block (lines_of long) (none_of_five (parts_of (lines_of long)).run five_lines), as_long)
+too_many = inr (no_block_of_parts (lines_of long) (none_of_five (parts_of (lines_of long)).run five_lines), as_long)

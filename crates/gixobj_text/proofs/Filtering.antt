@@ -12,18 +12,18 @@ use Rattle.gixobj_text.specs.declared.commit.message.body.trailers.Trailers.{Tra
 abbrev Other : Filter → TrailerView → Type 0
 Other by trailer = IsFalse (passes_filter by trailer.token)
 
-pub passes_none : (by : Filter) (it : Trailers) → SkipsUnfiltered by it it
-passes_none by it = record { skipped = []; joined = refl; all = All-nil (Other by) }
+pub skips_unfiltered_refl : (by : Filter) (it : Trailers) → SkipsUnfiltered by it it
+skips_unfiltered_refl by it = record { skipped = []; joined = refl; all = All-nil (Other by) }
 
 all_more : (P : TrailerView → Type 0) (trailers : List TrailerView) (one : TrailerView) → All P trailers → P one → All P (trailers ++ one ∷ [])
 all_more P [] one all it = All-cons P one [] it (All-nil P)
 all_more P (first ∷ trailers) one all it = All-cons P first (trailers ++ one ∷ []) (All-head P first trailers all)
     (all_more P trailers one (All-tail P first trailers all) it)
 
-pub passes_more : (by : Filter) (before middle after : Trailers) (trailer : TrailerRef) → SkipsUnfiltered by before middle
+pub skips_unfiltered_step : (by : Filter) (before middle after : Trailers) (trailer : TrailerRef) → SkipsUnfiltered by before middle
     → remaining_trailers middle ≡ trailer_view trailer ∷ remaining_trailers after
     → passes_filter by (trailer_view trailer).token ≡ false → SkipsUnfiltered by before after
-passes_more by before middle after trailer it remaining other = record {
+skips_unfiltered_step by before middle after trailer it remaining other = record {
   skipped = it.skipped ++ trailer_view trailer ∷ [];
   joined = it.joined ∙ ap (λ (ts : List TrailerView). it.skipped ++ ts) remaining
       ∙ sym (append_assoc it.skipped (trailer_view trailer ∷ []) (remaining_trailers after));
@@ -44,14 +44,15 @@ past_others by [] rest all = refl
 past_others by (one ∷ skipped) rest all = kept_by by false one (skipped ++ rest) (All-head (Other by) one skipped all) ∙ past_others by skipped rest
     (All-tail (Other by) one skipped all)
 
-pub filtered_next : (by : Filter) (before middle after : Trailers) (trailer : TrailerRef) → SkipsUnfiltered by before middle
+pub filtered_of_next : (by : Filter) (before middle after : Trailers) (trailer : TrailerRef) → SkipsUnfiltered by before middle
     → remaining_trailers middle ≡ trailer_view trailer ∷ remaining_trailers after
     → passes_filter by (trailer_view trailer).token ≡ true → filtered_of by (remaining_trailers before) ≡ trailer_view trailer ∷ filtered_of by
     (remaining_trailers after)
-filtered_next by before middle after trailer it remaining kept =
+filtered_of_next by before middle after trailer it remaining kept =
     ap (filtered_of by) it.joined ∙ past_others by it.skipped (remaining_trailers middle) it.all ∙ ap (filtered_of by) remaining
     ∙ kept_by by true (trailer_view trailer) (remaining_trailers after) kept
 
-pub filtered_none : (by : Filter) (before middle : Trailers) → SkipsUnfiltered by before middle → remaining_trailers middle ≡ []
+pub filtered_of_none : (by : Filter) (before middle : Trailers) → SkipsUnfiltered by before middle → remaining_trailers middle ≡ []
     → filtered_of by (remaining_trailers before) ≡ []
-filtered_none by before middle it none = ap (filtered_of by) it.joined ∙ past_others by it.skipped (remaining_trailers middle) it.all ∙ ap (filtered_of by) none
+filtered_of_none by before middle it none = ap (filtered_of by) it.joined ∙ past_others by it.skipped (remaining_trailers middle) it.all
+    ∙ ap (filtered_of by) none

@@ -6,32 +6,32 @@ use Rattle.bstr.specs.Text.{line_len, lines_of}
 use Rattle.bstr.proofs.lemmas.LineLemmas.{line_len-at, line_len-bounds, line_len-none, lines-step}
 use Rattle.gixobj_text.specs.FirstLines.{IsFirstLine}
 
-pub ends_at : (bytes : List ℕ) (place : ℕ) → IsFirstByte (is_byte 10) bytes (Some place) → line_len bytes ≡ place + 1
-ends_at bytes place (none, here) = line_len-at bytes place none.high (eqb-true (slice_index bytes place) 10 here)
+pub line_len_at_newline : (bytes : List ℕ) (place : ℕ) → IsFirstByte (is_byte 10) bytes (Some place) → line_len bytes ≡ place + 1
+line_len_at_newline bytes place (none, here) = line_len-at bytes place none.high (eqb-true (slice_index bytes place) 10 here)
     (λ k below is. none.before k (omega arith) below (eq-eqb (slice_index bytes k) 10 is))
 
-pub ends_nowhere : (bytes : List ℕ) → IsFirstByte (is_byte 10) bytes None → line_len bytes ≡ length bytes
-ends_nowhere bytes none = line_len-none bytes (λ k below is. none k (omega arith) below (eq-eqb (slice_index bytes k) 10 is))
+pub line_len_of_newline_free : (bytes : List ℕ) → IsFirstByte (is_byte 10) bytes None → line_len bytes ≡ length bytes
+line_len_of_newline_free bytes none = line_len-none bytes (λ k below is. none k (omega arith) below (eq-eqb (slice_index bytes k) 10 is))
 
 -- the first byte is a newline
-pub ends_first : (bytes : List ℕ) → 0 < length bytes → slice_index bytes 0 ≡ 10 → line_len bytes ≡ 1
-ends_first bytes some here = line_len-at bytes 0 some here (λ k below is. absurd (omega (arith, below)))
+pub line_len_of_newline : (bytes : List ℕ) → 0 < length bytes → slice_index bytes 0 ≡ 10 → line_len bytes ≡ 1
+line_len_of_newline bytes some here = line_len-at bytes 0 some here (λ k below is. absurd (omega (arith, below)))
 
 first_other : (bytes : List ℕ) → slice_index bytes 0 ≢ 10 → (k : ℕ) → k < 1 → slice_index bytes k ≢ 10
 first_other bytes other zero below = other
 first_other bytes other (suc k) below = absurd (omega (arith, below))
 
 -- the second byte is a newline, and the first isn't
-pub ends_second : (bytes : List ℕ) → 1 < length bytes → slice_index bytes 0 ≢ 10 → slice_index bytes 1 ≡ 10 → line_len bytes ≡ 2
-ends_second bytes some other here = line_len-at bytes 1 some here (first_other bytes other)
+pub line_len_of_second_newline : (bytes : List ℕ) → 1 < length bytes → slice_index bytes 0 ≢ 10 → slice_index bytes 1 ≡ 10 → line_len bytes ≡ 2
+line_len_of_second_newline bytes some other here = line_len-at bytes 1 some here (first_other bytes other)
 
 some_filled : (bytes : List ℕ) → 0 < length bytes → bytes ≢ []
 some_filled [] some = absurd (omega arith)
 some_filled (byte ∷ bytes) some = λ is. cc is
 
-pub first_line : (bytes line rest : List ℕ) → 0 < length bytes → line ≡ take (line_len bytes) bytes → rest ≡ drop (line_len bytes) bytes
+pub is_first_line_of_len : (bytes line rest : List ℕ) → 0 < length bytes → line ≡ take (line_len bytes) bytes → rest ≡ drop (line_len bytes) bytes
     → IsFirstLine bytes line rest
-first_line bytes line rest some prefix after =
+is_first_line_of_len bytes line rest some prefix after =
     let bounds = line_len-bounds bytes some in
     record {
       joined = sym (ap (λ (a : List ℕ). a ++ rest) prefix ∙ ap (λ (b : List ℕ). take (line_len bytes) bytes ++ b) after

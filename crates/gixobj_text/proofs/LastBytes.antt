@@ -27,10 +27,10 @@ same_test byte last same = grind (arith, nat_tests)
 other_test : (byte last : ℕ) → byte ≢ last → (byte == last) ≡ false
 other_test byte last other = grind (arith, nat_tests)
 
-pub dropped : (last byte : ℕ) (prefix bytes : List ℕ) → bytes ≡ prefix ++ byte ∷ [] → byte ≡ last → prefix ≡ without_last_byte last bytes
-dropped last byte prefix bytes is same =
+pub without_last_byte_of_last : (last byte : ℕ) (prefix bytes : List ℕ) → bytes ≡ prefix ++ byte ∷ [] → byte ≡ last → prefix ≡ without_last_byte last bytes
+without_last_byte_of_last last byte prefix bytes is same =
     sym (ap (without_last_byte last) is ∙ at_end last byte prefix ∙ ap (λ (b : Bool). cond b prefix (prefix ++ byte ∷ [])) (same_test byte last same))
 
-pub kept : (last byte : ℕ) (prefix bytes : List ℕ) → bytes ≡ prefix ++ byte ∷ [] → byte ≢ last → bytes ≡ without_last_byte last bytes
-kept last byte prefix bytes is other =
+pub without_last_byte_of_other : (last byte : ℕ) (prefix bytes : List ℕ) → bytes ≡ prefix ++ byte ∷ [] → byte ≢ last → bytes ≡ without_last_byte last bytes
+without_last_byte_of_other last byte prefix bytes is other =
     is ∙ sym (ap (without_last_byte last) is ∙ at_end last byte prefix ∙ ap (λ (b : Bool). cond b prefix (prefix ++ byte ∷ [])) (other_test byte last other))

@@ -68,10 +68,11 @@ of_all (line ∷ next ∷ before) (first ∷ run) after ends some filled blank =
     (of_all (next ∷ before) (first ∷ run) after (ends_after line next before ends) some filled blank)
 
 -- the parts of lines are those of their last run
-pub parts_are : (lines before run after : Lines) → IsLastRun lines before run after → parts_of lines ≡ record { before = before; run = run; after = after }
-parts_are lines before run after last =
+pub parts_of_last_run : (lines before run after : Lines) → IsLastRun lines before run after
+    → parts_of lines ≡ record { before = before; run = run; after = after }
+parts_of_last_run lines before run after last =
     ap parts_of (last.joined ∙ append_assoc before run after) ∙ of_all before run after last.ends last.some last.none_blank last.all_blank
 
-pub no_block : (lines : Lines) → ¬ IsTrailerBlock (parts_of lines).run → HasNoBlock lines
-no_block lines other before run after last block =
-    other (subst IsTrailerBlock (sym (ap (λ (it : Parts). it.run) (parts_are lines before run after last))) block)
+pub no_block_of_parts : (lines : Lines) → ¬ IsTrailerBlock (parts_of lines).run → HasNoBlock lines
+no_block_of_parts lines other before run after last block =
+    other (subst IsTrailerBlock (sym (ap (λ (it : Parts). it.run) (parts_of_last_run lines before run after last))) block)

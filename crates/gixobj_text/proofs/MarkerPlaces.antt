@@ -18,8 +18,8 @@ marker_known format marker rest pgp_message = refl
 marker_known format marker rest signed_message = refl
 marker_known format marker rest ssh_signature = refl
 
-pub one_format : (bytes : List ℕ) (f g : Format) → BeginsWithMarker f bytes → BeginsWithMarker g bytes → f ≡ g
-one_format bytes f g first second =
+pub format_of_marker_unique : (bytes : List ℕ) (f g : Format) → BeginsWithMarker f bytes → BeginsWithMarker g bytes → f ≡ g
+format_of_marker_unique bytes f g first second =
     sym (marker_known f first.marker first.rest first.known) ∙ ap (λ (it : List ℕ). known_by (get_or it 12 0)) (sym first.joined ∙ second.joined)
     ∙ marker_known g second.marker second.rest second.known
 
@@ -35,26 +35,28 @@ rest_of_place bytes place f here =
     let cut : drop (length here.prefix) bytes ≡ here.rest = ap (drop (length here.prefix)) here.joined ∙ drop-append_seam here.prefix here.rest in
     ap (λ (it : ℕ). drop it bytes) (sym here.as_long) ∙ cut
 
-pub marked_after : (bytes : List ℕ) (place : ℕ) (f : Format) → MarksPlace bytes place f → BeginsWithMarker f (drop place bytes)
-marked_after bytes place f here = subst (BeginsWithMarker f) (sym (rest_of_place bytes place f here)) here.marked
+pub begins_with_marker_at_place : (bytes : List ℕ) (place : ℕ) (f : Format) → MarksPlace bytes place f → BeginsWithMarker f (drop place bytes)
+begins_with_marker_at_place bytes place f here = subst (BeginsWithMarker f) (sym (rest_of_place bytes place f here)) here.marked
 
-pub starts_after : (bytes : List ℕ) (place : ℕ) (f : Format) → MarksPlace bytes place f → StartsLine (take place bytes)
-starts_after bytes place f here = subst StartsLine (sym (prefix_of_place bytes place f here)) here.starts
+pub starts_line_at_place : (bytes : List ℕ) (place : ℕ) (f : Format) → MarksPlace bytes place f → StartsLine (take place bytes)
+starts_line_at_place bytes place f here = subst StartsLine (sym (prefix_of_place bytes place f here)) here.starts
 
-pub place_within : (bytes : List ℕ) (place : ℕ) (f : Format) → MarksPlace bytes place f → place ≤ length bytes
-place_within bytes place f here = omega (arith, here.as_long, ap length here.joined, length-append here.prefix here.rest)
+pub marker_place_le_len : (bytes : List ℕ) (place : ℕ) (f : Format) → MarksPlace bytes place f → place ≤ length bytes
+marker_place_le_len bytes place f here = omega (arith, here.as_long, ap length here.joined, length-append here.prefix here.rest)
 
-pub one_marker_place : (bytes : List ℕ) (a b : ℕ) (f g : Format) → IsMarkerPlace bytes a f → IsMarkerPlace bytes b g → (a ≡ b) × (f ≡ g)
-one_marker_place bytes a b f g first second =
+pub marker_place_unique : (bytes : List ℕ) (a b : ℕ) (f g : Format) → IsMarkerPlace bytes a f → IsMarkerPlace bytes b g → (a ≡ b) × (f ≡ g)
+marker_place_unique bytes a b f g first second =
     let same : a ≡ b = omega (arith, second.last a f first.here, first.last b g second.here) in
     let P : ℕ → Type 0 = λ it. BeginsWithMarker g (drop it bytes) in
-    (same, one_format (drop a bytes) f g (marked_after bytes a f first.here) (subst P (sym same) (marked_after bytes b g second.here)))
+    (same, format_of_marker_unique (drop a bytes) f g (begins_with_marker_at_place bytes a f first.here)
+        (subst P (sym same) (begins_with_marker_at_place bytes b g second.here)))
 
-pub not_both : (bytes : List ℕ) (a : ℕ) (f : Format) → IsMarkerPlace bytes a f → HasNoMarker bytes → ⊥
-not_both bytes a f is none = none a f is.here
+pub no_marker_and_marker_place : (bytes : List ℕ) (a : ℕ) (f : Format) → IsMarkerPlace bytes a f → HasNoMarker bytes → ⊥
+no_marker_and_marker_place bytes a f is none = none a f is.here
 
 -- the parts at the position
-pub split_at_place : (bytes : List ℕ) (place : ℕ) (f : Format) → IsMarkerPlace bytes place f
+pub marker_place_splits : (bytes : List ℕ) (place : ℕ) (f : Format) → IsMarkerPlace bytes place f
     → (bytes ≡ take place bytes ++ drop place bytes) × StartsLine (take place bytes) × BeginsWithMarker f (drop place bytes) × (place ≤ length bytes)
-split_at_place bytes place f is =
-    (sym (take-append-drop place bytes), starts_after bytes place f is.here, marked_after bytes place f is.here, place_within bytes place f is.here)
+marker_place_splits bytes place f is =
+    (sym (take-append-drop place bytes), starts_line_at_place bytes place f is.here, begins_with_marker_at_place bytes place f is.here, marker_place_le_len
+        bytes place f is.here)

@@ -17,14 +17,16 @@ marker_found format marker bytes is same =
       joined = (starts_is Decides-eqb bytes marker (starts_with nat_eq bytes marker) refl).0 (sym same);
     }
 
-pub pgp_signature_found : (bytes : List ℕ) → true ≡ starts_with nat_eq bytes (codes "-----BEGIN PGP SIGNATURE-----") → BeginsWithMarker format.OpenPgp bytes
-pgp_signature_found bytes = marker_found _ _ bytes pgp_signature
+pub begins_with_pgp_signature : (bytes : List ℕ) → true ≡ starts_with nat_eq bytes (codes "-----BEGIN PGP SIGNATURE-----")
+    → BeginsWithMarker format.OpenPgp bytes
+begins_with_pgp_signature bytes = marker_found _ _ bytes pgp_signature
 
-pub pgp_message_found : (bytes : List ℕ) → true ≡ starts_with nat_eq bytes (codes "-----BEGIN PGP MESSAGE-----") → BeginsWithMarker format.OpenPgp bytes
-pgp_message_found bytes = marker_found _ _ bytes pgp_message
+pub begins_with_pgp_message : (bytes : List ℕ) → true ≡ starts_with nat_eq bytes (codes "-----BEGIN PGP MESSAGE-----") → BeginsWithMarker format.OpenPgp bytes
+begins_with_pgp_message bytes = marker_found _ _ bytes pgp_message
 
-pub signed_message_found : (bytes : List ℕ) → true ≡ starts_with nat_eq bytes (codes "-----BEGIN SIGNED MESSAGE-----") → BeginsWithMarker format.X509 bytes
-signed_message_found bytes = marker_found _ _ bytes signed_message
+pub begins_with_signed_message : (bytes : List ℕ) → true ≡ starts_with nat_eq bytes (codes "-----BEGIN SIGNED MESSAGE-----")
+    → BeginsWithMarker format.X509 bytes
+begins_with_signed_message bytes = marker_found _ _ bytes signed_message
 
-pub ssh_signature_found : (bytes : List ℕ) → true ≡ starts_with nat_eq bytes (codes "-----BEGIN SSH SIGNATURE-----") → BeginsWithMarker format.Ssh bytes
-ssh_signature_found bytes = marker_found _ _ bytes ssh_signature
+pub begins_with_ssh_signature : (bytes : List ℕ) → true ≡ starts_with nat_eq bytes (codes "-----BEGIN SSH SIGNATURE-----") → BeginsWithMarker format.Ssh bytes
+begins_with_ssh_signature bytes = marker_found _ _ bytes ssh_signature

@@ -10,7 +10,7 @@ use Rattle.gixobj_text.specs.Titles.{HasBreaks, IsBreak, IsSplitAtBreaks, Splits
 use Rattle.gixobj_text.specs.Titles.IsBreak.{alone, after_return}
 use Rattle.gixobj_text.specs.TrailerBlocks.{HasBlock, IsBlockStart, StartsAfter}
 use Rattle.gixobj_text.specs.Trailers.{TrailerView, trailers_of_bytes}
-use Rattle.gixobj_text.proofs.LastRuns.{Parts, parts_are}
+use Rattle.gixobj_text.proofs.LastRuns.{Parts, parts_of_last_run}
 
 abbrev Lines : Type 0
 Lines = List (List ℕ)
@@ -49,18 +49,18 @@ one_cut message title body title2 body2 one other =
     ∙ after_two other.here.first other.here.second body2 other.here.breaks.0 other.here.breaks.1 in
     (prefixes.0, cc bodies)
 
-pub one_split : (message title title2 : List ℕ) (body body2 : Option (List ℕ)) → SplitsTitle message title body → SplitsTitle message title2 body2
+pub title_split_unique : (message title title2 : List ℕ) (body body2 : Option (List ℕ)) → SplitsTitle message title body → SplitsTitle message title2 body2
     → (title ≡ title2) × (body ≡ body2)
-one_split message title title2 (Some body) (Some body2) (one, some) (other, some2) =
+title_split_unique message title title2 (Some body) (Some body2) (one, some) (other, some2) =
     let same = one_cut message title body title2 body2 one other in (same.0, ap (λ (it : List ℕ). Some it) same.1)
-one_split message title title2 (Some body) None (one, some) (inl other) = absurd (some (one_cut message title body title2 [] one other).1)
-one_split message title title2 (Some body) None (one, some) (inr (all, none)) = absurd (none title body one.here)
-one_split message title title2 None (Some body2) (inl one) (other, some) = absurd (some (one_cut message title2 body2 title [] other one).1)
-one_split message title title2 None (Some body2) (inr (all, none)) (other, some) = absurd (none title2 body2 other.here)
-one_split message title title2 None None (inl one) (inl other) = ((one_cut message title [] title2 [] one other).0, refl)
-one_split message title title2 None None (inl one) (inr (all, none)) = absurd (none title [] one.here)
-one_split message title title2 None None (inr (all, none)) (inl other) = absurd (none title2 [] other.here)
-one_split message title title2 None None (inr (all, none)) (inr (all2, none2)) = (all ∙ sym all2, refl)
+title_split_unique message title title2 (Some body) None (one, some) (inl other) = absurd (some (one_cut message title body title2 [] one other).1)
+title_split_unique message title title2 (Some body) None (one, some) (inr (all, none)) = absurd (none title body one.here)
+title_split_unique message title title2 None (Some body2) (inl one) (other, some) = absurd (some (one_cut message title2 body2 title [] other one).1)
+title_split_unique message title title2 None (Some body2) (inr (all, none)) (other, some) = absurd (none title2 body2 other.here)
+title_split_unique message title title2 None None (inl one) (inl other) = ((one_cut message title [] title2 [] one other).0, refl)
+title_split_unique message title title2 None None (inl one) (inr (all, none)) = absurd (none title [] one.here)
+title_split_unique message title title2 None None (inr (all, none)) (inl other) = absurd (none title2 [] other.here)
+title_split_unique message title title2 None None (inr (all, none)) (inr (all2, none2)) = (all ∙ sym all2, refl)
 
 -- ---- the start of a block
 
@@ -103,14 +103,14 @@ same_start : (lines : Lines) (start start2 : ℕ) → HasBlock lines start → H
 same_start lines start start2 one other =
     let same : one.before ≡ other.before =
     ap (λ (it : Parts). it.before)
-    (sym (parts_are lines one.before one.run one.after one.last) ∙ parts_are lines other.before other.run other.after other.last) in
+    (sym (parts_of_last_run lines one.before one.run one.after one.last) ∙ parts_of_last_run lines other.before other.run other.after other.last) in
     start_is one.before start one.starts ∙ ap start_of same ∙ sym (start_is other.before start2 other.starts)
 
-pub one_start : (body : List ℕ) (start start2 : ℕ) → IsBlockStart body start → IsBlockStart body start2 → start ≡ start2
-one_start body start start2 (inl one) (inl other) = same_start (lines_of body) start start2 one other
-one_start body start start2 (inl one) (inr (none, is)) = absurd (none one.before one.run one.after one.last one.block)
-one_start body start start2 (inr (none, is)) (inl other) = absurd (none other.before other.run other.after other.last other.block)
-one_start body start start2 (inr (none, is)) (inr (none2, is2)) = is ∙ sym is2
+pub block_start_unique : (body : List ℕ) (start start2 : ℕ) → IsBlockStart body start → IsBlockStart body start2 → start ≡ start2
+block_start_unique body start start2 (inl one) (inl other) = same_start (lines_of body) start start2 one other
+block_start_unique body start start2 (inl one) (inr (none, is)) = absurd (none one.before one.run one.after one.last one.block)
+block_start_unique body start start2 (inr (none, is)) (inl other) = absurd (none other.before other.run other.after other.last other.block)
+block_start_unique body start start2 (inr (none, is)) (inr (none2, is2)) = is ∙ sym is2
 
 -- ---- the trailers of a message
 
@@ -118,10 +118,10 @@ of_body : (body : Option (List ℕ)) (trailers trailers2 : List TrailerView) →
     → trailers ≡ trailers2
 of_body None trailers trailers2 one other = one ∙ sym other
 of_body (Some body) trailers trailers2 (start, at, is) (start2, at2, is2) =
-    is ∙ ap (λ (n : ℕ). trailers_of_bytes (drop n body)) (one_start body start start2 at at2) ∙ sym is2
+    is ∙ ap (λ (n : ℕ). trailers_of_bytes (drop n body)) (block_start_unique body start start2 at at2) ∙ sym is2
 
-pub one_list : (message : List ℕ) (trailers trailers2 : List TrailerView) → HasTrailers message trailers → HasTrailers message trailers2
+pub trailers_unique : (message : List ℕ) (trailers trailers2 : List TrailerView) → HasTrailers message trailers → HasTrailers message trailers2
     → trailers ≡ trailers2
-one_list message trailers trailers2 one other =
-    let same : one.body ≡ other.body = (one_split message one.title other.title one.body other.body one.split other.split).1 in
+trailers_unique message trailers trailers2 one other =
+    let same : one.body ≡ other.body = (title_split_unique message one.title other.title one.body other.body one.split other.split).1 in
     of_body other.body trailers trailers2 (subst (λ (body : Option (List ℕ)). BodyHasTrailers body trailers) same one.has) other.has

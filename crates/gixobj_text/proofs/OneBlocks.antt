@@ -111,12 +111,13 @@ one_first start bytes one other rest rest2 it it2 =
       sym (concat-lines_of rest) ∙ ap (λ (ls : Lines). concat ls) after ∙ concat-lines_of rest2,
     )
 
-pub one_list : (start : ℕ) (body : List ℕ) (blocks blocks2 : List BlockView) → AreBlocksFrom start body blocks → AreBlocksFrom start body blocks2
+pub blocks_unique : (start : ℕ) (body : List ℕ) (blocks blocks2 : List BlockView) → AreBlocksFrom start body blocks → AreBlocksFrom start body blocks2
     → blocks ≡ blocks2
-one_list start body blocks blocks2 (none _) (none _) = refl
-one_list start body blocks blocks2 (none _) (block _ _ one rest later it more) = absurd (it.some refl)
-one_list start body blocks blocks2 (block _ _ one rest later it more) (none _) = absurd (it.some refl)
-one_list start body blocks blocks2 (block _ _ one rest later it more) (block _ _ other rest2 later2 it2 more2) =
+blocks_unique start body blocks blocks2 (none _) (none _) = refl
+blocks_unique start body blocks blocks2 (none _) (block _ _ one rest later it more) = absurd (it.some refl)
+blocks_unique start body blocks blocks2 (block _ _ one rest later it more) (none _) = absurd (it.some refl)
+blocks_unique start body blocks blocks2 (block _ _ one rest later it more) (block _ _ other rest2 later2 it2 more2) =
     let same = one_first start body one other rest rest2 it it2 in
     ap (λ (b : BlockView). b ∷ later) same.0
-    ∙ ap (λ (bs : List BlockView). other ∷ bs) (one_list 0 rest later later2 more (subst (λ (bytes : List ℕ). AreBlocksFrom 0 bytes later2) (sym same.1) more2))
+    ∙ ap (λ (bs : List BlockView). other ∷ bs) (blocks_unique 0 rest later later2 more
+        (subst (λ (bytes : List ℕ). AreBlocksFrom 0 bytes later2) (sym same.1) more2))

@@ -18,10 +18,10 @@ Blank line = IsTrue (is_blank line)
 abbrev pub Filled : List ℕ → Type 0
 Filled line = IsFalse (is_blank line)
 
-pub all_more : (P : List ℕ → Type 0) (lines : Lines) (line : List ℕ) → All P lines → P line → All P (lines ++ line ∷ [])
-all_more P [] line all it = All-cons P line [] it (All-nil P)
-all_more P (first ∷ lines) line all it = All-cons P first (lines ++ line ∷ []) (All-head P first lines all)
-    (all_more P lines line (All-tail P first lines all) it)
+pub all_snoc : (P : List ℕ → Type 0) (lines : Lines) (line : List ℕ) → All P lines → P line → All P (lines ++ line ∷ [])
+all_snoc P [] line all it = All-cons P line [] it (All-nil P)
+all_snoc P (first ∷ lines) line all it = All-cons P first (lines ++ line ∷ []) (All-head P first lines all)
+    (all_snoc P lines line (All-tail P first lines all) it)
 
 not_none : (run : Lines) (line : List ℕ) → run ++ line ∷ [] ≢ []
 not_none [] line = λ is. cc is
@@ -30,31 +30,31 @@ not_none (first ∷ run) line = λ is. cc is
 -- ---- the last run
 
 -- a blank line follows the run
-pub blank_more : (lines before run after : Lines) (line : List ℕ) → Blank line → IsLastRun lines before run after
+pub is_last_run_snoc_blank : (lines before run after : Lines) (line : List ℕ) → Blank line → IsLastRun lines before run after
     → IsLastRun (lines ++ line ∷ []) before run (after ++ line ∷ [])
-blank_more lines before run after line blank last = record {
+is_last_run_snoc_blank lines before run after line blank last = record {
   joined = ap (λ (ls : Lines). ls ++ line ∷ []) last.joined ∙ append_assoc (before ++ run) after (line ∷ []);
   some = last.some;
   none_blank = last.none_blank;
-  all_blank = all_more Blank after line last.all_blank blank;
+  all_blank = all_snoc Blank after line last.all_blank blank;
   ends = last.ends;
 }
 
 -- another line continues the run, if no line follows the run yet
-pub filled_more : (lines before run : Lines) (line : List ℕ) → Filled line → IsLastRun lines before run []
+pub is_last_run_snoc_filled : (lines before run : Lines) (line : List ℕ) → Filled line → IsLastRun lines before run []
     → IsLastRun (lines ++ line ∷ []) before (run ++ line ∷ []) []
-filled_more lines before run line filled last = record {
+is_last_run_snoc_filled lines before run line filled last = record {
   joined = ap (λ (ls : Lines). ls ++ line ∷ []) (last.joined ∙ append-nil (before ++ run)) ∙ append_assoc before run (line ∷ [])
       ∙ sym (append-nil (before ++ (run ++ line ∷ [])));
   some = not_none run line;
-  none_blank = all_more Filled run line last.none_blank filled;
+  none_blank = all_snoc Filled run line last.none_blank filled;
   all_blank = last.all_blank;
   ends = last.ends;
 }
 
 -- another line begins a run after lines that end in a blank line
-pub filled_first : (lines : Lines) (line : List ℕ) → Filled line → EndsBlank lines → IsLastRun (lines ++ line ∷ []) lines (line ∷ []) []
-filled_first lines line filled ends = record {
+pub is_last_run_snoc_first : (lines : Lines) (line : List ℕ) → Filled line → EndsBlank lines → IsLastRun (lines ++ line ∷ []) lines (line ∷ []) []
+is_last_run_snoc_first lines line filled ends = record {
   joined = sym (append-nil (lines ++ line ∷ []));
   some = λ is. cc is;
   none_blank = All-cons Filled line [] filled (All-nil Filled);
@@ -62,8 +62,8 @@ filled_first lines line filled ends = record {
   ends = ends;
 }
 
-pub ends_blank : (lines : Lines) (line : List ℕ) → Blank line → EndsBlank (lines ++ line ∷ [])
-ends_blank lines line blank = inr (lines, line, refl, blank)
+pub ends_blank_snoc : (lines : Lines) (line : List ℕ) → Blank line → EndsBlank (lines ++ line ∷ [])
+ends_blank_snoc lines line blank = inr (lines, line, refl, blank)
 
 -- ---- counts
 
@@ -88,13 +88,13 @@ after_first false true true a b c d e f x y z line first second third = plus_so 
 after_first false true false a b c d e f x y z line first second third = plus_so 1 b e (other_count_of y line) second
 after_first false false above a b c d e f x y z line first second third = plus_so 1 c f (other_count_of z line) third
 
-pub others_more : (above : Bool) (run : Lines) (line : List ℕ) → count_others above (run ++ line ∷ []) ≡ count_others above run + other_count_of
+pub count_others_snoc : (above : Bool) (run : Lines) (line : List ℕ) → count_others above (run ++ line ∷ []) ≡ count_others above run + other_count_of
     (is_below_trailer_after above run) line
-others_more above [] line = from_none (count_others above (line ∷ [])) (other_count_of above line) (one_line (is_trailing line) (is_indented line) above)
-others_more above (first ∷ run) line =
+count_others_snoc above [] line = from_none (count_others above (line ∷ [])) (other_count_of above line) (one_line (is_trailing line) (is_indented line) above)
+count_others_snoc above (first ∷ run) line =
     after_first (is_trailing first) (is_indented first) above _ _ _ _ _ _ (is_below_trailer_after true run) (is_below_trailer_after above run)
     (is_below_trailer_after false run) line
-    (others_more true run line) (others_more above run line) (others_more false run line)
+    (count_others_snoc true run line) (count_others_snoc above run line) (count_others_snoc false run line)
 
 above_first : (t i : Bool) (a b c x y z : Bool) (t2 i2 : Bool) → a ≡ cond t2 true (cond i2 x false) → b ≡ cond t2 true (cond i2 y false)
     → c ≡ cond t2 true (cond i2 z false)
@@ -103,13 +103,13 @@ above_first true i a b c x y z t2 i2 first second third = first
 above_first false true a b c x y z t2 i2 first second third = second
 above_first false false a b c x y z t2 i2 first second third = third
 
-pub above_more : (above : Bool) (run : Lines) (line : List ℕ) → is_below_trailer_after above (run ++ line ∷ []) ≡ cond (is_trailing line) true
+pub is_below_trailer_snoc : (above : Bool) (run : Lines) (line : List ℕ) → is_below_trailer_after above (run ++ line ∷ []) ≡ cond (is_trailing line) true
     (cond (is_indented line) (is_below_trailer_after above run) false)
-above_more above [] line = refl
-above_more above (first ∷ run) line =
+is_below_trailer_snoc above [] line = refl
+is_below_trailer_snoc above (first ∷ run) line =
     above_first (is_trailing first) (is_indented first) _ _ _ (is_below_trailer_after true run) (is_below_trailer_after above run)
     (is_below_trailer_after false run) (is_trailing line) (is_indented line)
-    (above_more true run line) (above_more above run line) (above_more false run line)
+    (is_below_trailer_snoc true run line) (is_below_trailer_snoc above run line) (is_below_trailer_snoc false run line)
 
 or_apart : (a b c : Bool) → a || (b || c) ≡ (a || b) || c
 or_apart true b c = refl
@@ -119,6 +119,6 @@ or_none : (a : Bool) → a || false ≡ a
 or_none true = refl
 or_none false = refl
 
-pub any_more : (p : List ℕ → Bool) (run : Lines) (line : List ℕ) → list_any p (run ++ line ∷ []) ≡ (list_any p run || p line)
-any_more p [] line = or_none (p line)
-any_more p (first ∷ run) line = ap (λ (b : Bool). p first || b) (any_more p run line) ∙ or_apart (p first) (list_any p run) (p line)
+pub list_any_snoc : (p : List ℕ → Bool) (run : Lines) (line : List ℕ) → list_any p (run ++ line ∷ []) ≡ (list_any p run || p line)
+list_any_snoc p [] line = or_none (p line)
+list_any_snoc p (first ∷ run) line = ap (λ (b : Bool). p first || b) (list_any_snoc p run line) ∙ or_apart (p first) (list_any p run) (p line)

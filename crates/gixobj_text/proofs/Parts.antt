@@ -16,14 +16,14 @@ concat_three a b c =
     concat_two (a ++ b) c ∙ ap (λ (bytes : List ℕ). bytes ++ concat c) (concat_two a b) ∙ append_assoc (concat a) (concat b) (concat c)
 
 -- the parts of the blocks of bytes append to these bytes
-pub of_bytes : (start : ℕ) (content : List ℕ) (blocks : List BlockView) → AreBlocksFrom start content blocks → joined_parts blocks ≡ content
-of_bytes start content blocks (none _) = refl
-of_bytes start content blocks (block _ _ one rest later it more) =
+pub joined_parts_of_bytes : (start : ℕ) (content : List ℕ) (blocks : List BlockView) → AreBlocksFrom start content blocks → joined_parts blocks ≡ content
+joined_parts_of_bytes start content blocks (none _) = refl
+joined_parts_of_bytes start content blocks (block _ _ one rest later it more) =
     ap (λ (bytes : List ℕ). bytes ++ (one.trailers ++ joined_parts later)) it.message
     ∙ append_assoc (take start content) (concat it.skipped) (one.trailers ++ joined_parts later)
     ∙ ap (λ (bytes : List ℕ). take start content ++ (concat it.skipped ++ (bytes ++ joined_parts later))) it.trailers
     ∙ ap (λ (bytes : List ℕ). take start content ++ (concat it.skipped ++ (concat it.consumed ++ bytes)))
-    (of_bytes 0 rest later more ∙ sym (concat-lines_of rest))
+    (joined_parts_of_bytes 0 rest later more ∙ sym (concat-lines_of rest))
     ∙ ap (λ (bytes : List ℕ). take start content ++ bytes) (sym (ap concat it.lines.split ∙ concat_three it.skipped it.consumed (lines_of rest))
     ∙ concat-lines_of (drop start content))
     ∙ take-append-drop start content

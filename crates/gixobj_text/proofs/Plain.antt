@@ -8,7 +8,7 @@ use Rattle.bstr.specs.Bytes.{is_in}
 use Rattle.bstr.specs.Find.{IsFirstByte, Nowhere, Passes}
 use Rattle.gixobj_hash.specs.ByteStrings.{IsByteFree}
 use Rattle.gixobj_text.specs.Breaks.{BeginsBreak, IsFromBreak, IsUnsplit, after_next_break, after_carriage_return, after_two_breaks}
-use Rattle.gixobj_text.proofs.SplitTitles.{uncut_first, uncut_more}
+use Rattle.gixobj_text.proofs.SplitTitles.{is_unsplit_refl, is_unsplit_step}
 
 abbrev break_bytes : List ℕ
 break_bytes = 10 ∷ 13 ∷ []
@@ -29,8 +29,8 @@ free_before bytes place byte test within none =
     let few : i < place = omega (arith, below, length-take-le place bytes within) in
     none i (omega arith) few (ap (is_in break_bytes) (sym (get_or-take place bytes i 0 few) ∙ same) ∙ test))
 
-pub from_place : (bytes : List ℕ) (place : ℕ) → IsFirstByte (is_in break_bytes) bytes (Some place) → IsFromBreak bytes (drop place bytes)
-from_place bytes place (none, here) =
+pub is_from_break_at_place : (bytes : List ℕ) (place : ℕ) → IsFirstByte (is_in break_bytes) bytes (Some place) → IsFromBreak bytes (drop place bytes)
+is_from_break_at_place bytes place (none, here) =
     let within : place ≤ length bytes = omega (arith, none.high) in
     record {
       plain = take place bytes;
@@ -44,8 +44,8 @@ all_taken : (bytes : List ℕ) → take (length bytes) bytes ≡ bytes
 all_taken [] = refl
 all_taken (byte ∷ bytes) = ap (λ (rest : List ℕ). byte ∷ rest) (all_taken bytes)
 
-pub from_end : (bytes : List ℕ) → IsFirstByte (is_in break_bytes) bytes None → IsFromBreak bytes []
-from_end bytes none =
+pub is_from_break_nil : (bytes : List ℕ) → IsFirstByte (is_in break_bytes) bytes None → IsFromBreak bytes []
+is_from_break_nil bytes none =
     record {
       plain = bytes;
       joined = sym (append-nil bytes);
@@ -66,16 +66,16 @@ uncut_past : (message plain rest : List ℕ) → IsUnsplit message (plain ++ res
 uncut_past message [] rest it newline return = it
 uncut_past message (byte ∷ plain) rest it newline return =
     let none = no_two byte (plain ++ rest) (All-head (λ it. it ≢ 10) byte plain newline) (All-head (λ it. it ≢ 13) byte plain return) in
-    uncut_past message plain rest (uncut_more message (byte ∷ plain ++ rest) byte (plain ++ rest) it refl none)
+    uncut_past message plain rest (is_unsplit_step message (byte ∷ plain ++ rest) byte (plain ++ rest) it refl none)
     (All-tail (λ it. it ≢ 10) byte plain newline) (All-tail (λ it. it ≢ 13) byte plain return)
 
 uncut_by : (message bytes rest : List ℕ) → IsUnsplit message bytes → IsFromBreak bytes rest → IsUnsplit message rest
 uncut_by message bytes rest it past = uncut_past message past.plain rest (subst (IsUnsplit message) past.joined it) past.no_newline past.no_return
 
-pub uncut_begin : (message rest : List ℕ) → IsFromBreak message rest → IsUnsplit message rest
-uncut_begin message rest past = uncut_by message message rest (uncut_first message) past
+pub is_unsplit_at_begin : (message rest : List ℕ) → IsFromBreak message rest → IsUnsplit message rest
+is_unsplit_at_begin message rest past = uncut_by message message rest (is_unsplit_refl message) past
 
-pub uncut_next : (message rest : List ℕ) (byte : ℕ) (after next : List ℕ) → IsUnsplit message rest → rest ≡ byte ∷ after
+pub is_unsplit_at_next : (message rest : List ℕ) (byte : ℕ) (after next : List ℕ) → IsUnsplit message rest → rest ≡ byte ∷ after
     → None ≡ after_two_breaks rest
     → IsFromBreak after next → IsUnsplit message next
-uncut_next message rest byte after next it is none past = uncut_by message after next (uncut_more message rest byte after it is none) past
+is_unsplit_at_next message rest byte after next it is none past = uncut_by message after next (is_unsplit_step message rest byte after it is none) past

@@ -4,8 +4,8 @@ use Rattle.std.proofs.lemmas.List.{get_or-append-add, get_or_append_left, get_or
 use Rattle.std.proofs.lemmas.List.Elements.{All-get_or}
 use Rattle.std.specs.Prelude.{Some, None, codes}
 use Rattle.bstr.specs.Find.{OccursAt}
-use Rattle.gixobj_hash.proofs.Splits.{free_by_test}
-use Rattle.gixobj_text.proofs.MarkerPlaces.{marked_after}
+use Rattle.gixobj_hash.proofs.Splits.{byte_free_of_all_pass}
+use Rattle.gixobj_text.proofs.MarkerPlaces.{begins_with_marker_at_place}
 use Rattle.gixobj_text.specs.LineWalk.{HasMarkerPrefixesBefore, IsLastMarkerPrefix, marker_prefix}
 use Rattle.gixobj_text.specs.Markers.{BeginsWithMarker, BeginsWithNoMarker, HasNoMarker, IsMarkerOf, IsMarkerPlace, MarksPlace, StartsLine, pgp_message, pgp_signature, signed_message, ssh_signature}
 use Rattle.gixobj_text.specs.declared.signature.Format.{Format}
@@ -69,7 +69,7 @@ in_entire bytes needle end place occurs within =
 -- ---- prefixes don't overlap, since only their first byte is a newline
 
 prefix_has_one_newline : (i : ℕ) → i < 11 → get_or (codes "-----BEGIN ") i 0 ≢ 10
-prefix_has_one_newline i below = All-get_or (λ it. it ≢ 10) (codes "-----BEGIN ") i 0 below (free_by_test 10 (codes "-----BEGIN ") refl)
+prefix_has_one_newline i below = All-get_or (λ it. it ≢ 10) (codes "-----BEGIN ") i 0 below (byte_free_of_all_pass 10 (codes "-----BEGIN ") refl)
 
 le_from_not_lt : (a b : ℕ) → (a < b → ⊥) → b ≤ a
 le_from_not_lt a b no_less = grind (arith, no_less)
@@ -102,26 +102,26 @@ no_later_marker bytes end newline within so_far last place format marks =
     (before_it bytes marker_prefix end head.0 head.2 within fits))
 
 -- skipping a line that begins with the prefix and with no marker
-pub past_prefix : (bytes : List ℕ) (end newline : ℕ) → end ≤ length bytes → HasMarkerPrefixesBefore bytes end
+pub prefixes_before_newline : (bytes : List ℕ) (end newline : ℕ) → end ≤ length bytes → HasMarkerPrefixesBefore bytes end
     → IsLastMarkerPrefix bytes end (Some newline)
     → BeginsWithNoMarker (bytes_from bytes (newline + 1)) → (newline ≤ length bytes) × HasMarkerPrefixesBefore bytes newline
-past_prefix bytes end newline within so_far last unmarked =
+prefixes_before_newline bytes end newline within so_far last unmarked =
     let here = in_entire bytes marker_prefix end newline last.1 within in (
       omega (arith, here.fits),
       λ place format marks positive.
           let P : ℕ → Type 0 = λ it. BeginsWithMarker format (bytes_from bytes it) in
           let other : place ≢ newline + 1 =
-          λ same. unmarked format (subst P same (rw (take_rest bytes place) (marked_after bytes place format marks))) in
+          λ same. unmarked format (subst P same (rw (take_rest bytes place) (begins_with_marker_at_place bytes place format marks))) in
           let head = prefix_of_mark bytes place format marks positive in
           let before : head.0 < newline = omega (arith, other, head.1, no_later_marker bytes end newline within so_far last place format marks) in
           omega (arith, head.1, apart bytes head.0 newline head.2 here before),
     )
 
 -- the marker at the last prefix is the last marker
-pub found_at_prefix : (bytes : List ℕ) (end newline : ℕ) (format : Format) → end ≤ length bytes → HasMarkerPrefixesBefore bytes end
+pub marker_place_at_newline : (bytes : List ℕ) (end newline : ℕ) (format : Format) → end ≤ length bytes → HasMarkerPrefixesBefore bytes end
     → IsLastMarkerPrefix bytes end (Some newline)
     → BeginsWithMarker format (bytes_from bytes (newline + 1)) → IsMarkerPlace bytes (newline + 1) format
-found_at_prefix bytes end newline format within so_far last marked =
+marker_place_at_newline bytes end newline format within so_far last marked =
     let here = in_entire bytes marker_prefix end newline last.1 within in
     let there : newline ≡ newline + 0 = omega arith in
     let ends : take (newline + 1) bytes ≡ take newline bytes ++ 10 ∷ [] =
@@ -149,18 +149,18 @@ at_start_alone bytes end within so_far none place format marks =
     let fits : head.0 + 12 ≤ end = omega (arith, so_far place format marks positive, head.1) in
     none head.0 (omega arith) (omega (arith, fits, length-take-le end bytes within)) (before_it bytes marker_prefix end head.0 head.2 within fits))
 
-pub found_at_start : (bytes : List ℕ) (end : ℕ) (format : Format) → end ≤ length bytes → HasMarkerPrefixesBefore bytes end
+pub marker_place_at_start : (bytes : List ℕ) (end : ℕ) (format : Format) → end ≤ length bytes → HasMarkerPrefixesBefore bytes end
     → IsLastMarkerPrefix bytes end None
     → BeginsWithMarker format bytes → IsMarkerPlace bytes 0 format
-found_at_start bytes end format within so_far none marked =
+marker_place_at_start bytes end format within so_far none marked =
     record {
       here = record { prefix = []; rest = bytes; joined = refl; as_long = refl; starts = inl refl; marked = marked };
       last = at_start_alone bytes end within so_far none;
     }
 
-pub none_at_all : (bytes : List ℕ) (end : ℕ) → end ≤ length bytes → HasMarkerPrefixesBefore bytes end → IsLastMarkerPrefix bytes end None
+pub no_marker_of_no_prefix : (bytes : List ℕ) (end : ℕ) → end ≤ length bytes → HasMarkerPrefixesBefore bytes end → IsLastMarkerPrefix bytes end None
     → BeginsWithNoMarker bytes → HasNoMarker bytes
-none_at_all bytes end within so_far none unmarked place format marks =
+no_marker_of_no_prefix bytes end within so_far none unmarked place format marks =
     let P : ℕ → Type 0 = λ it. BeginsWithMarker format (drop it bytes) in
     let first : place ≡ 0 = omega (arith, at_start_alone bytes end within so_far none place format marks) in
-    unmarked format (subst P first (marked_after bytes place format marks))
+    unmarked format (subst P first (begins_with_marker_at_place bytes place format marks))

@@ -27,9 +27,9 @@ within_by : (b : Bool) (byte : ℕ) (rest : List ℕ) → length (after_token re
 within_by true byte rest is = omega arith
 within_by false byte rest is = omega arith
 
-pub within : (bytes : List ℕ) → length (after_token bytes) ≤ length bytes
-within [] = omega arith
-within (byte ∷ rest) = within_by (is_token_byte byte) byte rest (within rest)
+pub after_token_len_le : (bytes : List ℕ) → length (after_token bytes) ≤ length bytes
+after_token_len_le [] = omega arith
+after_token_len_le (byte ∷ rest) = within_by (is_token_byte byte) byte rest (after_token_len_le rest)
 
 value_more : (byte : ℕ) (token : List ℕ) (found : Option (List ℕ)) → token_byte_step byte (with_value token found) ≡ with_value (byte ∷ token) found
 value_more byte token None = refl
@@ -49,7 +49,7 @@ rest_by : (b : Bool) (byte : ℕ) (rest : List ℕ) → rest_of_token rest ≡ w
 rest_by true byte rest later =
     ap (token_byte_step byte) later ∙ value_more byte (take (length rest - length (after_token rest)) rest) (after_gap (after_token rest))
     ∙ sym (ap (λ (token : List ℕ). with_value token (after_gap (after_token rest)))
-    (take_more (length rest) (length (after_token rest)) byte rest (within rest)))
+    (take_more (length rest) (length (after_token rest)) byte rest (after_token_len_le rest)))
 rest_by false byte rest later =
     sym (ap (λ (token : List ℕ). with_value token (after_gap (byte ∷ rest))) (take_none (suc (length rest)) (byte ∷ rest)))
 
@@ -58,17 +58,17 @@ rest_parts : (bytes : List ℕ) → rest_of_token bytes ≡ with_value (take (le
 rest_parts [] = refl
 rest_parts (byte ∷ rest) = rest_by (is_token_byte byte) byte rest (rest_parts rest)
 
-pub parts_is : (byte : ℕ) (rest : List ℕ) → is_token_byte byte ≡ true
+pub trailer_parts_of_token : (byte : ℕ) (rest : List ℕ) → is_token_byte byte ≡ true
     → trailer_parts (byte ∷ rest) ≡ with_value (take (length (byte ∷ rest) - length (after_token rest)) (byte ∷ rest)) (after_gap (after_token rest))
-parts_is byte rest is =
+trailer_parts_of_token byte rest is =
     ap (λ (b : Bool). cond b (token_byte_step byte (rest_of_token rest)) None) is
     ∙ ap (token_byte_step byte) (rest_parts rest) ∙ value_more byte (take (length rest - length (after_token rest)) rest)
     (after_gap (after_token rest))
     ∙ sym (ap (λ (token : List ℕ). with_value token (after_gap (after_token rest)))
-    (take_more (length rest) (length (after_token rest)) byte rest (within rest)))
+    (take_more (length rest) (length (after_token rest)) byte rest (after_token_len_le rest)))
 
-pub parts_none : (byte : ℕ) (rest : List ℕ) → is_token_byte byte ≡ false → trailer_parts (byte ∷ rest) ≡ None
-parts_none byte rest is = ap (λ (b : Bool). cond b (token_byte_step byte (rest_of_token rest)) None) is
+pub trailer_parts_none : (byte : ℕ) (rest : List ℕ) → is_token_byte byte ≡ false → trailer_parts (byte ∷ rest) ≡ None
+trailer_parts_none byte rest is = ap (λ (b : Bool). cond b (token_byte_step byte (rest_of_token rest)) None) is
 
 -- ---- continuation lines aren't trailer lines
 
@@ -77,43 +77,43 @@ space_no_token byte is = grind (arith, nat_tests)
 
 indented_none : (bytes : List ℕ) → begins_indented bytes ≡ true → trailer_parts bytes ≡ None
 indented_none [] is = refl
-indented_none (byte ∷ rest) is = parts_none byte rest (space_no_token byte is)
+indented_none (byte ∷ rest) is = trailer_parts_none byte rest (space_no_token byte is)
 
 second : (a b : Bool) → (not a && b) ≡ true → b ≡ true
 second true b is = cc is
 second false b is = is
 
-pub folded_none : (line : List ℕ) → is_folded line ≡ true → parts_of_line line ≡ None
-folded_none line is = indented_none (trimmed_line line) (second (is_blank line) (is_indented line) is)
+pub parts_of_folded_line : (line : List ℕ) → is_folded line ≡ true → parts_of_line line ≡ None
+parts_of_folded_line line is = indented_none (trimmed_line line) (second (is_blank line) (is_indented line) is)
 
 -- ---- skipping a line that isn't a trailer line
 
-pub trailers_past : (bytes line rest : List ℕ) → IsFirstLine bytes line rest → parts_of_line line ≡ None
+pub trailers_of_bytes_skip : (bytes line rest : List ℕ) → IsFirstLine bytes line rest → parts_of_line line ≡ None
     → trailers_of_bytes bytes ≡ trailers_of_bytes rest
-trailers_past bytes line rest first none =
+trailers_of_bytes_skip bytes line rest first none =
     ap trailers_of first.lines
     ∙ ap (λ (parts : Option TrailerParts). with_trailer parts (take_while is_folded (lines_of rest)) (trailers_of_bytes rest)) none
 
-pub folded_past : (bytes line rest : List ℕ) → IsFirstLine bytes line rest → parts_of_line line ≡ None
+pub first_is_folded_skip : (bytes line rest : List ℕ) → IsFirstLine bytes line rest → parts_of_line line ≡ None
     → first_is_folded (lines_of bytes) ≡ first_is_folded
     (lines_of rest)
-folded_past bytes line rest first none =
+first_is_folded_skip bytes line rest first none =
     ap first_is_folded first.lines ∙ ap (λ (parts : Option TrailerParts). cond (is_some parts) (are_some (take_while is_folded (lines_of rest)))
     (first_is_folded (lines_of rest))) none
 
-pub shorter : (bytes line rest : List ℕ) → IsFirstLine bytes line rest → length rest < length bytes
-shorter bytes line rest first = by_line bytes line rest first.joined first.some
+pub rest_len_lt : (bytes line rest : List ℕ) → IsFirstLine bytes line rest → length rest < length bytes
+rest_len_lt bytes line rest first = by_line bytes line rest first.joined first.some
   where
     by_line : (bytes line rest : List ℕ) → bytes ≡ line ++ rest → line ≢ [] → length rest < length bytes
     by_line bytes [] rest joined some = absurd (some refl)
     by_line bytes (byte ∷ line) rest joined some =
         let is : length bytes ≡ length (byte ∷ line) + length rest = ap length joined ∙ length-append (byte ∷ line) rest in omega arith
 
-pub trailer_here : (entire bytes line rest token first : List ℕ) → trailers_of_bytes bytes ≡ trailers_of_bytes entire
+pub is_next_trailer_at_line : (entire bytes line rest token first : List ℕ) → trailers_of_bytes bytes ≡ trailers_of_bytes entire
     → first_is_folded (lines_of bytes) ≡ first_is_folded (lines_of entire) → length bytes ≤ length entire
     → IsFirstLine bytes line rest → Some (token, first) ≡ parts_of_line line → IsNextTrailer entire token first rest
-trailer_here entire bytes line rest token first trailers folded few one is =
-    let less : length rest < length bytes = shorter bytes line rest one in
+is_next_trailer_at_line entire bytes line rest token first trailers folded few one is =
+    let less : length rest < length bytes = rest_len_lt bytes line rest one in
     record {
       trailers = sym trailers ∙ ap trailers_of one.lines
           ∙ ap (λ (parts : Option TrailerParts). with_trailer parts (take_while is_folded (lines_of rest)) (trailers_of_bytes rest)) (sym is);
@@ -124,32 +124,33 @@ trailer_here entire bytes line rest token first trailers folded few one is =
       shorter = omega arith;
     }
 
-pub none_remaining : (bytes : List ℕ) → bytes ≡ [] → trailers_of_bytes bytes ≡ []
-none_remaining bytes none = ap trailers_of (ap lines_of none ∙ lines-nil)
+pub trailers_of_bytes_nil : (bytes : List ℕ) → bytes ≡ [] → trailers_of_bytes bytes ≡ []
+trailers_of_bytes_nil bytes none = ap trailers_of (ap lines_of none ∙ lines-nil)
 
 -- ---- the lines of a value
 
-pub folded_nothing : (bytes : List ℕ) → bytes ≡ [] → take_while is_folded (lines_of bytes) ≡ []
-folded_nothing bytes none = ap (take_while is_folded) (ap lines_of none ∙ lines-nil)
+pub no_folded_lines_at_end : (bytes : List ℕ) → bytes ≡ [] → take_while is_folded (lines_of bytes) ≡ []
+no_folded_lines_at_end bytes none = ap (take_while is_folded) (ap lines_of none ∙ lines-nil)
 
-pub taken_by : (b : Bool) (line : List ℕ) (lines : Lines) → is_folded line ≡ b → take_while is_folded (line ∷ lines) ≡ cond b
+pub take_while_folded_cons : (b : Bool) (line : List ℕ) (lines : Lines) → is_folded line ≡ b → take_while is_folded (line ∷ lines) ≡ cond b
     (line ∷ take_while is_folded lines) []
-taken_by b line lines is = take_while-cons is_folded line lines ∙ ap (λ (c : Bool). cond c (line ∷ take_while is_folded lines) []) is
+take_while_folded_cons b line lines is = take_while-cons is_folded line lines ∙ ap (λ (c : Bool). cond c (line ∷ take_while is_folded lines) []) is
 
-pub folded_more : (items bytes line rest : List ℕ) → IsFirstLine bytes line rest → is_folded line ≡ true
+pub with_folded_cons : (items bytes line rest : List ℕ) → IsFirstLine bytes line rest → is_folded line ≡ true
     → with_folded items (lines_of bytes) ≡ with_folded
     (with_piece items (trimmed (trimmed_line line))) (lines_of rest)
-folded_more items bytes line rest first is =
+with_folded_cons items bytes line rest first is =
     ap (λ (ls : Lines). with_pieces items (map trimmed (map trimmed_line ls)))
-    (ap (take_while is_folded) first.lines ∙ taken_by true line (lines_of rest) is)
+    (ap (take_while is_folded) first.lines ∙ take_while_folded_cons true line (lines_of rest) is)
 
-pub folded_ends : (items bytes line rest : List ℕ) → IsFirstLine bytes line rest → is_folded line ≡ false → with_folded items (lines_of bytes) ≡ items
-folded_ends items bytes line rest first is =
+pub with_folded_at_unfolded : (items bytes line rest : List ℕ) → IsFirstLine bytes line rest → is_folded line ≡ false
+    → with_folded items (lines_of bytes) ≡ items
+with_folded_at_unfolded items bytes line rest first is =
     ap (λ (ls : Lines). with_pieces items (map trimmed (map trimmed_line ls)))
-    (ap (take_while is_folded) first.lines ∙ taken_by false line (lines_of rest) is)
+    (ap (take_while is_folded) first.lines ∙ take_while_folded_cons false line (lines_of rest) is)
 
-pub folded_all : (items bytes : List ℕ) → bytes ≡ [] → with_folded items (lines_of bytes) ≡ items
-folded_all items bytes none = ap (λ (ls : Lines). with_pieces items (map trimmed (map trimmed_line ls))) (folded_nothing bytes none)
+pub with_folded_at_end : (items bytes : List ℕ) → bytes ≡ [] → with_folded items (lines_of bytes) ≡ items
+with_folded_at_end items bytes none = ap (λ (ls : Lines). with_pieces items (map trimmed (map trimmed_line ls))) (no_folded_lines_at_end bytes none)
 
 -- ---- the unfolded value
 
@@ -173,15 +174,15 @@ unfolded_by : (first : List ℕ) (lines : Lines) → are_some lines ≡ true →
 unfolded_by first [] some = cc some
 unfolded_by first (line ∷ lines) some = from_nothing (map trimmed (first ∷ map trimmed_line (line ∷ lines)))
 
-pub unfolded_is : (first : List ℕ) (lines : Lines) → are_some (take_while is_folded lines) ≡ true
+pub with_folded_eq_unfolded : (first : List ℕ) (lines : Lines) → are_some (take_while is_folded lines) ≡ true
     → with_folded (with_piece [] (trimmed first)) lines ≡ unfolded first (map trimmed_line (take_while is_folded lines))
-unfolded_is first lines some = unfolded_by first (take_while is_folded lines) some
+with_folded_eq_unfolded first lines some = unfolded_by first (take_while is_folded lines) some
 
 -- the value of one line
 trimmed_by : (first : List ℕ) (lines : Lines) → are_some lines ≡ false → unfolded first (map trimmed_line lines) ≡ trimmed first
 trimmed_by first [] none = refl
 trimmed_by first (line ∷ lines) none = cc none
 
-pub trimmed_is : (first : List ℕ) (lines : Lines) → are_some (take_while is_folded lines) ≡ false
+pub unfolded_eq_trimmed : (first : List ℕ) (lines : Lines) → are_some (take_while is_folded lines) ≡ false
     → unfolded first (map trimmed_line (take_while is_folded lines)) ≡ trimmed first
-trimmed_is first lines none = trimmed_by first (take_while is_folded lines) none
+unfolded_eq_trimmed first lines none = trimmed_by first (take_while is_folded lines) none

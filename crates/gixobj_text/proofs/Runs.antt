@@ -13,7 +13,7 @@ use Rattle.gixobj_text.specs.declared.commit.message.body.filters.Filter.{Filter
 use Rattle.gixobj_text.specs.declared.commit.message.body.filters.Filtered.{Filtered}
 use Rattle.gixobj_text.specs.declared.commit.message.body.trailers.TrailerRef.{TrailerRef}
 use Rattle.gixobj_text.specs.declared.commit.message.body.trailers.Trailers.{Trailers}
-use Rattle.gixobj_text.proofs.Filtering.{filtered_next, filtered_none, filtered_of}
+use Rattle.gixobj_text.proofs.Filtering.{filtered_of_next, filtered_of_none, filtered_of}
 
 -- ---- blocks
 
@@ -27,9 +27,9 @@ blocks_are before (one ∷ blocks) last after (middle, (first, start, less), mor
     block (first_start before) (remaining_block_bytes before) (block_view one) (remaining_block_bytes middle) (map block_view blocks) first
     (subst (λ (n : ℕ). AreBlocksFrom n (remaining_block_bytes middle) (map block_view blocks)) start (blocks_are middle blocks last after more ends))
 
-pub all_blocks : (before : MessageBlocks) (blocks : List MessageBlock) → Drains NextBlock before blocks
+pub are_blocks_from_run : (before : MessageBlocks) (blocks : List MessageBlock) → Drains NextBlock before blocks
     → AreBlocksFrom (first_start before) (remaining_block_bytes before) (map block_view blocks)
-all_blocks before blocks (after, (last, run, ends)) = blocks_are before blocks last after run ends
+are_blocks_from_run before blocks (after, (last, run, ends)) = blocks_are before blocks last after run ends
 
 -- ---- trailers
 
@@ -40,19 +40,19 @@ trailers_are before [] last after is ends = sym (ap (λ (it : Trailers). remaini
 trailers_are before (one ∷ trailers) last after (middle, step, more) ends =
     ap (λ (rest : List TrailerView). trailer_view one ∷ rest) (trailers_are middle trailers last after more ends) ∙ sym step.0
 
-pub all_trailers : (before : Trailers) (trailers : List TrailerRef) → Drains NextTrailer before (map (λ it. Ok it) trailers)
+pub remaining_trailers_of_run : (before : Trailers) (trailers : List TrailerRef) → Drains NextTrailer before (map (λ it. Ok it) trailers)
     → map trailer_view trailers ≡ remaining_trailers before
-all_trailers before trailers (after, (last, run, ends)) = trailers_are before trailers last after run ends
+remaining_trailers_of_run before trailers (after, (last, run, ends)) = trailers_are before trailers last after run ends
 
 -- ---- filtered trailers
 
 kept_end : (before after : Filtered) → NextFiltered before None after → remaining_filtered before ≡ []
-kept_end before after (middle, passes, gives, passed, same) = filtered_none (filter_of before) (all_of before) middle passes gives.0
+kept_end before after (middle, passes, gives, passed, same) = filtered_of_none (filter_of before) (all_of before) middle passes gives.0
 
 kept_step : (before : Filtered) (one : TrailerRef) (after : Filtered) → NextFiltered before (Some (Ok one)) after
     → remaining_filtered before ≡ trailer_view one ∷ remaining_filtered after
 kept_step before one after (middle, passes, gives, passed, same) =
-    filtered_next (filter_of before) (all_of before) middle (all_of after) one passes gives.0 passed
+    filtered_of_next (filter_of before) (all_of before) middle (all_of after) one passes gives.0 passed
     ∙ ap (λ (by : Filter). trailer_view one ∷ filtered_of by (remaining_trailers (all_of after))) (sym same)
 
 kept_are : (before : Filtered) (trailers : List TrailerRef) (last after : Filtered) → Yields NextFiltered before (map (λ it. Ok it) trailers) last
@@ -62,6 +62,6 @@ kept_are before [] last after is ends = sym (ap (λ (it : Filtered). remaining_f
 kept_are before (one ∷ trailers) last after (middle, step, more) ends =
     ap (λ (rest : List TrailerView). trailer_view one ∷ rest) (kept_are middle trailers last after more ends) ∙ sym (kept_step before one middle step)
 
-pub all_filtered : (before : Filtered) (trailers : List TrailerRef) → Drains NextFiltered before (map (λ it. Ok it) trailers)
+pub remaining_filtered_of_run : (before : Filtered) (trailers : List TrailerRef) → Drains NextFiltered before (map (λ it. Ok it) trailers)
     → map trailer_view trailers ≡ remaining_filtered before
-all_filtered before trailers (after, (last, run, ends)) = kept_are before trailers last after run ends
+remaining_filtered_of_run before trailers (after, (last, run, ends)) = kept_are before trailers last after run ends

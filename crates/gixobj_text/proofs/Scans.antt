@@ -13,8 +13,8 @@ use Rattle.gixobj_text.specs.Scanned.{EndsAfter, HasRun, IsWalked, Scanned}
 use Rattle.gixobj_text.specs.TrailerBlocks.{EndsBlank, IsTrailerBlock, IsBlockStart, IsLastRun, StartsAfter, count_others, trailers_in}
 use Rattle.gixobj_text.specs.declared.commit.message.body.run.Run.{Run}
 use Rattle.gixobj_text.specs.declared.commit.message.body.scan.Scan.{Scan}
-use Rattle.gixobj_text.proofs.LastRuns.{Parts, parts_are}
-use Rattle.gixobj_text.proofs.OneLine.{Blank, Filled, Lines, all_more, blank_more, ends_blank, filled_first, filled_more}
+use Rattle.gixobj_text.proofs.LastRuns.{Parts, parts_of_last_run}
+use Rattle.gixobj_text.proofs.OneLine.{Blank, Filled, Lines, all_snoc, is_last_run_snoc_blank, ends_blank_snoc, is_last_run_snoc_first, is_last_run_snoc_filled}
 
 -- ---- one more line
 
@@ -41,25 +41,25 @@ run_after_blank lines line old new blank it going start run = record {
   before = it.before;
   run = it.run;
   after = it.after ++ line ∷ [];
-  last = blank_more lines it.before it.run it.after line blank it.last;
+  last = is_last_run_snoc_blank lines it.before it.run it.after line blank it.last;
   going = λ is. cc (going, is);
   starts = subst (λ (n : ℕ). StartsAfter it.before n) (sym start) it.starts;
   counts = subst (λ (r : Run). Counts it.run r) (sym run) it.counts;
 }
 
-pub scanned_blank : (lines : Lines) (line : List ℕ) (old new : Scan) → Scanned lines old → Blank line
+pub scanned_snoc_blank : (lines : Lines) (line : List ℕ) (old new : Scan) → Scanned lines old → Blank line
     → new.place ≡ old.place + length line → new.last ≡ old.place + length (trimmed_line line) → new.next ≡ old.last → new.start ≡ old.start
     → new.going ≡ false
     → new.some ≡ old.some → new.run ≡ old.run
     → Scanned (lines ++ line ∷ []) new
-scanned_blank lines line old new it blank place last next start going some run = record {
+scanned_snoc_blank lines line old new it blank place last next start going some run = record {
   place = place ∙ place_more lines line old.place it.place;
   last = ends_more lines line old.place new.last it.place last;
   next = λ is. (
     subst (λ (n : ℕ). StartsAfter (lines ++ line ∷ []) n) (sym next) (starts_more lines line old.last it.last),
-    ends_blank lines line blank,
+    ends_blank_snoc lines line blank,
   );
-  none = λ is. (all_more Blank lines line (it.none (sym some ∙ is)).0 blank, going);
+  none = λ is. (all_snoc Blank lines line (it.none (sym some ∙ is)).0 blank, going);
   some = λ is. run_after_blank lines line old new blank (it.some (sym some ∙ is)) going start run;
 }
 
@@ -69,7 +69,7 @@ run_goes_on lines line old new filled it none start counts = record {
   before = it.before;
   run = it.run ++ line ∷ [];
   after = [];
-  last = filled_more lines it.before it.run line filled (subst (λ (after : Lines). IsLastRun lines it.before it.run after) none it.last);
+  last = is_last_run_snoc_filled lines it.before it.run line filled (subst (λ (after : Lines). IsLastRun lines it.before it.run after) none it.last);
   going = λ is. refl;
   starts = subst (λ (n : ℕ). StartsAfter it.before n) (sym start) it.starts;
   counts = counts;
@@ -79,12 +79,12 @@ is_some : (some going : Bool) → (some ≡ false → going ≡ false) → going
 is_some true going none is = refl
 is_some false going none is = cc (none refl, is)
 
-pub scanned_next : (lines : Lines) (line : List ℕ) (old new : Scan) → Scanned lines old → Filled line → old.going ≡ true
+pub scanned_snoc_filled : (lines : Lines) (line : List ℕ) (old new : Scan) → Scanned lines old → Filled line → old.going ≡ true
     → new.place ≡ old.place + length line → new.last ≡ old.place + length (trimmed_line line) → new.start ≡ old.start → new.going ≡ true
     → new.some ≡ true
     → ((run : Lines) → Counts run old.run → Counts (run ++ line ∷ []) new.run)
     → Scanned (lines ++ line ∷ []) new
-scanned_next lines line old new it filled goes place last start going some counts =
+scanned_snoc_filled lines line old new it filled goes place last start going some counts =
     let was : HasRun lines old = it.some (is_some old.some old.going (λ none. (it.none none).1) goes) in
     record {
       place = place ∙ place_more lines line old.place it.place;
@@ -100,18 +100,18 @@ run_begins lines line old new filled starts ends start counts = record {
   before = lines;
   run = line ∷ [];
   after = [];
-  last = filled_first lines line filled ends;
+  last = is_last_run_snoc_first lines line filled ends;
   going = λ is. refl;
   starts = subst (λ (n : ℕ). StartsAfter lines n) (sym start) starts;
   counts = counts;
 }
 
-pub scanned_first : (lines : Lines) (line : List ℕ) (old new : Scan) → Scanned lines old → Filled line → old.going ≡ false
+pub scanned_snoc_first : (lines : Lines) (line : List ℕ) (old new : Scan) → Scanned lines old → Filled line → old.going ≡ false
     → new.place ≡ old.place + length line → new.last ≡ old.place + length (trimmed_line line) → new.start ≡ old.next → new.going ≡ true
     → new.some ≡ true
     → Counts (line ∷ []) new.run
     → Scanned (lines ++ line ∷ []) new
-scanned_first lines line old new it filled goes place last start going some counts = record {
+scanned_snoc_first lines line old new it filled goes place last start going some counts = record {
   place = place ∙ place_more lines line old.place it.place;
   last = ends_more lines line old.place new.last it.place last;
   next = λ is. cc (going, is);
@@ -121,8 +121,8 @@ scanned_first lines line old new it filled goes place last start going some coun
 
 -- ---- the scan
 
-pub walked_first : (body : List ℕ) (it : Scan) → Scanned [] it → it.place ≡ 0 → it.run.trailers ≤ 0 → it.run.others ≤ 0 → IsWalked body body it
-walked_first body it scanned place trailers other = record {
+pub is_walked_nil : (body : List ℕ) (it : Scan) → Scanned [] it → it.place ≡ 0 → it.run.trailers ≤ 0 → it.run.others ≤ 0 → IsWalked body body it
+is_walked_nil body it scanned place trailers other = record {
   lines = [];
   joined = refl;
   scanned = scanned;
@@ -131,11 +131,11 @@ walked_first body it scanned place trailers other = record {
   others = omega arith;
 }
 
-pub walked_more : (body bytes line rest : List ℕ) (old new : Scan) → IsWalked body bytes old → IsFirstLine bytes line rest
+pub is_walked_snoc : (body bytes line rest : List ℕ) (old new : Scan) → IsWalked body bytes old → IsFirstLine bytes line rest
     → ((lines : Lines) → Scanned lines old → Scanned (lines ++ line ∷ []) new)
     → new.place ≡ old.place + length line → new.run.trailers ≤ new.place → new.run.others ≤ new.place
     → IsWalked body rest new
-walked_more body bytes line rest old new it first step place trailers other =
+is_walked_snoc body bytes line rest old new it first step place trailers other =
     let joined : length bytes ≡ length line + length rest = ap length first.joined ∙ length-append line rest in
     let before : old.place + length bytes ≡ length body = it.place in
     record {
@@ -147,8 +147,8 @@ walked_more body bytes line rest old new it first step place trailers other =
       others = other;
     }
 
-pub walked_all : (body rest : List ℕ) (it : Scan) → IsWalked body rest it → rest ≡ [] → Scanned (lines_of body) it
-walked_all body rest it walked none =
+pub scanned_of_walked : (body rest : List ℕ) (it : Scan) → IsWalked body rest it → rest ≡ [] → Scanned (lines_of body) it
+scanned_of_walked body rest it walked none =
     subst (λ (ls : Lines). Scanned ls it)
     (sym (walked.joined ∙ ap (λ (bytes : List ℕ). walked.lines ++ lines_of bytes) none ∙ ap (λ (ls : Lines). walked.lines ++ ls) lines-nil
     ∙ append-nil walked.lines)) walked.scanned
@@ -177,9 +177,9 @@ from_block run it counts (inr (is, few)) =
           (subst (λ (n : ℕ). count_others false run ≤ 3 * n) (sym counts.trailers) few),
     )
 
-pub block_here : (body : List ℕ) (it : Scan) (is : Bool) → Scanned (lines_of body) it → it.some ≡ true → (IsTrue is ↔ SaysBlock it.run) → is ≡ true
+pub is_block_start_at_run : (body : List ℕ) (it : Scan) (is : Bool) → Scanned (lines_of body) it → it.some ≡ true → (IsTrue is ↔ SaysBlock it.run) → is ≡ true
     → IsBlockStart body it.start
-block_here body it is scanned some says so =
+is_block_start_at_run body it is scanned some says so =
     let has : HasRun (lines_of body) it = scanned.some some in
     inl (record {
       before = has.before;
@@ -193,12 +193,12 @@ block_here body it is scanned some says so =
 -- lines have at most one last run
 same_run : (lines before run after before2 run2 after2 : Lines) → IsLastRun lines before run after → IsLastRun lines before2 run2 after2 → run2 ≡ run
 same_run lines before run after before2 run2 after2 one other =
-    ap (λ (it : Parts). it.run) (sym (parts_are lines before2 run2 after2 other) ∙ parts_are lines before run after one)
+    ap (λ (it : Parts). it.run) (sym (parts_of_last_run lines before2 run2 after2 other) ∙ parts_of_last_run lines before run after one)
 
-pub no_block_here : (body : List ℕ) (it : Scan) (is : Bool) → Scanned (lines_of body) it → it.some ≡ true → (IsTrue is ↔ SaysBlock it.run)
+pub is_block_start_at_end : (body : List ℕ) (it : Scan) (is : Bool) → Scanned (lines_of body) it → it.some ≡ true → (IsTrue is ↔ SaysBlock it.run)
     → is ≡ false
     → IsBlockStart body (length body)
-no_block_here body it is scanned some says not =
+is_block_start_at_end body it is scanned some says not =
     let has : HasRun (lines_of body) it = scanned.some some in
     inr (
       λ before run after last block.
@@ -218,8 +218,8 @@ in_blank [] (line ∷ run) after some filled blank =
 in_blank (one ∷ before) (line ∷ run) after some filled blank = in_blank before (line ∷ run) after some filled
     (All-tail Blank one (before ++ (line ∷ run) ++ after) blank)
 
-pub no_run_here : (body : List ℕ) (it : Scan) → Scanned (lines_of body) it → it.some ≡ false → IsBlockStart body (length body)
-no_run_here body it scanned none =
+pub is_block_start_without_run : (body : List ℕ) (it : Scan) → Scanned (lines_of body) it → it.some ≡ false → IsBlockStart body (length body)
+is_block_start_without_run body it scanned none =
     inr (
       λ before run after last block. in_blank before run after last.some last.none_blank
           (subst (λ (ls : Lines). All Blank ls) last.joined (scanned.none none).0),

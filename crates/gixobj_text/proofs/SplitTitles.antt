@@ -33,23 +33,26 @@ not_in_nothing (byte ∷ head) first second rest it is = cc is
 after_two : (byte one : ℕ) (content head rest : List ℕ) → HasBreaks (byte ∷ content) (one ∷ head) rest → HasBreaks content head rest
 after_two byte one content head rest it = record { first = it.first; second = it.second; breaks = it.breaks; joined = cc it.joined }
 
-pub least : (count : ℕ) (content head rest : List ℕ) → no_double_break_before count content ≡ true → HasBreaks content head rest → count ≤ length head
-least zero content head rest none it = grind (arith)
-least (suc count) [] head rest none it = cc none
-least (suc count) (byte ∷ content) [] rest none it =
+pub title_split_is_first : (count : ℕ) (content head rest : List ℕ) → no_double_break_before count content ≡ true → HasBreaks content head rest
+    → count ≤ length head
+title_split_is_first zero content head rest none it = grind (arith)
+title_split_is_first (suc count) [] head rest none it = cc none
+title_split_is_first (suc count) (byte ∷ content) [] rest none it =
     absurd (not_here (byte ∷ content) rest (apart (begins_two_breaks (byte ∷ content)) (no_double_break_before count content) none).0 it)
-least (suc count) (byte ∷ content) (one ∷ head) rest none it =
+title_split_is_first (suc count) (byte ∷ content) (one ∷ head) rest none it =
     let later : count ≤ length head =
-    least count content head rest (apart (begins_two_breaks (byte ∷ content)) (no_double_break_before count content) none).1
+    title_split_is_first count content head rest (apart (begins_two_breaks (byte ∷ content)) (no_double_break_before count content) none).1
     (after_two byte one content head rest it) in
     grind (arith)
 
-pub never : (content head rest : List ℕ) → no_double_break content ≡ true → ¬ HasBreaks content head rest
-never [] head rest none it = not_in_nothing head it.first it.second rest it.breaks.0 it.joined
-never (byte ∷ content) [] rest none it = not_here (byte ∷ content) rest (apart (begins_two_breaks (byte ∷ content)) (no_double_break content) none).0
+pub no_breaks_of_unsplit : (content head rest : List ℕ) → no_double_break content ≡ true → ¬ HasBreaks content head rest
+no_breaks_of_unsplit [] head rest none it = not_in_nothing head it.first it.second rest it.breaks.0 it.joined
+no_breaks_of_unsplit (byte ∷ content) [] rest none it = not_here (byte ∷ content) rest
+    (apart (begins_two_breaks (byte ∷ content)) (no_double_break content) none).0
     it
-never (byte ∷ content) (one ∷ head) rest none it =
-    never content head rest (apart (begins_two_breaks (byte ∷ content)) (no_double_break content) none).1 (after_two byte one content head rest it)
+no_breaks_of_unsplit (byte ∷ content) (one ∷ head) rest none it =
+    no_breaks_of_unsplit content head rest (apart (begins_two_breaks (byte ∷ content)) (no_double_break content) none).1
+        (after_two byte one content head rest it)
 
 -- ---- the walk to the split
 
@@ -111,13 +114,13 @@ none_more (one ∷ head) byte rest none two =
     both true b is so = cc is
     both false b is so = so
 
-pub uncut_first : (message : List ℕ) → IsUnsplit message message
-uncut_first message = record { prefix = []; joined = refl; none = refl }
+pub is_unsplit_refl : (message : List ℕ) → IsUnsplit message message
+is_unsplit_refl message = record { prefix = []; joined = refl; none = refl }
 
-pub uncut_more : (message rest : List ℕ) (byte : ℕ) (after_two : List ℕ) → IsUnsplit message rest → rest ≡ byte ∷ after_two
+pub is_unsplit_step : (message rest : List ℕ) (byte : ℕ) (after_two : List ℕ) → IsUnsplit message rest → rest ≡ byte ∷ after_two
     → None ≡ after_two_breaks rest
     → IsUnsplit message after_two
-uncut_more message rest byte after_two it is none =
+is_unsplit_step message rest byte after_two it is none =
     let joined : message ≡ it.prefix ++ byte ∷ after_two = it.joined ∙ ap (λ (bytes : List ℕ). it.prefix ++ bytes) is in
     let not : begins_two_breaks (byte ∷ after_two) ≡ false = ap begins_two_breaks (sym is) ∙ sym (ap is_some none) in
     record {
@@ -137,14 +140,14 @@ nowhere_all (byte ∷ head) is =
     both true b is so = cc is
     both false b is so = so
 
-pub all_title : (message rest title : List ℕ) → IsUnsplit message rest → rest ≡ [] → title ≡ message → SplitsTitle message title None
-all_title message rest title it none all =
+pub splits_title_of_unsplit : (message rest title : List ℕ) → IsUnsplit message rest → rest ≡ [] → title ≡ message → SplitsTitle message title None
+splits_title_of_unsplit message rest title it none all =
     let is : message ≡ it.prefix = it.joined ∙ ap (λ (bytes : List ℕ). it.prefix ++ bytes) none ∙ append-nil it.prefix in
     let so : no_double_break_before (length message) message ≡ true = ap (λ (n : ℕ). no_double_break_before n message) (ap length is) ∙ it.none in
-    inr (all, λ head rest. never message head rest (nowhere_all message so))
+    inr (all, λ head rest. no_breaks_of_unsplit message head rest (nowhere_all message so))
 
-pub prefix_is : (head rest message : List ℕ) → message ≡ head ++ rest → take (length message - length rest) message ≡ head
-prefix_is head rest message is =
+pub title_is_prefix : (head rest message : List ℕ) → message ≡ head ++ rest → take (length message - length rest) message ≡ head
+title_is_prefix head rest message is =
     let sum : length message ≡ length head + length rest = ap length is ∙ length-append head rest in
     let count : length message - length rest ≡ length head = omega arith in
     ap (λ (n : ℕ). take n message) count ∙ ap (take (length head)) is ∙ taken head rest
@@ -153,11 +156,11 @@ prefix_is head rest message is =
     taken [] rest = refl
     taken (byte ∷ head) rest = ap (λ (bytes : List ℕ). byte ∷ bytes) (taken head rest)
 
-pub split_here : (message rest body title : List ℕ) → IsUnsplit message rest → Some body ≡ after_two_breaks rest
+pub is_split_at_breaks : (message rest body title : List ℕ) → IsUnsplit message rest → Some body ≡ after_two_breaks rest
     → title ≡ take (length message - length rest) message → IsSplitAtBreaks message title body
-split_here message rest body title it two is =
+is_split_at_breaks message rest body title it two is =
     let at : HasBreaks rest [] body = twice rest body two in
-    let head : title ≡ it.prefix = is ∙ prefix_is it.prefix rest message it.joined in
+    let head : title ≡ it.prefix = is ∙ title_is_prefix it.prefix rest message it.joined in
     subst (λ (t : List ℕ). IsSplitAtBreaks message t body) (sym head)
     (record {
       here = record {
@@ -167,20 +170,20 @@ split_here message rest body title it two is =
         joined = it.joined ∙ ap (λ (bytes : List ℕ). it.prefix ++ bytes) at.joined ∙ sym (append_assoc it.prefix (at.first ++ at.second) body)
             ∙ ap (λ (bytes : List ℕ). bytes ++ body) (sym (append_assoc it.prefix at.first at.second));
       };
-      minimum = λ other after_two others. least (length it.prefix) message other after_two it.none others;
+      minimum = λ other after_two others. title_split_is_first (length it.prefix) message other after_two it.none others;
     })
 
-pub cut_at_end : (message title body : List ℕ) → IsSplitAtBreaks message title body → body ≡ [] → SplitsTitle message title None
-cut_at_end message title body it none = inl (subst (λ (b : List ℕ). IsSplitAtBreaks message title b) none it)
+pub splits_title_at_end : (message title body : List ℕ) → IsSplitAtBreaks message title body → body ≡ [] → SplitsTitle message title None
+splits_title_at_end message title body it none = inl (subst (λ (b : List ℕ). IsSplitAtBreaks message title b) none it)
 
 -- a message splits into its title and the body, which is none if and only if it is empty
-pub some_or_none : (message title body : List ℕ) (found : Option BStr) → IsSplitAtBreaks message title body
+pub splits_title_of_option : (message title body : List ℕ) (found : Option BStr) → IsSplitAtBreaks message title body
     → MatchOption found (body ≡ []) (λ it. (bstr_bytes it ≡ body) × (body ≢ []))
     → SplitsTitle message title (bytes_if_some found)
-some_or_none message title body None it is = cut_at_end message title body it is
-some_or_none message title body (Some found) it (is, some) =
+splits_title_of_option message title body None it is = splits_title_at_end message title body it is
+splits_title_of_option message title body (Some found) it (is, some) =
     (subst (λ (b : List ℕ). IsSplitAtBreaks message title b) (sym is) it, subst (λ (b : List ℕ). b ≢ []) (sym is) some)
 
-pub empty_is : (content : List ℕ) → length content ≡ 0 → content ≡ []
-empty_is [] is = refl
-empty_is (byte ∷ content) is = absurd (omega arith)
+pub nil_of_is_empty : (content : List ℕ) → length content ≡ 0 → content ≡ []
+nil_of_is_empty [] is = refl
+nil_of_is_empty (byte ∷ content) is = absurd (omega arith)

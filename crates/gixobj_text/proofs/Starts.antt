@@ -51,8 +51,8 @@ prefix_within lines before following joined =
     length-append (concat before) (concat following) in
     omega arith
 
-pub start_within : (body : List ℕ) (start : ℕ) → IsBlockStart body start → start ≤ length body
-start_within body start (inl block) =
+pub block_start_le_len : (body : List ℕ) (start : ℕ) → IsBlockStart body start → start ≤ length body
+block_start_le_len body start (inl block) =
     let first : start ≤ length (concat block.before) = before_within block.before start block.starts in
     let one : length (concat (block.before ++ block.run)) ≤ length (concat (lines_of body)) =
     prefix_within (lines_of body) (block.before ++ block.run) block.after block.last.joined in
@@ -60,4 +60,4 @@ start_within body start (inl block) =
     prefix_within (block.before ++ block.run) block.before block.run refl in
     let all : length (concat (lines_of body)) ≡ length body = ap length (concat-lines_of body) in
     omega arith
-start_within body start (inr (none, is)) = omega arith
+block_start_le_len body start (inr (none, is)) = omega arith

@@ -8,18 +8,18 @@ use Rattle.std.specs.List.{concat}
 use Rattle.bstr.specs.Text.{lines_of}
 use Rattle.bstr.proofs.lemmas.LineLemmas.{lines-nil}
 use Rattle.bstr.proofs.lemmas.RestLemmas.{concat-lines_of}
-use Rattle.gixobj_text.proofs.SplitTitles.{prefix_is}
+use Rattle.gixobj_text.proofs.SplitTitles.{title_is_prefix}
 use Rattle.gixobj_text.specs.FirstLines.{IsFirstLine}
 use Rattle.gixobj_text.specs.Blocks.{AreTrailers, EndsTrailers, IsBlockOfLines, IsFirstBlock}
 use Rattle.gixobj_text.specs.BodyLines.{is_folded, is_trailer_line}
 use Rattle.gixobj_text.specs.Steps.{BeginsTrailer, ContinuesTrailer, IsAtTrailer, IsAfterTrailers, IsPast, NoTrailer}
-use Rattle.gixobj_text.proofs.OneLine.{all_more}
+use Rattle.gixobj_text.proofs.OneLine.{all_snoc}
 
 abbrev Lines : Type 0
 Lines = List (List ℕ)
 
-pub past_none : (P : List ℕ → Type 0) (content : List ℕ) → IsPast P content content
-past_none P content = record { consumed = []; joined = refl; lines = refl; all = All-nil P }
+pub is_past_refl : (P : List ℕ → Type 0) (content : List ℕ) → IsPast P content content
+is_past_refl P content = record { consumed = []; joined = refl; lines = refl; all = All-nil P }
 
 past_more : (P : List ℕ → Type 0) (entire content line rest : List ℕ) → IsPast P entire content → IsFirstLine content line rest → P line
     → IsPast P entire rest
@@ -29,34 +29,34 @@ past_more P entire content line rest it first is = record {
       ∙ ap (λ (bytes : List ℕ). bytes ++ rest) (ap (λ (bytes : List ℕ). concat it.consumed ++ bytes) (sym (append-nil line))
       ∙ sym (concat-append it.consumed (line ∷ [])));
   lines = it.lines ∙ ap (λ (ls : Lines). it.consumed ++ ls) first.lines ∙ sym (append_assoc it.consumed (line ∷ []) (lines_of rest));
-  all = all_more P it.consumed line it.all is;
+  all = all_snoc P it.consumed line it.all is;
 }
 
-pub no_trailer_more : (entire content line rest : List ℕ) → IsPast NoTrailer entire content → IsFirstLine content line rest
+pub is_past_non_trailer_step : (entire content line rest : List ℕ) → IsPast NoTrailer entire content → IsFirstLine content line rest
     → is_trailer_line line ≡ false
     → IsPast NoTrailer entire rest
-no_trailer_more entire content line rest it first is = past_more NoTrailer entire content line rest it first is
+is_past_non_trailer_step entire content line rest it first is = past_more NoTrailer entire content line rest it first is
 
-pub trailer_more : (entire content line rest : List ℕ) → IsPast ContinuesTrailer entire content → IsFirstLine content line rest
+pub is_past_trailer_step : (entire content line rest : List ℕ) → IsPast ContinuesTrailer entire content → IsFirstLine content line rest
     → (is_trailer_line line || is_folded line) ≡ true → IsPast ContinuesTrailer entire rest
-trailer_more entire content line rest it first is = past_more ContinuesTrailer entire content line rest it first is
+is_past_trailer_step entire content line rest it first is = past_more ContinuesTrailer entire content line rest it first is
 
 lines_none : (content : List ℕ) → content ≡ [] → lines_of content ≡ []
 lines_none content nothing = ap lines_of nothing ∙ lines-nil
 
-pub at_end : (entire content : List ℕ) → IsPast NoTrailer entire content → content ≡ [] → IsAtTrailer entire content
-at_end entire content it nothing = record { past = it; begins = subst BeginsTrailer (sym (lines_none content nothing)) tt }
+pub is_at_trailer_at_end : (entire content : List ℕ) → IsPast NoTrailer entire content → content ≡ [] → IsAtTrailer entire content
+is_at_trailer_at_end entire content it nothing = record { past = it; begins = subst BeginsTrailer (sym (lines_none content nothing)) tt }
 
-pub at_line : (entire content line rest : List ℕ) → IsPast NoTrailer entire content → IsFirstLine content line rest → is_trailer_line line ≡ true
+pub is_at_trailer_at_line : (entire content line rest : List ℕ) → IsPast NoTrailer entire content → IsFirstLine content line rest → is_trailer_line line ≡ true
     → IsAtTrailer entire content
-at_line entire content line rest it first is = record { past = it; begins = subst BeginsTrailer (sym first.lines) is }
+is_at_trailer_at_line entire content line rest it first is = record { past = it; begins = subst BeginsTrailer (sym first.lines) is }
 
-pub after_end : (entire content : List ℕ) → IsPast ContinuesTrailer entire content → content ≡ [] → IsAfterTrailers entire content
-after_end entire content it nothing = record { past = it; ends = subst EndsTrailers (sym (lines_none content nothing)) tt }
+pub is_after_trailers_at_end : (entire content : List ℕ) → IsPast ContinuesTrailer entire content → content ≡ [] → IsAfterTrailers entire content
+is_after_trailers_at_end entire content it nothing = record { past = it; ends = subst EndsTrailers (sym (lines_none content nothing)) tt }
 
-pub after_line : (entire content line rest : List ℕ) → IsPast ContinuesTrailer entire content → IsFirstLine content line rest
+pub is_after_trailers_at_line : (entire content line rest : List ℕ) → IsPast ContinuesTrailer entire content → IsFirstLine content line rest
     → (is_trailer_line line || is_folded line) ≡ false → IsAfterTrailers entire content
-after_line entire content line rest it first is = record { past = it; ends = subst EndsTrailers (sym first.lines) is }
+is_after_trailers_at_line entire content line rest it first is = record { past = it; ends = subst EndsTrailers (sym first.lines) is }
 
 -- ---- a block
 
@@ -89,12 +89,12 @@ is_block from trailers rest at after =
       ends = after.ends;
     }
 
-pub first_block : (start : ℕ) (content from trailers rest message taken : List ℕ) → content ≢ [] → from ≡ drop start content
+pub is_first_block_of_steps : (start : ℕ) (content from trailers rest message taken : List ℕ) → content ≢ [] → from ≡ drop start content
     → IsAtTrailer from trailers
     → IsAfterTrailers trailers rest
     → message ≡ take (length content - length trailers) content → taken ≡ take (length trailers - length rest) trailers
     → IsFirstBlock start content (record { message = message; trailers = taken }) rest
-first_block start content from trailers rest message taken some is at after first second =
+is_first_block_of_steps start content from trailers rest message taken some is at after first second =
     let joined : content ≡ (take start content ++ concat at.past.consumed) ++ trailers =
     sym (take-append-drop start content) ∙ ap (λ (bytes : List ℕ). take start content ++ bytes) (sym is ∙ at.past.joined)
     ∙ sym (append_assoc (take start content) (concat at.past.consumed) trailers) in
@@ -104,8 +104,8 @@ first_block start content from trailers rest message taken some is at after firs
       consumed = after.past.consumed;
       lines = subst (λ (bytes : List ℕ). IsBlockOfLines (lines_of bytes) at.past.consumed after.past.consumed (lines_of rest)) is
           (is_block from trailers rest at after);
-      message = first ∙ prefix_is (take start content ++ concat at.past.consumed) trailers content joined;
-      trailers = second ∙ prefix_is (concat after.past.consumed) rest trailers after.past.joined;
+      message = first ∙ title_is_prefix (take start content ++ concat at.past.consumed) trailers content joined;
+      trailers = second ∙ title_is_prefix (concat after.past.consumed) rest trailers after.past.joined;
     }
 
 not_empty : (line : List ℕ) → is_trailer_line line ≡ true → 0 < length line
@@ -129,9 +129,9 @@ taken_shorter (line ∷ taken) trailers rest n some few joined begins ends =
     let inner : length (line ++ concat taken) ≡ length line + length (concat taken) = length-append line (concat taken) in
     omega arith
 
-pub block_shorter : (start : ℕ) (content from trailers rest : List ℕ) → content ≢ [] → from ≡ drop start content → IsAtTrailer from trailers
+pub block_rest_len_lt : (start : ℕ) (content from trailers rest : List ℕ) → content ≢ [] → from ≡ drop start content → IsAtTrailer from trailers
     → IsAfterTrailers trailers rest → length rest < length content
-block_shorter start content from trailers rest some is at after =
+block_rest_len_lt start content from trailers rest some is at after =
     let some_bytes : 0 < length content = some_content content some in
     let drops : length from ≡ length content - start = ap length is ∙ length-drop start content in
     let all : length from ≡ length (concat at.past.consumed) + length trailers = ap length at.past.joined
@@ -140,20 +140,20 @@ block_shorter start content from trailers rest some is at after =
     (subst BeginsTrailer after.past.lines at.begins)
     after.ends
 
-pub trailers_within : (start : ℕ) (content from trailers : List ℕ) → from ≡ drop start content → IsAtTrailer from trailers
+pub trailers_len_le : (start : ℕ) (content from trailers : List ℕ) → from ≡ drop start content → IsAtTrailer from trailers
     → length trailers ≤ length content
-trailers_within start content from trailers is at =
+trailers_len_le start content from trailers is at =
     let drops : length from ≡ length content - start = ap length is ∙ length-drop start content in
     let all : length from ≡ length (concat at.past.consumed) + length trailers = ap length at.past.joined
     ∙ length-append (concat at.past.consumed) trailers in
     omega arith
 
-pub rest_within : (trailers rest : List ℕ) → IsAfterTrailers trailers rest → length rest ≤ length trailers
-rest_within trailers rest after =
+pub block_rest_len_le : (trailers rest : List ℕ) → IsAfterTrailers trailers rest → length rest ≤ length trailers
+block_rest_len_le trailers rest after =
     let all : length trailers ≡ length (concat after.past.consumed) + length rest = ap length after.past.joined
     ∙ length-append (concat after.past.consumed) rest in
     omega arith
 
-pub some_is : (content : List ℕ) (b : Bool) → b ≡ false → b ≡ (length content == 0) → content ≢ []
-some_is [] b not is = cc (not, is)
-some_is (byte ∷ content) b not is = λ nothing. cc nothing
+pub not_nil_of_some : (content : List ℕ) (b : Bool) → b ≡ false → b ≡ (length content == 0) → content ≢ []
+not_nil_of_some [] b not is = cc (not, is)
+not_nil_of_some (byte ∷ content) b not is = λ nothing. cc nothing

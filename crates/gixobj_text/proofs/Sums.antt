@@ -33,23 +33,23 @@ pieces_none (byte ∷ rest) none =
     let other : byte ≢ 10 = none 0 (omega arith) in
     cond-false _ _ _ (ne_eqb byte 10 other) ∙ ap (prepended_to_first byte) (pieces_none rest (λ k under. none (suc k) (omega arith)))
 
-pub split_there : (content piece rest : List ℕ) (place : ℕ) → IsFirstByte (is_byte 10) content (Some place) → piece ≡ take place content
+pub pieces_of_split : (content piece rest : List ℕ) (place : ℕ) → IsFirstByte (is_byte 10) content (Some place) → piece ≡ take place content
     → rest ≡ drop (place + 1) content → pieces_of content ≡ piece ∷ pieces_of rest
-split_there content piece rest place (none, here) first after =
+pieces_of_split content piece rest place (none, here) first after =
     pieces_at content place none.high (eqb-true (slice_index content place) 10 here)
     (λ k below is. none.before k (omega arith) below (eq-eqb (slice_index content k) 10 is))
     ∙ ap (λ (p : List ℕ). p ∷ pieces_of (drop (suc place) content)) (sym first)
     ∙ ap (λ (r : List ℕ). piece ∷ pieces_of r) (ap (λ (n : ℕ). drop n content) (let is : suc place ≡ place + 1 = omega arith in is) ∙ sym after)
 
-pub split_shorter : (content rest : List ℕ) (place : ℕ) → IsFirstByte (is_byte 10) content (Some place) → rest ≡ drop (place + 1) content
+pub split_rest_len_lt : (content rest : List ℕ) (place : ℕ) → IsFirstByte (is_byte 10) content (Some place) → rest ≡ drop (place + 1) content
     → length rest < length content
-split_shorter content rest place (none, here) is =
+split_rest_len_lt content rest place (none, here) is =
     let below : place < length content = none.high in
     let remaining : length rest ≡ length content - (place + 1) = ap length is ∙ length-drop (place + 1) content in
     omega arith
 
-pub split_nowhere : (content : List ℕ) → IsFirstByte (is_byte 10) content None → pieces_of content ≡ content ∷ []
-split_nowhere content none = pieces_none content (λ k below is. none k (omega arith) below (eq-eqb (slice_index content k) 10 is))
+pub pieces_of_newline_free : (content : List ℕ) → IsFirstByte (is_byte 10) content None → pieces_of content ≡ content ∷ []
+pieces_of_newline_free content none = pieces_none content (λ k below is. none k (omega arith) below (eq-eqb (slice_index content k) 10 is))
 
 some_by : (b : Bool) (byte : ℕ) (pieces : Pieces) → cond b ([] ∷ pieces) (prepended_to_first byte pieces) ≢ []
 some_by true byte pieces = λ is. cc is
@@ -77,18 +77,20 @@ dropped_by b byte rest is = ap (λ (c : Bool). reverse (drop (cond c (1 + prefix
         (let is : 1 + prefix_len is_trailing_space rest ≡ suc (prefix_len is_trailing_space rest) = omega arith in is)
     by_test false byte rest = refl
 
-pub space_more : (bytes prefix : List ℕ) (byte : ℕ) → bytes ≡ prefix ++ byte ∷ [] → is_trailing_space byte ≡ true
+pub without_trailing_space : (bytes prefix : List ℕ) (byte : ℕ) → bytes ≡ prefix ++ byte ∷ [] → is_trailing_space byte ≡ true
     → without_trailing bytes ≡ without_trailing prefix
-space_more bytes prefix byte joined is = ap dropped (ap reverse joined ∙ reverse-append prefix (byte ∷ [])) ∙ dropped_by true byte (reverse prefix) is
+without_trailing_space bytes prefix byte joined is = ap dropped (ap reverse joined ∙ reverse-append prefix (byte ∷ []))
+    ∙ dropped_by true byte (reverse prefix) is
 
-pub space_ends : (bytes prefix : List ℕ) (byte : ℕ) → bytes ≡ prefix ++ byte ∷ [] → is_trailing_space byte ≡ false → without_trailing bytes ≡ bytes
-space_ends bytes prefix byte joined is =
+pub without_trailing_of_other : (bytes prefix : List ℕ) (byte : ℕ) → bytes ≡ prefix ++ byte ∷ [] → is_trailing_space byte ≡ false
+    → without_trailing bytes ≡ bytes
+without_trailing_of_other bytes prefix byte joined is =
     ap dropped (ap reverse joined ∙ reverse-append prefix (byte ∷ [])) ∙ dropped_by false byte (reverse prefix) is
     ∙ ap reverse (sym (reverse-append prefix (byte ∷ []))) ∙ reverse-reverse (prefix ++ byte ∷ []) ∙ sym joined
 
-pub space_none : (bytes : List ℕ) → length bytes ≡ 0 → without_trailing bytes ≡ bytes
-space_none [] is = refl
-space_none (byte ∷ bytes) is = absurd (omega arith)
+pub without_trailing_nil : (bytes : List ℕ) → length bytes ≡ 0 → without_trailing bytes ≡ bytes
+without_trailing_nil [] is = refl
+without_trailing_nil (byte ∷ bytes) is = absurd (omega arith)
 
 -- ---- the end trimmed
 
@@ -97,8 +99,8 @@ take_take zero bytes = refl
 take_take (suc n) [] = refl
 take_take (suc n) (byte ∷ bytes) = ap (λ (bs : List ℕ). byte ∷ bs) (take_take n bytes)
 
-pub take_same : (bytes trimmed : List ℕ) → trimmed ≡ trim_end_by is_whitespace bytes → take (length trimmed) bytes ≡ trim_end_by is_whitespace bytes
-take_same bytes trimmed is = ap (λ (t : List ℕ). take (length t) bytes) is ∙ take_take _ bytes
+pub take_trimmed_len : (bytes trimmed : List ℕ) → trimmed ≡ trim_end_by is_whitespace bytes → take (length trimmed) bytes ≡ trim_end_by is_whitespace bytes
+take_trimmed_len bytes trimmed is = ap (λ (t : List ℕ). take (length t) bytes) is ∙ take_take _ bytes
 
 -- ---- the summary
 
@@ -128,8 +130,8 @@ begins_by : (first : List ℕ) (pieces : Pieces) → pieces ≢ [] → summary_o
 begins_by first [] some = absurd (some refl)
 begins_by first (piece ∷ pieces) some = after_is (without_trailing first) piece pieces
 
-pub begins : (first rest : List ℕ) → summary_of_rest (without_trailing first) (pieces_of rest) ≡ summary_of_pieces (first ∷ pieces_of rest)
-begins first rest = begins_by first (pieces_of rest) (some_pieces rest)
+pub summary_of_first_piece : (first rest : List ℕ) → summary_of_rest (without_trailing first) (pieces_of rest) ≡ summary_of_pieces (first ∷ pieces_of rest)
+summary_of_first_piece first rest = begins_by first (pieces_of rest) (some_pieces rest)
 
 more_by : (out : List ℕ) (piece : List ℕ) (pieces : Pieces) → pieces ≢ [] → is_empty_piece piece ≡ false
     → summary_of_rest out (piece ∷ pieces) ≡ summary_of_rest (out ++ 32 ∷ without_trailing piece) pieces
@@ -145,39 +147,40 @@ none_is : (piece : List ℕ) (b : Bool) → b ≡ true → b ≡ (length piece =
 none_is [] b so is = refl
 none_is (byte ∷ piece) b so is = let zero_is : length (byte ∷ piece) ≡ 0 = eqb-true (length (byte ∷ piece)) 0 (sym is ∙ so) in absurd (omega arith)
 
-pub piece_more : (out content piece rest : List ℕ) (b : Bool) → pieces_of content ≡ piece ∷ pieces_of rest → b ≡ false → b ≡ (length piece == 0)
+pub summary_of_next_piece : (out content piece rest : List ℕ) (b : Bool) → pieces_of content ≡ piece ∷ pieces_of rest → b ≡ false → b ≡ (length piece == 0)
     → summary_of_rest (out ++ 32 ∷ without_trailing piece) (pieces_of rest) ≡ summary_of_rest out (pieces_of content)
-piece_more out content piece rest b is not test =
+summary_of_next_piece out content piece rest b is not test =
     sym (ap (summary_of_rest out) is ∙ more_by out piece (pieces_of rest) (some_pieces rest) (some_is piece b not test))
 
 ends_by : (out : List ℕ) (pieces : Pieces) → summary_of_rest out ([] ∷ pieces) ≡ trim out
 ends_by out [] = refl
 ends_by out (next ∷ pieces) = refl
 
-pub piece_ends : (out content piece rest : List ℕ) (b : Bool) → pieces_of content ≡ piece ∷ pieces_of rest → b ≡ true → b ≡ (length piece == 0)
+pub summary_at_empty_piece : (out content piece rest : List ℕ) (b : Bool) → pieces_of content ≡ piece ∷ pieces_of rest → b ≡ true → b ≡ (length piece == 0)
     → trim_end_by is_whitespace out ≡ summary_of_rest out (pieces_of content)
-piece_ends out content piece rest b is so test =
+summary_at_empty_piece out content piece rest b is so test =
     sym (ap (summary_of_rest out) (is ∙ ap (λ (p : List ℕ). p ∷ pieces_of rest) (none_is piece b so test)) ∙ ends_by out (pieces_of rest))
 
-pub last_piece : (out content : List ℕ) (b : Bool) → pieces_of content ≡ content ∷ [] → b ≡ false → b ≡ (length content == 0)
+pub summary_of_last_piece : (out content : List ℕ) (b : Bool) → pieces_of content ≡ content ∷ [] → b ≡ false → b ≡ (length content == 0)
     → out ++ 32 ∷ content ≡ summary_of_rest out (pieces_of content)
-last_piece out content b is not test =
+summary_of_last_piece out content b is not test =
     sym (ap (summary_of_rest out) is ∙ ap (λ (c : Bool). cond c (trim out) (out ++ 32 ∷ content)) (some_is content b not test))
 
-pub last_none : (out content : List ℕ) (b : Bool) → pieces_of content ≡ content ∷ [] → b ≡ true → b ≡ (length content == 0)
+pub summary_of_empty_last_piece : (out content : List ℕ) (b : Bool) → pieces_of content ≡ content ∷ [] → b ≡ true → b ≡ (length content == 0)
     → trim_end_by is_whitespace out ≡ summary_of_rest out (pieces_of content)
-last_none out content b is so test = sym (ap (summary_of_rest out) (is ∙ ap (λ (p : List ℕ). p ∷ []) (none_is content b so test)) ∙ ends_by out [])
+summary_of_empty_last_piece out content b is so test = sym (ap (summary_of_rest out) (is ∙ ap (λ (p : List ℕ). p ∷ []) (none_is content b so test))
+    ∙ ends_by out [])
 
-pub one_piece : (content inner : List ℕ) → inner ≡ trimmed content → pieces_of inner ≡ inner ∷ [] → inner ≡ summary_of content
-one_piece content inner is one = sym (ap (λ (t : List ℕ). summary_of_pieces (pieces_of t)) (sym is) ∙ ap summary_of_pieces one ∙ append-nil inner)
+pub summary_of_one_piece : (content inner : List ℕ) → inner ≡ trimmed content → pieces_of inner ≡ inner ∷ [] → inner ≡ summary_of content
+summary_of_one_piece content inner is one = sym (ap (λ (t : List ℕ). summary_of_pieces (pieces_of t)) (sym is) ∙ ap summary_of_pieces one ∙ append-nil inner)
 
-pub of_one : (content inner : List ℕ) → inner ≡ trimmed content → pieces_of inner ≡ inner ∷ [] → is_of_lines content ≡ false
-of_one content inner is one = ap (λ (t : List ℕ). has_more (pieces_of t)) (sym is) ∙ ap has_more one
+pub is_of_lines_false : (content inner : List ℕ) → inner ≡ trimmed content → pieces_of inner ≡ inner ∷ [] → is_of_lines content ≡ false
+is_of_lines_false content inner is one = ap (λ (t : List ℕ). has_more (pieces_of t)) (sym is) ∙ ap has_more one
 
 more_after : (piece : List ℕ) (pieces : Pieces) → pieces ≢ [] → has_more (piece ∷ pieces) ≡ true
 more_after piece [] some = absurd (some refl)
 more_after piece (next ∷ pieces) some = refl
 
-pub of_more : (content inner piece rest : List ℕ) → inner ≡ trimmed content → pieces_of inner ≡ piece ∷ pieces_of rest → is_of_lines content ≡ true
-of_more content inner piece rest is more = ap (λ (t : List ℕ). has_more (pieces_of t)) (sym is) ∙ ap has_more more ∙ more_after piece (pieces_of rest)
+pub is_of_lines_true : (content inner piece rest : List ℕ) → inner ≡ trimmed content → pieces_of inner ≡ piece ∷ pieces_of rest → is_of_lines content ≡ true
+is_of_lines_true content inner piece rest is more = ap (λ (t : List ℕ). has_more (pieces_of t)) (sym is) ∙ ap has_more more ∙ more_after piece (pieces_of rest)
     (some_pieces rest)

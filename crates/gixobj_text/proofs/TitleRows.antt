@@ -3,14 +3,14 @@ use Rattle.std.proofs.Common.{◌∷◌, inl, inr, refl, [], Some, None, codes}
 use Rattle.bstr.proofs.Computing.{computing}
 use Rattle.gixobj_text.specs.Titles.{SplitsTitle}
 use Rattle.gixobj_text.specs.Titles.IsBreak.{alone, after_return}
-use Rattle.gixobj_text.proofs.SplitTitles.{least, never}
+use Rattle.gixobj_text.proofs.SplitTitles.{title_split_is_first, no_breaks_of_unsplit}
 
 both : SplitsTitle (codes "hello\n\nbody") (codes "hello") (Some (codes "body"))
 unfolding computing
 both = (
   record {
     here = record { first = 10 ∷ []; second = 10 ∷ []; breaks = (alone, alone); joined = refl };
-    minimum = λ prefix rest it. least 5 (codes "hello\n\nbody") prefix rest refl it;
+    minimum = λ prefix rest it. title_split_is_first 5 (codes "hello\n\nbody") prefix rest refl it;
   },
   λ none. cc none,
 )
@@ -20,7 +20,7 @@ unfolding computing
 mixed = (
   record {
     here = record { first = 13 ∷ 10 ∷ []; second = 10 ∷ []; breaks = (after_return, alone); joined = refl };
-    minimum = λ prefix rest it. least 5 (codes "hello\r\n\n\r\nbody") prefix rest refl it;
+    minimum = λ prefix rest it. title_split_is_first 5 (codes "hello\r\n\n\r\nbody") prefix rest refl it;
   },
   λ none. cc none,
 )
@@ -29,9 +29,9 @@ no_body : SplitsTitle (codes "hello\n\n") (codes "hello") None
 unfolding computing
 no_body = inl (record {
   here = record { first = 10 ∷ []; second = 10 ∷ []; breaks = (alone, alone); joined = refl };
-  minimum = λ prefix rest it. least 5 (codes "hello\n\n") prefix rest refl it;
+  minimum = λ prefix rest it. title_split_is_first 5 (codes "hello\n\n") prefix rest refl it;
 })
 
 no_breaks : SplitsTitle (codes "hello\nthere\n") (codes "hello\nthere\n") None
 unfolding computing
-no_breaks = inr (refl, λ prefix rest it. never (codes "hello\nthere\n") prefix rest refl it)
+no_breaks = inr (refl, λ prefix rest it. no_breaks_of_unsplit (codes "hello\nthere\n") prefix rest refl it)

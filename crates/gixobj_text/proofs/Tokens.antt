@@ -5,11 +5,11 @@ use Rattle.std.specs.Prelude.{is_some}
 use Rattle.gixobj_text.specs.BodyLines.{TrailerParts, after_gap, is_gap_byte, is_token_byte, token_byte_step, rest_of_token, trailer_parts, with_value}
 use Rattle.gixobj_text.specs.Scanning.{after_token}
 
-pub token_more : (byte : ℕ) (rest : List ℕ) → is_token_byte byte ≡ true → after_token (byte ∷ rest) ≡ after_token rest
-token_more byte rest is = ap (λ (b : Bool). cond b (after_token rest) (byte ∷ rest)) is
+pub after_token_of_token_byte : (byte : ℕ) (rest : List ℕ) → is_token_byte byte ≡ true → after_token (byte ∷ rest) ≡ after_token rest
+after_token_of_token_byte byte rest is = ap (λ (b : Bool). cond b (after_token rest) (byte ∷ rest)) is
 
-pub token_ends : (byte : ℕ) (rest : List ℕ) → is_token_byte byte ≡ false → after_token (byte ∷ rest) ≡ byte ∷ rest
-token_ends byte rest is = ap (λ (b : Bool). cond b (after_token rest) (byte ∷ rest)) is
+pub after_token_of_other_byte : (byte : ℕ) (rest : List ℕ) → is_token_byte byte ≡ false → after_token (byte ∷ rest) ≡ byte ∷ rest
+after_token_of_other_byte byte rest is = ap (λ (b : Bool). cond b (after_token rest) (byte ∷ rest)) is
 
 other : (a b : ℕ) → a ≢ b → (a == b) ≡ false
 other a b is = grind (arith, nat_tests)
@@ -17,16 +17,16 @@ other a b is = grind (arith, nat_tests)
 same : (a b : ℕ) → a ≡ b → (a == b) ≡ true
 same a b is = grind (arith, nat_tests)
 
-pub gap_colon : (byte : ℕ) (rest : List ℕ) → byte ≡ 58 → after_gap (byte ∷ rest) ≡ Some rest
-gap_colon byte rest is = ap (λ (b : Bool). cond b (Some rest) (cond (is_gap_byte byte) (after_gap rest) None)) (same byte 58 is)
+pub after_gap_at_colon : (byte : ℕ) (rest : List ℕ) → byte ≡ 58 → after_gap (byte ∷ rest) ≡ Some rest
+after_gap_at_colon byte rest is = ap (λ (b : Bool). cond b (Some rest) (cond (is_gap_byte byte) (after_gap rest) None)) (same byte 58 is)
 
-pub gap_more : (byte : ℕ) (rest : List ℕ) → byte ≢ 58 → is_gap_byte byte ≡ true → after_gap (byte ∷ rest) ≡ after_gap rest
-gap_more byte rest is gap =
+pub after_gap_of_space : (byte : ℕ) (rest : List ℕ) → byte ≢ 58 → is_gap_byte byte ≡ true → after_gap (byte ∷ rest) ≡ after_gap rest
+after_gap_of_space byte rest is gap =
     ap (λ (b : Bool). cond b (Some rest) (cond (is_gap_byte byte) (after_gap rest) None)) (other byte 58 is)
     ∙ ap (λ (b : Bool). cond b (after_gap rest) None) gap
 
-pub gap_ends : (byte : ℕ) (rest : List ℕ) → byte ≢ 58 → is_gap_byte byte ≡ false → after_gap (byte ∷ rest) ≡ None
-gap_ends byte rest is gap =
+pub after_gap_of_other_byte : (byte : ℕ) (rest : List ℕ) → byte ≢ 58 → is_gap_byte byte ≡ false → after_gap (byte ∷ rest) ≡ None
+after_gap_of_other_byte byte rest is gap =
     ap (λ (b : Bool). cond b (Some rest) (cond (is_gap_byte byte) (after_gap rest) None)) (other byte 58 is)
     ∙ ap (λ (b : Bool). cond b (after_gap rest) None) gap
 
@@ -48,9 +48,10 @@ rest_is : (bytes : List ℕ) → is_some (rest_of_token bytes) ≡ is_some (afte
 rest_is [] = refl
 rest_is (byte ∷ rest) = rest_by byte rest (is_token_byte byte) (rest_is rest)
 
-pub trailer_is : (byte : ℕ) (rest : List ℕ) → is_token_byte byte ≡ true → is_some (trailer_parts (byte ∷ rest)) ≡ is_some (after_gap (after_token rest))
-trailer_is byte rest is = ap (λ (b : Bool). is_some (cond b (token_byte_step byte (rest_of_token rest)) None)) is ∙ one_is byte (rest_of_token rest)
+pub trailer_parts_is_some : (byte : ℕ) (rest : List ℕ) → is_token_byte byte ≡ true
+    → is_some (trailer_parts (byte ∷ rest)) ≡ is_some (after_gap (after_token rest))
+trailer_parts_is_some byte rest is = ap (λ (b : Bool). is_some (cond b (token_byte_step byte (rest_of_token rest)) None)) is ∙ one_is byte (rest_of_token rest)
     ∙ rest_is rest
 
-pub none_is : (byte : ℕ) (rest : List ℕ) → is_token_byte byte ≡ false → is_some (trailer_parts (byte ∷ rest)) ≡ false
-none_is byte rest is = ap (λ (b : Bool). is_some (cond b (token_byte_step byte (rest_of_token rest)) None)) is
+pub trailer_parts_is_none : (byte : ℕ) (rest : List ℕ) → is_token_byte byte ≡ false → is_some (trailer_parts (byte ∷ rest)) ≡ false
+trailer_parts_is_none byte rest is = ap (λ (b : Bool). is_some (cond b (token_byte_step byte (rest_of_token rest)) None)) is

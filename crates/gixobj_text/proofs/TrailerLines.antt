@@ -87,9 +87,9 @@ first_by byte rest true parts token is = more_from byte rest (rest_of_token rest
 first_by byte rest false parts token is = cc is
 
 -- content decodes to the parts that `trailer_parts` finds
-pub parts_from : (bytes : List ℕ) (parts : TrailerParts) → trailer_parts bytes ≡ Some parts → DecodesToTrailer bytes parts.0 parts.1
-parts_from [] parts is = cc is
-parts_from (byte ∷ rest) parts is =
+pub decodes_to_trailer_of_parts : (bytes : List ℕ) (parts : TrailerParts) → trailer_parts bytes ≡ Some parts → DecodesToTrailer bytes parts.0 parts.1
+decodes_to_trailer_of_parts [] parts is = cc is
+decodes_to_trailer_of_parts (byte ∷ rest) parts is =
     let it = first_by byte rest (is_token_byte byte) parts refl is in
     record { gap = it.0.0; joined = it.0.1; some = it.1; of_token = it.0.2; of_gap = it.0.3 }
 
@@ -120,5 +120,5 @@ first_to (byte ∷ token) gap value some tokens gaps =
     ∙ ap (token_byte_step byte) (rest_to token gap value (All-tail OfToken byte token tokens) gaps)
 
 -- `trailer_parts` finds the parts of content that decodes to a trailer: it has at most one token and one value
-pub parts_to : (bytes token value : List ℕ) → DecodesToTrailer bytes token value → trailer_parts bytes ≡ Some (token, value)
-parts_to bytes token value it = ap trailer_parts it.joined ∙ first_to token it.gap value it.some it.of_token it.of_gap
+pub trailer_parts_of_decoded : (bytes token value : List ℕ) → DecodesToTrailer bytes token value → trailer_parts bytes ≡ Some (token, value)
+trailer_parts_of_decoded bytes token value it = ap trailer_parts it.joined ∙ first_to token it.gap value it.some it.of_token it.of_gap

@@ -23,7 +23,7 @@ impl Format {
     /// Returns the format whose marker begins the signature, or `None` (gitformat-signature, "DESCRIPTION").
     ///
     /// Allocates nothing.
-    #[tactic(auto, using(crate::proofs::MarkersFound::pgp_signature_found, crate::proofs::MarkersFound::pgp_message_found, crate::proofs::MarkersFound::signed_message_found, crate::proofs::MarkersFound::ssh_signature_found))]
+    #[tactic(auto, using(crate::proofs::MarkersFound::begins_with_pgp_signature, crate::proofs::MarkersFound::begins_with_pgp_message, crate::proofs::MarkersFound::begins_with_signed_message, crate::proofs::MarkersFound::begins_with_ssh_signature))]
     pub fn from_signature(signature: &[u8]) -> Option<Format>
         ensures found { IfSome result (λ format. BeginsWithMarker format signature.now) }
         ensures none { IfNone result (BeginsWithNoMarker signature.now) }

@@ -7,8 +7,8 @@ use Rattle.std.specs.List.{HoldsAt}
 use Rattle.std.specs.List.Sorted.{IsBinarySearchResult, IsNonDecreasingBy, IsSearchInRange}
 use Rattle.std.specs.Ordering.{nat_cmp, ordering_index}
 use Rattle.gixobj_hash.specs.ByteStrings.{IsByteFree}
-use Rattle.gixobj_tree.proofs.NameKeys.{by_keys}
-use Rattle.gixobj_tree.proofs.WellFormed.{found, same_key}
+use Rattle.gixobj_tree.proofs.NameKeys.{name_cmp_eq_key_cmp}
+use Rattle.gixobj_tree.proofs.WellFormed.{has_key_of_test, eq_of_slice_cmp_equal}
 use Rattle.gixobj_tree.specs.Entries.{EntryView, IsEntryName, IsWellFormed, entry_key, key_of, name_cmp}
 use Rattle.gixobj_mode.specs.Mode.{is_tree_mode}
 use Rattle.gixobj_tree.specs.WellFormed.{HasKey}
@@ -101,7 +101,7 @@ module _ {X : Type 0} (view : X → EntryView) (name : List ℕ) (is_dir : Bool)
       (view d)
       (omega (arith, low, length-map xs view)) in
       let here : IsEntryName (view (get_or xs i d)).name = (let P : EntryView → Type 0 = λ e. IsEntryName e.name in subst P at named) in
-      by_keys (view (get_or xs i d)).name (is_tree_mode (view (get_or xs i d)).mode) name is_dir here.one_name free
+      name_cmp_eq_key_cmp (view (get_or xs i d)).name (is_tree_mode (view (get_or xs i d)).mode) name is_dir here.one_name free
 
   search_by_key : (xs : List X) (r : Result ℕ ℕ) → IsWellFormed (map view xs) → IsByteFree 47 name → IsSearchInRange r (length xs)
       → IsBinarySearchResult compared xs r → IsBinarySearchResult of_key (map view xs) r
@@ -119,11 +119,11 @@ module _ {X : Type 0} (view : X → EntryView) (name : List ℕ) (is_dir : Bool)
       → IsByteFree 47 name → entry_key (view x) ≡ key_of name is_dir
   found_key xs i x low is held formed free =
       let equal : of_key (view (get_or xs i x)) ≡ Equal = sym (by_key xs formed free i x low) ∙ held x in
-      same_key (entry_key (view x)) (key_of name is_dir) (ap (λ (y : X). of_key (view y)) is ∙ equal)
+      eq_of_slice_cmp_equal (entry_key (view x)) (key_of name is_dir) (ap (λ (y : X). of_key (view y)) is ∙ equal)
 
   pub none_of_key : (xs : List X) (r : Result ℕ ℕ) (i : ℕ) → r ≡ Err i → IsSearchInRange r (length xs) → IsBinarySearchResult compared xs r
       → IsWellFormed (map view xs) → IsByteFree 47 name → HasKey (map view xs) (key_of name is_dir) → ⊥
   none_of_key xs (Ok k) i is range held formed free = cc is
   none_of_key xs (Err k) i is range held formed free =
-      found (map view xs) (key_of name is_dir) (Err k) false refl formed.ascending (omega (arith, range, length-map xs view))
+      has_key_of_test (map view xs) (key_of name is_dir) (Err k) false refl formed.ascending (omega (arith, range, length-map xs view))
       (search_by_key xs (Err k) formed free range held)

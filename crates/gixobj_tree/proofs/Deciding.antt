@@ -10,24 +10,24 @@ use Rattle.gixobj_fields.specs.Runs.{Ending, broken, complete, yields_end, yield
 use Rattle.gixobj_hash.specs.Hash.{hash_len, id_bytes, id_from}
 use Rattle.gixobj_hash.specs.declared.hash.kind.Kind.{Kind}
 use Rattle.gixobj_hash.specs.declared.hash.kind.Kind.TheVariants as hash
-use Rattle.gixobj_hash.proofs.Splits.{free_of_split, one_cut}
+use Rattle.gixobj_hash.proofs.Splits.{no_split_of_byte_free, split_parts_unique}
 use Rattle.gixobj_hash.specs.ByteStrings.{IsByteFree, SplitsAt}
-use Rattle.gixobj_mode.proofs.EncodedModes.{octal_free}
+use Rattle.gixobj_mode.proofs.EncodedModes.{octal_digits_space_free}
 use Rattle.gixobj_tree.specs.Entries.{EntryView, entry_of}
 use Rattle.gixobj_mode.specs.Mode.{BeginsWithMode, HasSixDigits, mode_of_digits}
-use Rattle.gixobj_tree.proofs.EntryRuns.{one_run, read, test_iff}
-use Rattle.gixobj_tree.proofs.OneEntry.{Parted, entry_of_parts, no_id, no_name, parted, shorter}
+use Rattle.gixobj_tree.proofs.EntryRuns.{entry_run_unique, decodes_to_tree_of_run, yields_entries_iff}
+use Rattle.gixobj_tree.proofs.OneEntry.{Parted, entry_of_parts, no_entry_without_id, no_entry_without_name, parted_of_begins, entry_rest_len_lt}
 use Rattle.gixobj_tree.specs.TreeDecoding.{BeginsWithEntry, BeginsWithId, BeginsWithNoEntry, IsMalformedTree, DecodesToTree, YieldsEntries}
 
 -- ---- the parts of an entry
 
 -- bytes split at the first such byte, or have none
-pub split_or_free : (byte : ℕ) (content : List ℕ) → ((prefix : List ℕ) × (rest : List ℕ) × SplitsAt byte content prefix rest) ⊎ IsByteFree byte content
-split_or_free byte [] = inr (All-nil (λ it. it ≢ byte))
-split_or_free byte (first ∷ content) =
+pub splits_at_or_byte_free : (byte : ℕ) (content : List ℕ) → ((prefix : List ℕ) × (rest : List ℕ) × SplitsAt byte content prefix rest) ⊎ IsByteFree byte content
+splits_at_or_byte_free byte [] = inr (All-nil (λ it. it ≢ byte))
+splits_at_or_byte_free byte (first ∷ content) =
     ⊎_elim (λ is. inl ([], content, here is))
     (λ other. ⊎_elim (λ cut. inl (first ∷ cut.0, cut.1, later other cut.2)) (λ free. inr (All-cons (λ it. it ≢ byte) first content other free))
-    (split_or_free byte content)) (cases_eq first byte)
+    (splits_at_or_byte_free byte content)) (cases_eq first byte)
   where
     here : first ≡ byte → SplitsAt byte (first ∷ content) [] content
     here is = record { joined = ap (λ (it : ℕ). it ∷ content) is; first = All-nil (λ it. it ≢ byte) }
@@ -70,7 +70,8 @@ AnEntry kind input = (e : EntryView) × (rest : List ℕ) × BeginsWithEntry kin
 digits_at_cut : (kind : Kind) (input digits after : List ℕ) (e : EntryView) (rest : List ℕ) → SplitsAt 32 input digits after → (p : Parted kind input e rest)
     → p.digits ≡ digits
 digits_at_cut kind input digits after e rest split p =
-    (one_cut 32 p.digits (e.name ++ 0 ∷ (id_bytes e.id ++ rest)) digits after (octal_free p.digits p.mode.octal) split.first (sym p.joined ∙ split.joined)).0
+    (split_parts_unique 32 p.digits (e.name ++ 0 ∷ (id_bytes e.id ++ rest)) digits after (octal_digits_space_free p.digits p.mode.octal) split.first
+        (sym p.joined ∙ split.joined)).0
 
 filled : (prefix rest : List ℕ) (byte : ℕ) → prefix ++ byte ∷ rest ≢ []
 filled [] rest byte = λ bare. cc bare
@@ -80,13 +81,14 @@ filled (first ∷ prefix) rest byte = λ bare. cc bare
 from_name_on : (kind : Kind) (input after from_name : List ℕ) (mode : ℕ) → BeginsWithMode input mode after → after ≡ 32 ∷ from_name → AnEntry kind input
     ⊎ BeginsWithNoEntry kind input
 from_name_on kind input after from_name mode begun spaced =
-    ⊎_elim (λ cut. from_id_on cut.0 cut.1 cut.2) (λ free. inr (no_name kind input after from_name mode begun spaced free)) (split_or_free 0 from_name)
+    ⊎_elim (λ cut. from_id_on cut.0 cut.1 cut.2) (λ free. inr (no_entry_without_name kind input after from_name mode begun spaced free))
+        (splits_at_or_byte_free 0 from_name)
   where
     from_id_on : (name from_id : List ℕ) → SplitsAt 0 from_name name from_id → AnEntry kind input ⊎ BeginsWithNoEntry kind input
     from_id_on name from_id split =
         let it = id_from kind (take (hash_len kind) from_id) in
         let rest = drop (hash_len kind) from_id in
-        ⊎_elim (λ short. inr (no_id kind input after from_name name from_id mode begun spaced split short))
+        ⊎_elim (λ short. inr (no_entry_without_id kind input after from_name name from_id mode begun spaced split short))
         (λ enough. inl (
           entry_of mode name it,
           rest,
@@ -100,7 +102,7 @@ module _ (kind : Kind) (input digits after : List ℕ) (split : SplitsAt 32 inpu
   no_entry : (P : List ℕ → Type 0) → ((e : EntryView) (rest : List ℕ) (p : Parted kind input e rest) → P p.digits) → (P digits → ⊥)
       → BeginsWithNoEntry kind input
   no_entry P holds fails = λ e rest has.
-      let p = parted kind input e rest has in
+      let p = parted_of_begins kind input e rest has in
       fails (subst P (digits_at_cut kind input digits after e rest split p) (holds e rest p))
 
   mode_there : AllDigits 8 digits → length digits ≤ 7 → HasSixDigits input digits → BeginsWithMode input (mode_of_digits digits) (32 ∷ after)
@@ -125,13 +127,14 @@ module _ (kind : Kind) (input digits after : List ℕ) (split : SplitsAt 32 inpu
   cut_entry : AnEntry kind input ⊎ BeginsWithNoEntry kind input
   cut_entry = ⊎_elim by_length (λ other. inr (no_entry (AllDigits 8) (λ e rest p. p.mode.octal) other)) (octal_or_not digits)
 
-pub entry_or_none : (kind : Kind) (input : List ℕ) → ((e : EntryView) × (rest : List ℕ) × BeginsWithEntry kind input e rest) ⊎ BeginsWithNoEntry kind input
-entry_or_none kind input =
-    ⊎_elim (λ cut. cut_entry kind input cut.0 cut.1 cut.2) (λ free. inr (λ e rest has. no_space_there e rest free (parted kind input e rest has)))
-    (split_or_free 32 input)
+pub begins_with_entry_or_not : (kind : Kind) (input : List ℕ) → ((e : EntryView) × (rest : List ℕ) × BeginsWithEntry kind input e rest)
+    ⊎ BeginsWithNoEntry kind input
+begins_with_entry_or_not kind input =
+    ⊎_elim (λ cut. cut_entry kind input cut.0 cut.1 cut.2) (λ free. inr (λ e rest has. no_space_there e rest free (parted_of_begins kind input e rest has)))
+    (splits_at_or_byte_free 32 input)
   where
     no_space_there : (e : EntryView) (rest : List ℕ) → IsByteFree 32 input → Parted kind input e rest → ⊥
-    no_space_there e rest free p = free_of_split 32 p.digits (e.name ++ 0 ∷ (id_bytes e.id ++ rest)) (subst (IsByteFree 32) p.joined free)
+    no_space_there e rest free p = no_split_of_byte_free 32 p.digits (e.name ++ 0 ∷ (id_bytes e.id ++ rest)) (subst (IsByteFree 32) p.joined free)
 
 -- ---- a tree
 
@@ -144,7 +147,7 @@ entry_then_run kind input e rest has more = (e ∷ more.0, more.1, yields_piece 
 
 left_within : (most : ℕ) (kind : Kind) (input : List ℕ) (e : EntryView) (rest : List ℕ) → BeginsWithEntry kind input e rest → length input ≤ suc most
     → length rest ≤ most
-left_within most kind input e rest has within = (let less = shorter kind input e rest has in omega (arith, less, within))
+left_within most kind input e rest has within = (let less = entry_rest_len_lt kind input e rest has in omega (arith, less, within))
 
 run_within : (most : ℕ) (kind : Kind) (input : List ℕ) → length input ≤ most → ARun kind input
 run_within most kind [] within = ([], complete, yields_end tt)
@@ -153,13 +156,14 @@ run_within (suc most) kind (first ∷ input) within =
     ⊎_elim
     (λ has. entry_then_run kind (first ∷ input) has.0 has.1 has.2 (run_within most kind has.1 (left_within most kind (first ∷ input) has.0 has.1 has.2 within)))
     (λ none. ([], broken, yields_error tt (first ∷ input) (λ bare. cc bare) (λ e after rest has. none e rest has)))
-    (entry_or_none kind (first ∷ input))
+    (begins_with_entry_or_not kind (first ∷ input))
 
-pub tree_or_none : (kind : Kind) (content : List ℕ) → ((entries : List EntryView) × DecodesToTree kind content entries) ⊎ IsMalformedTree kind content
-tree_or_none kind content = (let run = run_within (length content) kind content (omega arith) in by_ending run.0 run.1 run.2)
+pub decodes_to_tree_or_malformed : (kind : Kind) (content : List ℕ) → ((entries : List EntryView) × DecodesToTree kind content entries)
+    ⊎ IsMalformedTree kind content
+decodes_to_tree_or_malformed kind content = (let run = run_within (length content) kind content (omega arith) in by_ending run.0 run.1 run.2)
   where
     by_ending : (entries : List EntryView) (ending : Ending) → YieldsEntries kind content entries ending
         → ((entries : List EntryView) × DecodesToTree kind content entries) ⊎ IsMalformedTree kind content
-    by_ending entries complete run = inl (entries, read kind content entries run)
+    by_ending entries complete run = inl (entries, decodes_to_tree_of_run kind content entries run)
     by_ending entries broken run =
-        inr (λ others is. let same = one_run kind content entries others broken complete run (test_iff kind content others is) in cc same.1)
+        inr (λ others is. let same = entry_run_unique kind content entries others broken complete run (yields_entries_iff kind content others is) in cc same.1)

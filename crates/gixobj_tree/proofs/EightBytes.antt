@@ -7,7 +7,7 @@ use Rattle.std.specs.Cmp.{nat_cmp_is}
 use Rattle.std.specs.Cmp.Lexicographic.{slice_cmp}
 use Rattle.std.proofs.lemmas.Cmp.{ranked}
 use Rattle.gixobj_tree.specs.Entries.{name_cmp}
-use Rattle.gixobj_tree.proofs.NameKeys.{decides, more, then_assoc}
+use Rattle.gixobj_tree.proofs.NameKeys.{ordering_then_of_decided, name_cmp_cons, ordering_then_assoc}
 
 -- each element is below 256
 abbrev Bytes : List ℕ → Type 0
@@ -44,15 +44,15 @@ ordered (x ∷ xs) [] m n a b l = absurd (omega arith)
 ordered (x ∷ xs) (y ∷ ys) m n a b l =
     ordered xs ys (256 * m + x) (256 * n + y) (λ k. a (suc k)) (λ k. b (suc k)) (omega arith)
     ∙ ap (λ o. ordering_then o (slice_cmp nat_cmp xs ys)) (digit m n x y (a 0) (b 0))
-    ∙ then_assoc (nat_cmp m n) (nat_cmp x y) (slice_cmp nat_cmp xs ys)
+    ∙ ordering_then_assoc (nat_cmp m n) (nat_cmp x y) (slice_cmp nat_cmp xs ys)
 
 -- the order of names compares the first `n` bytes, and then the rest
 steps : (n : ℕ) (xs ys : List ℕ) (t u : Bool) → n ≤ length xs → n ≤ length ys
     → name_cmp xs t ys u ≡ ordering_then (slice_cmp nat_cmp (take n xs) (take n ys)) (name_cmp (drop n xs) t (drop n ys) u)
 steps zero xs ys t u a b = refl
 steps (suc n) (x ∷ xs) (y ∷ ys) t u a b =
-    more x y xs ys t u _ (steps n xs ys t u (omega arith) (omega arith))
-    ∙ sym (then_assoc (nat_cmp x y) (slice_cmp nat_cmp (take n xs) (take n ys)) (name_cmp (drop n xs) t (drop n ys) u))
+    name_cmp_cons x y xs ys t u _ (steps n xs ys t u (omega arith) (omega arith))
+    ∙ sym (ordering_then_assoc (nat_cmp x y) (slice_cmp nat_cmp (take n xs) (take n ys)) (name_cmp (drop n xs) t (drop n ys) u))
 steps (suc n) [] ys t u a b = absurd (omega arith)
 steps (suc n) (x ∷ xs) [] t u a b = absurd (omega arith)
 
@@ -95,35 +95,35 @@ numbered : (n : ℕ) (xs ys : List ℕ) → Bytes xs → Bytes ys → n ≤ leng
     → nat_cmp (value 0 (take n xs)) (value 0 (take n ys)) ≡ slice_cmp nat_cmp (take n xs) (take n ys)
 numbered n xs ys a b l m = ordered (take n xs) (take n ys) 0 0 (prefix_bytes n xs a) (prefix_bytes n ys b) (long n xs l ∙ sym (long n ys m))
 
-pub eight : (xs ys : List ℕ) → Bytes xs → Bytes ys → 8 ≤ length xs → 8 ≤ length ys
+pub nat_cmp_of_eight_bytes : (xs ys : List ℕ) → Bytes xs → Bytes ys → 8 ≤ length xs → 8 ≤ length ys
     → nat_cmp (from_be_bytes w64 (take 8 xs)) (from_be_bytes w64 (take 8 ys)) ≡ slice_cmp nat_cmp (take 8 xs) (take 8 ys)
-eight xs ys a b l m =
+nat_cmp_of_eight_bytes xs ys a b l m =
     ap (λ n. nat_cmp n (from_be_bytes w64 (take 8 ys))) (worth xs l) ∙ ap (nat_cmp (value 0 (take 8 xs))) (worth ys m)
     ∙ numbered 8 xs ys a b l m
 
-pub four : (xs ys : List ℕ) → Bytes xs → Bytes ys → 4 ≤ length xs → 4 ≤ length ys
+pub nat_cmp_of_four_bytes : (xs ys : List ℕ) → Bytes xs → Bytes ys → 4 ≤ length xs → 4 ≤ length ys
     → nat_cmp (from_be_bytes w32 (take 4 xs)) (from_be_bytes w32 (take 4 ys)) ≡ slice_cmp nat_cmp (take 4 xs) (take 4 ys)
-four xs ys a b l m =
+nat_cmp_of_four_bytes xs ys a b l m =
     ap (λ n. nat_cmp n (from_be_bytes w32 (take 4 ys))) (worth_of_four xs l) ∙ ap (nat_cmp (value 0 (take 4 xs))) (worth_of_four ys m)
     ∙ numbered 4 xs ys a b l m
 
-pub two : (xs ys : List ℕ) → Bytes xs → Bytes ys → 2 ≤ length xs → 2 ≤ length ys
+pub nat_cmp_of_two_bytes : (xs ys : List ℕ) → Bytes xs → Bytes ys → 2 ≤ length xs → 2 ≤ length ys
     → nat_cmp (from_be_bytes w16 (take 2 xs)) (from_be_bytes w16 (take 2 ys)) ≡ slice_cmp nat_cmp (take 2 xs) (take 2 ys)
-two xs ys a b l m =
+nat_cmp_of_two_bytes xs ys a b l m =
     ap (λ n. nat_cmp n (from_be_bytes w16 (take 2 ys))) (worth_of_two xs l) ∙ ap (nat_cmp (value 0 (take 2 xs))) (worth_of_two ys m)
     ∙ numbered 2 xs ys a b l m
 
 -- the first `n` bytes decide the order of names if they differ
-pub settled : (n : ℕ) (xs ys : List ℕ) (t u : Bool) → n ≤ length xs → n ≤ length ys → slice_cmp nat_cmp (take n xs) (take n ys) ≢ Equal
+pub name_cmp_of_prefix_cmp : (n : ℕ) (xs ys : List ℕ) (t u : Bool) → n ≤ length xs → n ≤ length ys → slice_cmp nat_cmp (take n xs) (take n ys) ≢ Equal
     → slice_cmp nat_cmp (take n xs) (take n ys) ≡ name_cmp xs t ys u
-settled n xs ys t u a b apart = decides (slice_cmp nat_cmp (take n xs) (take n ys)) (name_cmp (drop n xs) t (drop n ys) u) apart
+name_cmp_of_prefix_cmp n xs ys t u a b apart = ordering_then_of_decided (slice_cmp nat_cmp (take n xs) (take n ys)) (name_cmp (drop n xs) t (drop n ys) u) apart
     ∙ sym (steps n xs ys t u a b)
 
 -- a comparison that finds no difference is a tie
-pub tied : (o : Ordering) → is_ne o ≡ false → o ≡ Equal
-tied Less e = absurd (true≢false e)
-tied Equal e = refl
-tied Greater e = absurd (true≢false e)
+pub equal_of_test : (o : Ordering) → is_ne o ≡ false → o ≡ Equal
+equal_of_test Less e = absurd (true≢false e)
+equal_of_test Equal e = refl
+equal_of_test Greater e = absurd (true≢false e)
 
-pub not_tied : (o : Ordering) → true ≡ is_ne o → o ≢ Equal
-not_tied o e tie = true≢false (e ∙ ap is_ne tie)
+pub not_equal_of_test : (o : Ordering) → true ≡ is_ne o → o ≢ Equal
+not_equal_of_test o e tie = true≢false (e ∙ ap is_ne tie)

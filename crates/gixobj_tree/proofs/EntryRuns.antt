@@ -8,28 +8,30 @@ use Rattle.gixobj_fields.proofs.Runs.{passes_one, yields_passed}
 use Rattle.gixobj_fields.specs.Runs.{Ending, HasNoPiece, Passes, broken, complete, yields_end, yields_error, yields_piece}
 use Rattle.gixobj_hash.specs.declared.hash.kind.Kind.{Kind}
 use Rattle.gixobj_tree.specs.Entries.{EntryView}
-use Rattle.gixobj_tree.proofs.OneEntry.{one_entry, shorter}
+use Rattle.gixobj_tree.proofs.OneEntry.{entry_unique, entry_rest_len_lt}
 use Rattle.gixobj_tree.specs.TreeDecoding.{BeginsWithEntry, BeginsWithNoEntry, HasEntry, DecodesToEntry, IsMalformedTree, DecodesToTree, YieldsEntries}
 
 one_piece : (kind : Kind) (before : ⊤) (input : List ℕ) (a b : EntryView) (s t : ⊤) (x y : List ℕ) → HasEntry kind before input a s x
     → HasEntry kind before input b t y → (a ≡ b) × (s ≡ t) × (x ≡ y)
-one_piece kind before input a b s t x y first second = (let same = one_entry kind input a b x y first second in (same.0, refl, same.1))
+one_piece kind before input a b s t x y first second = (let same = entry_unique kind input a b x y first second in (same.0, refl, same.1))
 
-pub nothing_of_nothing : (kind : Kind) (before : ⊤) (input : List ℕ) (e : EntryView) (following : ⊤) (rest : List ℕ) → input ≡ []
+pub no_entry_of_nil : (kind : Kind) (before : ⊤) (input : List ℕ) (e : EntryView) (following : ⊤) (rest : List ℕ) → input ≡ []
     → HasEntry kind before input e following rest → ⊥
-nothing_of_nothing kind before input e following rest bare has = (let less = shorter kind input e rest has in omega (arith, less, ap length bare))
+no_entry_of_nil kind before input e following rest bare has = (let less = entry_rest_len_lt kind input e rest has in omega (arith, less, ap length bare))
 
-pub one_run : (kind : Kind) (input : List ℕ) (a b : List EntryView) (e f : Ending) → YieldsEntries kind input a e → YieldsEntries kind input b f → (a ≡ b)
+pub entry_run_unique : (kind : Kind) (input : List ℕ) (a b : List EntryView) (e f : Ending) → YieldsEntries kind input a e → YieldsEntries kind input b f
+    → (a ≡ b)
     × (e ≡ f)
-one_run kind input = runs.one_run (HasEntry kind) (one_piece kind) (nothing_of_nothing kind) tt input
+entry_run_unique kind input = runs.one_run (HasEntry kind) (one_piece kind) (no_entry_of_nil kind) tt input
 
 bytes_of_entry : (kind : Kind) (before : ⊤) (input : List ℕ) (e : EntryView) (following : ⊤) (rest : List ℕ) → HasEntry kind before input e following rest
     → (bytes : List ℕ) × (input ≡ bytes ++ rest) × DecodesToEntry kind e bytes
 bytes_of_entry kind before input e following rest has = has
 
 -- the input of a complete run is a tree
-pub read : (kind : Kind) (bytes : List ℕ) (entries : List EntryView) → YieldsEntries kind bytes entries complete → DecodesToTree kind bytes entries
-read kind bytes entries test_iff = runs.run_encodings (HasEntry kind) (DecodesToEntry kind) (bytes_of_entry kind) tt bytes entries test_iff
+pub decodes_to_tree_of_run : (kind : Kind) (bytes : List ℕ) (entries : List EntryView) → YieldsEntries kind bytes entries complete
+    → DecodesToTree kind bytes entries
+decodes_to_tree_of_run kind bytes entries test_iff = runs.run_encodings (HasEntry kind) (DecodesToEntry kind) (bytes_of_entry kind) tt bytes entries test_iff
 
 all_yielded : (kind : Kind) (bytes : List ℕ) (entries : List EntryView) (encodings : List (List ℕ)) → bytes ≡ concat encodings
     → AllZip (DecodesToEntry kind) entries encodings → YieldsEntries kind bytes entries complete
@@ -40,11 +42,13 @@ all_yielded kind bytes (e ∷ entries) (first ∷ encodings) joined are = yields
     (all_yielded kind (concat encodings) entries encodings refl are.1)
 
 -- the run over a tree is complete
-pub test_iff : (kind : Kind) (bytes : List ℕ) (entries : List EntryView) → DecodesToTree kind bytes entries → YieldsEntries kind bytes entries complete
-test_iff kind bytes entries (encodings, joined, are) = all_yielded kind bytes entries encodings joined are
+pub yields_entries_iff : (kind : Kind) (bytes : List ℕ) (entries : List EntryView) → DecodesToTree kind bytes entries
+    → YieldsEntries kind bytes entries complete
+yields_entries_iff kind bytes entries (encodings, joined, are) = all_yielded kind bytes entries encodings joined are
 
-pub one_tree : (kind : Kind) (bytes : List ℕ) (a b : List EntryView) → DecodesToTree kind bytes a → DecodesToTree kind bytes b → a ≡ b
-one_tree kind bytes a b first second = (one_run kind bytes a b complete complete (test_iff kind bytes a first) (test_iff kind bytes b second)).0
+pub tree_unique : (kind : Kind) (bytes : List ℕ) (a b : List EntryView) → DecodesToTree kind bytes a → DecodesToTree kind bytes b → a ≡ b
+tree_unique kind bytes a b first second = (entry_run_unique kind bytes a b complete complete (yields_entries_iff kind bytes a first)
+    (yields_entries_iff kind bytes b second)).0
 
 -- ---- entries that were decoded in order
 
@@ -52,40 +56,41 @@ one_tree kind bytes a b first second = (one_run kind bytes a b complete complete
 abbrev pub PassesEntries : Kind → List ℕ → List EntryView → List ℕ → Type 0
 PassesEntries kind input entries rest = Passes (HasEntry kind) tt input entries tt rest
 
-pub passes_none : (kind : Kind) (input : List ℕ) → PassesEntries kind input [] input
-passes_none kind input = (refl, refl)
+pub passes_entries_nil : (kind : Kind) (input : List ℕ) → PassesEntries kind input [] input
+passes_entries_nil kind input = (refl, refl)
 
-pub passes_more : (kind : Kind) (input after rest : List ℕ) (entries : List EntryView) (e : EntryView) → PassesEntries kind input entries after
+pub passes_entries_snoc : (kind : Kind) (input after rest : List ℕ) (entries : List EntryView) (e : EntryView) → PassesEntries kind input entries after
     → BeginsWithEntry kind after e rest → PassesEntries kind input (entries ++ e ∷ []) rest
-passes_more kind input after rest entries e passed has = passes_one (HasEntry kind) tt tt tt input after rest entries e passed has
+passes_entries_snoc kind input after rest entries e passed has = passes_one (HasEntry kind) tt tt tt input after rest entries e passed has
 
-pub passes_seen : {X : Type 0} (view : X → EntryView) (kind : Kind) (input after rest : List ℕ) (xs new : List X) (x : X)
+pub passes_entries_of_views : {X : Type 0} (view : X → EntryView) (kind : Kind) (input after rest : List ℕ) (xs new : List X) (x : X)
     → PassesEntries kind input (map view xs) after → BeginsWithEntry kind after (view x) rest → new ≡ xs ++ x ∷ []
     → PassesEntries kind input (map view new) rest
-passes_seen view kind input after rest xs new x passed has same =
-    rw (same, map-append view xs (x ∷ [])) (passes_more kind input after rest (map view xs) (view x) passed has)
+passes_entries_of_views view kind input after rest xs new x passed has same =
+    rw (same, map-append view xs (x ∷ [])) (passes_entries_snoc kind input after rest (map view xs) (view x) passed has)
 
 -- entries without a rest are a tree
-pub tree_read : (kind : Kind) (input rest : List ℕ) (entries : List EntryView) → rest ≡ [] → PassesEntries kind input entries rest
+pub decodes_to_tree_at_end : (kind : Kind) (input rest : List ℕ) (entries : List EntryView) → rest ≡ [] → PassesEntries kind input entries rest
     → DecodesToTree kind input entries
-tree_read kind input rest entries bare passed =
+decodes_to_tree_at_end kind input rest entries bare passed =
     let ends : YieldsEntries kind rest [] complete = rw bare (yields_end tt) in
-    read kind input entries (yields_passed (HasEntry kind) tt tt input rest entries complete passed ends)
+    decodes_to_tree_of_run kind input entries (yields_passed (HasEntry kind) tt tt input rest entries complete passed ends)
 
 no_piece : (kind : Kind) (input : List ℕ) → BeginsWithNoEntry kind input → HasNoPiece (HasEntry kind) tt input
 no_piece kind input none = λ e following rest has. none e rest has
 
 -- bytes are malformed if their rest begins with no entry
-pub no_tree : (kind : Kind) (input rest : List ℕ) (entries : List EntryView) → rest ≢ [] → BeginsWithNoEntry kind rest → PassesEntries kind input entries rest
+pub malformed_tree_of_no_entry : (kind : Kind) (input rest : List ℕ) (entries : List EntryView) → rest ≢ [] → BeginsWithNoEntry kind rest
+    → PassesEntries kind input entries rest
     → IsMalformedTree kind input
-no_tree kind input rest entries some none passed = λ others is.
+malformed_tree_of_no_entry kind input rest entries some none passed = λ others is.
     let stops : YieldsEntries kind rest [] broken = yields_error tt rest some (no_piece kind rest none) in
     let run = yields_passed (HasEntry kind) tt tt input rest entries broken passed stops in
-    let same = one_run kind input entries others broken complete run (test_iff kind input others is) in
+    let same = entry_run_unique kind input entries others broken complete run (yields_entries_iff kind input others is) in
     cc same.1
 
 -- the input begins with an entry if one was decoded
-pub an_entry : (kind : Kind) (input after rest : List ℕ) (entries : List EntryView) (e : EntryView) → PassesEntries kind input entries after
+pub first_entry_exists : (kind : Kind) (input after rest : List ℕ) (entries : List EntryView) (e : EntryView) → PassesEntries kind input entries after
     → BeginsWithEntry kind after e rest → (first : EntryView) × (following : List ℕ) × BeginsWithEntry kind input first following
-an_entry kind input after rest [] e (state, same) has = (e, rest, rw same has)
-an_entry kind input after rest (first ∷ entries) e (next, following, it, more) has = (first, following, it)
+first_entry_exists kind input after rest [] e (state, same) has = (e, rest, rw same has)
+first_entry_exists kind input after rest (first ∷ entries) e (next, following, it, more) has = (first, following, it)

@@ -44,28 +44,29 @@ later m x k n content is near =
     let P : ℕ → Type 0 = λ it. IsNearZero (suc m) (suc x ∷ content) it in
     subst P next there
 
-pub near_zero : (m : ℕ) (content : List ℕ) → 0 < zero_bits (take m content) → IsNearZero m content (before_zero (take m content))
-near_zero zero content some = absurd (omega arith)
-near_zero (suc m) [] some = absurd (omega arith)
-near_zero (suc m) (zero ∷ content) some = (omega arith, record { joined = refl; first = All-nil (λ it. it ≢ 0) })
-near_zero (suc m) (suc x ∷ content) some =
+pub is_near_zero_of_bits : (m : ℕ) (content : List ℕ) → 0 < zero_bits (take m content) → IsNearZero m content (before_zero (take m content))
+is_near_zero_of_bits zero content some = absurd (omega arith)
+is_near_zero_of_bits (suc m) [] some = absurd (omega arith)
+is_near_zero_of_bits (suc m) (zero ∷ content) some = (omega arith, record { joined = refl; first = All-nil (λ it. it ≢ 0) })
+is_near_zero_of_bits (suc m) (suc x ∷ content) some =
     later m x (before_zero (take m content)) (before_zero (take (suc m) (suc x ∷ content))) content (before_later x (take m content))
-    (near_zero m content (omega (arith, some, bits_later x (take m content))))
+    (is_near_zero_of_bits m content (omega (arith, some, bits_later x (take m content))))
 
-pub no_near_zero : (bytes : List ℕ) → zero_bits bytes ≡ 0 → IsByteFree 0 bytes
-no_near_zero [] none = All-nil (λ it. it ≢ 0)
-no_near_zero (zero ∷ bytes) none = absurd (omega arith)
-no_near_zero (suc x ∷ bytes) none = All-cons (λ it. it ≢ 0) (suc x) bytes (filled x) (no_near_zero bytes (omega (arith, none, bits_later x bytes)))
+pub byte_free_of_no_bits : (bytes : List ℕ) → zero_bits bytes ≡ 0 → IsByteFree 0 bytes
+byte_free_of_no_bits [] none = All-nil (λ it. it ≢ 0)
+byte_free_of_no_bits (zero ∷ bytes) none = absurd (omega arith)
+byte_free_of_no_bits (suc x ∷ bytes) none = All-cons (λ it. it ≢ 0) (suc x) bytes (filled x)
+    (byte_free_of_no_bits bytes (omega (arith, none, bits_later x bytes)))
 
 -- a mask other than zero has a bit
-pub some_bit : (m n : ℕ) → m ≡ n → (m ≡ 0 → ⊥) → 0 < n
-some_bit m zero same some = absurd (some same)
-some_bit m (suc n) same some = omega arith
+pub len_pos_of_bit : (m n : ℕ) → m ≡ n → (m ≡ 0 → ⊥) → 0 < n
+len_pos_of_bit m zero same some = absurd (some same)
+len_pos_of_bit m (suc n) same some = omega arith
 
-pub found : (content : List ℕ) (at : ℕ) → 0 < zero_bits (take 32 content) → at ≡ before_zero (take 32 content) → (at < 32)
+pub splits_at_zero_within_block : (content : List ℕ) (at : ℕ) → 0 < zero_bits (take 32 content) → at ≡ before_zero (take 32 content) → (at < 32)
     × SplitsAt 0 content (take at content) (drop (at + 1) content)
-found content at some is =
-    let near : IsNearZero 32 content (before_zero (take 32 content)) = near_zero 32 content some in
+splits_at_zero_within_block content at some is =
+    let near : IsNearZero 32 content (before_zero (take 32 content)) = is_near_zero_of_bits 32 content some in
     let P : ℕ → Type 0 = λ it. IsNearZero 32 content it in
     let here : IsNearZero 32 content at = subst P (sym is) near in
     rw (add-one at) here

@@ -8,9 +8,9 @@ use Rattle.gixobj_hash.specs.declared.hash.kind.Kind.{Kind}
 use Rattle.gixobj_hash.specs.declared.hash.kind.Kind.TheVariants as hash
 use Rattle.gixobj_hash.specs.declared.hash.object_id.ObjectId.{ObjectId}
 use Rattle.gixobj_hash.specs.declared.hash.object_id.ObjectId.TheVariants as id
-use Rattle.gixobj_hash.proofs.Splits.{free_of_split, one_cut}
+use Rattle.gixobj_hash.proofs.Splits.{no_split_of_byte_free, split_parts_unique}
 use Rattle.gixobj_hash.specs.ByteStrings.{IsByteFree, SplitsAt}
-use Rattle.gixobj_mode.proofs.EncodedModes.{octal_free, one_ending}
+use Rattle.gixobj_mode.proofs.EncodedModes.{octal_digits_space_free, split_at_space_unique}
 use Rattle.gixobj_tree.specs.Entries.{EntryView, entry_of}
 use Rattle.gixobj_mode.specs.Mode.{BeginsWithMode, HasSixDigits, DecodesToMode, mode_of_digits}
 use Rattle.gixobj_tree.specs.TreeDecoding.{BeginsWithEntry, BeginsWithId, BeginsWithNoEntry, IsIdOf}
@@ -71,8 +71,8 @@ six_of content rest digits len six = λ is other.
     let at_five : get_or (content ++ rest) 5 0 ≡ get_or content 5 0 = get_or_append_left content rest 0 5 (omega (arith, len)) in
     six (at_six ∙ is) (λ five. other (sym at_five ∙ five))
 
-pub parted : (kind : Kind) (input : List ℕ) (e : EntryView) (rest : List ℕ) → BeginsWithEntry kind input e rest → Parted kind input e rest
-parted kind input e rest (content, joined, is) =
+pub parted_of_begins : (kind : Kind) (input : List ℕ) (e : EntryView) (rest : List ℕ) → BeginsWithEntry kind input e rest → Parted kind input e rest
+parted_of_begins kind input e rest (content, joined, is) =
     let len : 22 ≤ length content = rw (is.joined) (encoded_len is.digits e.name (id_bytes e.id) (id_len kind e.id is.id)) in
     record {
       digits = is.digits;
@@ -83,8 +83,8 @@ parted kind input e rest (content, joined, is) =
       id = is.id;
     }
 
-pub begins : (kind : Kind) (input : List ℕ) (e : EntryView) (rest : List ℕ) → Parted kind input e rest → BeginsWithEntry kind input e rest
-begins kind input e rest p =
+pub begins_of_parted : (kind : Kind) (input : List ℕ) (e : EntryView) (rest : List ℕ) → Parted kind input e rest → BeginsWithEntry kind input e rest
+begins_of_parted kind input e rest p =
     let content = p.digits ++ 32 ∷ (e.name ++ 0 ∷ id_bytes e.id) in
     let entire : input ≡ content ++ rest = p.joined ∙ sym (regroup p.digits e.name (id_bytes e.id) rest) in
     let len = encoded_len p.digits e.name (id_bytes e.id) (id_len kind e.id p.id) in
@@ -103,13 +103,14 @@ begins kind input e rest p =
 
 -- ---- one entry
 
-pub one_entry : (kind : Kind) (input : List ℕ) (a b : EntryView) (x y : List ℕ) → BeginsWithEntry kind input a x → BeginsWithEntry kind input b y → (a ≡ b)
+pub entry_unique : (kind : Kind) (input : List ℕ) (a b : EntryView) (x y : List ℕ) → BeginsWithEntry kind input a x → BeginsWithEntry kind input b y → (a ≡ b)
     × (x ≡ y)
-one_entry kind input a b x y first second =
-    let p = parted kind input a x first in
-    let q = parted kind input b y second in
-    let cut = one_cut 32 p.digits _ q.digits _ (octal_free p.digits p.mode.octal) (octal_free q.digits q.mode.octal) (sym p.joined ∙ q.joined) in
-    let named = one_cut 0 a.name _ b.name _ p.name q.name cut.1 in
+entry_unique kind input a b x y first second =
+    let p = parted_of_begins kind input a x first in
+    let q = parted_of_begins kind input b y second in
+    let cut = split_parts_unique 32 p.digits _ q.digits _ (octal_digits_space_free p.digits p.mode.octal) (octal_digits_space_free q.digits q.mode.octal)
+        (sym p.joined ∙ q.joined) in
+    let named = split_parts_unique 0 a.name _ b.name _ p.name q.name cut.1 in
     let lengths : length (id_bytes a.id) ≡ length (id_bytes b.id) = p.id.1 ∙ sym q.id.1 in
     let ids = same_prefixes (id_bytes a.id) x (id_bytes b.id) y lengths named.1 in
     let modes : a.mode ≡ b.mode = p.mode.value ∙ ap mode_of_digits cut.0 ∙ sym q.mode.value in
@@ -121,8 +122,8 @@ one_entry kind input a b x y first second =
 
 -- ---- results of the decoder
 
-pub shorter : (kind : Kind) (input : List ℕ) (e : EntryView) (rest : List ℕ) → BeginsWithEntry kind input e rest → length rest < length input
-shorter kind input e rest (content, joined, is) =
+pub entry_rest_len_lt : (kind : Kind) (input : List ℕ) (e : EntryView) (rest : List ℕ) → BeginsWithEntry kind input e rest → length rest < length input
+entry_rest_len_lt kind input e rest (content, joined, is) =
     let len : 22 ≤ length content = rw (is.joined) (encoded_len is.digits e.name (id_bytes e.id) (id_len kind e.id is.id)) in
     omega (arith, len, ap length joined, length-append content rest)
 
@@ -132,7 +133,7 @@ pub entry_of_parts : (kind : Kind) (input after from_name name from_id rest : Li
     → BeginsWithId kind from_id it rest → BeginsWithEntry kind input (entry_of mode name it) rest
 entry_of_parts kind input after from_name name from_id rest mode it begun spaced split has =
     let tail : from_name ≡ name ++ 0 ∷ (id_bytes it ++ rest) = split.joined ∙ ap (λ (more : List ℕ). name ++ 0 ∷ more) has.0 in
-    begins kind input (entry_of mode name it) rest (record {
+    begins_of_parted kind input (entry_of mode name it) rest (record {
       digits = begun.digits;
       joined = begun.joined ∙ ap (λ (more : List ℕ). begun.digits ++ more) (spaced ∙ ap (λ (more : List ℕ). 32 ∷ more) tail);
       mode = begun.decodes;
@@ -142,9 +143,9 @@ entry_of_parts kind input after from_name name from_id rest mode it begun spaced
     })
 
 -- an input that does not begin with a mode does not begin with an entry
-pub no_mode : (kind : Kind) (input : List ℕ) → ((mode : ℕ) (rest : List ℕ) → BeginsWithMode input mode rest → ⊥) → BeginsWithNoEntry kind input
-no_mode kind input none = λ e rest has.
-    let p = parted kind input e rest has in
+pub no_entry_without_mode : (kind : Kind) (input : List ℕ) → ((mode : ℕ) (rest : List ℕ) → BeginsWithMode input mode rest → ⊥) → BeginsWithNoEntry kind input
+no_entry_without_mode kind input none = λ e rest has.
+    let p = parted_of_begins kind input e rest has in
     none e.mode (32 ∷ (e.name ++ 0 ∷ (id_bytes e.id ++ rest))) (mode_read kind input e rest p)
   where
     filled : (digits tail : List ℕ) → digits ++ 32 ∷ tail ≢ []
@@ -167,16 +168,16 @@ no_mode kind input none = λ e rest has.
 after_mode : (kind : Kind) (input after : List ℕ) (mode : ℕ) (e : EntryView) (rest : List ℕ) → BeginsWithMode input mode after → Parted kind input e rest
     → after ≡ 32 ∷ (e.name ++ 0 ∷ (id_bytes e.id ++ rest))
 after_mode kind input after mode e rest begun p =
-    (one_ending begun.digits after p.digits (32 ∷ (e.name ++ 0 ∷ (id_bytes e.id ++ rest))) (octal_free begun.digits begun.decodes.octal)
-    (octal_free p.digits p.mode.octal) begun.ends refl (sym begun.joined ∙ p.joined)).1
+    (split_at_space_unique begun.digits after p.digits (32 ∷ (e.name ++ 0 ∷ (id_bytes e.id ++ rest))) (octal_digits_space_free begun.digits begun.decodes.octal)
+    (octal_digits_space_free p.digits p.mode.octal) begun.ends refl (sym begun.joined ∙ p.joined)).1
 
 no_space_there : (tail : List ℕ) → EndsHeader (32 ∷ tail) → ⊥
 no_space_there tail ends = ends refl
 
-pub no_space : (kind : Kind) (input after : List ℕ) (mode : ℕ) → BeginsWithMode input mode after → EndsHeader after → BeginsWithNoEntry kind input
-no_space kind input after mode begun ends = λ e rest has.
+pub no_entry_without_space : (kind : Kind) (input after : List ℕ) (mode : ℕ) → BeginsWithMode input mode after → EndsHeader after → BeginsWithNoEntry kind input
+no_entry_without_space kind input after mode begun ends = λ e rest has.
     no_space_there (e.name ++ 0 ∷ (id_bytes e.id ++ rest))
-    (subst EndsHeader (after_mode kind input after mode e rest begun (parted kind input e rest has)) ends)
+    (subst EndsHeader (after_mode kind input after mode e rest begun (parted_of_begins kind input e rest has)) ends)
 
 -- the name, a zero byte, the id and the rest follow the space
 from_name_on : (kind : Kind) (input after from_name : List ℕ) (mode : ℕ) (e : EntryView) (rest : List ℕ) → BeginsWithMode input mode after
@@ -186,17 +187,18 @@ from_name_on kind input after from_name mode e rest begun spaced p =
     let same : 32 ∷ from_name ≡ 32 ∷ (e.name ++ 0 ∷ (id_bytes e.id ++ rest)) = sym spaced ∙ after_mode kind input after mode e rest begun p in
     cc same
 
-pub no_name : (kind : Kind) (input after from_name : List ℕ) (mode : ℕ) → BeginsWithMode input mode after → after ≡ 32 ∷ from_name → IsByteFree 0 from_name
+pub no_entry_without_name : (kind : Kind) (input after from_name : List ℕ) (mode : ℕ) → BeginsWithMode input mode after → after ≡ 32 ∷ from_name
+    → IsByteFree 0 from_name
     → BeginsWithNoEntry kind input
-no_name kind input after from_name mode begun spaced free = λ e rest has.
-    let same = from_name_on kind input after from_name mode e rest begun spaced (parted kind input e rest has) in
-    free_of_split 0 e.name (id_bytes e.id ++ rest) (subst (IsByteFree 0) same free)
+no_entry_without_name kind input after from_name mode begun spaced free = λ e rest has.
+    let same = from_name_on kind input after from_name mode e rest begun spaced (parted_of_begins kind input e rest has) in
+    no_split_of_byte_free 0 e.name (id_bytes e.id ++ rest) (subst (IsByteFree 0) same free)
 
-pub no_id : (kind : Kind) (input after from_name name from_id : List ℕ) (mode : ℕ) → BeginsWithMode input mode after → after ≡ 32 ∷ from_name
+pub no_entry_without_id : (kind : Kind) (input after from_name name from_id : List ℕ) (mode : ℕ) → BeginsWithMode input mode after → after ≡ 32 ∷ from_name
     → SplitsAt 0 from_name name from_id → length from_id < hash_len kind
     → BeginsWithNoEntry kind input
-no_id kind input after from_name name from_id mode begun spaced split short = λ e rest has.
-    let p = parted kind input e rest has in
+no_entry_without_id kind input after from_name name from_id mode begun spaced split short = λ e rest has.
+    let p = parted_of_begins kind input e rest has in
     let same = from_name_on kind input after from_name mode e rest begun spaced p in
-    let cut = one_cut 0 name from_id e.name (id_bytes e.id ++ rest) split.first p.name (sym split.joined ∙ same) in
+    let cut = split_parts_unique 0 name from_id e.name (id_bytes e.id ++ rest) split.first p.name (sym split.joined ∙ same) in
     omega (arith, short, p.id.1, ap length cut.1, length-append (id_bytes e.id) rest)

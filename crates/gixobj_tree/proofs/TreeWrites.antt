@@ -13,54 +13,54 @@ use Rattle.gixobj_fields.specs.declared.encode.Error.{Error}
 use Rattle.gixobj_fields.specs.declared.encode.Error.TheVariants.{OutOfMemory}
 use Rattle.gixobj_hash.specs.Hash.{id_bytes}
 use Rattle.gixobj_mode.specs.Mode.{encode_mode}
-use Rattle.gixobj_fields.proofs.Appends.{prefix_first, prefix_more, more_appended}
+use Rattle.gixobj_fields.proofs.Appends.{appends_prefix_first, appends_prefix_append, appends_all_append}
 use Rattle.gixobj_fields.proofs.Errors.{writing_error_within}
 
 -- no name has a zero byte
 abbrev pub AreFree : List EntryView → Type 0
 AreFree entries = All (λ e. IsByteFree 0 e.name) entries
 
-pub bytes_more : (items : List EntryView) (i : ℕ) (e : EntryView) → i < length items → e ≡ get_or items i e
+pub encode_tree_take_succ : (items : List EntryView) (i : ℕ) (e : EntryView) → i < length items → e ≡ get_or items i e
     → encode_tree (take (i + 1) items) ≡ encode_tree
     (take i items) ++ encode_entry e
-bytes_more items i e h is =
+encode_tree_take_succ items i e h is =
     rw (take_more items i e h, ← is) (flat_map-append encode_entry (take i items) (e ∷ []) ∙ ap (λ (xs : List ℕ). encode_tree (take i items) ++ xs)
     (append-nil (encode_entry e)))
 
-pub free_more : (items : List EntryView) (i : ℕ) (e : EntryView) → i < length items → e ≡ get_or items i e → AreFree (take i items)
+pub are_free_take_succ : (items : List EntryView) (i : ℕ) (e : EntryView) → i < length items → e ≡ get_or items i e → AreFree (take i items)
     → IsByteFree 0 e.name
     → AreFree (take (i + 1) items)
-free_more items i e h is head one = rw (take_more items i e h, ← is) (All-push (λ (x : EntryView). IsByteFree 0 x.name) (take i items) e head one)
+are_free_take_succ items i e h is head one = rw (take_more items i e h, ← is) (All-push (λ (x : EntryView). IsByteFree 0 x.name) (take i items) e head one)
 
-pub cut_at : (items : List EntryView) (i : ℕ) (e : EntryView) → i < length items → e ≡ get_or items i e
+pub take_cons_drop : (items : List EntryView) (i : ℕ) (e : EntryView) → i < length items → e ≡ get_or items i e
     → items ≡ take i items ++ e ∷ drop (i + 1) items
-cut_at items i e h is =
+take_cons_drop items i e h is =
     let rest : drop i items ≡ e ∷ drop (i + 1) items = drop_more items i e h ∙ ap (λ (x : EntryView). x ∷ drop (i + 1) items) (sym is) in
     sym (take-append-drop i items) ∙ ap (λ (xs : List EntryView). take i items ++ xs) rest
 
 bytes_at : (items : List EntryView) (i : ℕ) (e : EntryView) → i < length items → e ≡ get_or items i e
     → encode_tree items ≡ encode_tree (take i items) ++ (encode_entry e ++ encode_tree (drop (i + 1) items))
-bytes_at items i e h is = ap encode_tree (cut_at items i e h is) ∙ flat_map-append encode_entry (take i items) (e ∷ drop (i + 1) items)
+bytes_at items i e h is = ap encode_tree (take_cons_drop items i e h is) ∙ flat_map-append encode_entry (take i items) (e ∷ drop (i + 1) items)
 
-pub none_rejected : (items : List EntryView) (value : RejectedValue) (parts : List ℕ) → AreFree items → IsTreeEncodeError items value parts → ⊥
-none_rejected items value parts free r =
+pub no_error_of_written_tree : (items : List EntryView) (value : RejectedValue) (parts : List ℕ) → AreFree items → IsTreeEncodeError items value parts → ⊥
+no_error_of_written_tree items value parts free r =
     let has : Contains items r.entry =
     rw (r.joined) (Contains-append_right r.prefix (r.entry ∷ r.back) r.entry (Contains-get_or (r.entry ∷ r.back) 0 r.entry (omega arith))) in
     All-contains (λ (it : ℕ). it ≡ 0 → ⊥) r.entry.name 0 (All-contains (λ (x : EntryView). IsByteFree 0 x.name) items r.entry free has)
     r.error_state.0 refl
 
 -- a tree is encodable if all its entries are written
-pub nothing_rejected : (items all : List EntryView) (i : ℕ) → items ≡ all → length items ≤ i → AreFree (take i items)
+pub no_error_of_free_tree : (items all : List EntryView) (i : ℕ) → items ≡ all → length items ≤ i → AreFree (take i items)
     → (value : RejectedValue) (parts : List ℕ)
     → IsTreeEncodeError all value parts → ⊥
-nothing_rejected items all i same h free value parts r = none_rejected items value parts (rw (← take_all i items h) free) (rw same r)
+no_error_of_free_tree items all i same h free value parts r = no_error_of_written_tree items value parts (rw (← take_all i items h) free) (rw same r)
 
 -- the error of an entry after accepted entries is an error of the tree
-pub rejected_at : (a b c : SinkView) (items : List EntryView) (i : ℕ) (e : EntryView) → i < length items → e ≡ get_or items i e
+pub writing_error_at_entry : (a b c : SinkView) (items : List EntryView) (i : ℕ) (e : EntryView) → i < length items → e ≡ get_or items i e
     → AppendsAll a b (encode_tree (take i items)) → AreFree (take i items) → (why : Error)
     → IsWritingError (IsEntryEncodeError e) b c (encode_entry e) why
     → IsWritingError (IsTreeEncodeError items) a c (encode_tree items) why
-rejected_at a b c items i e h is write_bytes free why says =
+writing_error_at_entry a b c items i e h is write_bytes free why says =
     rw (bytes_at items i e h is) (writing_error_within (IsEntryEncodeError e) (IsTreeEncodeError items) a b c (encode_tree (take i items))
     (encode_entry e)
     (encode_tree (drop (i + 1) items)) write_bytes
@@ -69,7 +69,7 @@ rejected_at a b c items i e h is write_bytes free why says =
       entry = e;
       back = drop (i + 1) items;
       begun = parts;
-      joined = cut_at items i e h is;
+      joined = take_cons_drop items i e h is;
       free = free;
       error_state = r;
       written = refl;
@@ -83,16 +83,16 @@ prefix_shorter items n =
     omega (arith, ap length e, length-append (encode_tree (take n items)) (encode_tree (drop n items)))
 
 -- a tree is too long if its first entries are
-pub too_long : (items all : List EntryView) (i : ℕ) (e : EntryView) (n : ℕ) → items ≡ all → i < length items → e ≡ get_or items i e
+pub no_overflow_of_tree : (items all : List EntryView) (i : ℕ) (e : EntryView) (n : ℕ) → items ≡ all → i < length items → e ≡ get_or items i e
     → n ≡ length (encode_tree (take i items))
     → (n + length (encode_entry e) < 2 ^ 64 → ⊥) → length (encode_tree all) < 2 ^ 64 → ⊥
-too_long items all i e n same h is len over short =
+no_overflow_of_tree items all i e n same h is len over short =
     over (omega (
       arith,
       short,
       len,
       ap length (ap encode_tree same),
-      ap length (bytes_more items i e h is),
+      ap length (encode_tree_take_succ items i e h is),
       length-append (encode_tree (take i items))
           (encode_entry e),
       prefix_shorter items (i + 1),
@@ -111,34 +111,34 @@ entry_len e = omega (
   length-append (encode_mode e.mode) e.name,
 )
 
-pub size_step : (items : List EntryView) (i : ℕ) (e : EntryView) (size more longer one : ℕ) → i < length items → e ≡ get_or items i e
+pub tree_len_take_succ : (items : List EntryView) (i : ℕ) (e : EntryView) (size more longer one : ℕ) → i < length items → e ≡ get_or items i e
     → with_ids size i longer ≡ length (encode_tree (take i items))
     → more ≡ size + length (encode_mode_and_name e) → length (id_bytes e.id) ≡ 20 + 12 * one → with_ids more (i + 1) (longer + one) ≡ length
     (encode_tree (take (i + 1) items))
-size_step items i e size more longer one h is so_far write_bytes len =
+tree_len_take_succ items i e size more longer one h is so_far write_bytes len =
     omega (
       arith,
       so_far,
       write_bytes,
       entry_len e,
       len,
-      ap length (bytes_more items i e h is),
+      ap length (encode_tree_take_succ items i e h is),
       length-append (encode_tree (take i items))
           (encode_entry e),
     )
 
 -- a tree is too long if the modes and the names of its first entries are
-pub size_past : (items all : List EntryView) (i : ℕ) (e : EntryView) (size longer : ℕ) → items ≡ all → i < length items → e ≡ get_or items i e
+pub no_overflow_of_size : (items all : List EntryView) (i : ℕ) (e : EntryView) (size longer : ℕ) → items ≡ all → i < length items → e ≡ get_or items i e
     → with_ids size i longer ≡ length (encode_tree (take i items))
     → (size + length (encode_mode_and_name e) < 2 ^ 64 → ⊥) → length (encode_tree all) < 2 ^ 64 → ⊥
-size_past items all i e size longer same h is so_far over short =
+no_overflow_of_size items all i e size longer same h is so_far over short =
     over (omega (
       arith,
       short,
       so_far,
       entry_len e,
       ap length (ap encode_tree same),
-      ap length (bytes_more items i e h is),
+      ap length (encode_tree_take_succ items i e h is),
       length-append
           (encode_tree (take i items)) (encode_entry e),
       prefix_shorter items (i + 1),
@@ -147,22 +147,23 @@ size_past items all i e size longer same h is so_far over short =
 -- ---- an entry
 
 -- a proper prefix of the mode and the space is one of the entry
-pub mode_prefix : (a b : SinkView) (e : EntryView) → AppendsPrefix a b (before_name e) → AppendsPrefix a b (encode_entry e)
-mode_prefix a b e part = prefix_first a b (before_name e ++ e.name) (0 ∷ id_bytes e.id) (prefix_first a b (before_name e) e.name part)
+pub appends_prefix_of_mode : (a b : SinkView) (e : EntryView) → AppendsPrefix a b (before_name e) → AppendsPrefix a b (encode_entry e)
+appends_prefix_of_mode a b e part = appends_prefix_first a b (before_name e ++ e.name) (0 ∷ id_bytes e.id)
+    (appends_prefix_first a b (before_name e) e.name part)
 
 -- the mode, the space and a proper prefix of the name and the id are a proper prefix of the entry
-pub entry_prefix : (a b c : SinkView) (e : EntryView) → AppendsAll a b (before_name e) → AppendsPrefix b c (e.name ++ 0 ∷ id_bytes e.id)
+pub appends_prefix_of_entry : (a b c : SinkView) (e : EntryView) → AppendsAll a b (before_name e) → AppendsPrefix b c (e.name ++ 0 ∷ id_bytes e.id)
     → AppendsPrefix a c (encode_entry e)
-entry_prefix a b c e write_bytes part = rw (append_assoc (before_name e) e.name (0 ∷ id_bytes e.id))
-    (prefix_more a b c (before_name e) (e.name ++ 0 ∷ id_bytes e.id) write_bytes part)
+appends_prefix_of_entry a b c e write_bytes part = rw (append_assoc (before_name e) e.name (0 ∷ id_bytes e.id))
+    (appends_prefix_append a b c (before_name e) (e.name ++ 0 ∷ id_bytes e.id) write_bytes part)
 
 -- the mode and the space, and then the name and the id, are the entry
-pub entry_appended : (a b c : SinkView) (e : EntryView) → AppendsAll a b (before_name e) → AppendsAll b c (e.name ++ 0 ∷ id_bytes e.id)
+pub appends_all_of_entry : (a b c : SinkView) (e : EntryView) → AppendsAll a b (before_name e) → AppendsAll b c (e.name ++ 0 ∷ id_bytes e.id)
     → AppendsAll a c (encode_entry e)
-entry_appended a b c e write_bytes more = rw (append_assoc (before_name e) e.name (0 ∷ id_bytes e.id))
-    (more_appended a b c (before_name e) (e.name ++ 0 ∷ id_bytes e.id) write_bytes more)
+appends_all_of_entry a b c e write_bytes more = rw (append_assoc (before_name e) e.name (0 ∷ id_bytes e.id))
+    (appends_all_append a b c (before_name e) (e.name ++ 0 ∷ id_bytes e.id) write_bytes more)
 
 -- the copy of a name with a zero byte failed to allocate
-pub no_copy : (a b : SinkView) (e : EntryView) → Contains e.name 0 → AppendsAll a b (before_name e)
+pub entry_error_of_copy : (a b : SinkView) (e : EntryView) → Contains e.name 0 → AppendsAll a b (before_name e)
     → IsWritingError (IsEntryEncodeError e) a b (encode_entry e) OutOfMemory
-no_copy a b e has write_bytes = (e.name, inr (before_name e, (has, refl, refl), write_bytes))
+entry_error_of_copy a b e has write_bytes = (e.name, inr (before_name e, (has, refl, refl), write_bytes))

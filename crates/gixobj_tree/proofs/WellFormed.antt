@@ -42,13 +42,13 @@ module _ {X : Type 0} (R : X → X → Type 0) where
       let far : All (R x) zs = All-weaker (R y) (R x) (λ z h. trans x y z next h) zs (All-from_recursion (R y) zs rest.0) in
       ((next, recursion_from_All (R x) zs far), rest)
 
-pub comes_trans : (x y z : EntryView) → ComesBefore x y → ComesBefore y z → ComesBefore x z
-comes_trans x y z = nat_list_cmp_total.trans (entry_key x) (entry_key y) (entry_key z)
+pub comes_before_trans : (x y z : EntryView) → ComesBefore x y → ComesBefore y z → ComesBefore x z
+comes_before_trans x y z = nat_list_cmp_total.trans (entry_key x) (entry_key y) (entry_key z)
 
 -- a decision is true if and only if its statement holds
-pub test_iff : (b : Bool) (P : Type 0) → MatchBool b P (P → ⊥) → (b ≡ true → P) × (P → b ≡ true)
-test_iff true P h = (λ e. h, λ p. refl)
-test_iff false P h = (λ e. absurd (true≢false (sym e)), λ p. absurd (h p))
+pub iff_of_test : (b : Bool) (P : Type 0) → MatchBool b P (P → ⊥) → (b ≡ true → P) × (P → b ≡ true)
+iff_of_test true P h = (λ e. h, λ p. refl)
+iff_of_test false P h = (λ e. absurd (true≢false (sym e)), λ p. absurd (h p))
 
 less : (o : Ordering) → true ≡ is_lt o → o ≡ Less
 less Less e = refl
@@ -61,19 +61,19 @@ not_less Equal e = λ q. absurd (true≢false (ap is_lt (sym q)))
 not_less Greater e = λ q. absurd (true≢false (ap is_lt (sym q)))
 
 -- the result of `is_sorted_by` decides whether the keys ascend
-pub ascending : (entries : List EntryView) (b : Bool)
+pub each_later_of_test : (entries : List EntryView) (b : Bool)
     → IsAllAdjacentAnswer (λ x y t. t ≡ is_lt (slice_cmp nat_cmp (entry_key x) (entry_key y))) entries b
     → MatchBool b (EachLater ComesBefore entries) (EachLater ComesBefore entries → ⊥)
-ascending entries true h = later_from_next ComesBefore comes_trans entries (λ k d l. less _ (h k d l))
-ascending [] false h = absurd (omega (arith, h.1))
-ascending (e ∷ es) false h = λ up. not_less _ (h.2 e) (later_at ComesBefore (e ∷ es) up h.0 (h.0 + 1) e (omega arith) h.1)
+each_later_of_test entries true h = later_from_next ComesBefore comes_before_trans entries (λ k d l. less _ (h k d l))
+each_later_of_test [] false h = absurd (omega (arith, h.1))
+each_later_of_test (e ∷ es) false h = λ up. not_less _ (h.2 e) (later_at ComesBefore (e ∷ es) up h.0 (h.0 + 1) e (omega arith) h.1)
 
 -- the binary search: keys that tie are equal
-pub same_key : (xs ys : List ℕ) → slice_cmp nat_cmp xs ys ≡ Equal → xs ≡ ys
-same_key xs ys e = (bytes_decides xs ys).0 (texts_ties xs ys ∙ ap is_eq e)
+pub eq_of_slice_cmp_equal : (xs ys : List ℕ) → slice_cmp nat_cmp xs ys ≡ Equal → xs ≡ ys
+eq_of_slice_cmp_equal xs ys e = (bytes_decides xs ys).0 (texts_ties xs ys ∙ ap is_eq e)
 
-pub tied : (xs ys : List ℕ) → xs ≡ ys → slice_cmp nat_cmp xs ys ≡ Equal
-tied xs ys e = rw e (tied_itself nat_list_cmp_total ys)
+pub slice_cmp_equal_of_eq : (xs ys : List ℕ) → xs ≡ ys → slice_cmp nat_cmp xs ys ≡ Equal
+slice_cmp_equal_of_eq xs ys e = rw e (tied_itself nat_list_cmp_total ys)
 
 after : (x y : EntryView) → ComesBefore x y → is_lt (slice_cmp nat_cmp (entry_key y) (entry_key x)) ≡ false
 after x y h = ap is_lt (nat_list_cmp_total.antisymm (entry_key y) (entry_key x) ∙ ap ordering_reverse h)
@@ -92,25 +92,25 @@ beyond o e q = absurd (true≢false (ap is_eq (sym q ∙ e)))
 at_key : (entries : List EntryView) (key : List ℕ) (i : ℕ) → i < length entries → HoldsAt (λ e. slice_cmp nat_cmp (entry_key e) key ≡ Equal) entries i
     → HasKey entries key
 at_key [] key i l h = absurd (omega arith)
-at_key (e ∷ es) key i l h = (get_or (e ∷ es) i e, Contains-get_or (e ∷ es) i e l, same_key _ _ (h e))
+at_key (e ∷ es) key i l h = (get_or (e ∷ es) i e, Contains-get_or (e ∷ es) i e l, eq_of_slice_cmp_equal _ _ (h e))
 
 nowhere : (entries : List EntryView) (key : List ℕ) (i : ℕ) → IsPartitionPoint (λ e. slice_cmp nat_cmp (entry_key e) key ≡ Less)
     (λ e. slice_cmp nat_cmp (entry_key e) key ≡ Greater) entries i → HasKey entries key → ⊥
 nowhere entries key i split has =
     let there = has.1 in
-    let same : slice_cmp nat_cmp (entry_key (get_or entries there.0 has.0)) key ≡ Equal = tied _ _ (ap entry_key there.2 ∙ has.2) in
+    let same : slice_cmp nat_cmp (entry_key (get_or entries there.0 has.0)) key ≡ Equal = slice_cmp_equal_of_eq _ _ (ap entry_key there.2 ∙ has.2) in
     elim (leb_tells i there.0) [
       | inl following ↦ beyond _ (split.1 there.0 has.0 following.1 there.1) same
       | inr before ↦ outside _ (split.0 there.0 has.0 (omega arith) before.1) same
     ]
 
-pub found : (entries : List EntryView) (key : List ℕ) (r : Result ℕ ℕ) (b : Bool) → b ≡ is_ok r → EachLater ComesBefore entries
+pub has_key_of_test : (entries : List EntryView) (key : List ℕ) (r : Result ℕ ℕ) (b : Bool) → b ≡ is_ok r → EachLater ComesBefore entries
     → IsSearchInRange r (length entries)
     → IsBinarySearchResult (λ e. slice_cmp nat_cmp (entry_key e) key) entries r → MatchBool b (HasKey entries key) (HasKey entries key → ⊥)
-found entries key (Ok i) true e up range h = at_key entries key i range h
-found entries key (Ok i) false e up range h = absurd (true≢false (sym e))
-found entries key (Err i) true e up range h = absurd (true≢false e)
-found entries key (Err i) false e up range h =
+has_key_of_test entries key (Ok i) true e up range h = at_key entries key i range h
+has_key_of_test entries key (Ok i) false e up range h = absurd (true≢false (sym e))
+has_key_of_test entries key (Err i) true e up range h = absurd (true≢false e)
+has_key_of_test entries key (Err i) false e up range h =
     nowhere entries key i (h (searchable_from_sorted nat_list_cmp_total entry_key entries key (sorted entries up)))
 
 -- entries of one name
@@ -118,7 +118,7 @@ key_at : (e : EntryView) (is_tree : Bool) → is_tree_mode e.mode ≡ is_tree �
 key_at e is_tree kind = ap (key_of e.name) kind
 
 not_before : (x y : EntryView) → is_tree_mode x.mode ≡ is_tree_mode y.mode → x.name ≡ y.name → ComesBefore x y → ⊥
-not_before x y kinds names before = outside _ before (tied _ _ (ap (key_of x.name) kinds ∙ ap (λ n. key_of n (is_tree_mode y.mode)) names))
+not_before x y kinds names before = outside _ before (slice_cmp_equal_of_eq _ _ (ap (key_of x.name) kinds ∙ ap (λ n. key_of n (is_tree_mode y.mode)) names))
 
 namesakes : (entries : List EntryView) (x y : EntryView) (t u : Bool) → is_tree_mode x.mode ≡ t → is_tree_mode y.mode ≡ u → x.name ≡ y.name
     → ComesBefore x y
@@ -141,8 +141,8 @@ none_apart entries up none =
       | inr h ↦ none j d (omega arith) high h
     ])
 
-pub slash_ends : (name : List ℕ) → IsByteFree 47 (name ++ 47 ∷ []) → ⊥
-slash_ends name free = All-contains (λ it. it ≢ 47) (name ++ 47 ∷ []) 47 free (Contains-push name 47) refl
+pub no_slash_at_end : (name : List ℕ) → IsByteFree 47 (name ++ 47 ∷ []) → ⊥
+no_slash_at_end name free = All-contains (λ it. it ≢ 47) (name ++ 47 ∷ []) 47 free (Contains-push name 47) refl
 
 kinds_differ : (x y : EntryView) → is_tree_mode x.mode ≡ true → is_tree_mode y.mode ≡ false → x ≢ y
 kinds_differ x y p q e = true≢false (sym p ∙ ap (λ (v : EntryView). is_tree_mode v.mode) e ∙ q)
@@ -160,7 +160,7 @@ together : (entries : List EntryView) → AreApart entries → (tree other : Ent
     → IsEntryName tree.name
     → Contains entries tree → Contains entries other → entry_key other ≡ tree.name → ⊥
 together entries apart tree other true kind is name at_tree at_other same =
-    slash_ends other.name (subst (IsByteFree 47) (sym same ∙ key_at other true kind) name.one_name)
+    no_slash_at_end other.name (subst (IsByteFree 47) (sym same ∙ key_at other true kind) name.one_name)
 together entries apart tree other false kind is name at_tree at_other same =
     let names : other.name ≡ tree.name = sym (key_at other false kind) ∙ same in
     let at = at_from_Contains entries tree at_tree in
@@ -173,12 +173,12 @@ together entries apart tree other false kind is name at_tree at_other same =
       | inr (inr following) ↦ later_at (λ x y. x.name ≢ y.name) entries apart other_at.0 at.0 tree following at.1 (there ∙ names ∙ sym here)
     ]
 
-pub apart : (entries : List EntryView) (b : Bool) → HaveEntryNames entries → EachLater ComesBefore entries
+pub are_apart_of_test : (entries : List EntryView) (b : Bool) → HaveEntryNames entries → EachLater ComesBefore entries
     → MatchBool b ((k : ℕ) × (k < length entries) × HoldsAt (HasNamesake entries) entries k)
     (AllWithin (λ e. HasNamesake entries e → ⊥) entries 0 (length entries)) → MatchBool (not b) (AreApart entries) (AreApart entries → ⊥)
-apart entries false names up h = none_apart entries up h
-apart [] true names up h = absurd (omega (arith, h.1))
-apart (e ∷ es) true names up h = λ are.
+are_apart_of_test entries false names up h = none_apart entries up h
+are_apart_of_test [] true names up h = absurd (omega (arith, h.1))
+are_apart_of_test (e ∷ es) true names up h = λ are.
     let tree = get_or (e ∷ es) h.0 e in
     let namesake : HasNamesake (e ∷ es) tree = h.2 e in
     together (e ∷ es) are tree namesake.1.0 _ refl namesake.0 (names h.0 e h.1) (Contains-get_or (e ∷ es) h.0 e h.1) namesake.1.1 namesake.1.2

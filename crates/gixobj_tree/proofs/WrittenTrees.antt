@@ -6,22 +6,22 @@ use Rattle.gixobj_fields.specs.Writing.{RejectsNothing}
 use Rattle.gixobj_hash.specs.Hash.{id_bytes}
 use Rattle.gixobj_hash.specs.declared.hash.kind.Kind.{Kind}
 use Rattle.gixobj_hash.specs.ByteStrings.{IsByteFree}
-use Rattle.gixobj_mode.proofs.ByteSix.{six_kept}
+use Rattle.gixobj_mode.proofs.ByteSix.{encode_mode_has_six_digits}
 use Rattle.gixobj_mode.proofs.ModesRoundTrip.{mode_round_trips}
-use Rattle.gixobj_tree.proofs.TreeWrites.{AreFree, none_rejected, bytes_more}
+use Rattle.gixobj_tree.proofs.TreeWrites.{AreFree, no_error_of_written_tree, encode_tree_take_succ}
 use Rattle.gixobj_tree.specs.Entries.{EntryView}
 use Rattle.gixobj_mode.specs.Mode.{HasSixDigits, encode_mode}
 use Rattle.gixobj_tree.specs.TreeEncoding.{IsTreeEncodeError, encode_entry, encode_tree}
-use Rattle.gixobj_tree.proofs.Viewed.{seen_there, seen_within}
+use Rattle.gixobj_tree.proofs.Viewed.{map_view_at, map_view_index_lt}
 use Rattle.gixobj_tree.specs.Rewriting.{HasCanonicalModes, DecodesToCanonicalEntry, RoundTrips}
 use Rattle.gixobj_tree.specs.TreeDecoding.{DecodesToEntry, DecodesToTree}
 
 -- the size with the next entry is that of one more entry
-pub size_more : {X : Type 0} (view : X → EntryView) (xs : List X) (i : ℕ) (x : X) (n m : ℕ) → i < length xs → x ≡ get_or xs i x
+pub encode_tree_len_take_succ : {X : Type 0} (view : X → EntryView) (xs : List X) (i : ℕ) (x : X) (n m : ℕ) → i < length xs → x ≡ get_or xs i x
     → n ≡ length (encode_tree (take i (map view xs))) → m ≡ n + length (encode_entry (view x))
     → m ≡ length (encode_tree (take (i + 1) (map view xs)))
-size_more view xs i x n m low is so_far more =
-    let bytes = bytes_more (map view xs) i (view x) (seen_within view xs i low) (seen_there view xs i x low is) in
+encode_tree_len_take_succ view xs i x n m low is so_far more =
+    let bytes = encode_tree_take_succ (map view xs) i (view x) (map_view_index_lt view xs i low) (map_view_at view xs i x low is) in
     omega (arith, so_far, more, ap length bytes, length-append (encode_tree (take i (map view xs))) (encode_entry (view x)))
 
 -- ---- decoded and re-encoded
@@ -47,9 +47,10 @@ all_byte_strings kind [] (bytes ∷ encodings) are = absurd are
 all_byte_strings kind (e ∷ entries) [] are = absurd are
 all_byte_strings kind (e ∷ entries) (bytes ∷ encodings) are = (are.0.is, all_byte_strings kind entries encodings are.1)
 
-pub reencoded : (kind : Kind) (bytes : List ℕ) (entries : List EntryView) → HasCanonicalModes kind bytes entries → DecodesToTree kind bytes entries
+pub tree_round_trips_of_written : (kind : Kind) (bytes : List ℕ) (entries : List EntryView) → HasCanonicalModes kind bytes entries
+    → DecodesToTree kind bytes entries
     × (encode_tree entries ≡ bytes)
-reencoded kind bytes entries (encodings, joined, are) =
+tree_round_trips_of_written kind bytes entries (encodings, joined, are) =
     ((encodings, joined, all_byte_strings kind entries encodings are), all_own kind entries encodings are ∙ sym joined)
 
 names_free : (kind : Kind) (entries : List EntryView) (encodings : List (List ℕ)) → AllZip (DecodesToEntry kind) entries encodings → AreFree entries
@@ -60,9 +61,9 @@ names_free kind (e ∷ entries) (bytes ∷ encodings) are = All-cons (λ (it : E
     (names_free kind entries encodings are.1)
 
 -- no name of a decoded tree is rejected
-pub nothing_rejected : (kind : Kind) (bytes : List ℕ) (entries : List EntryView) → DecodesToTree kind bytes entries
+pub tree_rejects_nothing : (kind : Kind) (bytes : List ℕ) (entries : List EntryView) → DecodesToTree kind bytes entries
     → RejectsNothing (IsTreeEncodeError entries)
-nothing_rejected kind bytes entries (encodings, joined, are) = λ value parts rejected. none_rejected entries value parts
+tree_rejects_nothing kind bytes entries (encodings, joined, are) = λ value parts rejected. no_error_of_written_tree entries value parts
     (names_free kind entries encodings are) rejected
 
 -- ---- encoded and decoded
@@ -70,7 +71,7 @@ nothing_rejected kind bytes entries (encodings, joined, are) = λ value parts re
 own_entry : (kind : Kind) (e : EntryView) → RoundTrips kind e → DecodesToEntry kind e (encode_entry e)
 own_entry kind e it =
     let joined = regrouped (encode_mode e.mode) e.name (id_bytes e.id) in
-    let six = six_kept e.mode (e.name ++ 0 ∷ id_bytes e.id) it.some in
+    let six = encode_mode_has_six_digits e.mode (e.name ++ 0 ∷ id_bytes e.id) it.some in
     let P : List ℕ → Type 0 = λ bytes. HasSixDigits bytes (encode_mode e.mode) in
     record {
       digits = encode_mode e.mode;
@@ -81,10 +82,10 @@ own_entry kind e it =
       id = it.id;
     }
 
-pub decoded_again : (kind : Kind) (entries : List EntryView) → All (RoundTrips kind) entries → DecodesToTree kind (encode_tree entries) entries
-decoded_again kind [] all = ([], refl, tt)
-decoded_again kind (e ∷ entries) all =
-    let (encodings, joined, are) = decoded_again kind entries (All-tail (RoundTrips kind) e entries all) in (
+pub encode_tree_decodes : (kind : Kind) (entries : List EntryView) → All (RoundTrips kind) entries → DecodesToTree kind (encode_tree entries) entries
+encode_tree_decodes kind [] all = ([], refl, tt)
+encode_tree_decodes kind (e ∷ entries) all =
+    let (encodings, joined, are) = encode_tree_decodes kind entries (All-tail (RoundTrips kind) e entries all) in (
       encode_entry e ∷ encodings,
       ap (λ (it : List ℕ). encode_entry e ++ it) joined,
       (own_entry kind e (All-head (RoundTrips kind) e entries all), are),

@@ -107,7 +107,7 @@ fn payload_of(alloc: Global, commit: &Commit) -> Result<Vec<u8>, encode::Error>
 }
 
 /// Returns the commit with the signature of `payload` in a last header named `field`.
-#[tactic(auto, using(crate::proofs::CommitSigned::begun))]
+#[tactic(auto, using(crate::proofs::CommitSigned::begins_plan_of_call))]
 fn sign_written<R: Runner>(
     alloc: Global,
     unsigned: Commit,

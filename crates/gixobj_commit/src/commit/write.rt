@@ -99,7 +99,7 @@ fn write_hex_ids<S: Sink>(tree: BStr<'_>, parents: &[BStr<'_>], sink: &mut S) ->
 }
 
 /// Writes the line of the tree, from hex.
-#[tactic(auto, using(crate::proofs::HexFields::spelled_in_lower_case, crate::proofs::HexFields::short))]
+#[tactic(auto, using(crate::proofs::HexFields::encode_decoded_id_lower_case, crate::proofs::HexFields::id_hex_len_le))]
 fn write_hex_tree<S: Sink>(tree: BStr<'_>, sink: &mut S) -> io::Result<()>
     requires { IsIdHex (bstr_bytes tree) }
     ensures appended { AppendsOrFails result (S.view sink.old) (S.view sink.new) (hex_tree tree.entry) }
@@ -117,7 +117,7 @@ fn hex_ids_size(tree: BStr<'_>, parents: &[BStr<'_>]) -> Option<u64>
 }
 
 /// Returns the size of the tree's line, from hex.
-#[tactic(auto, using(crate::proofs::HexFields::spelled_in_lower_case))]
+#[tactic(auto, using(crate::proofs::HexFields::encode_decoded_id_lower_case))]
 fn hex_tree_size(tree: BStr<'_>) -> Option<u64>
     requires { IsIdHex (bstr_bytes tree) }
     ensures { AddsSize result 0 (hex_tree tree.entry) }
@@ -164,7 +164,7 @@ impl Field for BStr<'_> {
 
     ghost written = { λ hex. hex_parent hex };
 
-    #[tactic(auto, using(crate::proofs::HexFields::short))]
+    #[tactic(auto, using(crate::proofs::HexFields::id_hex_len_le))]
     fn write_bytes<S: Sink>(&self, sink: &mut S) -> io::Result<()> {
         trusted_header_hex(b"parent", self.as_bytes(), sink)
     }

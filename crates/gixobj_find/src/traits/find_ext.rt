@@ -67,7 +67,7 @@ pub trait FindExt: Find {
     /// - [`existing_object::Error::Decode`] if the object does not decode as its own kind, or if an
     ///   allocation fails there.
     /// - [`existing_object::Error::ObjectKind`] with both kinds if the object is not a blob.
-    #[tactic(auto, using(crate::proofs::OfKinds::blob_named))]
+    #[tactic(auto, using(crate::proofs::OfKinds::names_blob))]
     final fn find_blob<'a>(
         &self,
         alloc: Global,
@@ -114,7 +114,7 @@ pub trait FindExt: Find {
     ///     Err(error) => return Err(Error::FindExistingObject(error)),
     /// };
     /// ```
-    #[tactic(auto, using(crate::proofs::OfKinds::tree_named))]
+    #[tactic(auto, using(crate::proofs::OfKinds::names_tree))]
     final fn find_tree<'a>(
         &self,
         alloc: Global,
@@ -165,7 +165,7 @@ pub trait FindExt: Find {
     /// }
     /// Ok(Some(id))
     /// ```
-    #[tactic(auto, using(crate::proofs::OfKinds::commit_named))]
+    #[tactic(auto, using(crate::proofs::OfKinds::names_commit))]
     final fn find_commit<'a>(
         &self,
         alloc: Global,
@@ -194,7 +194,7 @@ pub trait FindExt: Find {
     /// - [`existing_object::Error::Decode`] if the object does not decode as its own kind, or if an
     ///   allocation fails there.
     /// - [`existing_object::Error::ObjectKind`] with both kinds if the object is not a tag.
-    #[tactic(auto, using(crate::proofs::OfKinds::tag_named))]
+    #[tactic(auto, using(crate::proofs::OfKinds::names_tag))]
     final fn find_tag<'a>(
         &self,
         alloc: Global,

@@ -48,7 +48,7 @@ impl<'a> CommitRefIter<'a> {
     /// - [`Error::Malformed`] if a malformed token or the end comes before an author.
     /// - [`Error::OutOfMemory`] if the value of a header of several lines before the author fails to
     ///   allocate.
-    #[tactic(auto, using(crate::proofs::CommitRuns::searches_start, crate::proofs::CommitRuns::searches_first))]
+    #[tactic(auto, using(crate::proofs::CommitRuns::searches_nil, crate::proofs::CommitRuns::ends_search_at_first))]
     pub fn author(self) -> Result<SignatureRef<'a>, Error>
         ensures found { IfOk result (λ it. FindsAuthor self.entry (actor_view it)) }
         ensures error { IfErr result (λ error. EndsSearch IsAuthorToken self.entry (required_error error)) }
@@ -69,7 +69,7 @@ impl<'a> CommitRefIter<'a> {
     /// - [`Error::Malformed`] if a malformed token or the end comes before a committer.
     /// - [`Error::OutOfMemory`] if the value of a header of several lines before the committer fails to
     ///   allocate.
-    #[tactic(auto, using(crate::proofs::CommitRuns::searches_start, crate::proofs::CommitRuns::searches_first))]
+    #[tactic(auto, using(crate::proofs::CommitRuns::searches_nil, crate::proofs::CommitRuns::ends_search_at_first))]
     pub fn committer(self) -> Result<SignatureRef<'a>, Error>
         ensures found { IfOk result (λ it. FindsCommitter self.entry (actor_view it)) }
         ensures error { IfErr result (λ error. EndsSearch IsCommitterToken self.entry (required_error error)) }
@@ -91,7 +91,7 @@ impl<'a> CommitRefIter<'a> {
     /// - [`Error::Malformed`] if a malformed token comes before the message.
     /// - [`Error::OutOfMemory`] if the value of a header of several lines before the message fails to
     ///   allocate.
-    #[tactic(auto, using(crate::proofs::CommitRuns::searches_start, crate::proofs::CommitRuns::searches_first))]
+    #[tactic(auto, using(crate::proofs::CommitRuns::searches_nil, crate::proofs::CommitRuns::ends_search_at_first))]
     pub fn message(self) -> Result<BStr<'a>, Error>
         ensures found { IfOk result (λ it. FindsMessage self.entry (bstr_bytes it)) }
         ensures error { IfErr result (λ error. EndsSearch IsMessageToken self.entry (optional_error error)) }

@@ -46,7 +46,7 @@ impl<'a> Iterator for ParentIds<'a> {
 
     ghost remaining = { remaining_parent_ids };
 
-    #[tactic(auto, using(crate::proofs::CommitRuns::searches_start, crate::proofs::CommitRuns::reads_first))]
+    #[tactic(auto, using(crate::proofs::CommitRuns::searches_nil, crate::proofs::CommitRuns::reads_first_token_of_search))]
     fn next(&mut self) -> Option<ObjectId> {
         while let Some(item) = self.tokens.next() {
             let Ok(token) = item else {
@@ -70,7 +70,7 @@ impl<'a> Iterator for Signatures<'a> {
 
     ghost remaining = { remaining_actors };
 
-    #[tactic(auto, using(crate::proofs::CommitRuns::searches_start, crate::proofs::CommitRuns::reads_first))]
+    #[tactic(auto, using(crate::proofs::CommitRuns::searches_nil, crate::proofs::CommitRuns::reads_first_token_of_search))]
     fn next(&mut self) -> Option<SignatureRef<'a>> {
         while let Some(item) = self.tokens.next() {
             let Ok(token) = item else {

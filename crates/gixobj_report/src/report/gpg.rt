@@ -32,7 +32,7 @@ use std::alloc::Global;
 /// # Errors
 ///
 /// [`OutOfMemory`] if the allocation for a copy of the key, of the signer or of a fingerprint fails.
-#[tactic(auto, using(crate::proofs::Fields::verdict_bare, crate::proofs::Fields::fingerprint_bare, crate::proofs::Fields::primary_bare))]
+#[tactic(auto, using(crate::proofs::Fields::copied_strings_of_verdict, crate::proofs::Fields::copied_strings_of_fingerprint, crate::proofs::Fields::copied_strings_of_primary))]
 pub fn parse_gpg_output(
     alloc: Global,
     format: Format,
@@ -99,7 +99,7 @@ pub(crate) struct Reported<'a> {
 }
 
 /// Decodes all status lines in one pass.
-#[tactic(auto, using(crate::proofs::StatusesRead::statuses_so, crate::proofs::StatusesRead::trust_so, crate::proofs::StatusesRead::valid_so))]
+#[tactic(auto, using(crate::proofs::StatusesRead::statuses_of_raw, crate::proofs::StatusesRead::trust_of_raw, crate::proofs::StatusesRead::valid_fields_of_raw))]
 fn reported_in<'a>(raw: &'a [u8]) -> Reported<'a>
     ensures statuses { verdict_of result.statuses []
         ≡ verdict (filter_map status_of (status_lines raw.now)) }
@@ -177,7 +177,7 @@ fn nothing_but(status: Status) -> Said
 }
 
 /// Decodes a single reported status from the bytes after its keyword.
-#[tactic(auto, using(crate::proofs::Fields::key_taken, crate::proofs::Fields::signer_taken))]
+#[tactic(auto, using(crate::proofs::Fields::reported_names_of_key, crate::proofs::Fields::reported_names_of_signer))]
 fn said_by_one(alloc: Global, status: Status, rest: &[u8]) -> Result<Said, OutOfMemory>
     ensures reported_value { IfOk result (λ it. reported_view it ≡ verdict ((status, rest.now) ∷ [])) }
     ensures allocates { OnErr result (reported_names (verdict ((status, rest.now) ∷ [])) ≢ (None, None)) }
@@ -193,7 +193,7 @@ fn said_by_one(alloc: Global, status: Status, rest: &[u8]) -> Result<Said, OutOf
 }
 
 /// Splits the line at the first space. Without one, the second part is empty.
-#[tactic(auto, using(crate::proofs::FieldPlaces::token_split, crate::proofs::FieldPlaces::token_alone, crate::proofs::FieldPlaces::after_split, crate::proofs::FieldPlaces::after_alone))]
+#[tactic(auto, using(crate::proofs::FieldPlaces::first_token_of_split, crate::proofs::FieldPlaces::first_token_of_spaceless, crate::proofs::FieldPlaces::after_space_of_split, crate::proofs::FieldPlaces::after_space_of_spaceless))]
 fn split_at_space<'a>(line: &'a [u8]) -> (&'a [u8], &'a [u8])
     ensures token { result.0.now ≡ first_token line.now }
     ensures rest { result.1.now ≡ after_space line.now }
@@ -206,7 +206,7 @@ fn split_at_space<'a>(line: &'a [u8]) -> (&'a [u8], &'a [u8])
 
 /// Returns the status that a line without its prefix reports. Its first byte selects the keywords to compare.
 #[inline(always)]
-#[tactic(auto, using(crate::proofs::FirstBytes::good_first, crate::proofs::FirstBytes::bad_first, crate::proofs::FirstBytes::error_first, crate::proofs::FirstBytes::revoked_first, crate::proofs::FirstBytes::other_first, crate::proofs::FirstBytes::no_first))]
+#[tactic(auto, using(crate::proofs::FirstBytes::status_of_goodsig, crate::proofs::FirstBytes::status_of_badsig, crate::proofs::FirstBytes::status_of_errsig, crate::proofs::FirstBytes::status_of_revoked, crate::proofs::FirstBytes::status_of_other_byte, crate::proofs::FirstBytes::status_of_nil))]
 fn status_of_line<'a>(line: &'a [u8]) -> Option<(Status, &'a [u8])>
     ensures { option_map status_view result ≡ status_of line.now }
 {
@@ -286,7 +286,7 @@ fn reported_field(
 }
 
 /// Returns a copy of the field with this number, unless it is missing or empty.
-#[tactic(auto, using(crate::proofs::FieldPlaces::field_so, crate::proofs::Fields::field_taken))]
+#[tactic(auto, using(crate::proofs::FieldPlaces::field_at_eq, crate::proofs::Fields::field_at_not_none))]
 fn field_of(alloc: Global, line: &[u8], number: usize) -> Result<Option<BString>, OutOfMemory>
     ensures field { IfOk result (λ it. option_map bstring_bytes it
         ≡ field_at number (fields_of line.now)) }
@@ -299,7 +299,7 @@ fn field_of(alloc: Global, line: &[u8], number: usize) -> Result<Option<BString>
 }
 
 /// Returns the line from the field with this number on, or `None` if it has fewer fields.
-#[tactic(auto, using(crate::proofs::FieldPlaces::some_split, crate::proofs::FieldPlaces::none_alone, crate::proofs::FieldPlaces::spaces_more, crate::proofs::FieldPlaces::spaces_out, crate::proofs::FieldPlaces::spaces_none))]
+#[tactic(auto, using(crate::proofs::FieldPlaces::after_some_space_of_split, crate::proofs::FieldPlaces::after_some_space_of_spaceless, crate::proofs::FieldPlaces::after_spaces_step, crate::proofs::FieldPlaces::after_spaces_none, crate::proofs::FieldPlaces::after_spaces_zero))]
 fn fields_after<'a>(line: &'a [u8], number: usize) -> Option<&'a [u8]>
     ensures { option_map (λ it. it.now) result ≡ after_spaces number line.now }
 {
@@ -312,7 +312,7 @@ fn fields_after<'a>(line: &'a [u8], number: usize) -> Option<&'a [u8]>
 
 /// Returns the bytes after `number` spaces, or `None` if there are fewer. Fields are short, so each byte is
 /// tested.
-#[tactic(auto, using(crate::proofs::FieldPlaces::space_more, crate::proofs::FieldPlaces::byte_more, crate::proofs::FieldPlaces::bytes_out, crate::proofs::FieldPlaces::spaces_none))]
+#[tactic(auto, using(crate::proofs::FieldPlaces::after_spaces_of_space, crate::proofs::FieldPlaces::after_spaces_of_byte, crate::proofs::FieldPlaces::after_spaces_of_nil, crate::proofs::FieldPlaces::after_spaces_zero))]
 fn after_nth<'a>(line: &'a [u8], number: usize) -> Option<&'a [u8]>
     ensures { option_map (λ it. it.now) result ≡ after_spaces number line.now }
 {
@@ -329,7 +329,7 @@ fn after_nth<'a>(line: &'a [u8], number: usize) -> Option<&'a [u8]>
 }
 
 /// Returns the bytes before the first space, or all without one.
-#[tactic(auto, using(crate::proofs::FieldPlaces::token_split, crate::proofs::FieldPlaces::token_alone))]
+#[tactic(auto, using(crate::proofs::FieldPlaces::first_token_of_split, crate::proofs::FieldPlaces::first_token_of_spaceless))]
 fn first_token_of<'a>(line: &'a [u8]) -> &'a [u8]
     ensures { result.now ≡ first_token line.now }
 {
@@ -364,7 +364,7 @@ fn after_here<'a>(bytes: &'a [u8], content: &[u8], before: Option<&'a [u8]>) -> 
 
 /// Returns the bytes after `VALIDSIG `, or those found before. The first byte excludes most other lines.
 #[inline(always)]
-#[tactic(auto, using(crate::proofs::FirstBytes::not_valid, crate::proofs::FirstBytes::no_valid))]
+#[tactic(auto, using(crate::proofs::FirstBytes::no_validsig_of_other_byte, crate::proofs::FirstBytes::no_validsig_of_nil))]
 fn valid_here<'a>(said: &'a [u8], before: Option<&'a [u8]>) -> Option<&'a [u8]>
     ensures { option_map (λ it. it.now) result
         ≡ either (after_prefix (codes "VALIDSIG ") said.now) (option_map (λ it. it.now) before.entry) }

@@ -10,7 +10,7 @@ use gixobj_hash::split::has_byte;
 
 /// Returns the first fault of a name, in the order of [`RefNameFault`]. Most names are plain, and need no
 /// search.
-#[tactic(auto, using(crate::proofs::PlainNames::plain_no_fault))]
+#[tactic(auto, using(crate::proofs::PlainNames::no_fault_of_plain_name))]
 pub(super) fn first_fault(name: &[u8]) -> Option<RefNameFault>
     ensures { MatchOption result (HasNoFault name.now) (IsFirstFault name.now) }
 {
@@ -97,7 +97,7 @@ fn is_plain_byte(byte: u8) -> bool
 }
 
 /// Whether a part begins with `.`: the first one, or one after a slash.
-#[tactic(auto, using(crate::proofs::Names::dot_first))]
+#[tactic(auto, using(crate::proofs::Names::dot_start_iff_at_start))]
 fn has_dot_start(name: &[u8]) -> bool
     ensures { IsTrue result ↔ HasFault fault.DotStart name.now }
 {
@@ -105,7 +105,7 @@ fn has_dot_start(name: &[u8]) -> bool
 }
 
 /// Whether a part ends with `.lock`: the last one, or one before a slash.
-#[tactic(auto, using(crate::proofs::Names::lock_last))]
+#[tactic(auto, using(crate::proofs::Names::lock_suffix_iff_at_end))]
 fn has_lock_suffix(name: &[u8]) -> bool
     ensures { IsTrue result ↔ HasFault fault.LockSuffix name.now }
 {
@@ -148,7 +148,7 @@ fn is_forbidden(byte: u8) -> bool
 }
 
 /// Whether a slash is first or last, or two follow each other.
-#[tactic(auto, using(crate::proofs::Names::slash_last))]
+#[tactic(auto, using(crate::proofs::Names::bad_slash_iff_at_end))]
 fn has_bad_slash(name: &[u8]) -> bool
     ensures { IsTrue result ↔ HasFault fault.BadSlash name.now }
 {

@@ -72,7 +72,7 @@ fn read_tag(bytes: &[u8], hash_kind: Kind) -> Option<TagRef<'_>>
 /// Decodes the name line at the beginning of the input, and returns the name and the rest.
 ///
 /// Returns `None` if there is no such line, or if the name is empty. Allocates nothing.
-#[tactic(auto, using(crate::proofs::Lines::no_empty_name, crate::proofs::Lines::no_name_line))]
+#[tactic(auto, using(crate::proofs::Lines::no_name_of_empty, crate::proofs::Lines::no_name_of_missing_field))]
 pub fn name(input: &[u8]) -> Option<(BStr<'_>, &[u8])>
     ensures found { IfSome result (λ it. HasName input.now (bstr_bytes it.0) it.1.now) }
     ensures none { IfNone result (HasNoName input.now) }
@@ -93,7 +93,7 @@ pub type TaggerLine<'a> = (BStr<'a>, SignatureRef<'a>);
 ///
 /// The line is `None` if the input doesn't begin with `tagger` and a space. The result is `None` if it does,
 /// but no line with an actor follows. Allocates nothing.
-#[tactic(auto, using(crate::proofs::Lines::no_tagger_line))]
+#[tactic(auto, using(crate::proofs::Lines::no_tagger_of_missing_newline))]
 pub fn tagger(input: &[u8]) -> Option<(Option<TaggerLine<'_>>, &[u8])>
     ensures found { IfSome result (λ it. HasTagger input.now (line_if_some it.0) it.1.now) }
     ensures parsed { IfSome result (λ it. IsParsedTagger it.0) }
@@ -125,7 +125,7 @@ fn line_of(tagger: Option<TaggerLine<'_>>) -> Option<BStr<'_>>
 ///
 /// A body of newlines alone, or an empty one, is itself the message. Any other begins with a newline, which
 /// isn't part of the message. Returns `None` without that newline. Allocates nothing.
-#[tactic(auto, using(crate::proofs::Bodies::is_newlines, crate::proofs::Bodies::is_after_newline, crate::proofs::Bodies::no_body))]
+#[tactic(auto, using(crate::proofs::Bodies::is_body_of_newlines, crate::proofs::Bodies::is_body_after_newline, crate::proofs::Bodies::no_body_of_other_byte))]
 pub fn body(input: &[u8]) -> Option<(BStr<'_>, Option<BStr<'_>>)>
     ensures found { IfSome result (λ it. IsBody input.now (bstr_bytes it.0) (bytes_if_some it.1)) }
     ensures none { IfNone result (HasNoBody input.now) }
@@ -142,7 +142,7 @@ pub fn body(input: &[u8]) -> Option<(BStr<'_>, Option<BStr<'_>>)>
 
 /// Splits bytes at the last marker at the start of a line, which begins the signature. The newline before it
 /// is in neither the message nor the signature.
-#[tactic(auto, using(crate::proofs::Bodies::is_unsigned, crate::proofs::Bodies::is_signed_at_once, crate::proofs::Bodies::is_signed))]
+#[tactic(auto, using(crate::proofs::Bodies::is_parted_unsigned, crate::proofs::Bodies::is_parted_at_start, crate::proofs::Bodies::is_parted_at_marker))]
 fn parted(content: &[u8]) -> (BStr<'_>, Option<BStr<'_>>)
     ensures { IsParted content.now (bstr_bytes result.0) (bytes_if_some result.1) }
 {

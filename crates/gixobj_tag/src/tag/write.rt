@@ -310,7 +310,7 @@ fn kind_line(kind: Kind) -> &'static [u8]
 }
 
 /// Writes the line of a name, or rejects the name.
-#[tactic(auto, using(gixobj_fields::proofs::Appends::nothing_appended))]
+#[tactic(auto, using(gixobj_fields::proofs::Appends::appends_all_nil))]
 fn write_name<S: Sink>(name: BStr<'_>, sink: &mut S) -> Result<(), encode::Error>
     ensures written { OnOk result (AppendsAll (S.view sink.old) (S.view sink.new)
         (encode_field (codes "tag") (bstr_bytes name.entry))) }
@@ -373,7 +373,7 @@ fn write_message<S: Sink>(message: BStr<'_>, sink: &mut S) -> io::Result<()>
 
 /// Writes a newline and the signature, or nothing without one.
 #[inline(always)]
-#[tactic(auto, using(gixobj_fields::proofs::Appends::nothing_appended))]
+#[tactic(auto, using(gixobj_fields::proofs::Appends::appends_all_nil))]
 fn write_signature<S: Sink>(signature: Option<BStr<'_>>, sink: &mut S) -> io::Result<()>
     ensures appended { AppendsOrFails result (S.view sink.old) (S.view sink.new)
         (encode_signature (bytes_if_some signature.entry)) }

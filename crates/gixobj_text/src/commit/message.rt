@@ -94,7 +94,7 @@ impl<'a> BodyRef<'a> {
     ///
     /// The block is the last paragraph, if it consists of trailers. A paragraph with a line that git
     /// generates may have up to three other lines for each trailer (git-interpret-trailers, "DESCRIPTION").
-    #[tactic(auto, using(crate::proofs::Starts::start_within))]
+    #[tactic(auto, using(crate::proofs::Starts::block_start_le_len))]
     pub fn from_bytes(body: &'a [u8]) -> BodyRef<'a>
         ensures body { bytes_of_body result ≡ body.now }
         ensures start { IsBlockStart body.now (start_of_block result) }

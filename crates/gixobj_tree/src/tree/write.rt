@@ -178,7 +178,7 @@ pub fn write_entry<S: Sink>(
 
 /// Appends the name, a zero byte and the id.
 #[inline(always)]
-#[tactic(auto, using(gixobj_fields::proofs::Appends::prefix_first, gixobj_fields::proofs::Appends::appends_or_fails_more))]
+#[tactic(auto, using(gixobj_fields::proofs::Appends::appends_prefix_first, gixobj_fields::proofs::Appends::appends_or_fails_append))]
 fn write_name_and_id<S: Sink>(name: &[u8], id: oid<'_>, sink: &mut S) -> io::Result<()>
     ensures appended { AppendsOrFails result (S.view sink.old) (S.view sink.new)
         (name.now ++ 0 ∷ id_bytes (borrowed_id id.entry)) }

@@ -6,7 +6,7 @@ use Rattle.gix_object.specs.Mode.{mode_of_kind}
 use Rattle.gix_object.specs.Openings.{AreTreesOf}
 use Rattle.gix_object.specs.State.{EditorFiles, State}
 use Rattle.gix_object.specs.mode.entry_kind.EntryKind.TheVariants.{Blob}
-use Rattle.gixobj_files.proofs.EditedFiles.{same_removed, same_trans}
+use Rattle.gixobj_files.proofs.EditedFiles.{removed_congruent, same_files_trans}
 use Rattle.gix_object_tests.proofs.editor.edited_and_written.Goals as goal
 
 pub returns-in-Ok : goal.returns-in-Ok
@@ -16,6 +16,6 @@ returns-in-Ok g c = λ trees fits T n agrees pairs has.
     let took = (c.in_ok-try_remove.ensures {u = tt}).removed trees (subst (λ store. AreTreesOf (g.S.Store.objects store) trees) (sym stored) fits) in
     let wrote = (c.in-Ok.ensures {u = tt}).written in
     let upserted = Upserted T n (names_of c.args.first.now) (mode_of_kind Blob) c.args.id (EditorFiles T n c.args.editor.now) in
-    same_trans _ _ _ (wrote.1.files T n pairs (took.has_bases T agrees (inserted.has_bases T agrees has)))
-    (same_trans _ _ _ (took.files T n agrees) (same_removed (names_of c.args.second.now) (EditorFiles T n c.try_upsert.new.self) upserted
+    same_files_trans _ _ _ (wrote.1.files T n pairs (took.has_bases T agrees (inserted.has_bases T agrees has)))
+    (same_files_trans _ _ _ (took.files T n agrees) (removed_congruent (names_of c.args.second.now) (EditorFiles T n c.try_upsert.new.self) upserted
     (inserted.files T n agrees)))

@@ -1,14 +1,14 @@
 -- The parts that are split from the left are those of an actor line.
 use Rattle.std.proofs.Common.{rules}
-use Rattle.gixobj_actor.proofs.ActorLines.{line_of_splits, no_first, no_last}
+use Rattle.gixobj_actor.proofs.ActorLines.{line_of_splits, malformed_without_opening_bracket, malformed_without_closing_bracket}
 use Rattle.gixobj_actor.proofs.actor.split_line.Goals as goal
 
 pub returns-in_err-content-clause-none : goal.returns-in_err-content-clause-none
-returns-in_err-content-clause-none c = rw c.from_residual.ensures (no_first _ c.in_err-content.ensures.none)
+returns-in_err-content-clause-none c = rw c.from_residual.ensures (malformed_without_opening_bracket _ c.in_err-content.ensures.none)
 
 pub returns-in_err-email-clause-none : goal.returns-in_err-email-clause-none
 returns-in_err-email-clause-none c =
-    rw c.from_residual-in_err-email.ensures (no_last _ _ _ c.in_ok-content.ensures.found c.in_err-email.ensures.none)
+    rw c.from_residual-in_err-email.ensures (malformed_without_closing_bracket _ _ _ c.in_ok-content.ensures.found c.in_err-email.ensures.none)
 
 pub returns-clause-found : goal.returns-clause-found
 returns-clause-found c =

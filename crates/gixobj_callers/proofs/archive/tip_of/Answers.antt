@@ -2,13 +2,13 @@
 use Rattle.std.proofs.Common.{None, subst}
 use Rattle.gix_object.specs.Imports.{AreCommitsOf, HaveFilesOfNothing}
 use Rattle.gix_object.specs.hash.hash.kind.Kind.{Kind}
-use Rattle.gixobj_callers.proofs.Tips.{is_tip_taken, none_of_none}
+use Rattle.gixobj_callers.proofs.Tips.{is_tip_of_option, tip_none_iff_no_steps}
 use Rattle.gixobj_callers.proofs.archive.tip_of.Goals as goal
 
 pub returns-in-Ok-clause-none : goal.returns-in-Ok-clause-none
 returns-in-Ok-clause-none g c =
     let final = g.S.Store.objects c.import_all.new.importer.editor.store in
-    none_of_none final c.new-importer.result.hash c.args.steps.now c.in-Ok.imported.items c.pop.new.self.items c.pop.result _ c.pop.ensures.items
+    tip_none_iff_no_steps final c.new-importer.result.hash c.args.steps.now c.in-Ok.imported.items c.pop.new.self.items c.pop.result _ c.pop.ensures.items
     c.in-Ok.imported.ok.0 c.pop.ensures.variant ((c.in-Ok.ensures {u = tt}).commits c.new-importer.ensures.new)
 
 pub returns-in-Ok-clause-tip : goal.returns-in-Ok-clause-tip
@@ -16,7 +16,7 @@ returns-in-Ok-clause-tip g c =
     let done = c.in-Ok.ensures {u = tt} in
     let imported = c.in-Ok.imported.items in
     let final = g.S.Store.objects c.import_all.new.importer.editor.store in
-    is_tip_taken (g.S.Store.objects c.args.store) final c.args.hash c.args.steps.now imported c.pop.new.self.items c.pop.result c.pop.ensures.items
+    is_tip_of_option (g.S.Store.objects c.args.store) final c.args.hash c.args.steps.now imported c.pop.new.self.items c.pop.result c.pop.ensures.items
     (subst (λ (k : Kind). AreCommitsOf k None c.args.steps.now imported final) c.new-importer.ensures.hash (done.commits c.new-importer.ensures.new))
     (subst (λ (s : g.row.S.Denot). HaveFilesOfNothing (g.S.Store.objects s) c.args.steps.now imported) c.new-importer.ensures.store
     (done.files c.new-importer.ensures.new))

@@ -1,7 +1,7 @@
 -- A new editor of the root inserts the entries, and then writes.
 use Rattle.std.proofs.Common.{subst}
 use Rattle.gixobj_callers.specs.Checkouts.{IsFilled, IsNotFilled}
-use Rattle.gixobj_callers.proofs.Planned.{is_started}
+use Rattle.gixobj_callers.proofs.Planned.{state_is_started}
 use Rattle.gixobj_callers.proofs.Inserted.{checked_out_files}
 use Rattle.gixobj_callers.proofs.checkout.with_entries_at.Goals as goal
 use Rattle.gix_object.specs.Stores.{StoreModel}
@@ -15,7 +15,7 @@ pub returns-in-Err-clause-error : goal.returns-in-Err-clause-error
 returns-in-Err-clause-error g c =
     let means : StoreModel g.row.S.Denot = record { objects = g.S.Store.objects; may_fail = g.S.Store.may_fail } in
     let new = c.new-editor.ensures in
-    let begun = is_started c.new-editor.result c.args.store c.args.object_hash c.args.root new.dirs new.bases new.store new.lookups new.object_hash
+    let begun = state_is_started c.new-editor.result c.args.store c.args.object_hash c.args.root new.dirs new.bases new.store new.lookups new.object_hash
     new.prefix in
     subst (λ (state : State g.row.S.Denot). IsNotFilled means state (prefix_of (names_of c.args.prefix.now)) c.args.entries.now c.in-Err.error) begun
     (c.in-Err.ensures {u = tt}).error
@@ -24,7 +24,7 @@ pub returns-in-Ok-clause-files : goal.returns-in-Ok-clause-files
 returns-in-Ok-clause-files g c = λ trees fits T n agrees pairs.
     let means : StoreModel g.row.S.Denot = record { objects = g.S.Store.objects; may_fail = g.S.Store.may_fail } in
     let new = c.new-editor.ensures in
-    let begun = is_started c.new-editor.result c.args.store c.args.object_hash c.args.root new.dirs new.bases new.store new.lookups new.object_hash
+    let begun = state_is_started c.new-editor.result c.args.store c.args.object_hash c.args.root new.dirs new.bases new.store new.lookups new.object_hash
     new.prefix in
     let filled = subst (λ (state : State g.row.S.Denot). IsFilled means state (prefix_of (names_of c.args.prefix.now)) c.args.entries.now
     c.insert_entries_at.new.editor) begun (c.in_default.ensures {u = tt}).filled in
@@ -39,7 +39,7 @@ pub returns-in-Ok-clause-done : goal.returns-in-Ok-clause-done
 returns-in-Ok-clause-done g c =
     let means : StoreModel g.row.S.Denot = record { objects = g.S.Store.objects; may_fail = g.S.Store.may_fail } in
     let new = c.new-editor.ensures in
-    let begun = is_started c.new-editor.result c.args.store c.args.object_hash c.args.root new.dirs new.bases new.store new.lookups new.object_hash
+    let begun = state_is_started c.new-editor.result c.args.store c.args.object_hash c.args.root new.dirs new.bases new.store new.lookups new.object_hash
     new.prefix in
     let filled = subst (λ (state : State g.row.S.Denot). IsFilled means state (prefix_of (names_of c.args.prefix.now)) c.args.entries.now
     c.insert_entries_at.new.editor) begun (c.in_default.ensures {u = tt}).filled in
@@ -50,7 +50,7 @@ pub returns-clause-error : goal.returns-clause-error
 returns-clause-error g c =
     let means : StoreModel g.row.S.Denot = record { objects = g.S.Store.objects; may_fail = g.S.Store.may_fail } in
     let new = c.new-editor.ensures in
-    let begun = is_started c.new-editor.result c.args.store c.args.object_hash c.args.root new.dirs new.bases new.store new.lookups new.object_hash
+    let begun = state_is_started c.new-editor.result c.args.store c.args.object_hash c.args.root new.dirs new.bases new.store new.lookups new.object_hash
     new.prefix in
     let filled = subst (λ (state : State g.row.S.Denot). IsFilled means state (prefix_of (names_of c.args.prefix.now)) c.args.entries.now
     c.insert_entries_at.new.editor) begun (c.in_default.ensures {u = tt}).filled in

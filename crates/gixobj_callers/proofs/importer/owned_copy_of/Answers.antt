@@ -5,11 +5,11 @@ use Rattle.gix_object.specs.CommitWriting.{encode_commit}
 use Rattle.gix_object.specs.Streams.{list_view}
 use Rattle.gixobj_callers.specs.Copies.{FailsForPart}
 use Rattle.gixobj_callers.specs.declared.store.CopyError.TheVariants.{Write}
-use Rattle.gixobj_callers.proofs.Errors.{part_rejected, unread_part}
+use Rattle.gixobj_callers.proofs.Errors.{fails_for_part_of_write, fails_for_part_of_read}
 use Rattle.gixobj_callers.proofs.importer.owned_copy_of.Goals as goal
 
 pub returns-in-Err-clause-error : goal.returns-in-Err-clause-error
-returns-in-Err-clause-error c = λ commit is. unread_part c.args.kind c.args.bytes.now commit commit c.in-Err.error c.in-Err.ensures.error is
+returns-in-Err-clause-error c = λ commit is. fails_for_part_of_read c.args.kind c.args.bytes.now commit commit c.in-Err.error c.in-Err.ensures.error is
 
 pub returns-in-Ok-write_to_vec-clause-parts : goal.returns-in-Ok-write_to_vec-clause-parts
 returns-in-Ok-write_to_vec-clause-parts c =
@@ -31,4 +31,4 @@ returns-clause-error c = λ commit is.
     let rejected = c.owned_commit_has_same_parts.ensures.error c.args.kind c.args.bytes.now lines own before after c.in-Err-write_to_vec.error
     c.in-Ok.ensures.found c.in-Ok-into_owned.ensures.owned c.in-Err-write_to_vec.ensures.error in
     subst (λ (it : CommitLines). FailsForPart it (Write c.in-Err-write_to_vec.error)) same
-    (part_rejected lines before after (encode_commit (owned_commit_lines own)) c.in-Err-write_to_vec.error rejected)
+    (fails_for_part_of_write lines before after (encode_commit (owned_commit_lines own)) c.in-Err-write_to_vec.error rejected)

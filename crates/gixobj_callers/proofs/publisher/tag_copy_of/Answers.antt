@@ -4,7 +4,7 @@ use Rattle.gix_object.specs.TagFormat.{TagLines}
 use Rattle.gix_object.specs.TagViews.{tag_lines}
 use Rattle.gix_object.specs.TagWriting.{IsTagLinesError, encode_tag}
 use Rattle.gix_object.specs.Writing.{RejectsNothing}
-use Rattle.gixobj_callers.proofs.Errors.{unwritten}
+use Rattle.gixobj_callers.proofs.Errors.{fails_for_room_of_write}
 use Rattle.gixobj_callers.proofs.publisher.tag_copy_of.Goals as goal
 
 pub returns-in-Err-clause-has_capacity : goal.returns-in-Err-clause-has_capacity
@@ -23,4 +23,5 @@ returns-in-Err-write_to_vec-clause-has_capacity c = λ tag is valid.
     let nothing = subst (λ (it : TagLines). RejectsNothing (IsTagLinesError it)) same (c.tag_reencodes_identically.ensures.no_error tag valid) in
     let fails = c.write_error_implies_sink_error.ensures (list_view c.new-copy.result) (list_view c.write_to_vec.new.out) c.in-Err-write_to_vec.error nothing
     c.in-Err-write_to_vec.ensures.error in
-    unwritten (list_view c.new-copy.result) (list_view c.write_to_vec.new.out) (encode_tag (tag_lines c.in-Ok.tag)) c.in-Err-write_to_vec.error fails
+    fails_for_room_of_write (list_view c.new-copy.result) (list_view c.write_to_vec.new.out)
+        (encode_tag (tag_lines c.in-Ok.tag)) c.in-Err-write_to_vec.error fails

@@ -4,7 +4,7 @@ use Rattle.std.specs.Fn.{FnReturnsAt}
 use Rattle.gix_object.specs.Entries.{EntryView}
 use Rattle.gix_object.specs.State.{root_alone}
 use Rattle.gix_object.specs.hash.hash.object_id.ObjectId.{ObjectId}
-use Rattle.gixobj_callers.proofs.Planned.{is_started}
+use Rattle.gixobj_callers.proofs.Planned.{state_is_started}
 use Rattle.gixobj_callers.proofs.Rebuilt.{is_reported, none_at_first, none_at_second}
 use Rattle.gixobj_callers.proofs.rebuilder.wrote_the_same.Goals as goal
 use Rattle.gix_object.specs.Stores.{StoreModel}
@@ -14,7 +14,8 @@ returns-in-Err-clause-error g c =
     let means : StoreModel g.row.S.Denot = record { objects = g.S.Store.objects; may_fail = g.S.Store.may_fail } in
     let answers = λ (tree : List EntryView) (answer : Result ObjectId g.row.E.Denot). FnReturnsAt g.F.Fn c.args.out tree answer in
     let new = c.new-editor.ensures in
-    let begun = is_started c.new-editor.result c.args.store c.args.object_hash [] (new.dirs ∙ ap root_alone c.empty.ensures) new.bases new.store new.lookups
+    let begun = state_is_started c.new-editor.result c.args.store c.args.object_hash [] (new.dirs
+        ∙ ap root_alone c.empty.ensures) new.bases new.store new.lookups
     new.object_hash new.prefix in
     none_at_first means answers c.args.store c.args.object_hash c.args.commands.items c.new-editor.result c.run.new.editor c.in_ok-replies.replies.items
     c.deref.result.now c.args.place c.args.other c.in-Err.error begun
@@ -25,7 +26,8 @@ returns-in-Err-id_written-clause-error g c =
     let means : StoreModel g.row.S.Denot = record { objects = g.S.Store.objects; may_fail = g.S.Store.may_fail } in
     let answers = λ (tree : List EntryView) (answer : Result ObjectId g.row.E.Denot). FnReturnsAt g.F.Fn c.args.out tree answer in
     let new = c.new-editor.ensures in
-    let begun = is_started c.new-editor.result c.args.store c.args.object_hash [] (new.dirs ∙ ap root_alone c.empty.ensures) new.bases new.store new.lookups
+    let begun = state_is_started c.new-editor.result c.args.store c.args.object_hash [] (new.dirs
+        ∙ ap root_alone c.empty.ensures) new.bases new.store new.lookups
     new.object_hash new.prefix in
     none_at_second means answers c.args.store c.args.object_hash c.args.commands.items c.new-editor.result c.run.new.editor c.in_ok-replies.replies.items
     c.deref.result.now c.deref-2.result.now c.args.place c.args.other c.in-Ok.first c.in-Err-id_written.error begun
@@ -37,7 +39,8 @@ returns-clause-compared g c =
     let means : StoreModel g.row.S.Denot = record { objects = g.S.Store.objects; may_fail = g.S.Store.may_fail } in
     let answers = λ (tree : List EntryView) (answer : Result ObjectId g.row.E.Denot). FnReturnsAt g.F.Fn c.args.out tree answer in
     let new = c.new-editor.ensures in
-    let begun = is_started c.new-editor.result c.args.store c.args.object_hash [] (new.dirs ∙ ap root_alone c.empty.ensures) new.bases new.store new.lookups
+    let begun = state_is_started c.new-editor.result c.args.store c.args.object_hash [] (new.dirs
+        ∙ ap root_alone c.empty.ensures) new.bases new.store new.lookups
     new.object_hash new.prefix in
     is_reported means answers c.args.store c.args.object_hash c.args.commands.items c.new-editor.result c.run.new.editor c.in_ok-replies.replies.items
     c.deref.result.now c.deref-2.result.now c.args.place c.args.other c.are_same.result c.in-Ok.first c.in-Ok-id_written.second begun

@@ -4,7 +4,7 @@ use Rattle.gix_object.specs.Outcomes.{outcome_view}
 use Rattle.gix_object.specs.SignedBytes.{signed_bytes}
 use Rattle.gix_object.specs.Verifiers.{options_view}
 use Rattle.gixobj_callers.specs.Releases.{Vouches}
-use Rattle.gixobj_callers.proofs.Accepted.{outcome_accepted}
+use Rattle.gixobj_callers.proofs.Accepted.{vouches_of_valid_outcome}
 use Rattle.gixobj_callers.proofs.releases.verified.Goals as goal
 
 pub returns-clause-accepted : goal.returns-clause-accepted
@@ -13,5 +13,6 @@ returns-clause-accepted g c =
     let signed = signed_bytes c.args.signed.now in
     subst (λ (bytes : List ℕ). IfOk c.verify.result (λ outcome. (outcome_view outcome).valid ≡ true
     → Vouches g.R.Runner.runs options bytes signed c.args.runner.now (outcome_view outcome) c.verify.new.runner)) c.new.ensures
-    (outcome_accepted g.R.Runner.runs options (bstr_bytes c.new.result) signed c.verify.ensures.format c.args.runner.now c.verify.new.runner c.verify.result
+    (vouches_of_valid_outcome g.R.Runner.runs options (bstr_bytes c.new.result) signed c.verify.ensures.format c.args.runner.now c.verify.new.runner
+        c.verify.result
     c.verify.ensures.called)

@@ -4,11 +4,11 @@ use Rattle.gix_object.specs.CommitViews.{commit_lines}
 use Rattle.gix_object.specs.CommitWriting.{IsCommitLinesError, encode_commit, in_lower_case}
 use Rattle.gix_object.specs.Streams.{list_view}
 use Rattle.gix_object.specs.Writing.{RejectsNothing}
-use Rattle.gixobj_callers.proofs.Errors.{unread, unwritten}
+use Rattle.gixobj_callers.proofs.Errors.{fails_for_room_of_read, fails_for_room_of_write}
 use Rattle.gixobj_callers.proofs.store.copy_of.Goals as goal
 
 pub returns-in-Err-clause-has_capacity : goal.returns-in-Err-clause-has_capacity
-returns-in-Err-clause-has_capacity c = λ commit is some. unread c.args.kind c.args.bytes.now commit c.in-Err.error c.in-Err.ensures.error is
+returns-in-Err-clause-has_capacity c = λ commit is some. fails_for_room_of_read c.args.kind c.args.bytes.now commit c.in-Err.error c.in-Err.ensures.error is
 
 pub returns-in-Ok-write_to_vec-clause-same : goal.returns-in-Ok-write_to_vec-clause-same
 returns-in-Ok-write_to_vec-clause-same c = λ commit is tree parents.
@@ -24,5 +24,5 @@ returns-clause-has_capacity c = λ commit is some.
     (c.commit_reencodes_identically.ensures.no_error c.args.kind c.args.bytes.now commit is some) in
     let fails = c.write_error_implies_sink_error.ensures (list_view c.new-copy.result) (list_view c.write_to_vec.new.out) c.in-Err-write_to_vec.error nothing
     c.in-Err-write_to_vec.ensures.error in
-    unwritten (list_view c.new-copy.result) (list_view c.write_to_vec.new.out) (encode_commit (in_lower_case (commit_lines c.in-Ok.commit)))
+    fails_for_room_of_write (list_view c.new-copy.result) (list_view c.write_to_vec.new.out) (encode_commit (in_lower_case (commit_lines c.in-Ok.commit)))
     c.in-Err-write_to_vec.error fails

@@ -2,11 +2,11 @@ use Rattle.std.proofs.Common.{ℕ, List, ◌++◌, ap, sym, ◌∙◌}
 use Rattle.gix_object.specs.Streams.{list_view}
 use Rattle.gix_object.specs.TreeEncoding.{encode_tree}
 use Rattle.gix_object.specs.TreeViews.{tree_entries}
-use Rattle.gixobj_callers.proofs.Errors.{tree_unread, unwritten}
+use Rattle.gixobj_callers.proofs.Errors.{tree_fails_for_room, fails_for_room_of_write}
 use Rattle.gixobj_callers.proofs.store.tree_copy_of.Goals as goal
 
 pub returns-in-Err-clause-has_capacity : goal.returns-in-Err-clause-has_capacity
-returns-in-Err-clause-has_capacity c = λ entries is. tree_unread c.args.kind c.args.bytes.now entries c.in-Err.error c.in-Err.ensures.error is
+returns-in-Err-clause-has_capacity c = λ entries is. tree_fails_for_room c.args.kind c.args.bytes.now entries c.in-Err.error c.in-Err.ensures.error is
 
 pub returns-in-Ok-write_to_vec-clause-same : goal.returns-in-Ok-write_to_vec-clause-same
 returns-in-Ok-write_to_vec-clause-same c = λ entries own.
@@ -20,4 +20,5 @@ returns-clause-has_capacity c = λ entries is.
     let nothing = c.tree_reencodes_identically.ensures.no_error c.args.kind c.args.bytes.now (tree_entries c.in-Ok.tree) c.in-Ok.ensures.found in
     let fails = c.write_error_implies_sink_error.ensures (list_view c.new-written.result) (list_view c.write_to_vec.new.out) c.in-Err-write_to_vec.error nothing
     c.in-Err-write_to_vec.ensures.error in
-    unwritten (list_view c.new-written.result) (list_view c.write_to_vec.new.out) (encode_tree (tree_entries c.in-Ok.tree)) c.in-Err-write_to_vec.error fails
+    fails_for_room_of_write (list_view c.new-written.result) (list_view c.write_to_vec.new.out)
+        (encode_tree (tree_entries c.in-Ok.tree)) c.in-Err-write_to_vec.error fails

@@ -1,12 +1,13 @@
 -- The result of the write that an upload makes.
-use Rattle.gixobj_callers.proofs.Uploaded.{divided}
+use Rattle.gixobj_callers.proofs.Uploaded.{is_divided_of_walk}
 use Rattle.gixobj_callers.proofs.upload.upload_of.Goals as goal
 use Rattle.gix_object.specs.State.{open_bases, open_dirs}
 
 pub returns-clause-divided : goal.returns-clause-divided
 returns-clause-divided g c =
     let wrote = (c.in_ok-written.ensures {u = tt}).written in
-    divided (open_dirs c.args.editor.now) (open_bases c.args.editor.now) c.in_ok-written.written.trees.items wrote.below c.in_ok-written.written.saved
+    is_divided_of_walk (open_dirs c.args.editor.now) (open_bases c.args.editor.now) c.in_ok-written.written.trees.items wrote.below
+        c.in_ok-written.written.saved
     c.in_ok-written.written.id wrote.own wrote.emitted wrote.last
 
 pub returns-clause-files : goal.returns-clause-files

@@ -1,6 +1,6 @@
 use Rattle.std.proofs.lemmas.Result.{IfErr-weaker, IfOk-weaker}
 use Rattle.bstr.specs.BStr.{bstr_bytes}
-use Rattle.gixobj_callers.proofs.Errors.{message_rejected}
+use Rattle.gixobj_callers.proofs.Errors.{message_error_is_memory}
 use Rattle.gixobj_callers.proofs.walker.message_of.Goals as goal
 
 pub returns-clause-message : goal.returns-clause-message
@@ -13,6 +13,6 @@ returns-clause-message c =
 pub returns-clause-error : goal.returns-clause-error
 returns-clause-error c =
     IfErr-weaker c.message.result _ _
-    (λ error fault commit is. message_rejected c.from_bytes.result error
+    (λ error fault commit is. message_error_is_memory c.from_bytes.result error
     (c.message_search_complete.ensures.has_message c.args.kind c.args.bytes.now commit c.from_bytes.result is c.from_bytes.ensures) fault)
     c.message.ensures.error

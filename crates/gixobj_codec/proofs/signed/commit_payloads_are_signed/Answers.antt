@@ -1,5 +1,5 @@
 use Rattle.gixobj_codec.proofs.CommitsExtracted.{payload_extracted}
-use Rattle.gixobj_codec.proofs.SignaturesFound.{signature_is_there, signature_not_rejected}
+use Rattle.gixobj_codec.proofs.SignaturesFound.{signature_is_there, no_signature_error_of_decoded}
 use Rattle.gixobj_codec.proofs.signed.commit_payloads_are_signed.Goals as goal
 
 pub returns-clause-payload : goal.returns-clause-payload
@@ -9,4 +9,4 @@ pub returns-clause-found : goal.returns-clause-found
 returns-clause-found c = signature_is_there
 
 pub returns-clause-no_fault : goal.returns-clause-no_fault
-returns-clause-no_fault c = signature_not_rejected
+returns-clause-no_fault c = no_signature_error_of_decoded

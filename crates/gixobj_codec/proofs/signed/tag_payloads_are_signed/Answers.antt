@@ -1,5 +1,5 @@
-use Rattle.gixobj_codec.proofs.TagsExtracted.{tag_payload_extracted}
+use Rattle.gixobj_codec.proofs.TagsExtracted.{signed_data_is_payload_of_tag}
 use Rattle.gixobj_codec.proofs.signed.tag_payloads_are_signed.Goals as goal
 
 pub returns : goal.returns
-returns c = tag_payload_extracted
+returns c = signed_data_is_payload_of_tag

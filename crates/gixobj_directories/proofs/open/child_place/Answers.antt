@@ -4,14 +4,14 @@ use Rattle.std.specs.List.Sorted.{IsBinarySearchResult}
 use Rattle.bstr.specs.Owned.{bstring_bytes}
 use Rattle.gixobj_tree.specs.Entries.{key_of}
 use Rattle.gixobj_files.proofs.BinarySearch.{IsNarrowed, compared, looked, narrowed_down, narrowed_none, narrowed_up}
-use Rattle.gixobj_directories.proofs.Ordered.{ascends_of, child_before, child_found, child_key}
+use Rattle.gixobj_directories.proofs.Ordered.{children_ascend, child_before, child_found, child_key}
 use Rattle.gixobj_directories.proofs.open.child_place.Goals.{in-Less, in-Greater}
 use Rattle.gixobj_directories.proofs.open.child_place.Goals as goal
 
 pub loop-low-preserved : goal.loop-low-preserved
 loop-low-preserved c =
     let cs = c.args.children.now in
-    let up = ascends_of cs c.requires in
+    let up = children_ascend cs c.requires in
     let key = key_of (bstring_bytes c.args.name.now) true in
     let before = c.loop-low.invariant in
     let m = c.loop-low.middle in

@@ -3,7 +3,7 @@ use Rattle.std.proofs.Common.{◌∙◌, inl, inr, [], ◌∷◌, refl, sym, sub
 use Rattle.std.proofs.lemmas.Result.{IfOk-weaker}
 use mathlib.Core.Bool.{true≢false}
 use Rattle.gixobj_tree.specs.Entries.{IsWellFormed}
-use Rattle.gixobj_files.proofs.WrittenTrees.{on_err}
+use Rattle.gixobj_files.proofs.WrittenTrees.{on_err_of}
 use Rattle.gixobj_directories.proofs.opening.load.Goals as goal
 
 pub returns-then-is_not_looked_up-clause-found : goal.returns-then-is_not_looked_up-clause-found
@@ -35,4 +35,4 @@ returns-clause-found g c =
 
 pub returns-clause-requested : goal.returns-clause-requested
 returns-clause-requested g c =
-    on_err c.find_copied.result _ ((λ empty. true≢false (sym (c.is_not_looked_up.ensures.1 empty) ∙ c.if-is_not_looked_up.false)), c.saturating_add.ensures)
+    on_err_of c.find_copied.result _ ((λ empty. true≢false (sym (c.is_not_looked_up.ensures.1 empty) ∙ c.if-is_not_looked_up.false)), c.saturating_add.ensures)

@@ -15,10 +15,10 @@ use Rattle.gixobj_files.specs.WrittenTrees.{so_far}
 use Rattle.gixobj_directories.specs.LeafTrees.{Adds, child_leaf_trees, inside_of, leaf_trees}
 use Rattle.gixobj_directories.specs.declared.open.Child.{Child}
 use Rattle.gixobj_files.specs.Opening.{Dirs, in_dir}
-use Rattle.gixobj_directories.proofs.Emitting.{counts, in_both, raised_then, visit_unchanged, FoldsTo-append, FoldsTo-one, callable_after, err_weaker, is_empty_list, is_filled_list, open_side, stopped_after, stopped_here, visit_emptied, visit_open, visit_unopened, visit_written, walk_ends, walk_goes, walk_on, walk_step, walk_storable}
-use Rattle.gixobj_directories.proofs.Levels.{level_root}
-use Rattle.gixobj_directories.proofs.Alongside.{Ahead, all_ahead, passed_fewer, passed_size, stepped}
-use Rattle.gixobj_directories.proofs.LeafTrees.{adds_blank, adds_child, adds_passed, adds_none, adds_then, none_remaining, leaf_tree_is_emitted, leaf_trees_ahead}
+use Rattle.gixobj_directories.proofs.Emitting.{walks_of_count, emits_below_of_both, raised_append, visits_unchanged, folds_to_append, folds_to_one, callable_after_folds, if_err_weaken, nil_of_is_empty, not_nil_of_not_empty, side_of_open_child, stopped_after_folds, stopped_at_call, visits_emptied, visits_open, visits_unopened, visits_written, walks_at_end, walk_goes, walk_exists_of_open, walk_step, written_is_storable}
+use Rattle.gixobj_directories.proofs.Levels.{dirs_of_nil}
+use Rattle.gixobj_directories.proofs.Alongside.{Ahead, ahead_of_opened, consumed_size_lt, passed_size, stepped_succ}
+use Rattle.gixobj_directories.proofs.LeafTrees.{adds_blank_tree, adds_leaf_trees_of_child, adds_pair, adds_nil, adds_append, remaining_nil, leaf_tree_has_base_or_is_emitted, leaf_trees_of_next_child}
 use Rattle.gixobj_directories.proofs.write.+walk.Goals as goal
 
 pub leaves-loop-entry-init : goal.leaves-loop-entry-init
@@ -28,19 +28,19 @@ leaves-loop-entry-init g t c = record {
     0,
     (
       [],
-      adds_none c.args.pairs.now.items,
+      adds_nil c.args.pairs.now.items,
       ap (λ cs. leaf_trees (below (parts cs))) c.deref-remaining.ensures.value
           ∙ ap (λ (ds : Opened). leaf_trees (inside_of ds)) c.node.view_is,
     ),
     refl,
     refl,
     rw c.new-own.ensures
-        (λ qs own n walk. counts n (0 + n) (omega arith) walk),
+        (λ qs own n walk. walks_of_count n (0 + n) (omega arith) walk),
   );
   callable = c.requires.callable;
   shares_base = rw c.new-own.ensures (omega arith);
   ahead = rw (c.entries_of-entry-items.ensures, c.deref-remaining.ensures.value)
-      (all_ahead c.args.node.now c.node.inside.tree c.node.inside.base c.node.inside.children.items c.node.view_is c.node.invariant);
+      (ahead_of_opened c.args.node.now c.node.inside.tree c.node.inside.base c.node.inside.children.items c.node.view_is c.node.invariant);
 }
 
 pub leaves-loop-entry-preserved : goal.leaves-loop-entry-preserved
@@ -51,7 +51,7 @@ leaves-loop-entry-preserved g t c =
     let dirs = dirs_of node in
     let bases = bases_of node in
     let items = c.entries_of-entry-items.result.now in
-    let go = stepped node items c.loop-entry.entry-index e c.loop-entry.remaining.now c.loop-entry-test.true c.entry-item.is
+    let go = stepped_succ node items c.loop-entry.entry-index e c.loop-entry.remaining.now c.loop-entry-test.true c.entry-item.is
     c.loop-entry.invariant.ahead in
     let next = option_copied c.next_of.result.0 in
     let inside = child_side entries_side next in
@@ -66,24 +66,24 @@ leaves-loop-entry-preserved g t c =
     let ahead : child_leaf_trees next ++ leaf_trees (below (parts c.next_of.result.1.now)) ≡ leaf_trees (below (parts remaining)) =
     ap (λ o. child_leaf_trees o ++ leaf_trees (below (parts c.next_of.result.1.now))) c.next_of.ensures.next
     ∙ ap (λ cs. child_leaf_trees (next_child e.name remaining) ++ leaf_trees (below (parts cs))) c.next_of.ensures.following
-    ∙ leaf_trees_ahead e.name remaining c.loop-entry.invariant.ahead.ordered in
+    ∙ leaf_trees_of_next_child e.name remaining c.loop-entry.invariant.ahead.ordered in
     record {
       emits = (
         so.0 ++ ok.0,
         so.1 + ok.1,
         (
           so.2.0 ++ child_leaf_trees next,
-          adds_then c.args.pairs.now.items c.loop-entry.pairs.items c.visit.new.pairs.items so.2.0 so.0 (child_leaf_trees next) ok.0 so.2.1 ok.4,
+          adds_append c.args.pairs.now.items c.loop-entry.pairs.items c.visit.new.pairs.items so.2.0 so.0 (child_leaf_trees next) ok.0 so.2.1 ok.4,
           append_assoc so.2.0 (child_leaf_trees next) _ ∙ ap (λ ts. so.2.0 ++ ts) ahead ∙ so.2.2,
         ),
-        raised_then _ _ _ so.1 ok.1 so.3 ok.3,
-        FoldsTo-append (λ f p h. CalledAt g.F.FnMut f p.1 (Ok p.0) h) c.args.out.now so.0 c.loop-entry.out ok.0 c.visit.new.out so.4 ok.5,
+        raised_append _ _ _ so.1 ok.1 so.3 ok.3,
+        folds_to_append (λ f p h. CalledAt g.F.FnMut f p.1 (Ok p.0) h) c.args.out.now so.0 c.loop-entry.out ok.0 c.visit.new.out so.4 ok.5,
         walk_step dirs bases inside based items c.loop-entry.entry-index e so.0 ok.0 (so_far c.args.base.now c.loop-entry.own)
             (kept_with e c.in_ok-id.id) so.1 ok.1 c.loop-entry-test.true c.entry-item.is same base ok.2 so.5
             (so_far c.args.base.now c.keep_entry.new.own)
             kept.entries,
       );
-      callable = callable_after _ (λ f p h. CalledAt g.F.FnMut f p.1 (Ok p.0) h) c.loop-entry.out ok.0 c.visit.new.out ok.5
+      callable = callable_after_folds _ (λ f p h. CalledAt g.F.FnMut f p.1 (Ok p.0) h) c.loop-entry.out ok.0 c.visit.new.out ok.5
           c.loop-entry.invariant.callable;
       shares_base = kept.shares_base;
       ahead = subst (Ahead node (drop (c.loop-entry.entry-index + 1) items)) (sym c.next_of.ensures.following) go.ahead;
@@ -93,9 +93,9 @@ pub leaves-visit-requires : goal.leaves-visit-requires
 leaves-visit-requires g t c =
     let node = c.args.node.now in
     let items = c.entries_of-entry-items.result.now in
-    let go = stepped node items c.loop-entry.entry-index c.entry-item.result c.loop-entry.remaining.now c.loop-entry-test.true c.entry-item.is
+    let go = stepped_succ node items c.loop-entry.entry-index c.entry-item.result c.loop-entry.remaining.now c.loop-entry-test.true c.entry-item.is
     c.loop-entry.invariant.ahead in
-    let smaller : passed_size c.next_of.result.0 < length node = passed_fewer node c.next_of.result.0 _ c.next_of.ensures.next go.fewer
+    let smaller : passed_size c.next_of.result.0 < length node = consumed_size_lt node c.next_of.result.0 _ c.next_of.ensures.next go.fewer
     (omega (arith, c.loop-entry.invariant.ahead.fewer)) in
     λ κs lives. (omega (arith, smaller, c.decreases), (search rules, (search rules, c.loop-entry.invariant.callable)))
 
@@ -107,7 +107,7 @@ leaves-returns-in_err-id-clause-error g t c =
     let dirs = dirs_of node in
     let bases = bases_of node in
     let items = c.entries_of-entry-items.result.now in
-    let go = stepped node items c.loop-entry.entry-index e c.loop-entry.remaining.now c.loop-entry-test.true c.entry-item.is
+    let go = stepped_succ node items c.loop-entry.entry-index e c.loop-entry.remaining.now c.loop-entry-test.true c.entry-item.is
     c.loop-entry.invariant.ahead in
     let next = option_copied c.next_of.result.0 in
     let inside = child_side entries_side next in
@@ -116,13 +116,13 @@ leaves-returns-in_err-id-clause-error g t c =
     let based = child_side base_side next in
     let base : in_dir e.name bases ≡ based =
     λ i path. (go.here base_side path ∙ ap (λ (o : Option Child). child_side base_side o path) (sym c.next_of.ensures.next)) i in
-    let root : dirs [] ≡ Some items = level_root node c.node.inside.tree (parts c.node.inside.children.items) c.node.view_is
+    let root : dirs [] ≡ Some items = dirs_of_nil node c.node.inside.tree (parts c.node.inside.children.items) c.node.view_is
     ∙ ap Some (sym c.entries_of-entry-items.ensures) in
-    let rest = walk_on node (drop (c.loop-entry.entry-index + 1) items) in
-    err_weaker c.from_residual.result _ _ c.from_residual.ensures.1
+    let rest = walk_exists_of_open node (drop (c.loop-entry.entry-index + 1) items) in
+    if_err_weaken c.from_residual.result _ _ c.from_residual.ensures.1
     (λ error is. subst (Stopped (λ f p h. CalledAt g.F.FnMut f p.1 (Ok p.0) h) (λ f tree x h. CalledAt g.F.FnMut f tree (Err x) h)
     (λ ps. (own : List EntryView) × (n : ℕ) × EmitsBelow dirs bases ps own n) c.args.out.now c.visit.new.out) (sym is)
-    (stopped_after (λ f p h. CalledAt g.F.FnMut f p.1 (Ok p.0) h) (λ f tree x h. CalledAt g.F.FnMut f tree (Err x) h)
+    (stopped_after_folds (λ f p h. CalledAt g.F.FnMut f p.1 (Ok p.0) h) (λ f tree x h. CalledAt g.F.FnMut f tree (Err x) h)
     (λ inner. (kept : List EntryView) × (n : ℕ) × Visits inside based e inner kept n)
     (λ ps. (own : List EntryView) × (n : ℕ) × EmitsBelow dirs bases ps own n)
     c.args.out.now c.loop-entry.out c.visit.new.out so.0 so.4
@@ -146,7 +146,7 @@ leaves-returns-in_err-keep_entry-clause-error g t c =
     let dirs = dirs_of node in
     let bases = bases_of node in
     let items = c.entries_of-entry-items.result.now in
-    let go = stepped node items c.loop-entry.entry-index e c.loop-entry.remaining.now c.loop-entry-test.true c.entry-item.is
+    let go = stepped_succ node items c.loop-entry.entry-index e c.loop-entry.remaining.now c.loop-entry-test.true c.entry-item.is
     c.loop-entry.invariant.ahead in
     let next = option_copied c.next_of.result.0 in
     let inside = child_side entries_side next in
@@ -155,16 +155,16 @@ leaves-returns-in_err-keep_entry-clause-error g t c =
     let based = child_side base_side next in
     let base : in_dir e.name bases ≡ based =
     λ i path. (go.here base_side path ∙ ap (λ (o : Option Child). child_side base_side o path) (sym c.next_of.ensures.next)) i in
-    let root : dirs [] ≡ Some items = level_root node c.node.inside.tree (parts c.node.inside.children.items) c.node.view_is
+    let root : dirs [] ≡ Some items = dirs_of_nil node c.node.inside.tree (parts c.node.inside.children.items) c.node.view_is
     ∙ ap Some (sym c.entries_of-entry-items.ensures) in
     let ok = c.in_ok-id.ensures.ok in
     let kept = kept_with e c.in_ok-id.id in
     let acc = so_far c.args.base.now c.loop-entry.own in
-    let rest = walk_on node (drop (c.loop-entry.entry-index + 1) items) in
-    err_weaker c.from_residual-in_err-keep_entry.result _ _ c.from_residual-in_err-keep_entry.ensures.1
-    (stopped_here (λ f p h. CalledAt g.F.FnMut f p.1 (Ok p.0) h) (λ f tree x h. CalledAt g.F.FnMut f tree (Err x) h)
+    let rest = walk_exists_of_open node (drop (c.loop-entry.entry-index + 1) items) in
+    if_err_weaken c.from_residual-in_err-keep_entry.result _ _ c.from_residual-in_err-keep_entry.ensures.1
+    (stopped_at_call (λ f p h. CalledAt g.F.FnMut f p.1 (Ok p.0) h) (λ f tree x h. CalledAt g.F.FnMut f tree (Err x) h)
     (λ ps. (own : List EntryView) × (n : ℕ) × EmitsBelow dirs bases ps own n) c.args.out.now c.visit.new.out (so.0 ++ ok.0) rest.0
-    (FoldsTo-append (λ f p h. CalledAt g.F.FnMut f p.1 (Ok p.0) h) c.args.out.now so.0 c.loop-entry.out ok.0 c.visit.new.out so.4 ok.5) (
+    (folds_to_append (λ f p h. CalledAt g.F.FnMut f p.1 (Ok p.0) h) c.args.out.now so.0 c.loop-entry.out ok.0 c.visit.new.out so.4 ok.5) (
       (acc ++ kept) ++ rest.1,
       so.1 + ok.1 + rest.2,
       leaves dirs bases items _ _ _ root
@@ -179,17 +179,17 @@ leaves-returns-clause-ok g t c =
     let node = c.args.node.now in
     let dirs = dirs_of node in
     let items = c.entries_of-entry-items.result.now in
-    let root : dirs [] ≡ Some items = level_root node c.node.inside.tree (parts c.node.inside.children.items) c.node.view_is
+    let root : dirs [] ≡ Some items = dirs_of_nil node c.node.inside.tree (parts c.node.inside.children.items) c.node.view_is
     ∙ ap Some (sym c.entries_of-entry-items.ensures) in
     let bases = bases_of node in
     let own = so_far c.args.base.now c.loop-entry.own in
-    let none = none_remaining node _ _ (drop_all c.loop-entry.entry-index items c.loop-entry-test.false) c.loop-entry.invariant.ahead in
+    let none = remaining_nil node _ _ (drop_all c.loop-entry.entry-index items c.loop-entry-test.false) c.loop-entry.invariant.ahead in
     let all : so.2.0 ≡ leaf_trees (inside_of node) = sym (append-nil so.2.0) ∙ ap (λ cs. so.2.0 ++ leaf_trees (below (parts cs))) (sym none)
     ∙ so.2.2 in
     let adds = subst (λ ts. Adds c.args.pairs.now.items c.loop-entry.pairs.items ts so.0) all so.2.1 in (
       so.0,
       so.1,
-      leaves dirs bases items so.0 own so.1 root (walk_ends dirs bases items c.loop-entry.entry-index so.0 own so.1 c.loop-entry-test.false so.5),
+      leaves dirs bases items so.0 own so.1 root (walks_at_end dirs bases items c.loop-entry.entry-index so.0 own so.1 c.loop-entry-test.false so.5),
       so.3,
       adds,
       so.4,
@@ -202,7 +202,7 @@ leaves-returns-clause-storable g t c =
     let items = c.entries_of-entry-items.result.now in
     let bases = bases_of c.args.node.now in
     let own = so_far c.args.base.now c.loop-entry.own in
-    walk_storable dirs bases items so.0 own so.1 (walk_ends dirs bases items c.loop-entry.entry-index so.0 own so.1 c.loop-entry-test.false so.5)
+    written_is_storable dirs bases items so.0 own so.1 (walks_at_end dirs bases items c.loop-entry.entry-index so.0 own so.1 c.loop-entry-test.false so.5)
     (subst IsWellFormed (sym c.entries_of-entry-items.ensures) c.node.invariant.formed)
 
 -- equal options have equal lists
@@ -218,12 +218,12 @@ visit-returns-in_default-clause-ok g t c =
       [],
       0,
       subst (λ id. Visits inside based e [] (entry_with e id) 0) (sym (ap (λ (x : EntryView). x.id) c.entry.view_is))
-          (visit_unopened inside based e none),
+          (visits_unopened inside based e none),
       refl,
       subst
           (λ (o : Option (Bor Child)). Adds c.args.pairs.now.items c.args.pairs.now.items (child_leaf_trees (option_copied o)) [])
           (sym c.in_default.is)
-          (adds_none c.args.pairs.now.items),
+          (adds_nil c.args.pairs.now.items),
       refl,
     )
 
@@ -233,24 +233,24 @@ visit-returns-in-Some-leaf_tree-clause-ok g t c =
     let inside = child_side entries_side (option_copied c.args.child) in
     let based = child_side base_side (option_copied c.args.child) in
     let child = c.in-Some.child.now in
-    let there = open_side entries_side c.args.child c.in-Some.child c.in-Some.is in
-    let base = open_side base_side c.args.child c.in-Some.child c.in-Some.is in
+    let there = side_of_open_child entries_side c.args.child c.in-Some.child c.in-Some.is in
+    let base = side_of_open_child base_side c.args.child c.in-Some.child c.in-Some.is in
     let tree = c.in-Some-leaf_tree.tree.now in
     let some = c.in-Some-leaf_tree.ensures.some in
-    let goes = leaf_tree_is_emitted child.open tree some.0 some.1 some.2 in
-    let found : EmitsBelow inside based [] tree 0 = in_both _ _ inside based there base [] tree 0 goes.found in
+    let goes = leaf_tree_has_base_or_is_emitted child.open tree some.0 some.1 some.2 in
+    let found : EmitsBelow inside based [] tree 0 = emits_below_of_both _ _ inside based there base [] tree 0 goes.found in
     let changed : based [] ≢ Some tree = λ is. goes.changed (same_some _ _ (sym is ∙ sym (ap (λ (d : Dirs). d []) base) ∙ goes.based)) in
     let emitted = c.in_ok-passed.ensures.ok in
     let id = c.in_ok-passed.passed in
     let gave = λ (f : g.row.F.Denot) (p : Pair) (h : g.row.F.Denot). CalledAt g.F.FnMut f p.1 (Ok p.0) h in (
       (id, tree) ∷ [],
       0,
-      visit_written inside based e [] tree 0 id goes.filled changed found,
+      visits_written inside based e [] tree 0 id goes.filled changed found,
       refl,
-      adds_child c.args.child c.in-Some.child c.in-Some.is (tree ∷ []) goes.adds c.args.pairs.now.items c.emit_leaf_tree.new.pairs.items
+      adds_leaf_trees_of_child c.args.child c.in-Some.child c.in-Some.is (tree ∷ []) goes.adds c.args.pairs.now.items c.emit_leaf_tree.new.pairs.items
           ((id, tree) ∷ [])
-          (adds_blank c.args.pairs.now.items c.emit_leaf_tree.new.pairs.items (id, []) tree refl emitted.0),
-      FoldsTo-one gave c.args.out.now (id, tree) c.emit_leaf_tree.new.out emitted.1,
+          (adds_blank_tree c.args.pairs.now.items c.emit_leaf_tree.new.pairs.items (id, []) tree refl emitted.0),
+      folds_to_one gave c.args.out.now (id, tree) c.emit_leaf_tree.new.out emitted.1,
     )
 
 pub visit-returns-in_err-passed-clause-error : goal.visit-returns-in_err-passed-clause-error
@@ -259,17 +259,17 @@ visit-returns-in_err-passed-clause-error g t c =
     let inside = child_side entries_side (option_copied c.args.child) in
     let based = child_side base_side (option_copied c.args.child) in
     let child = c.in-Some.child.now in
-    let there = open_side entries_side c.args.child c.in-Some.child c.in-Some.is in
-    let base = open_side base_side c.args.child c.in-Some.child c.in-Some.is in
+    let there = side_of_open_child entries_side c.args.child c.in-Some.child c.in-Some.is in
+    let base = side_of_open_child base_side c.args.child c.in-Some.child c.in-Some.is in
     let tree = c.in-Some-leaf_tree.tree.now in
     let some = c.in-Some-leaf_tree.ensures.some in
-    let goes = leaf_tree_is_emitted child.open tree some.0 some.1 some.2 in
-    let found : EmitsBelow inside based [] tree 0 = in_both _ _ inside based there base [] tree 0 goes.found in
+    let goes = leaf_tree_has_base_or_is_emitted child.open tree some.0 some.1 some.2 in
+    let found : EmitsBelow inside based [] tree 0 = emits_below_of_both _ _ inside based there base [] tree 0 goes.found in
     let changed : based [] ≢ Some tree = λ is. goes.changed (same_some _ _ (sym is ∙ sym (ap (λ (d : Dirs). d []) base) ∙ goes.based)) in
-    err_weaker c.from_residual.result _ _ c.from_residual.ensures.1
+    if_err_weaken c.from_residual.result _ _ c.from_residual.ensures.1
     (λ error is. subst (Stopped (λ f p h. CalledAt g.F.FnMut f p.1 (Ok p.0) h) (λ f tree x h. CalledAt g.F.FnMut f tree (Err x) h)
     (λ inner. (kept : List EntryView) × (n : ℕ) × Visits inside based e inner kept n) c.args.out.now c.emit_leaf_tree.new.out) (sym is)
-    (stopped_after (λ f p h. CalledAt g.F.FnMut f p.1 (Ok p.0) h) (λ f tree x h. CalledAt g.F.FnMut f tree (Err x) h)
+    (stopped_after_folds (λ f p h. CalledAt g.F.FnMut f p.1 (Ok p.0) h) (λ f tree x h. CalledAt g.F.FnMut f tree (Err x) h)
     (λ ps. (id : ObjectId) × (ps ≡ (id, tree) ∷ [])) (λ inner. (kept : List EntryView) × (n : ℕ) × Visits inside based e inner kept n)
     c.args.out.now c.args.out.now c.emit_leaf_tree.new.out [] refl
     (λ qs one. (
@@ -278,7 +278,7 @@ visit-returns-in_err-passed-clause-error g t c =
         entry_with e one.0,
         0,
         subst (λ ps. Visits inside based e ps (entry_with e one.0) 0) (sym (append-nil qs ∙ one.1))
-            (visit_written inside based e [] tree 0 one.0 goes.filled changed found),
+            (visits_written inside based e [] tree 0 one.0 goes.filled changed found),
       ),
     ))
     c.in_err-passed.field-0.0 c.in_err-passed.ensures.error))
@@ -289,17 +289,17 @@ visit-returns-in_err-own-clause-error g t c =
     let inside = child_side entries_side (option_copied c.args.child) in
     let based = child_side base_side (option_copied c.args.child) in
     let child = c.in-Some.child.now in
-    let there = open_side entries_side c.args.child c.in-Some.child c.in-Some.is in
-    let base = open_side base_side c.args.child c.in-Some.child c.in-Some.is in
-    err_weaker c.from_residual-in_err-own.result _ _ c.from_residual-in_err-own.ensures.1
+    let there = side_of_open_child entries_side c.args.child c.in-Some.child c.in-Some.is in
+    let base = side_of_open_child base_side c.args.child c.in-Some.child c.in-Some.is in
+    if_err_weaken c.from_residual-in_err-own.result _ _ c.from_residual-in_err-own.ensures.1
     (λ error is. subst (Stopped (λ f p h. CalledAt g.F.FnMut f p.1 (Ok p.0) h) (λ f tree x h. CalledAt g.F.FnMut f tree (Err x) h)
     (λ inner. (kept : List EntryView) × (n : ℕ) × Visits inside based e inner kept n) c.args.out.now c.leaves.new.out) (sym is)
-    (stopped_after (λ f p h. CalledAt g.F.FnMut f p.1 (Ok p.0) h) (λ f tree x h. CalledAt g.F.FnMut f tree (Err x) h)
+    (stopped_after_folds (λ f p h. CalledAt g.F.FnMut f p.1 (Ok p.0) h) (λ f tree x h. CalledAt g.F.FnMut f tree (Err x) h)
     (λ ps. (own : List EntryView) × (n : ℕ) × EmitsBelow (dirs_of child.open) (bases_of child.open) ps own n)
     (λ inner. (kept : List EntryView) × (n : ℕ)
     × Visits inside based e inner kept n)
     c.args.out.now c.args.out.now c.leaves.new.out [] refl
-    (λ qs found. let seen = visit_open inside based e qs found.0 found.1 (in_both _ _ inside based there base qs found.0 found.1 found.2) in
+    (λ qs found. let seen = visits_open inside based e qs found.0 found.1 (emits_below_of_both _ _ inside based there base qs found.0 found.1 found.2) in
     (seen.0, (seen.1, seen.2, seen.3)))
     c.in_err-own.field-0.0 c.in_err-own.ensures.error))
 
@@ -309,17 +309,17 @@ visit-returns-then-is_bare-clause-ok g t c =
     let inside = child_side entries_side (option_copied c.args.child) in
     let based = child_side base_side (option_copied c.args.child) in
     let child = c.in-Some.child.now in
-    let there = open_side entries_side c.args.child c.in-Some.child c.in-Some.is in
-    let base = open_side base_side c.args.child c.in-Some.child c.in-Some.is in
+    let there = side_of_open_child entries_side c.args.child c.in-Some.child c.in-Some.is in
+    let base = side_of_open_child base_side c.args.child c.in-Some.child c.in-Some.is in
     let ok = c.in_ok-own.ensures.ok in
     let own = so_far c.base_of-base.result.now c.in_ok-own.own in
-    let found : EmitsBelow inside based ok.0 own ok.1 = in_both _ _ inside based there base ok.0 own ok.1 ok.2 in
-    let bare = is_empty_list own (c.if-is_bare.ensures {u = tt} c.base_of-base.result.now c.in_ok-own.ensures.shares_base) in (
+    let found : EmitsBelow inside based ok.0 own ok.1 = emits_below_of_both _ _ inside based there base ok.0 own ok.1 ok.2 in
+    let bare = nil_of_is_empty own (c.if-is_bare.ensures {u = tt} c.base_of-base.result.now c.in_ok-own.ensures.shares_base) in (
       ok.0,
       ok.1,
-      visit_emptied inside based e ok.0 own ok.1 bare found,
+      visits_emptied inside based e ok.0 own ok.1 bare found,
       ok.3,
-      adds_child c.args.child c.in-Some.child c.in-Some.is _
+      adds_leaf_trees_of_child c.args.child c.in-Some.child c.in-Some.is _
           c.in_default-leaf_tree.ensures.none c.args.pairs.now.items _ ok.0 ok.4,
       ok.5,
     )
@@ -330,21 +330,21 @@ visit-returns-then-is_base-clause-ok g t c =
     let inside = child_side entries_side (option_copied c.args.child) in
     let based = child_side base_side (option_copied c.args.child) in
     let child = c.in-Some.child.now in
-    let there = open_side entries_side c.args.child c.in-Some.child c.in-Some.is in
-    let base = open_side base_side c.args.child c.in-Some.child c.in-Some.is in
+    let there = side_of_open_child entries_side c.args.child c.in-Some.child c.in-Some.is in
+    let base = side_of_open_child base_side c.args.child c.in-Some.child c.in-Some.is in
     let ok = c.in_ok-own.ensures.ok in
     let own = so_far c.base_of-base.result.now c.in_ok-own.own in
-    let found : EmitsBelow inside based ok.0 own ok.1 = in_both _ _ inside based there base ok.0 own ok.1 ok.2 in
-    let filled = is_filled_list own (c.if-is_bare.ensures {u = tt} c.base_of-base.result.now c.in_ok-own.ensures.shares_base) in
+    let found : EmitsBelow inside based ok.0 own ok.1 = emits_below_of_both _ _ inside based there base ok.0 own ok.1 ok.2 in
+    let filled = not_nil_of_not_empty own (c.if-is_bare.ensures {u = tt} c.base_of-base.result.now c.in_ok-own.ensures.shares_base) in
     let is_same : based [] ≡ Some own = sym (ap (λ (d : Dirs). d []) base) ∙ c.base_of-base.ensures
     ∙ ap Some (sym ((c.if-is_base.ensures {u = tt}).0 refl)) in
     let kept = subst (λ id. Visits inside based e ok.0 (entry_with e id) (ok.1 + 1)) (sym (ap (λ (x : EntryView). x.id) c.entry.view_is))
-    (visit_unchanged inside based e ok.0 own ok.1 filled is_same found) in (
+    (visits_unchanged inside based e ok.0 own ok.1 filled is_same found) in (
       ok.0,
       ok.1 + 1,
       kept,
-      raised_then _ _ _ ok.1 1 ok.3 c.count.ensures,
-      adds_child c.args.child c.in-Some.child c.in-Some.is _ c.in_default-leaf_tree.ensures.none
+      raised_append _ _ _ ok.1 1 ok.3 c.count.ensures,
+      adds_leaf_trees_of_child c.args.child c.in-Some.child c.in-Some.is _ c.in_default-leaf_tree.ensures.none
           c.args.pairs.now.items _ ok.0 ok.4,
       ok.5,
     )
@@ -355,20 +355,20 @@ visit-returns-in_err-tree-clause-error g t c =
     let inside = child_side entries_side (option_copied c.args.child) in
     let based = child_side base_side (option_copied c.args.child) in
     let child = c.in-Some.child.now in
-    let there = open_side entries_side c.args.child c.in-Some.child c.in-Some.is in
-    let base = open_side base_side c.args.child c.in-Some.child c.in-Some.is in
+    let there = side_of_open_child entries_side c.args.child c.in-Some.child c.in-Some.is in
+    let base = side_of_open_child base_side c.args.child c.in-Some.child c.in-Some.is in
     let ok = c.in_ok-own.ensures.ok in
     let own = so_far c.base_of-base.result.now c.in_ok-own.own in
-    let found : EmitsBelow inside based ok.0 own ok.1 = in_both _ _ inside based there base ok.0 own ok.1 ok.2 in
-    let seen = visit_open inside based e ok.0 own ok.1 found in
-    err_weaker c.from_residual-in_err-tree.result _ _ c.from_residual-in_err-tree.ensures.1
-    (stopped_here (λ f p h. CalledAt g.F.FnMut f p.1 (Ok p.0) h) (λ f tree x h. CalledAt g.F.FnMut f tree (Err x) h)
+    let found : EmitsBelow inside based ok.0 own ok.1 = emits_below_of_both _ _ inside based there base ok.0 own ok.1 ok.2 in
+    let seen = visits_open inside based e ok.0 own ok.1 found in
+    if_err_weaken c.from_residual-in_err-tree.result _ _ c.from_residual-in_err-tree.ensures.1
+    (stopped_at_call (λ f p h. CalledAt g.F.FnMut f p.1 (Ok p.0) h) (λ f tree x h. CalledAt g.F.FnMut f tree (Err x) h)
     (λ inner. (kept : List EntryView) × (n : ℕ)
     × Visits inside based e inner kept n) c.args.out.now c.leaves.new.out ok.0 seen.0 ok.5 (seen.1, seen.2, seen.3))
 
 pub visit-emit_tree-requires-clause-callable : goal.visit-emit_tree-requires-clause-callable
 visit-emit_tree-requires-clause-callable g t c = let ok =
-    c.in_ok-own.ensures.ok in callable_after _ (λ f p h. CalledAt g.F.FnMut f p.1 (Ok p.0) h) c.args.out.now ok.0 c.leaves.new.out ok.5
+    c.in_ok-own.ensures.ok in callable_after_folds _ (λ f p h. CalledAt g.F.FnMut f p.1 (Ok p.0) h) c.args.out.now ok.0 c.leaves.new.out ok.5
     c.requires.callable
 
 pub visit-emit_tree-requires-clause-storable : goal.visit-emit_tree-requires-clause-storable
@@ -380,20 +380,20 @@ visit-returns-in_err-id-clause-error g t c =
     let inside = child_side entries_side (option_copied c.args.child) in
     let based = child_side base_side (option_copied c.args.child) in
     let child = c.in-Some.child.now in
-    let there = open_side entries_side c.args.child c.in-Some.child c.in-Some.is in
-    let base = open_side base_side c.args.child c.in-Some.child c.in-Some.is in
+    let there = side_of_open_child entries_side c.args.child c.in-Some.child c.in-Some.is in
+    let base = side_of_open_child base_side c.args.child c.in-Some.child c.in-Some.is in
     let ok = c.in_ok-own.ensures.ok in
     let own = so_far c.base_of-base.result.now c.in_ok-own.own in
-    let found : EmitsBelow inside based ok.0 own ok.1 = in_both _ _ inside based there base ok.0 own ok.1 ok.2 in
-    let filled = is_filled_list own (c.if-is_bare.ensures {u = tt} c.base_of-base.result.now c.in_ok-own.ensures.shares_base) in
+    let found : EmitsBelow inside based ok.0 own ok.1 = emits_below_of_both _ _ inside based there base ok.0 own ok.1 ok.2 in
+    let filled = not_nil_of_not_empty own (c.if-is_bare.ensures {u = tt} c.base_of-base.result.now c.in_ok-own.ensures.shares_base) in
     let changed : based [] ≢ Some own = λ is. let so =
     (c.if-is_base.ensures {u = tt}).1 (same_some _ _ (sym is ∙ sym (ap (λ (d : Dirs). d []) base) ∙ c.base_of-base.ensures)) in absurd (cc so) in
     let tree = c.in_ok-tree.tree in
     let made : own ≡ tree = sym c.in_ok-tree.ensures.tree in
-    err_weaker c.from_residual-in_err-id.result _ _ c.from_residual-in_err-id.ensures.1
+    if_err_weaken c.from_residual-in_err-id.result _ _ c.from_residual-in_err-id.ensures.1
     (λ error is. subst (Stopped (λ f p h. CalledAt g.F.FnMut f p.1 (Ok p.0) h) (λ f tree x h. CalledAt g.F.FnMut f tree (Err x) h)
     (λ inner. (kept : List EntryView) × (n : ℕ) × Visits inside based e inner kept n) c.args.out.now c.emit_tree.new.out) (sym is)
-    (stopped_after (λ f p h. CalledAt g.F.FnMut f p.1 (Ok p.0) h) (λ f tree x h. CalledAt g.F.FnMut f tree (Err x) h)
+    (stopped_after_folds (λ f p h. CalledAt g.F.FnMut f p.1 (Ok p.0) h) (λ f tree x h. CalledAt g.F.FnMut f tree (Err x) h)
     (λ ps. (id : ObjectId) × (ps ≡ (id, tree) ∷ [])) (λ inner. (kept : List EntryView) × (n : ℕ) × Visits inside based e inner kept n)
     c.args.out.now c.leaves.new.out c.emit_tree.new.out ok.0 ok.5
     (λ qs one. (
@@ -402,7 +402,7 @@ visit-returns-in_err-id-clause-error g t c =
         entry_with e one.0,
         ok.1,
         subst (λ ps. Visits inside based e (ok.0 ++ ps) (entry_with e one.0) ok.1)
-            (ap (λ t'. (one.0, t') ∷ []) made ∙ sym (append-nil qs ∙ one.1)) (visit_written inside based e ok.0 own ok.1 one.0 filled changed found),
+            (ap (λ t'. (one.0, t') ∷ []) made ∙ sym (append-nil qs ∙ one.1)) (visits_written inside based e ok.0 own ok.1 one.0 filled changed found),
       ),
     ))
     c.in_err-id.field-0.0 c.in_err-id.ensures.error))
@@ -413,12 +413,12 @@ visit-returns-clause-ok g t c =
     let inside = child_side entries_side (option_copied c.args.child) in
     let based = child_side base_side (option_copied c.args.child) in
     let child = c.in-Some.child.now in
-    let there = open_side entries_side c.args.child c.in-Some.child c.in-Some.is in
-    let base = open_side base_side c.args.child c.in-Some.child c.in-Some.is in
+    let there = side_of_open_child entries_side c.args.child c.in-Some.child c.in-Some.is in
+    let base = side_of_open_child base_side c.args.child c.in-Some.child c.in-Some.is in
     let ok = c.in_ok-own.ensures.ok in
     let own = so_far c.base_of-base.result.now c.in_ok-own.own in
-    let found : EmitsBelow inside based ok.0 own ok.1 = in_both _ _ inside based there base ok.0 own ok.1 ok.2 in
-    let filled = is_filled_list own (c.if-is_bare.ensures {u = tt} c.base_of-base.result.now c.in_ok-own.ensures.shares_base) in
+    let found : EmitsBelow inside based ok.0 own ok.1 = emits_below_of_both _ _ inside based there base ok.0 own ok.1 ok.2 in
+    let filled = not_nil_of_not_empty own (c.if-is_bare.ensures {u = tt} c.base_of-base.result.now c.in_ok-own.ensures.shares_base) in
     let changed : based [] ≢ Some own = λ is. let so =
     (c.if-is_base.ensures {u = tt}).1 (same_some _ _ (sym is ∙ sym (ap (λ (d : Dirs). d []) base) ∙ c.base_of-base.ensures)) in absurd (cc so) in
     let tree = c.in_ok-tree.tree in
@@ -428,12 +428,12 @@ visit-returns-clause-ok g t c =
       ok.0 ++ (c.in_ok-id.id, tree) ∷ [],
       ok.1,
       subst (λ t'. Visits inside based e (ok.0 ++ (c.in_ok-id.id, t') ∷ []) (entry_with e c.in_ok-id.id) ok.1) made
-          (visit_written inside based e ok.0 own ok.1 c.in_ok-id.id filled changed found),
+          (visits_written inside based e ok.0 own ok.1 c.in_ok-id.id filled changed found),
       ok.3,
-      adds_child c.args.child c.in-Some.child c.in-Some.is _ (c.in_default-leaf_tree.ensures.none ∙ sym (append-nil _)) c.args.pairs.now.items
+      adds_leaf_trees_of_child c.args.child c.in-Some.child c.in-Some.is _ (c.in_default-leaf_tree.ensures.none ∙ sym (append-nil _)) c.args.pairs.now.items
           c.emit_tree.new.pairs.items (ok.0 ++ (c.in_ok-id.id, tree) ∷ [])
-          (adds_then c.args.pairs.now.items c.leaves.new.pairs.items c.emit_tree.new.pairs.items _ ok.0 [] ((c.in_ok-id.id, tree) ∷ []) ok.4
-          (adds_passed _ _ (c.in_ok-id.id, tree) (λ none. filled (made ∙ none)) emitted.0)),
-      FoldsTo-append gave c.args.out.now ok.0 c.leaves.new.out ((c.in_ok-id.id, tree) ∷ []) c.emit_tree.new.out ok.5
-          (FoldsTo-one gave c.leaves.new.out (c.in_ok-id.id, tree) c.emit_tree.new.out emitted.1),
+          (adds_append c.args.pairs.now.items c.leaves.new.pairs.items c.emit_tree.new.pairs.items _ ok.0 [] ((c.in_ok-id.id, tree) ∷ []) ok.4
+          (adds_pair _ _ (c.in_ok-id.id, tree) (λ none. filled (made ∙ none)) emitted.0)),
+      folds_to_append gave c.args.out.now ok.0 c.leaves.new.out ((c.in_ok-id.id, tree) ∷ []) c.emit_tree.new.out ok.5
+          (folds_to_one gave c.leaves.new.out (c.in_ok-id.id, tree) c.emit_tree.new.out emitted.1),
     )

@@ -10,18 +10,18 @@ use Rattle.gixobj_files.specs.Emission.{Saves}
 use Rattle.gixobj_files.specs.Opening.{Dirs, in_path}
 use Rattle.gixobj_directories.specs.Calls.{names_of}
 use Rattle.gixobj_directories.specs.Nested.{Opened, bases_of, dirs_of, in_part, parts}
-use Rattle.gixobj_directories.proofs.Emitting.{in_both, stopped_same}
-use Rattle.gixobj_directories.proofs.Levels.{found, level_set, set_becomes}
-use Rattle.gixobj_directories.proofs.OpeningSteps.{names_none, only_is}
+use Rattle.gixobj_directories.proofs.Emitting.{emits_below_of_both, stopped_of_same_dirs}
+use Rattle.gixobj_directories.proofs.Levels.{in_part_of_child, is_level_set, becomes_of_set}
+use Rattle.gixobj_directories.proofs.OpeningSteps.{names_of_nil, dirs_of_childless}
 use Rattle.gixobj_directories.proofs.Steps.{path_based, path_down, place_down, place_unopened, written_deeper}
 use Rattle.gixobj_files.specs.Bases.{base_edited}
 use Rattle.gixobj_directories.proofs.BaseSteps.{editing, set_moved}
-use Rattle.gixobj_directories.proofs.Ordered.{level_apart}
+use Rattle.gixobj_directories.proofs.Ordered.{level_names_apart}
 use Rattle.gixobj_directories.proofs.write.+write_at.Goals as goal
 
 pub returns-in_default-clause-ok : goal.returns-in_default-clause-ok
 returns-in_default-clause-ok g t c = MatchResult-weaker c.write_all.result c.write_all.ensures.ok (λ it ok.
-    let none = names_none c.args.path.now c.in_default.ensures.cases in
+    let none = names_of_nil c.args.path.now c.in_default.ensures.cases in
     let dirs = dirs_of c.args.node.now in (
       ok.0,
       ok.1,
@@ -29,25 +29,26 @@ returns-in_default-clause-ok g t c = MatchResult-weaker c.write_all.result c.wri
       ok.3,
       ok.4,
       ok.5,
-      λ at. rw none (ap (λ (ds : Opened). dirs_of ds at) ok.6.1 ∙ ap (λ (d : Dirs). d at) (only_is ok.1)),
+      λ at. rw none (ap (λ (ds : Opened). dirs_of ds at) ok.6.1 ∙ ap (λ (d : Dirs). d at) (dirs_of_childless ok.1)),
     )) (λ _ u. u)
 
 pub returns-in_default-clause-error : goal.returns-in_default-clause-error
 returns-in_default-clause-error g t c = MatchResult-weaker c.write_all.result c.write_all.ensures.error (λ _ u. u) (λ error stopped.
-    let none = names_none c.args.path.now c.in_default.ensures.cases in
+    let none = names_of_nil c.args.path.now c.in_default.ensures.cases in
     let dirs = dirs_of c.args.node.now in
-    stopped_same (λ f p h. CalledAt g.F.FnMut f p.1 (Ok p.0) h) (λ f tree x h. CalledAt g.F.FnMut f tree (Err x) h) dirs
+    stopped_of_same_dirs (λ f p h. CalledAt g.F.FnMut f p.1 (Ok p.0) h) (λ f tree x h. CalledAt g.F.FnMut f tree (Err x) h) dirs
     (in_path (names_of c.args.path.now) dirs) (bases_of c.args.node.now) (in_path (names_of c.args.path.now) (bases_of c.args.node.now))
     (sym (ap (λ (p : Path). in_path p dirs) none)) (sym (ap (λ (p : Path). in_path p (bases_of c.args.node.now)) none)) c.args.out.now c.write_all.new.out error
     stopped)
 
 pub invariant_of-node : goal.invariant_of-node
-invariant_of-node g t c = level_set c.node.inside.tree c.node.inside.children.items c.in-Some-child_at.place c.index_mut-child.result.now _
+invariant_of-node g t c = is_level_set c.node.inside.tree c.node.inside.children.items c.in-Some-child_at.place c.index_mut-child.result.now _
     c.index_mut-child.ensures.value refl c.node.invariant
 
 pub write_at-requires : goal.write_at-requires
 write_at-requires g t c =
-    let there = place_down c.args.node.now c.node.inside.tree c.node.inside.children.items c.deref.result.now c.node.view_is (level_apart c.node.invariant)
+    let there = place_down c.args.node.now c.node.inside.tree c.node.inside.children.items c.deref.result.now c.node.view_is
+        (level_names_apart c.node.invariant)
     (names_of c.args.path.now) (bstring_bytes c.in-Some.name.now) (names_of c.in-Some.rest.now)
     (ap names_of c.in-Some.ensures.cases.0) c.deref.ensures.value
     c.in-Some-child_at.place c.index_mut-child.result.now (c.in-Some-child_at.ensures {u = tt}) c.index_mut-child.ensures.value in
@@ -55,7 +56,7 @@ write_at-requires g t c =
 
 pub unreachable-requires : goal.unreachable-requires
 unreachable-requires g t c = c.requires.is_open
-    (place_unopened c.args.node.now c.node.inside.tree c.node.inside.children.items c.deref.result.now c.node.view_is (level_apart c.node.invariant)
+    (place_unopened c.args.node.now c.node.inside.tree c.node.inside.children.items c.deref.result.now c.node.view_is (level_names_apart c.node.invariant)
     (names_of c.args.path.now) (bstring_bytes c.in-Some.name.now) (names_of c.in-Some.rest.now)
     (ap names_of c.in-Some.ensures.cases.0) c.deref.ensures.value
     (c.in_default-child_at.ensures {u = tt}))
@@ -68,26 +69,27 @@ returns-clause-ok g t c = MatchResult-weaker c.write_at.result c.write_at.ensure
     let path : names_of c.args.path.now ≡ name ∷ rest = ap names_of c.in-Some.ensures.cases.0 in
     let child = c.index_mut-child.result.now in
     let here = c.in-Some-child_at.ensures {u = tt} in
-    let level = level_set c.node.inside.tree cs c.in-Some-child_at.place child (record { name = child.name; «open» = c.write_at.new.node })
+    let level = is_level_set c.node.inside.tree cs c.in-Some-child_at.place child (record { name = child.name; «open» = c.write_at.new.node })
     c.index_mut-child.ensures.value refl c.node.invariant in
-    let was : in_part name (parts cs) ≡ dirs_of child.open = λ i at. found name cs c.deref.result.now c.in-Some-child_at.place child c.deref.ensures.value here
+    let was : in_part name (parts cs) ≡ dirs_of child.open = λ i at. in_part_of_child name cs c.deref.result.now c.in-Some-child_at.place child
+        c.deref.ensures.value here
     c.index_mut-child.ensures.value at i in
     let same : in_path (names_of c.args.path.now) (dirs_of c.args.node.now) ≡ in_path rest (dirs_of child.open) =
-    λ i at. path_down c.args.node.now c.node.inside.tree cs c.deref.result.now c.node.view_is (level_apart c.node.invariant)
+    λ i at. path_down c.args.node.now c.node.inside.tree cs c.deref.result.now c.node.view_is (level_names_apart c.node.invariant)
     (names_of c.args.path.now) name rest path c.deref.ensures.value c.in-Some-child_at.place child here c.index_mut-child.ensures.value at i in
     let same_bases : in_path (names_of c.args.path.now) (bases_of c.args.node.now) ≡ in_path rest (bases_of child.open) =
-    λ i at. path_based c.args.node.now c.node.inside.tree cs c.deref.result.now c.node.view_is (level_apart c.node.invariant)
+    λ i at. path_based c.args.node.now c.node.inside.tree cs c.deref.result.now c.node.view_is (level_names_apart c.node.invariant)
     (names_of c.args.path.now) name rest path c.deref.ensures.value c.in-Some-child_at.place child here c.index_mut-child.ensures.value at i in (
       ok.0,
       ok.1,
-      (ok.2.0, in_both _ _ _ _ (sym same) (sym same_bases) ok.0 ok.1 ok.2.0 ok.2.1, ok.2.2),
+      (ok.2.0, emits_below_of_both _ _ _ _ (sym same) (sym same_bases) ok.0 ok.1 ok.2.0 ok.2.1, ok.2.2),
       ok.3,
       ok.4,
       ok.5,
       rw path
-          (written_deeper c.args.node.now c.node.inside.tree c.node.inside.tree (parts cs) _ c.node.view_is (level_apart c.node.invariant)
-          (level_apart level) name (dirs_of c.write_at.new.node)
-          (set_becomes name cs c.deref.result.now c.in-Some-child_at.place child _ c.deref.ensures.value here c.index_mut-child.ensures.value refl)
+          (written_deeper c.args.node.now c.node.inside.tree c.node.inside.tree (parts cs) _ c.node.view_is (level_names_apart c.node.invariant)
+          (level_names_apart level) name (dirs_of c.write_at.new.node)
+          (becomes_of_set name cs c.deref.result.now c.in-Some-child_at.place child _ c.deref.ensures.value here c.index_mut-child.ensures.value refl)
           rest (only ok.1) refl (λ at. rw was (ok.6 at))),
     )) (λ _ u. u)
 
@@ -96,14 +98,16 @@ returns-clause-error g t c = MatchResult-weaker c.write_at.result c.write_at.ens
     let child = c.index_mut-child.result.now in
     let rest = names_of c.in-Some.rest.now in
     let same : in_path rest (dirs_of child.open) ≡ in_path (names_of c.args.path.now) (dirs_of c.args.node.now) =
-    λ i at. sym (path_down c.args.node.now c.node.inside.tree c.node.inside.children.items c.deref.result.now c.node.view_is (level_apart c.node.invariant)
+    λ i at. sym (path_down c.args.node.now c.node.inside.tree c.node.inside.children.items c.deref.result.now c.node.view_is
+        (level_names_apart c.node.invariant)
     (names_of c.args.path.now) (bstring_bytes c.in-Some.name.now) rest (ap names_of c.in-Some.ensures.cases.0) c.deref.ensures.value
     c.in-Some-child_at.place child (c.in-Some-child_at.ensures {u = tt}) c.index_mut-child.ensures.value at) i in
     let same_bases : in_path rest (bases_of child.open) ≡ in_path (names_of c.args.path.now) (bases_of c.args.node.now) =
-    λ i at. sym (path_based c.args.node.now c.node.inside.tree c.node.inside.children.items c.deref.result.now c.node.view_is (level_apart c.node.invariant)
+    λ i at. sym (path_based c.args.node.now c.node.inside.tree c.node.inside.children.items c.deref.result.now c.node.view_is
+        (level_names_apart c.node.invariant)
     (names_of c.args.path.now) (bstring_bytes c.in-Some.name.now) rest (ap names_of c.in-Some.ensures.cases.0) c.deref.ensures.value
     c.in-Some-child_at.place child (c.in-Some-child_at.ensures {u = tt}) c.index_mut-child.ensures.value at) i in
-    stopped_same (λ f p h. CalledAt g.F.FnMut f p.1 (Ok p.0) h) (λ f tree x h. CalledAt g.F.FnMut f tree (Err x) h) (in_path rest (dirs_of child.open))
+    stopped_of_same_dirs (λ f p h. CalledAt g.F.FnMut f p.1 (Ok p.0) h) (λ f tree x h. CalledAt g.F.FnMut f tree (Err x) h) (in_path rest (dirs_of child.open))
     (in_path (names_of c.args.path.now) (dirs_of c.args.node.now))
     (in_path rest (bases_of child.open)) (in_path (names_of c.args.path.now) (bases_of c.args.node.now)) same same_bases c.args.out.now c.write_at.new.out error
     stopped)
@@ -114,8 +118,9 @@ returns-clause-bases g t c = MatchResult-weaker c.write_at.result c.write_at.ens
     let cs = c.node.inside.children.items in
     let child = c.index_mut-child.result.now in
     let here = c.in-Some-child_at.ensures {u = tt} in
-    let level = level_set c.node.inside.tree cs c.in-Some-child_at.place child (record { name = child.name; «open» = c.write_at.new.node })
+    let level = is_level_set c.node.inside.tree cs c.in-Some-child_at.place child (record { name = child.name; «open» = c.write_at.new.node })
     c.index_mut-child.ensures.value refl c.node.invariant in
     set_moved base_edited editing c.args.node.now c.node.inside.tree cs c.deref.result.now c.node.view_is
-    (level_apart c.node.invariant) name c.in-Some-child_at.place child _ (level_apart level) c.deref.ensures.value here c.index_mut-child.ensures.value refl
+    (level_names_apart c.node.invariant) name c.in-Some-child_at.place child _
+        (level_names_apart level) c.deref.ensures.value here c.index_mut-child.ensures.value refl
     bases) (λ _ u. u)

@@ -6,17 +6,17 @@ use Rattle.gixobj_files.specs.Emission.{EmitsBelow}
 use Rattle.gixobj_directories.specs.Nested.{Opened, bases_of, dirs_of}
 use Rattle.gixobj_files.specs.WrittenTrees.{so_far}
 use Rattle.gixobj_directories.specs.LeafTrees.{Adds, inside_of, leaf_trees}
-use Rattle.gixobj_directories.proofs.Emitting.{err_weaker, stopped_here}
-use Rattle.gixobj_directories.proofs.Levels.{level_root}
-use Rattle.gixobj_directories.proofs.LeafTrees.{adds_none, leaf_tree_is_emitted}
+use Rattle.gixobj_directories.proofs.Emitting.{if_err_weaken, stopped_at_call}
+use Rattle.gixobj_directories.proofs.Levels.{dirs_of_nil}
+use Rattle.gixobj_directories.proofs.LeafTrees.{adds_nil, leaf_tree_has_base_or_is_emitted}
 use Rattle.gixobj_directories.proofs.write.leaves_copied.Goals as goal
 
 pub returns-in_err-entries-clause-error : goal.returns-in_err-entries-clause-error
 returns-in_err-entries-clause-error g c =
     let some = (c.in-Some.ensures {u = tt}).some in
-    let goes = leaf_tree_is_emitted c.args.node.now c.in-Some.tree.now some.0 some.1 some.2 in
-    err_weaker c.from_residual.result _ _ c.from_residual.ensures.1
-    (stopped_here (λ f p h. CalledAt g.F.FnMut f p.1 (Ok p.0) h) (λ f tree x h. CalledAt g.F.FnMut f tree (Err x) h)
+    let goes = leaf_tree_has_base_or_is_emitted c.args.node.now c.in-Some.tree.now some.0 some.1 some.2 in
+    if_err_weaken c.from_residual.result _ _ c.from_residual.ensures.1
+    (stopped_at_call (λ f p h. CalledAt g.F.FnMut f p.1 (Ok p.0) h) (λ f tree x h. CalledAt g.F.FnMut f tree (Err x) h)
     (λ ps. (own : List EntryView) × (n : ℕ) × EmitsBelow (dirs_of c.args.node.now) (bases_of c.args.node.now) ps own n) c.args.out.now c.args.out.now []
     [] refl
     (c.in-Some.tree.now, 0, goes.found))
@@ -24,9 +24,9 @@ returns-in_err-entries-clause-error g c =
 pub returns-in-Some-clause-ok : goal.returns-in-Some-clause-ok
 returns-in-Some-clause-ok g c =
     let some = (c.in-Some.ensures {u = tt}).some in
-    let goes = leaf_tree_is_emitted c.args.node.now c.in-Some.tree.now some.0 some.1 some.2 in
+    let goes = leaf_tree_has_base_or_is_emitted c.args.node.now c.in-Some.tree.now some.0 some.1 some.2 in
     let pairs = c.args.pairs.now.items in
-    let adds = subst (λ ts. Adds pairs pairs ts []) (sym (ap (λ (ds : Opened). leaf_trees (inside_of ds)) some.1)) (adds_none pairs) in
+    let adds = subst (λ ts. Adds pairs pairs ts []) (sym (ap (λ (ds : Opened). leaf_trees (inside_of ds)) some.1)) (adds_nil pairs) in
     ([], 0, rw ((c.in_ok-entries.ensures {u = tt}) ∙ c.deref.ensures.value ∙ c.tree.view_is) goes.found, refl, adds, refl)
 
 pub returns-in-Some-clause-storable : goal.returns-in-Some-clause-storable
@@ -36,14 +36,14 @@ returns-in-Some-clause-storable g c = subst IsStorable (sym ((c.in_ok-entries.en
 pub returns-in-Some-clause-is_at : goal.returns-in-Some-clause-is_at
 returns-in-Some-clause-is_at g c = λ _.
     let some = (c.in-Some.ensures {u = tt}).some in
-    level_root c.args.node.now c.in-Some.tree.now [] (sym some.1) ∙ ap Some (sym ((c.in_ok-entries.ensures {u = tt}) ∙ c.deref.ensures.value ∙ c.tree.view_is))
+    dirs_of_nil c.args.node.now c.in-Some.tree.now [] (sym some.1) ∙ ap Some (sym ((c.in_ok-entries.ensures {u = tt}) ∙ c.deref.ensures.value ∙ c.tree.view_is))
 
 pub returns-in_err-tree-clause-error : goal.returns-in_err-tree-clause-error
 returns-in_err-tree-clause-error g c =
     let ok = (c.in_ok-own.ensures {u = tt}).ok in
     let own = so_far c.base_of-base.result.now c.in_ok-own.own in
-    err_weaker c.from_residual-in_err-tree.result _ _ c.from_residual-in_err-tree.ensures.1
-    (stopped_here (λ f p h. CalledAt g.F.FnMut f p.1 (Ok p.0) h) (λ f tree x h. CalledAt g.F.FnMut f tree (Err x) h)
+    if_err_weaken c.from_residual-in_err-tree.result _ _ c.from_residual-in_err-tree.ensures.1
+    (stopped_at_call (λ f p h. CalledAt g.F.FnMut f p.1 (Ok p.0) h) (λ f tree x h. CalledAt g.F.FnMut f tree (Err x) h)
     (λ ps. (own : List EntryView) × (n : ℕ) × EmitsBelow (dirs_of c.args.node.now) (bases_of c.args.node.now) ps own n) c.args.out.now c.leaves.new.out ok.0
     [] ok.5
     (own, ok.1, rw append-nil ok.2))

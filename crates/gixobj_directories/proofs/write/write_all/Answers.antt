@@ -7,7 +7,7 @@ use Rattle.gixobj_hash.specs.declared.hash.object_id.ObjectId.{ObjectId}
 use Rattle.gixobj_directories.specs.Emitting.{Stopped}
 use Rattle.gixobj_files.specs.Emission.{EmitsSome, EmitsBelow}
 use Rattle.gixobj_directories.specs.Nested.{Opened, bases_of, below, dirs_of, opened, parts}
-use Rattle.gixobj_directories.proofs.Emitting.{FoldsTo-append, FoldsTo-one, callable_after, err_weaker, emits_more, stopped_after, stopped_here}
+use Rattle.gixobj_directories.proofs.Emitting.{folds_to_append, folds_to_one, callable_after_folds, if_err_weaken, emits_some_append, stopped_after_folds, stopped_at_call}
 use Rattle.std.specs.Prelude.{reverse}
 use Rattle.std.specs.declared.vec.Vec.{Vec}
 use Rattle.std.specs.declared.alloc.Global.{Global}
@@ -15,23 +15,23 @@ use Rattle.std.proofs.lemmas.List.{reverse-reverse, with_items_is}
 use Rattle.gixobj_directories.specs.LeafTrees.{Fills, inside_of, leaf_trees}
 use Rattle.gixobj_files.specs.Bases.{base_edited}
 use Rattle.gixobj_directories.specs.declared.open.Child.{Child}
-use Rattle.gixobj_directories.proofs.BaseSteps.{written_base}
-use Rattle.gixobj_directories.proofs.Levels.{based_root, level_root}
-use Rattle.gixobj_directories.proofs.Ordered.{level_apart}
-use Rattle.gixobj_files.proofs.FilteredEntries.{leaves_filtered}
-use Rattle.gixobj_directories.proofs.LeafTrees.{fewer_leaf_trees, some_is}
+use Rattle.gixobj_directories.proofs.BaseSteps.{base_edited_of_written}
+use Rattle.gixobj_directories.proofs.Levels.{bases_of_nil, dirs_of_nil}
+use Rattle.gixobj_directories.proofs.Ordered.{level_names_apart}
+use Rattle.gixobj_files.proofs.FilteredEntries.{is_filtered_tree_of_walk}
+use Rattle.gixobj_directories.proofs.LeafTrees.{leaf_trees_len_le, some_unique}
 use Rattle.gixobj_directories.proofs.write.write_all.Goals as goal
 
 pub returns-in_err-own-clause-error : goal.returns-in_err-own-clause-error
 returns-in_err-own-clause-error g c =
     let dirs = dirs_of c.args.node.now in
     let bases = bases_of c.args.node.now in
-    err_weaker c.from_residual.result _ _ c.from_residual.ensures.1
+    if_err_weaken c.from_residual.result _ _ c.from_residual.ensures.1
     (λ error is. subst (Stopped (λ f p h. CalledAt g.F.FnMut f p.1 (Ok p.0) h) (λ f tree x h. CalledAt g.F.FnMut f tree (Err x) h)
     (EmitsSome dirs bases) c.args.out.now c.leaves_copied.new.out) (sym is)
-    (stopped_after (λ f p h. CalledAt g.F.FnMut f p.1 (Ok p.0) h) (λ f tree x h. CalledAt g.F.FnMut f tree (Err x) h)
+    (stopped_after_folds (λ f p h. CalledAt g.F.FnMut f p.1 (Ok p.0) h) (λ f tree x h. CalledAt g.F.FnMut f tree (Err x) h)
     (λ ps. (own : List EntryView) × (n : ℕ) × EmitsBelow dirs bases ps own n) (EmitsSome dirs bases)
-    c.args.out.now c.args.out.now c.leaves_copied.new.out [] refl (λ qs found. emits_more dirs bases qs found.0 found.1 found.2) c.in_err-own.field-0.0
+    c.args.out.now c.args.out.now c.leaves_copied.new.out [] refl (λ qs found. emits_some_append dirs bases qs found.0 found.1 found.2) c.in_err-own.field-0.0
     (c.in_err-own.ensures {u = tt}).error))
 
 pub returns-in_err-complete_trees-clause-error : goal.returns-in_err-complete_trees-clause-error
@@ -39,9 +39,9 @@ returns-in_err-complete_trees-clause-error g c =
     let dirs = dirs_of c.args.node.now in
     let bases = bases_of c.args.node.now in
     let ok = (c.in_ok-own.ensures {u = tt}).ok in
-    let more = emits_more dirs bases ok.0 c.in_ok-own.own ok.1 ok.2 in
-    err_weaker c.from_residual-in_err-complete_trees.result _ _ c.from_residual-in_err-complete_trees.ensures.1
-    (stopped_here (λ f p h. CalledAt g.F.FnMut f p.1 (Ok p.0) h) (λ f tree x h. CalledAt g.F.FnMut f tree (Err x) h)
+    let more = emits_some_append dirs bases ok.0 c.in_ok-own.own ok.1 ok.2 in
+    if_err_weaken c.from_residual-in_err-complete_trees.result _ _ c.from_residual-in_err-complete_trees.ensures.1
+    (stopped_at_call (λ f p h. CalledAt g.F.FnMut f p.1 (Ok p.0) h) (λ f tree x h. CalledAt g.F.FnMut f tree (Err x) h)
     (EmitsSome dirs bases) c.args.out.now c.leaves_copied.new.out ok.0 more.0 ok.5 more.1)
 
 pub returns-in_err-id-clause-error : goal.returns-in_err-id-clause-error
@@ -50,10 +50,10 @@ returns-in_err-id-clause-error g c =
     let bases = bases_of c.args.node.now in
     let ok = (c.in_ok-own.ensures {u = tt}).ok in
     let own = c.in_ok-own.own in
-    err_weaker c.from_residual-in_err-id.result _ _ c.from_residual-in_err-id.ensures.1
+    if_err_weaken c.from_residual-in_err-id.result _ _ c.from_residual-in_err-id.ensures.1
     (λ error is. subst (Stopped (λ f p h. CalledAt g.F.FnMut f p.1 (Ok p.0) h) (λ f tree x h. CalledAt g.F.FnMut f tree (Err x) h)
     (EmitsSome dirs bases) c.args.out.now c.ask.new.out) (sym is)
-    (stopped_after (λ f p h. CalledAt g.F.FnMut f p.1 (Ok p.0) h) (λ f tree x h. CalledAt g.F.FnMut f tree (Err x) h)
+    (stopped_after_folds (λ f p h. CalledAt g.F.FnMut f p.1 (Ok p.0) h) (λ f tree x h. CalledAt g.F.FnMut f tree (Err x) h)
     (λ ps. (id : ObjectId) × (ps ≡ (id, own) ∷ [])) (EmitsSome dirs bases)
     c.args.out.now c.leaves_copied.new.out c.ask.new.out ok.0 ok.5
     (λ qs one. ([], (ok.1, ok.0, one.0, own, ok.2, ap (λ ps. ok.0 ++ ps) (append-nil qs ∙ one.1)))) c.in_err-id.field-0.0
@@ -89,14 +89,15 @@ returns-clause-ok g c =
       own,
       (ok.1, ok.2, ok.3),
       pushed,
-      FoldsTo-append gave c.args.out.now ok.0 c.leaves_copied.new.out ((c.in_ok-id.id, own) ∷ []) c.ask.new.out ok.5
-          (FoldsTo-one gave c.leaves_copied.new.out (c.in_ok-id.id, own) c.ask.new.out emitted),
+      folds_to_append gave c.args.out.now ok.0 c.leaves_copied.new.out ((c.in_ok-id.id, own) ∷ []) c.ask.new.out ok.5
+          (folds_to_one gave c.leaves_copied.new.out (c.in_ok-id.id, own) c.ask.new.out emitted),
       (c.in_ok-own.ensures {u = tt}).storable,
       (c.node.inside.base, remaining),
     )
 
 pub ask-requires-clause-callable : goal.ask-requires-clause-callable
-ask-requires-clause-callable g c = let ok = (c.in_ok-own.ensures {u = tt}).ok in callable_after _ (λ f p h. CalledAt g.F.FnMut f p.1 (Ok p.0) h) c.args.out.now
+ask-requires-clause-callable g c = let ok = (c.in_ok-own.ensures {u = tt}).ok in
+    callable_after_folds _ (λ f p h. CalledAt g.F.FnMut f p.1 (Ok p.0) h) c.args.out.now
     ok.0 c.leaves_copied.new.out ok.5 c.requires
 
 pub returns-clause-bases : goal.returns-clause-bases
@@ -109,14 +110,14 @@ returns-clause-bases g c =
     ∙ ap (λ (cs : List Child). opened own c.node.inside.base (parts cs)) c.new.ensures.items in
     let ps = parts c.node.inside.children.items in
     λ at. subst (λ (ds : Opened). bases_of ds at ≡ base_edited (dirs_of node at) (dirs_of ds at) (bases_of node at)) (sym remaining)
-    (written_base node c.node.inside.tree own c.node.inside.base (level_root node c.node.inside.tree ps c.node.view_is)
-    (based_root node c.node.inside.tree ps c.node.view_is) at)
+    (base_edited_of_written node c.node.inside.tree own c.node.inside.base (dirs_of_nil node c.node.inside.tree ps c.node.view_is)
+    (bases_of_nil node c.node.inside.tree ps c.node.view_is) at)
 
 pub become_own-requires-clause-filtered : goal.become_own-requires-clause-filtered
 become_own-requires-clause-filtered g c =
     let ok = (c.in_ok-own.ensures {u = tt}).ok in
-    leaves_filtered (dirs_of c.args.node.now) (bases_of c.args.node.now) ok.0 c.in_ok-own.own ok.1 c.node.inside.tree ok.2
-    (level_root c.args.node.now c.node.inside.tree (parts c.node.inside.children.items) c.node.view_is)
+    is_filtered_tree_of_walk (dirs_of c.args.node.now) (bases_of c.args.node.now) ok.0 c.in_ok-own.own ok.1 c.node.inside.tree ok.2
+    (dirs_of_nil c.args.node.now c.node.inside.tree (parts c.node.inside.children.items) c.node.view_is)
 
 pub become_own-requires-clause-filled : goal.become_own-requires-clause-filled
 become_own-requires-clause-filled g c = (c.in_ok-own.ensures {u = tt}).storable.no_nulls
@@ -124,17 +125,17 @@ become_own-requires-clause-filled g c = (c.in_ok-own.ensures {u = tt}).storable.
 pub become_own-requires-clause-is_at : goal.become_own-requires-clause-is_at
 become_own-requires-clause-is_at g c = λ placed.
     let node = c.args.node.now in
-    some_is c.in_ok-own.own c.node.inside.tree (sym ((c.in_ok-own.ensures {u = tt}).is_at placed) ∙ level_root node c.node.inside.tree
+    some_unique c.in_ok-own.own c.node.inside.tree (sym ((c.in_ok-own.ensures {u = tt}).is_at placed) ∙ dirs_of_nil node c.node.inside.tree
     (parts c.node.inside.children.items) c.node.view_is)
 
 pub take_leaf_trees-requires-clause-apart : goal.take_leaf_trees-requires-clause-apart
 take_leaf_trees-requires-clause-apart g c = subst (λ (cs : Vec Child Global). EachLater (λ x y. x.0 ≢ y.0) (parts cs.items))
-    (sym c.replace-children.ensures.value) (level_apart c.node.invariant)
+    (sym c.replace-children.ensures.value) (level_names_apart c.node.invariant)
 
 pub take_leaf_trees-requires-clause-has_capacity : goal.take_leaf_trees-requires-clause-has_capacity
 take_leaf_trees-requires-clause-has_capacity g c =
     let ok = (c.in_ok-own.ensures {u = tt}).ok in
-    let fewer = fewer_leaf_trees ok.4.0 (leaf_trees (inside_of c.args.node.now)) ok.0 ok.4.2 in
+    let fewer = leaf_trees_len_le ok.4.0 (leaf_trees (inside_of c.args.node.now)) ok.0 ok.4.2 in
     let pairs = ap length (ok.4.1 ∙ ap (λ ps. ps ++ ok.4.0) c.new-trees.ensures.items) in
     let trees = ap (λ (cs : Vec Child Global). length (leaf_trees (below (parts cs.items)))) c.replace-children.ensures.value
     ∙ ap (λ (ds : Opened). length (leaf_trees (inside_of ds))) c.node.view_is in

@@ -7,7 +7,7 @@ use Rattle.gixobj_hash.specs.declared.hash.object_id.ObjectId.{ObjectId}
 use Rattle.gixobj_object.specs.Stores.{StoreModel}
 use Rattle.gixobj_tree.specs.Entries.{EntryView}
 use Rattle.gixobj_editor.specs.Replies.{IsReplyAt}
-use Rattle.gixobj_editor.proofs.Replied.{root_set}
+use Rattle.gixobj_editor.proofs.Replied.{is_root_set_of_reply}
 use Rattle.gixobj_editor.proofs.running.do_command.Goals as goal
 
 pub returns-in-At : goal.returns-in-At
@@ -24,6 +24,6 @@ pub returns-then-is_well_formed : goal.returns-then-is_well_formed
 returns-then-is_well_formed g c =
     record {
       replied = rw c.in-SetRoot.is
-          (root_set c.args.editor.now _ c.set_root.result.now c.in-SetRoot.root (search rules) (c.is_well_formed.ensures.0 c.if-is_well_formed.true)
+          (is_root_set_of_reply c.args.editor.now _ c.set_root.result.now c.in-SetRoot.root (search rules) (c.is_well_formed.ensures.0 c.if-is_well_formed.true)
           c.set_root.ensures.state c.set_root.ensures.files c.set_root.ensures.has_bases);
     }

@@ -1,7 +1,7 @@
-use Rattle.gixobj_fields.proofs.HeaderFields.{no_space_after}
+use Rattle.gixobj_fields.proofs.HeaderFields.{not_name_and_space}
 use Rattle.gixobj_fields.proofs.parse.after_name.Goals as goal
 
 pub returns-in_default-after_space-clause-none :
     goal.returns-in_default-after_space-clause-none
 returns-in_default-after_space-clause-none c =
-    no_space_after c.args.input.now c.args.name.now c.in-Some.following.now c.in-Some.ensures c.in_default-after_space.ensures
+    not_name_and_space c.args.input.now c.args.name.now c.in-Some.following.now c.in-Some.ensures c.in_default-after_space.ensures

@@ -1,6 +1,6 @@
 use Rattle.std.proofs.Common.{sym}
 use Rattle.std.proofs.lemmas.Bool.{true≢false}
-use Rattle.gixobj_fields.proofs.HeaderFields.{no_id_of_other_bytes, no_id_without_newline}
+use Rattle.gixobj_fields.proofs.HeaderFields.{no_id_of_other_hex, no_id_without_newline}
 use Rattle.gixobj_fields.proofs.parse.header_id.Goals as goal
 
 pub returns-in_default-split_at_newline-clause-none :
@@ -11,7 +11,7 @@ returns-in_default-split_at_newline-clause-none c =
 
 pub returns-in_default-hex_hash-clause-none : goal.returns-in_default-hex_hash-clause-none
 returns-in_default-hex_hash-clause-none c =
-    no_id_of_other_bytes c.args.name.now c.args.kind c.args.input.now c.in-Some.line.now c.in-Some-split_at_newline.value.now
+    no_id_of_other_hex c.args.name.now c.args.kind c.args.input.now c.in-Some.line.now c.in-Some-split_at_newline.value.now
     c.in-Some-split_at_newline.rest.now _
     c.in-Some.ensures.found c.len_in_hex.ensures c.in-Some-split_at_newline.ensures.split c.in-Some-split_at_newline.ensures.placed
     (λ hex. true≢false (sym (c.in_default-hex_hash.ensures.accepts.1 hex)))

@@ -1,10 +1,10 @@
-use Rattle.gixobj_fields.proofs.HeaderFields.{unfolding_split, unfolding_step}
+use Rattle.gixobj_fields.proofs.HeaderFields.{no_lines_of_split, unfolding_step}
 use Rattle.gixobj_fields.proofs.parse.unfolded.Goals as goal
 
 pub returns-in_default-split_at_byte-clause-error :
     goal.returns-in_default-split_at_byte-clause-error
 returns-in_default-split_at_byte-clause-error c =
-    λ same. unfolding_split c.args.first.now c.args.input.now c.loop-following.value.items c.loop-following.rest.now c.in-Some.following.now
+    λ same. no_lines_of_split c.args.first.now c.args.input.now c.loop-following.value.items c.loop-following.rest.now c.in-Some.following.now
     c.loop-following.invariant c.in-Some.ensures c.in_default-split_at_byte.ensures.none
 
 pub loop-following-preserved : goal.loop-following-preserved

@@ -4,8 +4,8 @@ use Rattle.gixobj_tree.specs.Entries.{EntryView, key_of}
 use Rattle.gixobj_mode.specs.Mode.{is_tree_mode}
 use Rattle.gixobj_files.specs.Editing.{comes_before, same_name}
 use Rattle.gixobj_files.specs.KeyPlaces.{has_key_before}
-use Rattle.gixobj_files.proofs.Placing.{placed}
-use Rattle.gixobj_files.proofs.Replacing.{inserted_over}
+use Rattle.gixobj_files.proofs.Placing.{insert_eq_with_entry}
+use Rattle.gixobj_files.proofs.Replacing.{slice_set_eq_with_entry}
 use Rattle.gixobj_files.proofs.entries.insert_entry.Goals as goal
 
 pub returns-in-Ok : goal.returns-in-Ok
@@ -28,12 +28,12 @@ returns-in-Ok c =
     subst (λ (it : List EntryView). i ≡ prefix_len (λ e. comes_before e x) it) list
     (subst (λ (t : Bool). i ≡ prefix_len (has_key_before (key_of x.name t)) l) tree
     (subst (λ (n : List ℕ). i ≡ prefix_len (has_key_before (key_of n c.is_tree.result)) l) name seen.position)) in
-    record { items = inserted_over x es i c.requires.well_formed found kind place }
+    record { items = slice_set_eq_with_entry x es i c.requires.well_formed found kind place }
 
 pub returns-in-Err : goal.returns-in-Err
 returns-in-Err c =
     let ok : is_ok c.insert.result ≡ true = c.insert.ensures.succeeds (omega (arith, c.requires.has_capacity)) in
     record {
-      items = (rw ok at c.insert.ensures.items) ∙ placed c.args.entry c.args.entries.now.items _ _ _ c.requires.well_formed.ascending
+      items = (rw ok at c.insert.ensures.items) ∙ insert_eq_with_entry c.args.entry c.args.entries.now.items _ _ _ c.requires.well_formed.ascending
           c.place_among_others-place.ensures.items refl c.place_among_others-place.ensures.position;
     }

@@ -1,8 +1,8 @@
 use Rattle.std.proofs.Common.{◌∙◌, ap, not}
 use Rattle.gixobj_tree.specs.Entries.{EntryView}
 use Rattle.gixobj_files.specs.Files.{is_null}
-use Rattle.gixobj_files.proofs.NullIds.{null_tested}
+use Rattle.gixobj_files.proofs.NullIds.{is_null_of_test}
 use Rattle.gixobj_files.proofs.entries.is_non_null.Goals as goal
 
 pub returns : goal.returns
-returns c = ap not (null_tested c.entry.inside.oid _ c.is_null.ensures ∙ ap (λ (e : EntryView). is_null e.id) c.entry.view_is)
+returns c = ap not (is_null_of_test c.entry.inside.oid _ c.is_null.ensures ∙ ap (λ (e : EntryView). is_null e.id) c.entry.view_is)

@@ -7,7 +7,7 @@ use Rattle.gixobj_files.specs.Editing.{non_null_entries}
 use Rattle.gixobj_files.specs.Files.{is_null}
 use Rattle.gixobj_files.specs.FilteredTrees.{IsFilteredTree, id_among, filtered_out}
 use Rattle.gixobj_files.specs.WrittenTrees.{with_id}
-use Rattle.gixobj_files.proofs.FilteredEntries.{AreFilled, sift_step}
+use Rattle.gixobj_files.proofs.FilteredEntries.{AreFilled, filters_step}
 use Rattle.gixobj_files.proofs.filtered.assign_ids.Goals as goal
 
 pub loop-entry-init : goal.loop-entry-init
@@ -31,7 +31,7 @@ loop-entry-preserved c =
     let low : i < length es = omega (arith, c.loop-entry-test.true, c.loop-entry.auto.entries) in
     let here : drop i es ≡ e ∷ drop (i + 1) es = rw add-one (drop-cons es i e low ∙ ap (λ x. x ∷ drop (suc i) es) (sym c.entry-item.is)) in
     let apart : EachLater differ (e ∷ drop (i + 1) es) = subst (EachLater differ) here so.apart in
-    let go = sift_step e (drop (i + 1) es) pending apart.0 so.filled (subst (IsFilteredTree pending) here so.is_filtered) in
+    let go = filters_step e (drop (i + 1) es) pending apart.0 so.filled (subst (IsFilteredTree pending) here so.is_filtered) in
     let tail : drop (i + 1) (slice_set es i new) ≡ drop (i + 1) es = drop-set-lt (i + 1) es i new (omega arith) in
     let made : new ≡ with_id e (id_among e.name pending) = c.assign_id-pending.ensures.id ∙ ap (λ (x : EntryView). with_id x (id_among x.name pending))
     (sym c.entry-item.is) in

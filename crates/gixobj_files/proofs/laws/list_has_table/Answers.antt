@@ -1,5 +1,5 @@
-use Rattle.gixobj_files.proofs.ListedTables.{table_of}
+use Rattle.gixobj_files.proofs.ListedTables.{table_of_pairs_exists}
 use Rattle.gixobj_files.proofs.laws.list_has_table.Goals as goal
 
 pub returns : goal.returns
-returns c = table_of
+returns c = table_of_pairs_exists

@@ -1,5 +1,5 @@
-use Rattle.gixobj_files.proofs.Formed.{opened_root}
+use Rattle.gixobj_files.proofs.Formed.{root_alone_is_opened}
 use Rattle.gixobj_files.proofs.laws.single_root_is_opened.Goals as goal
 
 pub returns : goal.returns
-returns c = opened_root
+returns c = root_alone_is_opened

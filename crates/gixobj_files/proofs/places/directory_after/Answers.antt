@@ -1,5 +1,5 @@
 use Rattle.std.proofs.Common.{◌≡◌, ◌∙◌, true, Greater, sym, arith}
-use Rattle.gixobj_files.proofs.BinarySearch.{gt_is}
+use Rattle.gixobj_files.proofs.BinarySearch.{greater_of_compare}
 use Rattle.gixobj_files.proofs.KeyPlaces.{no_directory, second, first_in_pairs}
 use Rattle.gixobj_files.proofs.places.directory_after.Goals as goal
 
@@ -13,7 +13,7 @@ returns-then-is_gt c =
     let es = c.args.entries.now in
     let name = c.args.name.now in
     let formed = c.requires.well_formed in
-    let greater : c.order_by_key.result ≡ Greater = gt_is c.order_by_key.result (c.if-is_gt.ensures {u = tt}) in
+    let greater : c.order_by_key.result ≡ Greater = greater_of_compare c.order_by_key.result (c.if-is_gt.ensures {u = tt}) in
     sym (no_directory es formed name c.args.place c.requires.no_file c.requires.position
     (λ l. first_in_pairs es formed name true c.requires.name c.args.place c.index-entries-place.result l c.index-entries-place.is Greater
     (sym greater ∙ c.order_by_key.ensures)))

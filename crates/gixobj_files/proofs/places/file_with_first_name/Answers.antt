@@ -1,6 +1,6 @@
 use Rattle.std.proofs.Common.{◌≡◌, ◌∙◌, ◌-◌, ◌<◌, false, true, Less, length, sym, arith, rules}
 use Rattle.std.proofs.lemmas.List.Sums.{prefix_len-le-length}
-use Rattle.gixobj_files.proofs.BinarySearch.{lt_is}
+use Rattle.gixobj_files.proofs.BinarySearch.{less_of_compare}
 use Rattle.gixobj_files.proofs.KeyPlaces.{first_of_two, no_file, first_in_pairs}
 use Rattle.gixobj_files.specs.KeyPlaces.{has_key_before}
 use Rattle.gixobj_tree.specs.Entries.{key_of}
@@ -25,7 +25,7 @@ returns-then-is_lt c =
     let formed = c.requires.well_formed in
     let within : c.args.place - 1 < length es =
     omega (arith, c.if-place-eq0.false, c.requires.position, prefix_len-le-length (has_key_before (key_of name true)) es) in
-    let less : c.order_by_key.result ≡ Less = lt_is c.order_by_key.result (sym (c.if-is_lt.ensures {u = tt})) in
+    let less : c.order_by_key.result ≡ Less = less_of_compare c.order_by_key.result (sym (c.if-is_lt.ensures {u = tt})) in
     sym (no_file es formed name c.args.place c.requires.no_directory c.requires.position
     (λ l. first_in_pairs es formed name false c.requires.name (c.args.place - 1) c.index-entries-place.result within c.index-entries-place.is Less
     (sym less ∙ c.order_by_key.ensures)))

@@ -4,7 +4,7 @@ use Rattle.std.proofs.lemmas.Option.{slice_get_read}
 use Rattle.gixobj_tree.specs.EntryOrder.{same_entry}
 use Rattle.gixobj_tree.specs.EntryOrderLaws.{entry_equiv}
 use Rattle.gixobj_files.specs.WrittenTrees.{with_id}
-use Rattle.gixobj_files.proofs.SameTrees.{one_entry}
+use Rattle.gixobj_files.proofs.SameTrees.{same_entry_eq}
 use Rattle.gixobj_files.proofs.written_tree.goes_on.Goals as goal
 
 pub returns : goal.returns
@@ -14,7 +14,7 @@ returns c =
     let this = with_id c.args.entry.now c.args.id in
     let there : slice_get base c.args.same ≡ Some next =
     slice_get_read base (length base) c.args.same next refl c.in-Some.ensures.lookup.3.0 c.in-Some.ensures.lookup.1 in (
-      λ same. there ∙ ap Some (one_entry next this (sym c.is_same.ensures ∙ same)),
+      λ same. there ∙ ap Some (same_entry_eq next this (sym c.is_same.ensures ∙ same)),
       λ is. c.is_same.ensures ∙ subst (λ x. same_entry next x ≡ true)
           (let one : next ≡ this = cc (is, there) in one) (entry_equiv.refl next),
     )

@@ -42,7 +42,7 @@ impl Write for Never {
     }
 
     /// Returns the SHA-1 id of the object. Never fails. Allocates nothing.
-    #[tactic(auto, using(crate::proofs::Nothing::answers_entire))]
+    #[tactic(auto, using(crate::proofs::Nothing::answers_id_of_content))]
     fn write_buf(&self, alloc: Global, kind: Kind, from: &[u8]) -> Result<ObjectId, Error>
         ensures answer { AnswersId kind (length from.now) (Some from.now) result }
         ensures id { result ≡ Ok (id_of Sha1 kind from.now) }
@@ -51,7 +51,7 @@ impl Write for Never {
     }
 
     /// Returns the known id. Never fails. Allocates nothing.
-    #[tactic(auto, using(crate::proofs::Nothing::answers_known))]
+    #[tactic(auto, using(crate::proofs::Nothing::answers_known_id_of_content))]
     fn write_buf_with_known_id(
         &self,
         alloc: Global,

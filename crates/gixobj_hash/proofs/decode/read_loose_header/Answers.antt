@@ -1,6 +1,6 @@
 -- The name of the kind, the size and the rest are the parts of the header.
 use Rattle.std.proofs.Common.{ap, ◌≡◌, ◌∷◌, ◌++◌, ◌∙◌, length, ◌+◌}
-use Rattle.gixobj_hash.proofs.Headers.{header_from_parts}
+use Rattle.gixobj_hash.proofs.Headers.{loose_header_of_parts}
 use Rattle.gixobj_hash.specs.Kind.{kind_name}
 use Rattle.gixobj_hash.proofs.decode.read_loose_header.Goals as goal
 
@@ -10,7 +10,7 @@ returns-clause-found c =
     let bytes = c.in-Some-split_at_byte.size_bytes.now in
     let rest = c.in-Some-split_at_byte.field-0-1.now in
     let named : token ≡ kind_name c.in_ok-kind.kind = c.in_ok-kind.ensures.found in
-    header_from_parts _ c.in_ok-kind.kind c.in_ok-size.size _ record {
+    loose_header_of_parts _ c.in_ok-kind.kind c.in_ok-size.size _ record {
       size_bytes = bytes;
       rest = rest;
       joined = c.in-Some.ensures.found.joined ∙ ap (λ it. it ++ 32 ∷ c.in-Some.after.now) named

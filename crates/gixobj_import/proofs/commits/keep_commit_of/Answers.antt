@@ -4,8 +4,8 @@ use Rattle.gixobj_hash.specs.declared.kind.Kind.TheVariants.{Commit}
 use Rattle.gixobj_hash.specs.declared.hash.object_id.ObjectId.{ObjectId}
 use Rattle.gixobj_find.specs.Keeping.{IsKeepCommitError, with_commit}
 use Rattle.gixobj_import.specs.Commits.{encode_step}
-use Rattle.gixobj_import.proofs.Digests.{hex_of_id, kind_of_digest}
-use Rattle.gixobj_import.proofs.Legal.{step_encoding_decodes}
+use Rattle.gixobj_import.proofs.Digests.{have_hex_of_id, digest_id_kind}
+use Rattle.gixobj_import.proofs.Legal.{encode_step_decodes}
 use Rattle.gixobj_import.proofs.Stepping.{encoding_failed}
 use Rattle.gixobj_import.proofs.commits.keep_commit_of.Goals as goal
 use Rattle.gixobj_object.specs.Stores.{store_model}
@@ -19,9 +19,9 @@ returns-in-Ok-keep_commit-clause-stored g c =
       author = c.names_actor.ensures;
       committer = c.names_actor-2.ensures;
       id = c.compute_hash-commit.ensures ∙ ap (λ (bytes : List ℕ). id_of c.args.hash Commit bytes) (c.deref.ensures.value ∙ c.in-Ok.ensures.encoded);
-      hex = hex_of_id c.args.hash commit c.hex_round_trips.ensures.read c.hex_round_trips.ensures.same_id c.is_an_id.ensures
-          (kind_of_digest c.args.hash Commit c.deref.result.now commit c.compute_hash-commit.ensures);
-      decodes = λ hex. step_encoding_decodes c.args.hash c.args.step.now c.args.tree c.args.parent c.names_actor.ensures c.names_actor-2.ensures hex;
+      hex = have_hex_of_id c.args.hash commit c.hex_round_trips.ensures.read c.hex_round_trips.ensures.same_id c.is_an_id.ensures
+          (digest_id_kind c.args.hash Commit c.deref.result.now commit c.compute_hash-commit.ensures);
+      decodes = λ hex. encode_step_decodes c.args.hash c.args.step.now c.args.tree c.args.parent c.names_actor.ensures c.names_actor-2.ensures hex;
       rest = refl;
       stored = c.in-Ok-keep_commit.ensures.stored ∙ ap (λ (bytes : List ℕ). with_commit commit bytes (means.objects c.store_mut.result.now))
           (c.deref-2.ensures.value ∙ c.in-Ok.ensures.encoded)

@@ -4,7 +4,7 @@ use Rattle.std.proofs.lemmas.List.{length-append}
 use Rattle.gixobj_import.specs.Steps.{AreImported, Stops}
 use Rattle.gixobj_import.specs.declared.import.Imported.{Imported}
 use Rattle.gixobj_import.proofs.Committing.{commits_of_new}
-use Rattle.gixobj_import.proofs.Digests.{adds_none}
+use Rattle.gixobj_import.proofs.Digests.{adds_by_digest_nil}
 use Rattle.gixobj_import.proofs.Filing.{files_of_new}
 use Rattle.gixobj_import.proofs.Adding.{steps_add}
 use Rattle.gixobj_import.proofs.Known.{OfStores}
@@ -100,7 +100,7 @@ returns g c =
       imported = all;
       error = tt;
       adds = steps_add means laws old new c.args.steps.now imported all;
-      commits = λ is. commits_of_new means laws old new c.args.steps.now imported all is final (adds_none final final refl);
+      commits = λ is. commits_of_new means laws old new c.args.steps.now imported all is final (adds_by_digest_nil final final refl);
       files = files_of_new means laws old new c.args.steps.now imported all;
       commits_done = tt;
       files_done = tt;

@@ -1,9 +1,9 @@
-use Rattle.gixobj_import.proofs.Tables.{imports_table}
+use Rattle.gixobj_import.proofs.Tables.{table_of_imports_exists}
 use Rattle.gixobj_import.proofs.laws.consistent_import_has_table.Goals as goal
 
 pub returns : goal.returns
 returns c =
-    imports_table (record {
+    table_of_imports_exists (record {
       there = c.object_map_insert.ensures.there;
       elsewhere = c.object_map_insert.ensures.elsewhere;
       same_or_not = c.id_equality_is_decidable.ensures;

@@ -1,5 +1,5 @@
 use Rattle.std.proofs.Common.{refl}
-use Rattle.gixobj_import.proofs.Digests.{hex_of_id, root_kind}
+use Rattle.gixobj_import.proofs.Digests.{have_hex_of_id, written_root_id_kind}
 use Rattle.gixobj_import.proofs.Kept.{kept_all, not_kept}
 use Rattle.gixobj_import.proofs.written.write_and_keep.Goals as goal
 use Rattle.gixobj_object.specs.Stores.{store_model}
@@ -14,8 +14,8 @@ returns-in-Ok-keep_all-clause-written g c =
 
 pub returns-in-Ok-keep_all-clause-root : goal.returns-in-Ok-keep_all-clause-root
 returns-in-Ok-keep_all-clause-root g c =
-    hex_of_id c.args.hash c.in-Ok.written.id c.hex_round_trips.ensures.read c.hex_round_trips.ensures.same_id c.is_an_id.ensures
-    (root_kind c.args.hash c.args.editor.now c.write_by_digests.new.editor c.in-Ok.written (c.in-Ok.ensures {u = tt}).written)
+    have_hex_of_id c.args.hash c.in-Ok.written.id c.hex_round_trips.ensures.read c.hex_round_trips.ensures.same_id c.is_an_id.ensures
+    (written_root_id_kind c.args.hash c.args.editor.now c.write_by_digests.new.editor c.in-Ok.written (c.in-Ok.ensures {u = tt}).written)
 
 pub returns-in-Err-keep_all-clause-error : goal.returns-in-Err-keep_all-clause-error
 returns-in-Err-keep_all-clause-error g c =

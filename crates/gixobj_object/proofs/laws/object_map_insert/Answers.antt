@@ -7,7 +7,7 @@ pub returns-clause-nothing : goal.returns-clause-nothing
 returns-clause-nothing c = finite.get-empty id_cmp
 
 pub returns-clause-there : goal.returns-clause-there
-returns-clause-there c = law.there
+returns-clause-there c = law.named_insert_same
 
 pub returns-clause-elsewhere : goal.returns-clause-elsewhere
-returns-clause-elsewhere c = law.elsewhere
+returns-clause-elsewhere c = law.named_insert_other

@@ -1,15 +1,15 @@
-use Rattle.gixobj_object.proofs.BrokenTrees.{longest_prefix}
+use Rattle.gixobj_object.proofs.BrokenTrees.{is_longest_prefix_of_walk}
 use Rattle.gixobj_object.proofs.laws.tree_readers_agree.Goals as goal
 use Rattle.gixobj_tree.proofs.EntryRuns as runs
 
 pub returns-clause-yields : goal.returns-clause-yields
-returns-clause-yields c = runs.test_iff
+returns-clause-yields c = runs.yields_entries_iff
 
 pub returns-clause-read : goal.returns-clause-read
-returns-clause-read c = runs.read
+returns-clause-read c = runs.decodes_to_tree_of_run
 
 pub returns-clause-before_an_error : goal.returns-clause-before_an_error
-returns-clause-before_an_error c = longest_prefix
+returns-clause-before_an_error c = is_longest_prefix_of_walk
 
 pub returns-clause-one_run : goal.returns-clause-one_run
-returns-clause-one_run c = runs.one_run
+returns-clause-one_run c = runs.entry_run_unique

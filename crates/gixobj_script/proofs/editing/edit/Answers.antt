@@ -4,7 +4,7 @@ use Rattle.gixobj_find.specs.Memory.{memory_objects}
 use Rattle.gixobj_tree.specs.Entries.{EntryView}
 use Rattle.gixobj_tree.specs.TreeEncoding.{IsAnsweredDigest}
 use Rattle.gixobj_script.specs.Edits.{IsNewEditor}
-use Rattle.gixobj_script.proofs.Reported.{is_edit}
+use Rattle.gixobj_script.proofs.Reported.{is_edit_of_report}
 use Rattle.gixobj_script.proofs.editing.edit.Goals as goal
 
 pub returns-clause-reported : goal.returns-clause-reported
@@ -16,5 +16,5 @@ returns-clause-reported c =
       lookups = c.new-editor.ensures.lookups;
       object_hash = c.new-editor.ensures.object_hash;
     } in
-    is_edit _ _ c.args.hash c.args.script.now c.new-editor.result _ c.edit_on.result
+    is_edit_of_report _ _ c.args.hash c.args.script.now c.new-editor.result _ c.edit_on.result
     (λ tree answer said. subst (λ (t : List EntryView). IsAnsweredDigest c.args.hash t answer) said.shows said.says.met) begun c.edit_on.ensures.reported

@@ -2,7 +2,7 @@
 use Rattle.std.proofs.Common.{◌≢◌, ap, map, rules, [], ◌∙◌}
 use Rattle.std.proofs.lemmas.List.{map-append}
 use Rattle.gixobj_editor.specs.Views.{command_view}
-use Rattle.gixobj_script.proofs.Reading.{a_command_appended}
+use Rattle.gixobj_script.proofs.Reading.{appends_line_of_command}
 use Rattle.gixobj_script.specs.Lines.{DecodesToCommand}
 use Rattle.gixobj_script.proofs.script.write_line.Goals as goal
 
@@ -11,6 +11,6 @@ returns-in_ok-push-in-Some-clause-appended c =
     let command = c.in-Some.command in
     let some : c.args.line.now ≢ [] = search rules in
     let is : DecodesToCommand c.args.hash c.args.line.now (command_view command) = search rules in
-    a_command_appended c.args.hash c.args.line.now (command_view command) (map command_view c.args.commands.now.items)
+    appends_line_of_command c.args.hash c.args.line.now (command_view command) (map command_view c.args.commands.now.items)
     (map command_view c.push.new.self.items) some is
     (ap (map command_view) c.in_ok-push-in-Some.ensures.items ∙ map-append command_view c.args.commands.now.items _)

@@ -1,8 +1,8 @@
 -- The errors of a list, over the streams themselves.
 use Rattle.std.proofs.Common.{rules}
-use Rattle.gixobj_script.proofs.TreeErrors.{unlisted_by}
+use Rattle.gixobj_script.proofs.TreeErrors.{is_unlisted_of_error}
 use Rattle.gixobj_script.proofs.tree.list_read.Goals as goal
 
 pub returns-clause-unlisted : goal.returns-clause-unlisted
 returns-clause-unlisted g c failed =
-    unlisted_by _ _ _ _ _ _ _ _ _ _ _ (search rules) (search rules) (search rules) (λ same. search rules) (c.list.ensures.unlisted failed)
+    is_unlisted_of_error _ _ _ _ _ _ _ _ _ _ _ (search rules) (search rules) (search rules) (λ same. search rules) (c.list.ensures.unlisted failed)

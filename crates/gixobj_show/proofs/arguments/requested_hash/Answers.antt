@@ -2,7 +2,7 @@
 use Rattle.std.proofs.Common.{◌≡◌, ◌≢◌, arith, rules, ◌∙◌}
 use Rattle.std.specs.Prelude.{codes}
 use Rattle.std.specs.String.{string_bytes}
-use Rattle.gixobj_show.proofs.FewItems.{map_one, map_two, one_else, two_else}
+use Rattle.gixobj_show.proofs.FewItems.{map_one, map_two, map_one_ne_command, map_two_ne_command}
 use Rattle.gixobj_show.proofs.arguments.requested_hash.Goals as goal
 
 pub returns-in-len1-clause-found : goal.returns-in-len1-clause-found
@@ -20,10 +20,10 @@ returns-in-len2-clause-found c =
 pub returns-in_default-2-clause-none : goal.returns-in_default-2-clause-none
 returns-in_default-2-clause-none c =
     let other : string_bytes c.token-item.result ≢ c.args.command.now = search rules in
-    one_else string_bytes c.args.words.now c.token-item.result c.args.command.now (omega arith) c.token-item.is other
+    map_one_ne_command string_bytes c.args.words.now c.token-item.result c.args.command.now (omega arith) c.token-item.is other
 
 pub returns-in_default-4-clause-none : goal.returns-in_default-4-clause-none
 returns-in_default-4-clause-none c =
     let other : string_bytes c.token-item-then-words-lt3.result ≢ c.args.command.now = search rules in
-    two_else string_bytes c.args.words.now c.token-item-then-words-lt3.result c.sha256-item.result c.args.command.now
+    map_two_ne_command string_bytes c.args.words.now c.token-item-then-words-lt3.result c.sha256-item.result c.args.command.now
     (omega arith) c.token-item-then-words-lt3.is c.sha256-item.is other

@@ -20,7 +20,7 @@ use std::borrow::CowSlice;
 /// # Errors
 ///
 /// [`OutOfMemory`] if the allocation for content of several lines fails.
-#[tactic(auto, using(crate::proofs::Sums::one_piece, crate::proofs::Sums::of_one, crate::proofs::Sums::of_more))]
+#[tactic(auto, using(crate::proofs::Sums::summary_of_one_piece, crate::proofs::Sums::is_of_lines_false, crate::proofs::Sums::is_of_lines_true))]
 pub fn summary<'a>(alloc: Global, content: &'a [u8]) -> Result<CowSlice<'a, u8>, OutOfMemory>
     ensures value { IfOk result (λ it. cow_slice_items it ≡ summary_of content.now) }
     ensures owned { IfOk result (λ it. is_owned it ≡ is_of_lines content.now) }
@@ -37,7 +37,7 @@ pub fn summary<'a>(alloc: Global, content: &'a [u8]) -> Result<CowSlice<'a, u8>,
 }
 
 /// Splits at the first newline into the piece before it and the bytes after it.
-#[tactic(auto, using(crate::proofs::Sums::split_there, crate::proofs::Sums::split_nowhere))]
+#[tactic(auto, using(crate::proofs::Sums::pieces_of_split, crate::proofs::Sums::pieces_of_newline_free))]
 fn split_newline(content: &[u8]) -> Option<(&[u8], &[u8])>
     ensures { MatchOption result (pieces_of content.now ≡ content.now ∷ [])
         (λ it. (pieces_of content.now ≡ it.0.now ∷ pieces_of it.1.now)
@@ -61,7 +61,7 @@ fn is_trailing_space(byte: u8) -> bool
 }
 
 /// Returns a piece without the ASCII white space at its end.
-#[tactic(auto, using(crate::proofs::Sums::space_more, crate::proofs::Sums::space_ends, crate::proofs::Sums::space_none))]
+#[tactic(auto, using(crate::proofs::Sums::without_trailing_space, crate::proofs::Sums::without_trailing_of_other, crate::proofs::Sums::without_trailing_nil))]
 fn without_trailing(piece: &[u8]) -> &[u8]
     ensures { result.now ≡ without_trailing_of piece.now }
 {
@@ -84,7 +84,7 @@ fn push_spaced(value: &mut Vec<u8>, piece: &[u8]) -> Result<(), AllocError>
 }
 
 /// Returns the value without white space at its end.
-#[tactic(auto, using(crate::proofs::Sums::take_same))]
+#[tactic(auto, using(crate::proofs::Sums::take_trimmed_len))]
 fn trimmed_end(value: Vec<u8>) -> Vec<u8>
     ensures { result.items ≡ trim_end_by is_whitespace value.items }
 {
@@ -95,7 +95,7 @@ fn trimmed_end(value: Vec<u8>) -> Vec<u8>
 }
 
 /// Returns the summary of a first piece and of the bytes after its newline.
-#[tactic(auto, using(crate::proofs::Sums::begins, crate::proofs::Sums::piece_more, crate::proofs::Sums::piece_ends, crate::proofs::Sums::last_piece, crate::proofs::Sums::last_none))]
+#[tactic(auto, using(crate::proofs::Sums::summary_of_first_piece, crate::proofs::Sums::summary_of_next_piece, crate::proofs::Sums::summary_at_empty_piece, crate::proofs::Sums::summary_of_last_piece, crate::proofs::Sums::summary_of_empty_last_piece))]
 fn joined_lines(alloc: Global, first: &[u8], rest: &[u8]) -> Result<Vec<u8>, AllocError>
     ensures { IfOk result (λ it. it.items ≡ summary_of_pieces (first.now ∷ pieces_of rest.now)) }
 {

@@ -16,7 +16,7 @@ impl PartialEq for TreeRef<'_> {
 
     ghost laws = { partial_equiv_from_equiv (on_equiv tree_entries tree_equiv) };
 
-    #[tactic(auto, using(crate::proofs::Viewed::equal_as_seen))]
+    #[tactic(auto, using(crate::proofs::Viewed::same_tree_map_view))]
     fn eq(&self, other: &Self) -> bool {
         self.entries == other.entries
     }

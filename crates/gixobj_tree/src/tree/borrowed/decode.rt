@@ -64,7 +64,7 @@ fn likely_entries(bytes: &[u8], hash_kind: Kind) -> usize
 ///
 /// Returns `None` if the input does not begin with an entry. Allocates nothing.
 #[inline(always)]
-#[tactic(auto, using(crate::proofs::OneEntry::shorter))]
+#[tactic(auto, using(crate::proofs::OneEntry::entry_rest_len_lt))]
 pub fn read_entry(input: &[u8], hash_kind: Kind) -> Option<(EntryRef<'_>, &[u8])>
     ensures found { IfSome result (λ it.
         BeginsWithEntry hash_kind input.now (entry_view it.0) it.1.now) }

@@ -3,18 +3,18 @@ use Rattle.std.proofs.Common.{ℕ, List, ap, take, refl, subst, ◌∙◌}
 use Rattle.std.proofs.lemmas.List.{take_all}
 use Rattle.std.proofs.lemmas.Result.{MatchResult-from_err}
 use Rattle.std.specs.List.{flat_map}
-use Rattle.gixobj_fields.proofs.Joins.{item_prefix, joined_more}
-use Rattle.gixobj_fields.proofs.Appends.{more_appended, nothing_appended}
+use Rattle.gixobj_fields.proofs.Joins.{appends_prefix_of_item, flat_map_take_succ}
+use Rattle.gixobj_fields.proofs.Appends.{appends_all_append, appends_all_nil}
 use Rattle.gixobj_fields.specs.Streams.{AppendsAll}
 use Rattle.gixobj_commit.proofs.commit.write.write_each.Goals as goal
 
 pub loop-field-init : goal.loop-field-init
-loop-field-init g c = record { appended = nothing_appended _; same_loan = refl }
+loop-field-init g c = record { appended = appends_all_nil _; same_loan = refl }
 
 pub loop-field-preserved : goal.loop-field-preserved
 loop-field-preserved g c = record {
-  appended = rw (joined_more g.T.Field.written c.args.fields.now c.loop-field.field-index c.field-item.result c.loop-field-test.true c.field-item.is)
-      (more_appended _ _ _ (flat_map g.T.Field.written (take c.loop-field.field-index c.args.fields.now))
+  appended = rw (flat_map_take_succ g.T.Field.written c.args.fields.now c.loop-field.field-index c.field-item.result c.loop-field-test.true c.field-item.is)
+      (appends_all_append _ _ _ (flat_map g.T.Field.written (take c.loop-field.field-index c.args.fields.now))
       (g.T.Field.written c.field-item.result) c.loop-field.invariant.appended c.in_ok-write_bytes.ensures.appended);
   same_loan = c.write_bytes.ensures.same_loan ∙ c.loop-field.invariant.same_loan;
 }
@@ -22,7 +22,7 @@ loop-field-preserved g c = record {
 pub returns-in_err-write_bytes-clause-appended : goal.returns-in_err-write_bytes-clause-appended
 returns-in_err-write_bytes-clause-appended g c =
     MatchResult-from_err _ _ _ c.from_residual.ensures.0
-    (λ _. item_prefix g.T.Field.written _ _ _ c.args.fields.now c.loop-field.field-index c.field-item.result c.loop-field-test.true c.field-item.is
+    (λ _. appends_prefix_of_item g.T.Field.written _ _ _ c.args.fields.now c.loop-field.field-index c.field-item.result c.loop-field-test.true c.field-item.is
     c.loop-field.invariant.appended c.in_err-write_bytes.ensures.appended)
 
 pub returns-clause-appended : goal.returns-clause-appended

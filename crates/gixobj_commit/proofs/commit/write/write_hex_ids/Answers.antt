@@ -1,16 +1,16 @@
 -- If a step fails, a prefix of its part is written after the parts before it.
 use Rattle.std.specs.List.{flat_map}
 use Rattle.std.proofs.lemmas.Result.{MatchResult-from_err}
-use Rattle.gixobj_fields.proofs.Appends.{prefix_first, appends_or_fails_more}
+use Rattle.gixobj_fields.proofs.Appends.{appends_prefix_first, appends_or_fails_append}
 use Rattle.gixobj_commit.specs.CommitWriting.{hex_parent, hex_tree}
 use Rattle.gixobj_commit.proofs.commit.write.write_hex_ids.Goals as goal
 
 pub returns-in_err-write_hex_tree-clause-appended : goal.returns-in_err-write_hex_tree-clause-appended
 returns-in_err-write_hex_tree-clause-appended g c =
     MatchResult-from_err _ _ _ c.from_residual.ensures.0
-    (λ _. prefix_first _ _ (hex_tree c.args.tree) (flat_map hex_parent c.args.parents.now) c.in_err-write_hex_tree.ensures.appended)
+    (λ _. appends_prefix_first _ _ (hex_tree c.args.tree) (flat_map hex_parent c.args.parents.now) c.in_err-write_hex_tree.ensures.appended)
 
 pub returns-clause-appended : goal.returns-clause-appended
 returns-clause-appended g c =
-    appends_or_fails_more _ _ _ _ (hex_tree c.args.tree) (flat_map hex_parent c.args.parents.now) c.in_ok-write_hex_tree.ensures.appended
+    appends_or_fails_append _ _ _ _ (hex_tree c.args.tree) (flat_map hex_parent c.args.parents.now) c.in_ok-write_hex_tree.ensures.appended
     c.write_each.ensures.appended

@@ -3,17 +3,17 @@ use Rattle.std.proofs.Common.{codes}
 use Rattle.std.specs.List.{flat_map}
 use Rattle.std.proofs.lemmas.Result.{MatchResult-from_err}
 use Rattle.gixobj_hash.specs.Hash.{encode_id_hex}
-use Rattle.gixobj_fields.proofs.Appends.{prefix_first, appends_or_fails_more}
+use Rattle.gixobj_fields.proofs.Appends.{appends_prefix_first, appends_or_fails_append}
 use Rattle.gixobj_fields.specs.HeaderFormat.{encode_field}
 use Rattle.gixobj_commit.proofs.commit.write.write_ids.Goals as goal
 
 pub returns-in_err-trusted_header_id-clause-appended : goal.returns-in_err-trusted_header_id-clause-appended
 returns-in_err-trusted_header_id-clause-appended g c =
     MatchResult-from_err _ _ _ c.from_residual.ensures.0
-    (λ _. prefix_first _ _ (encode_field (codes "tree") (encode_id_hex c.args.tree.now)) (flat_map g.T.Field.written c.args.parents.now)
+    (λ _. appends_prefix_first _ _ (encode_field (codes "tree") (encode_id_hex c.args.tree.now)) (flat_map g.T.Field.written c.args.parents.now)
     c.in_err-trusted_header_id.ensures.appended)
 
 pub returns-clause-appended : goal.returns-clause-appended
 returns-clause-appended g c =
-    appends_or_fails_more _ _ _ _ (encode_field (codes "tree") (encode_id_hex c.args.tree.now)) (flat_map g.T.Field.written c.args.parents.now)
+    appends_or_fails_append _ _ _ _ (encode_field (codes "tree") (encode_id_hex c.args.tree.now)) (flat_map g.T.Field.written c.args.parents.now)
     c.in_ok-trusted_header_id.ensures.appended c.write_each.ensures.appended

@@ -1,6 +1,6 @@
 use Rattle.std.proofs.Common.{◌++◌, ◌∙◌, List, ℕ, ap}
-use Rattle.gixobj_fields.proofs.Errors.{fails_as_sink}
-use Rattle.gixobj_commit.proofs.Reencoded.{commit_reencodes_identically, read_commit_not_rejected}
+use Rattle.gixobj_fields.proofs.Errors.{fails_as_sink_of_error}
+use Rattle.gixobj_commit.proofs.Reencoded.{commit_reencodes_identically, decoded_commit_rejects_nothing}
 use Rattle.gixobj_commit.specs.CommitViews.{commit_lines}
 use Rattle.gixobj_commit.specs.CommitWriting.{IsCommitLinesError, encode_commit, in_lower_case}
 use Rattle.gixobj_commit.proofs.laws.commits.commit_decode_encode_agree.Goals as goal
@@ -12,6 +12,7 @@ returns-in-Ok-clause-same_bytes c = λ kind content it tree parents.
 
 pub returns-in-Err-clause-error : goal.returns-in-Err-clause-error
 returns-in-Err-clause-error c = λ kind content it some.
-    fails_as_sink (IsCommitLinesError (in_lower_case (commit_lines c.args.commit.now))) _ _ (encode_commit (in_lower_case (commit_lines c.args.commit.now)))
+    fails_as_sink_of_error (IsCommitLinesError (in_lower_case (commit_lines c.args.commit.now))) _ _
+        (encode_commit (in_lower_case (commit_lines c.args.commit.now)))
     c.in-Err.error
-    (read_commit_not_rejected kind content (commit_lines c.args.commit.now) it some) c.in-Err.ensures.error
+    (decoded_commit_rejects_nothing kind content (commit_lines c.args.commit.now) it some) c.in-Err.ensures.error

@@ -1,5 +1,5 @@
-use Rattle.gixobj_commit.proofs.EntireCommits.{one_commit}
+use Rattle.gixobj_commit.proofs.EntireCommits.{commit_unique}
 use Rattle.gixobj_commit.proofs.laws.commits.commit_decodes_uniquely.Goals as goal
 
 pub returns : goal.returns
-returns c = one_commit
+returns c = commit_unique

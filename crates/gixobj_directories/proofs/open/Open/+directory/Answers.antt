@@ -3,35 +3,36 @@ use Rattle.std.proofs.lemmas.Option.{IfSome_then}
 use Rattle.bstr.specs.Owned.{bstring_bytes}
 use Rattle.gixobj_directories.specs.Calls.{names_of}
 use Rattle.gixobj_directories.specs.Nested.{parts}
-use Rattle.gixobj_directories.proofs.Levels.{level_root}
-use Rattle.gixobj_directories.proofs.OpeningSteps.{names_none}
-use Rattle.gixobj_directories.proofs.Steps.{none_then, path_down, path_unopened}
-use Rattle.gixobj_directories.proofs.Ordered.{level_apart}
+use Rattle.gixobj_directories.proofs.Levels.{dirs_of_nil}
+use Rattle.gixobj_directories.proofs.OpeningSteps.{names_of_nil}
+use Rattle.gixobj_directories.proofs.Steps.{if_none_of, path_down, path_unopened}
+use Rattle.gixobj_directories.proofs.Ordered.{level_names_apart}
 use Rattle.gixobj_directories.proofs.open.Open.+directory.Goals as goal
 
 pub returns-in_default-clause-found : goal.returns-in_default-clause-found
-returns-in_default-clause-found t c = rw (names_none c.args.path.now c.in_default.ensures.cases) (λ at. refl)
+returns-in_default-clause-found t c = rw (names_of_nil c.args.path.now c.in_default.ensures.cases) (λ at. refl)
 
 pub returns-in_default-child_at-clause-none : goal.returns-in_default-child_at-clause-none
 returns-in_default-child_at-clause-none t c =
-    path_unopened c.args.self.now c.self.inside.tree c.self.inside.children.items c.deref.result.now c.self.view_is (level_apart c.self.invariant)
+    path_unopened c.args.self.now c.self.inside.tree c.self.inside.children.items c.deref.result.now c.self.view_is (level_names_apart c.self.invariant)
     (names_of c.args.path.now) (bstring_bytes c.in-Some.name.now) (names_of c.in-Some.rest.now)
     (ap names_of c.in-Some.ensures.cases.0) c.deref.ensures.value
     (c.in_default-child_at.ensures {u = tt})
 
 pub returns-clause-found : goal.returns-clause-found
 returns-clause-found t c = IfSome_then c.directory.result c.directory.ensures.found (λ it same at.
-    same at ∙ sym (path_down c.args.self.now c.self.inside.tree c.self.inside.children.items c.deref.result.now c.self.view_is (level_apart c.self.invariant)
+    same at ∙ sym (path_down c.args.self.now c.self.inside.tree c.self.inside.children.items c.deref.result.now c.self.view_is
+        (level_names_apart c.self.invariant)
     (names_of c.args.path.now) (bstring_bytes c.in-Some.name.now) (names_of c.in-Some.rest.now)
     (ap names_of c.in-Some.ensures.cases.0) c.deref.ensures.value
     c.in-Some-child_at.place c.index-child.result.now (c.in-Some-child_at.ensures {u = tt}) c.index-child.ensures at))
 
 pub returns-clause-none : goal.returns-clause-none
-returns-clause-none t c = none_then c.directory.result c.directory.ensures.none (λ none at.
-    path_down c.args.self.now c.self.inside.tree c.self.inside.children.items c.deref.result.now c.self.view_is (level_apart c.self.invariant)
+returns-clause-none t c = if_none_of c.directory.result c.directory.ensures.none (λ none at.
+    path_down c.args.self.now c.self.inside.tree c.self.inside.children.items c.deref.result.now c.self.view_is (level_names_apart c.self.invariant)
     (names_of c.args.path.now) (bstring_bytes c.in-Some.name.now) (names_of c.in-Some.rest.now)
     (ap names_of c.in-Some.ensures.cases.0) c.deref.ensures.value
     c.in-Some-child_at.place c.index-child.result.now (c.in-Some-child_at.ensures {u = tt}) c.index-child.ensures at ∙ none at)
 
 pub returns-in_default-clause-root : goal.returns-in_default-clause-root
-returns-in_default-clause-root t c = (c.self.inside.tree, level_root c.args.self.now c.self.inside.tree (parts c.self.inside.children.items) c.self.view_is)
+returns-in_default-clause-root t c = (c.self.inside.tree, dirs_of_nil c.args.self.now c.self.inside.tree (parts c.self.inside.children.items) c.self.view_is)

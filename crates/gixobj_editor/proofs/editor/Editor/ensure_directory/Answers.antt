@@ -9,32 +9,32 @@ use Rattle.gixobj_files.specs.Unopened.{inside}
 use Rattle.gixobj_directories.specs.Calls.{names_of}
 use Rattle.gixobj_directories.specs.Nested.{Opened, dirs_of}
 use Rattle.gixobj_directories.specs.Openings.{AreTreesOf, IsOpenErrorAt}
-use Rattle.gixobj_directories.proofs.Emitting.{err_weaker}
-use Rattle.gixobj_files.proofs.WrittenTrees.{on_err}
+use Rattle.gixobj_directories.proofs.Emitting.{if_err_weaken}
+use Rattle.gixobj_files.proofs.WrittenTrees.{on_err_of}
 use Rattle.gixobj_editor.specs.Cursors.{IsCursorError}
-use Rattle.gixobj_editor.proofs.EnsuredAt.{ensured_at, ensured_open, name_rejected_at, rejects_at, some_names}
+use Rattle.gixobj_editor.proofs.EnsuredAt.{ensured_at, ensured_path_is_open, cursor_error_of_name, rejects_at, path_not_nil}
 use Rattle.gixobj_editor.proofs.Edited.{OpenedOn, OpenedSo, halted_so, opened_so, unchanged_at}
-use Rattle.gixobj_directories.proofs.NamedTrees.{trees_of}
+use Rattle.gixobj_directories.proofs.NamedTrees.{trees_of_objects_exist}
 use Rattle.gixobj_directories.specs.declared.opening.Vacant.TheVariants as vacant
 use Rattle.gixobj_editor.proofs.StillOn.{ensured_on, halted_on, opened_on}
 use Rattle.gixobj_editor.proofs.editor.Editor.ensure_directory.Goals as goal
 
 pub returns-in_err-check_names-clause-error : goal.returns-in_err-check_names-clause-error
-returns-in_err-check_names-clause-error g c = err_weaker c.from_residual.result _ _ c.from_residual.ensures.1 (λ error is trees fits.
+returns-in_err-check_names-clause-error g c = if_err_weaken c.from_residual.result _ _ c.from_residual.ensures.1 (λ error is trees fits.
     subst (IsCursorError (g.S.Store.objects c.args.self.now.store) (g.S.Store.may_fail c.args.self.now.store) trees (open_dirs c.args.self.now)
     (names_of c.args.path.now)) (sym is)
-    (name_rejected_at (g.S.Store.objects c.args.self.now.store) (g.S.Store.may_fail c.args.self.now.store) trees (open_dirs c.args.self.now)
+    (cursor_error_of_name (g.S.Store.objects c.args.self.now.store) (g.S.Store.may_fail c.args.self.now.store) trees (open_dirs c.args.self.now)
     (names_of c.args.path.now) c.in_err-check_names.field-0.0 (c.in_err-check_names.ensures {u = tt}).error))
 
 pub returns-in_err-check_names-clause-after_error : goal.returns-in_err-check_names-clause-after_error
 returns-in_err-check_names-clause-after_error g c =
-    on_err c.from_residual.result _
+    on_err_of c.from_residual.result _
     (λ trees fits. unchanged_at c.self.inside.store c.self.inside.object_hash (names_of c.self.inside.prefix.items) trees c.self.inside.root
     c.self.inside.lookups c.args.self.now c.self.view_is (inside (names_of c.args.path.now)) c.self.invariant)
 
 pub returns-in_err-open_along-clause-after_error : goal.returns-in_err-open_along-clause-after_error
 returns-in_err-open_along-clause-after_error g c =
-    on_err c.from_residual-in_err-open_along.result _ (λ trees fits.
+    on_err_of c.from_residual-in_err-open_along.result _ (λ trees fits.
     let s = c.self.inside in
     let path = names_of c.args.path.now in
     let stored = ap (λ (o : State _). o.store) c.self.view_is in
@@ -44,7 +44,7 @@ returns-in_err-open_along-clause-after_error g c =
 
 pub returns-in_err-open_along-clause-error : goal.returns-in_err-open_along-clause-error
 returns-in_err-open_along-clause-error g c =
-    err_weaker c.from_residual-in_err-open_along.result _ _ c.from_residual-in_err-open_along.ensures.1 (λ error gives trees fits.
+    if_err_weaken c.from_residual-in_err-open_along.result _ _ c.from_residual-in_err-open_along.ensures.1 (λ error gives trees fits.
     let s = c.self.inside in
     let path = names_of c.args.path.now in
     let stored = ap (λ (o : State _). o.store) c.self.view_is in
@@ -60,7 +60,7 @@ returns-in_err-open_along-clause-error g c =
 -- allocation of the names fails
 pub returns-in_err-prefix-clause-after_error : goal.returns-in_err-prefix-clause-after_error
 returns-in_err-prefix-clause-after_error g c =
-    on_err c.from_residual-in_err-prefix.result _ (λ trees fits.
+    on_err_of c.from_residual-in_err-prefix.result _ (λ trees fits.
     let s = c.self.inside in
     let path = names_of c.args.path.now in
     let stored = ap (λ (o : State _). o.store) c.self.view_is in
@@ -70,7 +70,7 @@ returns-in_err-prefix-clause-after_error g c =
 
 pub returns-in_err-prefix-clause-error : goal.returns-in_err-prefix-clause-error
 returns-in_err-prefix-clause-error g c =
-    err_weaker c.from_residual-in_err-prefix.result _ _ c.from_residual-in_err-prefix.ensures.1 (λ error gives trees fits.
+    if_err_weaken c.from_residual-in_err-prefix.result _ _ c.from_residual-in_err-prefix.ensures.1 (λ error gives trees fits.
     subst (IsCursorError (g.S.Store.objects c.args.self.now.store) (g.S.Store.may_fail c.args.self.now.store) trees (open_dirs c.args.self.now)
     (names_of c.args.path.now)) (sym gives)
     ((c.in_ok-check_names.ensures {u = tt}).accepted, (c.in_err-prefix.ensures {u = tt}).allocates))
@@ -80,7 +80,7 @@ ensure_directory-requires g c = recursion_from_All IsEntryName (names_of c.args.
 
 pub returns-in_err-ensure_directory-clause-after_error : goal.returns-in_err-ensure_directory-clause-after_error
 returns-in_err-ensure_directory-clause-after_error g c =
-    on_err c.from_residual-in_err-ensure_directory.result _ (λ trees fits.
+    on_err_of c.from_residual-in_err-ensure_directory.result _ (λ trees fits.
     let s = c.self.inside in
     let path = names_of c.args.path.now in
     let stored = ap (λ (o : State _). o.store) c.self.view_is in
@@ -93,33 +93,33 @@ returns-in_err-ensure_directory-clause-after_error g c =
 
 pub returns-in_err-ensure_directory-clause-error : goal.returns-in_err-ensure_directory-clause-error
 returns-in_err-ensure_directory-clause-error g c =
-    err_weaker c.from_residual-in_err-ensure_directory.result _ _ c.from_residual-in_err-ensure_directory.ensures.1 (λ error gives trees fits.
+    if_err_weaken c.from_residual-in_err-ensure_directory.result _ _ c.from_residual-in_err-ensure_directory.ensures.1 (λ error gives trees fits.
     let path = names_of c.args.path.now in
     subst (IsCursorError (g.S.Store.objects c.args.self.now.store) (g.S.Store.may_fail c.args.self.now.store) trees (open_dirs c.args.self.now) path)
     (sym gives) (
       (c.in_ok-check_names.ensures {u = tt}).accepted,
-      some_names path (dirs_of c.open_along.new.self)
+      path_not_nil path (dirs_of c.open_along.new.self)
           (c.open_along.ensures.still_opened c.self.invariant.opened) (c.in_err-ensure_directory.ensures {u = tt}).unopened,
     ))
 
 pub invariant_of-self : goal.invariant_of-self
 invariant_of-self g c =
     let s = c.self.inside in
-    let named = trees_of (g.S.Store.objects s.store) in
+    let named = trees_of_objects_exist (g.S.Store.objects s.store) in
     let bad = (c.in_err-open_along.ensures {u = tt}).stopped_opening named.0 named.1 in
     halted_on named.0 s.root c.open_along.new.self c.open_along.ensures.bases c.self.invariant (names_of c.args.path.now) bad.0 bad.1 bad.2
 
 pub invariant_of-self-in_err-prefix : goal.invariant_of-self-in_err-prefix
 invariant_of-self-in_err-prefix g c =
     let s = c.self.inside in
-    let named = trees_of (g.S.Store.objects s.store) in
+    let named = trees_of_objects_exist (g.S.Store.objects s.store) in
     let ok = (c.in_ok-open_along.ensures {u = tt}).opened named.0 named.1 in
     opened_on named.0 s.root c.open_along.new.self c.open_along.ensures.bases c.self.invariant (names_of c.args.path.now) ok.0 ok.1
 
 pub invariant_of-self-in_err-ensure_directory : goal.invariant_of-self-in_err-ensure_directory
 invariant_of-self-in_err-ensure_directory g c =
     let s = c.self.inside in
-    let named = trees_of (g.S.Store.objects s.store) in
+    let named = trees_of_objects_exist (g.S.Store.objects s.store) in
     let ok = (c.in_ok-open_along.ensures {u = tt}).opened named.0 named.1 in
     let same : c.ensure_directory.new.self ≡ c.open_along.new.self = (c.in_err-ensure_directory.ensures {u = tt}).unchanged in
     subst OpenedOn (sym same) (opened_on named.0 s.root c.open_along.new.self c.open_along.ensures.bases c.self.invariant (names_of c.args.path.now) ok.0 ok.1)
@@ -128,7 +128,7 @@ pub invariant_of-self-2 : goal.invariant_of-self-2
 invariant_of-self-2 g c =
     let s = c.self.inside in
     let path = names_of c.args.path.now in
-    let named = trees_of (g.S.Store.objects s.store) in
+    let named = trees_of_objects_exist (g.S.Store.objects s.store) in
     let ok = (c.in_ok-open_along.ensures {u = tt}).opened named.0 named.1 in
     ensured_on named.0 s.root c.open_along.new.self c.open_along.ensures.bases c.self.invariant c.ensure_directory.new.self
     (c.in_ok-ensure_directory.ensures {u = tt}).bases
@@ -136,7 +136,7 @@ invariant_of-self-2 g c =
     (λ at. (c.in_ok-ensure_directory.ensures {u = tt}).ok at ∙ ap (λ null. ensured_dirs path null (dirs_of c.open_along.new.self) at) c.null-null.ensures.value)
 
 pub returns-clause-is_open : goal.returns-clause-is_open
-returns-clause-is_open g c = ensured_open (names_of c.args.path.now) c.null-null.result c.open_along.new.self c.ensure_directory.new.self
+returns-clause-is_open g c = ensured_path_is_open (names_of c.args.path.now) c.null-null.result c.open_along.new.self c.ensure_directory.new.self
     (c.in_ok-ensure_directory.ensures {u = tt}).ok (names_of c.in_ok-prefix.prefix.items) (c.in_ok-prefix.ensures {u = tt}).copied
 
 pub returns-clause-ensured : goal.returns-clause-ensured

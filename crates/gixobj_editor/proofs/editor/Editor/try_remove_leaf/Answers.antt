@@ -5,11 +5,11 @@ use Rattle.gixobj_files.specs.Opening.{Dirs}
 use Rattle.gixobj_files.specs.State.{State, open_dirs}
 use Rattle.gixobj_directories.specs.Calls.{names_of}
 use Rattle.gixobj_directories.specs.Openings.{AreTreesOf}
-use Rattle.gixobj_directories.proofs.Emitting.{err_weaker}
-use Rattle.gixobj_directories.proofs.NamedTrees.{trees_of}
-use Rattle.gixobj_files.proofs.WrittenTrees.{on_err}
+use Rattle.gixobj_directories.proofs.Emitting.{if_err_weaken}
+use Rattle.gixobj_directories.proofs.NamedTrees.{trees_of_objects_exist}
+use Rattle.gixobj_files.proofs.WrittenTrees.{on_err_of}
 use Rattle.gixobj_editor.specs.Removals.{IsLeafDirectoryError, IsLeafRemovalError}
-use Rattle.gixobj_editor.proofs.Edited.{same_dirs, stay_at}
+use Rattle.gixobj_editor.proofs.Edited.{map_dirs_eq, stay_at}
 use Rattle.gixobj_directories.specs.declared.opening.Vacant.TheVariants as vacant
 use Rattle.gixobj_editor.proofs.RemovedAt.{rejected_at, removed_at, known_at}
 use Rattle.gixobj_editor.proofs.StillOn.{in_part_on, opened_on, taken_on}
@@ -18,7 +18,7 @@ use Rattle.gixobj_editor.proofs.editor.Editor.try_remove_leaf.Goals as goal
 
 pub returns-in_err-open_for_removal-clause-after_error : goal.returns-in_err-open_for_removal-clause-after_error
 returns-in_err-open_for_removal-clause-after_error g c =
-    on_err c.from_residual.result _ (λ trees fits.
+    on_err_of c.from_residual.result _ (λ trees fits.
     let s = c.self.inside in
     let stored = ap (λ (o : State _). o.store) c.self.view_is in
     let bad = (c.in_err-open_for_removal.ensures {u = tt}).after_error trees (subst (λ o. AreTreesOf (g.S.Store.objects o) trees) (sym stored) fits) in
@@ -27,13 +27,13 @@ returns-in_err-open_for_removal-clause-after_error g c =
 
 pub returns-in_err-open_for_removal-clause-error : goal.returns-in_err-open_for_removal-clause-error
 returns-in_err-open_for_removal-clause-error g c =
-    err_weaker c.from_residual.result _ _ c.from_residual.ensures.1 (λ error is trees fits.
+    if_err_weaken c.from_residual.result _ _ c.from_residual.ensures.1 (λ error is trees fits.
     let s = c.self.inside in
     let stored = ap (λ (o : State _). o.store) c.self.view_is in
     let path = names_of c.args.path.now in
     let bad = (c.in_err-open_for_removal.ensures {u = tt}).after_error trees (subst (λ o. AreTreesOf (g.S.Store.objects o) trees) (sym stored) fits) in
     let entire = subst (λ (d : Dirs). IsLeafRemovalError (g.S.Store.objects s.store)
-    (g.S.Store.may_fail s.store) trees d path c.in_err-open_for_removal.field-0.0) (sym (same_dirs s.root)) (inl bad.1) in
+    (g.S.Store.may_fail s.store) trees d path c.in_err-open_for_removal.field-0.0) (sym (map_dirs_eq s.root)) (inl bad.1) in
     subst (IsLeafRemovalError (g.S.Store.objects c.args.self.now.store) (g.S.Store.may_fail c.args.self.now.store) trees (open_dirs c.args.self.now) path)
     (sym is)
     (subst (λ (o : State _). IsLeafRemovalError (g.S.Store.objects o.store) (g.S.Store.may_fail o.store) trees
@@ -42,7 +42,7 @@ returns-in_err-open_for_removal-clause-error g c =
 pub invariant_of-self : goal.invariant_of-self
 invariant_of-self g c =
     let s = c.self.inside in
-    let named = trees_of (g.S.Store.objects s.store) in
+    let named = trees_of_objects_exist (g.S.Store.objects s.store) in
     let bad = (c.in_err-open_for_removal.ensures {u = tt}).after_error named.0 named.1 in
     in_part_on named.0 s.root c.open_for_removal.new.root c.open_for_removal.ensures.bases c.self.invariant
     (names_of c.args.path.now) s.lookups c.open_for_removal.new.lookups bad.0
@@ -50,7 +50,7 @@ invariant_of-self g c =
 pub invariant_of-self-in_err-check_leaf : goal.invariant_of-self-in_err-check_leaf
 invariant_of-self-in_err-check_leaf g c =
     let s = c.self.inside in
-    let named = trees_of (g.S.Store.objects s.store) in
+    let named = trees_of_objects_exist (g.S.Store.objects s.store) in
     let ok = (c.in_ok-open_for_removal.ensures {u = tt}).opened named.0 named.1 in
     opened_on named.0 s.root c.open_for_removal.new.root c.open_for_removal.ensures.bases c.self.invariant (directory_of (names_of c.args.path.now)) ok.0 ok.1
 
@@ -58,14 +58,14 @@ pub invariant_of-self-2 : goal.invariant_of-self-2
 invariant_of-self-2 g c =
     let s = c.self.inside in
     let path = names_of c.args.path.now in
-    let named = trees_of (g.S.Store.objects s.store) in
+    let named = trees_of_objects_exist (g.S.Store.objects s.store) in
     let ok = (c.in_ok-open_for_removal.ensures {u = tt}).opened named.0 named.1 in
     taken_on named.0 s.root c.open_for_removal.new.root c.open_for_removal.ensures.bases c.self.invariant c.take.new.self c.take.ensures.bases
     (directory_of path) path ok.0 ok.1 c.take.ensures.dirs
 
 pub returns-in_err-check_leaf-clause-after_error : goal.returns-in_err-check_leaf-clause-after_error
 returns-in_err-check_leaf-clause-after_error g c =
-    on_err c.from_residual-in_err-check_leaf.result _ (λ trees fits.
+    on_err_of c.from_residual-in_err-check_leaf.result _ (λ trees fits.
     let s = c.self.inside in
     let stored = ap (λ (o : State _). o.store) c.self.view_is in
     let ok = (c.in_ok-open_for_removal.ensures {u = tt}).opened trees (subst (λ o. AreTreesOf (g.S.Store.objects o) trees) (sym stored) fits) in
@@ -75,7 +75,7 @@ returns-in_err-check_leaf-clause-after_error g c =
 
 pub returns-in_err-check_leaf-clause-error : goal.returns-in_err-check_leaf-clause-error
 returns-in_err-check_leaf-clause-error g c =
-    err_weaker c.from_residual-in_err-check_leaf.result _ _ c.from_residual-in_err-check_leaf.ensures.1 (λ error is trees fits.
+    if_err_weaken c.from_residual-in_err-check_leaf.result _ _ c.from_residual-in_err-check_leaf.ensures.1 (λ error is trees fits.
     let s = c.self.inside in
     let path = names_of c.args.path.now in
     let stored = ap (λ (o : State _). o.store) c.self.view_is in

@@ -9,45 +9,45 @@ use Rattle.gixobj_files.specs.State.{State, open_dirs}
 use Rattle.gixobj_directories.specs.Calls.{names_of}
 use Rattle.gixobj_directories.specs.Nested.{Opened, dirs_of}
 use Rattle.gixobj_directories.specs.Openings.{AreTreesOf, IsOpenErrorAt}
-use Rattle.gixobj_directories.proofs.Emitting.{err_weaker}
-use Rattle.gixobj_directories.proofs.OpeningSteps.{names_none}
-use Rattle.gixobj_files.proofs.WrittenTrees.{on_err}
+use Rattle.gixobj_directories.proofs.Emitting.{if_err_weaken}
+use Rattle.gixobj_directories.proofs.OpeningSteps.{names_of_nil}
+use Rattle.gixobj_files.proofs.WrittenTrees.{on_err_of}
 use Rattle.gixobj_editor.specs.Upserts.{IsUpsertError}
-use Rattle.gixobj_editor.proofs.Edited.{OpenedOn, OpenedSo, idle_at, halted_so, name_rejected, nothing_upserted, opened_as, opened_so, fails, unchanged_at, upserted_at}
+use Rattle.gixobj_editor.proofs.Edited.{OpenedOn, OpenedSo, edited_bases_idle, halted_so, upsert_error_of_name, is_upserted_unchanged, is_opened_of_editor, opened_so, fails, unchanged_at, upserted_at}
 use Rattle.gixobj_directories.specs.declared.opening.Vacant.TheVariants as vacant
-use Rattle.gixobj_directories.proofs.NamedTrees.{trees_of}
-use Rattle.gixobj_editor.proofs.Paths.{names_last}
+use Rattle.gixobj_directories.proofs.NamedTrees.{trees_of_objects_exist}
+use Rattle.gixobj_editor.proofs.Paths.{names_of_snoc}
 use Rattle.gixobj_editor.proofs.StillOn.{halted_on, opened_on, inserted_on}
 use Rattle.gixobj_editor.proofs.editor.Editor.try_upsert.Goals as goal
 
 pub returns-in_err-check_names-clause-error : goal.returns-in_err-check_names-clause-error
-returns-in_err-check_names-clause-error g c = err_weaker c.from_residual.result _ _ c.from_residual.ensures.1 (λ error is trees fits.
+returns-in_err-check_names-clause-error g c = if_err_weaken c.from_residual.result _ _ c.from_residual.ensures.1 (λ error is trees fits.
     subst (IsUpsertError (g.S.Store.objects c.args.self.now.store) (g.S.Store.may_fail c.args.self.now.store) trees (open_dirs c.args.self.now)
     (names_of c.args.path.now)) (sym is)
-    (name_rejected (g.S.Store.objects c.args.self.now.store) (g.S.Store.may_fail c.args.self.now.store) trees (open_dirs c.args.self.now)
+    (upsert_error_of_name (g.S.Store.objects c.args.self.now.store) (g.S.Store.may_fail c.args.self.now.store) trees (open_dirs c.args.self.now)
     (names_of c.args.path.now) c.in_err-check_names.field-0.0 (c.in_err-check_names.ensures {u = tt}).error))
 
 pub returns-in_err-check_names-clause-after_error : goal.returns-in_err-check_names-clause-after_error
 returns-in_err-check_names-clause-after_error g c =
-    on_err c.from_residual.result _
+    on_err_of c.from_residual.result _
     (λ trees fits. unchanged_at c.self.inside.store c.self.inside.object_hash (names_of c.self.inside.prefix.items) trees c.self.inside.root
     c.self.inside.lookups c.args.self.now c.self.view_is (names_of c.args.path.now) c.self.invariant)
 
 pub returns-in_default-clause-upserted : goal.returns-in_default-clause-upserted
-returns-in_default-clause-upserted g c = λ trees fits. nothing_upserted trees c.args.self.now (names_of c.args.path.now)
-    (names_none c.args.path.now c.in_default.ensures.cases) (mode_of_kind c.args.kind) c.args.id
-    (opened_as c.self.inside.store c.self.inside.object_hash (names_of c.self.inside.prefix.items) c.self.inside.root c.self.inside.lookups
+returns-in_default-clause-upserted g c = λ trees fits. is_upserted_unchanged trees c.args.self.now (names_of c.args.path.now)
+    (names_of_nil c.args.path.now c.in_default.ensures.cases) (mode_of_kind c.args.kind) c.args.id
+    (is_opened_of_editor c.self.inside.store c.self.inside.object_hash (names_of c.self.inside.prefix.items) c.self.inside.root c.self.inside.lookups
     c.args.self.now
     c.self.view_is c.self.invariant.opened)
-    (idle_at c.self.inside.store c.self.inside.object_hash (names_of c.self.inside.prefix.items) c.self.inside.root c.self.inside.lookups
+    (edited_bases_idle c.self.inside.store c.self.inside.object_hash (names_of c.self.inside.prefix.items) c.self.inside.root c.self.inside.lookups
     c.args.self.now
     c.self.view_is)
 
 pub returns-in_err-open_along-clause-after_error : goal.returns-in_err-open_along-clause-after_error
 returns-in_err-open_along-clause-after_error g c =
-    on_err c.from_residual-in_err-open_along.result _ (λ trees fits.
+    on_err_of c.from_residual-in_err-open_along.result _ (λ trees fits.
     let s = c.self.inside in
-    let is = names_last c.args.path.now c.in-Some.directory.now c.in-Some._last.now c.in-Some.ensures.cases.0 in
+    let is = names_of_snoc c.args.path.now c.in-Some.directory.now c.in-Some._last.now c.in-Some.ensures.cases.0 in
     let stored = ap (λ (o : State _). o.store) c.self.view_is in
     let bad = (c.in_err-open_along.ensures {u = tt}).stopped_opening trees (subst (λ o. AreTreesOf (g.S.Store.objects o) trees) (sym stored) fits) in
     halted_so s.store s.object_hash (names_of s.prefix.items) trees s.root c.open_along.new.self s.lookups c.open_along.new.lookups c.args.self.now
@@ -56,9 +56,9 @@ returns-in_err-open_along-clause-after_error g c =
 
 pub returns-in_err-open_along-clause-error : goal.returns-in_err-open_along-clause-error
 returns-in_err-open_along-clause-error g c =
-    err_weaker c.from_residual-in_err-open_along.result _ _ c.from_residual-in_err-open_along.ensures.1 (λ error gives trees fits.
+    if_err_weaken c.from_residual-in_err-open_along.result _ _ c.from_residual-in_err-open_along.ensures.1 (λ error gives trees fits.
     let s = c.self.inside in
-    let is = names_last c.args.path.now c.in-Some.directory.now c.in-Some._last.now c.in-Some.ensures.cases.0 in
+    let is = names_of_snoc c.args.path.now c.in-Some.directory.now c.in-Some._last.now c.in-Some.ensures.cases.0 in
     let stored = ap (λ (o : State _). o.store) c.self.view_is in
     let bad = (c.in_err-open_along.ensures {u = tt}).stopped_opening trees (subst (λ o. AreTreesOf (g.S.Store.objects o) trees) (sym stored) fits) in
     subst (IsUpsertError (g.S.Store.objects c.args.self.now.store) (g.S.Store.may_fail c.args.self.now.store) trees (open_dirs c.args.self.now)
@@ -75,9 +75,9 @@ insert_entry-requires g c = recursion_from_All IsEntryName (names_of c.args.path
 
 pub returns-in_err-insert_entry-clause-after_error : goal.returns-in_err-insert_entry-clause-after_error
 returns-in_err-insert_entry-clause-after_error g c =
-    on_err c.from_residual-in_err-insert_entry.result _ (λ trees fits.
+    on_err_of c.from_residual-in_err-insert_entry.result _ (λ trees fits.
     let s = c.self.inside in
-    let is = names_last c.args.path.now c.in-Some.directory.now c.in-Some._last.now c.in-Some.ensures.cases.0 in
+    let is = names_of_snoc c.args.path.now c.in-Some.directory.now c.in-Some._last.now c.in-Some.ensures.cases.0 in
     let stored = ap (λ (o : State _). o.store) c.self.view_is in
     let ok = (c.in_ok-open_along.ensures {u = tt}).opened trees (subst (λ o. AreTreesOf (g.S.Store.objects o) trees) (sym stored) fits) in
     let same : c.insert_entry.new.self ≡ c.open_along.new.self = (c.in_err-insert_entry.ensures {u = tt}).unchanged in
@@ -90,14 +90,14 @@ returns-in_err-insert_entry-clause-after_error g c =
 pub invariant_of-self : goal.invariant_of-self
 invariant_of-self g c =
     let s = c.self.inside in
-    let named = trees_of (g.S.Store.objects s.store) in
+    let named = trees_of_objects_exist (g.S.Store.objects s.store) in
     let bad = (c.in_err-open_along.ensures {u = tt}).stopped_opening named.0 named.1 in
     halted_on named.0 s.root c.open_along.new.self c.open_along.ensures.bases c.self.invariant (names_of c.in-Some.directory.now) bad.0 bad.1 bad.2
 
 pub invariant_of-self-in_err-insert_entry : goal.invariant_of-self-in_err-insert_entry
 invariant_of-self-in_err-insert_entry g c =
     let s = c.self.inside in
-    let named = trees_of (g.S.Store.objects s.store) in
+    let named = trees_of_objects_exist (g.S.Store.objects s.store) in
     let ok = (c.in_ok-open_along.ensures {u = tt}).opened named.0 named.1 in
     let same : c.insert_entry.new.self ≡ c.open_along.new.self = (c.in_err-insert_entry.ensures {u = tt}).unchanged in
     subst OpenedOn (sym same) (opened_on named.0 s.root c.open_along.new.self c.open_along.ensures.bases c.self.invariant
@@ -107,8 +107,8 @@ pub invariant_of-self-2 : goal.invariant_of-self-2
 invariant_of-self-2 g c =
     let s = c.self.inside in
     let path = names_of c.args.path.now in
-    let is = names_last c.args.path.now c.in-Some.directory.now c.in-Some._last.now c.in-Some.ensures.cases.0 in
-    let named = trees_of (g.S.Store.objects s.store) in
+    let is = names_of_snoc c.args.path.now c.in-Some.directory.now c.in-Some._last.now c.in-Some.ensures.cases.0 in
+    let named = trees_of_objects_exist (g.S.Store.objects s.store) in
     let ok = (c.in_ok-open_along.ensures {u = tt}).opened named.0 named.1 in
     inserted_on named.0 s.root c.open_along.new.self c.open_along.ensures.bases c.self.invariant c.insert_entry.new.self
     (c.in_ok-insert_entry.ensures {u = tt}).bases
@@ -122,7 +122,7 @@ invariant_of-self-2 g c =
 pub returns-clause-upserted : goal.returns-clause-upserted
 returns-clause-upserted g c = λ trees fits.
     let s = c.self.inside in
-    let is = names_last c.args.path.now c.in-Some.directory.now c.in-Some._last.now c.in-Some.ensures.cases.0 in
+    let is = names_of_snoc c.args.path.now c.in-Some.directory.now c.in-Some._last.now c.in-Some.ensures.cases.0 in
     let stored = ap (λ (o : State _). o.store) c.self.view_is in
     let ok = (c.in_ok-open_along.ensures {u = tt}).opened trees (subst (λ o. AreTreesOf (g.S.Store.objects o) trees) (sym stored) fits) in
     upserted_at s.store s.object_hash (names_of s.prefix.items) trees s.root c.open_along.new.self c.insert_entry.new.self s.lookups

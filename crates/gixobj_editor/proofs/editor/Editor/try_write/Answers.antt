@@ -9,18 +9,18 @@ use Rattle.gixobj_directories.specs.Nested.{bases_of}
 use Rattle.gixobj_files.specs.Emission.{EmitsSome}
 use Rattle.gixobj_files.specs.Opening.{Dirs}
 use Rattle.gixobj_files.specs.State.{State, open_bases, open_dirs}
-use Rattle.gixobj_editor.proofs.Edited.{both_hold, same_bases, same_dirs}
-use Rattle.gixobj_editor.proofs.StillOn.{written_on}
+use Rattle.gixobj_editor.proofs.Edited.{if_ok_and, map_bases_eq, map_dirs_eq}
+use Rattle.gixobj_editor.proofs.StillOn.{written_opened_on}
 use Rattle.gixobj_editor.proofs.WrittenOut.{written_at}
 use Rattle.gixobj_editor.proofs.editor.Editor.try_write.Goals as goal
 
 pub invariant_of-self : goal.invariant_of-self
 invariant_of-self g c =
-    written_on c.write_all.result c.self.inside.root c.write_all.new.node
+    written_opened_on c.write_all.result c.self.inside.root c.write_all.new.node
     (IfOk-weaker c.write_all.result _ _ (λ it ok. (ok.1, ok.5, ok.6)) c.write_all.ensures.ok) c.write_all.ensures.unchanged c.self.invariant
 
 pub returns-clause-written : goal.returns-clause-written
-returns-clause-written g c = both_hold c.write_all.result _ _ _ c.write_all.ensures.ok c.write_all.ensures.bases (λ it ok edited.
+returns-clause-written g c = if_ok_and c.write_all.result _ _ _ c.write_all.ensures.ok c.write_all.ensures.bases (λ it ok edited.
     let s = c.self.inside in
     written_at s.store s.object_hash (names_of s.prefix.items) (λ f p h. CalledAt g.F.FnMut f p.1 (Ok p.0) h) s.root c.write_all.new.node s.lookups
     c.args.self.now c.self.view_is c.self.invariant it ok.0 ok.1 ok.6.0 c.args.out.now c.write_all.new.out
@@ -30,7 +30,7 @@ pub returns-clause-error : goal.returns-clause-error
 returns-clause-error g c =
     subst (λ (b : Dirs). IfErr c.write_all.result (Stopped (λ f p h. CalledAt g.F.FnMut f p.1 (Ok p.0) h) (λ f tree e h. CalledAt g.F.FnMut f tree (Err e) h)
     (EmitsSome (open_dirs c.args.self.now) b) c.args.out.now c.write_all.new.out))
-    (sym (same_bases c.self.inside.root) ∙ ap (λ (o : State g.row.S.Denot). open_bases o) c.self.view_is)
+    (sym (map_bases_eq c.self.inside.root) ∙ ap (λ (o : State g.row.S.Denot). open_bases o) c.self.view_is)
     (subst (λ (d : Dirs). IfErr c.write_all.result (Stopped (λ f p h. CalledAt g.F.FnMut f p.1 (Ok p.0) h) (λ f tree e h. CalledAt g.F.FnMut f tree (Err e) h)
     (EmitsSome d (bases_of c.self.inside.root)) c.args.out.now c.write_all.new.out))
-    (sym (same_dirs c.self.inside.root) ∙ ap (λ (o : State g.row.S.Denot). open_dirs o) c.self.view_is) c.write_all.ensures.error)
+    (sym (map_dirs_eq c.self.inside.root) ∙ ap (λ (o : State g.row.S.Denot). open_dirs o) c.self.view_is) c.write_all.ensures.error)

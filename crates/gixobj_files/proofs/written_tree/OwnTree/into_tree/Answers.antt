@@ -2,7 +2,7 @@ use Rattle.std.proofs.Common.{◌≡◌, ◌++◌, List, drop}
 use Rattle.std.proofs.lemmas.List.{take-append-drop}
 use Rattle.gixobj_tree.specs.Entries.{EntryView}
 use Rattle.gixobj_files.specs.WrittenTrees.{so_far}
-use Rattle.gixobj_files.proofs.WrittenTrees.{on_err}
+use Rattle.gixobj_files.proofs.WrittenTrees.{on_err_of}
 use Rattle.gixobj_files.proofs.written_tree.OwnTree.into_tree.Goals as goal
 
 pub returns-in_err-entries-in-Prefix-clause-prefix_len : goal.returns-in_err-entries-in-Prefix-clause-prefix_len
@@ -10,4 +10,4 @@ returns-in_err-entries-in-Prefix-clause-prefix_len c =
     let base = c.args.base.now in
     let prefix : (rest : List EntryView) × (so_far base c.args.self ++ rest ≡ base) =
     (drop c.in-Prefix.same base, rw c.in-Prefix.is (take-append-drop c.in-Prefix.same base)) in
-    on_err c.from_residual.result _ prefix
+    on_err_of c.from_residual.result _ prefix

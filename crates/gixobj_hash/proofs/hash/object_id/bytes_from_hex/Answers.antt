@@ -3,20 +3,20 @@ use Rattle.std.proofs.Common.{◌+◌, ◌*◌, arith, slice_index, sym, ◌∙�
 use Rattle.std.proofs.lemmas.List.{length-set}
 use Rattle.hex.proofs.HexLemmas.{decode_of-even}
 use Rattle.hex.proofs.Pairs.{decode_done, decode_step}
-use Rattle.gixobj_hash.proofs.HexTests.{pair_read, passes_test}
+use Rattle.gixobj_hash.proofs.HexTests.{pair_value_of_digits, list_all_of_all_pass}
 use Rattle.gixobj_hash.proofs.hash.object_id.bytes_from_hex.Goals as goal
 
 pub returns-then-not-are_hex-clause-accepts : goal.returns-then-not-are_hex-clause-accepts
 returns-then-not-are_hex-clause-accepts g c = (
   λ no. cc no,
-  λ it. sym c.if-not-are_hex.true ∙ c.are_hex.ensures ∙ passes_test _ it.1,
+  λ it. sym c.if-not-are_hex.true ∙ c.are_hex.ensures ∙ list_all_of_all_pass _ it.1,
 )
 
 pub bytes-preserved : goal.bytes-preserved
 bytes-preserved g c = (
   length-set _ _ _ ∙ c.bytes.invariant.0,
   decode_step _ _ c.bytes.i _ (omega arith) (omega arith)
-      (pair_read (slice_index c.args.hex.now (2 * c.bytes.i)) (slice_index c.args.hex.now (2 * c.bytes.i + 1))
+      (pair_value_of_digits (slice_index c.args.hex.now (2 * c.bytes.i)) (slice_index c.args.hex.now (2 * c.bytes.i + 1))
       (2 * c.bytes.i) c.value_of.result c.value_of-in-bytes.result c.value_of.ensures.value c.value_of-in-bytes.ensures.value) c.bytes.invariant.1,
 )
 

@@ -10,17 +10,17 @@ use Rattle.gixobj_import.specs.Steps.{IsImported, IsStepEditsError}
 use Rattle.gixobj_import.specs.declared.import.Imported.{Imported}
 use Rattle.gixobj_import.specs.declared.import.Importer.{Importer}
 use Rattle.gixobj_import.proofs.Adding.{rejected_adds, step_adds}
-use Rattle.gixobj_import.proofs.Digests.{adds_none}
+use Rattle.gixobj_import.proofs.Digests.{adds_by_digest_nil}
 use Rattle.gixobj_import.proofs.Filing.{step_bases, step_files}
 use Rattle.gixobj_import.proofs.Known.{OfStores}
-use Rattle.gixobj_import.proofs.Stepping.{free_of, has_a_write, rejects_step}
+use Rattle.gixobj_import.proofs.Stepping.{no_write_of_step, contains_write_of_reply, rejects_step}
 use Rattle.gixobj_import.proofs.import.Importer.step.Goals as goal
 use Rattle.gixobj_object.specs.Stores.{store_model}
 
 pub write_edits-requires : goal.write_edits-requires
 write_edits-requires g c = record {
   no_write = λ has.
-      free_of c.args.step.now.edits.items c.deref.result.now c.hold_a_write.result c.deref.ensures.value c.if-hold_a_write.false c.hold_a_write.ensures
+      no_write_of_step c.args.step.now.edits.items c.deref.result.now c.hold_a_write.result c.deref.ensures.value c.if-hold_a_write.false c.hold_a_write.ensures
       (subst (λ (es : List Edit). Contains es edit.Write) c.deref-2.ensures.value has);
 }
 
@@ -28,7 +28,7 @@ pub returns-then-self : goal.returns-then-self
 returns-then-self g c =
     let means = store_model g.S.Store.objects g.S.Store.may_fail in
     let objects = means.objects c.args.self.now.editor.store in
-    record { imported = tt; after_error = (c.if-self.true, refl); adds = adds_none objects objects refl; files = tt; bases = tt }
+    record { imported = tt; after_error = (c.if-self.true, refl); adds = adds_by_digest_nil objects objects refl; files = tt; bases = tt }
 
 pub returns-then-hold_a_write : goal.returns-then-hold_a_write
 returns-then-hold_a_write g c =
@@ -38,10 +38,11 @@ returns-then-hold_a_write g c =
       imported = tt;
       after_error = (
         c.if-self.false,
-        has_a_write c.args.step.now.edits.items c.deref.result.now c.hold_a_write.result c.deref.ensures.value c.if-hold_a_write.true c.hold_a_write.ensures,
+        contains_write_of_reply c.args.step.now.edits.items c.deref.result.now c.hold_a_write.result c.deref.ensures.value c.if-hold_a_write.true
+            c.hold_a_write.ensures,
         refl,
       );
-      adds = adds_none objects objects refl;
+      adds = adds_by_digest_nil objects objects refl;
       files = tt;
       bases = tt;
     }
@@ -61,7 +62,7 @@ returns-in-Err g c =
     let new : Importer g.row.S.Denot = record old { editor = c.write_edits.new.editor; failed = true } in
     let rejected = rejects_step means old new c.args.step.now c.in-Err.error (record {
       ready = c.if-self.false;
-      no_write = free_of c.args.step.now.edits.items c.deref.result.now c.hold_a_write.result c.deref.ensures.value c.if-hold_a_write.false
+      no_write = no_write_of_step c.args.step.now.edits.items c.deref.result.now c.hold_a_write.result c.deref.ensures.value c.if-hold_a_write.false
           c.hold_a_write.ensures;
       cause = inl (subst (λ (es : List Edit). IsStepEditsError means old.hash es old.editor c.in-Err.error c.write_edits.new.editor) c.deref-2.ensures.value
           (c.in-Err.ensures {u = tt}).error);
@@ -84,7 +85,7 @@ returns-in-Err-kept g c =
     let new : Importer g.row.S.Denot = record old { editor = c.keep_commit_of-kept.new.editor; failed = true } in
     let rejected = rejects_step means old new c.args.step.now c.in-Err-kept.error (record {
       ready = c.if-self.false;
-      no_write = free_of c.args.step.now.edits.items c.deref.result.now c.hold_a_write.result c.deref.ensures.value c.if-hold_a_write.false
+      no_write = no_write_of_step c.args.step.now.edits.items c.deref.result.now c.hold_a_write.result c.deref.ensures.value c.if-hold_a_write.false
           c.hold_a_write.ensures;
       cause = inr (record {
         it = c.in-Ok.written;
@@ -119,7 +120,7 @@ returns g c =
     let it : Imported = record { commit = c.in-Ok-kept.commit; written = c.in-Ok.written } in
     let one : IsImported means old c.args.step.now it new = record {
       ready = c.if-self.false;
-      no_write = free_of c.args.step.now.edits.items c.deref.result.now c.hold_a_write.result c.deref.ensures.value c.if-hold_a_write.false
+      no_write = no_write_of_step c.args.step.now.edits.items c.deref.result.now c.hold_a_write.result c.deref.ensures.value c.if-hold_a_write.false
           c.hold_a_write.ensures;
       between = c.write_edits.new.editor;
       trees = subst (λ (es : List Edit). IsWriteAfter means old.hash old.editor es (reply.Written c.in-Ok.written) c.write_edits.new.editor)

@@ -1,5 +1,5 @@
 use Rattle.std.proofs.lemmas.Result.{err_from_is_err_and}
-use Rattle.gixobj_ref_iter.proofs.CommitRuns.{searches_end, searches_error, searches_on}
+use Rattle.gixobj_ref_iter.proofs.CommitRuns.{ends_search_at_end, ends_search_at_required_error, searches_snoc}
 use Rattle.gixobj_fields.specs.Runs.{complete}
 use Rattle.gixobj_ref_iter.specs.TokenSearch.{IsAuthorToken}
 use Rattle.gixobj_ref_iter.proofs.commit.CommitRefIter.author.Goals as goal
@@ -7,24 +7,26 @@ use Rattle.gixobj_ref_iter.proofs.commit.CommitRefIter.author.Goals as goal
 pub returns-in_err-token-clause-error : goal.returns-in_err-token-clause-error
 returns-in_err-token-clause-error c =
     let from = err_from_is_err_and c.from_residual.result c.from_residual.ensures.1 in
-    rw from.1 (searches_error IsAuthorToken c.args.self c.loop-item.item-iterator c.next.new.self c.in-Some.item from.0 c.in_err-token.field-0.0 from.2
+    rw from.1 (ends_search_at_required_error IsAuthorToken c.args.self c.loop-item.item-iterator c.next.new.self c.in-Some.item from.0
+        c.in_err-token.field-0.0 from.2
     c.loop-item.invariant c.in-Some.ensures.steps c.in_err-token.was)
 
 pub loop-item-preserved-in_default : goal.loop-item-preserved-in_default
-loop-item-preserved-in_default c = searches_on IsAuthorToken c.args.self c.loop-item.item-iterator c.next.new.self c.in-Some.item c.in_ok-token.token
+loop-item-preserved-in_default c = searches_snoc IsAuthorToken c.args.self c.loop-item.item-iterator c.next.new.self c.in-Some.item c.in_ok-token.token
     c.loop-item.invariant c.in-Some.ensures.steps c.in_ok-token.was c.in_default.ensures
 
 pub loop-item-preserved-in_default-2 : goal.loop-item-preserved-in_default-2
-loop-item-preserved-in_default-2 c = searches_on IsAuthorToken c.args.self c.loop-item.item-iterator c.next.new.self c.in-Some.item c.in_ok-token.token
+loop-item-preserved-in_default-2 c = searches_snoc IsAuthorToken c.args.self c.loop-item.item-iterator c.next.new.self c.in-Some.item c.in_ok-token.token
     c.loop-item.invariant c.in-Some.ensures.steps c.in_ok-token.was c.in_default.ensures
 
 pub loop-item-preserved : goal.loop-item-preserved
-loop-item-preserved c = searches_on IsAuthorToken c.args.self c.loop-item.item-iterator c.next.new.self c.in-Some.item c.in_ok-token.token c.loop-item.invariant
+loop-item-preserved c = searches_snoc IsAuthorToken c.args.self c.loop-item.item-iterator c.next.new.self c.in-Some.item c.in_ok-token.token
+    c.loop-item.invariant
     c.in-Some.ensures.steps c.in_ok-token.was c.in_default.ensures
 
 pub returns-clause-error : goal.returns-clause-error
 returns-clause-error c = (
   complete,
-  searches_end IsAuthorToken c.args.self c.loop-item.item-iterator c.next.new.self c.loop-item.invariant
+  ends_search_at_end IsAuthorToken c.args.self c.loop-item.item-iterator c.next.new.self c.loop-item.invariant
       c.in-None.ensures.steps,
 )

@@ -1,8 +1,8 @@
-use Rattle.gixobj_ref_iter.proofs.CommitLanguage.{read, yields_decoded}
+use Rattle.gixobj_ref_iter.proofs.CommitLanguage.{commit_of_tokens_exists, yields_tokens_of_commit}
 use Rattle.gixobj_ref_iter.proofs.laws.readers.commit_readers_agree.Goals as goal
 
 pub returns-clause-yields : goal.returns-clause-yields
-returns-clause-yields c = yields_decoded
+returns-clause-yields c = yields_tokens_of_commit
 
 pub returns-clause-read : goal.returns-clause-read
-returns-clause-read c = read
+returns-clause-read c = commit_of_tokens_exists

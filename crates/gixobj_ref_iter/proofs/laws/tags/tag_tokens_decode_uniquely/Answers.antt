@@ -1,12 +1,12 @@
-use Rattle.gixobj_ref_iter.proofs.TagRuns.{one_run, encodings_of_run}
-use Rattle.gixobj_ref_iter.proofs.TagTokens.{one_token}
+use Rattle.gixobj_ref_iter.proofs.TagRuns.{token_run_unique, decodes_tokens_of_run}
+use Rattle.gixobj_ref_iter.proofs.TagTokens.{tag_token_unique}
 use Rattle.gixobj_ref_iter.proofs.laws.tags.tag_tokens_decode_uniquely.Goals as goal
 
 pub returns-clause-one_token : goal.returns-clause-one_token
-returns-clause-one_token c = one_token
+returns-clause-one_token c = tag_token_unique
 
 pub returns-clause-one_run : goal.returns-clause-one_run
-returns-clause-one_run c = one_run
+returns-clause-one_run c = token_run_unique
 
 pub returns-clause-joined : goal.returns-clause-joined
-returns-clause-joined c = encodings_of_run
+returns-clause-joined c = decodes_tokens_of_run

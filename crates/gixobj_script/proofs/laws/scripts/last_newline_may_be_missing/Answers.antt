@@ -2,4 +2,4 @@ use Rattle.gixobj_script.proofs.Readings as law
 use Rattle.gixobj_script.proofs.laws.scripts.last_newline_may_be_missing.Goals as goal
 
 pub returns : goal.returns
-returns c = law.newline_or_not
+returns c = law.is_script_iff_with_newline

@@ -3,7 +3,7 @@ use Rattle.gixobj_script.proofs.Readings as law
 use Rattle.gixobj_script.proofs.laws.scripts.script_parses_uniquely.Goals as goal
 
 pub returns-clause-one_command : goal.returns-clause-one_command
-returns-clause-one_command c = lines.one_command
+returns-clause-one_command c = lines.command_unique
 
 pub returns-clause-one_script : goal.returns-clause-one_script
-returns-clause-one_script c = law.one_script
+returns-clause-one_script c = law.script_unique

@@ -1,6 +1,6 @@
 use Rattle.std.proofs.Common.{◌++◌, ◌∙◌, List, ℕ, ap}
-use Rattle.gixobj_fields.proofs.Errors.{fails_as_sink}
-use Rattle.gixobj_tag.proofs.Reencoded.{tag_not_rejected, tag_reencodes_identically}
+use Rattle.gixobj_fields.proofs.Errors.{fails_as_sink_of_error}
+use Rattle.gixobj_tag.proofs.Reencoded.{decoded_tag_rejects_nothing, tag_reencodes_identically}
 use Rattle.gixobj_tag.specs.TagViews.{tag_lines}
 use Rattle.gixobj_tag.specs.TagWriting.{IsTagLinesError, encode_tag}
 use Rattle.gixobj_tag.proofs.laws.tags.tag_decode_encode_agree.Goals as goal
@@ -11,5 +11,5 @@ returns-in-Ok-clause-same_bytes c = λ kind content is keeps. c.in-Ok.ensures.wr
 
 pub returns-in-Err-clause-error : goal.returns-in-Err-clause-error
 returns-in-Err-clause-error c = λ valid.
-    fails_as_sink (IsTagLinesError (tag_lines c.args.tag.now)) _ _ (encode_tag (tag_lines c.args.tag.now)) c.in-Err.error
-    (tag_not_rejected (tag_lines c.args.tag.now) valid) c.in-Err.ensures.error
+    fails_as_sink_of_error (IsTagLinesError (tag_lines c.args.tag.now)) _ _ (encode_tag (tag_lines c.args.tag.now)) c.in-Err.error
+    (decoded_tag_rejects_nothing (tag_lines c.args.tag.now) valid) c.in-Err.ensures.error

@@ -1,6 +1,6 @@
 use Rattle.std.specs.Prelude.{codes}
-use Rattle.gixobj_tag.proofs.Names.{holds_yielded}
+use Rattle.gixobj_tag.proofs.Names.{holds_iff}
 use Rattle.gixobj_tag.proofs.name.faults.has_double_dot.Goals as goal
 
 pub returns : goal.returns
-returns c = holds_yielded c.args.name.now (codes "..") c.contains_str.result c.contains_str.ensures
+returns c = holds_iff c.args.name.now (codes "..") c.contains_str.result c.contains_str.ensures

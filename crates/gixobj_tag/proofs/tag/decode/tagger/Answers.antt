@@ -1,8 +1,8 @@
-use Rattle.gixobj_tag.proofs.Lines.{no_tagger_actor}
+use Rattle.gixobj_tag.proofs.Lines.{no_tagger_of_malformed_actor}
 use Rattle.gixobj_tag.proofs.tag.decode.tagger.Goals as goal
 
 pub returns-in_default-split_signature-clause-none : goal.returns-in_default-split_signature-clause-none
 returns-in_default-split_signature-clause-none c =
-    no_tagger_actor c.args.input.now c.in-Some.field-0.now c.in-Some-header_field.line.now c.in-Some-header_field.rest.now c.in-Some.ensures.found
+    no_tagger_of_malformed_actor c.args.input.now c.in-Some.field-0.now c.in-Some-header_field.line.now c.in-Some-header_field.rest.now c.in-Some.ensures.found
     c.in-Some-header_field.ensures.found
     c.in_default-split_signature.ensures.none

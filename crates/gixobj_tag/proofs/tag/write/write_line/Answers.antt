@@ -1,14 +1,14 @@
 -- The value and the newline follow the name.
 use Rattle.std.proofs.lemmas.Result.{MatchResult-from_err}
-use Rattle.gixobj_fields.proofs.Appends.{prefix_first, appends_or_fails_more}
+use Rattle.gixobj_fields.proofs.Appends.{appends_prefix_first, appends_or_fails_append}
 use Rattle.gixobj_fields.specs.HeaderFormat.{encode_line}
 use Rattle.gixobj_tag.proofs.tag.write.write_line.Goals as goal
 
 pub returns-in_err-write_bytes-clause-appended : goal.returns-in_err-write_bytes-clause-appended
 returns-in_err-write_bytes-clause-appended g c =
     MatchResult-from_err _ _ _ c.from_residual.ensures.0
-    (λ _. prefix_first _ _ c.args.prefix.now (encode_line c.args.value.now) c.in_err-write_bytes.ensures.appended)
+    (λ _. appends_prefix_first _ _ c.args.prefix.now (encode_line c.args.value.now) c.in_err-write_bytes.ensures.appended)
 
 pub returns-clause-appended : goal.returns-clause-appended
-returns-clause-appended g c = appends_or_fails_more _ _ _ _ c.args.prefix.now (encode_line c.args.value.now) c.in_ok-write_bytes.ensures.appended
+returns-clause-appended g c = appends_or_fails_append _ _ _ _ c.args.prefix.now (encode_line c.args.value.now) c.in_ok-write_bytes.ensures.appended
     c.write_value.ensures.appended

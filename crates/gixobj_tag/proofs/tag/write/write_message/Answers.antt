@@ -1,15 +1,15 @@
 -- The message follows its opening.
 use Rattle.std.proofs.lemmas.Result.{MatchResult-from_err}
 use Rattle.bstr.specs.BStr.{bstr_bytes}
-use Rattle.gixobj_fields.proofs.Appends.{prefix_first, appends_or_fails_more}
+use Rattle.gixobj_fields.proofs.Appends.{appends_prefix_first, appends_or_fails_append}
 use Rattle.gixobj_tag.proofs.tag.write.write_message.Goals as goal
 
 pub returns-in_err-write_bytes-clause-appended : goal.returns-in_err-write_bytes-clause-appended
 returns-in_err-write_bytes-clause-appended g c =
     MatchResult-from_err _ _ _ c.from_residual.ensures.0
-    (λ _. rw c.opening.ensures.encoded (prefix_first _ _ c.opening.result.now (bstr_bytes c.args.message) c.in_err-write_bytes.ensures.appended))
+    (λ _. rw c.opening.ensures.encoded (appends_prefix_first _ _ c.opening.result.now (bstr_bytes c.args.message) c.in_err-write_bytes.ensures.appended))
 
 pub returns-clause-appended : goal.returns-clause-appended
 returns-clause-appended g c =
     rw (c.opening.ensures.encoded, ← c.as_bytes.ensures)
-    (appends_or_fails_more _ _ _ _ c.opening.result.now c.as_bytes.result.now c.in_ok-write_bytes.ensures.appended c.write_bytes-2.ensures.appended)
+    (appends_or_fails_append _ _ _ _ c.opening.result.now c.as_bytes.result.now c.in_ok-write_bytes.ensures.appended c.write_bytes-2.ensures.appended)

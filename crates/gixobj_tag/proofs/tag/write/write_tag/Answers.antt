@@ -3,7 +3,7 @@ use Rattle.std.proofs.Common.{List, ℕ, ◌++◌}
 use Rattle.std.proofs.lemmas.Result.{err_from_is_err_and}
 use Rattle.std.specs.Prelude.{codes}
 use Rattle.bstr.specs.BStr.{bstr_bytes}
-use Rattle.gixobj_fields.proofs.Appends.{prefix_first, prefix_more, more_appended}
+use Rattle.gixobj_fields.proofs.Appends.{appends_prefix_first, appends_prefix_append, appends_all_append}
 use Rattle.gixobj_fields.proofs.Errors.{writing_error_longer}
 use Rattle.gixobj_fields.specs.HeaderFormat.{encode_field}
 use Rattle.gixobj_tag.specs.TagFormat.{encode_target_lines}
@@ -18,7 +18,7 @@ returns-in_err-write_lines-clause-error g c =
     let lines : List ℕ = (prefix ++ encode_field (codes "tag") (bstr_bytes c.args.name)) ++ g.A.Tagger.tagger_line c.args.tagger.now in
     let body = encode_body (bstr_bytes c.args.message) (bytes_if_some c.args.signature) in
     rw (from.1, from.2) (writing_error_longer (IsTagPartsError prefix (bstr_bytes c.args.name) (g.A.Tagger.rejects c.args.tagger.now)) _ _ lines (lines ++ body)
-    (λ part. prefix_first _ _ lines body part) c.in_err-write_lines.field-0.0 c.in_err-write_lines.ensures.error)
+    (λ part. appends_prefix_first _ _ lines body part) c.in_err-write_lines.field-0.0 c.in_err-write_lines.ensures.error)
 
 pub returns-in_err-write_body-clause-error : goal.returns-in_err-write_body-clause-error
 returns-in_err-write_body-clause-error g c =
@@ -26,14 +26,14 @@ returns-in_err-write_body-clause-error g c =
     let prefix : List ℕ = encode_target_lines (g.T.Target.target_line c.args.target.now) c.args.target_kind in
     let lines : List ℕ = (prefix ++ encode_field (codes "tag") (bstr_bytes c.args.name)) ++ g.A.Tagger.tagger_line c.args.tagger.now in
     let body = encode_body (bstr_bytes c.args.message) (bytes_if_some c.args.signature) in
-    rw (from.1, from.2) (prefix_more _ _ _ lines body c.in_ok-write_lines.ensures.written c.in_err-write_body.ensures.appended)
+    rw (from.1, from.2) (appends_prefix_append _ _ _ lines body c.in_ok-write_lines.ensures.written c.in_err-write_body.ensures.appended)
 
 pub returns-clause-written : goal.returns-clause-written
 returns-clause-written g c =
     let prefix : List ℕ = encode_target_lines (g.T.Target.target_line c.args.target.now) c.args.target_kind in
     let lines : List ℕ = (prefix ++ encode_field (codes "tag") (bstr_bytes c.args.name)) ++ g.A.Tagger.tagger_line c.args.tagger.now in
     let body = encode_body (bstr_bytes c.args.message) (bytes_if_some c.args.signature) in
-    more_appended _ _ _ lines body c.in_ok-write_lines.ensures.written c.in_ok-write_body.ensures.appended
+    appends_all_append _ _ _ lines body c.in_ok-write_lines.ensures.written c.in_ok-write_body.ensures.appended
 
 pub returns-clause-no_error : goal.returns-clause-no_error
 returns-clause-no_error g c = c.in_ok-write_lines.ensures.no_error

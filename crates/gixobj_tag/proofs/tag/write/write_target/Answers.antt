@@ -1,7 +1,7 @@
 -- The line of the kind follows that of the target.
 use Rattle.std.proofs.lemmas.Result.{MatchResult-from_err}
 use Rattle.std.specs.Prelude.{codes}
-use Rattle.gixobj_fields.proofs.Appends.{prefix_first, appends_or_fails_more}
+use Rattle.gixobj_fields.proofs.Appends.{appends_prefix_first, appends_or_fails_append}
 use Rattle.gixobj_fields.specs.HeaderFormat.{encode_field}
 use Rattle.gixobj_hash.specs.Kind.{kind_name}
 use Rattle.gixobj_tag.proofs.tag.write.write_target.Goals as goal
@@ -9,11 +9,11 @@ use Rattle.gixobj_tag.proofs.tag.write.write_target.Goals as goal
 pub returns-in_err-write_target_line-clause-appended : goal.returns-in_err-write_target_line-clause-appended
 returns-in_err-write_target_line-clause-appended g c =
     MatchResult-from_err _ _ _ c.from_residual.ensures.0
-    (λ _. prefix_first _ _ (g.T.Target.target_line c.args.target.now) (encode_field (codes "type") (kind_name c.args.kind))
+    (λ _. appends_prefix_first _ _ (g.T.Target.target_line c.args.target.now) (encode_field (codes "type") (kind_name c.args.kind))
     c.in_err-write_target_line.ensures.appended)
 
 pub returns-clause-appended : goal.returns-clause-appended
 returns-clause-appended g c =
     rw (← c.kind_line.ensures)
-    (appends_or_fails_more _ _ _ _ (g.T.Target.target_line c.args.target.now) c.kind_line.result.now c.in_ok-write_target_line.ensures.appended
+    (appends_or_fails_append _ _ _ _ (g.T.Target.target_line c.args.target.now) c.kind_line.result.now c.in_ok-write_target_line.ensures.appended
     c.write_bytes.ensures.appended)

@@ -1,5 +1,5 @@
-use Rattle.gixobj_text.proofs.MarkerPlaces.{one_marker_place}
+use Rattle.gixobj_text.proofs.MarkerPlaces.{marker_place_unique}
 use Rattle.gixobj_text.proofs.laws.markers.marker_position_is_unique.Goals as goal
 
 pub returns : goal.returns
-returns c = one_marker_place
+returns c = marker_place_unique

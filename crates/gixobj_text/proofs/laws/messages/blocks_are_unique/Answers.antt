@@ -1,5 +1,5 @@
-use Rattle.gixobj_text.proofs.OneBlocks.{one_list}
+use Rattle.gixobj_text.proofs.OneBlocks.{blocks_unique}
 use Rattle.gixobj_text.proofs.laws.messages.blocks_are_unique.Goals as goal
 
 pub returns : goal.returns
-returns c = one_list
+returns c = blocks_unique

@@ -1,11 +1,11 @@
-use Rattle.gixobj_text.proofs.Runs.{all_blocks, all_filtered, all_trailers}
+use Rattle.gixobj_text.proofs.Runs.{are_blocks_from_run, remaining_filtered_of_run, remaining_trailers_of_run}
 use Rattle.gixobj_text.proofs.laws.messages.readers_yield_all.Goals as goal
 
 pub returns-clause-blocks : goal.returns-clause-blocks
-returns-clause-blocks c = all_blocks
+returns-clause-blocks c = are_blocks_from_run
 
 pub returns-clause-trailers : goal.returns-clause-trailers
-returns-clause-trailers c = all_trailers
+returns-clause-trailers c = remaining_trailers_of_run
 
 pub returns-clause-stored : goal.returns-clause-stored
-returns-clause-stored c = all_filtered
+returns-clause-stored c = remaining_filtered_of_run

@@ -111,7 +111,7 @@ impl<'a> Iterator for Filtered<'a> {
 
     ghost remaining = { remaining_filtered_count };
 
-    #[tactic(auto, using(crate::proofs::Filtering::passes_none, crate::proofs::Filtering::passes_more))]
+    #[tactic(auto, using(crate::proofs::Filtering::skips_unfiltered_refl, crate::proofs::Filtering::skips_unfiltered_step))]
     fn next(&mut self) -> Option<Result<TrailerRef<'a>, OutOfMemory>> {
         'trailers: while let Some(item) = self.trailers.next() {
             match item {

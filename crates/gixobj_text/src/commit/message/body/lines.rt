@@ -19,7 +19,7 @@ pub(crate) fn line_content(line: &[u8]) -> &[u8]
 
 /// Returns the bytes without one final `byte`, if they end with it.
 #[inline(always)]
-#[tactic(auto, using(crate::proofs::LastBytes::dropped, crate::proofs::LastBytes::kept))]
+#[tactic(auto, using(crate::proofs::LastBytes::without_last_byte_of_last, crate::proofs::LastBytes::without_last_byte_of_other))]
 fn without_last(bytes: &[u8], byte: u8) -> &[u8]
     ensures encoded { result.now ≡ without_last_byte byte bytes.now }
     ensures within { length result.now ≤ length bytes.now }
@@ -52,7 +52,7 @@ pub(crate) fn is_blank_line(content: &[u8]) -> bool
 /// Returns the length of the first line. Many lines are empty, with or without a carriage return, so the
 /// first two bytes are tested before the search.
 #[inline(always)]
-#[tactic(auto, using(crate::proofs::FirstLines::ends_first, crate::proofs::FirstLines::ends_second, crate::proofs::FirstLines::ends_at, crate::proofs::FirstLines::ends_nowhere))]
+#[tactic(auto, using(crate::proofs::FirstLines::line_len_of_newline, crate::proofs::FirstLines::line_len_of_second_newline, crate::proofs::FirstLines::line_len_at_newline, crate::proofs::FirstLines::line_len_of_newline_free))]
 fn first_line_len(content: &[u8]) -> usize
     ensures is { result ≡ line_len content.now }
     ensures within { result ≤ length content.now }

@@ -22,7 +22,7 @@ fn is_gap_byte(byte: u8) -> bool
 
 /// Skips the bytes of a token.
 #[inline(always)]
-#[tactic(auto, using(crate::proofs::Tokens::token_more, crate::proofs::Tokens::token_ends))]
+#[tactic(auto, using(crate::proofs::Tokens::after_token_of_token_byte, crate::proofs::Tokens::after_token_of_other_byte))]
 fn skip_token(content: &[u8]) -> &[u8]
     ensures { result.now ≡ after_token_of content.now }
 {
@@ -38,7 +38,7 @@ fn skip_token(content: &[u8]) -> &[u8]
 
 /// Skips spaces and tabs and the colon after them, or returns `None` without the colon.
 #[inline(always)]
-#[tactic(auto, using(crate::proofs::Tokens::gap_colon, crate::proofs::Tokens::gap_more, crate::proofs::Tokens::gap_ends))]
+#[tactic(auto, using(crate::proofs::Tokens::after_gap_at_colon, crate::proofs::Tokens::after_gap_of_space, crate::proofs::Tokens::after_gap_of_other_byte))]
 fn skip_gap(content: &[u8]) -> Option<&[u8]>
     ensures { option_map (λ it. it.now) result ≡ after_gap_of content.now }
 {
@@ -57,7 +57,7 @@ fn skip_gap(content: &[u8]) -> Option<&[u8]>
 
 /// Returns whether a line's content is a trailer line.
 #[inline(always)]
-#[tactic(auto, using(crate::proofs::Tokens::trailer_is, crate::proofs::Tokens::none_is))]
+#[tactic(auto, using(crate::proofs::Tokens::trailer_parts_is_some, crate::proofs::Tokens::trailer_parts_is_none))]
 pub(crate) fn is_line_of_trailer(content: &[u8]) -> bool
     ensures { result ≡ is_some (trailer_parts content.now) }
 {
@@ -80,7 +80,7 @@ fn parts_after_token<'a>(content: &'a [u8], rest: &'a [u8]) -> Option<(&'a [u8],
 
 /// Splits a trailer line's content into its token and the bytes after its colon.
 #[inline(always)]
-#[tactic(auto, using(crate::proofs::Reading::parts_is, crate::proofs::Reading::parts_none, crate::proofs::Reading::within))]
+#[tactic(auto, using(crate::proofs::Reading::trailer_parts_of_token, crate::proofs::Reading::trailer_parts_none, crate::proofs::Reading::after_token_len_le))]
 pub(crate) fn split_trailer(content: &[u8]) -> Option<(&[u8], &[u8])>
     ensures { read_parts result ≡ trailer_parts content.now }
 {

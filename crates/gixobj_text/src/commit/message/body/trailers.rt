@@ -142,7 +142,7 @@ impl<'a> Iterator for Trailers<'a> {
 }
 
 /// Returns the token of the next trailer line, the bytes after its colon, and the lines after it.
-#[tactic(auto, using(crate::proofs::Reading::trailer_here, crate::proofs::Reading::trailers_past, crate::proofs::Reading::folded_past, crate::proofs::Reading::shorter, crate::proofs::Reading::none_remaining))]
+#[tactic(auto, using(crate::proofs::Reading::is_next_trailer_at_line, crate::proofs::Reading::trailers_of_bytes_skip, crate::proofs::Reading::first_is_folded_skip, crate::proofs::Reading::rest_len_lt, crate::proofs::Reading::trailers_of_bytes_nil))]
 fn next_trailer(bytes: &[u8]) -> Option<(&[u8], &[u8], &[u8])>
     ensures { MatchOption result (trailers_of_bytes bytes.now ≡ [])
         (λ it. IsNextTrailer bytes.now it.0.now it.1.now it.2.now) }
@@ -168,7 +168,7 @@ pub(crate) fn is_folded_line(line: &[u8]) -> bool
 
 /// Skips the lines that continue a trailer.
 #[inline(always)]
-#[tactic(auto, using(crate::proofs::Reading::folded_none, crate::proofs::Reading::trailers_past, crate::proofs::Reading::shorter))]
+#[tactic(auto, using(crate::proofs::Reading::parts_of_folded_line, crate::proofs::Reading::trailers_of_bytes_skip, crate::proofs::Reading::rest_len_lt))]
 fn after_folded(bytes: &[u8]) -> &[u8]
     ensures trailers { trailers_of_bytes result.now ≡ trailers_of_bytes bytes.now }
     ensures within { length result.now ≤ length bytes.now }
@@ -188,7 +188,7 @@ fn after_folded(bytes: &[u8]) -> &[u8]
 
 /// Returns whether the bytes begin with a line that continues a trailer.
 #[inline(always)]
-#[tactic(auto, using(crate::proofs::Reading::folded_nothing, crate::proofs::Folding::begins_unfolded))]
+#[tactic(auto, using(crate::proofs::Reading::no_folded_lines_at_end, crate::proofs::Folding::first_line_not_folded))]
 fn begins_folded(bytes: &[u8]) -> bool
     ensures { result ≡ are_some (folded_prefix bytes.now) }
 {
@@ -202,7 +202,7 @@ fn begins_folded(bytes: &[u8]) -> bool
 }
 
 /// Decodes a trailer from its token, the bytes after its colon, and the lines after that.
-#[tactic(auto, using(crate::proofs::Reading::unfolded_is, crate::proofs::Reading::trimmed_is))]
+#[tactic(auto, using(crate::proofs::Reading::with_folded_eq_unfolded, crate::proofs::Reading::unfolded_eq_trimmed))]
 fn read_trailer<'a>(
     alloc: Global,
     token: &'a [u8],
@@ -229,7 +229,7 @@ fn read_trailer<'a>(
 }
 
 /// Returns the unfolded value of several lines.
-#[tactic(auto, using(crate::proofs::Reading::folded_more, crate::proofs::Reading::folded_ends, crate::proofs::Reading::folded_all, crate::proofs::Reading::shorter))]
+#[tactic(auto, using(crate::proofs::Reading::with_folded_cons, crate::proofs::Reading::with_folded_at_unfolded, crate::proofs::Reading::with_folded_at_end, crate::proofs::Reading::rest_len_lt))]
 fn unfolded(alloc: Global, first: &[u8], rest: &[u8]) -> Result<Vec<u8>, AllocError>
     ensures { IfOk result (λ it. it.items
         ≡ with_folded (with_piece [] (trimmed first.now)) (lines_of rest.now)) }

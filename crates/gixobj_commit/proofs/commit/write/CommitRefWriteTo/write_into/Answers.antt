@@ -1,13 +1,13 @@
 -- The parts of the encoding are written one after the other.
-use Rattle.gixobj_hash.proofs.HexIds.{spelled}
+use Rattle.gixobj_hash.proofs.HexIds.{decoded_id_decodes}
 use Rattle.gixobj_hash.specs.Hash.Hex.{decoded_id}
 use Rattle.std.proofs.Common.{[], refl}
 use Rattle.std.proofs.lemmas.Result.{IfErr-weaker, IfOk-weaker, err_from_is_err_and}
 use Rattle.bstr.specs.BStr.{bstr_bytes}
 use Rattle.gixobj_fields.proofs.Errors.{writing_error_append}
 use Rattle.gixobj_hash.specs.Hash.{IsIdHex}
-use Rattle.gixobj_commit.proofs.CommitWrites.{borrowed_as_appended, borrowed_rejected, each_mapped}
-use Rattle.gixobj_fields.proofs.Steps.{all_appended, first_prefix, fourth_prefix, second_prefix, third_prefix, three_appended}
+use Rattle.gixobj_commit.proofs.CommitWrites.{borrowed_commit_in_parts, borrowed_commit_error_of_part, all_map}
+use Rattle.gixobj_fields.proofs.Steps.{appends_all_four, appends_first_of_four, appends_fourth_of_four, appends_second_of_four, appends_third_of_four, appends_all_three}
 use Rattle.gixobj_commit.specs.CommitViews.{commit_lines}
 use Rattle.gixobj_hash.specs.Optional.{bytes_if_some}
 use Rattle.gixobj_commit.specs.CommitWriting.{IsCommitLinesError, in_lower_case, IsEncodingLineError}
@@ -16,45 +16,49 @@ use Rattle.gixobj_commit.proofs.commit.write.CommitRefWriteTo.write_into.Goals a
 pub write_hex_ids-requires : goal.write_hex_ids-requires
 write_hex_ids-requires g c = record {
   tree = c.requires.tree;
-  parents = rw c.as_slice-parents.ensures (each_mapped IsIdHex bstr_bytes c.args.self.now.parents.items c.requires.parents);
+  parents = rw c.as_slice-parents.ensures (all_map IsIdHex bstr_bytes c.args.self.now.parents.items c.requires.parents);
 }
 
 pub returns-in_err-write_hex_ids-clause-error : goal.returns-in_err-write_hex_ids-clause-error
 returns-in_err-write_hex_ids-clause-error g c =
-    let entire = borrowed_as_appended c.args.self.now (decoded_id (bstr_bytes c.args.self.now.tree)) c.as_slice-parents.result.now c.as_bytes-author.result.now
+    let entire = borrowed_commit_in_parts c.args.self.now (decoded_id (bstr_bytes c.args.self.now.tree)) c.as_slice-parents.result.now
+        c.as_bytes-author.result.now
     c.as_bytes-committer.result.now c.as_slice-headers.result.now c.as_bytes-message.result.now
-    (spelled (bstr_bytes c.args.self.now.tree) c.requires.tree) c.as_slice-parents.ensures c.as_bytes-author.ensures c.as_bytes-committer.ensures
+    (decoded_id_decodes (bstr_bytes c.args.self.now.tree) c.requires.tree) c.as_slice-parents.ensures c.as_bytes-author.ensures c.as_bytes-committer.ensures
     c.as_slice-headers.ensures.value c.as_bytes-message.ensures in
     let from = err_from_is_err_and c.from_residual.result c.from_residual.ensures.1 in
-    rw (from.1, from.2) (first_prefix _ _ _ _ _ _ _ entire c.in_err-write_hex_ids.ensures.appended)
+    rw (from.1, from.2) (appends_first_of_four _ _ _ _ _ _ _ entire c.in_err-write_hex_ids.ensures.appended)
 
 pub returns-in_err-trusted_header_field-clause-error : goal.returns-in_err-trusted_header_field-clause-error
 returns-in_err-trusted_header_field-clause-error g c =
-    let entire = borrowed_as_appended c.args.self.now (decoded_id (bstr_bytes c.args.self.now.tree)) c.as_slice-parents.result.now c.as_bytes-author.result.now
+    let entire = borrowed_commit_in_parts c.args.self.now (decoded_id (bstr_bytes c.args.self.now.tree)) c.as_slice-parents.result.now
+        c.as_bytes-author.result.now
     c.as_bytes-committer.result.now c.as_slice-headers.result.now c.as_bytes-message.result.now
-    (spelled (bstr_bytes c.args.self.now.tree) c.requires.tree) c.as_slice-parents.ensures c.as_bytes-author.ensures c.as_bytes-committer.ensures
+    (decoded_id_decodes (bstr_bytes c.args.self.now.tree) c.requires.tree) c.as_slice-parents.ensures c.as_bytes-author.ensures c.as_bytes-committer.ensures
     c.as_slice-headers.ensures.value c.as_bytes-message.ensures in
     let from = err_from_is_err_and c.from_residual-in_err-trusted_header_field.result c.from_residual-in_err-trusted_header_field.ensures.1 in
-    rw (from.1, from.2) (second_prefix _ _ _ _ _ _ _ _ entire c.in_ok-write_hex_ids.ensures.appended c.in_err-trusted_header_field.ensures.appended)
+    rw (from.1, from.2) (appends_second_of_four _ _ _ _ _ _ _ _ entire c.in_ok-write_hex_ids.ensures.appended c.in_err-trusted_header_field.ensures.appended)
 
 pub returns-in_err-trusted_header_field-2-clause-error : goal.returns-in_err-trusted_header_field-2-clause-error
 returns-in_err-trusted_header_field-2-clause-error g c =
-    let entire = borrowed_as_appended c.args.self.now (decoded_id (bstr_bytes c.args.self.now.tree)) c.as_slice-parents.result.now c.as_bytes-author.result.now
+    let entire = borrowed_commit_in_parts c.args.self.now (decoded_id (bstr_bytes c.args.self.now.tree)) c.as_slice-parents.result.now
+        c.as_bytes-author.result.now
     c.as_bytes-committer.result.now c.as_slice-headers.result.now c.as_bytes-message.result.now
-    (spelled (bstr_bytes c.args.self.now.tree) c.requires.tree) c.as_slice-parents.ensures c.as_bytes-author.ensures c.as_bytes-committer.ensures
+    (decoded_id_decodes (bstr_bytes c.args.self.now.tree) c.requires.tree) c.as_slice-parents.ensures c.as_bytes-author.ensures c.as_bytes-committer.ensures
     c.as_slice-headers.ensures.value c.as_bytes-message.ensures in
     let from = err_from_is_err_and c.from_residual-in_err-trusted_header_field-2.result c.from_residual-in_err-trusted_header_field-2.ensures.1 in
-    rw (from.1, from.2) (third_prefix _ _ _ _ _ _ _ _ _ entire c.in_ok-write_hex_ids.ensures.appended c.in_ok-trusted_header_field.ensures.appended
+    rw (from.1, from.2) (appends_third_of_four _ _ _ _ _ _ _ _ _ entire c.in_ok-write_hex_ids.ensures.appended c.in_ok-trusted_header_field.ensures.appended
     c.in_err-trusted_header_field-2.ensures.appended)
 
 pub returns-clause-written : goal.returns-clause-written
 returns-clause-written g c =
-    let entire = borrowed_as_appended c.args.self.now (decoded_id (bstr_bytes c.args.self.now.tree)) c.as_slice-parents.result.now c.as_bytes-author.result.now
+    let entire = borrowed_commit_in_parts c.args.self.now (decoded_id (bstr_bytes c.args.self.now.tree)) c.as_slice-parents.result.now
+        c.as_bytes-author.result.now
     c.as_bytes-committer.result.now c.as_slice-headers.result.now c.as_bytes-message.result.now
-    (spelled (bstr_bytes c.args.self.now.tree) c.requires.tree) c.as_slice-parents.ensures c.as_bytes-author.ensures c.as_bytes-committer.ensures
+    (decoded_id_decodes (bstr_bytes c.args.self.now.tree) c.requires.tree) c.as_slice-parents.ensures c.as_bytes-author.ensures c.as_bytes-committer.ensures
     c.as_slice-headers.ensures.value c.as_bytes-message.ensures in
     IfOk-weaker c.write_rest.result _ _
-    (λ _ rest. all_appended _ _ _ _ _ _ _ _ _ _ entire c.in_ok-write_hex_ids.ensures.appended c.in_ok-trusted_header_field.ensures.appended
+    (λ _ rest. appends_all_four _ _ _ _ _ _ _ _ _ _ entire c.in_ok-write_hex_ids.ensures.appended c.in_ok-trusted_header_field.ensures.appended
     c.in_ok-trusted_header_field-2.ensures.appended rest)
     c.write_rest.ensures.written
 
@@ -64,18 +68,20 @@ returns-clause-no_error g c =
 
 pub returns-clause-error : goal.returns-clause-error
 returns-clause-error g c =
-    let entire = borrowed_as_appended c.args.self.now (decoded_id (bstr_bytes c.args.self.now.tree)) c.as_slice-parents.result.now c.as_bytes-author.result.now
+    let entire = borrowed_commit_in_parts c.args.self.now (decoded_id (bstr_bytes c.args.self.now.tree)) c.as_slice-parents.result.now
+        c.as_bytes-author.result.now
     c.as_bytes-committer.result.now c.as_slice-headers.result.now c.as_bytes-message.result.now
-    (spelled (bstr_bytes c.args.self.now.tree) c.requires.tree) c.as_slice-parents.ensures c.as_bytes-author.ensures c.as_bytes-committer.ensures
+    (decoded_id_decodes (bstr_bytes c.args.self.now.tree) c.requires.tree) c.as_slice-parents.ensures c.as_bytes-author.ensures c.as_bytes-committer.ensures
     c.as_slice-headers.ensures.value c.as_bytes-message.ensures in
     IfErr-weaker c.write_rest.result _ _
     (writing_error_append (IsEncodingLineError (bytes_if_some c.args.self.now.encoding)) (IsCommitLinesError (in_lower_case (commit_lines c.args.self.now)))
     (g.S.Sink.view c.args.sink.now) (g.S.Sink.view c.trusted_header_field-2.new.sink) (g.S.Sink.view c.write_rest.new.sink) _ _ _
-    (three_appended _ _ _ _ _ _ _ c.in_ok-write_hex_ids.ensures.appended c.in_ok-trusted_header_field.ensures.appended
+    (appends_all_three _ _ _ _ _ _ _ c.in_ok-write_hex_ids.ensures.appended c.in_ok-trusted_header_field.ensures.appended
     c.in_ok-trusted_header_field-2.ensures.appended)
-    (λ value parts. borrowed_rejected c.args.self.now (decoded_id (bstr_bytes c.args.self.now.tree)) c.as_slice-parents.result.now c.as_bytes-author.result.now
-    c.as_bytes-committer.result.now value parts (spelled (bstr_bytes c.args.self.now.tree) c.requires.tree) c.as_slice-parents.ensures
+    (λ value parts. borrowed_commit_error_of_part c.args.self.now (decoded_id (bstr_bytes c.args.self.now.tree)) c.as_slice-parents.result.now
+        c.as_bytes-author.result.now
+    c.as_bytes-committer.result.now value parts (decoded_id_decodes (bstr_bytes c.args.self.now.tree) c.requires.tree) c.as_slice-parents.ensures
     c.as_bytes-author.ensures c.as_bytes-committer.ensures)
-    (fourth_prefix _ _ _ _ _ _ _ _ _ _ entire c.in_ok-write_hex_ids.ensures.appended c.in_ok-trusted_header_field.ensures.appended
+    (appends_fourth_of_four _ _ _ _ _ _ _ _ _ _ entire c.in_ok-write_hex_ids.ensures.appended c.in_ok-trusted_header_field.ensures.appended
     c.in_ok-trusted_header_field-2.ensures.appended))
     c.write_rest.ensures.error

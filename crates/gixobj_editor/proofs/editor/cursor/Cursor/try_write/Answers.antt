@@ -1,6 +1,6 @@
 -- The directory at the prefix is still open.
 use Rattle.std.proofs.lemmas.Result.{IfOk-weaker}
-use Rattle.gixobj_editor.proofs.WrittenBelow.{written_open, written_prefix}
+use Rattle.gixobj_editor.proofs.WrittenBelow.{written_prefix_is_open, write_keeps_prefix}
 use Rattle.gixobj_editor.proofs.editor.cursor.Cursor.try_write.Goals as goal
 
 pub invariant_of-self : goal.invariant_of-self
@@ -8,12 +8,12 @@ invariant_of-self g c =
     let old = c.args.self.now.editor.now in
     let new = c.write_below.new.self in
     record {
-      is_open = written_open c.write_below.result old new
+      is_open = written_prefix_is_open c.write_below.result old new
           (IfOk-weaker c.write_below.result _ _ (λ it went. (went.own, went.dirs)) c.write_below.ensures.written) c.write_below.ensures.unchanged
-          (written_prefix c.write_below.result old new (IfOk-weaker c.write_below.result _ _ (λ it went. went.rest) c.write_below.ensures.written)
+          (write_keeps_prefix c.write_below.result old new (IfOk-weaker c.write_below.result _ _ (λ it went. went.rest) c.write_below.ensures.written)
           c.write_below.ensures.unchanged) c.args.self.now.is_open;
     }
 
 pub returns-clause-prefix : goal.returns-clause-prefix
-returns-clause-prefix g c = written_prefix c.write_below.result c.args.self.now.editor.now c.write_below.new.self
+returns-clause-prefix g c = write_keeps_prefix c.write_below.result c.args.self.now.editor.now c.write_below.new.self
     (IfOk-weaker c.write_below.result _ _ (λ it went. went.rest) c.write_below.ensures.written) c.write_below.ensures.unchanged

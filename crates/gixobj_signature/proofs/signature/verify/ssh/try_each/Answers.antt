@@ -10,7 +10,7 @@ use Rattle.gixobj_signature.specs.Verifiers.{ssh_of, ssh_program_of}
 use Rattle.gixobj_signature.specs.Verifying.{error_view, reported, tries, verify_view}
 use Rattle.gixobj_signature.specs.declared.signature.verify.Error.{Error}
 use Rattle.gixobj_signature.specs.declared.signature.verify.Error.TheVariants as verify
-use Rattle.gixobj_signature.proofs.Steps.{item_accepted, item_more, item_no_memory, item_failed, items_end}
+use Rattle.gixobj_signature.proofs.Steps.{item_accepted, item_more, item_no_memory, item_failed, remaining_plan_at_end}
 use Rattle.gixobj_signature.proofs.signature.verify.ssh.try_each.Goals as goal
 
 -- the call for a principal failed
@@ -67,7 +67,8 @@ pub returns : goal.returns
 returns g c =
     let entire = tries (ssh_program_of c.args.by.now) (ssh_of c.args.by.now) c.args.signature.now (signed_bytes c.args.signed.now)
     (map bstring_bytes c.args.principals.now) None in
-    items_end g.R.Runner.runs (ssh_program_of c.args.by.now) (ssh_of c.args.by.now) c.args.signature.now (signed_bytes c.args.signed.now) c.args.principals.now
+    remaining_plan_at_end g.R.Runner.runs (ssh_program_of c.args.by.now) (ssh_of c.args.by.now) c.args.signature.now
+        (signed_bytes c.args.signed.now) c.args.principals.now
     c.loop-principal.principal-index
     (option_map output_view c.loop-principal.last) entire c.loop-principal.runner c.args.runner.now c.loop-principal-test.false c.loop-principal.invariant
     (verify_view c.end_with.result) c.end_with.new.runner c.end_with.ensures

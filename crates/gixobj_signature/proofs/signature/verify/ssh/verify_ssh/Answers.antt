@@ -8,7 +8,7 @@ use Rattle.gixobj_signature.specs.Verifying.{principals_in, error_view, ssh_veri
 use Rattle.gixobj_signature.specs.VerifyingCalls.{principals_call}
 use Rattle.gixobj_signature.specs.declared.signature.verify.Error.{Error}
 use Rattle.gixobj_signature.specs.declared.signature.verify.Error.TheVariants as verify
-use Rattle.gixobj_signature.proofs.Steps.{begins_at_once, not_answered}
+use Rattle.gixobj_signature.proofs.Steps.{begins_plan_refl, carried_out_of_no_answer}
 use Rattle.gixobj_signature.proofs.signature.verify.ssh.verify_ssh.Goals as goal
 
 -- the call for the principals failed
@@ -18,7 +18,7 @@ returns-in_err-found g c =
     subst (λ (it : Result Outcome Error). IsCarriedOut g.R.Runner.runs
     (ssh_verify_plan (ssh_program_of c.args.by.now) (ssh_of c.args.by.now) c.args.signature.now (signed_bytes c.args.signed.now)) c.args.runner.now
     (verify_view it) c.ask_principals.new.runner) (sym same)
-    (not_answered g.R.Runner.runs (principals_call (ssh_program_of c.args.by.now) (ssh_of c.args.by.now) c.args.signature.now)
+    (carried_out_of_no_answer g.R.Runner.runs (principals_call (ssh_program_of c.args.by.now) (ssh_of c.args.by.now) c.args.signature.now)
     (λ it. tries (ssh_program_of c.args.by.now) (ssh_of c.args.by.now) c.args.signature.now (signed_bytes c.args.signed.now)
     (cond it.success (principals_in it.stdout) []) None)
     (error_view c.in_err-found.field-0.0) c.args.runner.now c.ask_principals.new.runner c.in_err-found.ensures)
@@ -34,5 +34,5 @@ returns-in_err-principals g c =
       ran (output_view c.in_ok-found.found),
       c.ask_principals.new.runner,
       c.in_ok-found.ensures,
-      begins_at_once g.R.Runner.runs _ c.ask_principals.new.runner,
+      begins_plan_refl g.R.Runner.runs _ c.ask_principals.new.runner,
     ))

@@ -1,23 +1,24 @@
 use Rattle.std.proofs.Common.{None, rules, ◌∷◌, ◌≡◌}
 use Rattle.bstr.specs.BStr.{bstr_bytes}
 use Rattle.gixobj_text.specs.Breaks.{after_two_breaks}
-use Rattle.gixobj_text.proofs.SplitTitles.{all_title, split_here, empty_is, some_or_none}
-use Rattle.gixobj_text.proofs.Plain.{uncut_next}
+use Rattle.gixobj_text.proofs.SplitTitles.{splits_title_of_unsplit, is_split_at_breaks, nil_of_is_empty, splits_title_of_option}
+use Rattle.gixobj_text.proofs.Plain.{is_unsplit_at_next}
 use Rattle.gixobj_text.proofs.commit.message.decode.message_title_and_body.Goals as goal
 
 pub returns-in-Some-skip_two_breaks : goal.returns-in-Some-skip_two_breaks
 returns-in-Some-skip_two_breaks c =
-    some_or_none c.args.message.now (bstr_bytes c.new.result) c.in-Some-skip_two_breaks.body.now c.some_body.result
-    (split_here c.args.message.now c.places.rest.now c.in-Some-skip_two_breaks.body.now
+    splits_title_of_option c.args.message.now (bstr_bytes c.new.result) c.in-Some-skip_two_breaks.body.now c.some_body.result
+    (is_split_at_breaks c.args.message.now c.places.rest.now c.in-Some-skip_two_breaks.body.now
     (bstr_bytes c.new.result) c.places.invariant c.in-Some-skip_two_breaks.ensures c.new.ensures) c.some_body.ensures
 
 pub returns : goal.returns
-returns c = all_title c.args.message.now c.places.rest.now (bstr_bytes c.new-2.result) c.places.invariant
-    (empty_is c.places.rest.now c.in_default.ensures.cases) c.new-2.ensures
+returns c = splits_title_of_unsplit c.args.message.now c.places.rest.now (bstr_bytes c.new-2.result) c.places.invariant
+    (nil_of_is_empty c.places.rest.now c.in_default.ensures.cases) c.new-2.ensures
 
 pub places-preserved : goal.places-preserved
 places-preserved c =
     let is : c.places.rest.now ≡ c.in-Some.field-0-0.now ∷ c.in-Some.after.now = search rules in
     let none : None ≡ after_two_breaks c.places.rest.now = search rules in
-    uncut_next c.args.message.now c.places.rest.now c.in-Some.field-0-0.now c.in-Some.after.now c.from_break-rest-in-Some.result.now c.places.invariant is none
+    is_unsplit_at_next c.args.message.now c.places.rest.now c.in-Some.field-0-0.now c.in-Some.after.now c.from_break-rest-in-Some.result.now
+        c.places.invariant is none
     c.from_break-rest-in-Some.ensures.is

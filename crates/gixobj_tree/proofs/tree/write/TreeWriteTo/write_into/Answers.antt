@@ -1,8 +1,8 @@
 -- The entries before the current one are written, and none of them is rejected.
 use Rattle.std.proofs.Common.{◌≡◌, get_or, sym, ◌∙◌}
 use Rattle.std.proofs.lemmas.Result.{err_from_is_err_and}
-use Rattle.gixobj_fields.proofs.Appends.{more_appended}
-use Rattle.gixobj_tree.proofs.TreeWrites.{free_more, nothing_rejected, rejected_at, bytes_more}
+use Rattle.gixobj_fields.proofs.Appends.{appends_all_append}
+use Rattle.gixobj_tree.proofs.TreeWrites.{are_free_take_succ, no_error_of_free_tree, writing_error_at_entry, encode_tree_take_succ}
 use Rattle.gixobj_tree.proofs.tree.write.TreeWriteTo.write_into.Goals as goal
 use Rattle.gixobj_tree.specs.TreeViews.{entry_view}
 
@@ -14,9 +14,9 @@ loop-entry-preserved g c =
     let entry = entry_view c.from.result in
     let here : entry ≡ get_or items c.loop-entry.entry-index entry = rw c.from.ensures c.entry-item.is in
     record {
-      write_bytes = rw (bytes_more items c.loop-entry.entry-index entry c.loop-entry-test.true here)
-          (more_appended _ _ _ _ _ before.write_bytes write_bytes.written);
-      free = free_more items c.loop-entry.entry-index entry c.loop-entry-test.true here before.free write_bytes.free;
+      write_bytes = rw (encode_tree_take_succ items c.loop-entry.entry-index entry c.loop-entry-test.true here)
+          (appends_all_append _ _ _ _ _ before.write_bytes write_bytes.written);
+      free = are_free_take_succ items c.loop-entry.entry-index entry c.loop-entry-test.true here before.free write_bytes.free;
       same = before.same;
       same_loan = write_bytes.same_loan ∙ before.same_loan;
     }
@@ -28,10 +28,10 @@ returns-in_err-write_entry_ref-clause-error g c =
     let items = c.deref-entry-items.result.now in
     let entry = entry_view c.from.result in
     let here : entry ≡ get_or items c.loop-entry.entry-index entry = rw c.from.ensures c.entry-item.is in
-    rw (p.1, p.2, sym before.same) (rejected_at _ _ _ items c.loop-entry.entry-index entry c.loop-entry-test.true here
+    rw (p.1, p.2, sym before.same) (writing_error_at_entry _ _ _ items c.loop-entry.entry-index entry c.loop-entry-test.true here
     before.write_bytes before.free c.in_err-write_entry_ref.field-0.0 c.in_err-write_entry_ref.ensures.error)
 
 pub returns-clause-no_error : goal.returns-clause-no_error
 returns-clause-no_error g c =
-    nothing_rejected c.deref-entry-items.result.now c.args.self.now c.loop-entry.entry-index c.loop-entry.invariant.same c.loop-entry-test.false
+    no_error_of_free_tree c.deref-entry-items.result.now c.args.self.now c.loop-entry.entry-index c.loop-entry.invariant.same c.loop-entry-test.false
     c.loop-entry.invariant.free

@@ -2,7 +2,7 @@ use Rattle.std.proofs.Common.{rules, ◌≡◌, Ok, Some, inl, length, subst, sy
 use Rattle.gixobj_hash.specs.Hash.{id_of}
 use Rattle.gixobj_hash.specs.declared.hash.kind.Kind.TheVariants.{Sha1}
 use Rattle.gixobj_hash.specs.declared.hash.object_id.ObjectId.{ObjectId}
-use Rattle.gixobj_find.proofs.Nothing.{answers_entire}
+use Rattle.gixobj_find.proofs.Nothing.{answers_id_of_content}
 use Rattle.gixobj_find.specs.Nothing.{AnswersId}
 use Rattle.gixobj_find.proofs.find.never.write.NeverWrite.write.Goals as goal
 
@@ -14,5 +14,5 @@ returns-clause-written g c =
     inl (
       c.in_ok-write_to_vec.ensures.no_error,
       subst (λ (it : ObjectId). AnswersId kind (length content) (Some content) (Ok it)) (sym id)
-          (answers_entire kind content),
+          (answers_id_of_content kind content),
     )

@@ -1,9 +1,9 @@
 -- The entries before the current one are written, and none of them is rejected.
 use Rattle.std.proofs.Common.{ap, map, sym, ◌∙◌}
 use Rattle.std.proofs.lemmas.Result.{err_from_is_err_and}
-use Rattle.gixobj_fields.proofs.Appends.{more_appended}
-use Rattle.gixobj_tree.proofs.TreeWrites.{free_more, nothing_rejected, rejected_at, bytes_more}
-use Rattle.gixobj_tree.proofs.Viewed.{seen_past, seen_there, seen_within}
+use Rattle.gixobj_fields.proofs.Appends.{appends_all_append}
+use Rattle.gixobj_tree.proofs.TreeWrites.{are_free_take_succ, no_error_of_free_tree, writing_error_at_entry, encode_tree_take_succ}
+use Rattle.gixobj_tree.proofs.Viewed.{map_view_len_le, map_view_at, map_view_index_lt}
 use Rattle.gixobj_tree.proofs.tree.borrowed.write.TreeRefWriteTo.write_into.Goals as goal
 use Rattle.gixobj_tree.specs.TreeViews.{entry_view}
 
@@ -12,12 +12,12 @@ loop-entry-preserved g c =
     let before = c.loop-entry.invariant in
     let write_bytes = c.in_ok-write_entry_ref.ensures in
     let items = c.deref-entry-items.result.now in
-    let low = seen_within entry_view items c.loop-entry.entry-index c.loop-entry-test.true in
-    let here = seen_there entry_view items c.loop-entry.entry-index c.entry-item.result c.loop-entry-test.true c.entry-item.is in
+    let low = map_view_index_lt entry_view items c.loop-entry.entry-index c.loop-entry-test.true in
+    let here = map_view_at entry_view items c.loop-entry.entry-index c.entry-item.result c.loop-entry-test.true c.entry-item.is in
     record {
-      write_bytes = rw (bytes_more (map entry_view items) c.loop-entry.entry-index (entry_view c.entry-item.result) low here)
-          (more_appended _ _ _ _ _ before.write_bytes write_bytes.written);
-      free = free_more (map entry_view items) c.loop-entry.entry-index (entry_view c.entry-item.result) low here before.free write_bytes.free;
+      write_bytes = rw (encode_tree_take_succ (map entry_view items) c.loop-entry.entry-index (entry_view c.entry-item.result) low here)
+          (appends_all_append _ _ _ _ _ before.write_bytes write_bytes.written);
+      free = are_free_take_succ (map entry_view items) c.loop-entry.entry-index (entry_view c.entry-item.result) low here before.free write_bytes.free;
       same = before.same;
       same_loan = write_bytes.same_loan ∙ before.same_loan;
     }
@@ -27,14 +27,14 @@ returns-in_err-write_entry_ref-clause-error g c =
     let p = err_from_is_err_and c.from_residual.result c.from_residual.ensures.1 in
     let before = c.loop-entry.invariant in
     let items = c.deref-entry-items.result.now in
-    let low = seen_within entry_view items c.loop-entry.entry-index c.loop-entry-test.true in
-    let here = seen_there entry_view items c.loop-entry.entry-index c.entry-item.result c.loop-entry-test.true c.entry-item.is in
-    rw (p.1, p.2, sym before.same) (rejected_at _ _ _ (map entry_view items) c.loop-entry.entry-index (entry_view c.entry-item.result) low here
+    let low = map_view_index_lt entry_view items c.loop-entry.entry-index c.loop-entry-test.true in
+    let here = map_view_at entry_view items c.loop-entry.entry-index c.entry-item.result c.loop-entry-test.true c.entry-item.is in
+    rw (p.1, p.2, sym before.same) (writing_error_at_entry _ _ _ (map entry_view items) c.loop-entry.entry-index (entry_view c.entry-item.result) low here
     before.write_bytes before.free c.in_err-write_entry_ref.field-0.0 c.in_err-write_entry_ref.ensures.error)
 
 pub returns-clause-no_error : goal.returns-clause-no_error
 returns-clause-no_error g c =
     let items = c.deref-entry-items.result.now in
-    nothing_rejected (map entry_view items) (map entry_view c.args.self.now.entries.items) c.loop-entry.entry-index
+    no_error_of_free_tree (map entry_view items) (map entry_view c.args.self.now.entries.items) c.loop-entry.entry-index
     (ap (map entry_view) c.loop-entry.invariant.same)
-    (seen_past entry_view items c.loop-entry.entry-index c.loop-entry-test.false) c.loop-entry.invariant.free
+    (map_view_len_le entry_view items c.loop-entry.entry-index c.loop-entry-test.false) c.loop-entry.invariant.free
