@@ -72,7 +72,7 @@ files_snoc T n es e fs below same at (name ∷ path) mode id =
       (λ h. ⊎_elim
           (λ k. let old = (same (name ∷ path) mode id).0 k in (old.0, has_append_left es (e ∷ []) old.0 old.1, old.2, old.3))
           (λ k. let new = with_first_name_elim e.name below name path mode id k in
-              (e, has_append_right es (e ∷ []) e (inl refl), new.0, (at path mode id).0 new.1))
+          (e, has_append_right es (e ∷ []) e (inl refl), new.0, (at path mode id).0 new.1))
           (Lists-append fs (map (with_first_name e.name) below) (name ∷ path) mode id h)),
       (λ h. ⊎_elim
           (λ k. Lists-left fs (map (with_first_name e.name) below) (name ∷ path) mode id ((same (name ∷ path) mode id).1 (h.0, k, h.2, h.3)))

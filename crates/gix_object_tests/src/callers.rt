@@ -17,7 +17,7 @@ use crate::samples::id;
 use bstr::BStr;
 use gix_object::CommitRef;
 use gix_object::hash::{Kind, ObjectId};
-use gixobj_callers::auditor::{place_of, value_of, values_of};
+use gixobj_callers::auditor::{position_of, value_of, values_of};
 use gixobj_callers::importer::owned_copy_of;
 use gixobj_callers::store::{CopyError, copy_of};
 use gixobj_callers::walker::{ends_after_errors, message_of, parents_of, tree_of};
@@ -138,7 +138,7 @@ fn is_signed_second(alloc: Global, commit: CommitRef<'_>) -> bool
     requires { HasIds (commit_lines commit) }
 {
     match commit.into_owned(alloc) {
-        Ok(owned) => place_of(&owned, "gpgsig") == Some(1),
+        Ok(owned) => position_of(&owned, "gpgsig") == Some(1),
         Err(_) => false,
     }
 }

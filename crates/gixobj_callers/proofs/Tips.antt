@@ -88,6 +88,12 @@ tip_none_iff_no_steps final hash (step ∷ steps) [] remaining None count is cou
 tip_none_iff_no_steps final hash steps (it ∷ imported) remaining None count is counted some commits = absurd (false≢true (some.1 (omega (arith, counted))))
 tip_none_iff_no_steps final hash steps imported remaining (Some tip) count is counted some commits = (
   (λ none. absurd (true≢false none)),
-  λ nothing. absurd (omega (arith, ap length is, length-append remaining
-      (tip ∷ []), imported_len_eq_steps_len hash None steps imported final commits, ap length nothing)),
+  λ nothing. absurd (omega (
+    arith,
+    ap length is,
+    length-append remaining
+        (tip ∷ []),
+    imported_len_eq_steps_len hash None steps imported final commits,
+    ap length nothing,
+  )),
 )

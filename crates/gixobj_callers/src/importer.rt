@@ -147,7 +147,7 @@ fn deciding_reply<S: Keep, E: Drop, F: Fn(&Tree) -> Result<ObjectId, E> + Drop>(
 {
     let commands = commands_of(alloc, edits)?;
     let mut replies = run(alloc, editor, commands, out)?;
-    let Some(index) = place_of_answer(&replies) else {
+    let Some(index) = position_of_reply(&replies) else {
         unreachable!()
     };
     let Reply::Edit(reply) = replies.remove(index) else {
@@ -173,7 +173,7 @@ fn commands_of(alloc: Global, edits: Vec<Edit>) -> Result<Vec<Command>, OutOfMem
 }
 
 /// Returns the index of the first reply other than that to an accepted edit.
-fn place_of_answer<E>(replies: &[Reply<E>]) -> Option<usize>
+fn position_of_reply<E>(replies: &[Reply<E>]) -> Option<usize>
     ensures { result ≡ position (λ reply. not (is_done reply)) replies.now }
 {
     replies

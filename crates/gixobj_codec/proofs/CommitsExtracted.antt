@@ -89,7 +89,7 @@ signature_split_unique name (k ∷ ks) (j ∷ js) p q fp op rp fq oq rq (first, 
     (has_header_before_last fq first' more' oq rq j q js joined' written' others' wq)) in
     let firsts : first ≡ first' = sym (header_round_trips first k written) ∙ ap encode_header e.0 ∙ header_round_trips first' j written' in
     let rests : more ++ rp ≡ more' ++ rq = signature_split_unique name ks js p q more op rp more' oq rq others
-        (All-tail (λ (h : Header). h.name ≢ name) k ks ap_)
+    (All-tail (λ (h : Header). h.name ≢ name) k ks ap_)
     wp namep
     ep others' (All-tail (λ (h : Header). h.name ≢ name) j js aq) wq nameq eq e.1 in
     ap (λ (it : List ℕ). it ++ rp) joined ∙ append_assoc first more rp

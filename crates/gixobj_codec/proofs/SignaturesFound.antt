@@ -56,7 +56,7 @@ none_there name (k ∷ ks) (j ∷ js) q fp tail fq oq rq (first, more, joined, w
     eq same =
     let e = header_unique (fp ++ tail) k j (more ++ tail) (more' ++ (oq ++ rq)) (comes_here fp first more tail k ks joined written rest ends)
     (subst (λ (it : List ℕ). HasHeader it j (more' ++ (oq ++ rq))) (sym same) (has_header_before_last fq first' more' oq rq j q js joined' written' rest' wq))
-        in
+    in
     none_there name ks js q more tail more' oq rq rest (All-tail (λ (h : Header). h.name ≢ name) k ks others) ends lacks rest' wq named eq e.1
 
 -- bytes that decode to their end without a header of the name: headers, and then nothing or the message

@@ -212,7 +212,7 @@ body_found : (lines body message : List ℕ) (signature : Option (List ℕ)) →
     → IsFoundIn (lines ++ body) signature
 body_found lines body message signature after (newlines_alone _ are) =
     λ place format it. no_marker_in_newlines body are (place - length lines) format
-        (marks_place_after_prefix lines body place format (after place format it) it)
+    (marks_place_after_prefix lines body place format (after place format it) it)
 body_found lines body message signature after (after_a_newline _ content _ _ joined more parted) =
     let ahead : AreAfter (lines ++ 10 ∷ []) content = also_after lines (10 ∷ []) content (subst (λ (it : List ℕ). AreAfter lines it) joined after)
     (after_newline_alone content) in

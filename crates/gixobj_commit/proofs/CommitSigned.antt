@@ -13,7 +13,7 @@ use Rattle.gixobj_fields.specs.declared.encode.Error as encode
 use Rattle.gixobj_hash.specs.Hash.{id_kind}
 use Rattle.gixobj_commit.specs.Commit.{CommitLines}
 use Rattle.gixobj_signature.specs.Calls.{Answer, CallView}
-use Rattle.gixobj_signature.specs.Plans.{BeginsPlan, Carries, IsCarriedOut, Plan, ask, done, no_more}
+use Rattle.gixobj_signature.specs.Plans.{BeginsPlan, Carries, IsCarriedOut, Plan, run_then, done, no_more}
 use Rattle.gixobj_signature.specs.Signing.{options_view, sign_plan, signature, signer_error}
 use Rattle.gixobj_signature.specs.declared.signature.sign.Error.{Error}
 use Rattle.gixobj_signature.specs.declared.signature.sign.Error.TheVariants as sign
@@ -23,7 +23,7 @@ use Rattle.gixobj_signature.specs.declared.signature.sign.Options.{Options}
 pub begins_plan_of_call : {S R : Type 0} (runs : S → CallView → Answer → S → Type 0) (plan : Plan R) (s t : S) (outcome : R) → Carries runs plan s outcome t
     → BeginsPlan runs plan s t
 begins_plan_of_call runs (done it) s t outcome carried = carried.1
-begins_plan_of_call runs (ask call next) s t outcome (answer, m, ran, rest) = inr (answer, m, ran, begins_plan_of_call runs (next answer) m t outcome rest)
+begins_plan_of_call runs (run_then call next) s t outcome (answer, m, ran, rest) = inr (answer, m, ran, begins_plan_of_call runs (next answer) m t outcome rest)
 begins_plan_of_call runs no_more s t outcome carried = absurd carried
 
 -- filtering a list and then taking views equals filtering the views

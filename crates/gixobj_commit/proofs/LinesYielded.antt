@@ -114,4 +114,4 @@ yields_lines_of_commit kind bytes commit is =
     let entire = yields_piece state.Tree state.Parents _ _ (tree_line commit.tree) _ complete
     (tree_comes _ commit.tree _ (has_field_of_encode_field (codes "tree") commit.tree _ (hex_digits_newline_free commit.tree is.tree.1), is.tree)) parented in
     rw (is.joined ∙ encode_fields_append_assoc commit.tree commit.author commit.committer is.headers_encoding commit.message commit.parents commit.encoding)
-        entire
+    entire

@@ -70,7 +70,7 @@ module _ (g : OfBase) (settles : Settles g) where
         ∙ ap (λ o. g o (cond (same_name name first) (next path) (in_part first ps path)) (bases_in first ps path))
         (sym (dirs_of_cons old es ps view apart first path))
         ∙ ap (λ o. g (dirs_of old (first ∷ path)) o (bases_in first ps path))
-            (sym (dirs_of_opened_cons es' base ps' first path apart' ∙ becomes.says first path))
+        (sym (dirs_of_opened_cons es' base ps' first path apart' ∙ becomes.says first path))
         ∙ ap (λ o. g (dirs_of old (first ∷ path)) (dirs_of (opened es' base ps') (first ∷ path)) o) (sym (bases_of_cons old es ps view apart first path))
       where
         here : cond (same_name name first) (based path) (bases_in first ps path) ≡ g (in_part first ps path)

@@ -27,7 +27,7 @@ later_or_not R either (x ∷ xs) =
 free_or_not : (byte : ℕ) (bytes : List ℕ) → OrNot (IsByteFree byte bytes)
 free_or_not byte bytes =
     ⊎_elim (λ cut. inr (λ free. no_split_of_byte_free byte cut.0 cut.1 (subst (IsByteFree byte) cut.2.joined free))) (λ free. inl free)
-        (splits_at_or_byte_free byte bytes)
+    (splits_at_or_byte_free byte bytes)
 
 name_or_not : (name : List ℕ) → OrNot (IsEntryName name)
 name_or_not [] = inr (λ is. is.filled refl)

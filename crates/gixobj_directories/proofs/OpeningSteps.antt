@@ -128,7 +128,7 @@ module _ (Fits : EntryView → List EntryView → List ObjectId → Type 0) (R :
       let new_is : dirs_of (opened es [] (parts (set cs i next))) ≡ with_dir name (dirs_of next.open) old =
       λ j path. replaced (opened es [] (parts cs)) es es
       (parts cs) (parts (set cs i next)) refl (level_names_apart level) (level_names_apart (is_level_set es cs i child next is named level)) name
-          (dirs_of next.open)
+      (dirs_of next.open)
       (becomes_of_set name cs l i child next same at is named) refl path j in
       subst (λ (d : Dirs). R (name ∷ rest) old d requested) (sym new_is)
       (goes_down name rest old (dirs_of next.open) e.0 entries requested e.1 e.2 (ap (λ (d : Dirs). d []) inside ∙ root)
@@ -145,10 +145,10 @@ module _ (Fits : EntryView → List EntryView → List ObjectId → Type 0) (R :
       let new_is : dirs_of (opened es [] (with_part (name, inner) ps)) ≡ with_dir name (dirs_of inner) old =
       λ j path. replaced (opened es [] ps) es es ps
       (with_part (name, inner) ps) refl (level_names_apart level) (level_names_apart more) name (dirs_of inner)
-          (becomes_of_with_part name inner ps others) refl path j in
+      (becomes_of_with_part name inner ps others) refl path j in
       subst (λ (d : Dirs). R (name ∷ rest) old d (first ++ requested)) (sym new_is)
       (goes_in name rest old (dirs_of inner) e entries first requested entry tree (λ path. dirs_of_opened_cons es [] ps name path (level_names_apart level)
-          ∙ none path)
+      ∙ none path)
       finds
       (subst (λ (d : Dirs). R rest d (dirs_of inner) requested) (dirs_of_childless entries) opens))
 

@@ -55,8 +55,11 @@ pub are_ordered_with_part : (p : Part) (ps : List Part) → AllByRecursion (λ q
 are_ordered_with_part p [] others up = (tt, tt)
 are_ordered_with_part p (q ∷ qs) others up =
     elim (is_part_before q p) as (λ b. is_part_before q p ≡ b → AreOrdered (cond b (q ∷ with_part p qs) (p ∷ q ∷ qs))) [
-      | true ↦ λ is. (all_with_part (Before q) p qs (less_of_compare (slice_cmp nat_cmp (part_key q) (part_key p)) is) up.0, are_ordered_with_part p qs
-          others.1 up.1)
+      | true ↦ λ is. (
+        all_with_part (Before q) p qs (less_of_compare (slice_cmp nat_cmp (part_key q) (part_key p)) is) up.0,
+        are_ordered_with_part p qs
+            others.1 up.1,
+      )
       | false ↦ λ is. let here =
           later p q is others.0 in (
             (

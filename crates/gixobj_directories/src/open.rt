@@ -19,7 +19,7 @@ ghost use Rattle.gixobj_files.specs.Bases.{edited_bases};
 
 use bstr::BString;
 use gixobj_files::entries::{copies, insert_entry};
-use gixobj_files::places::{first_look, place_by_key, place_of, remove_named};
+use gixobj_files::places::{first_look, position_by_key, position_of, remove_named};
 use gixobj_hash::hash::ObjectId;
 use gixobj_tree::Tree;
 use gixobj_tree::tree::order::key_order;
@@ -78,11 +78,11 @@ pub(crate) fn child_at(children: &[Child], name: &BString) -> Option<usize>
     ensures { result ≡ position (λ c. same_name (bstring_bytes c.name) (bstring_bytes name.now))
         children.now }
 {
-    child_place(children, name).ok()
+    child_position(children, name).ok()
 }
 
 /// Searches for the open directory of a name: `Ok` with its position, or `Err` with that to insert it at.
-fn child_place(children: &[Child], name: &BString) -> Result<usize, usize>
+fn child_position(children: &[Child], name: &BString) -> Result<usize, usize>
     requires { AreOrdered (parts children.now) }
     ensures found { result_ok result ≡ position
         (λ c. same_name (bstring_bytes c.name) (bstring_bytes name.now)) children.now }
@@ -239,7 +239,7 @@ impl Open {
             drop_child(&mut self.children, name);
             return Ok(());
         }
-        let place = match child_place(&self.children, name) {
+        let place = match child_position(&self.children, name) {
             Ok(place) => place,
             Err(place) => {
                 let mut inner = Open::new(alloc, Tree::empty(alloc));
@@ -352,7 +352,7 @@ fn has_tree_named(tree: &Tree, name: &BString) -> bool
     requires name { IsByteFree slash (bstring_bytes name.now) }
     ensures { result ≡ has_tree (bstring_bytes name.now) tree.now }
 {
-    place_by_key(&tree.entries, name.as_bytes(), true).is_ok()
+    position_by_key(&tree.entries, name.as_bytes(), true).is_ok()
 }
 
 /// Inserts an entry of kind tree with the null id, unless there is an entry of tree mode with that name.
@@ -448,7 +448,7 @@ pub(crate) fn place_for(children: &[Child], name: &BString) -> usize
     requires { AreOrdered (parts children.now) }
     ensures { result ≡ prefix_len (is_child_before (bstring_bytes name.now)) children.now }
 {
-    match child_place(children, name) {
+    match child_position(children, name) {
         Ok(place) => place,
         Err(place) => place,
     }
@@ -477,7 +477,7 @@ fn find_entry<'a>(tree: &'a Tree, name: &BString) -> Option<&'a Entry>
     ensures { option_copied result ≡ find (λ e. same_name e.name (bstring_bytes name.now))
         tree.now }
 {
-    match place_of(&tree.entries, name.as_bytes()) {
+    match position_of(&tree.entries, name.as_bytes()) {
         Some(place) => Some(&tree.entries[place]),
         None => None,
     }

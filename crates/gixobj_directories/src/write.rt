@@ -235,7 +235,7 @@ fn emit_tree<E, F: FnMut(&Tree) -> Result<ObjectId, E>>(
     ensures error { IfErr result (Stopped (answered F.FnMut) (denied F.FnMut)
         (λ ps. (id : ObjectId) × (ps ≡ (id, tree) ∷ [])) out.old out.new) }
 {
-    let id = ask(&tree, out, pairs)?;
+    let id = emit(&tree, out, pairs)?;
     let _ = pairs.push((id, tree));
     Ok(id)
 }
@@ -254,13 +254,13 @@ fn emit_leaf_tree<E, F: FnMut(&Tree) -> Result<ObjectId, E>>(
     ensures error { IfErr result (Stopped (answered F.FnMut) (denied F.FnMut)
         (λ ps. (id : ObjectId) × (ps ≡ (id, tree.now) ∷ [])) out.old out.new) }
 {
-    let id = ask(tree, out, pairs)?;
+    let id = emit(tree, out, pairs)?;
     let _ = pairs.push((id, Tree::empty(alloc)));
     Ok(id)
 }
 
 /// Emits a tree, and returns its id. The pairs have capacity for one more then.
-fn ask<E, F: FnMut(&Tree) -> Result<ObjectId, E>>(
+fn emit<E, F: FnMut(&Tree) -> Result<ObjectId, E>>(
     tree: &Tree,
     out: &mut F,
     pairs: &mut Vec<(ObjectId, Tree)>,
@@ -350,7 +350,7 @@ pub fn write_all<E, F: FnMut(&Tree) -> Result<ObjectId, E>>(
     let mut saved = 0;
     let (own, placed) = leaves_copied(alloc, node, out, &mut trees, &mut saved)?;
     let mut complete_trees = Vec::with_capacity(alloc, trees.len())?;
-    let id = ask(&own, out, &mut trees)?;
+    let id = emit(&own, out, &mut trees)?;
     become_own(&mut node.tree, &own, placed);
     let children = mem::replace(&mut node.children, Vec::new(alloc));
     take_leaf_trees(children, &mut complete_trees);

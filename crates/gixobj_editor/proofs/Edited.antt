@@ -100,7 +100,7 @@ idle_map : (ds : Opened) (at : Path) → map_bases ds at ≡ edited_bases (map_d
     (opened_bases (map_dirs ds) (map_dirs ds) (map_bases ds)) at
 idle_map ds at =
     let none : map_dirs ds at ≡ None → map_bases ds at ≡ None = λ closed. map_bases_at ds at
-        ∙ base_none_where_unopened ds at (sym (map_dirs_at ds at) ∙ closed) in
+    ∙ base_none_where_unopened ds at (sym (map_dirs_at ds at) ∙ closed) in
     let same = when_opened.same (map_dirs ds at) (map_bases ds at) none in
     same ∙ when_edited.same (map_dirs ds at) (base_opened (map_dirs ds at) (map_dirs ds at) (map_bases ds at)) (λ closed. sym same ∙ none closed)
 

@@ -94,7 +94,7 @@ module _ {S E : Type 0} (means : StoreModel S) (answers : Answers E) where
   edits_keep place old new [] [] h = ap (λ (s : State S). means.objects s.store) h
   edits_keep place old new (it ∷ edits) (r ∷ replies) (between, first, rest) =
       with_trees_append_stored (kept_of_edit r) (flat_map kept_of_edit replies) (means.objects old.store) (means.objects between.store)
-          (means.objects new.store)
+      (means.objects new.store)
       (edit_keeps place old between it r first)
       (edits_keep place between new edits replies rest)
   edits_keep place old new [] (r ∷ replies) h = absurd h
@@ -255,7 +255,7 @@ module _ {S E : Type 0} (means : StoreModel S) (answers : Answers E) where
     at_files prefix old new edits (reply.At replies) (between, ensured, rest) agrees pairs has =
         let it = agreed old _ (agrees zero) ensured in
         history_append_same_files T n (ensure prefix ∷ []) (steps_of_edits (at_cursor prefix) edits replies.items) (EditorFiles T n old)
-            (EditorFiles T n between)
+        (EditorFiles T n between)
         (EditorFiles T n new)
         (it.2.files T n it.1)
         (edits_files (at_cursor prefix) between new edits replies.items rest

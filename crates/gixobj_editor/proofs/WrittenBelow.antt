@@ -85,7 +85,7 @@ module _ {S F : Type 0} (store : S) (hash : Kind) (prefix : Path) (gave : F → 
         same_files = λ T k agrees has. subst (λ (d : Dirs). SameFiles (OpenFiles T k d) (OpenFiles T k (map_dirs ds))) (sym new_is)
             (write_keeps_files T k prefix (map_dirs ds) (map_bases ds) below own going.0 it.id on.opened
             (everywhere_based T (map_dirs ds) (map_bases ds) on.null_based has) open_there leaving
-                (subst (λ (ps : List Pair). AgreesWithPairs T ps) is agrees));
+            (subst (λ (ps : List Pair). AgreesWithPairs T ps) is agrees));
         has_bases = written_based (map_dirs ds) (map_bases ds) (map_dirs ds') (map_bases ds') on prefix own open_there (λ at i. new_is i at)
             (only_edited_bases_of_map ds ds' edited);
       }

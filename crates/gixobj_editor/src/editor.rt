@@ -377,7 +377,7 @@ impl<S> Editor<S> {
     /// The id of an open directory may be out of date. The call looks nothing up, allocates nothing, and
     /// always returns `Ok`.
     pub fn get(&self, path: &[BString]) -> Result<Option<&Entry>, OutOfMemory>
-        ensures succeeds { IsOk result }
+        ensures no_error { IsOk result }
         ensures found { IfOk result (λ entry. option_copied entry
             ≡ entry_at (names_of path.now) (open_dirs self.now)) }
     {

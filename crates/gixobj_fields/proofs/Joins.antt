@@ -26,7 +26,7 @@ pub appends_prefix_of_item : {X : Type 0} (bytes : X → List ℕ) (a b c : Sink
     → AppendsAll a b (flat_map bytes (take i items)) → AppendsPrefix b c (bytes e) → AppendsPrefix a c (flat_map bytes items)
 appends_prefix_of_item bytes a b c items i e h is write_bytes part =
     rw (joined_at bytes items i e h is) (appends_prefix_middle a b c (flat_map bytes (take i items)) (bytes e)
-        (flat_map bytes (drop (i + 1) items)) write_bytes part)
+    (flat_map bytes (drop (i + 1) items)) write_bytes part)
 
 -- all items are too long if the first of them are
 pub no_overflow_of_joined : {X : Type 0} (bytes : X → List ℕ) (items : List X) (i : ℕ) (e : X) (start n : ℕ) → i < length items → e ≡ get_or items i e

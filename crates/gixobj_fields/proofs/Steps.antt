@@ -19,13 +19,13 @@ prefix_as a b x y same part = rw same part
 pub appends_first_of_four : (a b : SinkView) (bytes p q r s : List ℕ) → IsInParts bytes p q r s → AppendsPrefix a b p → AppendsPrefix a b bytes
 appends_first_of_four a b bytes p q r s entire part =
     prefix_as a b (in_parts p q r s) bytes entire.joined (appends_prefix_first a b ((p ++ q) ++ r) s
-        (appends_prefix_first a b (p ++ q) r (appends_prefix_first a b p q part)))
+    (appends_prefix_first a b (p ++ q) r (appends_prefix_first a b p q part)))
 
 pub appends_second_of_four : (a b c : SinkView) (bytes p q r s : List ℕ) → IsInParts bytes p q r s → AppendsAll a b p → AppendsPrefix b c q
     → AppendsPrefix a c bytes
 appends_second_of_four a b c bytes p q r s entire one part =
     prefix_as a c (in_parts p q r s) bytes entire.joined (appends_prefix_first a c ((p ++ q) ++ r) s
-        (appends_prefix_first a c (p ++ q) r (appends_prefix_append a b c p q one part)))
+    (appends_prefix_first a c (p ++ q) r (appends_prefix_append a b c p q one part)))
 
 pub appends_third_of_four : (a b c d : SinkView) (bytes p q r s : List ℕ) → IsInParts bytes p q r s → AppendsAll a b p → AppendsAll b c q → AppendsPrefix c d r
     → AppendsPrefix a d bytes

@@ -24,9 +24,10 @@ based_is_lasting T trees null agrees nothing = record {
   not_open = λ e base p list is. absurd (cc is);
   still = λ e was now base p. p;
   made = λ name now list is. inl (nothing, sym (some_list_unique [] list is));
-  opened = λ e base entries requested p tree finds.
-      ((λ list is. subst (IsAt T e.id) (some_list_unique entries list is) (is_at_of_agreement T trees agrees e.id entries requested finds)),
-          λ x h list is. absurd (cc is));
+  opened = λ e base entries requested p tree finds. (
+    (λ list is. subst (IsAt T e.id) (some_list_unique entries list is) (is_at_of_agreement T trees agrees e.id entries requested finds)),
+    λ x h list is. absurd (cc is),
+  );
 }
 
 -- the base of a directory with the null id is empty

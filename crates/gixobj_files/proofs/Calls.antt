@@ -106,7 +106,7 @@ module _ (T : Table) (trees : Trees) (kind : Kind) (old bases new remaining : Di
       → ((at : Path) → remaining at ≡ edited_bases opened new (opened_bases old opened bases) at) → HasBases T new remaining
   upserted_based head last mode id opened requested opens dirs_are bases_are =
       has_bases_of_everywhere T new remaining (after_upsert (Based T) trees kind lasting old bases new remaining was.opened all head last mode id opened
-          requested opens
+      requested opens
       (λ name list is. absurd (cc is)) dirs_are bases_are)
 
   pub ensured_based : (path : Path) (opened : Dirs) (requested : List ObjectId) → Opens IsNoTree trees path old opened requested
@@ -140,7 +140,7 @@ module _ (trees : Trees) (kind : Kind) (old bases new remaining : Dirs) (was : A
   upserted_null_based head last mode id opened requested opens dirs_are bases_are =
       are_null_based_of_everywhere new remaining
       (after_upsert NullBased trees kind (null_based_is_lasting trees (null_id kind)) old bases new remaining was.opened nulls head last mode id opened
-          requested
+      requested
       opens (λ name list is. absurd (cc is)) dirs_are bases_are)
 
   pub ensured_null_based : (path : Path) (opened : Dirs) (requested : List ObjectId) → Opens IsNoTree trees path old opened requested
@@ -175,7 +175,7 @@ module _ (old bases new remaining : Dirs) (was : AreOpenedOn old bases) (prefix 
   pub written_based : (T : Table) → HasBases T old bases → HasBases T new remaining
   written_based T has =
       let lasting : Lasts (Based T) no_trees (null_id hash.Sha1) = based_is_lasting T no_trees (null_id hash.Sha1)
-          (λ id entries searched is. absurd (cc is)) refl in
+      (λ id entries searched is. absurd (cc is)) refl in
       has_bases_of_everywhere T new remaining
       (after_write (Based T) no_trees hash.Sha1 lasting old bases new remaining was.opened (everywhere_based T old bases was.null_based has) prefix own there
       (λ e h list is. absurd (cc is)) dirs_are bases_are)
@@ -183,5 +183,5 @@ module _ (old bases new remaining : Dirs) (was : AreOpenedOn old bases) (prefix 
   pub written_null_based : AreNullBased new remaining
   written_null_based =
       are_null_based_of_everywhere new remaining (after_write NullBased no_trees hash.Sha1
-          (null_based_is_lasting no_trees (null_id hash.Sha1)) old bases new remaining was.opened
+      (null_based_is_lasting no_trees (null_id hash.Sha1)) old bases new remaining was.opened
       (everywhere_null_based old bases was.null_based) prefix own there (λ e h list is. absurd (cc is)) dirs_are bases_are)

@@ -35,7 +35,7 @@ own_files : (T : Table) (prefix : Path) (dirs bases : Dirs) (below : List Pair) 
     → (n : ℕ) → SameFiles (Files T n own) (OpenFiles T n (in_path prefix dirs))
 own_files T prefix dirs bases below own saved id all based there going agrees =
     leaves_files T (in_path prefix dirs) (in_path prefix bases) below own saved going
-        (are_trees_of_opened (in_path prefix dirs) (is_opened_in_path prefix dirs all there))
+    (are_trees_of_opened (in_path prefix dirs) (is_opened_in_path prefix dirs all there))
     (everywhere_in_path (Based T) prefix dirs bases based)
     (known_append_left T below ((id, own) ∷ []) (recursion_from_All (λ (p : Pair). T.tree_at p.0 ≡ Some p.1) (below ++ (id, own) ∷ []) agrees))
 

@@ -20,8 +20,11 @@ pub same_name_refl : (x : List ℕ) → same_name x x ≡ true
 same_name_refl x = (bytes_decides x x).1 refl
 
 pub same_name_false : (x y : List ℕ) → x ≢ y → same_name x y ≡ false
-same_name_false x y n = elim (same_name x y) as (λ b. same_name x y ≡ b → b ≡ false) [ true ↦ λ e. absurd (n ((bytes_decides x y).0 e)) | false ↦
-    λ e. refl ] refl
+same_name_false x y n = elim (same_name x y) as (λ b. same_name x y ≡ b → b ≡ false) [
+  | true ↦ λ e. absurd (n ((bytes_decides x y).0 e))
+  | false ↦
+      λ e. refl
+] refl
 
 -- the files at another name depend on the entries of that name and the directory there
 pub open_files_of_other_name : (T : Table) (k : ℕ) (dirs next : Dirs) (name : List ℕ)

@@ -18,7 +18,7 @@ none_before x e [] fails above = (refl, refl)
 none_before x e (y ∷ ys) fails above =
     let also : comes_before y x ≡ false =
     false_from_ne_true (comes_before y x) (λ passes. true≢false (sym (ap is_lt (comes_before_trans e y x above.0 (comes_before_of_true y x passes))) ∙ fails))
-        in
+    in
     let rest = none_before x e ys fails above.1 in
     (rw also rest.0, rw also (ap (λ l. y ∷ l) rest.1))
 

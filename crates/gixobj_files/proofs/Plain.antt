@@ -68,8 +68,12 @@ module _ (T : Table) (pairs : List Pair) (known : AgreesWithPairs T pairs) where
   plain_lasts trees null agrees = record {
     not_open = λ e base p. record { mode = p.mode; its_pair = p.its_pair; based = λ list is. absurd (cc is) };
     still = λ e was now base p. record { mode = p.mode; its_pair = λ t none. absurd (cc none); based = p.based };
-    made = λ name now. record { mode = λ t. refl; its_pair = λ t none. absurd (cc none); based =
-        λ list is some. absurd (some (sym (some_list_unique [] list is))) };
+    made = λ name now. record {
+      mode = λ t. refl;
+      its_pair = λ t none. absurd (cc none);
+      based =
+          λ list is some. absurd (some (sym (some_list_unique [] list is)));
+    };
     opened = λ e base entries requested p tree finds.
         let it : IsOfPair pairs e.id = p.its_pair tree refl in
         let same : it.tree ≡ entries = found_is trees agrees e.id it entries requested finds in (

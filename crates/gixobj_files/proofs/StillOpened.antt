@@ -41,7 +41,7 @@ are_formed_upserted (name ∷ []) mode id null dirs names formed (first ∷ at) 
     [ true ↦ λ k. absurd (cc k) | false ↦ λ k. formed (first ∷ at) es k ] is
 are_formed_upserted (name ∷ next ∷ rest) mode id null dirs names formed [] es is =
     subst IsWellFormed (some_unique _ _ is) (is_well_formed_with_directory name null (or_empty (dirs []))
-        (is_well_formed_or_empty (dirs []) (formed [])) names.0)
+    (is_well_formed_or_empty (dirs []) (formed [])) names.0)
 are_formed_upserted (name ∷ next ∷ rest) mode id null dirs names formed (first ∷ at) es is =
     elim (same_name name first) as (λ b. cond b (upserted_dirs (next ∷ rest) mode id null (in_dir name dirs) at) (dirs (first ∷ at)) ≡ Some es
     → IsWellFormed es) [

@@ -20,7 +20,7 @@ formed_ensured [] null dirs names formed [] es is = subst IsWellFormed (some_uni
 formed_ensured [] null dirs names formed (first ∷ at) es is = formed (first ∷ at) es is
 formed_ensured (name ∷ rest) null dirs names formed [] es is =
     subst IsWellFormed (some_unique _ _ is) (is_well_formed_with_directory name null (or_empty (dirs []))
-        (is_well_formed_or_empty (dirs []) (formed [])) names.0)
+    (is_well_formed_or_empty (dirs []) (formed [])) names.0)
 formed_ensured (name ∷ rest) null dirs names formed (first ∷ at) es is =
     elim (same_name name first) as (λ b. cond b (ensured_dirs rest null (in_dir name dirs) at) (dirs (first ∷ at)) ≡ Some es → IsWellFormed es) [
       | true ↦ λ k. formed_ensured rest null (in_dir name dirs) names.1 (λ q. formed (name ∷ q)) at es k

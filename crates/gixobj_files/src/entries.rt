@@ -8,7 +8,7 @@ ghost use Rattle.gixobj_hash.specs.Bytes.{slash};
 ghost use Rattle.gixobj_files.specs.Editing.{comes_before, same_name, with_entry, without};
 ghost use Rattle.gixobj_files.specs.Files.{is_null};
 
-use crate::places::{directory_after, file_with_first_name, place_by_key};
+use crate::places::{directory_after, file_with_first_name, position_by_key};
 use bstr::BString;
 use gixobj_tree::tree::Entry;
 use std::alloc::{AllocError, Global};
@@ -26,12 +26,12 @@ pub fn insert_entry(entries: &mut Vec<Entry>, entry: Entry)
     requires name { IsEntryName entry.name }
     ensures items { entries.new.items ≡ with_entry entry entries.old.items }
 {
-    match place_by_key(entries, entry.filename.as_bytes(), entry.mode.is_tree()) {
+    match position_by_key(entries, entry.filename.as_bytes(), entry.mode.is_tree()) {
         Ok(place) => {
             entries[place] = entry;
         }
         Err(place) => {
-            let place = place_among_others(entries, &entry, place);
+            let place = position_among_others(entries, &entry, place);
             let _ = entries.insert(place, entry);
         }
     }
@@ -39,7 +39,7 @@ pub fn insert_entry(entries: &mut Vec<Entry>, entry: Entry)
 
 /// Removes the entry of this one's name, if any, and returns this one's position among the others. No entry
 /// has its key, and `place` is its position before. Allocates nothing; the capacity is unchanged.
-fn place_among_others(entries: &mut Vec<Entry>, entry: &Entry, place: usize) -> usize
+fn position_among_others(entries: &mut Vec<Entry>, entry: &Entry, place: usize) -> usize
     requires well_formed { IsWellFormed entries.old.items }
     requires name { IsByteFree slash entry.now.name }
     requires none { ¬ HasKey entries.old.items (entry_key entry.now) }
@@ -50,18 +50,18 @@ fn place_among_others(entries: &mut Vec<Entry>, entry: &Entry, place: usize) -> 
     ensures has_capacity { vec_capacity entries.new ≡ vec_capacity entries.old }
     ensures len { vec_len entries.new ≤ vec_len entries.old }
 {
-    match place_of_other(entries, entry, place) {
+    match position_of_other(entries, entry, place) {
         None => place,
         Some(other) => {
             entries.remove(other);
-            place_for(entries, entry)
+            position_for(entries, entry)
         }
     }
 }
 
 /// Returns the position of the entry of this one's name, if any. No entry has this one's key, and `place` is
 /// the position of that key.
-fn place_of_other(entries: &[Entry], entry: &Entry, place: usize) -> Option<usize>
+fn position_of_other(entries: &[Entry], entry: &Entry, place: usize) -> Option<usize>
     requires well_formed { IsWellFormed entries.now }
     requires name { IsByteFree slash entry.now.name }
     requires none { ¬ HasKey entries.now (entry_key entry.now) }
@@ -84,12 +84,12 @@ pub fn is_named(entry: &Entry, name: &[u8]) -> bool
 }
 
 /// Returns the number of entries that come before this one.
-fn place_for(entries: &[Entry], entry: &Entry) -> usize
+fn position_for(entries: &[Entry], entry: &Entry) -> usize
     requires well_formed { IsWellFormed entries.now }
     requires name { IsByteFree slash entry.now.name }
     ensures { result ≡ prefix_len (λ e. comes_before e entry.now) entries.now }
 {
-    match place_by_key(entries, entry.filename.as_bytes(), entry.mode.is_tree()) {
+    match position_by_key(entries, entry.filename.as_bytes(), entry.mode.is_tree()) {
         Ok(place) => place,
         Err(place) => place,
     }

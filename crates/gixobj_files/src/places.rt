@@ -16,14 +16,14 @@ use std::cmp::Ordering;
 /// Returns the position of the entry of this name, if there is one.
 ///
 /// The search is for a file of the name first, and then for a directory. The entries must be well-formed.
-pub fn place_of(entries: &[Entry], name: &[u8]) -> Option<usize>
+pub fn position_of(entries: &[Entry], name: &[u8]) -> Option<usize>
     requires { IsWellFormed entries.now }
     ensures { result ≡ position (λ e. same_name e.name name.now) entries.now }
 {
     if has_byte(name, b'/') {
         return None;
     }
-    match place_by_key(entries, name, false) {
+    match position_by_key(entries, name, false) {
         Ok(place) => Some(place),
         Err(place) => directory_after(entries, name, place),
     }
@@ -46,7 +46,7 @@ pub fn directory_after(entries: &[Entry], name: &[u8], place: usize) -> Option<u
     if order_by_key(&entries[place], name, true).is_gt() {
         return None;
     }
-    place_by_key(entries, name, true).ok()
+    position_by_key(entries, name, true).ok()
 }
 
 /// Returns the position of the file of a name, if there is one, from the position of a directory's key.
@@ -66,14 +66,14 @@ pub fn file_with_first_name(entries: &[Entry], name: &[u8], place: usize) -> Opt
     if order_by_key(&entries[place - 1], name, false).is_lt() {
         return None;
     }
-    place_by_key(entries, name, false).ok()
+    position_by_key(entries, name, false).ok()
 }
 
 /// Searches for the entry of a name and kind: `Ok` with its position, or `Err` with the position of its key.
 ///
 /// At the position in `Err` an entry of this name and kind would be inserted. The key of a directory is its
 /// name followed by `/`, and that of a file its name.
-pub fn place_by_key(entries: &[Entry], name: &[u8], is_tree: bool) -> Result<usize, usize>
+pub fn position_by_key(entries: &[Entry], name: &[u8], is_tree: bool) -> Result<usize, usize>
     requires well_formed { IsWellFormed entries.now }
     requires name { IsByteFree slash name.now }
     ensures found { IfOk result (λ i. position (λ e. same_name e.name name.now) entries.now
@@ -129,7 +129,7 @@ pub fn remove_named(entries: &mut Vec<Entry>, name: &[u8])
     ensures has_capacity { vec_capacity entries.new ≡ vec_capacity entries.old }
     ensures len { vec_len entries.new ≤ vec_len entries.old }
 {
-    if let Some(place) = place_of(entries, name) {
+    if let Some(place) = position_of(entries, name) {
         entries.remove(place);
     }
 }

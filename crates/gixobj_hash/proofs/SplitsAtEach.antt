@@ -52,8 +52,11 @@ is_split_at_each_append byte bytes rest parts others prefix cut =
 
 -- bytes without the separator are one part
 pub is_split_at_each_of_byte_free : (byte : ℕ) (bytes : List ℕ) → IsByteFree byte bytes → IsSplitAtEach byte bytes (bytes ∷ [])
-is_split_at_each_of_byte_free byte bytes free = record { joined = sym (append-nil (ended byte bytes)); free =
-    All-cons (IsByteFree byte) bytes [] free (All-nil (IsByteFree byte)) }
+is_split_at_each_of_byte_free byte bytes free = record {
+  joined = sym (append-nil (ended byte bytes));
+  free =
+      All-cons (IsByteFree byte) bytes [] free (All-nil (IsByteFree byte));
+}
 
 pub is_split_at_each_snoc : (byte : ℕ) (bytes rest : List ℕ) (parts : List (List ℕ)) → ArePrefixes byte bytes rest parts → IsByteFree byte rest
     → IsSplitAtEach byte bytes (parts ++ rest ∷ [])

@@ -203,11 +203,11 @@ pub fn loose_header(
     ensures found { IfOk result (λ header. HasLooseHeader input.now header.0 header.1 header.2) }
     ensures error { IfErr result (IsLooseHeaderError input.now) }
 {
-    read_loose_header(alloc, input)
+    decode_loose_header_parts(alloc, input)
 }
 
 /// Decodes a loose header; [`loose_header`] adds the clause `accepts`.
-fn read_loose_header(
+fn decode_loose_header_parts(
     alloc: Global,
     input: &[u8],
 ) -> Result<(Kind, u64, usize), LooseHeaderDecodeError>
@@ -223,12 +223,12 @@ fn read_loose_header(
         let message = "no zero byte after the size of an object";
         return Err(LooseHeaderDecodeError::InvalidHeader { message });
     };
-    let size = read_size(alloc, size_bytes)?;
+    let size = decode_size(alloc, size_bytes)?;
     Ok((kind, size, token.len() + size_bytes.len() + 2))
 }
 
 /// Decodes a size, or fails with a copy of the bytes.
-fn read_size(alloc: Global, bytes: &[u8]) -> Result<u64, LooseHeaderDecodeError>
+fn decode_size(alloc: Global, bytes: &[u8]) -> Result<u64, LooseHeaderDecodeError>
     ensures found { IfOk result (DecodesToSize bytes.now) }
     ensures error { IfErr result (IsSizeError bytes.now) }
 {

@@ -45,7 +45,7 @@ pub(crate) fn are_hex(content: &[u8]) -> bool
 #[tactic(auto, using(crate::proofs::HexIds::decoded_id_unique))]
 pub fn id_of_hex(hex: BStr<'_>) -> ObjectId
     requires { IsIdHex (bstr_bytes hex) }
-    ensures spelled { DecodesToId (bstr_bytes hex.entry) result }
+    ensures decodes { DecodesToId (bstr_bytes hex.entry) result }
     ensures value { result ≡ decoded_id (bstr_bytes hex.entry) }
 {
     match ObjectId::from_hex(hex.as_bytes()) {

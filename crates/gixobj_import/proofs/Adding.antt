@@ -50,7 +50,7 @@ module _ {S : Type 0} (means : StoreModel S) (laws : OfStores) where
   steps_add old new [] [] done = adds_by_digest_nil (objects_of old) (objects_of new) (ap objects_of done)
   steps_add old new (step ∷ steps) (it ∷ imported) (between, one, done) =
       adds_by_digest_append (objects_of old) (objects_of between) (objects_of new) (step_adds old step it between one)
-          (steps_add between new steps imported done)
+      (steps_add between new steps imported done)
   steps_add old new [] (it ∷ imported) done = absurd done
   steps_add old new (step ∷ steps) [] done = absurd done
 

@@ -35,7 +35,7 @@ module _ {S : Type 0} (means : StoreModel S) (laws : OfStores) where
       (subst (λ (parent : Option ObjectId). HaveHex old.hash (only_parent parent)) (sym (last_is old step it between one)) one.commit.hex)) final adds in
       let bytes = encode_step step it.written.id old.last in
       let from_here = adds_by_digest_append (objects_of means laws between) (objects_of means laws new) final
-          (steps_add means laws between new steps imported done) adds in
+      (steps_add means laws between new steps imported done) adds in
       let names = names_by_digest_of_adds (objects_of means laws between) final it.commit from_here
       (subst (λ (objects : Objects). NamesByDigest objects it.commit) (sym one.commit.stored)
       (names_commit laws.inserted old.hash it.commit bytes (means.objects one.between.store) one.commit.id)) in (

@@ -133,7 +133,7 @@ module _ {S : Type 0} (means : StoreModel S) where
             (subst (λ (s : S). AgreesWithObjects T (means.objects s)) (sym (edit_stays old between it first)) agrees) in
             same_files_trans _ _ _ later
             (same_files_trans _ _ _ (history_congruent T n (flat_map steps_if_done edits) (EditorFiles T n between)
-                (History T n (steps_if_done it) (EditorFiles T n old))
+            (History T n (steps_if_done it) (EditorFiles T n old))
             (edit_files old between it first agrees))
             (same_files_sym _ _ (history_append T n (steps_if_done it) (flat_map steps_if_done edits) (EditorFiles T n old))))
 

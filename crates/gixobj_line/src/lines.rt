@@ -65,7 +65,7 @@ pub enum Line<'a> {
 /// - [`Error::Malformed`] if the input begins with no line that may come in this state.
 /// - [`Error::OutOfMemory`] if the value of a header of several lines can't be allocated.
 #[inline(always)]
-pub fn read_line(
+pub fn decode_line(
     alloc: Global,
     before: State,
     kind: Kind,
@@ -77,11 +77,11 @@ pub fn read_line(
     ensures error { IfErr result (IsLineError kind before input.now) }
 {
     match before {
-        State::Tree => read_tree(kind, input),
-        State::Parents => read_parent_or_author(kind, input),
-        State::Committer => read_committer(input),
-        State::Encoding => read_encoding_or_header(alloc, input),
-        State::ExtraHeaders => read_header_or_message(alloc, input),
+        State::Tree => decode_tree_line(kind, input),
+        State::Parents => decode_parent_or_author(kind, input),
+        State::Committer => decode_committer(input),
+        State::Encoding => decode_encoding_or_header(alloc, input),
+        State::ExtraHeaders => decode_header_or_message(alloc, input),
         State::End => Err(Error::Malformed),
     }
 }
@@ -89,7 +89,7 @@ pub fn read_line(
 /// Decodes the tree.
 #[inline(always)]
 #[tactic(auto, using(crate::specs::Lines::tree_comes))]
-fn read_tree(kind: Kind, input: &[u8]) -> Result<(Line<'_>, State, &[u8]), Error>
+fn decode_tree_line(kind: Kind, input: &[u8]) -> Result<(Line<'_>, State, &[u8]), Error>
     ensures found { IfOk result (λ it. HasLine kind state.Tree input.now (line_view it.0) it.1
         it.2.now) }
     ensures parsed { IfOk result (λ it. IsParsedLine it.0) }
@@ -104,7 +104,7 @@ fn read_tree(kind: Kind, input: &[u8]) -> Result<(Line<'_>, State, &[u8]), Error
 /// Decodes a parent, or else the author.
 #[inline(always)]
 #[tactic(auto, using(crate::specs::Lines::parent_comes, crate::specs::Lines::author_comes))]
-fn read_parent_or_author(kind: Kind, input: &[u8]) -> Result<(Line<'_>, State, &[u8]), Error>
+fn decode_parent_or_author(kind: Kind, input: &[u8]) -> Result<(Line<'_>, State, &[u8]), Error>
     ensures found { IfOk result (λ it. HasLine kind state.Parents input.now (line_view it.0) it.1
         it.2.now) }
     ensures parsed { IfOk result (λ it. IsParsedLine it.0) }
@@ -122,7 +122,7 @@ fn read_parent_or_author(kind: Kind, input: &[u8]) -> Result<(Line<'_>, State, &
 /// Decodes the committer.
 #[inline(always)]
 #[tactic(auto, using(crate::specs::Lines::committer_comes))]
-fn read_committer(input: &[u8]) -> Result<(Line<'_>, State, &[u8]), Error>
+fn decode_committer(input: &[u8]) -> Result<(Line<'_>, State, &[u8]), Error>
     ensures found { (kind : Kind) → IfOk result
         (λ it. HasLine kind state.Committer input.now (line_view it.0) it.1 it.2.now) }
     ensures parsed { IfOk result (λ it. IsParsedLine it.0) }
@@ -137,14 +137,14 @@ fn read_committer(input: &[u8]) -> Result<(Line<'_>, State, &[u8]), Error>
 /// Decodes the encoding if its name comes, and else a header or the message.
 #[inline(always)]
 #[tactic(auto, using(crate::specs::Lines::encoding_comes))]
-fn read_encoding_or_header(alloc: Global, input: &[u8]) -> Result<(Line<'_>, State, &[u8]), Error>
+fn decode_encoding_or_header(alloc: Global, input: &[u8]) -> Result<(Line<'_>, State, &[u8]), Error>
     ensures found { (kind : Kind) → IfOk result
         (λ it. HasLine kind state.Encoding input.now (line_view it.0) it.1 it.2.now) }
     ensures parsed { IfOk result (λ it. IsParsedLine it.0) }
     ensures error { (kind : Kind) → IfErr result (IsLineError kind state.Encoding input.now) }
 {
     let Some(_) = after_name(input, b"encoding") else {
-        return read_header_or_message(alloc, input);
+        return decode_header_or_message(alloc, input);
     };
     let Some((encoding, rest)) = header_field(input, b"encoding") else {
         return Err(Error::Malformed);
@@ -159,7 +159,7 @@ fn read_encoding_or_header(alloc: Global, input: &[u8]) -> Result<(Line<'_>, Sta
 /// Decodes the message after an empty line, or else a header.
 #[inline(always)]
 #[tactic(auto, using(crate::specs::Lines::header_comes, crate::specs::Lines::message_comes, crate::proofs::LineErrors::line_error_at_headers))]
-fn read_header_or_message(alloc: Global, input: &[u8]) -> Result<(Line<'_>, State, &[u8]), Error>
+fn decode_header_or_message(alloc: Global, input: &[u8]) -> Result<(Line<'_>, State, &[u8]), Error>
     ensures found { (kind : Kind) → IfOk result
         (λ it. HasLine kind state.ExtraHeaders input.now (line_view it.0) it.1 it.2.now) }
     ensures parsed { IfOk result (λ it. IsParsedLine it.0) }

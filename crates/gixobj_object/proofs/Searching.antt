@@ -55,5 +55,5 @@ no_entry_named_before_damage name reader at after item Malformed searches gives 
     Malformed refl searches gives err)
 no_entry_named_before_damage name reader at after item OutOfMemory searches gives err =
     absurd (readers.search_faults tree_reader_state HasEntry NoEntryAllocates entry_view (λ entry. ⊤) remaining_len_le
-        (IsNamed name) reader at after item OutOfMemory
+    (IsNamed name) reader at after item OutOfMemory
     OutOfMemory refl searches gives err).3

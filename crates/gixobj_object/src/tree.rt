@@ -10,7 +10,7 @@ use gixobj_hash::decode::Error;
 use gixobj_hash::hash;
 use gixobj_tree::TreeRef;
 use gixobj_tree::tree::EntryRef;
-use gixobj_tree::tree::decode::read_entry;
+use gixobj_tree::tree::decode::decode_entry;
 pub use lookup::next_entry;
 use std::alloc::Global;
 
@@ -107,7 +107,7 @@ impl<'a> Iterator for TreeRefIter<'a> {
         if self.bytes.is_empty() {
             return None;
         }
-        match read_entry(self.bytes, self.hash_kind) {
+        match decode_entry(self.bytes, self.hash_kind) {
             Some((entry, rest)) => {
                 self.bytes = rest;
                 Some(Ok(entry))

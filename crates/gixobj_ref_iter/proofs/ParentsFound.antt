@@ -111,7 +111,7 @@ module _ (it : ParentIds) (tokens : List CommitTokenView)
   some_passed id after (before, input, token, (passed, passes, none), has, is, same_kind) =
       let kind = (commit_reader_state (parents_reader it)).kind in
       let at = after_passed (HasCommitToken kind) (commit_token_unique kind) (no_commit_token_of_nil kind)
-          (commit_reader_state (parents_reader it)).state before
+      (commit_reader_state (parents_reader it)).state before
       (commit_reader_state (parents_reader it)).bytes input passed tokens complete passes seen in
       let one = after_first (HasCommitToken kind) (commit_token_unique kind) (no_commit_token_of_nil kind) before _ input _ token at.others complete has
       at.yielded in
@@ -130,7 +130,7 @@ module _ (it : ParentIds) (tokens : List CommitTokenView)
   none_passed after (OutOfMemory, (before, input, (passed, passes, none), rejected), ended, same_kind) =
       let kind = (commit_reader_state (parents_reader it)).kind in
       let at = after_passed (HasCommitToken kind) (commit_token_unique kind) (no_commit_token_of_nil kind)
-          (commit_reader_state (parents_reader it)).state before
+      (commit_reader_state (parents_reader it)).state before
       (commit_reader_state (parents_reader it)).bytes input passed tokens complete passes seen in
       ap parents_of at.joined ∙ after_others passed at.others none ∙ no_parents at.others
       (none_after _ before input at.others complete (after_folded before input rejected.0) at.yielded)

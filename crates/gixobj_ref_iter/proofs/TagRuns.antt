@@ -60,7 +60,7 @@ pub yields_none_at_error : (Is : TagTokenView → Type 0) (reader at after : Tag
 yields_none_at_error Is reader at after item passed error same searches gives err =
     malformed Is reader passed
     (readers.search_errors tag_reader_state HasTagToken NoTokenAllocates tag_token_view Every remaining_len_le Is reader at after item passed error same
-        searches
+    searches
     gives err)
 
 pub yields_none_at_end : (Is : TagTokenView → Type 0) (reader at after : TagRefIter) → Searches Is reader at → NextTagToken at None after

@@ -16,7 +16,7 @@ use gixobj_actor::actor::SignatureRef;
 use gixobj_hash::decode::Error;
 use gixobj_hash::hash::{Kind, ObjectId, oid};
 use gixobj_hash::parse::id_of_hex;
-use gixobj_line::lines::{Line, State, read_line};
+use gixobj_line::lines::{Line, State, decode_line};
 use std::alloc::Global;
 use std::borrow::CowSlice;
 
@@ -76,7 +76,7 @@ impl<'a> Iterator for CommitRefIter<'a> {
         if self.bytes.is_empty() {
             return None;
         }
-        match read_line(self.alloc, self.state, self.hash_kind, self.bytes) {
+        match decode_line(self.alloc, self.state, self.hash_kind, self.bytes) {
             Ok((line, state, rest)) => {
                 self.bytes = rest;
                 self.state = state;

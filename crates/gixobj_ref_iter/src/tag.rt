@@ -121,7 +121,7 @@ impl<'a> Iterator for TagRefIter<'a> {
         if self.bytes.is_empty() {
             return None;
         }
-        match read_token(self.bytes, self.state, self.hash_kind) {
+        match decode_token(self.bytes, self.state, self.hash_kind) {
             Some((token, state, rest)) => {
                 self.bytes = rest;
                 self.state = state;
@@ -137,7 +137,7 @@ impl<'a> Iterator for TagRefIter<'a> {
 
 /// Decodes the token at the start of the input in this state, with the state after it and the rest.
 #[tactic(auto, using(crate::specs::TagTokens::target_comes, crate::specs::TagTokens::kind_comes, crate::specs::TagTokens::name_comes, crate::specs::TagTokens::body_comes))]
-fn read_token(
+fn decode_token(
     input: &[u8],
     before: State,
     hash_kind: hash::Kind,

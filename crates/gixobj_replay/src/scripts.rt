@@ -6,7 +6,7 @@ use bstr::BString;
 use gixobj_base::hash::Kind;
 use gixobj_base::tree::EntryMode;
 use gixobj_editor::{Command, Edit};
-use gixobj_script::{ScriptError, edit, read_script};
+use gixobj_script::{ScriptError, edit, parse_script};
 
 /// Answers with the output of a script on the empty root, over an empty store. The question is the kind of
 /// ids and the script.
@@ -22,7 +22,7 @@ pub(crate) fn script_answer(question: &[u8], answer: &mut Answer) {
 /// question is the kind of ids and the script.
 pub(crate) fn command_answer(question: &[u8], answer: &mut Answer) {
     let (script, hash) = script_and_kind(question, answer);
-    match read_script(answer.alloc, script.as_slice(), hash) {
+    match parse_script(answer.alloc, script.as_slice(), hash) {
         Ok(commands) => push_commands(&commands, answer),
         Err(error) => write_error(&error, answer),
     }

@@ -7,7 +7,7 @@ use gixobj_editor::editor::{Editor, Error};
 use gixobj_editor::{Command, EditReply, Reply, run};
 use gixobj_find::Memory;
 use gixobj_find::find::existing_object;
-use gixobj_script::{read_script, report_lines};
+use gixobj_script::{parse_script, report_lines};
 use std::alloc::Global;
 
 /// Answers with the output of a script on the empty root over a store of these objects, and the cause of each
@@ -17,7 +17,7 @@ pub(crate) fn stored_script_answer(question: &[u8], answer: &mut Answer) {
     let (objects, script) = cut(rest, b'\t');
     let hash_kind = kind_of_ids(token);
     let script = answer.unescape(script);
-    let Ok(commands) = read_script(answer.alloc, script.as_slice(), hash_kind) else {
+    let Ok(commands) = parse_script(answer.alloc, script.as_slice(), hash_kind) else {
         return answer.write_keyword("no script");
     };
     match store_of(answer.alloc, objects, hash_kind) {

@@ -9,7 +9,7 @@ use Rattle.gixobj_report.specs.Fields.{after_prefix, either}
 use Rattle.gixobj_report.specs.GpgReports.{Verdict, status_of, verdict, with_status}
 use Rattle.gixobj_report.specs.declared.report.Status.{Status}
 use Rattle.gixobj_report.specs.declared.report.Status.TheVariants as status
-use Rattle.gixobj_report.specs.declared.report.gpg.Said.{Said}
+use Rattle.gixobj_report.specs.declared.report.gpg.LineReport.{LineReport}
 use Rattle.gixobj_report.specs.declared.report.gpg.Statuses.{Statuses}
 use Rattle.gixobj_report.specs.declared.report.gpg.Statuses.TheVariants as statuses
 
@@ -18,7 +18,7 @@ abbrev pub status_view : Status × Bor (List ℕ) → Status × List ℕ
 status_view it = (it.0, it.1.now)
 
 -- the status, the key and the signer, as lists
-abbrev pub reported_view : Said → Verdict
+abbrev pub reported_view : LineReport → Verdict
 reported_view it = record {
   status = it.status;
   key = option_map bstring_bytes it.key;

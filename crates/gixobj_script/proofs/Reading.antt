@@ -1,4 +1,4 @@
--- Parsing of a script line by line; used for `read_script` and laws of scripts.
+-- Parsing of a script line by line; used for `parse_script` and laws of scripts.
 use Rattle.std.proofs.Common.{◌≡◌, ◌≢◌, ◌+◌, ◌++◌, ◌∷◌, ◌≤◌, ℕ, All, List, [], ap, append_assoc, arith, inl, inr, length, length-append, refl, subst, sym, ◌∙◌}
 use Rattle.std.proofs.lemmas.List.Elements.{All-nil, All-push}
 use Rattle.std.specs.List.{AllZip}

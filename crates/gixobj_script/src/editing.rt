@@ -7,7 +7,7 @@ ghost use Rattle.gixobj_script.specs.Edits.{IsEdit, IsReported, IsScriptRunError
 ghost use Rattle.gixobj_script.specs.declared.script.ScriptError.TheVariants.{BadLine};
 ghost use Rattle.gixobj_editor.specs.Replies.{IsCallable};
 
-use crate::{ScriptError, read_script, report_lines};
+use crate::{ScriptError, parse_script, report_lines};
 use gixobj_editor::editor::Editor;
 use gixobj_editor::run;
 use gixobj_find::{Keep, Memory};
@@ -72,7 +72,7 @@ pub fn edit_on<S: Keep, E: Drop, F: Fn(&Tree) -> Result<ObjectId, E> + Drop>(
         ⊎ WasRun (store_model S.objects S.may_fail) (FnReturnsAt F.Fn out) hash script.now editor.old
         editor.new) }
 {
-    let commands = read_script(alloc, script, hash)?;
+    let commands = parse_script(alloc, script, hash)?;
     let replies = run(alloc, editor, commands, out)?;
     let content = report_lines(alloc, &replies, editor.lookups())?;
     Ok(content)

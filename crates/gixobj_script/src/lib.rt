@@ -15,4 +15,4 @@ pub mod tree;
 
 pub use editing::{edit, edit_on};
 pub use reporting::report_lines;
-pub use script::{ScriptError, read_script};
+pub use script::{ScriptError, parse_script};

@@ -21,25 +21,25 @@ use std::alloc::Global;
 /// `None`.
 ///
 /// `OutOfMemory` only if the line is a command.
-pub fn read_command(alloc: Global, line: &[u8], hash: Kind) -> Result<Option<Command>, OutOfMemory>
+pub fn parse_command(alloc: Global, line: &[u8], hash: Kind) -> Result<Option<Command>, OutOfMemory>
     ensures found { IfOk result (λ it. MatchOption it (HasNoCommand hash line.now)
         (λ command. DecodesToCommand hash line.now (command_view command))) }
     ensures error { OnErr result (HasCommand hash line.now) }
 {
     if let Some(rest) = after_name(line, b"at") {
-        return read_edit_at(alloc, rest, hash);
+        return parse_edit_at(alloc, rest, hash);
     }
     if let b"root" = line {
         return Ok(Some(Command::SetRoot(Tree::empty(alloc))));
     }
-    match read_edit(alloc, line, hash)? {
+    match parse_edit(alloc, line, hash)? {
         Some(edit) => Ok(Some(Command::Edit(edit))),
         None => Ok(None),
     }
 }
 
 /// Parses the rest of a line after `at` and a space.
-fn read_edit_at(alloc: Global, bytes: &[u8], hash: Kind) -> Result<Option<Command>, OutOfMemory>
+fn parse_edit_at(alloc: Global, bytes: &[u8], hash: Kind) -> Result<Option<Command>, OutOfMemory>
     ensures found { IfOk result (λ it. MatchOption it
         (HasNoCommand hash (keyword_and (codes "at") bytes.now))
         (λ command. DecodesToCommand hash (keyword_and (codes "at") bytes.now) (command_view command))) }
@@ -48,7 +48,7 @@ fn read_edit_at(alloc: Global, bytes: &[u8], hash: Kind) -> Result<Option<Comman
     let Some((prefix, rest)) = split_at_byte(bytes, b' ') else {
         return Ok(None);
     };
-    let Some(edit) = read_edit(alloc, rest, hash)? else {
+    let Some(edit) = parse_edit(alloc, rest, hash)? else {
         return Ok(None);
     };
     let prefix = names_of_path(alloc, prefix)?;
@@ -60,13 +60,13 @@ fn read_edit_at(alloc: Global, bytes: &[u8], hash: Kind) -> Result<Option<Comman
 /// Parses an edit, `upsert KIND HEX PATH`, `remove PATH`, `leaf PATH` or `write`; else `None`.
 ///
 /// `OutOfMemory` only if the bytes are an edit.
-pub fn read_edit(alloc: Global, bytes: &[u8], hash: Kind) -> Result<Option<Edit>, OutOfMemory>
+pub fn parse_edit(alloc: Global, bytes: &[u8], hash: Kind) -> Result<Option<Edit>, OutOfMemory>
     ensures found { IfOk result (λ it. MatchOption it (HasNoEdit hash bytes.now)
         (λ edit. DecodesToEdit hash bytes.now (edit_view edit))) }
     ensures error { OnErr result (HasEdit hash bytes.now) }
 {
     if let Some(entry) = after_name(bytes, b"upsert") {
-        return read_upsert(alloc, entry, hash);
+        return parse_upsert(alloc, entry, hash);
     }
     if let Some(path) = after_name(bytes, b"remove") {
         let path = names_of_path(alloc, path)?;
@@ -83,7 +83,7 @@ pub fn read_edit(alloc: Global, bytes: &[u8], hash: Kind) -> Result<Option<Edit>
 }
 
 /// Parses the rest of an edit after `upsert` and a space.
-fn read_upsert(alloc: Global, entry: &[u8], hash: Kind) -> Result<Option<Edit>, OutOfMemory>
+fn parse_upsert(alloc: Global, entry: &[u8], hash: Kind) -> Result<Option<Edit>, OutOfMemory>
     ensures found { IfOk result (λ it. MatchOption it
         (HasNoEdit hash (keyword_and (codes "upsert") entry.now))
         (λ edit. DecodesToEdit hash (keyword_and (codes "upsert") entry.now) (edit_view edit))) }

@@ -3,7 +3,7 @@ ghost use Rattle.std.specs.Prelude.{◌≡◌, ◌≢◌, ◌++◌, [], map, IfE
 ghost use Rattle.gixobj_editor.specs.Views.{command_view};
 ghost use Rattle.gixobj_script.specs.Scripts.{IsScript, AppendsLine, IsScriptLineError, IsScriptParseError};
 
-use crate::line::read_command;
+use crate::line::parse_command;
 use gixobj_editor::Command;
 use gixobj_hash::OutOfMemory;
 use gixobj_hash::hash::Kind;
@@ -51,7 +51,7 @@ impl<T: Drop> From<AllocFailed<T>> for ScriptError {
 ///
 /// - [`ScriptError::BadLine`] with the number of the first line that is neither empty nor a command.
 /// - [`ScriptError::OutOfMemory`] if an allocation fails for a command before any bad line.
-pub fn read_script(alloc: Global, bytes: &[u8], hash: Kind) -> Result<Vec<Command>, ScriptError>
+pub fn parse_script(alloc: Global, bytes: &[u8], hash: Kind) -> Result<Vec<Command>, ScriptError>
     ensures found { IfOk result (λ commands.
         IsScript hash bytes.now (map command_view commands.items)) }
     ensures error { IfErr result (IsScriptParseError hash bytes.now) }
@@ -83,7 +83,7 @@ fn write_line(
     if line.is_empty() {
         return Ok(());
     }
-    match read_command(alloc, line, hash)? {
+    match parse_command(alloc, line, hash)? {
         Some(command) => {
             commands.push(command)?;
             Ok(())

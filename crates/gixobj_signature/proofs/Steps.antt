@@ -5,7 +5,7 @@ use Rattle.std.proofs.Math.Seq.{drop-cons}
 use Rattle.bstr.specs.Owned.{bstring_bytes}
 use Rattle.bstr.specs.declared.bstring.BString.{BString}
 use Rattle.gixobj_signature.specs.Calls.{Answer, CallView, OutputView, ran, failed, no_memory}
-use Rattle.gixobj_signature.specs.Plans.{BeginsPlan, IsCarriedOut, IsRemainingPlan, Plan, ask, done, no_more}
+use Rattle.gixobj_signature.specs.Plans.{BeginsPlan, IsCarriedOut, IsRemainingPlan, Plan, run_then, done, no_more}
 use Rattle.gixobj_report.specs.declared.report.TrustLevel.TheVariants as trust
 use Rattle.gixobj_signature.specs.Verifiers.{ProgramView, SshView}
 use Rattle.gixobj_signature.specs.Verifying.{Verified, accepts, on_output, rest_plan, ssh_verified, tries}
@@ -14,19 +14,19 @@ use Rattle.gixobj_signature.specs.VerifyingCalls.{principal_call}
 -- each plan may end before its first call
 pub begins_plan_refl : {S R : Type 0} (runs : S → CallView → Answer → S → Type 0) (plan : Plan R) (s : S) → BeginsPlan runs plan s s
 begins_plan_refl runs (done it) s = refl
-begins_plan_refl runs (ask call next) s = inl refl
+begins_plan_refl runs (run_then call next) s = inl refl
 begins_plan_refl runs no_more s = refl
 
 -- after an answer, the plan that it chooses remains
 answered : {S R : Type 0} (runs : S → CallView → Answer → S → Type 0) (call : CallView) (next : Answer → Plan R) (answer : Answer) (s m u : S)
     (entire : Plan R)
-    → runs s call answer m → IsRemainingPlan runs (ask call next) s entire u → IsRemainingPlan runs (next answer) m entire u
+    → runs s call answer m → IsRemainingPlan runs (run_then call next) s entire u → IsRemainingPlan runs (next answer) m entire u
 answered runs call next answer s m u entire run remaining (Some r) t goes = remaining (Some r) t (answer, m, run, goes)
 answered runs call next answer s m u entire run remaining None t goes = remaining None t (inr (answer, m, run, goes))
 
 -- a call alone, of which only a failure or an allocation failure matters
 abbrev pub call_alone : CallView → Plan Verified
-call_alone call = ask call (λ answer. on_output answer (λ it. no_more))
+call_alone call = run_then call (λ answer. on_output answer (λ it. no_more))
 
 follow : {S : Type 0} (runs : S → CallView → Answer → S → Type 0) (next : OutputView → Plan Verified) (answer : Answer) (outcome : Option Verified)
     (m t : S)
@@ -40,7 +40,7 @@ follow runs next no_memory outcome m t goes = goes
 pub carried_out_of_no_answer : {S : Type 0} (runs : S → CallView → Answer → S → Type 0) (call : CallView) (next : OutputView → Plan Verified)
     (outcome : Option Verified)
     (s t : S)
-    → IsCarriedOut runs (call_alone call) s outcome t → IsCarriedOut runs (ask call (λ answer. on_output answer next)) s outcome t
+    → IsCarriedOut runs (call_alone call) s outcome t → IsCarriedOut runs (run_then call (λ answer. on_output answer next)) s outcome t
 carried_out_of_no_answer runs call next (Some r) s t (answer, m, run, goes) = (answer, m, run, follow runs next answer (Some r) m t goes)
 carried_out_of_no_answer runs call next None s t (inl same) = inl same
 carried_out_of_no_answer runs call next None s t (inr (answer, m, run, goes)) = inr (answer, m, run, follow runs next answer None m t goes)

@@ -10,7 +10,7 @@ use Rattle.gixobj_text.specs.declared.signature.Format.{Format}
 use Rattle.gixobj_text.specs.declared.signature.Format.TheVariants as format
 use Rattle.gixobj_signature.specs.Calls.{Answer, CallView, Failure, OutputView, WordView, failed, file, no_file, no_memory, no_time, not_spawned, not_reported, pair_view, ran, plain}
 use Rattle.gixobj_signature.specs.Pieces.{git_words}
-use Rattle.gixobj_signature.specs.Plans.{IsCarriedOut, Plan, ask, done, no_more}
+use Rattle.gixobj_signature.specs.Plans.{IsCarriedOut, Plan, run_then, done, no_more}
 use Rattle.gixobj_signature.specs.declared.signature.sign.Options.{Options}
 use Rattle.gixobj_signature.specs.declared.signature.sign.Error.{Error}
 use Rattle.gixobj_signature.specs.declared.signature.sign.Error.TheVariants as sign
@@ -145,11 +145,11 @@ on_signer signed no_memory = no_more
 
 -- the plan of an OpenPGP or X.509 program: one call
 abbrev pub gpg_plan : OptionsView → List ℕ → Plan Signed
-gpg_plan it payload = ask (gpg_call it payload) (on_signer (gpg_signed it.program))
+gpg_plan it payload = run_then (gpg_call it payload) (on_signer (gpg_signed it.program))
 
 -- the plan of an SSH program: one call
 abbrev pub ssh_plan : OptionsView → List ℕ → Plan Signed
-ssh_plan it payload = ask (ssh_call it payload) (on_signer (ssh_signed it.program))
+ssh_plan it payload = run_then (ssh_call it payload) (on_signer (ssh_signed it.program))
 
 -- the plan by the format of the signature
 abbrev pub by_format : Format → OptionsView → List ℕ → Plan Signed

@@ -10,7 +10,7 @@ use Rattle.bstr.specs.declared.bstr.BStr.{BStr}
 use Rattle.gixobj_signature.specs.Calls.{Answer, CallView, Failure, OutputView, failed, no_file, no_memory, no_time, not_spawned, not_reported, output_view, ran}
 use Rattle.gixobj_report.specs.GpgReports.{gpg_report}
 use Rattle.gixobj_report.specs.Outcomes.{OutcomeView, evaluated, outcome_view}
-use Rattle.gixobj_signature.specs.Plans.{IsCarriedOut, Plan, AllocatesForCalls, ask, done, no_more}
+use Rattle.gixobj_signature.specs.Plans.{IsCarriedOut, Plan, AllocatesForCalls, run_then, done, no_more}
 use Rattle.gixobj_report.specs.SshReports.{ssh_report}
 use Rattle.gixobj_signature.specs.declared.signature.Output.{Output}
 use Rattle.gixobj_signature.specs.declared.signature.RunError.{RunError}
@@ -57,7 +57,7 @@ gpg_verified format by it = reported (evaluated it.success by.minimum (gpg_repor
 
 -- the plan of an OpenPGP or X.509 program: this call
 abbrev pub gpg_verify_plan : Format → ProgramView → CallView → Plan Verified
-gpg_verify_plan format by call = ask call (λ answer. on_output answer (λ it. done (gpg_verified format by it)))
+gpg_verify_plan format by call = run_then call (λ answer. on_output answer (λ it. done (gpg_verified format by it)))
 
 -- ---- SSH: a call for the principals, and then others
 
@@ -87,21 +87,21 @@ accepts it = it.success && starts_with nat_eq it.stdout (codes "Good")
 abbrev pub rest_plan : ProgramView → SshView → List ℕ → List ℕ → Option OutputView → Plan Verified
 rest_plan by ssh signature signed (Some last) = done (ssh_verified by last.success trust.Fully None last)
 rest_plan by ssh signature signed None =
-    ask (novalidate_call by ssh signature signed) (λ answer. on_output answer (λ it.
+    run_then (novalidate_call by ssh signature signed) (λ answer. on_output answer (λ it.
     done (ssh_verified by false trust.Undefined None it)))
 
 -- a call for each principal, up to the first that is accepted
 unfoldable pub tries : ProgramView → SshView → List ℕ → List ℕ → List (List ℕ) → Option OutputView → Plan Verified
 tries by ssh signature signed [] last = rest_plan by ssh signature signed last
 tries by ssh signature signed (principal ∷ principals) last =
-    ask (principal_call by ssh signature signed principal) (λ answer. on_output answer (λ it.
+    run_then (principal_call by ssh signature signed principal) (λ answer. on_output answer (λ it.
     cond (accepts it) (done (ssh_verified by it.success trust.Fully (Some principal) it))
     (tries by ssh signature signed principals (Some it))))
 
 -- the plan of an SSH program: the principals are listed and then tried. There are none if that call doesn't succeed
 abbrev pub ssh_verify_plan : ProgramView → SshView → List ℕ → List ℕ → Plan Verified
 ssh_verify_plan by ssh signature signed =
-    ask (principals_call by ssh signature) (λ answer. on_output answer (λ it.
+    run_then (principals_call by ssh signature) (λ answer. on_output answer (λ it.
     tries by ssh signature signed (cond it.success (principals_in it.stdout) []) None))
 
 -- ---- all formats
@@ -163,5 +163,5 @@ error_view error = verify_view (Err error)
 abbrev pub WasCalled : {S : Type 0} → (S → CallView → Answer → S → Type 0) → CallView → S → Result Output Error → S
     → Type 0
 WasCalled runs call s (Ok output) t = runs s call (ran (output_view output)) t
-WasCalled runs call s (Err error) t = IsCarriedOut runs (ask call (λ answer. on_output answer (λ it. no_more))) s
+WasCalled runs call s (Err error) t = IsCarriedOut runs (run_then call (λ answer. on_output answer (λ it. no_more))) s
     (error_view error) t

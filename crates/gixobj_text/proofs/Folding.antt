@@ -42,7 +42,7 @@ none_folded : (byte : ℕ) (rest : List ℕ) → is_ascii_whitespace byte ≡ fa
 none_folded byte rest is =
     ap (take_while is_folded) (lines-step (byte ∷ rest) (omega arith))
     ∙ take_while_folded_cons false (take (line_len (byte ∷ rest)) (byte ∷ rest)) (lines_of (drop (line_len (byte ∷ rest)) (byte ∷ rest)))
-        (first_unfolded byte rest is)
+    (first_unfolded byte rest is)
 
 pub first_line_not_folded : (bytes : List ℕ) → begins_indented bytes ≡ false → are_some (take_while is_folded (lines_of bytes)) ≡ false
 first_line_not_folded [] is = ap are_some (no_folded_lines_at_end [] refl)

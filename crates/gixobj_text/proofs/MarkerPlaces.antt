@@ -47,9 +47,11 @@ marker_place_le_len bytes place f here = omega (arith, here.as_long, ap length h
 pub marker_place_unique : (bytes : List ℕ) (a b : ℕ) (f g : Format) → IsMarkerPlace bytes a f → IsMarkerPlace bytes b g → (a ≡ b) × (f ≡ g)
 marker_place_unique bytes a b f g first second =
     let same : a ≡ b = omega (arith, second.last a f first.here, first.last b g second.here) in
-    let P : ℕ → Type 0 = λ it. BeginsWithMarker g (drop it bytes) in
-    (same, format_of_marker_unique (drop a bytes) f g (begins_with_marker_at_place bytes a f first.here)
-        (subst P (sym same) (begins_with_marker_at_place bytes b g second.here)))
+    let P : ℕ → Type 0 = λ it. BeginsWithMarker g (drop it bytes) in (
+      same,
+      format_of_marker_unique (drop a bytes) f g (begins_with_marker_at_place bytes a f first.here)
+          (subst P (sym same) (begins_with_marker_at_place bytes b g second.here)),
+    )
 
 pub no_marker_and_marker_place : (bytes : List ℕ) (a : ℕ) (f : Format) → IsMarkerPlace bytes a f → HasNoMarker bytes → ⊥
 no_marker_and_marker_place bytes a f is none = none a f is.here
@@ -57,6 +59,10 @@ no_marker_and_marker_place bytes a f is none = none a f is.here
 -- the parts at the position
 pub marker_place_splits : (bytes : List ℕ) (place : ℕ) (f : Format) → IsMarkerPlace bytes place f
     → (bytes ≡ take place bytes ++ drop place bytes) × StartsLine (take place bytes) × BeginsWithMarker f (drop place bytes) × (place ≤ length bytes)
-marker_place_splits bytes place f is =
-    (sym (take-append-drop place bytes), starts_line_at_place bytes place f is.here, begins_with_marker_at_place bytes place f is.here, marker_place_le_len
-        bytes place f is.here)
+marker_place_splits bytes place f is = (
+  sym (take-append-drop place bytes),
+  starts_line_at_place bytes place f is.here,
+  begins_with_marker_at_place bytes place f is.here,
+  marker_place_le_len
+      bytes place f is.here,
+)

@@ -120,4 +120,4 @@ blocks_unique start body blocks blocks2 (block _ _ one rest later it more) (bloc
     let same = one_first start body one other rest rest2 it it2 in
     ap (λ (b : BlockView). b ∷ later) same.0
     ∙ ap (λ (bs : List BlockView). other ∷ bs) (blocks_unique 0 rest later later2 more
-        (subst (λ (bytes : List ℕ). AreBlocksFrom 0 bytes later2) (sym same.1) more2))
+    (subst (λ (bytes : List ℕ). AreBlocksFrom 0 bytes later2) (sym same.1) more2))

@@ -52,7 +52,7 @@ no_breaks_of_unsplit (byte ∷ content) [] rest none it = not_here (byte ∷ con
     it
 no_breaks_of_unsplit (byte ∷ content) (one ∷ head) rest none it =
     no_breaks_of_unsplit content head rest (apart (begins_two_breaks (byte ∷ content)) (no_double_break content) none).1
-        (after_two byte one content head rest it)
+    (after_two byte one content head rest it)
 
 -- ---- the walk to the split
 

@@ -27,7 +27,7 @@ pub slice_cmp_drop_take : (at n : ℕ) (xs ys : List ℕ) → at + n ≤ length 
     → slice_cmp nat_cmp (take n (drop at xs)) (take n (drop at ys)) ≡ slice_cmp nat_cmp xs ys
 slice_cmp_drop_take at n xs ys a b same apart =
     ordering_then_of_decided (slice_cmp nat_cmp (take n (drop at xs)) (take n (drop at ys)))
-        (slice_cmp nat_cmp (drop n (drop at xs)) (drop n (drop at ys))) apart
+    (slice_cmp nat_cmp (drop n (drop at xs)) (drop n (drop at ys))) apart
     ∙ sym (take_le n (drop at xs) (drop at ys) (omega (arith, a, length-drop at xs)) (omega (arith, b, length-drop at ys)))
     ∙ sym (by_rest at xs ys (omega (arith, a)) (omega (arith, b)) same)
 

@@ -71,7 +71,7 @@ digits_at_cut : (kind : Kind) (input digits after : List ℕ) (e : EntryView) (r
     → p.digits ≡ digits
 digits_at_cut kind input digits after e rest split p =
     (split_parts_unique 32 p.digits (e.name ++ 0 ∷ (id_bytes e.id ++ rest)) digits after (octal_digits_space_free p.digits p.mode.octal) split.first
-        (sym p.joined ∙ split.joined)).0
+    (sym p.joined ∙ split.joined)).0
 
 filled : (prefix rest : List ℕ) (byte : ℕ) → prefix ++ byte ∷ rest ≢ []
 filled [] rest byte = λ bare. cc bare
@@ -82,7 +82,7 @@ from_name_on : (kind : Kind) (input after from_name : List ℕ) (mode : ℕ) →
     ⊎ BeginsWithNoEntry kind input
 from_name_on kind input after from_name mode begun spaced =
     ⊎_elim (λ cut. from_id_on cut.0 cut.1 cut.2) (λ free. inr (no_entry_without_name kind input after from_name mode begun spaced free))
-        (splits_at_or_byte_free 0 from_name)
+    (splits_at_or_byte_free 0 from_name)
   where
     from_id_on : (name from_id : List ℕ) → SplitsAt 0 from_name name from_id → AnEntry kind input ⊎ BeginsWithNoEntry kind input
     from_id_on name from_id split =

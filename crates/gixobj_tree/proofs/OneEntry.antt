@@ -1,4 +1,4 @@
--- An input begins with at most one entry, of at least 22 bytes; used by the proofs of `read_entry` and of lookups.
+-- An input begins with at most one entry, of at least 22 bytes; used by the proofs of `decode_entry` and of lookups.
 use Rattle.std.proofs.Common.{◌≡◌, ◌≢◌, ◌<◌, ◌≤◌, ℕ, List, [], ◌∷◌, ◌++◌, ap, append_assoc, arith, length, length-append, refl, subst, sym, ◌∙◌}
 use Rattle.std.proofs.lemmas.List.{get_or_append_left}
 use Rattle.std.specs.Prelude.{get_or}
@@ -109,7 +109,7 @@ entry_unique kind input a b x y first second =
     let p = parted_of_begins kind input a x first in
     let q = parted_of_begins kind input b y second in
     let cut = split_parts_unique 32 p.digits _ q.digits _ (octal_digits_space_free p.digits p.mode.octal) (octal_digits_space_free q.digits q.mode.octal)
-        (sym p.joined ∙ q.joined) in
+    (sym p.joined ∙ q.joined) in
     let named = split_parts_unique 0 a.name _ b.name _ p.name q.name cut.1 in
     let lengths : length (id_bytes a.id) ≡ length (id_bytes b.id) = p.id.1 ∙ sym q.id.1 in
     let ids = same_prefixes (id_bytes a.id) x (id_bytes b.id) y lengths named.1 in

@@ -11,7 +11,7 @@ use super::CommitRef;
 use bstr::BStr;
 use gixobj_hash::decode::Error;
 use gixobj_hash::hash::Kind;
-use gixobj_line::lines::{Line, State, read_line};
+use gixobj_line::lines::{Line, State, decode_line};
 use smallvec::SmallVec;
 use std::alloc::Global;
 
@@ -49,7 +49,7 @@ impl<'a> CommitRef<'a> {
         let mut state = State::Tree;
         let mut rest = bytes;
         while !matches!(state, State::End) {
-            let (line, following, after) = read_line(alloc, state, hash_kind, rest)?;
+            let (line, following, after) = decode_line(alloc, state, hash_kind, rest)?;
             commit.add_line(line)?;
             state = following;
             rest = after;

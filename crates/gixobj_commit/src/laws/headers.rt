@@ -47,7 +47,7 @@ pub fn owned_header_search_complete()
 /// `mergetags` decodes every `mergetag` header of a borrowed commit, in order. A run to the end yields, for
 /// each value, its tag or `Malformed`. If each value is known as a tag or malformed, every run yields that.
 pub fn borrowed_mergetag_search_complete()
-    ensures received { (tags after : Mergetags BorrowedHeaders) (passed : List (Result TagRef Error))
+    ensures yielded { (tags after : Mergetags BorrowedHeaders) (passed : List (Result TagRef Error))
         → YieldsThen (NextMergetag (YieldsFirstBy pair_of remaining_headers)) tags passed None after
         → AllZip (IsTagOf (mergetag_kind tags)) (remaining_mergetags remaining_headers tags) passed }
     ensures listed { (tags : Mergetags BorrowedHeaders) (read : List (Option TagLines))
@@ -58,7 +58,7 @@ pub fn borrowed_mergetag_search_complete()
 /// `mergetags` decodes every `mergetag` header of an owned commit, in order. A run to the end yields, for
 /// each value, its tag or `Malformed`. If each value is known as a tag or malformed, every run yields that.
 pub fn owned_mergetag_search_complete()
-    ensures received { (tags after : Mergetags OwnedHeaders) (passed : List (Result TagRef Error))
+    ensures yielded { (tags after : Mergetags OwnedHeaders) (passed : List (Result TagRef Error))
         → YieldsThen (NextMergetag (YieldsFirstBy pair_of remaining_owned_headers)) tags passed None
         after → AllZip (IsTagOf (mergetag_kind tags)) (remaining_mergetags remaining_owned_headers tags)
         passed }

@@ -404,7 +404,7 @@ impl<S> Cursor<'_, S> {
     ///
     /// Looks nothing up, allocates nothing, and always returns `Ok`.
     pub fn get(&self, path: &[BString]) -> Result<Option<&Entry>, OutOfMemory>
-        ensures succeeds { IsOk result }
+        ensures no_error { IsOk result }
         ensures found { IfOk result (λ entry. option_copied entry
             ≡ entry_at (from_root self.now.editor.now.prefix (names_of path.now))
             (open_dirs self.now.editor.now)) }

@@ -9,7 +9,7 @@ use gixobj_editor::editor::Editor;
 use gixobj_editor::{Command, Edit, Reply, run};
 use gixobj_find::Memory;
 use gixobj_find_tests::failing::Failing;
-use gixobj_script::read_script;
+use gixobj_script::parse_script;
 use std::alloc::{AllocError, Global};
 
 /// Edits before and after writes: an emitted directory is looked up again.
@@ -43,7 +43,7 @@ pub(crate) fn editor_over(
 
 /// Decodes the commands of a script.
 pub(crate) fn commands_of(alloc: Global, script: &str) -> Result<Vec<Command>, AllocError> {
-    match read_script(alloc, script.as_bytes(), HashKind::Sha1) {
+    match parse_script(alloc, script.as_bytes(), HashKind::Sha1) {
         Ok(commands) => Ok(commands),
         Err(_) => Err(AllocError),
     }

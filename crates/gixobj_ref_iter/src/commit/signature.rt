@@ -10,7 +10,7 @@ use super::CommitRefIter;
 use gixobj_commit::signature_field_name;
 use gixobj_hash::decode::Error;
 use gixobj_hash::hash::Kind;
-use gixobj_line::lines::{Line, State, read_line};
+use gixobj_line::lines::{Line, State, decode_line};
 use gixobj_signature::signature::SignedData;
 use std::alloc::Global;
 use std::borrow::CowSlice;
@@ -41,7 +41,7 @@ impl<'a> CommitRefIter<'a> {
         let mut rest = bytes;
         let mut place = 0;
         'lines: while !rest.is_empty() {
-            let (line, next, after) = match read_line(alloc, state, hash_kind, rest) {
+            let (line, next, after) = match decode_line(alloc, state, hash_kind, rest) {
                 Ok(read) => read,
                 Err(error) => return Err(error),
             };

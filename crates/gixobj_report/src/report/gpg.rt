@@ -45,11 +45,11 @@ pub fn parse_gpg_output(
         (bstring_bytes raw_output)) ≢ no_strings) }
 {
     let reported = reported_in(raw_output.as_bytes());
-    let said = said_by(alloc, reported.statuses)?;
+    let said = reported_by(alloc, reported.statuses)?;
     let trust_level = reported_trust_level(reported.trust);
     let fingerprint = reported_field(alloc, reported.valid, 0)?;
     let primary_key_fingerprint = reported_field(alloc, reported.valid, 9)?;
-    let Said {
+    let LineReport {
         status,
         key,
         signer,
@@ -70,7 +70,7 @@ pub fn parse_gpg_output(
 
 /// The status, the key and the signer that status lines report.
 #[derive(Debug, Drop)]
-pub(crate) struct Said {
+pub(crate) struct LineReport {
     pub(crate) status: Status,
     pub(crate) key: Option<BString>,
     pub(crate) signer: Option<BString>,
@@ -154,22 +154,22 @@ fn with_status_if_any<'a>(before: Statuses<'a>, found: Option<(Status, &'a [u8])
 }
 
 /// Returns what the statuses of all lines report together.
-fn said_by(alloc: Global, statuses: Statuses<'_>) -> Result<Said, OutOfMemory>
+fn reported_by(alloc: Global, statuses: Statuses<'_>) -> Result<LineReport, OutOfMemory>
     ensures reported_value { IfOk result (λ it. reported_view it ≡ verdict_of statuses.entry []) }
     ensures allocates { OnErr result (reported_names (verdict_of statuses.entry []) ≢ (None, None)) }
 {
     match statuses {
         Statuses::None => Ok(nothing_but(Status::Unknown)),
-        Statuses::One(status, rest) => said_by_one(alloc, status, rest),
+        Statuses::One(status, rest) => reported_by_one(alloc, status, rest),
         Statuses::Several => Ok(nothing_but(Status::Error)),
     }
 }
 
 /// Returns a status without a key and a signer.
-fn nothing_but(status: Status) -> Said
+fn nothing_but(status: Status) -> LineReport
     ensures { reported_view result ≡ record { status = status; key = None; signer = None } }
 {
-    Said {
+    LineReport {
         status,
         key: None,
         signer: None,
@@ -178,14 +178,14 @@ fn nothing_but(status: Status) -> Said
 
 /// Decodes a single reported status from the bytes after its keyword.
 #[tactic(auto, using(crate::proofs::Fields::reported_names_of_key, crate::proofs::Fields::reported_names_of_signer))]
-fn said_by_one(alloc: Global, status: Status, rest: &[u8]) -> Result<Said, OutOfMemory>
+fn reported_by_one(alloc: Global, status: Status, rest: &[u8]) -> Result<LineReport, OutOfMemory>
     ensures reported_value { IfOk result (λ it. reported_view it ≡ verdict ((status, rest.now) ∷ [])) }
     ensures allocates { OnErr result (reported_names (verdict ((status, rest.now) ∷ [])) ≢ (None, None)) }
 {
     let (keyword, following) = split_at_space(rest);
     let key = copy_unless_empty(alloc, keyword)?;
     let signer = copy_unless_empty(alloc, following)?;
-    Ok(Said {
+    Ok(LineReport {
         status,
         key,
         signer,

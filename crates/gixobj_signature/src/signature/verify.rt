@@ -286,7 +286,7 @@ fn program_with(
 }
 
 /// Makes a call and returns its output.
-pub(crate) fn ask_one<R: Runner>(call: &Call, runner: &mut R) -> Result<Output, Error>
+pub(crate) fn run_call<R: Runner>(call: &Call, runner: &mut R) -> Result<Output, Error>
     ensures { WasCalled R.runs (call_view call.now) runner.old result runner.new }
 {
     Ok(runner.run(call)?)

@@ -13,4 +13,4 @@ loop-named-preserved c found h =
     let other : c.loop-named-item.result.0 ≢ c.args.id.now = search rules in
     c.loop-named.invariant found
     (is_first_in_tail c.args.table.now c.loop-named.named-index c.args.id.now c.loop-named-item.result c.loop-named-test.true c.loop-named-item.is other found
-        h)
+    h)

@@ -24,4 +24,4 @@ returns-in-Err-write_to_vec-clause-has_capacity c = λ tag is valid.
     let fails = c.write_error_implies_sink_error.ensures (list_view c.new-copy.result) (list_view c.write_to_vec.new.out) c.in-Err-write_to_vec.error nothing
     c.in-Err-write_to_vec.ensures.error in
     fails_for_room_of_write (list_view c.new-copy.result) (list_view c.write_to_vec.new.out)
-        (encode_tag (tag_lines c.in-Ok.tag)) c.in-Err-write_to_vec.error fails
+    (encode_tag (tag_lines c.in-Ok.tag)) c.in-Err-write_to_vec.error fails

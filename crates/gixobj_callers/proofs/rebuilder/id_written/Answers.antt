@@ -9,7 +9,7 @@ returns-in_default-clause-none g c = written_at_none_past_end c.args.replies.now
 pub returns-in-Some-id_in-clause-found : goal.returns-in-Some-id_in-clause-found
 returns-in-Some-id_in-clause-found g c =
     names_written_of_reply c.args.replies.now c.args.place c.in-Some.reply.now c.in-Some-id_in.id c.in-Some.ensures.lookup.3.0 c.in-Some.ensures.lookup.1
-        c.in-Some-id_in.ensures
+    c.in-Some-id_in.ensures
 
 pub returns-in-None-clause-none : goal.returns-in-None-clause-none
 returns-in-None-clause-none g c = written_at_none_of_failure c.args.replies.now c.args.place c.in-Some.reply.now c.in-Some.ensures.lookup.3.0

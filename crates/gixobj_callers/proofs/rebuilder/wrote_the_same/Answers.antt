@@ -15,7 +15,7 @@ returns-in-Err-clause-error g c =
     let answers = λ (tree : List EntryView) (answer : Result ObjectId g.row.E.Denot). FnReturnsAt g.F.Fn c.args.out tree answer in
     let new = c.new-editor.ensures in
     let begun = state_is_started c.new-editor.result c.args.store c.args.object_hash [] (new.dirs
-        ∙ ap root_alone c.empty.ensures) new.bases new.store new.lookups
+    ∙ ap root_alone c.empty.ensures) new.bases new.store new.lookups
     new.object_hash new.prefix in
     none_at_first means answers c.args.store c.args.object_hash c.args.commands.items c.new-editor.result c.run.new.editor c.in_ok-replies.replies.items
     c.deref.result.now c.args.place c.args.other c.in-Err.error begun
@@ -27,7 +27,7 @@ returns-in-Err-id_written-clause-error g c =
     let answers = λ (tree : List EntryView) (answer : Result ObjectId g.row.E.Denot). FnReturnsAt g.F.Fn c.args.out tree answer in
     let new = c.new-editor.ensures in
     let begun = state_is_started c.new-editor.result c.args.store c.args.object_hash [] (new.dirs
-        ∙ ap root_alone c.empty.ensures) new.bases new.store new.lookups
+    ∙ ap root_alone c.empty.ensures) new.bases new.store new.lookups
     new.object_hash new.prefix in
     none_at_second means answers c.args.store c.args.object_hash c.args.commands.items c.new-editor.result c.run.new.editor c.in_ok-replies.replies.items
     c.deref.result.now c.deref-2.result.now c.args.place c.args.other c.in-Ok.first c.in-Err-id_written.error begun
@@ -40,7 +40,7 @@ returns-clause-compared g c =
     let answers = λ (tree : List EntryView) (answer : Result ObjectId g.row.E.Denot). FnReturnsAt g.F.Fn c.args.out tree answer in
     let new = c.new-editor.ensures in
     let begun = state_is_started c.new-editor.result c.args.store c.args.object_hash [] (new.dirs
-        ∙ ap root_alone c.empty.ensures) new.bases new.store new.lookups
+    ∙ ap root_alone c.empty.ensures) new.bases new.store new.lookups
     new.object_hash new.prefix in
     is_reported means answers c.args.store c.args.object_hash c.args.commands.items c.new-editor.result c.run.new.editor c.in_ok-replies.replies.items
     c.deref.result.now c.deref-2.result.now c.args.place c.args.other c.are_same.result c.in-Ok.first c.in-Ok-id_written.second begun

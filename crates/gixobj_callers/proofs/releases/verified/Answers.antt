@@ -14,5 +14,5 @@ returns-clause-accepted g c =
     subst (λ (bytes : List ℕ). IfOk c.verify.result (λ outcome. (outcome_view outcome).valid ≡ true
     → Vouches g.R.Runner.runs options bytes signed c.args.runner.now (outcome_view outcome) c.verify.new.runner)) c.new.ensures
     (vouches_of_valid_outcome g.R.Runner.runs options (bstr_bytes c.new.result) signed c.verify.ensures.format c.args.runner.now c.verify.new.runner
-        c.verify.result
+    c.verify.result
     c.verify.ensures.called)

@@ -7,7 +7,7 @@ pub returns-clause-divided : goal.returns-clause-divided
 returns-clause-divided g c =
     let wrote = (c.in_ok-written.ensures {u = tt}).written in
     is_divided_of_walk (open_dirs c.args.editor.now) (open_bases c.args.editor.now) c.in_ok-written.written.trees.items wrote.below
-        c.in_ok-written.written.saved
+    c.in_ok-written.written.saved
     c.in_ok-written.written.id wrote.own wrote.emitted wrote.last
 
 pub returns-clause-files : goal.returns-clause-files

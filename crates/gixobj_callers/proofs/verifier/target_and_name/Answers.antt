@@ -7,27 +7,27 @@ use Rattle.gixobj_callers.proofs.verifier.target_and_name.Goals as goal
 pub returns-in_err-first-clause-none : goal.returns-in_err-first-clause-none
 returns-in_err-first-clause-none c = rw c.from_residual.ensures (λ tag is.
     let start = starts_of_decoded_tag c.tag_readers_agree.ensures.yields c.args.kind c.args.content.now tag c.from_bytes-reader.result is
-        c.from_bytes-reader.ensures in
+    c.from_bytes-reader.ensures in
     c.in_err-first.ensures.none _ _ start.to_yield)
 
 pub returns-in_err-target-clause-none : goal.returns-in_err-target-clause-none
 returns-in_err-target-clause-none c = rw c.from_residual-in_err-target.ensures (λ tag is.
     let start = starts_of_decoded_tag c.tag_readers_agree.ensures.yields c.args.kind c.args.content.now tag c.from_bytes-reader.result is
-        c.from_bytes-reader.ensures in
+    c.from_bytes-reader.ensures in
     let first = c.in_ok-first.ensures.found _ _ start.to_yield in
     target_token_has_id (tag_token_view c.in_ok-first.first) start.id first.0 c.in_err-target.ensures)
 
 pub returns-in_err-_kind-clause-none : goal.returns-in_err-_kind-clause-none
 returns-in_err-_kind-clause-none c = rw c.from_residual-in_err-_kind.ensures (λ tag is.
     let start = starts_of_decoded_tag c.tag_readers_agree.ensures.yields c.args.kind c.args.content.now tag c.from_bytes-reader.result is
-        c.from_bytes-reader.ensures in
+    c.from_bytes-reader.ensures in
     let first = c.in_ok-first.ensures.found _ _ start.to_yield in
     c.in_err-_kind.ensures.none _ _ first.1)
 
 pub returns-in_err-third-clause-none : goal.returns-in_err-third-clause-none
 returns-in_err-third-clause-none c = rw c.from_residual-in_err-third.ensures (λ tag is.
     let start = starts_of_decoded_tag c.tag_readers_agree.ensures.yields c.args.kind c.args.content.now tag c.from_bytes-reader.result is
-        c.from_bytes-reader.ensures in
+    c.from_bytes-reader.ensures in
     let first = c.in_ok-first.ensures.found _ _ start.to_yield in
     let second = c.in_ok-_kind.ensures.found _ _ first.1 in
     c.in_err-third.ensures.none _ _ second.1)
@@ -35,7 +35,7 @@ returns-in_err-third-clause-none c = rw c.from_residual-in_err-third.ensures (λ
 pub returns-in_err-name-clause-none : goal.returns-in_err-name-clause-none
 returns-in_err-name-clause-none c = rw c.from_residual-in_err-name.ensures (λ tag is.
     let start = starts_of_decoded_tag c.tag_readers_agree.ensures.yields c.args.kind c.args.content.now tag c.from_bytes-reader.result is
-        c.from_bytes-reader.ensures in
+    c.from_bytes-reader.ensures in
     let first = c.in_ok-first.ensures.found _ _ start.to_yield in
     let second = c.in_ok-_kind.ensures.found _ _ first.1 in
     let third = c.in_ok-third.ensures.found _ _ second.1 in
@@ -44,7 +44,7 @@ returns-in_err-name-clause-none c = rw c.from_residual-in_err-name.ensures (λ t
 pub returns-clause-found : goal.returns-clause-found
 returns-clause-found c = λ tag is.
     let start = starts_of_decoded_tag c.tag_readers_agree.ensures.yields c.args.kind c.args.content.now tag c.from_bytes-reader.result is
-        c.from_bytes-reader.ensures in
+    c.from_bytes-reader.ensures in
     let first = c.in_ok-first.ensures.found _ _ start.to_yield in
     let second = c.in_ok-_kind.ensures.found _ _ first.1 in
     let third = c.in_ok-third.ensures.found _ _ second.1 in

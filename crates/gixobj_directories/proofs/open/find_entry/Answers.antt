@@ -11,8 +11,8 @@ returns-in-Some c =
     let name = bstring_bytes c.args.name.now in
     let tree = c.args.tree.now in
     let entry = c.index.result.now in
-    let place : c.place_of.result ≡ position (λ (e : EntryView). same_name e.name name) tree =
-    c.place_of.ensures ∙ ap (λ (n : List ℕ). position (λ (e : EntryView). same_name e.name n) c.deref.result.now) c.as_bytes.ensures
+    let place : c.position_of.result ≡ position (λ (e : EntryView). same_name e.name name) tree =
+    c.position_of.ensures ∙ ap (λ (n : List ℕ). position (λ (e : EntryView). same_name e.name n) c.deref.result.now) c.as_bytes.ensures
     ∙ ap (λ (es : List EntryView). position (λ (e : EntryView). same_name e.name name) es) (c.deref.ensures.value ∙ c.tree.view_is) in
     ap Some (c.index.ensures ∙ ap (λ (es : List EntryView). get_or es c.in-Some.place entry) c.tree.view_is)
     ∙ sym (find_some (λ (e : EntryView). same_name e.name name) tree c.in-Some.place entry (sym place ∙ c.in-Some.is))
@@ -21,7 +21,7 @@ pub returns-in-None : goal.returns-in-None
 returns-in-None c =
     let name = bstring_bytes c.args.name.now in
     let tree = c.args.tree.now in
-    let place : c.place_of.result ≡ position (λ (e : EntryView). same_name e.name name) tree =
-    c.place_of.ensures ∙ ap (λ (n : List ℕ). position (λ (e : EntryView). same_name e.name n) c.deref.result.now) c.as_bytes.ensures
+    let place : c.position_of.result ≡ position (λ (e : EntryView). same_name e.name name) tree =
+    c.position_of.ensures ∙ ap (λ (n : List ℕ). position (λ (e : EntryView). same_name e.name n) c.deref.result.now) c.as_bytes.ensures
     ∙ ap (λ (es : List EntryView). position (λ (e : EntryView). same_name e.name name) es) (c.deref.ensures.value ∙ c.tree.view_is) in
     sym (find_none (λ (e : EntryView). same_name e.name name) tree (sym place ∙ c.in-None.is))

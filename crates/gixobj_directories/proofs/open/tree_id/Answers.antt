@@ -10,7 +10,7 @@ returns-in_err-entry-clause-none c =
     if_none_weaken c.from_residual.result _ c.from_residual.ensures
     (λ e h named. absurd
     (entry_name_ne (bstring_bytes c.args.name.now) c.args.tree.now (option_of_copied_none c.find_entry.result _ c.find_entry.ensures c.in_err-entry.was) e h
-        named))
+    named))
 
 pub returns-then-is_tree-clause-some : goal.returns-then-is_tree-clause-some
 returns-then-is_tree-clause-some c =

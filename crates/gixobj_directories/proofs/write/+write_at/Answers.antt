@@ -48,7 +48,7 @@ invariant_of-node g t c = is_level_set c.node.inside.tree c.node.inside.children
 pub write_at-requires : goal.write_at-requires
 write_at-requires g t c =
     let there = place_down c.args.node.now c.node.inside.tree c.node.inside.children.items c.deref.result.now c.node.view_is
-        (level_names_apart c.node.invariant)
+    (level_names_apart c.node.invariant)
     (names_of c.args.path.now) (bstring_bytes c.in-Some.name.now) (names_of c.in-Some.rest.now)
     (ap names_of c.in-Some.ensures.cases.0) c.deref.ensures.value
     c.in-Some-child_at.place c.index_mut-child.result.now (c.in-Some-child_at.ensures {u = tt}) c.index_mut-child.ensures.value in
@@ -72,7 +72,7 @@ returns-clause-ok g t c = MatchResult-weaker c.write_at.result c.write_at.ensure
     let level = is_level_set c.node.inside.tree cs c.in-Some-child_at.place child (record { name = child.name; «open» = c.write_at.new.node })
     c.index_mut-child.ensures.value refl c.node.invariant in
     let was : in_part name (parts cs) ≡ dirs_of child.open = λ i at. in_part_of_child name cs c.deref.result.now c.in-Some-child_at.place child
-        c.deref.ensures.value here
+    c.deref.ensures.value here
     c.index_mut-child.ensures.value at i in
     let same : in_path (names_of c.args.path.now) (dirs_of c.args.node.now) ≡ in_path rest (dirs_of child.open) =
     λ i at. path_down c.args.node.now c.node.inside.tree cs c.deref.result.now c.node.view_is (level_names_apart c.node.invariant)
@@ -99,12 +99,12 @@ returns-clause-error g t c = MatchResult-weaker c.write_at.result c.write_at.ens
     let rest = names_of c.in-Some.rest.now in
     let same : in_path rest (dirs_of child.open) ≡ in_path (names_of c.args.path.now) (dirs_of c.args.node.now) =
     λ i at. sym (path_down c.args.node.now c.node.inside.tree c.node.inside.children.items c.deref.result.now c.node.view_is
-        (level_names_apart c.node.invariant)
+    (level_names_apart c.node.invariant)
     (names_of c.args.path.now) (bstring_bytes c.in-Some.name.now) rest (ap names_of c.in-Some.ensures.cases.0) c.deref.ensures.value
     c.in-Some-child_at.place child (c.in-Some-child_at.ensures {u = tt}) c.index_mut-child.ensures.value at) i in
     let same_bases : in_path rest (bases_of child.open) ≡ in_path (names_of c.args.path.now) (bases_of c.args.node.now) =
     λ i at. sym (path_based c.args.node.now c.node.inside.tree c.node.inside.children.items c.deref.result.now c.node.view_is
-        (level_names_apart c.node.invariant)
+    (level_names_apart c.node.invariant)
     (names_of c.args.path.now) (bstring_bytes c.in-Some.name.now) rest (ap names_of c.in-Some.ensures.cases.0) c.deref.ensures.value
     c.in-Some-child_at.place child (c.in-Some-child_at.ensures {u = tt}) c.index_mut-child.ensures.value at) i in
     stopped_of_same_dirs (λ f p h. CalledAt g.F.FnMut f p.1 (Ok p.0) h) (λ f tree x h. CalledAt g.F.FnMut f tree (Err x) h) (in_path rest (dirs_of child.open))
@@ -122,5 +122,5 @@ returns-clause-bases g t c = MatchResult-weaker c.write_at.result c.write_at.ens
     c.index_mut-child.ensures.value refl c.node.invariant in
     set_moved base_edited editing c.args.node.now c.node.inside.tree cs c.deref.result.now c.node.view_is
     (level_names_apart c.node.invariant) name c.in-Some-child_at.place child _
-        (level_names_apart level) c.deref.ensures.value here c.index_mut-child.ensures.value refl
+    (level_names_apart level) c.deref.ensures.value here c.index_mut-child.ensures.value refl
     bases) (λ _ u. u)

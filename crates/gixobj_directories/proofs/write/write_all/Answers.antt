@@ -52,10 +52,10 @@ returns-in_err-id-clause-error g c =
     let own = c.in_ok-own.own in
     if_err_weaken c.from_residual-in_err-id.result _ _ c.from_residual-in_err-id.ensures.1
     (λ error is. subst (Stopped (λ f p h. CalledAt g.F.FnMut f p.1 (Ok p.0) h) (λ f tree x h. CalledAt g.F.FnMut f tree (Err x) h)
-    (EmitsSome dirs bases) c.args.out.now c.ask.new.out) (sym is)
+    (EmitsSome dirs bases) c.args.out.now c.emit.new.out) (sym is)
     (stopped_after_folds (λ f p h. CalledAt g.F.FnMut f p.1 (Ok p.0) h) (λ f tree x h. CalledAt g.F.FnMut f tree (Err x) h)
     (λ ps. (id : ObjectId) × (ps ≡ (id, own) ∷ [])) (EmitsSome dirs bases)
-    c.args.out.now c.leaves_copied.new.out c.ask.new.out ok.0 ok.5
+    c.args.out.now c.leaves_copied.new.out c.emit.new.out ok.0 ok.5
     (λ qs one. ([], (ok.1, ok.0, one.0, own, ok.2, ap (λ ps. ok.0 ++ ps) (append-nil qs ∙ one.1)))) c.in_err-id.field-0.0
     (c.in_err-id.ensures {u = tt}).error))
 
@@ -68,7 +68,7 @@ returns-clause-ok g c =
     let node = c.args.node.now in
     let all = leaf_trees (inside_of node) in
     let inside : leaf_trees (below (parts c.node.inside.children.items)) ≡ all = ap (λ (ds : Opened). leaf_trees (inside_of ds)) c.node.view_is in
-    let passed : c.ask.new.pairs.items ≡ ok.4.0 = c.ask.ensures.items ∙ ok.4.1 ∙ ap (λ ps. ps ++ ok.4.0) c.new-trees.ensures.items in
+    let passed : c.emit.new.pairs.items ≡ ok.4.0 = c.emit.ensures.items ∙ ok.4.1 ∙ ap (λ ps. ps ++ ok.4.0) c.new-trees.ensures.items in
     let was : leaf_trees (below (parts c.replace-children.result.items)) ≡ all =
     ap (λ (cs : Vec Child Global). leaf_trees (below (parts cs.items))) c.replace-children.ensures.value ∙ inside in
     let taken : reverse c.take_leaf_trees.new.trees.items ≡ all =
@@ -78,7 +78,7 @@ returns-clause-ok g c =
     let fills : Fills ok.4.0 (reverse c.take_leaf_trees.new.trees.items) ok.0 = subst (λ ts. Fills ok.4.0 ts ok.0) (sym taken) ok.4.2 in
     let filled : c.fill.new.pairs ≡ ok.0 =
     c.fill.ensures ok.0 (subst (λ us. Fills us (reverse c.take_leaf_trees.new.trees.items) ok.0) (sym (c.deref_mut.ensures.value ∙ passed)) fills) in
-    let back = with_items_is c.ask.new.pairs c.fill.new.pairs (c.fill.auto.pairs ∙ c.deref_mut.ensures.len) in
+    let back = with_items_is c.emit.new.pairs c.fill.new.pairs (c.fill.auto.pairs ∙ c.deref_mut.ensures.len) in
     let pushed = (rw room at c.push.ensures.items) ∙ ap (λ ps. ps ++ (c.in_ok-id.id, own) ∷ []) (back ∙ filled) in
     let remaining : opened c.become_own.new.tree c.node.inside.base (parts c.replace-children.new.dest.items) ≡ opened own c.node.inside.base [] =
     ap (λ (es : List EntryView). opened es c.node.inside.base (parts c.replace-children.new.dest.items)) c.become_own.ensures
@@ -89,14 +89,14 @@ returns-clause-ok g c =
       own,
       (ok.1, ok.2, ok.3),
       pushed,
-      folds_to_append gave c.args.out.now ok.0 c.leaves_copied.new.out ((c.in_ok-id.id, own) ∷ []) c.ask.new.out ok.5
-          (folds_to_one gave c.leaves_copied.new.out (c.in_ok-id.id, own) c.ask.new.out emitted),
+      folds_to_append gave c.args.out.now ok.0 c.leaves_copied.new.out ((c.in_ok-id.id, own) ∷ []) c.emit.new.out ok.5
+          (folds_to_one gave c.leaves_copied.new.out (c.in_ok-id.id, own) c.emit.new.out emitted),
       (c.in_ok-own.ensures {u = tt}).storable,
       (c.node.inside.base, remaining),
     )
 
-pub ask-requires-clause-callable : goal.ask-requires-clause-callable
-ask-requires-clause-callable g c = let ok = (c.in_ok-own.ensures {u = tt}).ok in
+pub emit-requires-clause-callable : goal.emit-requires-clause-callable
+emit-requires-clause-callable g c = let ok = (c.in_ok-own.ensures {u = tt}).ok in
     callable_after_folds _ (λ f p h. CalledAt g.F.FnMut f p.1 (Ok p.0) h) c.args.out.now
     ok.0 c.leaves_copied.new.out ok.5 c.requires
 

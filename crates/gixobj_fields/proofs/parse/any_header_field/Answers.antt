@@ -20,7 +20,7 @@ pub returns-in_err-value-in-Some-after_space-clause-error :
 returns-in_err-value-in-Some-after_space-clause-error c =
     let from = err_from_is_err_and c.from_residual.result c.from_residual.ensures.1 in
     rw from.1 (header_error_of_lines c.args.input.now c.in-Some.name.now c.in-Some.following.now c.in-Some-split_at_byte.first.now
-        c.in-Some-split_at_byte.after.now
+    c.in-Some-split_at_byte.after.now
     c.in-Some-after_space.field-0.now from.0 c.in_err-value-in-Some-after_space.field-0.0 from.2 c.in-Some.ensures.found c.if-not-is_header_name.ensures
     c.in-Some-split_at_byte.ensures.found c.in-Some-after_space.ensures c.in_err-value-in-Some-after_space.ensures.error)
 

@@ -21,7 +21,7 @@ pub returns-in_err-count-clause-error : goal.returns-in_err-count-clause-error
 returns-in_err-count-clause-error g c =
     let p = err_from_is_err_and c.from_residual.result c.from_residual.ensures.1 in
     rw (p.1, p.2) (stream_error_after_piece _ _ _ _ _ _ _ _ _ _ c.loop-missing.invariant.digesting c.loop-missing.invariant.lasting
-        (c.in_err-count.ensures).error)
+    (c.in_err-count.ensures).error)
 
 pub returns-clause-read : goal.returns-clause-read
 returns-clause-read g c = digesting_complete _ _ _ _ _ _ c.loop-missing.invariant.digesting c.loop-missing-test.false

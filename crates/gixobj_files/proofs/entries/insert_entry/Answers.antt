@@ -35,5 +35,5 @@ returns-in-Err c =
     let ok : is_ok c.insert.result ≡ true = c.insert.ensures.succeeds (omega (arith, c.requires.has_capacity)) in
     record {
       items = (rw ok at c.insert.ensures.items) ∙ insert_eq_with_entry c.args.entry c.args.entries.now.items _ _ _ c.requires.well_formed.ascending
-          c.place_among_others-place.ensures.items refl c.place_among_others-place.ensures.position;
+          c.position_among_others-place.ensures.items refl c.position_among_others-place.ensures.position;
     }

@@ -21,5 +21,5 @@ returns-then-is_gt c =
 pub returns : goal.returns
 returns c =
     c.ok.ensures.value
-    ∙ second c.args.entries.now c.requires.well_formed c.args.name.now c.place_by_key.result c.requires.no_file c.place_by_key.ensures.found
-    c.place_by_key.ensures.none
+    ∙ second c.args.entries.now c.requires.well_formed c.args.name.now c.position_by_key.result c.requires.no_file c.position_by_key.ensures.found
+    c.position_by_key.ensures.none

@@ -33,5 +33,5 @@ returns-then-is_lt c =
 pub returns : goal.returns
 returns c =
     c.ok.ensures.value
-    ∙ first_of_two c.args.entries.now c.requires.well_formed c.args.name.now c.place_by_key.result c.requires.no_directory c.place_by_key.ensures.found
-    c.place_by_key.ensures.none
+    ∙ first_of_two c.args.entries.now c.requires.well_formed c.args.name.now c.position_by_key.result c.requires.no_directory c.position_by_key.ensures.found
+    c.position_by_key.ensures.none

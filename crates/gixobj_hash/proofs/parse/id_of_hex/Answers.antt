@@ -1,5 +1,5 @@
 use Rattle.std.proofs.Common.{rules}
 use Rattle.gixobj_hash.proofs.parse.id_of_hex.Goals as goal
 
-pub returns-clause-spelled : goal.returns-clause-spelled
-returns-clause-spelled c = search rules
+pub returns-clause-decodes : goal.returns-clause-decodes
+returns-clause-decodes c = search rules

@@ -12,7 +12,7 @@ returns-in_default-kind_of_name-clause-none c = no_kind_of_token c.args.hash c.a
 pub returns-in_default-split_at_byte-clause-none : goal.returns-in_default-split_at_byte-clause-none
 returns-in_default-split_at_byte-clause-none c =
     no_second_space_in_entry c.args.hash c.args.entry.now c.in-Some.token.now c.in-Some.after.now c.in-Some.ensures.found
-        c.in_default-split_at_byte.ensures.none
+    c.in_default-split_at_byte.ensures.none
 
 pub returns-in_default-id_of_kind-clause-none : goal.returns-in_default-id_of_kind-clause-none
 returns-in_default-id_of_kind-clause-none c =

@@ -11,7 +11,7 @@ ghost use Rattle.gixobj_signature.specs.VerifyingCalls.{open_pgp_call, open_pgp_
 ghost use Rattle.gixobj_signature.specs.Plans.{AllocatesForCalls};
 ghost use Rattle.gixobj_signature.specs.Verifying.{IsOutcomeOf, gpg_verified, gpg_verify_plan, reported, verify_plan, verify_view};
 
-use super::{Error, Program, ask_one};
+use super::{Error, Program, run_call};
 use crate::signature::words::Piece::{File, Text};
 use crate::signature::words::{environment_of, words_with};
 use crate::signature::{Call, Output, Runner, SignedData, Word};
@@ -80,7 +80,7 @@ fn by_open_pgp_call<R: Runner>(
         result runner.new }
 {
     let call = open_pgp_call_of(alloc, by, signature, signed)?;
-    let output = ask_one(&call, runner)?;
+    let output = run_call(&call, runner)?;
     Ok(outcome_of(alloc, Format::OpenPgp, by, output)?)
 }
 
@@ -97,7 +97,7 @@ fn by_x509_call<R: Runner>(
         runner.new }
 {
     let call = x509_call_of(alloc, by, signature, signed)?;
-    let output = ask_one(&call, runner)?;
+    let output = run_call(&call, runner)?;
     Ok(outcome_of(alloc, Format::X509, by, output)?)
 }
 

@@ -14,7 +14,7 @@ ghost use Rattle.gixobj_hash.specs.ByteStrings.{is_filled};
 
 mod calls;
 
-use super::{Error, SshProgram, ask_one};
+use super::{Error, SshProgram, run_call};
 use crate::signature::{Output, Runner, SignedData};
 use bstr::{BString, ByteSlice};
 use calls::{novalidate_call_of, principal_call_of, principals_call_of};
@@ -57,7 +57,7 @@ fn verify_ssh<R: Runner>(
     ensures { IsOutcomeOf R.runs (ssh_verify_plan (ssh_program_of by.now) (ssh_of by.now) signature.now
         (signed_bytes signed.now)) runner.old result runner.new }
 {
-    let found = ask_principals(alloc, by, signature, runner)?;
+    let found = find_principals(alloc, by, signature, runner)?;
     if !found.success {
         return try_each(alloc, by, &[], signature, signed, runner);
     }
@@ -66,7 +66,7 @@ fn verify_ssh<R: Runner>(
 }
 
 /// Lists the principals of the key.
-fn ask_principals<R: Runner>(
+fn find_principals<R: Runner>(
     alloc: Global,
     by: &SshProgram,
     signature: &[u8],
@@ -76,7 +76,7 @@ fn ask_principals<R: Runner>(
         runner.old result runner.new }
 {
     let call = principals_call_of(alloc, by, signature)?;
-    ask_one(&call, runner)
+    run_call(&call, runner)
 }
 
 /// Verifies for each principal in turn, until one is accepted.
@@ -94,7 +94,7 @@ fn try_each<R: Runner>(
 {
     let mut last: Option<Output> = None;
     for principal in principals {
-        let output = ask_for(alloc, by, principal, signature, signed, runner)?;
+        let output = verify_principal(alloc, by, principal, signature, signed, runner)?;
         if is_accepted(&output) {
             return Ok(accepted_by(alloc, by, principal, output)?);
         }
@@ -104,7 +104,7 @@ fn try_each<R: Runner>(
 }
 
 /// Verifies for one principal.
-fn ask_for<R: Runner>(
+fn verify_principal<R: Runner>(
     alloc: Global,
     by: &SshProgram,
     principal: &BString,
@@ -116,7 +116,7 @@ fn ask_for<R: Runner>(
         (signed_bytes signed.now) (bstring_bytes principal.now)) runner.old result runner.new }
 {
     let call = principal_call_of(alloc, by, principal.as_bytes(), signature, signed)?;
-    ask_one(&call, runner)
+    run_call(&call, runner)
 }
 
 /// Makes the outcome of a call that accepted this principal, who is the signer.
@@ -150,7 +150,7 @@ fn end_with<R: Runner>(
     if let Some(output) = last {
         return Ok(rejected_by(alloc, by, output)?);
     }
-    let output = ask_without(alloc, by, signature, signed, runner)?;
+    let output = check_novalidate(alloc, by, signature, signed, runner)?;
     Ok(outcome_of(alloc, by, false, TrustLevel::Undefined, None, output)?)
 }
 
@@ -165,7 +165,7 @@ fn rejected_by(alloc: Global, by: &SshProgram, output: Output) -> Result<Outcome
 }
 
 /// Checks the signature for any key.
-fn ask_without<R: Runner>(
+fn check_novalidate<R: Runner>(
     alloc: Global,
     by: &SshProgram,
     signature: &[u8],
@@ -176,7 +176,7 @@ fn ask_without<R: Runner>(
         (signed_bytes signed.now)) runner.old result runner.new }
 {
     let call = novalidate_call_of(alloc, by, signature, signed)?;
-    ask_one(&call, runner)
+    run_call(&call, runner)
 }
 
 /// Whether a call for a principal accepted it.

@@ -42,7 +42,7 @@ impl<'a> TreeRef<'a> {
         let _ = entries.reserve(likely_entries(bytes, hash_kind));
         let mut rest = bytes;
         while !rest.is_empty() {
-            let Some((entry, following)) = read_entry(rest, hash_kind) else {
+            let Some((entry, following)) = decode_entry(rest, hash_kind) else {
                 return Err(Error::Malformed);
             };
             entries.push(entry)?;
@@ -65,7 +65,7 @@ fn likely_entries(bytes: &[u8], hash_kind: Kind) -> usize
 /// Returns `None` if the input does not begin with an entry. Allocates nothing.
 #[inline(always)]
 #[tactic(auto, using(crate::proofs::OneEntry::entry_rest_len_lt))]
-pub fn read_entry(input: &[u8], hash_kind: Kind) -> Option<(EntryRef<'_>, &[u8])>
+pub fn decode_entry(input: &[u8], hash_kind: Kind) -> Option<(EntryRef<'_>, &[u8])>
     ensures found { IfSome result (λ it.
         BeginsWithEntry hash_kind input.now (entry_view it.0) it.1.now) }
     ensures none { IfNone result (BeginsWithNoEntry hash_kind input.now) }
@@ -80,7 +80,7 @@ pub fn read_entry(input: &[u8], hash_kind: Kind) -> Option<(EntryRef<'_>, &[u8])
     let Some((name, from_id)) = split_at_zero(from_name) else {
         return None;
     };
-    let Some((oid, rest)) = read_id(from_id, hash_kind) else {
+    let Some((oid, rest)) = decode_id(from_id, hash_kind) else {
         return None;
     };
     let filename = BStr::new(name);
@@ -128,7 +128,7 @@ fn near_zero(input: &[u8]) -> Option<usize>
 
 /// Decodes the id of this kind at the beginning of the input, or returns `None` if fewer bytes remain.
 #[inline(always)]
-fn read_id(input: &[u8], hash_kind: Kind) -> Option<(oid<'_>, &[u8])>
+fn decode_id(input: &[u8], hash_kind: Kind) -> Option<(oid<'_>, &[u8])>
     ensures found { IfSome result (λ it.
         BeginsWithId hash_kind input.now (borrowed_id it.0) it.1.now) }
     ensures none { IfNone result (length input.now < hash_len hash_kind) }

@@ -9,7 +9,7 @@ returns-then-eq c =
     let less : c.loop-at.at-index < length c.args.self.now.objects.now = search rules in
     let same : (slice_index_or c.args.self.now.objects.now c.loop-at.at-index no_pair).0 ≡ c.args.id = search rules in
     listed_objects_head c.object_map_insert.ensures.there c.args.self.now.objects.now c.loop-at.at-index c.args.id
-        (named (shelf_objects c.args.self.now) c.args.id) less
+    (named (shelf_objects c.args.self.now) c.args.id) less
     same c.loop-at.invariant
 
 pub loop-at-preserved : goal.loop-at-preserved
@@ -17,5 +17,5 @@ loop-at-preserved c =
     let less : c.loop-at.at-index < length c.args.self.now.objects.now = search rules in
     let other : (slice_index_or c.args.self.now.objects.now c.loop-at.at-index no_pair).0 ≢ c.args.id = search rules in
     listed_objects_tail c.object_map_insert.ensures.elsewhere c.args.self.now.objects.now c.loop-at.at-index c.args.id
-        (named (shelf_objects c.args.self.now) c.args.id)
+    (named (shelf_objects c.args.self.now) c.args.id)
     less other c.loop-at.invariant

@@ -20,7 +20,7 @@ returns-in_err-add_line-clause-error c =
     let from = err_from_is_err_and c.from_residual-in_err-add_line.result c.from_residual-in_err-add_line.ensures.1 in
     rw (from.1, from.2, c.in_err-add_line.ensures.error.0)
     (reaches_second_parent_or_header c.args.hash_kind c.args.bytes.now (commit_lines c.loop-state.commit) c.loop-state.state c.in_ok-line.following
-        c.loop-state.rest.now
+    c.loop-state.rest.now
     c.in_ok-line.after.now (line_view c.in_ok-line.line)
     c.loop-state.invariant.0 c.in_ok-line.ensures.found c.in_err-add_line.ensures.error.1)
 
@@ -41,7 +41,7 @@ pub returns-clause-found : goal.returns-clause-found
 returns-clause-found c =
     let at_end : c.loop-state.state ≡ state.End = search rules in
     decodes_commit_of_gathered c.args.hash_kind c.args.bytes.now c.loop-state.state c.loop-state.rest.now
-        (commit_lines c.loop-state.commit) c.loop-state.invariant.0 at_end
+    (commit_lines c.loop-state.commit) c.loop-state.invariant.0 at_end
 
 pub returns-clause-has_ids : goal.returns-clause-has_ids
 returns-clause-has_ids c =

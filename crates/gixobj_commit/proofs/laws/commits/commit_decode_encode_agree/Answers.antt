@@ -13,6 +13,6 @@ returns-in-Ok-clause-same_bytes c = λ kind content it tree parents.
 pub returns-in-Err-clause-error : goal.returns-in-Err-clause-error
 returns-in-Err-clause-error c = λ kind content it some.
     fails_as_sink_of_error (IsCommitLinesError (in_lower_case (commit_lines c.args.commit.now))) _ _
-        (encode_commit (in_lower_case (commit_lines c.args.commit.now)))
+    (encode_commit (in_lower_case (commit_lines c.args.commit.now)))
     c.in-Err.error
     (decoded_commit_rejects_nothing kind content (commit_lines c.args.commit.now) it some) c.in-Err.ensures.error

@@ -2,8 +2,8 @@ use Rattle.gixobj_commit.proofs.MergetagsFound.{all_passed, all_listed}
 use Rattle.gixobj_commit.specs.RemainingHeaders.{remaining_headers}
 use Rattle.gixobj_commit.proofs.laws.headers.borrowed_mergetag_search_complete.Goals as goal
 
-pub returns-clause-received : goal.returns-clause-received
-returns-clause-received c = all_passed remaining_headers
+pub returns-clause-yielded : goal.returns-clause-yielded
+returns-clause-yielded c = all_passed remaining_headers
 
 pub returns-clause-listed : goal.returns-clause-listed
 returns-clause-listed c = all_listed remaining_headers

@@ -22,7 +22,7 @@ returns-in_default-child_at-clause-none t c =
 pub returns-clause-found : goal.returns-clause-found
 returns-clause-found t c = IfSome_then c.directory.result c.directory.ensures.found (λ it same at.
     same at ∙ sym (path_down c.args.self.now c.self.inside.tree c.self.inside.children.items c.deref.result.now c.self.view_is
-        (level_names_apart c.self.invariant)
+    (level_names_apart c.self.invariant)
     (names_of c.args.path.now) (bstring_bytes c.in-Some.name.now) (names_of c.in-Some.rest.now)
     (ap names_of c.in-Some.ensures.cases.0) c.deref.ensures.value
     c.in-Some-child_at.place c.index-child.result.now (c.in-Some-child_at.ensures {u = tt}) c.index-child.ensures at))

@@ -43,7 +43,7 @@ returns-in_default-child_at-clause-ok t c =
     let path : names_of c.args.path.now ≡ name ∷ names_of c.in-Some.rest.now = ap names_of c.in-Some.ensures.cases.0 in
     let others = all_names_differ name cs c.deref.result.now c.deref.ensures.value (c.in_default-child_at.ensures {u = tt}) in
     let level = is_level_with_directory name c.args.null c.ensure_directory.new.self c.self.inside.tree (parts cs)
-        (subst (AllByRecursion IsEntryName) path c.requires).0
+    (subst (AllByRecursion IsEntryName) path c.requires).0
     others c.self.invariant in
     let none : in_part name (parts cs) ≡ (λ _. None) = λ i at. in_part_none name cs c.deref.result.now c.deref.ensures.value
     (c.in_default-child_at.ensures {u = tt}) at i in
@@ -65,11 +65,11 @@ returns-clause-ok t c = MatchResult-weaker c.ensure_directory-2.result c.ensure_
     let level = is_level_set c.self.inside.tree cs c.in-Some-child_at.place child (record { name = child.name; «open» = c.ensure_directory-2.new.self })
     c.index_mut-child.ensures.value refl c.self.invariant in
     let was : in_part name (parts cs) ≡ dirs_of child.open = λ i at. in_part_of_child name cs c.deref.result.now c.in-Some-child_at.place child
-        c.deref.ensures.value here
+    c.deref.ensures.value here
     c.index_mut-child.ensures.value at i in
     rw path
     (ensured_deeper c.args.self.now c.self.inside.tree c.self.inside.tree (parts cs) _ c.self.view_is (level_names_apart c.self.invariant)
-        (level_names_apart level) name
+    (level_names_apart level) name
     (dirs_of c.ensure_directory-2.new.self)
     (becomes_of_set name cs c.deref.result.now c.in-Some-child_at.place child _ c.deref.ensures.value here c.index_mut-child.ensures.value refl)
     (names_of c.in-Some.rest.now) c.args.null
@@ -108,7 +108,7 @@ returns-in_default-child_at-clause-bases t c =
     let path : names_of c.args.path.now ≡ name ∷ names_of c.in-Some.rest.now = ap names_of c.in-Some.ensures.cases.0 in
     let others = all_names_differ name cs c.deref.result.now c.deref.ensures.value (c.in_default-child_at.ensures {u = tt}) in
     let level = is_level_with_directory name c.args.null c.ensure_directory.new.self c.self.inside.tree (parts cs)
-        (subst (AllByRecursion IsEntryName) path c.requires).0
+    (subst (AllByRecursion IsEntryName) path c.requires).0
     others c.self.invariant in
     let inner = c.in_ok-ensure_directory.ensures.bases in
     rw (c.in_ok-add_directory.ensures.ok.0, c.in_ok-add_directory.ensures.ok.1)
@@ -127,5 +127,5 @@ returns-clause-bases t c = MatchResult-weaker c.ensure_directory-2.result c.ensu
     c.index_mut-child.ensures.value refl c.self.invariant in
     set_moved base_edited editing c.args.self.now c.self.inside.tree cs c.deref.result.now c.self.view_is
     (level_names_apart c.self.invariant) name c.in-Some-child_at.place child _
-        (level_names_apart level) c.deref.ensures.value here c.index_mut-child.ensures.value refl
+    (level_names_apart level) c.deref.ensures.value here c.index_mut-child.ensures.value refl
     bases) (λ _ u. u)

@@ -11,7 +11,7 @@ pub returns-in_default-child_at : goal.returns-in_default-child_at
 returns-in_default-child_at t c =
     let m = more_names_remain c.args.path.now c.in-Some.name.now c.in-Some.rest.now c.in-Some.ensures.cases.0 (c.if-is_empty.ensures {u = tt}) in
     rw m.path_is (sym (entry_at_below c.args.self.now c.self.inside.tree (parts c.self.inside.children.items) c.self.view_is
-        (level_names_apart c.self.invariant)
+    (level_names_apart c.self.invariant)
     (bstring_bytes c.in-Some.name.now) m.next m.after (λ _. None)
     (in_part_none (bstring_bytes c.in-Some.name.now) c.self.inside.children.items c.deref.result.now c.deref.ensures.value
     (c.in_default-child_at.ensures {u = tt})) ∙ entry_at_none (m.next ∷ m.after)))

@@ -56,7 +56,7 @@ returns-in-Some-child_at-clause-stopped_opening g t c = MatchResult-weaker c.ope
       below.1,
       down_in (OpensAs (EndsBefore c.args.not_looked_up) trees) (HaltsAt (EndsBefore c.args.not_looked_up) trees below.1)
           (halts_at_goes_down (EndsBefore c.args.not_looked_up) trees below.1)
-              (halts_at_goes_in (EndsBefore c.args.not_looked_up) trees below.1) c.self.inside.tree
+          (halts_at_goes_in (EndsBefore c.args.not_looked_up) trees below.1) c.self.inside.tree
           c.args.self.now (names_of c.args.path.now) (bstring_bytes c.in-Some.name.now) (names_of c.in-Some.rest.now)
           (ap names_of c.in-Some.ensures.cases.0)
           c.self.inside.children.items c.deref.result.now c.self.view_is c.self.invariant c.in-Some-child_at.place c.index_mut-child.result.now
@@ -172,7 +172,7 @@ returns-clause-stopped_opening g t c = MatchResult-weaker c.open_along-opened.re
       below.1,
       found_in (OpensAs (EndsBefore c.args.not_looked_up) trees) (HaltsAt (EndsBefore c.args.not_looked_up) trees below.1)
           (halts_at_goes_down (EndsBefore c.args.not_looked_up) trees below.1)
-              (halts_at_goes_in (EndsBefore c.args.not_looked_up) trees below.1) c.self.inside.tree
+          (halts_at_goes_in (EndsBefore c.args.not_looked_up) trees below.1) c.self.inside.tree
           c.args.self.now (names_of c.args.path.now) name (names_of c.in-Some.rest.now) (ap names_of c.in-Some.ensures.cases.0)
           cs c.self.view_is c.self.invariant (all_names_differ name cs c.deref.result.now c.deref.ensures.value (c.in_default-child_at.ensures {u = tt}))
           (in_part_none name cs c.deref.result.now c.deref.ensures.value (c.in_default-child_at.ensures {u = tt}))

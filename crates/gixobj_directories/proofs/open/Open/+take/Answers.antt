@@ -25,7 +25,7 @@ returns-then-is_empty-clause-dirs t c =
       c.drop_child.ensures,
     )
     (taken_last c.args.self.now c.self.inside.tree (without name c.self.inside.tree) ps (other_parts name ps) c.self.view_is
-        (level_names_apart c.self.invariant)
+    (level_names_apart c.self.invariant)
     (level_names_apart level) name (λ _. None) (becomes_of_removal name ps) refl (λ _. refl))
 
 pub invariant_of-self-in-Some-child_at : goal.invariant_of-self-in-Some-child_at
@@ -44,7 +44,7 @@ returns-in-Some-child_at-clause-dirs t c =
     (c.in-Some-child_at.ensures {u = tt}) c.index_mut-child.ensures.value path i in
     rw m.path_is
     (taken_deeper c.args.self.now c.self.inside.tree c.self.inside.tree (parts cs) _ c.self.view_is (level_names_apart c.self.invariant)
-        (level_names_apart level) name
+    (level_names_apart level) name
     (dirs_of c.take.new.self)
     (becomes_of_set name cs c.deref.result.now c.in-Some-child_at.place c.index_mut-child.result.now _ c.deref.ensures.value
     (c.in-Some-child_at.ensures {u = tt}) c.index_mut-child.ensures.value refl)
@@ -70,7 +70,7 @@ returns-then-is_empty-clause-bases t c =
     let ps = parts c.self.inside.children.items in
     let level = is_level_without name c.self.inside.tree ps c.self.invariant in
     rw (c.take_entry.ensures, c.drop_child.ensures) (base_edited_of_dropped c.args.self.now c.self.inside.tree
-        (without name c.self.inside.tree) ps c.self.view_is
+    (without name c.self.inside.tree) ps c.self.view_is
     (level_names_apart c.self.invariant) name (level_names_apart level))
 
 pub returns-in-Some-child_at-clause-bases : goal.returns-in-Some-child_at-clause-bases

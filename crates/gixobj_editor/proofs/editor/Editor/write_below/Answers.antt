@@ -37,7 +37,7 @@ returns-clause-written g c = if_ok_and c.write_at.result _ _ _ c.write_at.ensure
     written_at s.store s.object_hash (names_of s.prefix.items) (λ f p h. CalledAt g.F.FnMut f p.1 (Ok p.0) h) s.root c.write_at.new.node s.lookups
     c.args.self.now c.self.view_is c.self.invariant
     (prefix_is_open s.store s.object_hash (names_of s.prefix.items) s.root s.lookups c.args.self.now c.self.view_is c.requires.is_open) it ok.0 ok.1
-        c.args.out.now
+    c.args.out.now
     c.write_at.new.out
     (subst (λ (p : Path). Saves (in_path p (dirs_of s.root)) (in_path p (bases_of s.root)) ok.0 ok.1 it.saved) at ok.2) ok.3 ok.4 ok.5
     (λ place. ok.6 place ∙ ap (λ (p : Path). with_path p (only ok.1) (dirs_of s.root) place) at) edited)

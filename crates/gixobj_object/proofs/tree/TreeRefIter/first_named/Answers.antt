@@ -8,14 +8,14 @@ pub returns-in-Ok-clause-found : goal.returns-in-Ok-clause-found
 returns-in-Ok-clause-found c =
     let is : IsNamed c.args.name.now (entry_view c.in-Ok.entry) = search rules in
     has_first_named_of_search c.args.name.now c.args.self c.loop-item.item-iterator c.next.new.self c.in-Some.item c.in-Ok.entry c.loop-item.invariant
-        c.in-Some.ensures.steps
+    c.in-Some.ensures.steps
     c.in-Ok.is is
 
 pub loop-item-preserved : goal.loop-item-preserved
 loop-item-preserved c =
     let other : ¬ IsNamed c.args.name.now (entry_view c.in-Ok.entry) = search rules in
     searches_snoc c.args.name.now c.args.self c.loop-item.item-iterator c.next.new.self c.in-Some.item c.in-Ok.entry c.loop-item.invariant
-        c.in-Some.ensures.steps
+    c.in-Some.ensures.steps
     c.in-Ok.is other
 
 pub returns-in-Err-clause-none : goal.returns-in-Err-clause-none

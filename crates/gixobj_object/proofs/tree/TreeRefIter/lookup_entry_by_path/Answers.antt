@@ -43,7 +43,7 @@ loop-tree-init g c =
     let rest = c.next_entry_in_bytes.new.path.now in
     let in_list = is_step_of_path_names (stored c.new-tree.result) path rest (Continue c.in-Continue.id) (c.in-Continue.ensures.step c.new-tree.ensures.kind) in
     let step = is_step_of_reader c.new-tree.result c.args.self.now (path_names path)
-        (Continue c.in-Continue.id) c.new-tree.ensures.content c.new-tree.ensures.kind
+    (Continue c.in-Continue.id) c.new-tree.ensures.content c.new-tree.ensures.kind
     c.new-tree.ensures.object_hash (λ is_tree. in_list.0) in
     follows_nil (g.S.Store.objects c.args.store.now) (remaining_tree c.args.self.now) (path_names path) (path_names rest) c.in-Continue.id refl step in_list.1
 
@@ -62,7 +62,7 @@ loop-tree-preserved g c =
     let there = named_stored (g.S.Store.objects c.args.store.now) _ c.loop-tree.id c.in_ok-tree.field-0 c.in-Some.tree c.in_ok-tree.ensures.found
     c.as_oid.ensures c.in-Some.is in
     let is_tree = kind_is_tree_of_step c.in-Some.tree c.in-Continue-next_entry_in_bytes.next
-        (λ other. (c.in-Continue-next_entry_in_bytes.ensures.no_tree other).0) in
+    (λ other. (c.in-Continue-next_entry_in_bytes.ensures.no_tree other).0) in
     let in_list = is_step_of_path_names (stored c.in-Some.tree) before after (Continue c.in-Continue-next_entry_in_bytes.next)
     (c.in-Continue-next_entry_in_bytes.ensures.step is_tree) in
     follows_snoc (g.S.Store.objects c.args.store.now) (Some (remaining_tree c.args.self.now)) (path_names c.args.path.now) (path_names before)
@@ -74,7 +74,7 @@ loop-tree-smaller g c =
     let before = c.loop-tree.rest.now in
     let after = c.next_entry_in_bytes-in-loop-tree.new.path.now in
     let is_tree = kind_is_tree_of_step c.in-Some.tree c.in-Continue-next_entry_in_bytes.next
-        (λ other. (c.in-Continue-next_entry_in_bytes.ensures.no_tree other).0) in
+    (λ other. (c.in-Continue-next_entry_in_bytes.ensures.no_tree other).0) in
     let in_list = is_step_of_path_names (stored c.in-Some.tree) before after (Continue c.in-Continue-next_entry_in_bytes.next)
     (c.in-Continue-next_entry_in_bytes.ensures.step is_tree) in
     path_names_len_lt before after c.loop-tree.invariant.more in_list.1
@@ -89,7 +89,7 @@ returns-in-Break-next_entry_in_bytes-clause-found g c =
     (path_names before) c.loop-tree.id c.in-Some.tree c.in-Break-next_entry_in_bytes.found c.loop-tree.invariant there
     (λ other. (c.in-Break-next_entry_in_bytes.ensures.no_tree other).0)
     (λ is_tree. (is_step_of_path_names (stored c.in-Some.tree) before c.next_entry_in_bytes-in-loop-tree.new.path.now
-        (Break c.in-Break-next_entry_in_bytes.found)
+    (Break c.in-Break-next_entry_in_bytes.found)
     (c.in-Break-next_entry_in_bytes.ensures.step is_tree)).0) in (
       path_names path,
       are_names_of_path path,

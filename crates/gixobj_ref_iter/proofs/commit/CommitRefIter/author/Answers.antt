@@ -8,7 +8,7 @@ pub returns-in_err-token-clause-error : goal.returns-in_err-token-clause-error
 returns-in_err-token-clause-error c =
     let from = err_from_is_err_and c.from_residual.result c.from_residual.ensures.1 in
     rw from.1 (ends_search_at_required_error IsAuthorToken c.args.self c.loop-item.item-iterator c.next.new.self c.in-Some.item from.0
-        c.in_err-token.field-0.0 from.2
+    c.in_err-token.field-0.0 from.2
     c.loop-item.invariant c.in-Some.ensures.steps c.in_err-token.was)
 
 pub loop-item-preserved-in_default : goal.loop-item-preserved-in_default

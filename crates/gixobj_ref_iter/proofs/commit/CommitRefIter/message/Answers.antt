@@ -8,7 +8,7 @@ pub returns-in_err-token-clause-error : goal.returns-in_err-token-clause-error
 returns-in_err-token-clause-error c =
     let from = err_from_is_err_and c.from_residual.result c.from_residual.ensures.1 in
     rw from.1 (ends_search_at_optional_error IsMessageToken c.args.self c.loop-answer.answer-iterator c.next.new.self c.in-Some.answer from.0
-        c.in_err-token.field-0.0 from.2
+    c.in_err-token.field-0.0 from.2
     c.loop-answer.invariant c.in-Some.ensures.steps c.in_err-token.was)
 
 pub loop-answer-preserved-in_default : goal.loop-answer-preserved-in_default

@@ -29,8 +29,13 @@ returns-then-has_invalid_byte c =
 
 pub returns-then-has_bad_slash : goal.returns-then-has_bad_slash
 returns-then-has_bad_slash c =
-    is_first_fault c.args.name.now fault.BadSlash (search rules, (search rules,
-        (search rules, (search rules, (search rules, (search rules, (search rules, tt)))))))
+    is_first_fault c.args.name.now fault.BadSlash (
+      search rules,
+      (
+        search rules,
+        (search rules, (search rules, (search rules, (search rules, (search rules, tt))))),
+      ),
+    )
     (c.has_bad_slash.ensures.0 c.if-has_bad_slash.true)
 
 pub returns-then-has_dot_end : goal.returns-then-has_dot_end

@@ -23,7 +23,7 @@ pub returns-in_err-message-clause-none : goal.returns-in_err-message-clause-none
 returns-in_err-message-clause-none c =
     rw c.from_residual-in_err-message.ensures
     (malformed_without_body c.args.hash_kind c.args.bytes.now _ c.in_ok-target.rest.now _ c.in_ok-target_kind.rest.now _ c.in_ok-name.rest.now _
-        c.in_ok-tagger.rest.now
+    c.in_ok-tagger.rest.now
     c.in_ok-target.ensures.found
     c.in_ok-target_kind.ensures.found c.in_ok-name.ensures.found c.in_ok-tagger.ensures.found c.in_err-message.ensures.none)
 

@@ -29,7 +29,7 @@ returns-in_err-write_name-clause-error g c =
     (IsTagPartsError prefix (bstr_bytes c.args.name) (g.A.Tagger.rejects c.args.tagger.now)) _ _ _ prefix name ((prefix ++ name) ++ tagger)
     c.in_ok-write_target.ensures.appended (parts_error_of_name prefix (bstr_bytes c.args.name) (g.A.Tagger.rejects c.args.tagger.now))
     (λ part. appends_prefix_first _ _ (prefix ++ name) tagger (appends_prefix_append _ _ _ prefix name c.in_ok-write_target.ensures.appended part))
-        c.in_err-write_name.field-0.0
+    c.in_err-write_name.field-0.0
     c.in_err-write_name.ensures.error)
 
 pub returns-clause-written : goal.returns-clause-written
@@ -58,5 +58,5 @@ returns-clause-error g c =
     (writing_error_append (g.A.Tagger.rejects c.args.tagger.now) (IsTagPartsError prefix (bstr_bytes c.args.name) (g.A.Tagger.rejects c.args.tagger.now)) _ _ _
     (prefix ++ name) tagger ((prefix ++ name) ++ tagger)
     before (λ value parts. parts_error_of_tagger prefix (bstr_bytes c.args.name)
-        (g.A.Tagger.rejects c.args.tagger.now) value parts c.in_ok-write_name.ensures.valid)
+    (g.A.Tagger.rejects c.args.tagger.now) value parts c.in_ok-write_name.ensures.valid)
     (appends_prefix_append _ _ _ (prefix ++ name) tagger before)) c.write_tagger.ensures.error

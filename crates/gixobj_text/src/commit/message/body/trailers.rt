@@ -128,7 +128,7 @@ impl<'a> Iterator for Trailers<'a> {
             self.cursor = b"";
             return None;
         };
-        match read_trailer(self.alloc, token, first, rest) {
+        match parse_trailer(self.alloc, token, first, rest) {
             Ok(trailer) => {
                 self.cursor = after_folded(rest);
                 Some(Ok(trailer))
@@ -203,7 +203,7 @@ fn begins_folded(bytes: &[u8]) -> bool
 
 /// Decodes a trailer from its token, the bytes after its colon, and the lines after that.
 #[tactic(auto, using(crate::proofs::Reading::with_folded_eq_unfolded, crate::proofs::Reading::unfolded_eq_trimmed))]
-fn read_trailer<'a>(
+fn parse_trailer<'a>(
     alloc: Global,
     token: &'a [u8],
     first: &'a [u8],

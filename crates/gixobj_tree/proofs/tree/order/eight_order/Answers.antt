@@ -9,5 +9,5 @@ pub returns : goal.returns
 returns c =
     let numbers : c.cmp.result ≡ nat_cmp (from_be_bytes w64 (take 8 c.args.left.now)) (from_be_bytes w64 (take 8 c.args.right.now)) = search rules in
     numbers ∙ nat_cmp_of_eight_bytes c.args.left.now c.args.right.now (λ k. omega (arith, c.type_inv.left k))
-        (λ k. omega (arith, c.type_inv.right k)) c.requires.left
+    (λ k. omega (arith, c.type_inv.right k)) c.requires.left
     c.requires.right

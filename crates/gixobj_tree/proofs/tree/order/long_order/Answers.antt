@@ -8,7 +8,7 @@ returns-then-is_ne c =
     let part = c.eight_order-part.ensures ∙ slice_cmp_next_block 8 c.loop-at.at c.args.left.now c.args.right.now in
     part
     ∙ slice_cmp_drop_take c.loop-at.at 8 c.args.left.now c.args.right.now (omega (arith, c.loop-at-test.true))
-        (omega (arith, c.loop-at-test.true, c.requires.same_length))
+    (omega (arith, c.loop-at-test.true, c.requires.same_length))
     c.loop-at.invariant (λ tie. not_equal_of_test c.eight_order-part.result (c.if-is_ne.ensures {u = tt}) (part ∙ tie))
 
 pub loop-at-preserved : goal.loop-at-preserved

@@ -14,7 +14,7 @@ returns-then-is_ne-clause-rule c =
 pub returns-then-is_ne-clause-by_keys : goal.returns-then-is_ne-clause-by_keys
 returns-then-is_ne-clause-by_keys c =
     λ left_is_name right_is_name. returns-then-is_ne-clause-rule c ∙ name_cmp_eq_key_cmp c.args.left.now c.args.left_is_tree c.args.right.now
-        c.args.right_is_tree
+    c.args.right_is_tree
     left_is_name right_is_name
 
 pub returns-clause-by_keys : goal.returns-clause-by_keys

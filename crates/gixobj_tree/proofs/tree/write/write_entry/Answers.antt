@@ -16,7 +16,7 @@ pub returns-in_err-name-clause-error : goal.returns-in_err-name-clause-error
 returns-in_err-name-clause-error g c =
     let p = err_from_is_err_and c.from_residual-in_err-name.result c.from_residual-in_err-name.ensures.1 in
     rw (p.1, p.2) (entry_error_of_copy _ _ (entry_of (mode_bits c.args.mode) c.args.name.now (borrowed_id c.args.id))
-        (search rules) c.in_ok-write_mode.ensures.appended)
+    (search rules) c.in_ok-write_mode.ensures.appended)
 
 pub returns-in_err-write_name_and_id-clause-error :
     goal.returns-in_err-write_name_and_id-clause-error

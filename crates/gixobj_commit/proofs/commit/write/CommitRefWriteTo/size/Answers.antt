@@ -10,7 +10,7 @@ use Rattle.gixobj_commit.proofs.commit.write.CommitRefWriteTo.size.Goals as goal
 pub returns-in_err-ids : goal.returns-in_err-ids
 returns-in_err-ids c =
     let entire = borrowed_commit_in_parts c.args.self.now (decoded_id (bstr_bytes c.args.self.now.tree)) c.as_slice-parents.result.now
-        c.as_bytes-author.result.now
+    c.as_bytes-author.result.now
     c.as_bytes-committer.result.now c.as_slice-headers.result.now c.as_bytes-message.result.now
     (decoded_id_decodes (bstr_bytes c.args.self.now.tree) c.requires.tree) c.as_slice-parents.ensures c.as_bytes-author.ensures c.as_bytes-committer.ensures
     c.as_slice-headers.ensures.value c.as_bytes-message.ensures in
@@ -19,17 +19,17 @@ returns-in_err-ids c =
 pub returns-in_err-with_author : goal.returns-in_err-with_author
 returns-in_err-with_author c =
     let entire = borrowed_commit_in_parts c.args.self.now (decoded_id (bstr_bytes c.args.self.now.tree)) c.as_slice-parents.result.now
-        c.as_bytes-author.result.now
+    c.as_bytes-author.result.now
     c.as_bytes-committer.result.now c.as_slice-headers.result.now c.as_bytes-message.result.now
     (decoded_id_decodes (bstr_bytes c.args.self.now.tree) c.requires.tree) c.as_slice-parents.ensures c.as_bytes-author.ensures c.as_bytes-committer.ensures
     c.as_slice-headers.ensures.value c.as_bytes-message.ensures in
     rw c.from_residual-in_err-with_author.ensures (no_overflow_at_second
-        (2 ^ 64) _ _ _ _ _ c.in_ok-ids.ids entire c.in_ok-ids.ensures.1 c.in_err-with_author.ensures)
+    (2 ^ 64) _ _ _ _ _ c.in_ok-ids.ids entire c.in_ok-ids.ensures.1 c.in_err-with_author.ensures)
 
 pub returns-in_err-lines : goal.returns-in_err-lines
 returns-in_err-lines c =
     let entire = borrowed_commit_in_parts c.args.self.now (decoded_id (bstr_bytes c.args.self.now.tree)) c.as_slice-parents.result.now
-        c.as_bytes-author.result.now
+    c.as_bytes-author.result.now
     c.as_bytes-committer.result.now c.as_slice-headers.result.now c.as_bytes-message.result.now
     (decoded_id_decodes (bstr_bytes c.args.self.now.tree) c.requires.tree) c.as_slice-parents.ensures c.as_bytes-author.ensures c.as_bytes-committer.ensures
     c.as_slice-headers.ensures.value c.as_bytes-message.ensures in
@@ -40,7 +40,7 @@ returns-in_err-lines c =
 pub returns-in_err-all : goal.returns-in_err-all
 returns-in_err-all c =
     let entire = borrowed_commit_in_parts c.args.self.now (decoded_id (bstr_bytes c.args.self.now.tree)) c.as_slice-parents.result.now
-        c.as_bytes-author.result.now
+    c.as_bytes-author.result.now
     c.as_bytes-committer.result.now c.as_slice-headers.result.now c.as_bytes-message.result.now
     (decoded_id_decodes (bstr_bytes c.args.self.now.tree) c.requires.tree) c.as_slice-parents.ensures c.as_bytes-author.ensures c.as_bytes-committer.ensures
     c.as_slice-headers.ensures.value c.as_bytes-message.ensures in
@@ -51,7 +51,7 @@ returns-in_err-all c =
 pub returns : goal.returns
 returns c =
     let entire = borrowed_commit_in_parts c.args.self.now (decoded_id (bstr_bytes c.args.self.now.tree)) c.as_slice-parents.result.now
-        c.as_bytes-author.result.now
+    c.as_bytes-author.result.now
     c.as_bytes-committer.result.now c.as_slice-headers.result.now c.as_bytes-message.result.now
     (decoded_id_decodes (bstr_bytes c.args.self.now.tree) c.requires.tree) c.as_slice-parents.ensures c.as_bytes-author.ensures c.as_bytes-committer.ensures
     c.as_slice-headers.ensures.value c.as_bytes-message.ensures in

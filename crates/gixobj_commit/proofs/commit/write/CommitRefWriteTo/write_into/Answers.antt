@@ -22,7 +22,7 @@ write_hex_ids-requires g c = record {
 pub returns-in_err-write_hex_ids-clause-error : goal.returns-in_err-write_hex_ids-clause-error
 returns-in_err-write_hex_ids-clause-error g c =
     let entire = borrowed_commit_in_parts c.args.self.now (decoded_id (bstr_bytes c.args.self.now.tree)) c.as_slice-parents.result.now
-        c.as_bytes-author.result.now
+    c.as_bytes-author.result.now
     c.as_bytes-committer.result.now c.as_slice-headers.result.now c.as_bytes-message.result.now
     (decoded_id_decodes (bstr_bytes c.args.self.now.tree) c.requires.tree) c.as_slice-parents.ensures c.as_bytes-author.ensures c.as_bytes-committer.ensures
     c.as_slice-headers.ensures.value c.as_bytes-message.ensures in
@@ -32,7 +32,7 @@ returns-in_err-write_hex_ids-clause-error g c =
 pub returns-in_err-trusted_header_field-clause-error : goal.returns-in_err-trusted_header_field-clause-error
 returns-in_err-trusted_header_field-clause-error g c =
     let entire = borrowed_commit_in_parts c.args.self.now (decoded_id (bstr_bytes c.args.self.now.tree)) c.as_slice-parents.result.now
-        c.as_bytes-author.result.now
+    c.as_bytes-author.result.now
     c.as_bytes-committer.result.now c.as_slice-headers.result.now c.as_bytes-message.result.now
     (decoded_id_decodes (bstr_bytes c.args.self.now.tree) c.requires.tree) c.as_slice-parents.ensures c.as_bytes-author.ensures c.as_bytes-committer.ensures
     c.as_slice-headers.ensures.value c.as_bytes-message.ensures in
@@ -42,7 +42,7 @@ returns-in_err-trusted_header_field-clause-error g c =
 pub returns-in_err-trusted_header_field-2-clause-error : goal.returns-in_err-trusted_header_field-2-clause-error
 returns-in_err-trusted_header_field-2-clause-error g c =
     let entire = borrowed_commit_in_parts c.args.self.now (decoded_id (bstr_bytes c.args.self.now.tree)) c.as_slice-parents.result.now
-        c.as_bytes-author.result.now
+    c.as_bytes-author.result.now
     c.as_bytes-committer.result.now c.as_slice-headers.result.now c.as_bytes-message.result.now
     (decoded_id_decodes (bstr_bytes c.args.self.now.tree) c.requires.tree) c.as_slice-parents.ensures c.as_bytes-author.ensures c.as_bytes-committer.ensures
     c.as_slice-headers.ensures.value c.as_bytes-message.ensures in
@@ -53,7 +53,7 @@ returns-in_err-trusted_header_field-2-clause-error g c =
 pub returns-clause-written : goal.returns-clause-written
 returns-clause-written g c =
     let entire = borrowed_commit_in_parts c.args.self.now (decoded_id (bstr_bytes c.args.self.now.tree)) c.as_slice-parents.result.now
-        c.as_bytes-author.result.now
+    c.as_bytes-author.result.now
     c.as_bytes-committer.result.now c.as_slice-headers.result.now c.as_bytes-message.result.now
     (decoded_id_decodes (bstr_bytes c.args.self.now.tree) c.requires.tree) c.as_slice-parents.ensures c.as_bytes-author.ensures c.as_bytes-committer.ensures
     c.as_slice-headers.ensures.value c.as_bytes-message.ensures in
@@ -69,7 +69,7 @@ returns-clause-no_error g c =
 pub returns-clause-error : goal.returns-clause-error
 returns-clause-error g c =
     let entire = borrowed_commit_in_parts c.args.self.now (decoded_id (bstr_bytes c.args.self.now.tree)) c.as_slice-parents.result.now
-        c.as_bytes-author.result.now
+    c.as_bytes-author.result.now
     c.as_bytes-committer.result.now c.as_slice-headers.result.now c.as_bytes-message.result.now
     (decoded_id_decodes (bstr_bytes c.args.self.now.tree) c.requires.tree) c.as_slice-parents.ensures c.as_bytes-author.ensures c.as_bytes-committer.ensures
     c.as_slice-headers.ensures.value c.as_bytes-message.ensures in
@@ -79,7 +79,7 @@ returns-clause-error g c =
     (appends_all_three _ _ _ _ _ _ _ c.in_ok-write_hex_ids.ensures.appended c.in_ok-trusted_header_field.ensures.appended
     c.in_ok-trusted_header_field-2.ensures.appended)
     (λ value parts. borrowed_commit_error_of_part c.args.self.now (decoded_id (bstr_bytes c.args.self.now.tree)) c.as_slice-parents.result.now
-        c.as_bytes-author.result.now
+    c.as_bytes-author.result.now
     c.as_bytes-committer.result.now value parts (decoded_id_decodes (bstr_bytes c.args.self.now.tree) c.requires.tree) c.as_slice-parents.ensures
     c.as_bytes-author.ensures c.as_bytes-committer.ensures)
     (appends_fourth_of_four _ _ _ _ _ _ _ _ _ _ entire c.in_ok-write_hex_ids.ensures.appended c.in_ok-trusted_header_field.ensures.appended

@@ -24,7 +24,7 @@ invariant_of-self-2 g c =
     let entire = names_of c.deref.result.now in
     let is = ap names_of c.deref.ensures.value ∙ (c.in_ok-path.ensures {u = tt}).joined in
     let kept : Stays old new = known_of_either c.try_remove.result (g.S.Store.objects old.store) (Stays old new)
-        (λ trees. IsRemoved IsNoTree trees old entire new)
+    (λ trees. IsRemoved IsNoTree trees old entire new)
     (λ trees. IsEditFailure trees old entire new) c.try_remove.ensures.removed c.try_remove.ensures.after_error
     (λ trees h. stays_removed trees old new path (subst (λ (p : Path). IsRemoved IsNoTree trees old p new) is h))
     (λ trees h. stays_failed trees old new entire h) in
@@ -38,7 +38,7 @@ returns-clause-prefix g c =
     let entire = names_of c.deref.result.now in
     let is = ap names_of c.deref.ensures.value ∙ (c.in_ok-path.ensures {u = tt}).joined in
     let kept : Stays old new = known_of_either c.try_remove.result (g.S.Store.objects old.store) (Stays old new)
-        (λ trees. IsRemoved IsNoTree trees old entire new)
+    (λ trees. IsRemoved IsNoTree trees old entire new)
     (λ trees. IsEditFailure trees old entire new) c.try_remove.ensures.removed c.try_remove.ensures.after_error
     (λ trees h. stays_removed trees old new path (subst (λ (p : Path). IsRemoved IsNoTree trees old p new) is h))
     (λ trees h. stays_failed trees old new entire h) in

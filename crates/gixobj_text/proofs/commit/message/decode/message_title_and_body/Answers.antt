@@ -20,5 +20,5 @@ places-preserved c =
     let is : c.places.rest.now ≡ c.in-Some.field-0-0.now ∷ c.in-Some.after.now = search rules in
     let none : None ≡ after_two_breaks c.places.rest.now = search rules in
     is_unsplit_at_next c.args.message.now c.places.rest.now c.in-Some.field-0-0.now c.in-Some.after.now c.from_break-rest-in-Some.result.now
-        c.places.invariant is none
+    c.places.invariant is none
     c.from_break-rest-in-Some.ensures.is

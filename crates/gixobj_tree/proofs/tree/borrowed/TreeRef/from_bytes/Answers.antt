@@ -18,7 +18,7 @@ returns-in_err-push-clause-error c =
 pub loop-rest-preserved : goal.loop-rest-preserved
 loop-rest-preserved c =
     passes_entries_of_views entry_view c.args.hash_kind c.args.bytes.now c.loop-rest.rest.now c.in-Some.following.now c.loop-rest.entries.items
-        c.push.new.self.items
+    c.push.new.self.items
     c.in-Some.entry c.loop-rest.invariant c.in-Some.ensures.found c.in_ok-push.ensures.items
 
 pub returns-clause-found : goal.returns-clause-found

@@ -19,5 +19,5 @@ pub returns-in_err-size : goal.returns-in_err-size
 returns-in_err-size c =
     rw c.from_residual.ensures
     (no_overflow_of_size c.deref-entry-items.result.now _ c.loop-entry.entry-index c.entry-item.result c.loop-entry.size c.loop-entry.longer
-        c.loop-entry.invariant.2
+    c.loop-entry.invariant.2
     c.loop-entry-test.true c.entry-item.is c.loop-entry.invariant.0 c.in_err-size.ensures)

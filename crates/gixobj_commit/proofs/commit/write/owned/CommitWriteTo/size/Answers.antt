@@ -17,7 +17,7 @@ returns-in_err-with_author c =
     c.as_bytes-message.result.now
     c.as_slice-parents.ensures c.borrowed-encoding.ensures c.as_slice-headers.ensures.value c.as_bytes-message.ensures in
     rw c.from_residual-in_err-with_author.ensures (no_overflow_at_second
-        (2 ^ 64) _ _ _ _ _ c.in_ok-ids.ids entire c.in_ok-ids.ensures.1 c.in_err-with_author.ensures)
+    (2 ^ 64) _ _ _ _ _ c.in_ok-ids.ids entire c.in_ok-ids.ensures.1 c.in_err-with_author.ensures)
 
 pub returns-in_err-lines : goal.returns-in_err-lines
 returns-in_err-lines c =

@@ -59,7 +59,7 @@ pub returns-clause-no_error : goal.returns-clause-no_error
 returns-clause-no_error g c =
     IfOk-weaker c.write_rest.result _ _
     (λ _ none. owned_commit_rejects_nothing c.args.self.now c.borrowed-encoding.result c.borrowed-encoding.ensures
-        c.in_ok-trusted_header_signature.ensures.legal
+    c.in_ok-trusted_header_signature.ensures.legal
     c.in_ok-trusted_header_signature-2.ensures.legal none)
     c.write_rest.ensures.no_error
 
@@ -74,7 +74,7 @@ returns-clause-error g c =
     (appends_all_three _ _ _ _ _ _ _ c.in_ok-write_ids.ensures.appended c.in_ok-trusted_header_signature.ensures.written
     c.in_ok-trusted_header_signature-2.ensures.written)
     (λ value parts. owned_commit_error_of_encoding c.args.self.now c.as_slice-parents.result.now c.borrowed-encoding.result value parts
-        c.as_slice-parents.ensures
+    c.as_slice-parents.ensures
     c.borrowed-encoding.ensures c.in_ok-trusted_header_signature.ensures.legal c.in_ok-trusted_header_signature-2.ensures.legal)
     (appends_fourth_of_four _ _ _ _ _ _ _ _ _ _ entire c.in_ok-write_ids.ensures.appended c.in_ok-trusted_header_signature.ensures.written
     c.in_ok-trusted_header_signature-2.ensures.written))
