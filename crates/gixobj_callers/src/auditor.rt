@@ -28,7 +28,7 @@ pub fn value_of<'a>(commit: &'a CommitRef<'_>, name: &str) -> Option<BStr<'a>>
 }
 
 /// Returns the position of the first header of this name in an owned commit.
-pub fn place_of(commit: &Commit, name: &str) -> Option<usize>
+pub fn position_of(commit: &Commit, name: &str) -> Option<usize>
     ensures { IsFirstPlace name.now (owned_commit_lines commit.now).extra_headers result }
 {
     owned_header_search_complete();
