@@ -27,6 +27,10 @@ WORDS = {
     "growth growths": "allocation",
     "shut": "closed",
     "whole wholes": "entire, complete, unchanged",
+    "put puts": "append, insert, write",
+    "give": "return, yield",
+    "ask asks asked": "call; in a store: look up",
+    "hand hands handing": "pass, emit",
 }
 
 # Searched in names alone: git itself speaks of a text in prose.
@@ -42,7 +46,6 @@ PHRASES = {
     "so many": "the number, n",
     "its like|its kin": "the name of what is meant",
     "goes out|went out|hands out": "is emitted, emits",
-    "puts": "appends, inserts, writes",
     "gives": "returns, yields",
 }
 

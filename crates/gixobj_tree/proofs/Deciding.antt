@@ -47,11 +47,11 @@ octal_or_not (first ∷ content) =
 six_or_not : (content digits : List ℕ) → HasSixDigits content digits ⊎ (HasSixDigits content digits → ⊥)
 six_or_not content digits =
     ⊎_elim (λ six. inl (λ is other. six))
-    (λ not_six. ⊎_elim (λ is. asked not_six is) (λ other. inl (λ is. absurd (other is))) (cases_eq (get_or content 6 0) 32))
+    (λ not_six. ⊎_elim (λ is. six_digits_needed not_six is) (λ other. inl (λ is. absurd (other is))) (cases_eq (get_or content 6 0) 32))
     (cases_eq (length digits) 6)
   where
-    asked : (length digits ≡ 6 → ⊥) → get_or content 6 0 ≡ 32 → HasSixDigits content digits ⊎ (HasSixDigits content digits → ⊥)
-    asked not_six is =
+    six_digits_needed : (length digits ≡ 6 → ⊥) → get_or content 6 0 ≡ 32 → HasSixDigits content digits ⊎ (HasSixDigits content digits → ⊥)
+    six_digits_needed not_six is =
         ⊎_elim (λ five. inl (λ six other. absurd (other five))) (λ other. inr (λ keeps. not_six (keeps is other))) (cases_eq (get_or content 5 0) 32)
 
 -- the input begins with an id if it has enough bytes
