@@ -33,8 +33,7 @@ abbrev pub StopsAt : (RejectedValue → List ℕ → Type 0) → SinkView → Si
 StopsAt Rejects before after value = (parts : List ℕ) × Rejects value parts × AppendsAll before after parts
 
 -- the error of a writer of these bytes with these rejected values; Writer: the sink failed; OutOfMemory: the copy of
--- a
--- rejected value failed to allocate; any other: this value was rejected
+-- a rejected value failed to allocate; any other: this value was rejected
 abbrev pub IsWritingError : (RejectedValue → List ℕ → Type 0) → SinkView → SinkView → List ℕ → Error → Type 0
 IsWritingError Rejects before after bytes (error.Writer cause) = AppendsPrefix before after bytes
 IsWritingError Rejects before after bytes (error.NewlineInHeaderValue value) =

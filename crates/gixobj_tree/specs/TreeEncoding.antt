@@ -57,8 +57,7 @@ abbrev pub IsUnencodableTree : List EntryView → Type 0
 IsUnencodableTree entries = (value : RejectedValue) × (parts : List ℕ) × IsTreeEncodeError entries value parts
 
 -- Ok: the id is the digest of the tree's encoding; Writer: the encoding failed to allocate; any other error: a name
--- of
--- the tree is rejected
+-- of the tree is rejected
 abbrev pub IsAnsweredDigest : hash.Kind → List EntryView → Result ObjectId Error → Type 0
 IsAnsweredDigest hash tree (Ok id) = IsEncodableTree tree × (id ≡ id_of hash Tree (encode_tree tree))
 IsAnsweredDigest hash tree (Err (Writer cause)) = ⊤
