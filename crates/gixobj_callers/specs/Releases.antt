@@ -5,7 +5,7 @@ use Rattle.std.specs.List.{filter_map, starts_with}
 use Rattle.std.specs.Cow.{cow_slice_items}
 use Rattle.std.specs.declared.alloc.Global.{Global}
 use Rattle.std.specs.declared.borrow.CowSlice.{CowSlice}
-use Rattle.gix_object.specs.CommitSigning.{IsSignedCommit, IsCommitSigningError, IsCommitWriteError, payload_of_commit, with_signature}
+use Rattle.gix_object.specs.CommitSigning.{IsSignedCommit, IsCommitSigningError, IsCommitEncodingError, payload_of_commit, with_signature}
 use Rattle.gix_object.specs.CommitViews.{owned_commit_lines}
 use Rattle.gix_object.specs.CommitWriting.{encode_commit}
 use Rattle.gix_object.specs.Extracting as commits
@@ -59,7 +59,7 @@ abbrev pub IsSignedEncodingError : {S : Type 0} → (S → CallView → Answer �
 IsSignedEncodingError runs options commit old new error =
     IsCommitSigningError runs options commit old new error
     ⊎ ((signed : Commit) × (cause : encode.Error) × IsSignedCommit runs options commit old new signed
-    × (error ≡ Encode cause) × IsCommitWriteError signed (encode_commit (owned_commit_lines signed)) cause)
+    × (error ≡ Encode cause) × IsCommitEncodingError signed (encode_commit (owned_commit_lines signed)) cause)
 
 -- ---- signed bytes of an object
 

@@ -2,7 +2,7 @@
 //! programs that a runner runs.
 ghost use Rattle.std.specs.Prelude.{◌≡◌, IfErr, IfOk, IfSome, true};
 ghost use Rattle.std.specs.Cow.{cow_slice_items};
-ghost use Rattle.gix_object.specs.CommitSigning.{IsCommitWriteError};
+ghost use Rattle.gix_object.specs.CommitSigning.{IsCommitEncodingError};
 ghost use Rattle.gix_object.specs.CommitViews.{owned_commit_lines};
 ghost use Rattle.gix_object.specs.CommitWriting.{encode_commit};
 ghost use Rattle.gix_object.specs.Outcomes.{outcome_view};
@@ -46,7 +46,7 @@ pub fn signed_payload<R: Runner>(
 /// Encodes a commit.
 fn written(alloc: Global, commit: &Commit) -> Result<Vec<u8>, encode::Error>
     ensures encoded { IfOk result (λ content. content.items ≡ encode_commit (owned_commit_lines commit.now)) }
-    ensures error { IfErr result (IsCommitWriteError commit.now
+    ensures error { IfErr result (IsCommitEncodingError commit.now
         (encode_commit (owned_commit_lines commit.now))) }
 {
     let mut content = Vec::new(alloc);

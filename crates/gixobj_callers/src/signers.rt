@@ -1,5 +1,5 @@
-//! A reader of messages, who lists the sign-offs of a commit, and splits a body.
-ghost use Rattle.std.specs.Prelude.{◌≡◌, IfErr, IfOk, map};
+//! A reader of messages, who lists the sign-offs of a commit, finds its last trailer, and splits a body.
+ghost use Rattle.std.specs.Prelude.{◌≡◌, IfErr, IfOk, OnErr, map, option_map};
 ghost use Rattle.gix_object.specs.Blocks.{joined_parts};
 ghost use Rattle.gix_object.specs.Bodies.{bytes_of_body};
 ghost use Rattle.gix_object.specs.Commit.{CommitLines, DecodesToCommit, IsMalformedCommit};
@@ -7,7 +7,7 @@ ghost use Rattle.gix_object.specs.CommitViews.{commit_lines};
 ghost use Rattle.gix_object.specs.BlockSteps.{block_view};
 ghost use Rattle.gix_object.specs.TrailerSteps.{trailer_view};
 ghost use Rattle.gix_object.specs.hash.decode.Error.TheVariants.{Malformed};
-ghost use Rattle.gixobj_callers.specs.Signers.{AreSignOffs};
+ghost use Rattle.gixobj_callers.specs.Signers.{AreSignOffs, HasContinuedLine, IsLastTrailer};
 
 use gix_object::commit::message::BodyRef;
 use gix_object::commit::message::body::{MessageBlock, TrailerRef};
@@ -55,6 +55,27 @@ pub fn sign_offs_of<'a>(
         found.push(trailer?)?;
     }
     Ok(found)
+}
+
+/// Returns the last trailer of a commit's message. Allocates nothing if each trailer is of one line.
+///
+/// # Errors
+///
+/// [`OutOfMemory`] if a line of the trailer block continues another, and allocation for a value fails.
+pub fn last_trailer_of<'a>(
+    alloc: Global,
+    commit: &CommitRef<'a>,
+) -> Result<Option<TrailerRef<'a>>, OutOfMemory>
+    ensures found { IfOk result (λ last. IsLastTrailer (commit_lines commit.now).message
+        (option_map trailer_view last)) }
+    ensures allocates { OnErr result (HasContinuedLine (commit_lines commit.now).message) }
+{
+    readers_yield_all();
+    let mut last = None;
+    for trailer in commit.message_trailers(alloc) {
+        last = Some(trailer?);
+    }
+    Ok(last)
 }
 
 /// Returns the messages of a body, each with the trailers that follow it. Their concatenation is the body.

@@ -70,6 +70,7 @@ pub use Rattle.gixobj_tag.specs.declared as tag
 pub use Rattle.gixobj_text.specs.Blocks
 pub use Rattle.gixobj_text.specs.Bodies
 pub use Rattle.gixobj_text.specs.BodyLines
+pub use Rattle.gixobj_text.specs.FirstLines
 pub use Rattle.gixobj_text.specs.Filters
 pub use Rattle.gixobj_text.specs.BlockSteps
 pub use Rattle.gixobj_text.specs.TrailerSteps

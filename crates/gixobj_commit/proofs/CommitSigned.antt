@@ -3,12 +3,12 @@
 use Rattle.std.proofs.Common.{◌≡◌, ◌∙◌, ap, inl, inr, refl, subst, Bool, true, false, cond, List, [], ◌∷◌, ℕ, map, IfErr, IfOk, Result, Ok, Err}
 use Rattle.std.specs.List.{filter}
 use Rattle.gixobj_commit.specs.CommitOwned.{IsOwnedFormOfCommit}
-use Rattle.gixobj_commit.specs.CommitSigning.{GetsCommitSignature, IsSignedCommit, IsSignedCommitCopy, IsCommitSigningError, IsCommitCopySigningError, IsCommitWriteError, payload_of_commit, with_last_header, without_headers}
+use Rattle.gixobj_commit.specs.CommitSigning.{GetsCommitSignature, IsSignedCommit, IsSignedCommitCopy, IsCommitSigningError, IsCommitCopySigningError, IsCommitEncodingError, payload_of_commit, with_last_header, without_headers}
 use Rattle.gixobj_commit.specs.CommitViews.{owned_commit_lines}
 use Rattle.gixobj_commit.specs.CommitWriting.{IsOwnedCommitError, encode_commit}
 use Rattle.gixobj_commit.specs.declared.commit.Commit.{Commit}
 use Rattle.gixobj_commit.specs.ExtraHeaders.{signature_field}
-use Rattle.gixobj_fields.specs.Writing.{RejectedValue, RejectsNothing, IsWritingError}
+use Rattle.gixobj_fields.specs.Writing.{IsEncodingError, RejectedValue, RejectsNothing}
 use Rattle.gixobj_fields.specs.declared.encode.Error as encode
 use Rattle.gixobj_hash.specs.Hash.{id_kind}
 use Rattle.gixobj_commit.specs.Commit.{CommitLines}
@@ -81,25 +81,13 @@ module _ (commit other : Commit) (others : other ≡ record commit { extra_heade
 
   -- signing a commit that can't be written fails before any call
   pub rejected_unwritten : {S : Type 0} (runs : S → CallView → Answer → S → Type 0) (options : Options) (old : S) (cause : encode.Error)
-      → IsCommitWriteError other (encode_commit (owned_commit_lines other)) cause → IsCommitSigningError runs options commit old old
+      → IsCommitEncodingError other (encode_commit (owned_commit_lines other)) cause → IsCommitSigningError runs options commit old old
       (sign.Encode cause)
-  rejected_unwritten runs options old cause (before, after, why) =
-      let of_bytes : IsWritingError (IsOwnedCommitError other) before after (payload_of_commit (id_kind commit.tree) (owned_commit_lines commit))
-      cause =
-      subst (λ (it : List ℕ). IsWritingError (IsOwnedCommitError other) before after it cause) (ap encode_commit kept_lines) why in
-      inr (
-        cause,
-        refl,
-        (
-          before,
-          after,
-          subst
-              (λ (it : RejectedValue → List ℕ → Type 0). IsWritingError it before after
-              (payload_of_commit (id_kind commit.tree) (owned_commit_lines commit)) cause)
-              rejects_same of_bytes,
-        ),
-        refl,
-      )
+  rejected_unwritten runs options old cause why =
+      let payload = payload_of_commit (id_kind commit.tree) (owned_commit_lines commit) in
+      let of_bytes : IsEncodingError (IsOwnedCommitError other) payload cause =
+      subst (λ (it : List ℕ). IsEncodingError (IsOwnedCommitError other) it cause) (ap encode_commit kept_lines) why in
+      inr (cause, refl, subst (λ (it : RejectedValue → List ℕ → Type 0). IsEncodingError it payload cause) rejects_same of_bytes, refl)
 
 -- the result of signing a copy
 module _ {S : Type 0} (runs : S → CallView → Answer → S → Type 0) (options : Options) (lines : CommitLines) (commit : Commit)

@@ -7,8 +7,7 @@ use Rattle.gixobj_commit.specs.CommitWriting.{IsOwnedCommitError, encode_commit}
 use Rattle.gixobj_commit.specs.declared.commit.Commit.{Commit}
 use Rattle.gixobj_commit.specs.ExtraHeaders.{signature_field}
 use Rattle.gixobj_fields.specs.HeaderFormat.{Header}
-use Rattle.gixobj_fields.specs.Streams.{SinkView}
-use Rattle.gixobj_fields.specs.Writing.{RejectsNothing, IsWritingError}
+use Rattle.gixobj_fields.specs.Writing.{IsEncodingError, RejectsNothing}
 use Rattle.gixobj_fields.specs.declared.encode.Error as encode
 use Rattle.gixobj_hash.specs.Hash.{id_kind}
 use Rattle.gixobj_hash.specs.declared.decode.Error as decode
@@ -62,12 +61,11 @@ pub record IsSignedCommit {S : Type 0} (runs : S → CallView → Answer → S �
   pub lines : owned_commit_lines signed ≡ with_signature (id_kind commit.tree) bytes (owned_commit_lines commit)
   pub writable : RejectsNothing (IsOwnedCommitError commit)
 
--- why writing this encoding of a commit fails
-abbrev pub IsCommitWriteError : Commit → List ℕ → encode.Error → Type 0
-IsCommitWriteError commit content cause = (before after : SinkView)
-    × IsWritingError (IsOwnedCommitError commit) before after content cause
+-- why encoding a commit to these bytes fails
+abbrev pub IsCommitEncodingError : Commit → List ℕ → encode.Error → Type 0
+IsCommitEncodingError commit content cause = IsEncodingError (IsOwnedCommitError commit) content cause
 
--- why signing fails: the signer's error or a missing key, if the commit is writable; or an error of writing the
+-- why signing fails: the signer's error or a missing key, if the commit is writable; or an error of encoding the
 -- payload, before any call
 abbrev pub IsCommitSigningError : {S : Type 0} → (S → CallView → Answer → S → Type 0) → Options → Commit → S → S → Error
     → Type 0
@@ -77,7 +75,7 @@ IsCommitSigningError runs options commit old new error =
     (sign_plan (options_view options) (payload_of_commit (id_kind commit.tree) (owned_commit_lines commit))) old
     (signer_error error) new)
     ⊎ ((cause : encode.Error) × (error ≡ sign.Encode cause)
-    × IsCommitWriteError commit (payload_of_commit (id_kind commit.tree) (owned_commit_lines commit)) cause
+    × IsCommitEncodingError commit (payload_of_commit (id_kind commit.tree) (owned_commit_lines commit)) cause
     × (new ≡ old))
 
 -- the signed commit is a copy of these lines that was signed

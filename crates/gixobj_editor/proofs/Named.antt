@@ -123,6 +123,16 @@ module _ {S E : Type 0} (means : StoreModel S) (answers : Answers E) where
   command_keeps old new (command.SetRoot entries) reply.RootRefused h = ap (λ (s : State S). means.objects s.store) h.1
   command_keeps old new it its_reply h = absurd h
 
+  -- a run changes the store by the pairs that its replies report as kept
+  pub run_keeps_pairs : (old new : State S) (commands : List Command) (replies : List (Reply E)) → IsRun means answers old commands replies new
+      → means.objects new.store ≡ with_trees (pairs_kept replies) (means.objects old.store)
+  run_keeps_pairs old new [] [] h = ap (λ (s : State S). means.objects s.store) h
+  run_keeps_pairs old new (it ∷ commands) (r ∷ replies) (between, first, rest) =
+      with_trees_append_stored (kept_of r) (pairs_kept replies) (means.objects old.store) (means.objects between.store) (means.objects new.store)
+      (command_keeps old between it r first) (run_keeps_pairs between new commands replies rest)
+  run_keeps_pairs old new [] (r ∷ replies) h = absurd h
+  run_keeps_pairs old new (it ∷ commands) [] h = absurd h
+
   module _ (T : Table) (n : ℕ) where
     -- what holds for the store's trees holds for some trees with which the table agrees
     agreed : (old : State S) (P : Trees → Type 0) → AgreesWithObjects T (means.objects old.store) → OfTrees (means.objects old.store) P

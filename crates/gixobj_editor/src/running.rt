@@ -6,10 +6,11 @@ ghost use Rattle.gixobj_files.specs.Files.{NamedFiles, SameFiles, Table};
 ghost use Rattle.gixobj_files.specs.History.{History};
 ghost use Rattle.gixobj_files.specs.State.{EditorFiles, open_bases, open_dirs};
 ghost use Rattle.gixobj_files.specs.Tables.{AgreesWithPairs};
-ghost use Rattle.gixobj_editor.specs.Commands.{accepted_steps, written_at};
+ghost use Rattle.gixobj_editor.specs.Commands.{accepted_steps, pairs_kept, written_at};
 ghost use Rattle.gixobj_editor.specs.OneId.{IdsDetermineFiles, IsPlainRun};
 ghost use Rattle.gixobj_editor.specs.Replies.{IsCallable, IsReply, IsRun};
 ghost use Rattle.gixobj_editor.specs.RunTables.{AgreesWithRun};
+ghost use Rattle.gixobj_find.specs.Keeping.{with_trees};
 ghost use Rattle.gixobj_object.specs.Stores.{store_model};
 
 use crate::Command;
@@ -26,8 +27,9 @@ use std::alloc::Global;
 /// Does the commands in order, on an editor over a store that keeps trees.
 ///
 /// Each command gets a reply; a failed one doesn't end the run. After each successful write the store keeps
-/// the emitted trees in their order, up to the first that it doesn't keep. Allocates the replies; edits and
-/// writes allocate as the calls of [`Editor`].
+/// the emitted trees in their order, up to the first that it doesn't keep. At the end it has its former
+/// objects and the trees that the replies report as kept. Allocates the replies; edits and writes allocate as
+/// the calls of [`Editor`].
 ///
 /// A tree whose id a write of the root returns has, at every depth, exactly the files that the accepted
 /// commands before that write make. They start with the files of the last root: the last one that was set, or
@@ -64,6 +66,8 @@ pub fn run<S: Keep, E: Drop, F: Fn(&Tree) -> Result<ObjectId, E> + Drop>(
     ensures replies { IfOk result (λ replies.
         IsRun (store_model S.objects S.may_fail) (FnReturnsAt F.Fn out) editor.old commands.items
         replies.items editor.new) }
+    ensures stored { IfOk result (λ replies. S.objects editor.new.store
+        ≡ with_trees (pairs_kept replies.items) (S.objects editor.old.store)) }
     ensures headline { IfOk result (λ replies. (T : Table) (n k : ℕ) (written : Written)
         → written_at replies.items k ≡ Some written
         → AgreesWithRun T (S.objects editor.old.store) (take k replies.items)

@@ -1,10 +1,10 @@
 -- The error of a write of a part is an error of the write of all parts; used by the proofs of commits, tags and
 -- trees.
-use Rattle.std.proofs.Common.{◌≡◌, ◌≤◌, ℕ, List, ◌++◌, inl, inr}
+use Rattle.std.proofs.Common.{◌≡◌, ◌≤◌, ℕ, List, [], ◌++◌, Some, inl, inr, subst}
 use Rattle.gixobj_fields.specs.Streams.{AppendsAll, AppendsPrefix, SinkView}
 use Rattle.gixobj_fields.specs.declared.encode.Error.{Error}
 use Rattle.gixobj_fields.specs.declared.encode.Error.TheVariants as error
-use Rattle.gixobj_fields.specs.Writing.{FailsAsSink, RejectedValue, RejectsNothing, IsWritingError, StopsAt}
+use Rattle.gixobj_fields.specs.Writing.{FailsAsSink, IsEncodingError, IsWritingError, RejectedValue, RejectsNothing, StopsAt}
 use Rattle.gixobj_fields.proofs.Appends.{prefix_with_more_room, appends_prefix_middle, appends_all_append, appends_with_more_room}
 
 stops_after : (R Q : RejectedValue → List ℕ → Type 0) (a b c : SinkView) (prefix : List ℕ) → AppendsAll a b prefix
@@ -78,3 +78,13 @@ fails_as_sink_of_error R a b bytes (error.NullbyteInFilename name) nothing s = n
 fails_as_sink_of_error R a b bytes error.IllegalActor nothing s = none_stops R a b _ nothing s
 fails_as_sink_of_error R a b bytes error.OutOfMemory nothing (value, inl s) = none_stops R a b _ nothing s
 fails_as_sink_of_error R a b bytes error.OutOfMemory nothing (value, inr s) = none_stops R a b _ nothing s
+
+-- an error of a writer to a list that is empty and has allocated nothing
+pub encoding_error_of_list : (Rejects : RejectedValue → List ℕ → Type 0) (bytes items : List ℕ) (room : ℕ) (after : SinkView) (e : Error)
+    → items ≡ [] → room ≡ 0 → IsWritingError Rejects (record { held = Some items; room = room }) after bytes e → IsEncodingError Rejects bytes e
+encoding_error_of_list Rejects bytes items room after e none full is =
+    (
+      after,
+      subst (λ (n : ℕ). IsWritingError Rejects (record { held = Some []; room = n }) after bytes e) full
+          (subst (λ (xs : List ℕ). IsWritingError Rejects (record { held = Some xs; room = room }) after bytes e) none is),
+    )

@@ -1,5 +1,5 @@
 -- The bytes that sinks hold and accept.
-use Rattle.std.specs.Prelude.{◌≡◌, ◌<◌, ◌≤◌, ◌+◌, ◌-◌, ◌++◌, ℕ, List, MatchResult, Option, Result, Some, length, vec_capacity, vec_len}
+use Rattle.std.specs.Prelude.{◌≡◌, ◌<◌, ◌≤◌, ◌+◌, ◌-◌, ◌++◌, ℕ, List, [], MatchResult, Option, Result, Some, length, vec_capacity, vec_len}
 use Rattle.std.specs.Io.KnownBytes.{Appends}
 use Rattle.std.specs.declared.alloc.Global.{Global}
 use Rattle.std.specs.declared.vec.Vec.{Vec}
@@ -12,6 +12,10 @@ pub record SinkView : Type 0 where
 -- a list as a sink, which is certain to accept as many bytes as fit its capacity
 abbrev pub list_view : Vec ℕ Global → SinkView
 list_view list = record { held = Some list.items; room = vec_capacity list - vec_len list }
+
+-- a sink without bytes and room, as an empty list that has allocated nothing
+abbrev pub empty_sink : SinkView
+empty_sink = record { held = Some []; room = 0 }
 
 -- a writer of known or unknown bytes as a sink, which may always fail
 abbrev pub writer_view : Option (List ℕ) → SinkView

@@ -2,7 +2,7 @@
 use Rattle.std.specs.Option.{SomeIff}
 use Rattle.std.specs.Prelude.{◌⊎◌, ◌<◌, ◌+◌, ◌^◌, ℕ, List, Option, length}
 use Rattle.bstr.specs.Owned.{bstring_bytes}
-use Rattle.gixobj_fields.specs.Streams.{AppendsAll, AppendsPrefix, SinkView}
+use Rattle.gixobj_fields.specs.Streams.{AppendsAll, AppendsPrefix, SinkView, empty_sink}
 use Rattle.gixobj_fields.specs.declared.encode.Error.{Error}
 use Rattle.gixobj_fields.specs.declared.encode.Error.TheVariants as error
 use Rattle.gixobj_fields.specs.declared.encode.RefNameFault.{RefNameFault}
@@ -47,6 +47,10 @@ IsWritingError Rejects before after bytes error.IllegalActor = StopsAt Rejects b
 IsWritingError Rejects before after bytes error.OutOfMemory =
     (value : List ℕ) × (StopsAt Rejects before after (header_with_newline value)
     ⊎ StopsAt Rejects before after (name_with_zero_byte value))
+
+-- the error of a writer of these bytes to an empty list, which has no room yet
+abbrev pub IsEncodingError : (RejectedValue → List ℕ → Type 0) → List ℕ → Error → Type 0
+IsEncodingError Rejects bytes error = (after : SinkView) × IsWritingError Rejects empty_sink after bytes error
 
 -- the error is that of the sink, to which a proper prefix of the bytes was appended
 abbrev pub FailsAsSink : SinkView → SinkView → List ℕ → Error → Type 0

@@ -7,7 +7,7 @@ use Rattle.gixobj_signature.specs.Signing.{options_view, sign_plan, signature, s
 use Rattle.gixobj_signature.specs.declared.signature.sign.Error.{Error}
 use Rattle.gixobj_signature.specs.declared.signature.sign.Options.{Options}
 use Rattle.gixobj_tag.specs.TagOwned.{IsOwnedFormOfTag}
-use Rattle.gixobj_tag.specs.TagSigning.{GetsTagSignature, HasNoPayload, IsSignedTag, IsSignedTagCopy, IsTagSigningError, IsTagCopySigningError, IsTagWriteError, payload_of_tag, signed_as, unsigned}
+use Rattle.gixobj_tag.specs.TagSigning.{GetsTagSignature, HasNoPayload, IsSignedTag, IsSignedTagCopy, IsTagSigningError, IsTagCopySigningError, IsTagEncodingError, payload_of_tag, signed_as, unsigned}
 use Rattle.gixobj_tag.specs.TagFormat.{TagLines}
 use Rattle.gixobj_tag.specs.TagViews.{owned_tag_lines}
 use Rattle.gixobj_tag.specs.TagWriting.{IsOwnedTagError, encode_tag}
@@ -27,7 +27,7 @@ signing_error_of_write runs options tag without same old error (inl (writable, w
           (begins_plan_refl runs (sign_plan (options_view options) (payload_of_tag (owned_tag_lines tag))) old),
     )
 signing_error_of_write runs options tag without same old error (inr (cause, is, why)) =
-    inr (cause, is, subst (λ (it : Tag). IsTagWriteError it cause) same why, refl)
+    inr (cause, is, subst (λ (it : Tag). IsTagEncodingError it cause) same why, refl)
 
 -- a tag has the signature of its payload
 pub is_signed_tag_of_signature : {S : Type 0} (runs : S → CallView → Answer → S → Type 0) (options : Options) (tag without : Tag) → without ≡ unsigned tag

@@ -1,7 +1,6 @@
 -- Signing of tags (gitformat-signature, "Tag signatures").
 use Rattle.std.specs.Prelude.{◌≡◌, ◌⊎◌, ℕ, List, [], ◌∷◌, ◌++◌, Option, Some, None}
-use Rattle.gixobj_fields.specs.Streams.{SinkView}
-use Rattle.gixobj_fields.specs.Writing.{RejectsNothing, IsWritingError}
+use Rattle.gixobj_fields.specs.Writing.{IsEncodingError, RejectsNothing}
 use Rattle.gixobj_fields.specs.declared.encode.Error as encode
 use Rattle.gixobj_hash.specs.declared.decode.Error as decode
 use Rattle.gixobj_signature.specs.Calls.{Answer, CallView}
@@ -45,16 +44,15 @@ pub record IsSignedTag {S : Type 0} (runs : S → CallView → Answer → S → 
   pub lines : owned_tag_lines signed ≡ signed_as (Some bytes) (owned_tag_lines tag)
   pub writable : RejectsNothing (IsOwnedTagError tag)
 
--- the error of a tag that can't be written
-abbrev pub IsTagWriteError : Tag → encode.Error → Type 0
-IsTagWriteError tag cause = (before after : SinkView) × IsWritingError (IsOwnedTagError tag) before after
-    (encode_tag (owned_tag_lines tag)) cause
+-- why encoding a tag fails
+abbrev pub IsTagEncodingError : Tag → encode.Error → Type 0
+IsTagEncodingError tag cause = IsEncodingError (IsOwnedTagError tag) (encode_tag (owned_tag_lines tag)) cause
 
--- the error of a tag without signature that has no payload: it can't be written, or memory ran out for the newline
+-- the error of a tag without signature that has no payload: it can't be encoded, or memory ran out for the newline
 -- after it
 abbrev pub HasNoPayload : Tag → Error → Type 0
 HasNoPayload tag error = (RejectsNothing (IsOwnedTagError tag) × (error ≡ sign.OutOfMemory))
-    ⊎ ((cause : encode.Error) × (error ≡ sign.Encode cause) × IsTagWriteError tag cause)
+    ⊎ ((cause : encode.Error) × (error ≡ sign.Encode cause) × IsTagEncodingError tag cause)
 
 -- the error of a tag that isn't signed. It is a result of the plan for the payload, and no value of the tag is
 -- rejected; or the tag can't be written without its signature, and no call was made
@@ -64,7 +62,7 @@ IsTagSigningError runs options tag old new error =
     (RejectsNothing (IsOwnedTagError tag)
     × IsCarriedOut runs (sign_plan (options_view options) (payload_of_tag (owned_tag_lines tag))) old
     (signer_error error) new)
-    ⊎ ((cause : encode.Error) × (error ≡ sign.Encode cause) × IsTagWriteError (unsigned tag) cause × (new ≡ old))
+    ⊎ ((cause : encode.Error) × (error ≡ sign.Encode cause) × IsTagEncodingError (unsigned tag) cause × (new ≡ old))
 
 -- an owned form of the tag was signed
 abbrev pub IsSignedTagCopy : {S : Type 0} → (S → CallView → Answer → S → Type 0) → Options → TagLines → S → S → Tag

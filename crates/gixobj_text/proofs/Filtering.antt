@@ -1,33 +1,30 @@
 -- Trailers that a filter skips.
-use Rattle.std.proofs.Common.{◌++◌, ◌∙◌, ◌∷◌, ◌≡◌, All, Bool, List, [], ap, append_assoc, cond, false, filter, refl, sym, true}
-use Rattle.std.proofs.lemmas.List.Elements.{All-nil, All-cons, All-head, All-tail}
-use Rattle.std.specs.Prelude.{IsFalse}
-use Rattle.gixobj_text.specs.Filters.{SkipsUnfiltered, passes_filter}
-use Rattle.gixobj_text.specs.TrailerSteps.{trailer_view, remaining_trailers}
+use Rattle.std.proofs.Common.{◌++◌, ◌∙◌, ◌∷◌, ◌≡◌, Bool, List, Ok, Some, [], ap, cond, false, filter, refl, subst, sym, true}
+use Rattle.gixobj_text.specs.Filters.{SkipsUnfiltered, YieldsUnfiltered, passes_filter}
+use Rattle.gixobj_text.specs.TrailerSteps.{NextTrailer, trailer_view, remaining_trailers}
 use Rattle.gixobj_text.specs.Trailers.{TrailerView}
 use Rattle.gixobj_text.specs.declared.commit.message.body.filters.Filter.{Filter}
 use Rattle.gixobj_text.specs.declared.commit.message.body.trailers.TrailerRef.{TrailerRef}
 use Rattle.gixobj_text.specs.declared.commit.message.body.trailers.Trailers.{Trailers}
 
-abbrev Other : Filter → TrailerView → Type 0
-Other by trailer = IsFalse (passes_filter by trailer.token)
+-- ---- skipped trailers
 
 pub skips_unfiltered_refl : (by : Filter) (it : Trailers) → SkipsUnfiltered by it it
-skips_unfiltered_refl by it = record { skipped = []; joined = refl; all = All-nil (Other by) }
+skips_unfiltered_refl by it = record { skipped = []; yields = refl }
 
-all_more : (P : TrailerView → Type 0) (trailers : List TrailerView) (one : TrailerView) → All P trailers → P one → All P (trailers ++ one ∷ [])
-all_more P [] one all it = All-cons P one [] it (All-nil P)
-all_more P (first ∷ trailers) one all it = All-cons P first (trailers ++ one ∷ []) (All-head P first trailers all)
-    (all_more P trailers one (All-tail P first trailers all) it)
+yields_snoc : (by : Filter) (before : Trailers) (skipped : List TrailerRef) (middle after : Trailers) (trailer : TrailerRef)
+    → YieldsUnfiltered by before skipped middle → NextTrailer middle (Some (Ok trailer)) after
+    → passes_filter by (trailer_view trailer).token ≡ false → YieldsUnfiltered by before (skipped ++ trailer ∷ []) after
+yields_snoc by before [] middle after trailer same step other =
+    (after, subst (λ (it : Trailers). NextTrailer it (Some (Ok trailer)) after) (sym same) step, other, refl)
+yields_snoc by before (one ∷ skipped) middle after trailer (next, first, passed, more) step other =
+    (next, first, passed, yields_snoc by next skipped middle after trailer more step other)
 
 pub skips_unfiltered_step : (by : Filter) (before middle after : Trailers) (trailer : TrailerRef) → SkipsUnfiltered by before middle
-    → remaining_trailers middle ≡ trailer_view trailer ∷ remaining_trailers after
-    → passes_filter by (trailer_view trailer).token ≡ false → SkipsUnfiltered by before after
-skips_unfiltered_step by before middle after trailer it remaining other = record {
-  skipped = it.skipped ++ trailer_view trailer ∷ [];
-  joined = it.joined ∙ ap (λ (ts : List TrailerView). it.skipped ++ ts) remaining
-      ∙ sym (append_assoc it.skipped (trailer_view trailer ∷ []) (remaining_trailers after));
-  all = all_more (Other by) it.skipped (trailer_view trailer) it.all other;
+    → NextTrailer middle (Some (Ok trailer)) after → passes_filter by (trailer_view trailer).token ≡ false → SkipsUnfiltered by before after
+skips_unfiltered_step by before middle after trailer it step other = record {
+  skipped = it.skipped ++ trailer ∷ [];
+  yields = yields_snoc by before it.skipped middle after trailer it.yields step other;
 }
 
 -- ---- the next trailer that the filter keeps
@@ -39,20 +36,20 @@ kept_by : (by : Filter) (b : Bool) (one : TrailerView) (rest : List TrailerView)
     → filtered_of by (one ∷ rest) ≡ cond b (one ∷ filtered_of by rest) (filtered_of by rest)
 kept_by by b one rest is = ap (λ (c : Bool). cond c (one ∷ filtered_of by rest) (filtered_of by rest)) is
 
-past_others : (by : Filter) (skipped rest : List TrailerView) → All (Other by) skipped → filtered_of by (skipped ++ rest) ≡ filtered_of by rest
-past_others by [] rest all = refl
-past_others by (one ∷ skipped) rest all = kept_by by false one (skipped ++ rest) (All-head (Other by) one skipped all) ∙ past_others by skipped rest
-    (All-tail (Other by) one skipped all)
+filtered_of_skipped : (by : Filter) (before : Trailers) (skipped : List TrailerRef) (middle : Trailers)
+    → YieldsUnfiltered by before skipped middle → filtered_of by (remaining_trailers before) ≡ filtered_of by (remaining_trailers middle)
+filtered_of_skipped by before [] middle same = ap (λ (it : Trailers). filtered_of by (remaining_trailers it)) same
+filtered_of_skipped by before (one ∷ skipped) middle (next, step, other, more) =
+    ap (filtered_of by) step.0 ∙ kept_by by false (trailer_view one) (remaining_trailers next) other
+    ∙ filtered_of_skipped by next skipped middle more
 
 pub filtered_of_next : (by : Filter) (before middle after : Trailers) (trailer : TrailerRef) → SkipsUnfiltered by before middle
-    → remaining_trailers middle ≡ trailer_view trailer ∷ remaining_trailers after
-    → passes_filter by (trailer_view trailer).token ≡ true → filtered_of by (remaining_trailers before) ≡ trailer_view trailer ∷ filtered_of by
-    (remaining_trailers after)
+    → remaining_trailers middle ≡ trailer_view trailer ∷ remaining_trailers after → passes_filter by (trailer_view trailer).token ≡ true
+    → filtered_of by (remaining_trailers before) ≡ trailer_view trailer ∷ filtered_of by (remaining_trailers after)
 filtered_of_next by before middle after trailer it remaining kept =
-    ap (filtered_of by) it.joined ∙ past_others by it.skipped (remaining_trailers middle) it.all ∙ ap (filtered_of by) remaining
+    filtered_of_skipped by before it.skipped middle it.yields ∙ ap (filtered_of by) remaining
     ∙ kept_by by true (trailer_view trailer) (remaining_trailers after) kept
 
 pub filtered_of_none : (by : Filter) (before middle : Trailers) → SkipsUnfiltered by before middle → remaining_trailers middle ≡ []
     → filtered_of by (remaining_trailers before) ≡ []
-filtered_of_none by before middle it none = ap (filtered_of by) it.joined ∙ past_others by it.skipped (remaining_trailers middle) it.all
-    ∙ ap (filtered_of by) none
+filtered_of_none by before middle it none = filtered_of_skipped by before it.skipped middle it.yields ∙ ap (filtered_of by) none

@@ -5,7 +5,7 @@ use Rattle.std.specs.List.{concat}
 use Rattle.bstr.specs.Text.{lines_of}
 use Rattle.gixobj_text.specs.Breaks.{after_two_breaks}
 use Rattle.gixobj_text.specs.BodyLines.{trimmed_line}
-use Rattle.gixobj_text.specs.MessageTrailers.{BodyHasTrailers, HasTrailers}
+use Rattle.gixobj_text.specs.MessageTrailers.{BodyHasTrailerBlock, HasTrailerBlock, HasTrailers}
 use Rattle.gixobj_text.specs.Titles.{HasBreaks, IsBreak, IsSplitAtBreaks, SplitsTitle}
 use Rattle.gixobj_text.specs.Titles.IsBreak.{alone, after_return}
 use Rattle.gixobj_text.specs.TrailerBlocks.{HasBlock, IsBlockStart, StartsAfter}
@@ -114,14 +114,18 @@ block_start_unique body start start2 (inr (none, is)) (inr (none2, is2)) = is �
 
 -- ---- the trailers of a message
 
-of_body : (body : Option (List ℕ)) (trailers trailers2 : List TrailerView) → BodyHasTrailers body trailers → BodyHasTrailers body trailers2
-    → trailers ≡ trailers2
-of_body None trailers trailers2 one other = one ∙ sym other
-of_body (Some body) trailers trailers2 (start, at, is) (start2, at2, is2) =
-    is ∙ ap (λ (n : ℕ). trailers_of_bytes (drop n body)) (block_start_unique body start start2 at at2) ∙ sym is2
+block_of_body_unique : (body : Option (List ℕ)) (block block2 : List ℕ) → BodyHasTrailerBlock body block → BodyHasTrailerBlock body block2
+    → block ≡ block2
+block_of_body_unique None block block2 one other = one ∙ sym other
+block_of_body_unique (Some body) block block2 (start, at, is) (start2, at2, is2) =
+    is ∙ ap (λ (n : ℕ). drop n body) (block_start_unique body start start2 at at2) ∙ sym is2
+
+pub trailer_block_unique : (message block block2 : List ℕ) → HasTrailerBlock message block → HasTrailerBlock message block2 → block ≡ block2
+trailer_block_unique message block block2 one other =
+    let same : one.body ≡ other.body = (title_split_unique message one.title other.title one.body other.body one.split other.split).1 in
+    block_of_body_unique other.body block block2 (subst (λ (body : Option (List ℕ)). BodyHasTrailerBlock body block) same one.has) other.has
 
 pub trailers_unique : (message : List ℕ) (trailers trailers2 : List TrailerView) → HasTrailers message trailers → HasTrailers message trailers2
     → trailers ≡ trailers2
-trailers_unique message trailers trailers2 one other =
-    let same : one.body ≡ other.body = (title_split_unique message one.title other.title one.body other.body one.split other.split).1 in
-    of_body other.body trailers trailers2 (subst (λ (body : Option (List ℕ)). BodyHasTrailers body trailers) same one.has) other.has
+trailers_unique message trailers trailers2 (block, has, is) (block2, has2, is2) =
+    is ∙ ap (λ (bytes : List ℕ). trailers_of_bytes bytes) (trailer_block_unique message block block2 has has2) ∙ sym is2

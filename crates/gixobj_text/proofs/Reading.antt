@@ -9,11 +9,12 @@ use Rattle.std.specs.List.{flat_map, take_while}
 use Rattle.bstr.specs.Owned.{joined}
 use Rattle.bstr.specs.Text.{lines_of}
 use Rattle.bstr.proofs.lemmas.LineLemmas.{lines-nil}
-use Rattle.gixobj_text.specs.FirstLines.{IsFirstLine}
+use Rattle.gixobj_text.specs.FirstLines.{HasLastLines, IsFirstLine}
 use Rattle.gixobj_text.specs.BodyLines.{TrailerParts, begins_indented, after_gap, is_blank, is_folded, is_indented, is_token_byte, token_byte_step, parts_of_line, rest_of_token, trimmed_line, trailer_parts, with_value}
 use Rattle.gixobj_text.specs.Scanning.{after_token}
 use Rattle.gixobj_text.specs.Trailers.{trailers_of, trailers_of_bytes, unfolded, with_trailer}
 use Rattle.gixobj_hash.specs.ByteStrings.{is_filled, trimmed}
+use Rattle.gixobj_text.proofs.LastLines.{last_lines_step}
 use Rattle.gixobj_text.specs.Unfolding.{IsNextTrailer, are_some, first_is_folded, with_folded, with_piece, with_pieces}
 
 abbrev Lines : Type 0
@@ -110,9 +111,9 @@ rest_len_lt bytes line rest first = by_line bytes line rest first.joined first.s
         let is : length bytes ≡ length (byte ∷ line) + length rest = ap length joined ∙ length-append (byte ∷ line) rest in omega arith
 
 pub is_next_trailer_at_line : (entire bytes line rest token first : List ℕ) → trailers_of_bytes bytes ≡ trailers_of_bytes entire
-    → first_is_folded (lines_of bytes) ≡ first_is_folded (lines_of entire) → length bytes ≤ length entire
+    → first_is_folded (lines_of bytes) ≡ first_is_folded (lines_of entire) → length bytes ≤ length entire → HasLastLines entire bytes
     → IsFirstLine bytes line rest → Some (token, first) ≡ parts_of_line line → IsNextTrailer entire token first rest
-is_next_trailer_at_line entire bytes line rest token first trailers folded few one is =
+is_next_trailer_at_line entire bytes line rest token first trailers folded few last one is =
     let less : length rest < length bytes = rest_len_lt bytes line rest one in
     record {
       trailers = sym trailers ∙ ap trailers_of one.lines
@@ -122,6 +123,7 @@ is_next_trailer_at_line entire bytes line rest token first trailers folded few o
           (first_is_folded (lines_of rest)))
           (sym is);
       shorter = omega arith;
+      last_lines = last_lines_step entire bytes line rest last one;
     }
 
 pub trailers_of_bytes_nil : (bytes : List ℕ) → bytes ≡ [] → trailers_of_bytes bytes ≡ []

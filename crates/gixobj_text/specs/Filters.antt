@@ -1,5 +1,5 @@
 -- Filters of trailers by their tokens.
-use Rattle.std.specs.Prelude.{◌≡◌, ◌++◌, ℕ, Bool, List, All, IsFalse, IsTrue, Option, Some, None, Result, Ok, Err, codes, filter as filtered, ⊤}
+use Rattle.std.specs.Prelude.{◌≡◌, ℕ, Bool, List, [], ◌∷◌, IsFalse, IsTrue, Option, Some, None, Result, Ok, Err, codes, filter as filtered, ⊤}
 use Rattle.std.specs.Iterator.{Count}
 use Rattle.gixobj_hash.specs.declared.memory.OutOfMemory.{OutOfMemory}
 use Rattle.gixobj_text.specs.TrailerSteps.{NextTrailer, remaining_trailer_count, trailer_view, remaining_trailers}
@@ -32,11 +32,17 @@ abbrev pub remaining_filtered : Filtered → List TrailerView
 remaining_filtered it = filtered (λ trailer. passes_filter (filter_of it) trailer.token)
     (remaining_trailers (all_of it))
 
+-- the iterator yields these trailers one after the other, and the filter keeps none of them
+abbrev pub YieldsUnfiltered : Filter → Trailers → List TrailerRef → Trailers → Type 0
+YieldsUnfiltered by before [] after = before ≡ after
+YieldsUnfiltered by before (trailer ∷ skipped) after =
+    (next : Trailers) × NextTrailer before (Some (Ok trailer)) next
+    × IsFalse (passes_filter by (trailer_view trailer).token) × YieldsUnfiltered by next skipped after
+
 -- the iterator has skipped trailers that the filter doesn't keep
 pub record SkipsUnfiltered (by : Filter) (before after : Trailers) : Type 0 where
-  pub skipped : List TrailerView
-  pub joined : remaining_trailers before ≡ skipped ++ remaining_trailers after
-  pub all : All (λ trailer. IsFalse (passes_filter by trailer.token)) skipped
+  pub skipped : List TrailerRef
+  pub yields : YieldsUnfiltered by before skipped after
 
 -- an item that is yielded: a trailer that the filter keeps, an error, or the end
 abbrev pub IsForwarded : Filter → Option (Result TrailerRef OutOfMemory) → Type 0
@@ -44,8 +50,8 @@ IsForwarded by (Some (Ok trailer)) = IsTrue (passes_filter by (trailer_view trai
 IsForwarded by (Some (Err error)) = ⊤
 IsForwarded by None = ⊤
 
--- a step skips trailers that the filter doesn't keep, and yields the next item of the unfiltered iterator; the filter
--- is unchanged
+-- steps of the unfiltered iterator skip trailers that the filter doesn't keep, and the next one yields the item; the
+-- filter is unchanged
 abbrev pub NextFiltered : Filtered → Option (Result TrailerRef OutOfMemory) → Filtered → Type 0
 NextFiltered before item after =
     (middle : Trailers) × SkipsUnfiltered (filter_of before) (all_of before) middle

@@ -4,15 +4,18 @@ use Rattle.gixobj_text.specs.Titles.{SplitsTitle}
 use Rattle.gixobj_text.specs.TrailerBlocks.{IsBlockStart}
 use Rattle.gixobj_text.specs.Trailers.{TrailerView, trailers_of_bytes}
 
--- the trailers of the block at the end of a body; none without a body
-abbrev pub BodyHasTrailers : Option (List ℕ) → List TrailerView → Type 0
-BodyHasTrailers None trailers = trailers ≡ []
-BodyHasTrailers (Some body) trailers = (start : ℕ) × IsBlockStart body start
-    × (trailers ≡ trailers_of_bytes (drop start body))
+-- the trailer block at the end of a body; empty without a body
+abbrev pub BodyHasTrailerBlock : Option (List ℕ) → List ℕ → Type 0
+BodyHasTrailerBlock None block = block ≡ []
+BodyHasTrailerBlock (Some body) block = (start : ℕ) × IsBlockStart body start × (block ≡ drop start body)
 
--- the trailers of a message: those of its body
-pub record HasTrailers (message : List ℕ) (trailers : List TrailerView) : Type 0 where
+-- the trailer block of a message: that of its body
+pub record HasTrailerBlock (message block : List ℕ) : Type 0 where
   pub title : List ℕ
   pub body : Option (List ℕ)
   pub split : SplitsTitle message title body
-  pub has : BodyHasTrailers body trailers
+  pub has : BodyHasTrailerBlock body block
+
+-- the trailers of a message: those of its trailer block
+abbrev pub HasTrailers : List ℕ → List TrailerView → Type 0
+HasTrailers message trailers = (block : List ℕ) × HasTrailerBlock message block × (trailers ≡ trailers_of_bytes block)

@@ -8,6 +8,7 @@ use Rattle.std.specs.Cow.{cow_slice_items}
 use Rattle.bstr.specs.BStr.{bstr_bytes}
 use Rattle.bstr.specs.Text.{lines_of}
 use Rattle.gixobj_hash.specs.declared.memory.OutOfMemory.{OutOfMemory}
+use Rattle.gixobj_text.specs.FirstLines.{HasLastLines}
 use Rattle.gixobj_text.specs.Trailers.{TrailerView, trailers_of_bytes}
 use Rattle.gixobj_text.specs.Unfolding.{first_is_folded}
 use Rattle.gixobj_text.specs.declared.commit.message.body.trailers.TrailerRef.{TrailerRef}
@@ -34,13 +35,14 @@ remaining_trailers it = trailers_of_bytes (remaining_bytes it)
 abbrev pub is_folded_next : Trailers → Bool
 is_folded_next it = first_is_folded (lines_of (remaining_bytes it))
 
--- a step yields the next trailer, owned if and only if its value has several lines; or an error for such a value, and
--- then nothing remains; or nothing, if no trailer remains
+-- a step yields the next trailer, owned if and only if its value has several lines, and then the last lines remain; or
+-- an error for such a value, and then nothing remains; or nothing, if no trailer remains
 abbrev pub NextTrailer : Trailers → Option (Result TrailerRef OutOfMemory) → Trailers → Type 0
 NextTrailer before (Some (Ok trailer)) after =
     (remaining_trailers before ≡ trailer_view trailer ∷ remaining_trailers after)
     × (is_owned trailer.value ≡ is_folded_next before)
     × (length (remaining_bytes after) < length (remaining_bytes before))
+    × HasLastLines (remaining_bytes before) (remaining_bytes after)
 NextTrailer before (Some (Err error)) after =
     (is_folded_next before ≡ true) × (remaining_bytes after ≡ [])
     × (length (remaining_bytes after) < length (remaining_bytes before))

@@ -3,6 +3,7 @@ use Rattle.std.specs.Prelude.{◌≡◌, ◌<◌, ◌++◌, ℕ, Bool, true, fal
 use Rattle.std.specs.List.{take_while}
 use Rattle.bstr.specs.Text.{lines_of}
 use Rattle.gixobj_hash.specs.Bytes.{space}
+use Rattle.gixobj_text.specs.FirstLines.{HasLastLines}
 use Rattle.gixobj_text.specs.BodyLines.{is_folded, is_trailer_line, trimmed_line}
 use Rattle.gixobj_text.specs.Trailers.{trailers_of_bytes, with_trailer}
 use Rattle.gixobj_hash.specs.ByteStrings.{is_filled, trimmed}
@@ -41,3 +42,4 @@ pub record IsNextTrailer (bytes token first rest : List ℕ) : Type 0 where
       (trailers_of_bytes rest)
   pub folded : first_is_folded (lines_of bytes) ≡ are_some (take_while is_folded (lines_of rest))
   pub shorter : length rest < length bytes
+  pub last_lines : HasLastLines bytes rest

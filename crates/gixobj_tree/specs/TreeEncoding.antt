@@ -1,5 +1,5 @@
 -- Encoding of trees (gitdatamodel, "trees"; git-mktree reads the same entries as lines).
-use Rattle.std.specs.Prelude.{◌≡◌, ◌+◌, ◌*◌, ℕ, List, [], ◌∷◌, ◌++◌, All, Contains, Err, Ok, Result, ⊤}
+use Rattle.std.specs.Prelude.{◌≡◌, ◌+◌, ◌*◌, ℕ, List, [], ◌∷◌, ◌++◌, All, Contains, Err, Ok, Result}
 use Rattle.std.specs.List.{flat_map}
 use Rattle.gixobj_tree.specs.Entries.{EntryView}
 use Rattle.gixobj_hash.specs.Hash.{id_bytes, id_of}
@@ -8,9 +8,8 @@ use Rattle.gixobj_hash.specs.declared.hash.object_id.ObjectId.{ObjectId}
 use Rattle.gixobj_hash.specs.declared.kind.Kind.TheVariants.{Tree}
 use Rattle.gixobj_mode.specs.Mode.{encode_mode}
 use Rattle.gixobj_hash.specs.ByteStrings.{IsByteFree}
-use Rattle.gixobj_fields.specs.Writing.{RejectedValue, RejectsNothing, name_with_zero_byte}
+use Rattle.gixobj_fields.specs.Writing.{IsEncodingError, RejectedValue, RejectsNothing, name_with_zero_byte}
 use Rattle.gixobj_fields.specs.declared.encode.Error.{Error}
-use Rattle.gixobj_fields.specs.declared.encode.Error.TheVariants.{Writer}
 use Rattle.gixobj_hash.specs.Bytes.{space}
 
 -- the bytes of an entry before its name: the mode and a space
@@ -56,9 +55,7 @@ IsEncodableTree entries = RejectsNothing (IsTreeEncodeError entries)
 abbrev pub IsUnencodableTree : List EntryView → Type 0
 IsUnencodableTree entries = (value : RejectedValue) × (parts : List ℕ) × IsTreeEncodeError entries value parts
 
--- Ok: the id is the digest of the tree's encoding; Writer: the encoding failed to allocate; any other error: a name
--- of the tree is rejected
+-- Ok: the id is the digest of the tree's encoding; an error: that of a writer of the tree to an empty list
 abbrev pub IsAnsweredDigest : hash.Kind → List EntryView → Result ObjectId Error → Type 0
 IsAnsweredDigest hash tree (Ok id) = IsEncodableTree tree × (id ≡ id_of hash Tree (encode_tree tree))
-IsAnsweredDigest hash tree (Err (Writer cause)) = ⊤
-IsAnsweredDigest hash tree (Err other) = IsUnencodableTree tree
+IsAnsweredDigest hash tree (Err error) = IsEncodingError (IsTreeEncodeError tree) (encode_tree tree) error

@@ -5,8 +5,8 @@ ghost use Rattle.std.specs.Cow.{cow_slice_items};
 ghost use Rattle.bstr.specs.BStr.{bstr_bytes};
 ghost use Rattle.gixobj_commit.specs.CommitViews.{commit_lines};
 ghost use Rattle.gixobj_text.specs.Filters.{all_of, filter_of};
-ghost use Rattle.gixobj_text.specs.TrailerSteps.{is_owned, remaining_trailers};
-ghost use Rattle.gixobj_text.specs.MessageTrailers.{HasTrailers};
+ghost use Rattle.gixobj_text.specs.TrailerSteps.{is_owned, remaining_bytes};
+ghost use Rattle.gixobj_text.specs.MessageTrailers.{HasTrailerBlock};
 ghost use Rattle.gixobj_text.specs.Summing.{is_of_lines};
 ghost use Rattle.gixobj_text.specs.Titles.{SplitsTitle, summary_of};
 ghost use Rattle.gixobj_text.specs.declared.commit.message.body.filters.Filter.TheVariants.{AssistedBy, Attributions, Authors, CoAuthoredBy, SignedOffBy};
@@ -64,7 +64,7 @@ impl<'a> CommitRef<'a> {
     /// Returns an iterator over the trailers at the end of the message's body, in order; a message without
     /// body has none. The call itself allocates nothing.
     pub fn message_trailers(&self, alloc: Global) -> Trailers<'a>
-        ensures { HasTrailers (commit_lines self.now).message (remaining_trailers result) }
+        ensures { HasTrailerBlock (commit_lines self.now).message (remaining_bytes result) }
     {
         message_trailers(alloc, self.message)
     }
@@ -84,8 +84,8 @@ impl<'a> CommitRef<'a> {
     /// Ok(found)
     /// ```
     pub fn signed_off_by_trailers(&self, alloc: Global) -> Filtered<'a>
-        ensures trailers { HasTrailers (commit_lines self.now).message
-            (remaining_trailers (all_of result)) }
+        ensures trailers { HasTrailerBlock (commit_lines self.now).message
+            (remaining_bytes (all_of result)) }
         ensures filter { filter_of result ≡ SignedOffBy }
     {
         self.message_trailers(alloc).signed_off_by()
@@ -93,8 +93,8 @@ impl<'a> CommitRef<'a> {
 
     /// Returns an iterator over the `Co-authored-by` trailers of the message.
     pub fn co_authored_by_trailers(&self, alloc: Global) -> Filtered<'a>
-        ensures trailers { HasTrailers (commit_lines self.now).message
-            (remaining_trailers (all_of result)) }
+        ensures trailers { HasTrailerBlock (commit_lines self.now).message
+            (remaining_bytes (all_of result)) }
         ensures filter { filter_of result ≡ CoAuthoredBy }
     {
         self.message_trailers(alloc).co_authored_by()
@@ -102,8 +102,8 @@ impl<'a> CommitRef<'a> {
 
     /// Returns an iterator over the `Assisted-by` trailers of the message.
     pub fn assisted_by_trailers(&self, alloc: Global) -> Filtered<'a>
-        ensures trailers { HasTrailers (commit_lines self.now).message
-            (remaining_trailers (all_of result)) }
+        ensures trailers { HasTrailerBlock (commit_lines self.now).message
+            (remaining_bytes (all_of result)) }
         ensures filter { filter_of result ≡ AssistedBy }
     {
         self.message_trailers(alloc).assisted_by()
@@ -111,8 +111,8 @@ impl<'a> CommitRef<'a> {
 
     /// Returns an iterator over the trailers that name authors: `Signed-off-by` and `Co-authored-by`.
     pub fn author_trailers(&self, alloc: Global) -> Filtered<'a>
-        ensures trailers { HasTrailers (commit_lines self.now).message
-            (remaining_trailers (all_of result)) }
+        ensures trailers { HasTrailerBlock (commit_lines self.now).message
+            (remaining_bytes (all_of result)) }
         ensures filter { filter_of result ≡ Authors }
     {
         self.message_trailers(alloc).authors()
@@ -121,8 +121,8 @@ impl<'a> CommitRef<'a> {
     /// Returns an iterator over the trailers that name contributors: `Signed-off-by`, `Co-authored-by`,
     /// `Assisted-by`, `Acked-by`, `Reviewed-by` and `Tested-by`. A name may occur more than once.
     pub fn attribution_trailers(&self, alloc: Global) -> Filtered<'a>
-        ensures trailers { HasTrailers (commit_lines self.now).message
-            (remaining_trailers (all_of result)) }
+        ensures trailers { HasTrailerBlock (commit_lines self.now).message
+            (remaining_bytes (all_of result)) }
         ensures filter { filter_of result ≡ Attributions }
     {
         self.message_trailers(alloc).attributions()

@@ -1,7 +1,7 @@
 //! Signing of commits (gitformat-signature, "Commit signatures").
 ghost use Rattle.std.specs.Prelude.{◌≡◌, IfErr, IfOk, OnOk};
 ghost use Rattle.bstr.specs.Owned.{bstring_bytes};
-ghost use Rattle.gixobj_commit.specs.CommitSigning.{GetsCommitSignature, IsSignedCommit, IsSignedCommitCopy, IsCommitSigningError, IsCommitCopySigningError, IsCommitWriteError, is_header_named, with_last_header, without_headers};
+ghost use Rattle.gixobj_commit.specs.CommitSigning.{GetsCommitSignature, IsSignedCommit, IsSignedCommitCopy, IsCommitSigningError, IsCommitCopySigningError, IsCommitEncodingError, is_header_named, with_last_header, without_headers};
 ghost use Rattle.gixobj_commit.specs.CommitViews.{commit_lines, owned_commit_lines};
 ghost use Rattle.gixobj_commit.specs.CommitWriting.{HasIds, IsOwnedCommitError, encode_commit};
 ghost use Rattle.gixobj_fields.specs.HeaderReading.{owned_header_of};
@@ -98,7 +98,7 @@ impl CommitRef<'_> {
 fn payload_of(alloc: Global, commit: &Commit) -> Result<Vec<u8>, encode::Error>
     ensures encoded { IfOk result (λ content. content.items ≡ encode_commit (owned_commit_lines commit.now)) }
     ensures writable { OnOk result (RejectsNothing (IsOwnedCommitError commit.now)) }
-    ensures error { IfErr result (IsCommitWriteError commit.now
+    ensures error { IfErr result (IsCommitEncodingError commit.now
         (encode_commit (owned_commit_lines commit.now))) }
 {
     let mut payload = Vec::new(alloc);

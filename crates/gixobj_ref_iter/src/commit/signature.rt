@@ -1,8 +1,9 @@
 //! The signature in a commit's encoding, and the data that it signs (gitformat-signature, "Commit
 //! signatures").
-ghost use Rattle.std.specs.Prelude.{◌≡◌, IfErr, IfOk, MatchOption};
+ghost use Rattle.std.specs.Prelude.{◌≡◌, IfErr, IfOk, IfSome, MatchOption};
 ghost use Rattle.std.specs.Cow.{cow_slice_items};
-ghost use Rattle.gixobj_line.specs.Lines.{header_line, line_view};
+ghost use Rattle.gixobj_fields.specs.HeaderReading.{BorrowsOneLine};
+ghost use Rattle.gixobj_line.specs.Lines.{IsParsedLine, header_line, line_view};
 ghost use Rattle.gixobj_ref_iter.specs.Extracting.{FindsSignatureOfCommit, HasNoSignature, HasCommitSignature, IsNamedLine, IsCommitSignatureError};
 ghost use Rattle.gixobj_signature.specs.SignedBytes.{signed_bytes};
 
@@ -22,7 +23,7 @@ impl<'a> CommitRefIter<'a> {
     /// of `hash_kind`.
     ///
     /// The first header of that name is the signature, and lines after it aren't decoded. Headers of several
-    /// lines allocate their values.
+    /// lines allocate their values; a value of one line is borrowed.
     ///
     /// # Errors
     ///
@@ -35,6 +36,7 @@ impl<'a> CommitRefIter<'a> {
     ) -> Result<Option<(CowSlice<'a, u8>, SignedData<'a>)>, Error>
         ensures found { IfOk result (FindsSignatureOfCommit hash_kind bytes.now) }
         ensures error { IfErr result (IsCommitSignatureError hash_kind bytes.now) }
+        ensures borrowed { IfOk result (λ found. IfSome found (λ it. BorrowsOneLine it.0)) }
     {
         let field = signature_field_name(hash_kind).as_bytes();
         let mut state = State::Tree;
@@ -58,9 +60,10 @@ impl<'a> CommitRefIter<'a> {
 
 /// Returns the value of a header of this name, and `None` for any other line.
 fn value_of_line<'a>(line: Line<'a>, name: &[u8]) -> Option<CowSlice<'a, u8>>
-    ensures { MatchOption result (¬ IsNamedLine name.now (line_view line.entry))
+    ensures found { MatchOption result (¬ IsNamedLine name.now (line_view line.entry))
         (λ value. line_view line.entry ≡ header_line
         (record { name = name.now; value = cow_slice_items value })) }
+    ensures borrowed { IfSome result (λ value. IsParsedLine line.entry → BorrowsOneLine value) }
 {
     match line {
         Line::ExtraHeader((key, value)) => {

@@ -5,7 +5,7 @@ ghost use Rattle.gixobj_fields.specs.Writing.{RejectsNothing};
 ghost use Rattle.gixobj_hash.specs.Hash.{IsIdHex};
 ghost use Rattle.gixobj_signature.specs.Signing.{options_view, sign_plan, signer_error};
 ghost use Rattle.gixobj_signature.specs.Plans.{IsCarriedOut};
-ghost use Rattle.gixobj_tag.specs.TagSigning.{GetsTagSignature, HasNoPayload, IsSignedTag, IsSignedTagCopy, IsTagSigningError, IsTagCopySigningError, IsTagWriteError, signed_as, unsigned};
+ghost use Rattle.gixobj_tag.specs.TagSigning.{GetsTagSignature, HasNoPayload, IsSignedTag, IsSignedTagCopy, IsTagSigningError, IsTagCopySigningError, IsTagEncodingError, signed_as, unsigned};
 ghost use Rattle.gixobj_tag.specs.TagViews.{owned_tag_lines, tag_lines};
 ghost use Rattle.gixobj_tag.specs.TagWriting.{IsOwnedTagError, encode_tag};
 ghost use Rattle.gixobj_hash.specs.Bytes.{newline};
@@ -117,7 +117,7 @@ fn payload_of(alloc: Global, tag: &Tag) -> Result<Vec<u8>, Error>
 fn tag_written(alloc: Global, tag: &Tag) -> Result<Vec<u8>, encode::Error>
     ensures encoded { IfOk result (λ content. content.items ≡ encode_tag (owned_tag_lines tag.now)) }
     ensures writable { OnOk result (RejectsNothing (IsOwnedTagError tag.now)) }
-    ensures error { IfErr result (IsTagWriteError tag.now) }
+    ensures error { IfErr result (IsTagEncodingError tag.now) }
 {
     let mut content = Vec::new(alloc);
     tag.write_to_vec(alloc, &mut content)?;

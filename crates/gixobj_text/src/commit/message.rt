@@ -4,12 +4,11 @@ ghost use Rattle.std.specs.Prelude.{◌≡◌, ◌≤◌, IfErr, IfOk, IfNone, I
 ghost use Rattle.std.specs.Cow.{cow_slice_items};
 ghost use Rattle.bstr.specs.BStr.{bstr_bytes};
 ghost use Rattle.gixobj_hash.specs.Optional.{bytes_if_some};
-ghost use Rattle.gixobj_text.specs.TrailerSteps.{is_owned, remaining_trailers};
-ghost use Rattle.gixobj_text.specs.MessageTrailers.{HasTrailers};
+ghost use Rattle.gixobj_text.specs.TrailerSteps.{is_owned, remaining_bytes};
+ghost use Rattle.gixobj_text.specs.MessageTrailers.{HasTrailerBlock};
 ghost use Rattle.gixobj_text.specs.Summing.{is_of_lines};
 ghost use Rattle.gixobj_text.specs.Titles.{SplitsTitle, summary_of};
 ghost use Rattle.gixobj_text.specs.TrailerBlocks.{IsBlockStart};
-ghost use Rattle.gixobj_text.specs.Trailers.{trailers_of_bytes};
 
 pub mod body;
 mod decode;
@@ -120,8 +119,7 @@ impl<'a> BodyRef<'a> {
 
     /// Returns an iterator over the trailers of the block, in order. Making the iterator allocates nothing.
     pub fn trailers(&self, alloc: Global) -> Trailers<'a>
-        ensures { remaining_trailers result ≡ trailers_of_bytes
-            (drop (start_of_block self.now) (bytes_of_body self.now)) }
+        ensures { remaining_bytes result ≡ drop (start_of_block self.now) (bytes_of_body self.now) }
     {
         Trailers::new(alloc, &self.body.as_bytes()[self.trailer_start..])
     }
@@ -138,7 +136,7 @@ impl<'a> BodyRef<'a> {
 
 /// Returns the trailers of a message's body, none without a body. Making the iterator allocates nothing.
 pub fn message_trailers<'a>(alloc: Global, message: BStr<'a>) -> Trailers<'a>
-    ensures { HasTrailers (bstr_bytes message.entry) (remaining_trailers result) }
+    ensures { HasTrailerBlock (bstr_bytes message.entry) (remaining_bytes result) }
 {
     match MessageRef::from_bytes(message.as_bytes()).body() {
         Some(body) => body.trailers(alloc),

@@ -6,7 +6,7 @@ ghost use Rattle.gixobj_text.specs.BodyLines.{DecodesToTrailer, trailer_parts};
 ghost use Rattle.gixobj_text.specs.Filters.{NextFiltered, remaining_filtered};
 ghost use Rattle.gixobj_text.specs.BlockSteps.{NextBlock, block_view, remaining_block_bytes, first_start};
 ghost use Rattle.gixobj_text.specs.TrailerSteps.{NextTrailer, trailer_view, remaining_trailers};
-ghost use Rattle.gixobj_text.specs.MessageTrailers.{HasTrailers};
+ghost use Rattle.gixobj_text.specs.MessageTrailers.{HasTrailerBlock, HasTrailers};
 ghost use Rattle.gixobj_text.specs.Titles.{SplitsTitle};
 ghost use Rattle.gixobj_text.specs.TrailerBlocks.{IsBlockStart};
 ghost use Rattle.gixobj_text.specs.Trailers.{TrailerView};
@@ -35,9 +35,11 @@ pub fn trailer_block_start_is_unique()
         → IsBlockStart body start' → start ≡ start' }
 {}
 
-/// A message has at most one list of trailers.
+/// A message has at most one trailer block, and at most one list of trailers.
 pub fn trailers_are_unique()
-    ensures { (message : List ℕ) (trailers trailers' : List TrailerView)
+    ensures block { (message block block' : List ℕ) → HasTrailerBlock message block
+        → HasTrailerBlock message block' → block ≡ block' }
+    ensures trailers { (message : List ℕ) (trailers trailers' : List TrailerView)
         → HasTrailers message trailers → HasTrailers message trailers' → trailers ≡ trailers' }
 {}
 

@@ -1,7 +1,7 @@
-use Rattle.std.proofs.Common.{◌≡◌, ◌∙◌, List, None, Ok, Option, Result, ap, filter, map, subst}
+use Rattle.std.proofs.Common.{◌≡◌, ◌∙◌, List, None, Ok, Option, Result, ap, filter, map, refl, subst}
 use Rattle.std.specs.Iterator.{Yields}
 use Rattle.gix_object.specs.Filters.{NextFiltered, all_of, passes_filter, remaining_filtered}
-use Rattle.gix_object.specs.TrailerSteps.{trailer_view, remaining_trailers}
+use Rattle.gix_object.specs.TrailerSteps.{remaining_bytes, remaining_trailers, trailer_view}
 use Rattle.gix_object.specs.Trailers.{TrailerView}
 use Rattle.gix_object.specs.hash.memory.OutOfMemory.{OutOfMemory}
 use Rattle.gix_object.specs.message.commit.message.body.filters.Filter.{Filter}
@@ -26,4 +26,4 @@ returns c =
     (c.next.new.self, (remaining, yielded, ended)) in
     let signed = ap (λ (by : Filter). filter (λ (trailer : TrailerView). passes_filter by trailer.token) all)
     c.signed_off_by_trailers-trailer-items.ensures.filter in
-    (all, c.signed_off_by_trailers-trailer-items.ensures.trailers, kept ∙ signed)
+    (all, (remaining_bytes (all_of reader), c.signed_off_by_trailers-trailer-items.ensures.trailers, refl), kept ∙ signed)

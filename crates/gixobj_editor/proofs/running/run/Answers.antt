@@ -3,7 +3,7 @@ use Rattle.std.specs.Fn.{FnReturnsAt}
 use Rattle.gixobj_hash.specs.declared.hash.object_id.ObjectId.{ObjectId}
 use Rattle.gixobj_object.specs.Stores.{StoreModel}
 use Rattle.gixobj_tree.specs.Entries.{EntryView}
-use Rattle.gixobj_editor.proofs.Named.{names_history}
+use Rattle.gixobj_editor.proofs.Named.{names_history, run_keeps_pairs}
 use Rattle.gixobj_editor.proofs.OneId.{ids_determine_files}
 use Rattle.gixobj_editor.proofs.OneMore.{no_more, one_more}
 use Rattle.gixobj_editor.proofs.running.run.Goals as goal
@@ -41,3 +41,10 @@ returns-clause-one_id g c =
     λ T m plain. ids_determine_files means answers T _ _ _ _
     (no_more means answers _ _ _ _ _ (omega (arith, c.in-None.ensures.steps.0, c.loop-command.command-iterator.rest.ok.0)) c.loop-command.invariant.so_far) m
     plain
+
+pub returns-clause-stored : goal.returns-clause-stored
+returns-clause-stored g c =
+    let means : StoreModel g.row.S.Denot = record { objects = g.S.Store.objects; may_fail = g.S.Store.may_fail } in
+    let answers = λ (tree : List EntryView) (answer : Result ObjectId g.row.E.Denot). FnReturnsAt g.F.Fn c.args.out tree answer in
+    run_keeps_pairs means answers _ _ _ _
+    (no_more means answers _ _ _ _ _ (omega (arith, c.in-None.ensures.steps.0, c.loop-command.command-iterator.rest.ok.0)) c.loop-command.invariant.so_far)

@@ -2,9 +2,7 @@ use Rattle.std.proofs.Common.{ℕ, List, Option, None, subst}
 use Rattle.bstr.specs.BStr.{bstr_bytes}
 use Rattle.bstr.specs.declared.bstr.BStr.{BStr}
 use Rattle.gixobj_hash.specs.Optional.{bytes_if_some}
-use Rattle.gixobj_text.specs.TrailerSteps.{remaining_bytes}
 use Rattle.gixobj_text.specs.Titles.{SplitsTitle}
-use Rattle.gixobj_text.proofs.Reading.{trailers_of_bytes_nil}
 use Rattle.gixobj_text.proofs.commit.message.message_trailers.Goals as goal
 
 pub returns-in-None : goal.returns-in-None
@@ -16,5 +14,5 @@ returns-in-None c =
       title = title;
       body = None;
       split = subst (λ (body : Option BStr). SplitsTitle (bstr_bytes c.args.message) title (bytes_if_some body)) c.in-None.ensures.none split;
-      has = trailers_of_bytes_nil (remaining_bytes c.new.result) c.new.ensures;
+      has = c.new.ensures;
     }

@@ -20,12 +20,11 @@ pub struct MessageBlock<'a> {
 /// Access
 impl<'a> MessageBlock<'a> {
     ghost use Rattle.gixobj_text.specs.BlockSteps.{bytes_of_trailers};
-    ghost use Rattle.gixobj_text.specs.TrailerSteps.{remaining_trailers};
-    ghost use Rattle.gixobj_text.specs.Trailers.{trailers_of_bytes};
+    ghost use Rattle.gixobj_text.specs.TrailerSteps.{remaining_bytes};
 
     /// Returns an iterator over the trailers that follow the message. Making the iterator allocates nothing.
     pub fn trailers(&self, alloc: Global) -> Trailers<'a>
-        ensures { remaining_trailers result ≡ trailers_of_bytes (bytes_of_trailers self.now) }
+        ensures { remaining_bytes result ≡ bytes_of_trailers self.now }
     {
         Trailers::new(alloc, self.trailers)
     }

@@ -5,6 +5,7 @@ ghost use Rattle.bstr.specs.BStr.{bstr_bytes};
 ghost use Rattle.bstr.specs.Text.{lines_of};
 ghost use Rattle.gixobj_text.specs.TrailerSteps.{NextTrailer, remaining_trailer_count, is_owned, remaining_bytes};
 ghost use Rattle.gixobj_text.specs.BodyLines.{is_folded, trimmed_line};
+ghost use Rattle.gixobj_text.specs.FirstLines.{HasLastLines};
 ghost use Rattle.gixobj_text.specs.TrailerNames.{is_named, names_part};
 ghost use Rattle.gixobj_text.specs.Trailers.{trailers_of_bytes, unfolded as unfolded_of};
 ghost use Rattle.gixobj_hash.specs.ByteStrings.{trimmed};
@@ -123,6 +124,7 @@ impl<'a> Iterator for Trailers<'a> {
 
     ghost remaining = { remaining_trailer_count };
 
+    #[tactic(auto, using(crate::proofs::LastLines::last_lines_trans))]
     fn next(&mut self) -> Option<Result<TrailerRef<'a>, OutOfMemory>> {
         let Some((token, first, rest)) = next_trailer(self.cursor) else {
             self.cursor = b"";
@@ -142,7 +144,7 @@ impl<'a> Iterator for Trailers<'a> {
 }
 
 /// Returns the token of the next trailer line, the bytes after its colon, and the lines after it.
-#[tactic(auto, using(crate::proofs::Reading::is_next_trailer_at_line, crate::proofs::Reading::trailers_of_bytes_skip, crate::proofs::Reading::first_is_folded_skip, crate::proofs::Reading::rest_len_lt, crate::proofs::Reading::trailers_of_bytes_nil))]
+#[tactic(auto, using(crate::proofs::Reading::is_next_trailer_at_line, crate::proofs::Reading::trailers_of_bytes_skip, crate::proofs::Reading::first_is_folded_skip, crate::proofs::Reading::rest_len_lt, crate::proofs::Reading::trailers_of_bytes_nil, crate::proofs::LastLines::last_lines_refl, crate::proofs::LastLines::last_lines_step))]
 fn next_trailer(bytes: &[u8]) -> Option<(&[u8], &[u8], &[u8])>
     ensures { MatchOption result (trailers_of_bytes bytes.now ≡ [])
         (λ it. IsNextTrailer bytes.now it.0.now it.1.now it.2.now) }
@@ -168,10 +170,11 @@ pub(crate) fn is_folded_line(line: &[u8]) -> bool
 
 /// Skips the lines that continue a trailer.
 #[inline(always)]
-#[tactic(auto, using(crate::proofs::Reading::parts_of_folded_line, crate::proofs::Reading::trailers_of_bytes_skip, crate::proofs::Reading::rest_len_lt))]
+#[tactic(auto, using(crate::proofs::Reading::parts_of_folded_line, crate::proofs::Reading::trailers_of_bytes_skip, crate::proofs::Reading::rest_len_lt, crate::proofs::LastLines::last_lines_refl, crate::proofs::LastLines::last_lines_step))]
 fn after_folded(bytes: &[u8]) -> &[u8]
     ensures trailers { trailers_of_bytes result.now ≡ trailers_of_bytes bytes.now }
     ensures within { length result.now ≤ length bytes.now }
+    ensures last_lines { HasLastLines bytes.now result.now }
 {
     if !begins_indented(bytes) {
         return bytes;
