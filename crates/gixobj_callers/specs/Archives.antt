@@ -1,17 +1,20 @@
--- The last commit and the files of an imported history.
+-- The last commit and the files of an imported history, and its errors.
 use Rattle.std.specs.Prelude.{◌≡◌, ◌++◌, ◌∷◌, ℕ, List, [], None, Option, length}
 use Rattle.gix_object.specs.Commit.{DecodesToCommit}
 use Rattle.gix_object.specs.Commits.{step_commit, encode_step}
 use Rattle.gix_object.specs.Files.{NamedFiles, SameFiles, Table}
 use Rattle.gix_object.specs.Hash.{id_of}
 use Rattle.gix_object.specs.History.{History}
-use Rattle.gix_object.specs.Imports.{AgreesWithImports, edits_of}
+use Rattle.gix_object.specs.Imports.{AgreesWithImports, IsNewImporter, edits_of}
 use Rattle.gix_object.specs.PlainHistory.{NoFiles}
-use Rattle.gix_object.specs.Stores.{Objects}
+use Rattle.gix_object.specs.Steps.{Stops}
+use Rattle.gix_object.specs.Stores.{Objects, StoreModel}
 use Rattle.gix_object.specs.hash.hash.kind.Kind as hash
 use Rattle.gix_object.specs.hash.hash.object_id.ObjectId.{ObjectId}
 use Rattle.gix_object.specs.hash.kind.Kind.TheVariants.{Commit}
+use Rattle.gix_object.specs.import.import.ImportError.{ImportError}
 use Rattle.gix_object.specs.import.import.Imported.{Imported}
+use Rattle.gix_object.specs.import.import.Importer.{Importer}
 use Rattle.gix_object.specs.import.import.Step.{Step}
 
 -- the commit's id is the digest of this step's encoding, with its tree and a parent or none; the encoding decodes to
@@ -33,3 +36,14 @@ pub record IsTip (objects : Objects) (hash : hash.Kind) (steps : List Step) (tip
   pub commit : IsOfStep hash last tip
   pub files : (T : Table) (n : ℕ) → AgreesWithImports T objects None steps (earlier ++ tip ∷ [])
       → SameFiles (NamedFiles T n tip.written.id) (History T n (edits_of steps) NoFiles)
+
+-- why an archive fails: on a new importer over this store, the import of the steps stops with this error
+pub record IsArchiveError {S : Type 0} (means : StoreModel S) (store : S) (hash : hash.Kind) (steps : List Step)
+    (error : ImportError) : Type 0 where
+  pub start : Importer S
+  pub after : Importer S
+  pub done : List Imported
+  pub is_new : IsNewImporter start
+  pub over : start.editor.store ≡ store
+  pub ids : start.hash ≡ hash
+  pub stops : Stops means start steps done error after

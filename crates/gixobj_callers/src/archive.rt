@@ -1,6 +1,7 @@
 //! An archive, which imports a history into an object store and returns its last commit.
-ghost use Rattle.std.specs.Prelude.{◌≡◌, ◌↔◌, [], IfOk, IfSome, IsNone};
-ghost use Rattle.gixobj_callers.specs.Archives.{IsTip};
+ghost use Rattle.std.specs.Prelude.{◌≡◌, ◌↔◌, [], IfErr, IfOk, IfSome, IsNone};
+ghost use Rattle.gixobj_callers.specs.Archives.{IsArchiveError, IsTip};
+ghost use Rattle.gix_object.specs.Stores.{store_model};
 
 use gix_object::hash::Kind;
 use gix_object::import::{ImportError, Imported, Importer, Step, import_all};
@@ -22,6 +23,7 @@ pub fn tip_of<S: Keep + KeepCommit + Drop>(
 ) -> Result<Option<Imported>, ImportError>
     ensures none { IfOk result (λ tip. IsNone tip ↔ (steps.now ≡ [])) }
     ensures tip { IfOk result (λ tip. IfSome tip (IsTip (S.objects store) hash steps.now)) }
+    ensures error { IfErr result (IsArchiveError (store_model S.objects S.may_fail) store hash steps.now) }
 {
     let mut importer = Importer::new(alloc, store, hash);
     match import_all(&mut importer, steps) {
