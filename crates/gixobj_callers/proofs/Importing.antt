@@ -61,7 +61,7 @@ module _ {S E : Type 0} (means : StoreModel S) (answers : Answers E) where
   one_more old between new it edits k (reply.Edit edit_reply.Done) first is = is
   one_more old between new it edits k (reply.Edit (edit_reply.Refused error)) first is = record {
     before = it ∷ is.before;
-    error_state = is.error_state;
+    failed_edit = is.failed_edit;
     following = is.following;
     place = ap (λ (es : List Edit). it ∷ es) is.place;
     number = ap suc is.number;
@@ -129,7 +129,7 @@ module _ {S E : Type 0} (means : StoreModel S) (answers : Answers E) where
       at_once old new (it ∷ edits) _ replies r refl
       (record {
         before = [];
-        error_state = it;
+        failed_edit = it;
         following = edits;
         place = refl;
         number = refl;

@@ -46,14 +46,14 @@ module _ {S E : Type 0} (means : StoreModel S) (answers : Answers E) where
   pub record IsEditFailedAt (old : State S) (edits : List Edit) (index : ℕ) (error : Error)
       (new : State S) : Type 0 where
     pub before : List Edit
-    pub error_state : Edit
+    pub failed_edit : Edit
     pub following : List Edit
-    pub place : edits ≡ before ++ error_state ∷ following
+    pub place : edits ≡ before ++ failed_edit ∷ following
     pub number : length before ≡ index
     pub reached : State S
     pub done : AreEditsDone old before reached
     pub remaining : State S
-    pub cause : IsEditReply means answers at_root reached error_state (edit_reply.Refused error) remaining
+    pub cause : IsEditReply means answers at_root reached failed_edit (edit_reply.Refused error) remaining
     pub replies : List (Reply E)
     pub rest : IsRun means answers remaining (edits_and_write following) replies new
 

@@ -32,9 +32,9 @@ IsKeepError may_fail id entries OutOfMemory = ⊤
 -- the tree at this index failed with the error, and the trees before it are kept
 pub record StopsKeepingAt (may_fail : ObjectId → Bool) (trees : List Pair) (old new : Objects) (number : ℕ)
     (error : KeepError) : Type 0 where
-  pub error_state : Pair
-  pub at : slice_get trees number ≡ Some error_state
-  pub cause : IsKeepError may_fail error_state.0 error_state.1 error
+  pub failed_pair : Pair
+  pub at : slice_get trees number ≡ Some failed_pair
+  pub cause : IsKeepError may_fail failed_pair.0 failed_pair.1 error
   pub stored : new ≡ with_trees (take number trees) old
   pub have_encodings : All (λ it. IsEncodableTree it.1) (take number trees)
 

@@ -77,7 +77,7 @@ module _ {S : Type 0} (means : StoreModel S) (laws : OfStores) where
   edits_add : (hash : hash.Kind) (edits : List Edit) (old new : State S) (error : ImportError) → IsStepEditsError means hash edits old error new
       → AddsByDigest (means.objects old.store) (means.objects new.store)
   edits_add hash edits old new (import.Edit index error) is =
-      adds_by_digest_nil _ _ (ap means.objects (failed_stays means laws.trees_of is.reached new is.error_state error is.cause
+      adds_by_digest_nil _ _ (ap means.objects (failed_stays means laws.trees_of is.reached new is.failed_edit error is.cause
       ∙ edits_stay means laws.trees_of old is.reached (take index edits) is.done))
   edits_add hash edits old new (import.Write error) is = after_adds hash edits old new (import.Write error) is
   edits_add hash edits old new (import.NotKept error) is = after_adds hash edits old new (import.NotKept error) is

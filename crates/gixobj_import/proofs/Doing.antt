@@ -61,7 +61,7 @@ module _ {S : Type 0} (means : StoreModel S) where
       → AreDone means old (take index edits) reached
       → IsReplied means reached it (reply.Refused error) new → IsFailedAt means old edits index error new
   rejected_at old reached new edits index it error within is done failure =
-      record { error_state = it; at = found edits index it within is; reached = reached; done = done; cause = failure }
+      record { failed_edit = it; at = found edits index it within is; reached = reached; done = done; cause = failure }
 
   -- by the law that every store names trees
   module _ (trees_of : (objects : Objects) → (trees : Trees) × AreTreesOf objects trees) where

@@ -71,7 +71,7 @@ module _ {S : Type 0} (means : StoreModel S) where
       → AreImported means old (take index steps) imported between → length imported ≡ index → IsStepError means between step error new
       → Stops means old steps imported error new
   stopped_at old between new steps imported index step error within is done as_many failure = inl (record {
-    error_state = step;
+    failed_step = step;
     at = ap (slice_get steps) as_many ∙ found steps index step within is;
     reached = between;
     imported = subst (λ (k : ℕ). AreImported means old (take k steps) imported between) (sym as_many) done;

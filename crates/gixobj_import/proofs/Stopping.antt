@@ -20,7 +20,7 @@ module _ {S : Type 0} (means : StoreModel S) (laws : OfStores) where
   stopped_adds old new steps imported error (inl at) =
       adds_by_digest_append (objects_of means laws old) (objects_of means laws at.reached) (objects_of means laws new)
       (steps_add means laws old at.reached (take (length imported) steps) imported at.imported)
-      (rejected_adds means laws at.reached new at.error_state error at.cause)
+      (rejected_adds means laws at.reached new at.failed_step error at.cause)
   stopped_adds old new steps imported error (inr nothing) = adds_by_digest_nil _ _ (ap (objects_of means laws) nothing.unchanged)
 
   pub commits_of_stopped : (old new : Importer S) (steps : List Step) (imported : List Imported) (error : ImportError)
@@ -28,7 +28,7 @@ module _ {S : Type 0} (means : StoreModel S) (laws : OfStores) where
       → AreCommitsOf old.hash None (take (length imported) steps) imported (objects_of means laws new)
   commits_of_stopped old new steps imported error (inl at) is =
       commits_of_new means laws old at.reached (take (length imported) steps) imported at.imported is (objects_of means laws new)
-      (rejected_adds means laws at.reached new at.error_state error at.cause)
+      (rejected_adds means laws at.reached new at.failed_step error at.cause)
   commits_of_stopped old new steps [] error (inr nothing) is = tt
   commits_of_stopped old new steps (it ∷ imported) error (inr nothing) is = cc nothing.nothing
 

@@ -44,11 +44,11 @@ module _ {S : Type 0} (means : StoreModel S) where
 
   -- the edit of this number fails with this error, after those before it were done
   pub record IsFailedAt (old : State S) (edits : List Edit) (index : ℕ) (error : Error) (new : State S) : Type 0 where
-    pub error_state : Edit
-    pub at : slice_get edits index ≡ Some error_state
+    pub failed_edit : Edit
+    pub at : slice_get edits index ≡ Some failed_edit
     pub reached : State S
     pub done : AreDone old (take index edits) reached
-    pub cause : IsReplied reached error_state (reply.Refused error) new
+    pub cause : IsReplied reached failed_edit (reply.Refused error) new
 
   -- the edits are done, and the write after them gets this reply
   pub record IsWriteAfter (hash : hash.Kind) (old : State S) (edits : List Edit) (its_reply : EditReply encode.Error)

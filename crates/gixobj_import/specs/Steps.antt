@@ -125,11 +125,11 @@ module _ {S : Type 0} (means : StoreModel S) where
   -- the steps before the one of this number are imported, and that one fails
   pub record IsStoppedAt (old : Importer S) (steps : List Step) (done : List Imported) (error : ImportError)
       (new : Importer S) : Type 0 where
-    pub error_state : Step
-    pub at : slice_get steps (length done) ≡ Some error_state
+    pub failed_step : Step
+    pub at : slice_get steps (length done) ≡ Some failed_step
     pub reached : Importer S
     pub imported : AreImported old (take (length done) steps) done reached
-    pub cause : IsStepError reached error_state error new
+    pub cause : IsStepError reached failed_step error new
 
   -- memory ran out for the list, and nothing was done
   pub record HasNoList (old : Importer S) (done : List Imported) (error : ImportError) (new : Importer S) : Type 0 where

@@ -47,7 +47,7 @@ no_error_of_written_tree items value parts free r =
     let has : Contains items r.entry =
     rw (r.joined) (Contains-append_right r.prefix (r.entry ∷ r.back) r.entry (Contains-get_or (r.entry ∷ r.back) 0 r.entry (omega arith))) in
     All-contains (λ (it : ℕ). it ≡ 0 → ⊥) r.entry.name 0 (All-contains (λ (x : EntryView). IsByteFree 0 x.name) items r.entry free has)
-    r.error_state.0 refl
+    r.rejected.0 refl
 
 -- a tree is encodable if all its entries are written
 pub no_error_of_free_tree : (items all : List EntryView) (i : ℕ) → items ≡ all → length items ≤ i → AreFree (take i items)
@@ -71,7 +71,7 @@ writing_error_at_entry a b c items i e h is write_bytes free why says =
       begun = parts;
       joined = take_cons_drop items i e h is;
       free = free;
-      error_state = r;
+      rejected = r;
       written = refl;
     })
     why says)

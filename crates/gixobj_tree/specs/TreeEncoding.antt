@@ -44,7 +44,7 @@ pub record IsTreeEncodeError (entries : List EntryView) (value : RejectedValue) 
   pub begun : List ℕ
   pub joined : entries ≡ prefix ++ entry ∷ back
   pub free : All (λ e. IsByteFree 0 e.name) prefix
-  pub error_state : IsEntryEncodeError entry value begun
+  pub rejected : IsEntryEncodeError entry value begun
   pub written : parts ≡ encode_tree prefix ++ begun
 
 -- no name of the tree is rejected
