@@ -25,7 +25,7 @@ lines-preserved c =
     record {
       passes = passes_on c.args.hash_kind (signature_field c.args.hash_kind) c.args.bytes.now c.lines.state c.lines.rest.now inv.passes
           (line_view c.in-Ok.read.0) c.in-Ok.read.1 c.in-Ok.read.2.now has
-          (λ named. c.in_default.ensures.found {u = tt}
+          (λ named. (c.in_default.ensures {u = tt}).found
           (subst (λ (name : List ℕ). IsNamedLine name (line_view c.in-Ok.read.0)) (sym (c.as_bytes-field.ensures.value ∙ c.signature_field_name.ensures))
           named));
       placed = omega (arith, less, inv.placed);
