@@ -13,3 +13,4 @@ mod Errors
 mod Tips
 mod Yielded
 mod Uploaded
+mod LastTrailers

@@ -1,5 +1,5 @@
 -- Sign-offs of a commit, and its last trailer.
-use Rattle.std.specs.Prelude.{◌≡◌, ℕ, Contains, List, None, Option, codes, filter, true}
+use Rattle.std.specs.Prelude.{◌≡◌, ◌++◌, ◌∷◌, ℕ, List, None, Option, codes, filter, true}
 use Rattle.std.specs.List.{last_or}
 use Rattle.bstr.specs.Text.{lines_of}
 use Rattle.gix_object.specs.BodyLines.{is_folded}
@@ -20,7 +20,9 @@ IsLastTrailer message last = (all : List TrailerView) × HasTrailers message all
 -- a line of the message's trailer block continues the line before it
 pub record HasContinuedLine (message : List ℕ) : Type 0 where
   pub block : List ℕ
+  pub before : List (List ℕ)
   pub line : List ℕ
+  pub after : List (List ℕ)
   pub is_block : HasTrailerBlock message block
-  pub contained : Contains (lines_of block) line
+  pub lines : lines_of block ≡ before ++ line ∷ after
   pub continues : is_folded line ≡ true

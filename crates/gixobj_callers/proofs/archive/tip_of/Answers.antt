@@ -21,8 +21,8 @@ returns-in-Ok-clause-tip g c =
     (subst (λ (s : g.row.S.Denot). HaveFilesOfNothing (g.S.Store.objects s) c.args.steps.now imported) c.new-importer.ensures.store
     (done.files c.new-importer.ensures.new))
 
-pub returns-in-Err-clause-error : goal.returns-in-Err-clause-error
-returns-in-Err-clause-error g c = record {
+pub returns-in-Err : goal.returns-in-Err
+returns-in-Err g c = record {
   start = c.new-importer.result;
   after = c.import_all.new.importer;
   done = c.in-Err.stopped.done.items;
