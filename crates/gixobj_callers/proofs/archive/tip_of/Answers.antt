@@ -1,4 +1,4 @@
--- The last import of the list, and the error of an import that stops.
+-- The last import of the list.
 use Rattle.std.proofs.Common.{None, subst}
 use Rattle.gix_object.specs.Imports.{AreCommitsOf, HaveFilesOfNothing}
 use Rattle.gix_object.specs.hash.hash.kind.Kind.{Kind}
@@ -20,14 +20,3 @@ returns-in-Ok-clause-tip g c =
     (subst (λ (k : Kind). AreCommitsOf k None c.args.steps.now imported final) c.new-importer.ensures.hash (done.commits c.new-importer.ensures.new))
     (subst (λ (s : g.row.S.Denot). HaveFilesOfNothing (g.S.Store.objects s) c.args.steps.now imported) c.new-importer.ensures.store
     (done.files c.new-importer.ensures.new))
-
-pub returns-in-Err : goal.returns-in-Err
-returns-in-Err g c = record {
-  start = c.new-importer.result;
-  after = c.import_all.new.importer;
-  done = c.in-Err.stopped.done.items;
-  is_new = c.new-importer.ensures.new;
-  over = c.new-importer.ensures.store;
-  ids = c.new-importer.ensures.hash;
-  stops = (c.in-Err.ensures {u = tt}).error;
-}
