@@ -2,7 +2,7 @@
 -- `TagsAgree`.
 use Rattle.std.proofs.Common.{◌≡◌, inl, inr, ◌≤◌, ◌-◌, ◌∙◌, ℕ, List, [], ◌∷◌, ◌++◌, Some, None, arith, length, refl, sym, ap, subst, append_assoc, append-nil}
 use Rattle.std.proofs.lemmas.List.{length-append}
-use Rattle.gixobj_text.specs.Markers.{BeginsWithMarker, IsMarkerPlace, MarksPlace, StartsLine}
+use Rattle.gixobj_text.specs.Markers.{BeginsWithMarker, HasNoMarker, IsMarkerPlace, MarksPlace, StartsLine}
 use Rattle.gixobj_text.specs.declared.signature.Format.{Format}
 use Rattle.gixobj_tag.specs.TagFormat.{TagLines, encode_tag_lines}
 use Rattle.gixobj_tag.specs.TagWriting.{encode_message, encode_tag}
@@ -88,3 +88,18 @@ signed_data_is_payload_of_tag tag bytes signature signed format marker has =
     let place : has.place ≡ length (payload_of_tag tag) = at_payload (encode_tag (signed_as None tag)) bytes has.place format marker.format marker.begins
     marker.one is in
     append_split_unique signed signature (payload_of_tag tag) bytes (sym has.joined ∙ signed_tag_bytes tag bytes) (has.as_long ∙ place)
+
+-- the encoding of a signed tag has a marker
+pub signed_tag_has_marker : (tag : TagLines) (bytes : List ℕ) → HasOneMarker bytes → ¬ HasNoMarker (encode_tag (signed_as (Some bytes) tag))
+signed_tag_has_marker tag bytes marker none =
+    let payload = payload_of_tag tag in
+    let here : MarksPlace (payload ++ bytes) (length payload) marker.format = record {
+      prefix = payload;
+      rest = bytes;
+      joined = refl;
+      as_long = refl;
+      starts = inr (encode_tag (signed_as None tag), refl);
+      marked = marker.begins;
+    } in
+    none (length payload) marker.format
+    (subst (λ (it : List ℕ). MarksPlace it (length payload) marker.format) (sym (signed_tag_bytes tag bytes)) here)

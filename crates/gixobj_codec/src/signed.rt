@@ -1,7 +1,7 @@
 //! Laws on the payloads of signed commits and tags. Two functions sign, and their contracts state the result;
 //! the others compute nothing, and their contract is the law.
-ghost use Rattle.std.specs.Prelude.{◌≡◌, ℕ, IfNone, IfOk, IfSome, List, Option, Some};
-ghost use Rattle.gixobj_commit.specs.CommitSigning.{payload_of_commit, with_signature};
+ghost use Rattle.std.specs.Prelude.{◌≡◌, ℕ, IfErr, IfNone, IfOk, IfSome, List, Option, Some};
+ghost use Rattle.gixobj_commit.specs.CommitSigning.{IsCommitSigningError, IsSignedCommit, payload_of_commit, with_signature};
 ghost use Rattle.gixobj_commit.specs.CommitViews.{owned_commit_lines};
 ghost use Rattle.gixobj_commit.specs.CommitWriting.{IsOwnedCommitError, encode_commit};
 ghost use Rattle.gixobj_fields.specs.Writing.{RejectsNothing};
@@ -18,7 +18,7 @@ ghost use Rattle.gixobj_text.specs.declared.signature.Format.{Format};
 ghost use Rattle.gixobj_text.specs.declared.signature.SignatureRef.{SignatureRef};
 ghost use Rattle.gixobj_ref_iter.specs.TagExtracting as tags;
 ghost use Rattle.gixobj_tag.specs.Signed.{IsSignature};
-ghost use Rattle.gixobj_tag.specs.TagSigning as tag;
+ghost use Rattle.gixobj_tag.specs.TagSigning as tag_signing;
 ghost use Rattle.gixobj_tag.specs.TagFormat.{DecodesToTag, TagLines};
 ghost use Rattle.gixobj_tag.specs.TagViews as tag_views;
 ghost use Rattle.gixobj_tag.specs.TagWriting.{encode_tag};
@@ -75,6 +75,8 @@ pub fn signed_commit_has_payload<R: Runner>(
     options: Options,
     runner: &mut R,
 ) -> Result<Commit, Error>
+    ensures signed { IfOk result (IsSignedCommit R.runs options commit runner.old runner.new) }
+    ensures error { IfErr result (IsCommitSigningError R.runs options commit runner.old runner.new) }
     ensures found { IfOk result (λ signed. HasHeaderNames (owned_commit_lines commit)
         → ¬ HasNoSignature (id_kind commit.tree) (encode_commit (owned_commit_lines signed))) }
     ensures payload { IfOk result (λ signed. HasHeaderNames (owned_commit_lines commit)
@@ -86,11 +88,14 @@ pub fn signed_commit_has_payload<R: Runner>(
 }
 
 /// The payload that is found in a signed tag is the one that was signed, and the signature is the signer's.
-/// The signature has to begin with a marker, and no other line of it may begin with one.
+/// In the encoding of a signed tag a signature is found. The signature has to begin with a marker, and no
+/// other line of it may begin with one.
 pub fn tag_payloads_are_signed()
-    ensures { (lines : TagLines) (bytes signature signed : List ℕ) (format : Format)
-        → HasOneMarker bytes → tags.HasTagSignature (encode_tag (tag.signed_as (Some bytes) lines))
-        signature signed format → (signed ≡ tag.payload_of_tag lines) × (signature ≡ bytes) }
+    ensures found { (lines : TagLines) (bytes : List ℕ) → HasOneMarker bytes
+        → ¬ HasNoMarker (encode_tag (tag_signing.signed_as (Some bytes) lines)) }
+    ensures payload { (lines : TagLines) (bytes signature signed : List ℕ) (format : Format)
+        → HasOneMarker bytes → tags.HasTagSignature (encode_tag (tag_signing.signed_as (Some bytes) lines))
+        signature signed format → (signed ≡ tag_signing.payload_of_tag lines) × (signature ≡ bytes) }
 {}
 
 /// Signs a tag by [`Tag::sign`].
@@ -107,7 +112,9 @@ pub fn signed_tag_has_payload<R: Runner>(
     options: Options,
     runner: &mut R,
 ) -> Result<Tag, Error>
-    ensures { IfOk result (λ signed. TagPayloadIsSigned R.runs options
+    ensures signed { IfOk result (tag_signing.IsSignedTag R.runs options tag runner.old runner.new) }
+    ensures error { IfErr result (tag_signing.IsTagSigningError R.runs options tag runner.old runner.new) }
+    ensures payload { IfOk result (λ signed. TagPayloadIsSigned R.runs options
         (encode_tag (tag_views.owned_tag_lines signed)) runner.old runner.new) }
 {
     tag.sign(alloc, options, runner)
