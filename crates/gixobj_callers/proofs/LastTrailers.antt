@@ -8,7 +8,7 @@ use Rattle.gix_object.specs.BodyLines.{is_folded, is_trailer_line}
 use Rattle.gix_object.specs.FirstLines.{HasLastLines}
 use Rattle.gix_object.specs.MessageTrailers.{HasTrailerBlock}
 use Rattle.gix_object.specs.TrailerSteps.{NextTrailer, is_folded_next, remaining_bytes}
-use Rattle.gix_object.specs.Unfolding.{are_some, first_is_folded}
+use Rattle.gix_object.specs.Unfolding.{has_lines, first_is_folded}
 use Rattle.gix_object.specs.message.commit.message.body.trailers.TrailerRef.{TrailerRef}
 use Rattle.gix_object.specs.message.commit.message.body.trailers.Trailers.{Trailers}
 use Rattle.gixobj_callers.specs.Signers.{HasContinuedLine}
@@ -42,18 +42,18 @@ HasFolded lines = (before : Lines) × (line : List ℕ) × (after : Lines) × (l
 has_folded_cons : (line : List ℕ) (lines : Lines) → HasFolded lines → HasFolded (line ∷ lines)
 has_folded_cons line lines (before, one, after, is, folds) = (line ∷ before, one, after, ap (λ (rest : Lines). line ∷ rest) is, folds)
 
-has_folded_by : (b : Bool) (line : List ℕ) (lines : Lines) → is_folded line ≡ b → are_some (cond b (line ∷ take_while is_folded lines) []) ≡ true
+has_folded_by : (b : Bool) (line : List ℕ) (lines : Lines) → is_folded line ≡ b → has_lines (cond b (line ∷ take_while is_folded lines) []) ≡ true
     → HasFolded (line ∷ lines)
 has_folded_by true line lines is some = ([], line, lines, refl, is)
 has_folded_by false line lines is some = absurd (cc some)
 
-has_folded_first : (lines : Lines) → are_some (take_while is_folded lines) ≡ true → HasFolded lines
+has_folded_first : (lines : Lines) → has_lines (take_while is_folded lines) ≡ true → HasFolded lines
 has_folded_first [] some = absurd (cc some)
 has_folded_first (line ∷ lines) some =
-    has_folded_by (is_folded line) line lines refl (sym (ap are_some (take_while-cons is_folded line lines)) ∙ some)
+    has_folded_by (is_folded line) line lines refl (sym (ap has_lines (take_while-cons is_folded line lines)) ∙ some)
 
 has_folded_after : (b : Bool) (line : List ℕ) (lines : Lines) → (first_is_folded lines ≡ true → HasFolded lines)
-    → cond b (are_some (take_while is_folded lines)) (first_is_folded lines) ≡ true → HasFolded (line ∷ lines)
+    → cond b (has_lines (take_while is_folded lines)) (first_is_folded lines) ≡ true → HasFolded (line ∷ lines)
 has_folded_after true line lines later is = has_folded_cons line lines (has_folded_first lines is)
 has_folded_after false line lines later is = has_folded_cons line lines (later is)
 

@@ -2,7 +2,7 @@
 ghost use Rattle.std.specs.Prelude.{◌≡◌, ℕ, IfErr, IfOk, OnOk};
 ghost use Rattle.gix_object.specs.Calls.{answered, denied, IsCallableOnTrees, names_of};
 ghost use Rattle.gix_object.specs.Openings.{OfTrees, AreTreesOf};
-ghost use Rattle.gix_object.specs.Cursors.{prefix_of};
+ghost use Rattle.gix_object.specs.Cursors.{cursor_path};
 ghost use Rattle.gix_object.specs.Entries.{IsWellFormed};
 ghost use Rattle.gix_object.specs.Files.{Files, NamedFiles, SameFiles, Table, Trees};
 ghost use Rattle.gix_object.specs.History.{History};
@@ -65,15 +65,15 @@ pub fn with_entries_at<S: Find + Drop, E: Drop, F: FnMut(&Tree) -> Result<Object
         OfTrees (S.objects store) (λ trees. (T : Table) (n : ℕ) → AgreesWithStore T trees
         → AgreesWithPairs T written.trees.items
         → SameFiles (NamedFiles T n written.id)
-        (History T n (steps_of_checkout (prefix_of (names_of prefix.now)) entries.now)
+        (History T n (steps_of_checkout (cursor_path (names_of prefix.now)) entries.now)
         (Files T n root)))) }
     // The directory is filled, and then the write succeeds; or the error reports which of them failed, and
     // why.
     ensures done { IfOk result (IsCheckedOut (store_model S.objects S.may_fail)
-        (started store object_hash root) (prefix_of (names_of prefix.now)) entries.now
+        (started store object_hash root) (cursor_path (names_of prefix.now)) entries.now
         (answered F.FnMut) out) }
     ensures error { IfErr result (IsCheckoutError (store_model S.objects S.may_fail)
-        (started store object_hash root) (prefix_of (names_of prefix.now)) entries.now
+        (started store object_hash root) (cursor_path (names_of prefix.now)) entries.now
         (answered F.FnMut) (denied F.FnMut) out) }
 {
     let mut editor = Editor::new(root, store, object_hash);
@@ -93,9 +93,9 @@ fn insert_entries_at<S: Find>(
     entries: &[Planned],
 ) -> Result<(), Error>
     ensures filled { OnOk result (IsFilled (store_model S.objects S.may_fail) editor.old
-        (prefix_of (names_of prefix.now)) entries.now editor.new) }
+        (cursor_path (names_of prefix.now)) entries.now editor.new) }
     ensures error { IfErr result (IsNotFilled (store_model S.objects S.may_fail) editor.old
-        (prefix_of (names_of prefix.now)) entries.now) }
+        (cursor_path (names_of prefix.now)) entries.now) }
 {
     let mut cursor = editor.cursor_at(prefix)?;
     insert_entries(&mut cursor, entries)

@@ -225,27 +225,28 @@ opens_goes_in Ends trees name rest dirs inner e entries first requested entry tr
     found name rest dirs inner e entries first requested entry tree finds.0 none finds.1 opens
 
 abbrev pub HaltsAt : (EntryView → Type 0) → Trees → Option ObjectId → Path → Dirs → Dirs → List ObjectId → Type 0
-HaltsAt Ends trees vain path old new requested = StopsOpening Ends trees path old new requested vain
+HaltsAt Ends trees failed_lookup path old new requested = StopsOpening Ends trees path old new requested failed_lookup
 
-pub halts_at_goes_down : (Ends : EntryView → Type 0) (trees : Trees) (vain : Option ObjectId) → GoesDown (HaltsAt Ends trees vain)
-halts_at_goes_down Ends trees vain name rest dirs inner e entries requested has named is halts =
-    halting.down name rest dirs inner e entries requested vain has named is halts
+pub halts_at_goes_down : (Ends : EntryView → Type 0) (trees : Trees) (failed_lookup : Option ObjectId) → GoesDown (HaltsAt Ends trees failed_lookup)
+halts_at_goes_down Ends trees failed_lookup name rest dirs inner e entries requested has named is halts =
+    halting.down name rest dirs inner e entries requested failed_lookup has named is halts
 
-pub halts_at_goes_in : (Ends : EntryView → Type 0) (trees : Trees) (vain : Option ObjectId) → GoesIn (OpensAs Ends trees) (HaltsAt Ends trees vain)
-halts_at_goes_in Ends trees vain name rest dirs inner e entries first requested entry tree none finds halts =
-    halting.found name rest dirs inner e entries first requested vain entry tree finds.0 none finds.1 halts
+pub halts_at_goes_in : (Ends : EntryView → Type 0) (trees : Trees) (failed_lookup : Option ObjectId)
+    → GoesIn (OpensAs Ends trees) (HaltsAt Ends trees failed_lookup)
+halts_at_goes_in Ends trees failed_lookup name rest dirs inner e entries first requested entry tree none finds halts =
+    halting.found name rest dirs inner e entries first requested failed_lookup entry tree finds.0 none finds.1 halts
 
 -- an opening that stops at a level leaves the level unchanged
 pub stops_opening_here : (Ends : EntryView → Type 0) (trees : Trees) (path : Path) (name : List ℕ) (rest : Path) (es : List EntryView) (ds : Opened)
     (cs new : List Child) → path ≡ name ∷ rest → {base : List EntryView} → opened es base (parts cs) ≡ ds → new ≡ cs
-    → (requested : List ObjectId) (vain : Option ObjectId)
-    → StopsOpening Ends trees (name ∷ rest) (dirs_of (opened es [] (parts cs))) (dirs_of (opened es [] (parts cs))) requested vain
-    → StopsOpening Ends trees path (dirs_of ds) (dirs_of (opened es [] (parts new))) requested vain
-stops_opening_here Ends trees path name rest es ds cs new path_is {base} view same requested vain halts =
-    subst (λ p. StopsOpening Ends trees p (dirs_of ds) (dirs_of (opened es [] (parts new))) requested vain) (sym path_is)
-    (subst (λ (d : Opened). StopsOpening Ends trees (name ∷ rest) (dirs_of ds) (dirs_of d) requested vain)
+    → (requested : List ObjectId) (failed_lookup : Option ObjectId)
+    → StopsOpening Ends trees (name ∷ rest) (dirs_of (opened es [] (parts cs))) (dirs_of (opened es [] (parts cs))) requested failed_lookup
+    → StopsOpening Ends trees path (dirs_of ds) (dirs_of (opened es [] (parts new))) requested failed_lookup
+stops_opening_here Ends trees path name rest es ds cs new path_is {base} view same requested failed_lookup halts =
+    subst (λ p. StopsOpening Ends trees p (dirs_of ds) (dirs_of (opened es [] (parts new))) requested failed_lookup) (sym path_is)
+    (subst (λ (d : Opened). StopsOpening Ends trees (name ∷ rest) (dirs_of ds) (dirs_of d) requested failed_lookup)
     (sym (ap (λ (l : List Child). opened es base (parts l)) same ∙ view))
-    (subst (λ (d : Opened). StopsOpening Ends trees (name ∷ rest) (dirs_of d) (dirs_of d) requested vain) view halts))
+    (subst (λ (d : Opened). StopsOpening Ends trees (name ∷ rest) (dirs_of d) (dirs_of d) requested failed_lookup) view halts))
 
 -- an opening stops at a directory if memory runs out
 pub stops_opening_for_memory : (Ends : EntryView → Type 0) (trees : Trees) (name : List ℕ) (rest : Path) (es : List EntryView) (cs : List Child)

@@ -208,10 +208,10 @@ impl Open {
             (dirs_of self.new) queries × (lookups.new ≡ counted lookups.old queries))) }
         ensures stopped_opening { IfErr result (λ error.
             OfTrees (S.objects store.now)
-            (λ trees. (queries : List ObjectId) × (vain : Option ObjectId)
+            (λ trees. (queries : List ObjectId) × (failed_lookup : Option ObjectId)
             × StopsOpening (EndsBefore not_looked_up) trees (names_of path.now) (dirs_of self.old)
-            (dirs_of self.new) queries vain × (lookups.new ≡ counted lookups.old queries)
-            × IsOpenErrorAt (S.objects store.now) (S.may_fail store.now) vain error)) }
+            (dirs_of self.new) queries failed_lookup × (lookups.new ≡ counted lookups.old queries)
+            × IsOpenErrorAt (S.objects store.now) (S.may_fail store.now) failed_lookup error)) }
         ensures still_opened { IsOpened (dirs_of self.old) → IsOpened (dirs_of self.new) }
         ensures bases { (at : Path) → bases_of self.new at
             ≡ opened_bases (dirs_of self.old) (dirs_of self.new) (bases_of self.old) at }

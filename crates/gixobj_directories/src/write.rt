@@ -21,7 +21,7 @@ use crate::open::{Child, Open, child_at};
 use bstr::BString;
 use gixobj_files::entries::copies;
 use gixobj_files::filtered::become_tree;
-use gixobj_files::written_tree::OwnTree;
+use gixobj_files::written_tree::WrittenTree;
 use gixobj_hash::hash::ObjectId;
 use gixobj_tree::Tree;
 use gixobj_tree::tree::Entry;
@@ -87,7 +87,7 @@ fn leaves<E, F: FnMut(&Tree) -> Result<ObjectId, E>>(
     out: &mut F,
     pairs: &mut Vec<(ObjectId, Tree)>,
     saved: &mut usize,
-) -> Result<OwnTree, WriteError<E>>
+) -> Result<WrittenTree, WriteError<E>>
     requires callable { IsCallableOnTrees F.pre (answered F.FnMut) out.old }
     ensures shares_base { IfOk result (SharesBase base.now) }
     ensures ok { IfOk result (λ own. (below : List Pair) × (count : ℕ)
@@ -100,7 +100,7 @@ fn leaves<E, F: FnMut(&Tree) -> Result<ObjectId, E>>(
         (λ ps. (own : List EntryView) × (count : ℕ)
         × EmitsBelow (dirs_of node.now) (bases_of node.now) ps own count) out.old out.new) }
 {
-    let mut own = OwnTree::new();
+    let mut own = WrittenTree::new();
     let mut remaining: &[Child] = &node.children;
     for entry in entries_of(&node.tree) {
         let (child, tail) = next_of(remaining, entry);
@@ -157,7 +157,7 @@ fn visit<E, F: FnMut(&Tree) -> Result<ObjectId, E>>(
     }
     let base = base_of(&child.open);
     let own = leaves(alloc, &child.open, base, out, pairs, saved)?;
-    if own.is_bare() {
+    if own.has_no_entries() {
         return Ok(None);
     }
     if own.is_base(base) {
@@ -284,7 +284,7 @@ fn emit<E, F: FnMut(&Tree) -> Result<ObjectId, E>>(
 /// entries.
 fn keep_entry(
     alloc: Global,
-    own: &mut OwnTree,
+    own: &mut WrittenTree,
     base: &[Entry],
     entry: &Entry,
     id: Option<ObjectId>,

@@ -8,7 +8,7 @@ use Rattle.gixobj_editor.specs.declared.command.Edit.{Edit}
 use Rattle.gixobj_editor.specs.declared.command.Edit.TheVariants as edit
 use Rattle.gixobj_directories.specs.Calls.{names_of}
 use Rattle.gixobj_directories.specs.declared.write.Written.{Written}
-use Rattle.gixobj_editor.specs.Cursors.{prefix_of}
+use Rattle.gixobj_editor.specs.Cursors.{cursor_path}
 use Rattle.gixobj_files.specs.Files.{Path}
 use Rattle.gixobj_files.specs.State.{State}
 use Rattle.gixobj_tree.specs.Entries.{Pair}
@@ -59,7 +59,7 @@ module _ {S E : Type 0} (means : StoreModel S) (answers : Answers E) where
 
   command_answered : (old new : State S) (it : Command) (its_reply : Reply E) → IsReply means answers old it its_reply new → All IsAnswered (pairs_of its_reply)
   command_answered old new (command.Edit it) (reply.Edit its_reply) is = edit_answered at_root old new it its_reply is
-  command_answered old new (command.At prefix edits) its_reply is = at_answered (prefix_of (names_of prefix.items)) old new edits.items its_reply is
+  command_answered old new (command.At prefix edits) its_reply is = at_answered (cursor_path (names_of prefix.items)) old new edits.items its_reply is
   command_answered old new (command.SetRoot entries) reply.RootSet is = All-nil IsAnswered
   command_answered old new (command.SetRoot entries) reply.RootRefused is = All-nil IsAnswered
   command_answered old new it its_reply is = absurd is

@@ -17,7 +17,7 @@ use Rattle.gixobj_files.specs.Opening.{Dirs, IsOpened, OpenFiles}
 use Rattle.gixobj_files.specs.State.{DirMap, EditorFiles, State, open_bases, open_dirs}
 use Rattle.gixobj_files.specs.Unopened.{is_unopened, looked_up_entry, unopened_count}
 use Rattle.gixobj_files.proofs.EditedFiles.{same_files_refl, same_files_trans, upserted_congruent}
-use Rattle.gixobj_files.proofs.Halted.{halted_at, opens_known}
+use Rattle.gixobj_files.proofs.StoppedOpenings.{halted_at, opens_known}
 use Rattle.gixobj_files.proofs.OpeningFiles.{opens_keeps_files, opens_makes_ready}
 use Rattle.gixobj_files.proofs.StillOpened.{is_opened_upserted}
 use Rattle.gixobj_files.proofs.StillOpenedOpenings.{is_opened_of_opens, opens_keeps_open_lists}
@@ -288,11 +288,11 @@ module _ {S : Type 0} (store : S) (hash : Kind) (prefix : Path) (trees : Trees) 
         opens = opened;
         bases = only_opened_bases_of_map ds ds' first;
         stays = opens_keeps_open_lists trees so.prefix (map_dirs ds) (map_dirs ds') so.requested opened;
-        vain = so.vain;
+        failed_lookup = so.failed_lookup;
         one = so.one;
         next = λ it is. subst (λ (d : Dirs). IsNextUnopened trees d so.prefix so.more it) (sym (map_dirs_eq ds)) (so.next it is);
         lookups = so.lookups;
-        few = subst (λ (d : Dirs). length (so.requested ++ so.vain) ≤ unopened_count trees d path) (sym (map_dirs_eq ds)) so.few;
+        few = subst (λ (d : Dirs). length (so.requested ++ so.failed_lookup) ≤ unopened_count trees d path) (sym (map_dirs_eq ds)) so.few;
         rest = refl;
         is_opened = map_is_opened ds' (is_opened_of_opens trees so.prefix (dirs_of ds) (dirs_of ds') so.requested so.opens was.opened);
         files = λ T k agrees. opens_keeps_files T trees agrees so.prefix (map_dirs ds) (map_dirs ds') so.requested opened k;
@@ -311,12 +311,12 @@ module _ {S : Type 0} (store : S) (hash : Kind) (prefix : Path) (trees : Trees) 
       (stay vacant.Opened ds ds n n path (none_in_part trees path (dirs_of ds) n) was (opened_so_refl ds))
 
   pub halted_so : (ds ds' : Opened) (n m : ℕ) (old : State S) → made ds n ≡ old → (path head : Path) (last : List ℕ) → path ≡ head ++ last ∷ []
-      → (queries : List ObjectId) (vain : Option ObjectId) → StopsOpening IsNoTree trees head (dirs_of ds) (dirs_of ds') queries vain
+      → (queries : List ObjectId) (failed_lookup : Option ObjectId) → StopsOpening IsNoTree trees head (dirs_of ds) (dirs_of ds') queries failed_lookup
       → m ≡ counted n queries
       → OpenedOn ds → OpenedSo ds ds' → IsEditFailure trees old path (made ds' m)
-  halted_so ds ds' n m old view path head last is queries vain halts count =
+  halted_so ds ds' n m old view path head last is queries failed_lookup halts count =
       stay_at vacant.Opened ds ds' n m old view path
-      (halted_in_part trees path head last [] is (dirs_of ds) (dirs_of ds') queries vain halts n m count)
+      (halted_in_part trees path head last [] is (dirs_of ds) (dirs_of ds') queries failed_lookup halts n m count)
 
   pub opened_so : (it : Vacant) (ds ds' : Opened) (n m : ℕ) (old : State S) → made ds n ≡ old → (path head : Path) (last : List ℕ)
       → path ≡ head ++ last ∷ []
@@ -334,13 +334,13 @@ module _ {S : Type 0} (store : S) (hash : Kind) (prefix : Path) (trees : Trees) 
   some_path path head last is = λ none. some_name head last (sym is ∙ none)
 
   pub fails : (objects : Objects) (may_fail : ObjectId → Bool) (ds ds' : Opened) (n : ℕ) (old : State S) → made ds n ≡ old
-      → (path head : Path) (last : List ℕ) → path ≡ head ++ last ∷ [] → AreNames path → (queries : List ObjectId) (vain : Option ObjectId)
-      → StopsOpening IsNoTree trees head (dirs_of ds) (dirs_of ds') queries vain → (cause : directory.Error)
-      → IsOpenErrorAt objects may_fail vain cause
+      → (path head : Path) (last : List ℕ) → path ≡ head ++ last ∷ [] → AreNames path → (queries : List ObjectId) (failed_lookup : Option ObjectId)
+      → StopsOpening IsNoTree trees head (dirs_of ds) (dirs_of ds') queries failed_lookup → (cause : directory.Error)
+      → IsOpenErrorAt objects may_fail failed_lookup cause
       → IsUpsertError objects may_fail trees (open_dirs old) path (edit_error cause)
-  fails objects may_fail ds ds' n old view path head last is names queries vain halts cause at =
+  fails objects may_fail ds ds' n old view path head last is names queries failed_lookup halts cause at =
       subst (λ (o : State S). IsUpsertError objects may_fail trees (open_dirs o) path (edit_error cause)) view
-      (subst (λ (d : Dirs). IsUpsertError objects may_fail trees d path (edit_error cause)) (sym (map_dirs_eq ds)) (by_cause cause vain halts at))
+      (subst (λ (d : Dirs). IsUpsertError objects may_fail trees d path (edit_error cause)) (sym (map_dirs_eq ds)) (by_cause cause failed_lookup halts at))
     where
       above : (v : Option ObjectId) → StopsOpening IsNoTree trees head (dirs_of ds) (dirs_of ds') queries v → (it : ObjectId) → v ≡ Some it
           → IsUnopenedAbove trees (dirs_of ds) path it

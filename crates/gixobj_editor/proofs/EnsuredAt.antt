@@ -17,7 +17,7 @@ use Rattle.gixobj_files.specs.State.{State, open_dirs}
 use Rattle.gixobj_files.specs.Unopened.{inside}
 use Rattle.gixobj_files.proofs.BelowPrefix.{open_of_longer_open}
 use Rattle.gixobj_files.proofs.CursorFiles.{ensured_dirs_files}
-use Rattle.gixobj_files.proofs.Halted.{halted_at, halted_unopened}
+use Rattle.gixobj_files.proofs.StoppedOpenings.{halted_at, halted_unopened}
 use Rattle.gixobj_files.proofs.PrefixStays.{ensured_dirs_open_path}
 use Rattle.gixobj_files.proofs.StillOpenedEnsured.{is_opened_ensured}
 use Rattle.gixobj_files.proofs.StillOpenedOpenings.{is_opened_of_opens, opens_keeps_open_lists}
@@ -127,13 +127,13 @@ module _ {S : Type 0} (store : S) (hash : Kind) (prefix : Path) (trees : Trees) 
   -- the error of an opening that halts
   pub rejects_at : (objects : Objects) (may_fail : ObjectId → Bool) (ds ds' : Opened) (n : ℕ) (old : State S) → made ds n ≡ old → (path : Path)
       → AreNames path
-      → IsOpened (dirs_of ds) → (queries : List ObjectId) (vain : Option ObjectId) → StopsOpening IsNoTree trees path (dirs_of ds)
-      (dirs_of ds') queries vain
-      → (cause : directory.Error) → IsOpenErrorAt objects may_fail vain cause → IsCursorError objects may_fail trees (open_dirs old) path
+      → IsOpened (dirs_of ds) → (queries : List ObjectId) (failed_lookup : Option ObjectId) → StopsOpening IsNoTree trees path (dirs_of ds)
+      (dirs_of ds') queries failed_lookup
+      → (cause : directory.Error) → IsOpenErrorAt objects may_fail failed_lookup cause → IsCursorError objects may_fail trees (open_dirs old) path
       (edit_error cause)
-  rejects_at objects may_fail ds ds' n old view path names all queries vain halts cause at =
+  rejects_at objects may_fail ds ds' n old view path names all queries failed_lookup halts cause at =
       subst (λ (o : State S). IsCursorError objects may_fail trees (open_dirs o) path (edit_error cause)) view
-      (subst (λ (d : Dirs). IsCursorError objects may_fail trees d path (edit_error cause)) (sym (map_dirs_eq ds)) (by_cause cause vain halts at))
+      (subst (λ (d : Dirs). IsCursorError objects may_fail trees d path (edit_error cause)) (sym (map_dirs_eq ds)) (by_cause cause failed_lookup halts at))
     where
       above : (v : Option ObjectId) → StopsOpening IsNoTree trees path (dirs_of ds) (dirs_of ds') queries v → (it : ObjectId) → v ≡ Some it
           → IsUnopenedAbove trees (dirs_of ds) (inside path) it

@@ -7,7 +7,7 @@ use Rattle.gixobj_files.specs.Files.{Path, Trees}
 use Rattle.gixobj_files.specs.OpeningStops.{StopsOpening, IsNextUnopened}
 use Rattle.gixobj_files.specs.Opening.{Dirs}
 use Rattle.gixobj_files.specs.Unopened.{unopened_count}
-use Rattle.gixobj_files.proofs.Halted.{halted_count, halts_opens}
+use Rattle.gixobj_files.proofs.StoppedOpenings.{halted_count, halts_opens}
 use Rattle.gixobj_files.proofs.UnopenedCounts.{opens_at_most}
 use Rattle.gixobj_editor.specs.Upserts.{IsOpenedInPart}
 
@@ -25,7 +25,7 @@ module _ {Ends : EntryView → Type 0} (trees : Trees) where
     on_the_way = refl;
     requested = [];
     opens = arrived dirs;
-    vain = [];
+    failed_lookup = [];
     one = omega arith;
     next = λ it is. absurd (cc is);
     lookups = refl;
@@ -41,7 +41,7 @@ module _ {Ends : EntryView → Type 0} (trees : Trees) where
     on_the_way = is;
     requested = queries;
     opens = opens;
-    vain = [];
+    failed_lookup = [];
     one = omega arith;
     next = λ it is. absurd (cc is);
     lookups = count ∙ ap (counted n) (sym (append-nil queries));
@@ -56,20 +56,20 @@ module _ {Ends : EntryView → Type 0} (trees : Trees) where
 
   -- the opening halted
   pub halted_in_part : (path head : Path) (last : List ℕ) (after : Path) → path ≡ head ++ last ∷ after
-      → (old new : Dirs) (queries : List ObjectId) (vain : Option ObjectId)
-      → StopsOpening Ends trees head old new queries vain → (n m : ℕ) → m ≡ counted n queries → IsOpenedInPart Ends trees path old new n m
-  halted_in_part path head last after is old new queries vain halts n m count =
-      let came = halts_opens trees head old new queries vain halts in
+      → (old new : Dirs) (queries : List ObjectId) (failed_lookup : Option ObjectId)
+      → StopsOpening Ends trees head old new queries failed_lookup → (n m : ℕ) → m ≡ counted n queries → IsOpenedInPart Ends trees path old new n m
+  halted_in_part path head last after is old new queries failed_lookup halts n m count =
+      let came = halts_opens trees head old new queries failed_lookup halts in
       record {
         prefix = came.0;
         more = came.1 ++ last ∷ after;
         on_the_way = is ∙ ap (λ p. p ++ last ∷ after) came.4 ∙ append_assoc came.0 came.1 (last ∷ after);
         requested = came.2;
         opens = came.5;
-        vain = came.3;
+        failed_lookup = came.3;
         one = came.7;
         next = λ it is. next_after trees old came.0 came.1 (last ∷ after) it (came.8 it is);
         lookups = count ∙ ap (counted n) came.6;
         few = subst (λ ids. length ids ≤ unopened_count trees old path) came.6
-            (subst (λ p. length queries ≤ unopened_count trees old p) (sym is) (halted_count trees head last after old new queries vain halts));
+            (subst (λ p. length queries ≤ unopened_count trees old p) (sym is) (halted_count trees head last after old new queries failed_lookup halts));
       }

@@ -13,12 +13,12 @@ mod Named
 pub mod OneId
 mod OneMore
 mod Paths
-pub mod Plainly
+pub mod PlainRuns
 mod RemovedAt
 mod Removing
 mod Replied
 mod RootAlone
-mod StillOn
+mod OpenedOn
 pub mod Reported
 mod WrittenBelow
 mod WrittenOut

@@ -11,7 +11,7 @@ use Rattle.gixobj_directories.proofs.NamedTrees.{trees_of_objects_exist}
 use Rattle.gixobj_directories.specs.Calls.{names_of}
 use Rattle.gixobj_directories.specs.Openings.{AreTreesOf, OfTrees}
 use Rattle.gixobj_directories.specs.declared.write.Written.{Written}
-use Rattle.gixobj_editor.specs.Cursors.{IsEnsured, prefix_of}
+use Rattle.gixobj_editor.specs.Cursors.{IsEnsured, cursor_path}
 use Rattle.gixobj_files.proofs.EditedFiles.{same_files_refl}
 use Rattle.gixobj_files.specs.Bases.{HasBases}
 use Rattle.gixobj_files.specs.Files.{NamedFiles, Path, SameFiles, Table, Trees}
@@ -118,7 +118,7 @@ module _ {S E : Type 0} (means : StoreModel S) (answers : Answers E) where
   pub command_keeps : (old new : State S) (it : Command) (its_reply : Reply E) → IsReply means answers old it its_reply new
       → means.objects new.store ≡ with_trees (kept_of its_reply) (means.objects old.store)
   command_keeps old new (command.Edit it) (reply.Edit its_reply) h = edit_keeps at_root old new it its_reply h
-  command_keeps old new (command.At prefix edits) its_reply h = at_keeps (prefix_of (names_of prefix.items)) old new edits.items its_reply h
+  command_keeps old new (command.At prefix edits) its_reply h = at_keeps (cursor_path (names_of prefix.items)) old new edits.items its_reply h
   command_keeps old new (command.SetRoot entries) reply.RootSet h = ap (λ (s : State S). means.objects s.store) h.state
   command_keeps old new (command.SetRoot entries) reply.RootRefused h = ap (λ (s : State S). means.objects s.store) h.1
   command_keeps old new it its_reply h = absurd h
@@ -218,7 +218,7 @@ module _ {S E : Type 0} (means : StoreModel S) (answers : Answers E) where
         → HasBases T (open_dirs new) (open_bases new)
     command_based old new (command.Edit it) (reply.Edit its_reply) h agrees has = edit_based at_root old new it its_reply h (agrees zero) has
     command_based old new (command.At prefix edits) its_reply h agrees has =
-        at_based (prefix_of (names_of prefix.items)) old new edits.items its_reply h agrees has
+        at_based (cursor_path (names_of prefix.items)) old new edits.items its_reply h agrees has
     command_based old new (command.SetRoot entries) reply.RootSet h agrees has = h.has_bases T
     command_based old new (command.SetRoot entries) reply.RootRefused h agrees has = unmoved old new h.1 has
     command_based old new it its_reply h agrees has = absurd h
@@ -284,7 +284,7 @@ module _ {S E : Type 0} (means : StoreModel S) (answers : Answers E) where
     command_files old new (command.Edit it) (reply.Edit its_reply) h agrees pairs has =
         edit_files at_root old new it its_reply h (agrees zero) pairs has
     command_files old new (command.At prefix edits) its_reply h agrees pairs has =
-        at_files (prefix_of (names_of prefix.items)) old new edits.items its_reply h agrees pairs has
+        at_files (cursor_path (names_of prefix.items)) old new edits.items its_reply h agrees pairs has
     command_files old new (command.SetRoot entries) reply.RootSet h agrees pairs has = h.files T n
     command_files old new (command.SetRoot entries) reply.RootRefused h agrees pairs has = unchanged old new h.1
     command_files old new it its_reply h agrees pairs has = absurd h

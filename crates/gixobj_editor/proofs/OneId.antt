@@ -12,7 +12,7 @@ use Rattle.gixobj_object.specs.Stores.{StoreModel, Objects}
 use Rattle.gixobj_directories.proofs.NamedTrees.{trees_of_objects_exist}
 use Rattle.gixobj_directories.specs.Calls.{names_of}
 use Rattle.gixobj_directories.specs.declared.write.Written.{Written}
-use Rattle.gixobj_editor.specs.Cursors.{prefix_of}
+use Rattle.gixobj_editor.specs.Cursors.{cursor_path}
 use Rattle.gixobj_files.proofs.Calls.{root_alone_has_bases}
 use Rattle.gixobj_files.proofs.EditedFiles.{root_alone_at_root, root_alone_below_root}
 use Rattle.gixobj_files.proofs.Everywhere.{Everywhere}
@@ -28,7 +28,7 @@ use Rattle.gixobj_tree.specs.Entries.{EntryView, Pair}
 use Rattle.gixobj_editor.proofs.Keeping.{AgreesThroughout, agrees_throughout_prefix, agrees_throughout_suffix}
 use Rattle.gixobj_editor.proofs.Named.{agrees_with_run_prefix, agrees_later, agrees_with_written_pairs, ensured_keeps, command_keeps, edit_keeps, names_history}
 use Rattle.gixobj_editor.proofs.Reported.{mode_of_kind_not_tree, plain_history_of_prefix, known_by_trees, is_up_to_of_same_files}
-use Rattle.gixobj_editor.proofs.Plainly.{AreBuilt, IsPlainState, Within, plain_ensured, plain_below, plain_failed, plain_removed, plain_root, plain_upserted}
+use Rattle.gixobj_editor.proofs.PlainRuns.{AreBuilt, IsPlainState, Within, plain_ensured, plain_below, plain_failed, plain_removed, plain_root, plain_upserted}
 use Rattle.gixobj_editor.specs.Commands.{Place, at_cursor, at_root, kept_of, kept_of_edit, emitted_pairs, pairs_kept, pairs_of, pairs_of_edit, written_at, written_by}
 use Rattle.gixobj_editor.specs.OneId.{IdsDetermineFiles, IsPlainRun, NamesNoTree, InsertsNoTree, files_before}
 use Rattle.gixobj_editor.specs.Replies.{Answers, AreEditReplies, ReturnsTreeId, IsEditReply, IsReply, IsReplyAt, IsRun, IsWriteKept, IsWrittenAt}
@@ -138,7 +138,7 @@ module _ {S E : Type 0} (means : StoreModel S) (answers : Answers E) (T : Table)
   command_plain old new (command.Edit it) (reply.Edit its_reply) other h agrees holds within = edit_plain at_root old new it its_reply other h
       (agrees zero) holds within
   command_plain old new (command.At prefix edits) its_reply other h agrees holds within =
-      at_plain (prefix_of (names_of prefix.items)) old new edits.items its_reply (recursion_from_All InsertsNoTree edits.items other) h agrees holds
+      at_plain (cursor_path (names_of prefix.items)) old new edits.items its_reply (recursion_from_All InsertsNoTree edits.items other) h agrees holds
       within
   command_plain old new (command.SetRoot entries) reply.RootSet other h agrees holds within =
       (empty_plain new (ap (λ (s : State S). s.dirs) h.state ∙ ap (λ (l : List EntryView). root_alone l) other), tt)

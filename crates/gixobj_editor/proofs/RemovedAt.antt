@@ -11,7 +11,7 @@ use Rattle.gixobj_files.specs.OpeningStops.{IsUnopenedAbove}
 use Rattle.gixobj_files.specs.Opening.{Dirs, IsOpened, OpenFiles}
 use Rattle.gixobj_files.specs.State.{State, open_dirs}
 use Rattle.gixobj_files.specs.Unopened.{looked_up_entry, unopened_count}
-use Rattle.gixobj_files.proofs.Coming.{opens_reached, known_after}
+use Rattle.gixobj_files.proofs.ReachedDirectories.{opens_reached, known_after}
 use Rattle.gixobj_files.proofs.EditedFiles.{removed_congruent, same_files_trans}
 use Rattle.gixobj_files.proofs.OpeningFiles.{opens_keeps_files}
 use Rattle.gixobj_files.proofs.RemovedFiles.{IsReached, removed_dirs_files}

@@ -13,8 +13,8 @@ use Rattle.gixobj_files.specs.Files.{Path, Trees}
 use Rattle.gixobj_files.specs.OpeningStops.{ReachesDirectory, StopsOpening, at_once, without_answer}
 use Rattle.gixobj_files.specs.OpeningStops as halting
 use Rattle.gixobj_files.specs.Opening.{Dirs}
-use Rattle.gixobj_files.proofs.Coming.{comes_open, open_comes, opens_of_longer_path}
-use Rattle.gixobj_files.proofs.Halted.{halted_at, halted_unopened}
+use Rattle.gixobj_files.proofs.ReachedDirectories.{comes_open, open_comes, opens_of_longer_path}
+use Rattle.gixobj_files.proofs.StoppedOpenings.{halted_at, halted_unopened}
 use Rattle.gixobj_files.proofs.UnopenedCounts.{IsIdle}
 use Rattle.gixobj_editor.specs.Upserts.{IsValidated, IsOpenedInPart, IsEntryNameError, IsFirstNameError, directory_of, edit_error}
 use Rattle.gixobj_editor.specs.Removals.{ValidatesUpTo, IsRemovalError}
@@ -62,12 +62,12 @@ after_names path names [] validated = elim (path_nil_or_snoc path) [
 ]
 after_names path names (name ∷ rest) validated = inr (name, rest, validated.2, validated.0)
 
-no_halt : {Ends : EntryView → Type 0} (trees : Trees) (path : Path) → path ≡ [] → (old new : Dirs) (requested : List ObjectId) (vain : Option ObjectId)
-    → StopsOpening Ends trees path old new requested vain → ⊥
-no_halt trees path is old new requested vain (at_once name rest d e entry tree free none) = cc is
-no_halt trees path is old new requested vain (without_answer name rest d e entry tree free none filled) = cc is
-no_halt trees path is old new requested vain (halting.down name rest d inner e entries more v has named there halts) = cc is
-no_halt trees path is old new requested vain (halting.found name rest d inner e entries first more v entry tree free none finds halts) = cc is
+no_halt : {Ends : EntryView → Type 0} (trees : Trees) (path : Path) → path ≡ [] → (old new : Dirs) (requested : List ObjectId) (failed_lookup : Option ObjectId)
+    → StopsOpening Ends trees path old new requested failed_lookup → ⊥
+no_halt trees path is old new requested failed_lookup (at_once name rest d e entry tree free none) = cc is
+no_halt trees path is old new requested failed_lookup (without_answer name rest d e entry tree free none filled) = cc is
+no_halt trees path is old new requested failed_lookup (halting.down name rest d inner e entries more v has named there halts) = cc is
+no_halt trees path is old new requested failed_lookup (halting.found name rest d inner e entries first more v entry tree free none finds halts) = cc is
 
 -- the effect of a failed removal: the opened directories, the lookups and the error
 abbrev pub IsRejectedSo : (EntryView → Type 0) → Objects → (ObjectId → Bool) → Trees → Path → Dirs → Dirs → ℕ → ℕ → Error → Type 0
@@ -77,11 +77,11 @@ IsRejectedSo Ends objects may_fail trees path old new before after failure =
 module _ {Ends : EntryView → Type 0} (idle : IsIdle Ends) (objects : Objects) (may_fail : ObjectId → Bool) (trees : Trees) where
   -- a directory isn't opened
   stopped_opening_fails : (path names : Path) (last : List ℕ) (following : Path) → path ≡ names ++ last ∷ following → AreNames names
-      → (old new : Dirs) (requested : List ObjectId) (vain : Option ObjectId) → StopsOpening Ends trees names old new requested vain
-      → (cause : directory.Error) → IsOpenErrorAt objects may_fail vain cause → IsRemovalError Ends objects may_fail trees old path (edit_error cause)
-  stopped_opening_fails path names last following is good old new requested vain halts opening.OutOfMemory at =
+      → (old new : Dirs) (requested : List ObjectId) (failed_lookup : Option ObjectId) → StopsOpening Ends trees names old new requested failed_lookup
+      → (cause : directory.Error) → IsOpenErrorAt objects may_fail failed_lookup cause → IsRemovalError Ends objects may_fail trees old path (edit_error cause)
+  stopped_opening_fails path names last following is good old new requested failed_lookup halts opening.OutOfMemory at =
       subst (λ p. IsRemovalError Ends objects may_fail trees old p error.OutOfMemory) (sym is)
-      (halted_unopened trees names last following old new requested vain halts)
+      (halted_unopened trees names last following old new requested failed_lookup halts)
   stopped_opening_fails path names last following is good old new requested None halts opening.MalformedTree at = absurd (cc at)
   stopped_opening_fails path names last following is good old new requested (Some it) halts opening.MalformedTree at =
       let h = halted_at trees names last following old new requested (Some it) halts it refl in
@@ -93,14 +93,15 @@ module _ {Ends : EntryView → Type 0} (idle : IsIdle Ends) (objects : Objects) 
       subst (λ p. IsRemovalError Ends objects may_fail trees old p (error.FindExistingObject why)) (sym is)
       (it, h.0, are_names_prefix h.0.place h.1 (subst AreNames h.2 good), at)
 
-  pub halted_removal : (path names rejected : Path) → IsValidated path names rejected → (old new : Dirs) (requested : List ObjectId) (vain : Option ObjectId)
-      → StopsOpening Ends trees names old new requested vain → (cause : directory.Error) → IsOpenErrorAt objects may_fail vain cause
+  pub halted_removal : (path names rejected : Path) → IsValidated path names rejected
+      → (old new : Dirs) (requested : List ObjectId) (failed_lookup : Option ObjectId)
+      → StopsOpening Ends trees names old new requested failed_lookup → (cause : directory.Error) → IsOpenErrorAt objects may_fail failed_lookup cause
       → (n m : ℕ) → m ≡ counted n requested → IsRejectedSo Ends objects may_fail trees path old new n m (edit_error cause)
-  halted_removal path names rejected validated old new requested vain halts cause at n m count = elim (after_names path names rejected validated) [
-    | inl none ↦ absurd (no_halt trees names none.1 old new requested vain halts)
+  halted_removal path names rejected validated old new requested failed_lookup halts cause at n m count = elim (after_names path names rejected validated) [
+    | inl none ↦ absurd (no_halt trees names none.1 old new requested failed_lookup halts)
     | inr remaining ↦ (
-      halted_in_part trees path names remaining.0 remaining.1 remaining.2 old new requested vain halts n m count,
-      stopped_opening_fails path names remaining.0 remaining.1 remaining.2 remaining.3 old new requested vain halts cause at,
+      halted_in_part trees path names remaining.0 remaining.1 remaining.2 old new requested failed_lookup halts n m count,
+      stopped_opening_fails path names remaining.0 remaining.1 remaining.2 remaining.3 old new requested failed_lookup halts cause at,
     )
   ]
 

@@ -11,7 +11,7 @@ use Rattle.gixobj_editor.specs.declared.command.Edit.TheVariants as edit
 use Rattle.gixobj_directories.specs.Calls.{names_of}
 use Rattle.gixobj_editor.specs.Cursors.{IsEnsured}
 use Rattle.gixobj_editor.specs.Removals.{IsLeafRemoved, IsRemoved, IsLeafRemovalError, IsRemovalError}
-use Rattle.gixobj_editor.specs.Upserts.{IsForAName, IsEditFailure, IsUpserted, IsUpsertError}
+use Rattle.gixobj_editor.specs.Upserts.{IsNameError, IsEditFailure, IsUpserted, IsUpsertError}
 use Rattle.gixobj_editor.specs.declared.editor.error.Error.{Error}
 use Rattle.gixobj_files.specs.Edits.{IsNoTree}
 use Rattle.gixobj_files.specs.Files.{Files, Path, SameFiles, Table, Trees}
@@ -54,7 +54,7 @@ module _ {S E : Type 0} (means : StoreModel S) (answers : Answers E) (place : Pl
   pub upsert_replied : (kind : EntryKind) (id : ObjectId) (done : Result (Unit {0}) Error)
       → OnOk done (Of (λ trees. IsUpserted trees old (path_at place (names_of lent)) (mode_of_kind kind) id new))
       → OnErr done (Of (λ trees. IsEditFailure trees old (path_at place (names_of lent)) new))
-      → IfErr done (λ error. Of (Upserts lent error)) → IfErr done (λ error. IsForAName error → new ≡ old)
+      → IfErr done (λ error. Of (Upserts lent error)) → IfErr done (λ error. IsNameError error → new ≡ old)
       → IsEditReply means answers place old (edit.Upsert path kind id) (reply_to done) new
   upsert_replied kind id (Ok it) upserted pending failure not_looked_up =
       subst (λ (l : List BString). Of (λ trees. IsUpserted trees old (path_at place (names_of l)) (mode_of_kind kind) id new)) is upserted

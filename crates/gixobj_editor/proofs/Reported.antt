@@ -10,7 +10,7 @@ use Rattle.gixobj_editor.specs.declared.command.Command.TheVariants as command
 use Rattle.gixobj_editor.specs.declared.command.Edit.{Edit}
 use Rattle.gixobj_editor.specs.declared.command.Edit.TheVariants as edit
 use Rattle.gixobj_directories.specs.Calls.{names_of}
-use Rattle.gixobj_editor.specs.Cursors.{prefix_of}
+use Rattle.gixobj_editor.specs.Cursors.{cursor_path}
 use Rattle.gixobj_files.proofs.Canonical.{IsBuilt, same_trees}
 use Rattle.gixobj_files.proofs.EditedFiles.{root_alone_files, same_files_refl}
 use Rattle.gixobj_files.proofs.OpenedFiles.{no_open_files_of_no_entries}
@@ -93,7 +93,7 @@ module _ {E : Type 0} where
   command_steps : (it : Command) (its_reply : Reply E) → NamesNoTree it → AllByRecursion HasNoTree (steps_of it its_reply)
   command_steps (command.Edit it) (reply.Edit its_reply) other = edit_steps at_root it its_reply other
   command_steps (command.At prefix edits) (reply.At replies) other =
-      (tt, edits_steps (at_cursor (prefix_of (names_of prefix.items))) edits.items replies.items (recursion_from_All InsertsNoTree edits.items other))
+      (tt, edits_steps (at_cursor (cursor_path (names_of prefix.items))) edits.items replies.items (recursion_from_All InsertsNoTree edits.items other))
   command_steps (command.SetRoot entries) reply.RootSet other = (other, tt)
   command_steps it its_reply other = tt
 

@@ -7,7 +7,7 @@ use Rattle.gixobj_editor.specs.declared.command.Edit.{Edit}
 use Rattle.gixobj_editor.specs.declared.command.Edit.TheVariants as edit
 use Rattle.gixobj_directories.specs.Calls.{names_of}
 use Rattle.gixobj_directories.specs.declared.write.Written.{Written}
-use Rattle.gixobj_editor.specs.Cursors.{from_root, prefix_of}
+use Rattle.gixobj_editor.specs.Cursors.{from_root, cursor_path}
 use Rattle.gixobj_files.specs.Files.{Path}
 use Rattle.gixobj_files.specs.History.{Step, ensure, remove, set_root, upsert}
 use Rattle.gixobj_tree.specs.Entries.{Pair}
@@ -49,7 +49,7 @@ steps_at prefix edits its_reply = []
 -- the steps of a command by its reply: none for a failed one
 abbrev pub steps_of : {E : Type 0} → Command → Reply E → List Step
 steps_of (command.Edit it) (reply.Edit its_reply) = steps_of_edit at_root it its_reply
-steps_of (command.At prefix edits) its_reply = steps_at (prefix_of (names_of prefix.items)) edits.items its_reply
+steps_of (command.At prefix edits) its_reply = steps_at (cursor_path (names_of prefix.items)) edits.items its_reply
 steps_of (command.SetRoot entries) reply.RootSet = set_root entries ∷ []
 steps_of it its_reply = []
 

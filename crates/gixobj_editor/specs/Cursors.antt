@@ -24,9 +24,9 @@ use Rattle.gixobj_editor.specs.declared.editor.error.Error.{Error}
 use Rattle.gixobj_editor.specs.declared.editor.error.Error.TheVariants as error
 
 -- the path of a cursor's directory: a single empty name means the root
-abbrev pub prefix_of : Path → Path
-prefix_of ([] ∷ []) = []
-prefix_of path = path
+abbrev pub cursor_path : Path → Path
+cursor_path ([] ∷ []) = []
+cursor_path path = path
 
 -- the path from the root of a path from a cursor; it is empty for an empty path
 abbrev pub from_root : Path → Path → Path

@@ -11,9 +11,9 @@ use Rattle.gixobj_directories.specs.Calls.{IsStorable, names_of}
 use Rattle.gixobj_directories.specs.Emitting.{Stopped}
 use Rattle.gixobj_directories.specs.declared.write.WriteError.{WriteError}
 use Rattle.gixobj_directories.specs.declared.write.Written.{Written}
-use Rattle.gixobj_editor.specs.Cursors.{IsEnsured, IsWrittenBelow, IsCursorError, IsCursorEditError, prefix_of}
+use Rattle.gixobj_editor.specs.Cursors.{IsEnsured, IsWrittenBelow, IsCursorError, IsCursorEditError, cursor_path}
 use Rattle.gixobj_editor.specs.Removals.{IsLeafRemoved, IsRemoved, IsLeafRemovalError, IsRemovalError}
-use Rattle.gixobj_editor.specs.Upserts.{IsForAName, IsEditFailure, IsUpserted, IsUpsertError}
+use Rattle.gixobj_editor.specs.Upserts.{IsNameError, IsEditFailure, IsUpserted, IsUpsertError}
 use Rattle.gixobj_editor.specs.Writes.{IsWrittenEditor}
 use Rattle.gixobj_editor.specs.declared.editor.error.Error.{Error}
 use Rattle.gixobj_editor.specs.declared.editor.error.Error.TheVariants as editing
@@ -115,7 +115,7 @@ module _ {S E : Type 0} (means : StoreModel S) (answers : Answers E) where
       IsFailedEdit means (λ trees. IsEditErrorAt place (names_of path.items)
       (IsUpsertError (means.objects old.store) (means.may_fail old.store) trees (open_dirs old)
       (path_at place (names_of path.items))) error) old (path_at place (names_of path.items)) new
-      × (IsForAName error → new ≡ old)
+      × (IsNameError error → new ≡ old)
   IsEditReply place old (edit.Remove path) edit_reply.Done new =
       OfTrees (means.objects old.store)
       (λ trees. IsRemoved IsNoTree trees old (path_at place (names_of path.items)) new)
@@ -154,14 +154,14 @@ module _ {S E : Type 0} (means : StoreModel S) (answers : Answers E) where
   IsReplyAt prefix old edits (reply.AtRefused error) new =
       ((error ≡ editing.OutOfMemory) × (new ≡ old))
       ⊎ (IsFailedEdit means (λ trees. IsCursorError (means.objects old.store) (means.may_fail old.store) trees
-      (open_dirs old) prefix error) old (inside prefix) new × (IsForAName error → new ≡ old))
+      (open_dirs old) prefix error) old (inside prefix) new × (IsNameError error → new ≡ old))
   IsReplyAt prefix old edits its_reply new = ⊥
 
   -- the command may get this reply and turn the old state into the new one
   abbrev pub IsReply : State S → Command → Reply E → State S → Type 0
   IsReply old (command.Edit it) (reply.Edit its_reply) new = IsEditReply at_root old it its_reply new
   IsReply old (command.At prefix edits) its_reply new =
-      IsReplyAt (prefix_of (names_of prefix.items)) old edits.items its_reply new
+      IsReplyAt (cursor_path (names_of prefix.items)) old edits.items its_reply new
   IsReply old (command.SetRoot entries) reply.RootSet new = IsRootSet old entries new
   IsReply old (command.SetRoot entries) reply.RootRefused new = (¬ IsWellFormed entries) × (new ≡ old)
   -- a command gets no other reply

@@ -87,8 +87,8 @@ IsErrorIn means state Rejects path error =
     (λ trees. Rejects (means.objects state.store) (means.may_fail state.store) trees (open_dirs state) path error)
 
 -- an error for an invalid name
-abbrev pub IsForAName : Error → Type 0
-IsForAName failure = (failure ≡ error.EmptyPathComponent) ⊎ (failure ≡ error.SlashInPathComponent)
+abbrev pub IsNameError : Error → Type 0
+IsNameError failure = (failure ≡ error.EmptyPathComponent) ⊎ (failure ≡ error.SlashInPathComponent)
 
 -- the error of an edit for a directory that isn't opened
 abbrev pub edit_error : directory.Error → Error
@@ -128,11 +128,11 @@ pub record IsOpenedInPart (Ends : EntryView → Type 0) (trees : Trees) (path : 
   pub on_the_way : path ≡ prefix ++ more
   pub requested : List ObjectId
   pub opens : Opens Ends trees prefix old new requested
-  pub vain : List ObjectId
-  pub one : length vain ≤ 1
-  pub next : (it : ObjectId) → vain ≡ it ∷ [] → IsNextUnopened trees old prefix more it
-  pub lookups : after ≡ counted before (requested ++ vain)
-  pub few : length (requested ++ vain) ≤ unopened_count trees old path
+  pub failed_lookup : List ObjectId
+  pub one : length failed_lookup ≤ 1
+  pub next : (it : ObjectId) → failed_lookup ≡ it ∷ [] → IsNextUnopened trees old prefix more it
+  pub lookups : after ≡ counted before (requested ++ failed_lookup)
+  pub few : length (requested ++ failed_lookup) ≤ unopened_count trees old path
 
 -- the effect of a failed edit: the directories on a prefix of the path are opened, and no other. At most the next one
 -- was looked up without success. An open directory is still open, with its entries. Each lookup is counted; there are
@@ -146,11 +146,11 @@ pub record IsEditFailure {S : Type 0} (trees : Trees) (old : State S) (path : Pa
   pub opens : Opens (EndsBefore not_looked_up) trees prefix (open_dirs old) (open_dirs new) requested
   pub bases : (at : Path) → open_bases new at ≡ opened_bases (open_dirs old) (open_dirs new) (open_bases old) at
   pub stays : (at : Path) (entries : List EntryView) → open_dirs old at ≡ Some entries → open_dirs new at ≡ Some entries
-  pub vain : List ObjectId
-  pub one : length vain ≤ 1
-  pub next : (it : ObjectId) → vain ≡ it ∷ [] → IsNextUnopened trees (open_dirs old) prefix more it
-  pub lookups : new.lookups ≡ raised old.lookups (length (requested ++ vain))
-  pub few : length (requested ++ vain) ≤ unopened_count trees (open_dirs old) path
+  pub failed_lookup : List ObjectId
+  pub one : length failed_lookup ≤ 1
+  pub next : (it : ObjectId) → failed_lookup ≡ it ∷ [] → IsNextUnopened trees (open_dirs old) prefix more it
+  pub lookups : new.lookups ≡ raised old.lookups (length (requested ++ failed_lookup))
+  pub few : length (requested ++ failed_lookup) ≤ unopened_count trees (open_dirs old) path
   pub rest : new ≡ record old { dirs = new.dirs; bases = new.bases; lookups = new.lookups }
   pub is_opened : IsOpened (open_dirs new)
   pub files : (T : Table) (n : ℕ) → AgreesWithStore T trees → SameFiles (EditorFiles T n new) (EditorFiles T n old)

@@ -2,7 +2,7 @@
 ghost use Rattle.std.specs.Prelude.{◌≡◌, ◌+◌, ◌≤◌, ◌++◌, ◌∷◌, [], length, vec_capacity};
 ghost use Rattle.std.specs.Fn.{FnReturnsAt};
 ghost use Rattle.gixobj_directories.specs.Calls.{names_of};
-ghost use Rattle.gixobj_editor.specs.Cursors.{prefix_of};
+ghost use Rattle.gixobj_editor.specs.Cursors.{cursor_path};
 ghost use Rattle.gixobj_editor.specs.Commands.{at_cursor};
 ghost use Rattle.gixobj_editor.specs.Replies.{AreEditReplies, IsCallable, IsEditReply, IsReplyAt};
 ghost use Rattle.gixobj_object.specs.Stores.{store_model};
@@ -27,7 +27,7 @@ pub(crate) fn do_edits_at<S: Keep, E: Drop, F: Fn(&Tree) -> Result<ObjectId, E>>
 ) -> Reply<E>
     requires callable { IsCallable F.pre out.now }
     ensures replied { IsReplyAt (store_model S.objects S.may_fail) (FnReturnsAt F.Fn out.now)
-        (prefix_of (names_of prefix.now)) editor.old edits.items result editor.new }
+        (cursor_path (names_of prefix.now)) editor.old edits.items result editor.new }
 {
     match Vec::with_capacity(alloc, edits.len()) {
         Ok(replies) => do_edits_in(editor, prefix, edits, replies, out),
@@ -47,7 +47,7 @@ fn do_edits_in<S: Keep, E: Drop, F: Fn(&Tree) -> Result<ObjectId, E>>(
     requires empty { replies.items ≡ [] }
     requires has_capacity { length edits.items ≤ vec_capacity replies }
     ensures replied { IsReplyAt (store_model S.objects S.may_fail) (FnReturnsAt F.Fn out.now)
-        (prefix_of (names_of prefix.now)) editor.old edits.items result editor.new }
+        (cursor_path (names_of prefix.now)) editor.old edits.items result editor.new }
 {
     match editor.cursor_at(prefix) {
         Ok(mut cursor) => Reply::At(do_edits(&mut cursor, edits, replies, out)),

@@ -17,7 +17,7 @@ ghost use Rattle.gixobj_directories.specs.Calls.{IsCallableOnTrees, answered, de
 ghost use Rattle.gixobj_directories.specs.Emitting.{Stopped};
 ghost use Rattle.gixobj_editor.specs.Writes.{IsWrittenEditor};
 ghost use Rattle.gixobj_directories.specs.Openings.{OfTrees};
-ghost use Rattle.gixobj_editor.specs.Upserts.{IsForAName, IsEditFailure, IsUpserted, IsErrorIn, IsUpsertError};
+ghost use Rattle.gixobj_editor.specs.Upserts.{IsNameError, IsEditFailure, IsUpserted, IsErrorIn, IsUpsertError};
 ghost use Rattle.gixobj_editor.specs.Removals.{IsLeafRemoved, IsRemoved, IsLeafRemovalError, IsRemovalError};
 ghost use Rattle.gixobj_editor.specs.contracts.editor.Editor.{the_row};
 
@@ -272,7 +272,7 @@ impl<S: Find> Editor<S> {
             (λ trees. IsEditFailure trees self.old (names_of path.now) self.new)) }
         ensures error { IfErr result (IsErrorIn (store_model S.objects S.may_fail) self.old
             IsUpsertError (names_of path.now)) }
-        ensures not_looked_up { IfErr result (λ error. IsForAName error → self.new ≡ self.old) }
+        ensures not_looked_up { IfErr result (λ error. IsNameError error → self.new ≡ self.old) }
     {
         let alloc = *self.prefix.allocator();
         check_names(path)?;

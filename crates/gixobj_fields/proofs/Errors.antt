@@ -82,9 +82,8 @@ fails_as_sink_of_error R a b bytes error.OutOfMemory nothing (value, inr s) = no
 -- an error of a writer to a list that is empty and has allocated nothing
 pub encoding_error_of_list : (Rejects : RejectedValue → List ℕ → Type 0) (bytes items : List ℕ) (room : ℕ) (after : SinkView) (e : Error)
     → items ≡ [] → room ≡ 0 → IsWritingError Rejects (record { held = Some items; room = room }) after bytes e → IsEncodingError Rejects bytes e
-encoding_error_of_list Rejects bytes items room after e none full is =
-    (
-      after,
-      subst (λ (n : ℕ). IsWritingError Rejects (record { held = Some []; room = n }) after bytes e) full
-          (subst (λ (xs : List ℕ). IsWritingError Rejects (record { held = Some xs; room = room }) after bytes e) none is),
-    )
+encoding_error_of_list Rejects bytes items room after e none full is = (
+  after,
+  subst (λ (n : ℕ). IsWritingError Rejects (record { held = Some []; room = n }) after bytes e) full
+      (subst (λ (xs : List ℕ). IsWritingError Rejects (record { held = Some xs; room = room }) after bytes e) none is),
+)

@@ -14,7 +14,7 @@ use Rattle.gixobj_files.specs.Tables.{AgreesWithStore}
 use Rattle.gixobj_files.proofs.Based.{Based, NullBased, are_null_based_of_everywhere, based_is_lasting, everywhere_based, has_bases_of_everywhere, null_based_is_lasting, everywhere_null_based}
 use Rattle.gixobj_files.proofs.EditedFiles.{root_alone_below_root}
 use Rattle.gixobj_files.proofs.Everywhere.{Everywhere, Lasts, OfEntry, everywhere_opened}
-use Rattle.gixobj_files.proofs.Lasting.{lasts_ensured, lasts_removed, lasts_upserted, lasts_written}
+use Rattle.gixobj_files.proofs.LastingProperties.{lasts_ensured, lasts_removed, lasts_upserted, lasts_written}
 use Rattle.gixobj_files.specs.Bases.{AreNullBased, AreOpenedOn, HasBases, edited_bases, opened_bases}
 
 pub null_id_is_null : (kind : Kind) → is_null (null_id kind) ≡ true

@@ -12,7 +12,7 @@ use Rattle.gixobj_files.specs.Tables.{AgreesWithPairs, AgreesWithStore}
 use Rattle.gixobj_files.proofs.EnsuredFiles.{ensured_dirs_files_of_open, is_open_along_of_opens}
 use Rattle.gixobj_files.proofs.Based.{Based}
 use Rattle.gixobj_files.proofs.Everywhere.{Everywhere}
-use Rattle.gixobj_files.proofs.Lasting.{everywhere_in_path}
+use Rattle.gixobj_files.proofs.LastingProperties.{everywhere_in_path}
 use Rattle.gixobj_files.proofs.BelowPrefix.{files_in_path, is_opened_in_path, files_with_same_inner}
 use Rattle.gixobj_files.proofs.EditedFiles.{ensured_congruent, same_files_trans}
 use Rattle.gixobj_files.proofs.OpenedFiles.{open_files_of_root_alone}

@@ -9,7 +9,7 @@ use Rattle.gixobj_files.proofs.EnsuredFiles.{ensured_dirs_in_dir}
 use Rattle.gixobj_files.proofs.RemovedFiles.{removed_dirs_in_dir}
 use Rattle.gixobj_files.proofs.StillOpenedRemovals.{removed_dirs_keep_root}
 use Rattle.gixobj_files.proofs.UpsertedFiles.{upserted_dirs_in_dir, upserted_dirs_keep_root}
-use Rattle.gixobj_files.proofs.Coming.{entry_at_in_dir}
+use Rattle.gixobj_files.proofs.ReachedDirectories.{entry_at_in_dir}
 
 -- an upsert below a name is one in the directories of that name
 upserted_below : (first : List ℕ) (rest : Path) (name : List ℕ) (path : Path) (mode : ℕ) (id null : ObjectId) (dirs : Dirs)

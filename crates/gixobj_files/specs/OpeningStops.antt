@@ -20,16 +20,16 @@ pub data StopsOpening (Ends : EntryView → Type 0) (trees : Trees) : Path → D
       → is_tree_mode e.mode ≡ true → (¬ Ends e) → ((path : Path) → dirs (name ∷ path) ≡ None) → (¬ IsNeverLookedUp e.id)
       → StopsOpening Ends trees (name ∷ rest) dirs dirs (e.id ∷ []) (Some e.id)
   down : (name : List ℕ) (rest : Path) (dirs inner : Dirs) (e : EntryView) (entries : List EntryView)
-      (requested : List ObjectId) (vain : Option ObjectId) → HasAt (dirs []) e → e.name ≡ name
+      (requested : List ObjectId) (failed_lookup : Option ObjectId) → HasAt (dirs []) e → e.name ≡ name
       → dirs (name ∷ []) ≡ Some entries
-      → StopsOpening Ends trees rest (in_dir name dirs) inner requested vain
-      → StopsOpening Ends trees (name ∷ rest) dirs (with_dir name inner dirs) requested vain
+      → StopsOpening Ends trees rest (in_dir name dirs) inner requested failed_lookup
+      → StopsOpening Ends trees (name ∷ rest) dirs (with_dir name inner dirs) requested failed_lookup
   found : (name : List ℕ) (rest : Path) (dirs inner : Dirs) (e : EntryView) (entries : List EntryView)
-      (first requested : List ObjectId) (vain : Option ObjectId) → IsEntryOf name (dirs []) e
+      (first requested : List ObjectId) (failed_lookup : Option ObjectId) → IsEntryOf name (dirs []) e
       → is_tree_mode e.mode ≡ true → (¬ Ends e)
       → ((path : Path) → dirs (name ∷ path) ≡ None) → Finds trees e.id entries first
-      → StopsOpening Ends trees rest (only entries) inner requested vain
-      → StopsOpening Ends trees (name ∷ rest) dirs (with_dir name inner dirs) (first ++ requested) vain
+      → StopsOpening Ends trees rest (only entries) inner requested failed_lookup
+      → StopsOpening Ends trees (name ∷ rest) dirs (with_dir name inner dirs) (first ++ requested) failed_lookup
 
 -- the first path is a parent directory of the second, below the root
 abbrev pub IsAbove : Path → Path → Type 0

@@ -10,24 +10,24 @@ use gixobj_tree::Tree;
 use gixobj_tree::tree::Entry;
 use std::alloc::{AllocError, Global};
 
-/// A written tree, which is built entry by entry next to a base. [`OwnTree::new`] makes one.
+/// A written tree, which is built entry by entry next to a base. [`WrittenTree::new`] makes one.
 ///
 /// While its entries are a prefix of the base, it is their number alone, which allocates nothing. At the
 /// first entry that differs the prefix is copied, and from then on the tree has entries of its own.
 #[derive(Drop)]
-pub enum OwnTree {
+pub enum WrittenTree {
     /// A prefix of the base, as its number of entries.
     Prefix(usize),
     /// Entries of its own, which are no prefix of the base.
     Own(Vec<Entry>),
 }
 
-impl OwnTree {
+impl WrittenTree {
     /// Makes a tree without entries.
-    pub fn new() -> OwnTree
-        ensures { result ≡ OwnTree.Prefix 0 }
+    pub fn new() -> WrittenTree
+        ensures { result ≡ WrittenTree.Prefix 0 }
     {
-        OwnTree::Prefix(0)
+        WrittenTree::Prefix(0)
     }
 
     /// Appends the entry, with this id in place of its own.
@@ -55,27 +55,27 @@ impl OwnTree {
             → (so_far base.now self.old ++ with_id entry.now id ∷ []) ++ rest ≢ base.now) }
     {
         match self {
-            OwnTree::Prefix(same) => {
+            WrittenTree::Prefix(same) => {
                 if goes_on(base, *same, entry, id) {
                     *same += 1;
                     return Ok(());
                 }
                 let own = copy_with(alloc, &base[..*same], entry, id, room)?;
-                *self = OwnTree::Own(own);
+                *self = WrittenTree::Own(own);
                 Ok(())
             }
-            OwnTree::Own(own) => push_copy(alloc, own, entry, id),
+            WrittenTree::Own(own) => push_copy(alloc, own, entry, id),
         }
     }
 
     /// Returns `true` if the tree has no entries.
-    pub fn is_bare(&self) -> bool
+    pub fn has_no_entries(&self) -> bool
         ensures { (base : List EntryView) → SharesBase base self.now
             → result ≡ (length (so_far base self.now) == 0) }
     {
         match self {
-            OwnTree::Prefix(same) => *same == 0,
-            OwnTree::Own(own) => own.is_empty(),
+            WrittenTree::Prefix(same) => *same == 0,
+            WrittenTree::Own(own) => own.is_empty(),
         }
     }
 
@@ -85,8 +85,8 @@ impl OwnTree {
         ensures { IsTrue result ↔ (so_far base.now self.now ≡ base.now) }
     {
         match self {
-            OwnTree::Prefix(same) => *same == base.len(),
-            OwnTree::Own(_) => false,
+            WrittenTree::Prefix(same) => *same == base.len(),
+            WrittenTree::Own(_) => false,
         }
     }
 
@@ -104,8 +104,8 @@ impl OwnTree {
             × (so_far base.now self ++ rest ≡ base.now)) }
     {
         let entries = match self {
-            OwnTree::Prefix(same) => copies(alloc, &base[..same])?,
-            OwnTree::Own(own) => own,
+            WrittenTree::Prefix(same) => copies(alloc, &base[..same])?,
+            WrittenTree::Own(own) => own,
         };
         Ok(Tree { entries })
     }

@@ -11,7 +11,7 @@ use Rattle.gixobj_directories.specs.Emitting.{Stopped}
 use Rattle.gixobj_directories.specs.declared.write.WriteError.{WriteError}
 use Rattle.gixobj_directories.specs.declared.write.WriteError.TheVariants as write
 use Rattle.gixobj_directories.specs.declared.write.Written.{Written}
-use Rattle.gixobj_editor.specs.Cursors.{prefix_of}
+use Rattle.gixobj_editor.specs.Cursors.{cursor_path}
 use Rattle.gixobj_files.specs.Files.{Path}
 use Rattle.gixobj_files.specs.Emission.{EmitsSome}
 use Rattle.gixobj_files.specs.State.{State, open_bases, open_dirs}
@@ -122,7 +122,7 @@ module _ {S E : Type 0} (means : StoreModel S) (answers wider : Answers E) (with
   reply_wider : (old new : State S) (it : Command) (its_reply : Reply E) → IsReply means answers old it its_reply new
       → IsReply means wider old it its_reply new
   reply_wider old new (command.Edit it) (reply.Edit its_reply) is = edit_reply_wider at_root old new it its_reply is
-  reply_wider old new (command.At prefix edits) its_reply is = reply_at_wider (prefix_of (names_of prefix.items)) old new edits.items its_reply is
+  reply_wider old new (command.At prefix edits) its_reply is = reply_at_wider (cursor_path (names_of prefix.items)) old new edits.items its_reply is
   reply_wider old new (command.SetRoot entries) reply.RootSet is = is
   reply_wider old new (command.SetRoot entries) reply.RootRefused is = is
   reply_wider old new it its_reply is = absurd is

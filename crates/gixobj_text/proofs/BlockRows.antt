@@ -5,7 +5,7 @@ use Rattle.std.specs.Prelude.{false, IsFalse, IsTrue}
 use Rattle.bstr.proofs.Computing.{computing}
 use Rattle.bstr.specs.Text.{lines_of}
 use Rattle.gixobj_text.specs.BodyLines.{is_blank}
-use Rattle.gixobj_text.specs.TrailerBlocks.{IsTrailerBlock, IsBlockStart, count_others, trailers_in}
+use Rattle.gixobj_text.specs.TrailerBlocks.{IsTrailerBlock, IsTrailerBlockStart, count_others, trailers_in}
 use Rattle.gixobj_text.proofs.LastRuns.{no_block_of_parts, parts_of}
 
 abbrev F : List ℕ → Type 0
@@ -18,7 +18,7 @@ abbrev two : List (List ℕ)
 two = codes "A: 1\n" ∷ codes "B: 2\n" ∷ []
 
 -- two trailers after a line and a blank line
-two_trailers : IsBlockStart (codes "m\n\nA: 1\nB: 2\n") 1
+two_trailers : IsTrailerBlockStart (codes "m\n\nA: 1\nB: 2\n") 1
 unfolding computing
 two_trailers = inl (record {
   before = codes "m\n" ∷ codes "\n" ∷ [];
@@ -36,7 +36,7 @@ two_trailers = inl (record {
 })
 
 -- a sign-off makes a trailer block of lines with another line among them
-with_a_note : IsBlockStart (codes "Signed-off-by: A\nnote\nB: 2\n") 0
+with_a_note : IsTrailerBlockStart (codes "Signed-off-by: A\nnote\nB: 2\n") 0
 unfolding computing
 with_a_note = inl (record {
   before = [];
@@ -73,5 +73,5 @@ five_lines = (refl, refl)
 as_long : ◌≡◌ {A = ℕ} 85 (length long)
 as_long = refl
 
-too_many : IsBlockStart long 85
+too_many : IsTrailerBlockStart long 85
 too_many = inr (no_block_of_parts (lines_of long) (none_of_five (parts_of (lines_of long)).run five_lines), as_long)

@@ -6,7 +6,7 @@ use Rattle.std.specs.List.{take_while}
 use Rattle.bstr.specs.Text.{line_len, lines_of}
 use Rattle.bstr.proofs.lemmas.LineLemmas.{line_len-bounds, lines-step}
 use Rattle.gixobj_text.specs.BodyLines.{begins_indented, is_blank, is_folded, is_indented, without_last_byte}
-use Rattle.gixobj_text.specs.Unfolding.{are_some}
+use Rattle.gixobj_text.specs.Unfolding.{has_lines}
 use Rattle.gixobj_text.proofs.Reading.{no_folded_lines_at_end, take_while_folded_cons}
 
 no_newline : (byte : ℕ) → is_ascii_whitespace byte ≡ false → (byte == 10) ≡ false
@@ -44,6 +44,6 @@ none_folded byte rest is =
     ∙ take_while_folded_cons false (take (line_len (byte ∷ rest)) (byte ∷ rest)) (lines_of (drop (line_len (byte ∷ rest)) (byte ∷ rest)))
     (first_unfolded byte rest is)
 
-pub first_line_not_folded : (bytes : List ℕ) → begins_indented bytes ≡ false → are_some (take_while is_folded (lines_of bytes)) ≡ false
-first_line_not_folded [] is = ap are_some (no_folded_lines_at_end [] refl)
-first_line_not_folded (byte ∷ rest) is = ap are_some (none_folded byte rest is)
+pub first_line_not_folded : (bytes : List ℕ) → begins_indented bytes ≡ false → has_lines (take_while is_folded (lines_of bytes)) ≡ false
+first_line_not_folded [] is = ap has_lines (no_folded_lines_at_end [] refl)
+first_line_not_folded (byte ∷ rest) is = ap has_lines (none_folded byte rest is)

@@ -8,7 +8,7 @@ use Rattle.gixobj_text.specs.BodyLines.{trimmed_line}
 use Rattle.gixobj_text.specs.MessageTrailers.{BodyHasTrailerBlock, HasTrailerBlock, HasTrailers}
 use Rattle.gixobj_text.specs.Titles.{HasBreaks, IsBreak, IsSplitAtBreaks, SplitsTitle}
 use Rattle.gixobj_text.specs.Titles.IsBreak.{alone, after_return}
-use Rattle.gixobj_text.specs.TrailerBlocks.{HasBlock, IsBlockStart, StartsAfter}
+use Rattle.gixobj_text.specs.TrailerBlocks.{HasBlock, IsTrailerBlockStart, StartsAfter}
 use Rattle.gixobj_text.specs.Trailers.{TrailerView, trailers_of_bytes}
 use Rattle.gixobj_text.proofs.LastRuns.{Parts, parts_of_last_run}
 
@@ -106,7 +106,7 @@ same_start lines start start2 one other =
     (sym (parts_of_last_run lines one.before one.run one.after one.last) ∙ parts_of_last_run lines other.before other.run other.after other.last) in
     start_is one.before start one.starts ∙ ap start_of same ∙ sym (start_is other.before start2 other.starts)
 
-pub block_start_unique : (body : List ℕ) (start start2 : ℕ) → IsBlockStart body start → IsBlockStart body start2 → start ≡ start2
+pub block_start_unique : (body : List ℕ) (start start2 : ℕ) → IsTrailerBlockStart body start → IsTrailerBlockStart body start2 → start ≡ start2
 block_start_unique body start start2 (inl one) (inl other) = same_start (lines_of body) start start2 one other
 block_start_unique body start start2 (inl one) (inr (none, is)) = absurd (none one.before one.run one.after one.last one.block)
 block_start_unique body start start2 (inr (none, is)) (inl other) = absurd (none other.before other.run other.after other.last other.block)

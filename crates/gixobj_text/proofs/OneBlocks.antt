@@ -5,7 +5,7 @@ use Rattle.std.specs.Prelude.{◌||◌}
 use Rattle.std.specs.List.{concat}
 use Rattle.bstr.specs.Text.{lines_of}
 use Rattle.bstr.proofs.lemmas.RestLemmas.{concat-lines_of}
-use Rattle.gixobj_text.specs.Blocks.{AreBlocksFrom, AreTrailers, BlockView, EndsTrailers, IsBlockOfLines, IsFirstBlock}
+use Rattle.gixobj_text.specs.Blocks.{AreBlocksFrom, AreTrailers, BlockView, EndsTrailers, IsBlockOfLines, IsFirstMessageBlock}
 use Rattle.gixobj_text.specs.Blocks.AreBlocksFrom.{block, none}
 use Rattle.gixobj_text.specs.BodyLines.{is_folded, is_trailer_line}
 use Rattle.gixobj_text.specs.Steps.{BeginsTrailer, ContinuesTrailer, NoTrailer}
@@ -97,8 +97,8 @@ view_is : (one other : BlockView) → one.message ≡ other.message → one.trai
 view_is one other message trailers =
     ap (λ (it : List ℕ). view it one.trailers) message ∙ ap (λ (it : List ℕ). view other.message it) trailers
 
-one_first : (start : ℕ) (bytes : List ℕ) (one other : BlockView) (rest rest2 : List ℕ) → IsFirstBlock start bytes one rest
-    → IsFirstBlock start bytes other rest2 → (one ≡ other) × (rest ≡ rest2)
+one_first : (start : ℕ) (bytes : List ℕ) (one other : BlockView) (rest rest2 : List ℕ) → IsFirstMessageBlock start bytes one rest
+    → IsFirstMessageBlock start bytes other rest2 → (one ≡ other) × (rest ≡ rest2)
 one_first start bytes one other rest rest2 it it2 =
     let first = cut_so (lines_of (drop start bytes)) it.skipped it.consumed (lines_of rest) it.lines in
     let second = cut_so (lines_of (drop start bytes)) it2.skipped it2.consumed (lines_of rest2) it2.lines in

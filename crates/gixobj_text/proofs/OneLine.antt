@@ -7,7 +7,7 @@ use Rattle.std.specs.List.{list_any}
 use Rattle.gixobj_text.specs.Counting.{other_count_of}
 use Rattle.gixobj_text.specs.BodyLines.{is_blank, is_indented}
 use Rattle.gixobj_text.specs.Scanning.{is_below_trailer_after}
-use Rattle.gixobj_text.specs.TrailerBlocks.{EndsBlank, IsLastRun, is_trailing, count_others}
+use Rattle.gixobj_text.specs.TrailerBlocks.{EndsBlank, IsLastRun, counts_as_trailer, count_others}
 
 abbrev pub Lines : Type 0
 Lines = List (List ℕ)
@@ -90,9 +90,10 @@ after_first false false above a b c d e f x y z line first second third = plus_s
 
 pub count_others_snoc : (above : Bool) (run : Lines) (line : List ℕ) → count_others above (run ++ line ∷ []) ≡ count_others above run + other_count_of
     (is_below_trailer_after above run) line
-count_others_snoc above [] line = from_none (count_others above (line ∷ [])) (other_count_of above line) (one_line (is_trailing line) (is_indented line) above)
+count_others_snoc above [] line = from_none (count_others above (line ∷ [])) (other_count_of above line)
+    (one_line (counts_as_trailer line) (is_indented line) above)
 count_others_snoc above (first ∷ run) line =
-    after_first (is_trailing first) (is_indented first) above _ _ _ _ _ _ (is_below_trailer_after true run) (is_below_trailer_after above run)
+    after_first (counts_as_trailer first) (is_indented first) above _ _ _ _ _ _ (is_below_trailer_after true run) (is_below_trailer_after above run)
     (is_below_trailer_after false run) line
     (count_others_snoc true run line) (count_others_snoc above run line) (count_others_snoc false run line)
 
@@ -103,12 +104,12 @@ above_first true i a b c x y z t2 i2 first second third = first
 above_first false true a b c x y z t2 i2 first second third = second
 above_first false false a b c x y z t2 i2 first second third = third
 
-pub is_below_trailer_snoc : (above : Bool) (run : Lines) (line : List ℕ) → is_below_trailer_after above (run ++ line ∷ []) ≡ cond (is_trailing line) true
+pub is_below_trailer_snoc : (above : Bool) (run : Lines) (line : List ℕ) → is_below_trailer_after above (run ++ line ∷ []) ≡ cond (counts_as_trailer line) true
     (cond (is_indented line) (is_below_trailer_after above run) false)
 is_below_trailer_snoc above [] line = refl
 is_below_trailer_snoc above (first ∷ run) line =
-    above_first (is_trailing first) (is_indented first) _ _ _ (is_below_trailer_after true run) (is_below_trailer_after above run)
-    (is_below_trailer_after false run) (is_trailing line) (is_indented line)
+    above_first (counts_as_trailer first) (is_indented first) _ _ _ (is_below_trailer_after true run) (is_below_trailer_after above run)
+    (is_below_trailer_after false run) (counts_as_trailer line) (is_indented line)
     (is_below_trailer_snoc true run line) (is_below_trailer_snoc above run line) (is_below_trailer_snoc false run line)
 
 or_apart : (a b c : Bool) → a || (b || c) ≡ (a || b) || c

@@ -15,7 +15,7 @@ use Rattle.gixobj_text.specs.Scanning.{after_token}
 use Rattle.gixobj_text.specs.Trailers.{trailers_of, trailers_of_bytes, unfolded, with_trailer}
 use Rattle.gixobj_hash.specs.ByteStrings.{is_filled, trimmed}
 use Rattle.gixobj_text.proofs.LastLines.{last_lines_step}
-use Rattle.gixobj_text.specs.Unfolding.{IsNextTrailer, are_some, first_is_folded, with_folded, with_piece, with_pieces}
+use Rattle.gixobj_text.specs.Unfolding.{IsNextTrailer, has_lines, first_is_folded, with_folded, with_piece, with_pieces}
 
 abbrev Lines : Type 0
 Lines = List (List ℕ)
@@ -99,7 +99,7 @@ pub first_is_folded_skip : (bytes line rest : List ℕ) → IsFirstLine bytes li
     → first_is_folded (lines_of bytes) ≡ first_is_folded
     (lines_of rest)
 first_is_folded_skip bytes line rest first none =
-    ap first_is_folded first.lines ∙ ap (λ (parts : Option TrailerParts). cond (is_some parts) (are_some (take_while is_folded (lines_of rest)))
+    ap first_is_folded first.lines ∙ ap (λ (parts : Option TrailerParts). cond (is_some parts) (has_lines (take_while is_folded (lines_of rest)))
     (first_is_folded (lines_of rest))) none
 
 pub rest_len_lt : (bytes line rest : List ℕ) → IsFirstLine bytes line rest → length rest < length bytes
@@ -119,7 +119,7 @@ is_next_trailer_at_line entire bytes line rest token first trailers folded few l
       trailers = sym trailers ∙ ap trailers_of one.lines
           ∙ ap (λ (parts : Option TrailerParts). with_trailer parts (take_while is_folded (lines_of rest)) (trailers_of_bytes rest)) (sym is);
       folded = sym folded ∙ ap first_is_folded one.lines
-          ∙ ap (λ (parts : Option TrailerParts). cond (is_some parts) (are_some (take_while is_folded (lines_of rest)))
+          ∙ ap (λ (parts : Option TrailerParts). cond (is_some parts) (has_lines (take_while is_folded (lines_of rest)))
           (first_is_folded (lines_of rest)))
           (sym is);
       shorter = omega arith;
@@ -170,21 +170,21 @@ from_nothing [] = refl
 from_nothing ([] ∷ pieces) = from_nothing pieces
 from_nothing ((byte ∷ piece) ∷ pieces) = after_filled byte piece pieces
 
-unfolded_by : (first : List ℕ) (lines : Lines) → are_some lines ≡ true → with_pieces (with_piece [] (trimmed first))
+unfolded_by : (first : List ℕ) (lines : Lines) → has_lines lines ≡ true → with_pieces (with_piece [] (trimmed first))
     (map trimmed (map trimmed_line lines))
     ≡ unfolded first (map trimmed_line lines)
 unfolded_by first [] some = cc some
 unfolded_by first (line ∷ lines) some = from_nothing (map trimmed (first ∷ map trimmed_line (line ∷ lines)))
 
-pub with_folded_eq_unfolded : (first : List ℕ) (lines : Lines) → are_some (take_while is_folded lines) ≡ true
+pub with_folded_eq_unfolded : (first : List ℕ) (lines : Lines) → has_lines (take_while is_folded lines) ≡ true
     → with_folded (with_piece [] (trimmed first)) lines ≡ unfolded first (map trimmed_line (take_while is_folded lines))
 with_folded_eq_unfolded first lines some = unfolded_by first (take_while is_folded lines) some
 
 -- the value of one line
-trimmed_by : (first : List ℕ) (lines : Lines) → are_some lines ≡ false → unfolded first (map trimmed_line lines) ≡ trimmed first
+trimmed_by : (first : List ℕ) (lines : Lines) → has_lines lines ≡ false → unfolded first (map trimmed_line lines) ≡ trimmed first
 trimmed_by first [] none = refl
 trimmed_by first (line ∷ lines) none = cc none
 
-pub unfolded_eq_trimmed : (first : List ℕ) (lines : Lines) → are_some (take_while is_folded lines) ≡ false
+pub unfolded_eq_trimmed : (first : List ℕ) (lines : Lines) → has_lines (take_while is_folded lines) ≡ false
     → unfolded first (map trimmed_line (take_while is_folded lines)) ≡ trimmed first
 unfolded_eq_trimmed first lines none = trimmed_by first (take_while is_folded lines) none

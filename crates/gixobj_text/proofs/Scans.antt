@@ -10,7 +10,7 @@ use Rattle.gixobj_text.specs.Counting.{Counts}
 use Rattle.gixobj_text.specs.FirstLines.{IsFirstLine}
 use Rattle.gixobj_text.specs.BodyLines.{is_blank, trimmed_line}
 use Rattle.gixobj_text.specs.Scanned.{EndsAfter, HasRun, IsWalked, Scanned}
-use Rattle.gixobj_text.specs.TrailerBlocks.{EndsBlank, IsTrailerBlock, IsBlockStart, IsLastRun, StartsAfter, count_others, trailers_in}
+use Rattle.gixobj_text.specs.TrailerBlocks.{EndsBlank, IsTrailerBlock, IsTrailerBlockStart, IsLastRun, StartsAfter, count_others, trailers_in}
 use Rattle.gixobj_text.specs.declared.commit.message.body.run.Run.{Run}
 use Rattle.gixobj_text.specs.declared.commit.message.body.scan.Scan.{Scan}
 use Rattle.gixobj_text.proofs.LastRuns.{Parts, parts_of_last_run}
@@ -178,7 +178,7 @@ from_block run it counts (inr (is, few)) =
     )
 
 pub is_block_start_at_run : (body : List ℕ) (it : Scan) (is : Bool) → Scanned (lines_of body) it → it.some ≡ true → (IsTrue is ↔ SaysBlock it.run) → is ≡ true
-    → IsBlockStart body it.start
+    → IsTrailerBlockStart body it.start
 is_block_start_at_run body it is scanned some says so =
     let has : HasRun (lines_of body) it = scanned.some some in
     inl (record {
@@ -197,7 +197,7 @@ same_run lines before run after before2 run2 after2 one other =
 
 pub is_block_start_at_end : (body : List ℕ) (it : Scan) (is : Bool) → Scanned (lines_of body) it → it.some ≡ true → (IsTrue is ↔ SaysBlock it.run)
     → is ≡ false
-    → IsBlockStart body (length body)
+    → IsTrailerBlockStart body (length body)
 is_block_start_at_end body it is scanned some says not =
     let has : HasRun (lines_of body) it = scanned.some some in
     inr (
@@ -218,7 +218,7 @@ in_blank [] (line ∷ run) after some filled blank =
 in_blank (one ∷ before) (line ∷ run) after some filled blank = in_blank before (line ∷ run) after some filled
     (All-tail Blank one (before ++ (line ∷ run) ++ after) blank)
 
-pub is_block_start_without_run : (body : List ℕ) (it : Scan) → Scanned (lines_of body) it → it.some ≡ false → IsBlockStart body (length body)
+pub is_block_start_without_run : (body : List ℕ) (it : Scan) → Scanned (lines_of body) it → it.some ≡ false → IsTrailerBlockStart body (length body)
 is_block_start_without_run body it scanned none =
     inr (
       λ before run after last block. in_blank before run after last.some last.none_blank

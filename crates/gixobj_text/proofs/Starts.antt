@@ -5,7 +5,7 @@ use Rattle.std.specs.List.{concat}
 use Rattle.bstr.specs.Text.{lines_of}
 use Rattle.bstr.proofs.lemmas.RestLemmas.{concat-lines_of}
 use Rattle.gixobj_text.specs.BodyLines.{trimmed_line, without_last_byte}
-use Rattle.gixobj_text.specs.TrailerBlocks.{IsBlockStart, StartsAfter}
+use Rattle.gixobj_text.specs.TrailerBlocks.{IsTrailerBlockStart, StartsAfter}
 
 abbrev Lines : Type 0
 Lines = List (List ℕ)
@@ -51,7 +51,7 @@ prefix_within lines before following joined =
     length-append (concat before) (concat following) in
     omega arith
 
-pub block_start_le_len : (body : List ℕ) (start : ℕ) → IsBlockStart body start → start ≤ length body
+pub block_start_le_len : (body : List ℕ) (start : ℕ) → IsTrailerBlockStart body start → start ≤ length body
 block_start_le_len body start (inl block) =
     let first : start ≤ length (concat block.before) = before_within block.before start block.starts in
     let one : length (concat (block.before ++ block.run)) ≤ length (concat (lines_of body)) =

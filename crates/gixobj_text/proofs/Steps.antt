@@ -10,7 +10,7 @@ use Rattle.bstr.proofs.lemmas.LineLemmas.{lines-nil}
 use Rattle.bstr.proofs.lemmas.RestLemmas.{concat-lines_of}
 use Rattle.gixobj_text.proofs.SplitTitles.{title_is_prefix}
 use Rattle.gixobj_text.specs.FirstLines.{IsFirstLine}
-use Rattle.gixobj_text.specs.Blocks.{AreTrailers, EndsTrailers, IsBlockOfLines, IsFirstBlock}
+use Rattle.gixobj_text.specs.Blocks.{AreTrailers, EndsTrailers, IsBlockOfLines, IsFirstMessageBlock}
 use Rattle.gixobj_text.specs.BodyLines.{is_folded, is_trailer_line}
 use Rattle.gixobj_text.specs.Steps.{BeginsTrailer, ContinuesTrailer, IsAtTrailer, IsAfterTrailers, IsPast, NoTrailer}
 use Rattle.gixobj_text.proofs.OneLine.{all_snoc}
@@ -93,7 +93,7 @@ pub is_first_block_of_steps : (start : ℕ) (content from trailers rest message 
     → IsAtTrailer from trailers
     → IsAfterTrailers trailers rest
     → message ≡ take (length content - length trailers) content → taken ≡ take (length trailers - length rest) trailers
-    → IsFirstBlock start content (record { message = message; trailers = taken }) rest
+    → IsFirstMessageBlock start content (record { message = message; trailers = taken }) rest
 is_first_block_of_steps start content from trailers rest message taken some is at after first second =
     let joined : content ≡ (take start content ++ concat at.past.consumed) ++ trailers =
     sym (take-append-drop start content) ∙ ap (λ (bytes : List ℕ). take start content ++ bytes) (sym is ∙ at.past.joined)

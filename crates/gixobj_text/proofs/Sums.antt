@@ -8,7 +8,7 @@ use Rattle.std.specs.List.{flat_map, prefix_len}
 use Rattle.bstr.specs.Find.{IsFirstByte, is_byte}
 use Rattle.bstr.specs.Owned.{joined}
 use Rattle.bstr.specs.Trim.{trim_end_by}
-use Rattle.gixobj_text.specs.Summing.{has_more, is_of_lines, summary_of_rest}
+use Rattle.gixobj_text.specs.Summing.{has_more, is_multiline, summary_of_rest}
 use Rattle.gixobj_text.specs.Titles.{before_empty, each_without, is_empty_piece, is_trailing_space, prepended_to_first, pieces_of, has_empty_piece, summary_of, summary_of_pieces, without_trailing}
 use Rattle.gixobj_hash.specs.ByteStrings.{trimmed}
 
@@ -174,13 +174,13 @@ summary_of_empty_last_piece out content b is so test = sym (ap (summary_of_rest 
 pub summary_of_one_piece : (content inner : List ℕ) → inner ≡ trimmed content → pieces_of inner ≡ inner ∷ [] → inner ≡ summary_of content
 summary_of_one_piece content inner is one = sym (ap (λ (t : List ℕ). summary_of_pieces (pieces_of t)) (sym is) ∙ ap summary_of_pieces one ∙ append-nil inner)
 
-pub is_of_lines_false : (content inner : List ℕ) → inner ≡ trimmed content → pieces_of inner ≡ inner ∷ [] → is_of_lines content ≡ false
+pub is_of_lines_false : (content inner : List ℕ) → inner ≡ trimmed content → pieces_of inner ≡ inner ∷ [] → is_multiline content ≡ false
 is_of_lines_false content inner is one = ap (λ (t : List ℕ). has_more (pieces_of t)) (sym is) ∙ ap has_more one
 
 more_after : (piece : List ℕ) (pieces : Pieces) → pieces ≢ [] → has_more (piece ∷ pieces) ≡ true
 more_after piece [] some = absurd (some refl)
 more_after piece (next ∷ pieces) some = refl
 
-pub is_of_lines_true : (content inner piece rest : List ℕ) → inner ≡ trimmed content → pieces_of inner ≡ piece ∷ pieces_of rest → is_of_lines content ≡ true
+pub is_of_lines_true : (content inner piece rest : List ℕ) → inner ≡ trimmed content → pieces_of inner ≡ piece ∷ pieces_of rest → is_multiline content ≡ true
 is_of_lines_true content inner piece rest is more = ap (λ (t : List ℕ). has_more (pieces_of t)) (sym is) ∙ ap has_more more ∙ more_after piece (pieces_of rest)
     (some_pieces rest)

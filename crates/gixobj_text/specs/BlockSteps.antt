@@ -2,7 +2,7 @@
 use Rattle.std.specs.Prelude.{◌≡◌, ◌<◌, ℕ, List, [], Option, Some, None, length}
 use Rattle.std.specs.Iterator.{Count, at_most}
 use Rattle.bstr.specs.BStr.{bstr_bytes}
-use Rattle.gixobj_text.specs.Blocks.{BlockView, IsFirstBlock}
+use Rattle.gixobj_text.specs.Blocks.{BlockView, IsFirstMessageBlock}
 use Rattle.gixobj_text.specs.declared.commit.message.body.blocks.MessageBlock.{MessageBlock}
 use Rattle.gixobj_text.specs.declared.commit.message.body.blocks.MessageBlocks.{MessageBlocks}
 
@@ -26,7 +26,8 @@ first_start it = it.trailer_start
 -- if and only if no byte remains
 abbrev pub NextBlock : MessageBlocks → Option MessageBlock → MessageBlocks → Type 0
 NextBlock before (Some block) after =
-    IsFirstBlock (first_start before) (remaining_block_bytes before) (block_view block) (remaining_block_bytes after)
+    IsFirstMessageBlock (first_start before) (remaining_block_bytes before) (block_view block)
+    (remaining_block_bytes after)
     × (first_start after ≡ 0) × (length (remaining_block_bytes after) < length (remaining_block_bytes before))
 NextBlock before None after = (remaining_block_bytes before ≡ []) × (remaining_block_bytes after ≡ [])
 

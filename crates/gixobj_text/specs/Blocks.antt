@@ -31,7 +31,7 @@ pub record IsBlockOfLines (lines skipped consumed rest : List (List ℕ)) : Type
 
 -- the first block of `content`: its message has the first `start` bytes, whatever they are, and the lines before the
 -- next trailer line; `rest` follows its trailers
-pub record IsFirstBlock (start : ℕ) (content : List ℕ) (block : BlockView) (rest : List ℕ) : Type 0 where
+pub record IsFirstMessageBlock (start : ℕ) (content : List ℕ) (block : BlockView) (rest : List ℕ) : Type 0 where
   pub some : content ≢ []
   pub skipped : List (List ℕ)
   pub consumed : List (List ℕ)
@@ -43,7 +43,7 @@ pub record IsFirstBlock (start : ℕ) (content : List ℕ) (block : BlockView) (
 pub data AreBlocksFrom : ℕ → List ℕ → List BlockView → Type 0 where
   none : (start : ℕ) → AreBlocksFrom start [] []
   block : (start : ℕ) (content : List ℕ) (one : BlockView) (rest : List ℕ) (later : List BlockView)
-      → IsFirstBlock start content one rest → AreBlocksFrom 0 rest later
+      → IsFirstMessageBlock start content one rest → AreBlocksFrom 0 rest later
       → AreBlocksFrom start content (one ∷ later)
 
 -- the messages and their trailers, appended in order

@@ -3,13 +3,13 @@ use Rattle.std.specs.Prelude.{◌≡◌, ℕ, Bool, cond, false, List}
 use Rattle.std.specs.List.{list_any}
 use Rattle.gixobj_text.specs.BodyLines.{is_indented, is_recognised}
 use Rattle.gixobj_text.specs.Scanning.{is_below_trailer_after}
-use Rattle.gixobj_text.specs.TrailerBlocks.{is_trailing, count_others, trailers_in}
+use Rattle.gixobj_text.specs.TrailerBlocks.{counts_as_trailer, count_others, trailers_in}
 use Rattle.gixobj_text.specs.declared.commit.message.body.run.Run.{Run}
 
 -- what a line adds to the number of other lines; `above` is whether the last line before it that isn't indented counts
 -- as a trailer
 abbrev pub other_count_of : Bool → List ℕ → ℕ
-other_count_of above line = cond (is_trailing line) 0 (cond (is_indented line) (cond above 0 1) 1)
+other_count_of above line = cond (counts_as_trailer line) 0 (cond (is_indented line) (cond above 0 1) 1)
 
 -- the counts of this run
 pub record Counts (run : List (List ℕ)) (it : Run) : Type 0 where

@@ -1,13 +1,13 @@
 -- The trailers of a message (git-interpret-trailers, "DESCRIPTION").
 use Rattle.std.specs.Prelude.{◌≡◌, ℕ, List, [], Option, None, Some, drop}
 use Rattle.gixobj_text.specs.Titles.{SplitsTitle}
-use Rattle.gixobj_text.specs.TrailerBlocks.{IsBlockStart}
+use Rattle.gixobj_text.specs.TrailerBlocks.{IsTrailerBlockStart}
 use Rattle.gixobj_text.specs.Trailers.{TrailerView, trailers_of_bytes}
 
 -- the trailer block at the end of a body; empty without a body
 abbrev pub BodyHasTrailerBlock : Option (List ℕ) → List ℕ → Type 0
 BodyHasTrailerBlock None block = block ≡ []
-BodyHasTrailerBlock (Some body) block = (start : ℕ) × IsBlockStart body start × (block ≡ drop start body)
+BodyHasTrailerBlock (Some body) block = (start : ℕ) × IsTrailerBlockStart body start × (block ≡ drop start body)
 
 -- the trailer block of a message: that of its body
 pub record HasTrailerBlock (message block : List ℕ) : Type 0 where

@@ -2,12 +2,12 @@
 use Rattle.std.specs.Prelude.{Bool, true, false, cond, List, [], ◌∷◌, ℕ, Option, Some, None}
 use Rattle.std.specs.Borrow.{Bor}
 use Rattle.gixobj_text.specs.BodyLines.{TrailerParts, is_indented, is_token_byte}
-use Rattle.gixobj_text.specs.TrailerBlocks.{is_trailing}
+use Rattle.gixobj_text.specs.TrailerBlocks.{counts_as_trailer}
 
 -- after these lines, the last line that isn't indented counts as a trailer; `above` says so before them
 abbrev pub is_below_trailer_after : Bool → List (List ℕ) → Bool
 is_below_trailer_after above [] = above
-is_below_trailer_after above (line ∷ run) = cond (is_trailing line) (is_below_trailer_after true run)
+is_below_trailer_after above (line ∷ run) = cond (counts_as_trailer line) (is_below_trailer_after true run)
     (cond (is_indented line) (is_below_trailer_after above run) (is_below_trailer_after false run))
 
 -- the bytes after a token

@@ -22,5 +22,5 @@ has_more (piece ∷ []) = false
 has_more (piece ∷ next ∷ pieces) = true
 
 -- the trimmed bytes have more than one line
-abbrev pub is_of_lines : List ℕ → Bool
-is_of_lines bytes = has_more (pieces_of (trimmed bytes))
+abbrev pub is_multiline : List ℕ → Bool
+is_multiline bytes = has_more (pieces_of (trimmed bytes))

@@ -23,20 +23,20 @@ pub record IsLastRun (lines before run after : List (List ℕ)) : Type 0 where
 -- ---- the lines of a run
 
 -- a line that counts as a trailer: git generates it, or it is a trailer line
-abbrev pub is_trailing : List ℕ → Bool
-is_trailing line = is_recognised line || is_trailer_line line
+abbrev pub counts_as_trailer : List ℕ → Bool
+counts_as_trailer line = is_recognised line || is_trailer_line line
 
 -- the number of other lines: those that don't count as trailers, without indented lines that continue a trailer; an
 -- indented line continues a trailer if the last unindented line before it counts as one; `above` is whether this holds
 -- at the first line
 abbrev pub count_others : Bool → List (List ℕ) → ℕ
 count_others above [] = 0
-count_others above (line ∷ run) = cond (is_trailing line) (count_others true run)
+count_others above (line ∷ run) = cond (counts_as_trailer line) (count_others true run)
     (cond (is_indented line) (cond above 0 1 + count_others above run) (1 + count_others false run))
 
 -- the number of lines that count as trailers
 abbrev pub trailers_in : List (List ℕ) → ℕ
-trailers_in run = count_by is_trailing run
+trailers_in run = count_by counts_as_trailer run
 
 -- a trailer block: trailers and no other line; or a line that git generates, and at least one trailer for three other
 -- lines
@@ -68,5 +68,5 @@ abbrev pub HasNoBlock : List (List ℕ) → Type 0
 HasNoBlock lines = (before run after : List (List ℕ)) → IsLastRun lines before run after → ¬ IsTrailerBlock run
 
 -- the start of a body's trailer block; without a block the length of the body
-abbrev pub IsBlockStart : List ℕ → ℕ → Type 0
-IsBlockStart body start = HasBlock (lines_of body) start ⊎ (HasNoBlock (lines_of body) × (start ≡ length body))
+abbrev pub IsTrailerBlockStart : List ℕ → ℕ → Type 0
+IsTrailerBlockStart body start = HasBlock (lines_of body) start ⊎ (HasNoBlock (lines_of body) × (start ≡ length body))

@@ -26,20 +26,20 @@ abbrev pub with_folded : List ℕ → List (List ℕ) → List ℕ
 with_folded items lines = with_pieces items (map trimmed (map trimmed_line (take_while is_folded lines)))
 
 -- there is a line
-abbrev pub are_some : List (List ℕ) → Bool
-are_some [] = false
-are_some (line ∷ lines) = true
+abbrev pub has_lines : List (List ℕ) → Bool
+has_lines [] = false
+has_lines (line ∷ lines) = true
 
 -- the first trailer has continuation lines
 abbrev pub first_is_folded : List (List ℕ) → Bool
 first_is_folded [] = false
-first_is_folded (line ∷ lines) = cond (is_trailer_line line) (are_some (take_while is_folded lines))
+first_is_folded (line ∷ lines) = cond (is_trailer_line line) (has_lines (take_while is_folded lines))
     (first_is_folded lines)
 
 -- the token of the next trailer line, the bytes after its colon, and the lines after it
 pub record IsNextTrailer (bytes token first rest : List ℕ) : Type 0 where
   pub trailers : trailers_of_bytes bytes ≡ with_trailer (Some (token, first)) (take_while is_folded (lines_of rest))
       (trailers_of_bytes rest)
-  pub folded : first_is_folded (lines_of bytes) ≡ are_some (take_while is_folded (lines_of rest))
+  pub folded : first_is_folded (lines_of bytes) ≡ has_lines (take_while is_folded (lines_of rest))
   pub shorter : length rest < length bytes
   pub last_lines : HasLastLines bytes rest

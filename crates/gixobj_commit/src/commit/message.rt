@@ -7,7 +7,7 @@ ghost use Rattle.gixobj_commit.specs.CommitViews.{commit_lines};
 ghost use Rattle.gixobj_text.specs.Filters.{all_of, filter_of};
 ghost use Rattle.gixobj_text.specs.TrailerSteps.{is_owned, remaining_bytes};
 ghost use Rattle.gixobj_text.specs.MessageTrailers.{HasTrailerBlock};
-ghost use Rattle.gixobj_text.specs.Summing.{is_of_lines};
+ghost use Rattle.gixobj_text.specs.Summing.{is_multiline};
 ghost use Rattle.gixobj_text.specs.Titles.{SplitsTitle, summary_of};
 ghost use Rattle.gixobj_text.specs.declared.commit.message.body.filters.Filter.TheVariants.{AssistedBy, Attributions, Authors, CoAuthoredBy, SignedOffBy};
 ghost use Rattle.gixobj_hash.specs.Optional.{bytes_if_some};
@@ -55,8 +55,8 @@ impl<'a> CommitRef<'a> {
         ensures value { IfOk result (λ it. cow_slice_items it
             ≡ summary_of (commit_lines self.now).message) }
         ensures owned { IfOk result (λ it. is_owned it
-            ≡ is_of_lines (commit_lines self.now).message) }
-        ensures error { IfErr result (λ _. is_of_lines (commit_lines self.now).message ≡ true) }
+            ≡ is_multiline (commit_lines self.now).message) }
+        ensures error { IfErr result (λ _. is_multiline (commit_lines self.now).message ≡ true) }
     {
         summary(alloc, self.message.as_bytes())
     }

@@ -5,9 +5,9 @@ ghost use Rattle.std.specs.Option.{option_copied};
 ghost use Rattle.gixobj_directories.specs.Calls.{IsCallableOnTrees, answered, denied, names_of};
 ghost use Rattle.gixobj_directories.specs.Emitting.{Stopped};
 ghost use Rattle.gixobj_directories.specs.Openings.{OfTrees};
-ghost use Rattle.gixobj_editor.specs.Cursors.{IsEnsured, IsWrittenBelow, IsErrorBelow, IsCursorError, from_root, prefix_of};
+ghost use Rattle.gixobj_editor.specs.Cursors.{IsEnsured, IsWrittenBelow, IsErrorBelow, IsCursorError, from_root, cursor_path};
 ghost use Rattle.gixobj_editor.specs.Removals.{IsLeafRemoved, IsRemoved, IsLeafRemovalError, IsRemovalError};
-ghost use Rattle.gixobj_editor.specs.Upserts.{IsForAName, IsEditFailure, IsUpserted, IsErrorIn, IsUpsertError};
+ghost use Rattle.gixobj_editor.specs.Upserts.{IsNameError, IsEditFailure, IsUpserted, IsErrorIn, IsUpsertError};
 ghost use Rattle.gixobj_editor.specs.contracts.editor.Editor.{the_row};
 ghost use Rattle.gixobj_files.specs.Edits.{IsNoTree, entry_at};
 ghost use Rattle.gixobj_files.specs.Files.{Path};
@@ -113,15 +113,15 @@ impl<S: Find> Editor<S> {
     pub fn cursor_at(&mut self, path: &[BString]) -> Result<Cursor<'_, S>, Error>
         ensures* rejected { sem 𝓛 (RestsIfErr (the_row S.row) self.entry (λ c. c.editor.ghost_name)
             result (λ remaining. OfTrees (S.objects self.old.store)
-            (λ trees. IsEditFailure trees self.old (inside (prefix_of (names_of path.now))) remaining)
-            × IfErr result (λ error. IsForAName error → remaining ≡ self.old))) }
+            (λ trees. IsEditFailure trees self.old (inside (cursor_path (names_of path.now))) remaining)
+            × IfErr result (λ error. IsNameError error → remaining ≡ self.old))) }
         ensures same_reference { IfOk result (λ c. c.editor.ghost_name ≡ self.entry.ghost_name) }
-        ensures prefix { IfOk result (λ c. c.editor.now.prefix ≡ prefix_of (names_of path.now)) }
+        ensures prefix { IfOk result (λ c. c.editor.now.prefix ≡ cursor_path (names_of path.now)) }
         ensures ensured { IfOk result (λ c.
             OfTrees (S.objects self.old.store)
-            (λ trees. IsEnsured trees self.old (prefix_of (names_of path.now)) c.editor.now)) }
+            (λ trees. IsEnsured trees self.old (cursor_path (names_of path.now)) c.editor.now)) }
         ensures error { IfErr result (IsErrorIn (store_model S.objects S.may_fail) self.old
-            IsCursorError (prefix_of (names_of path.now))) }
+            IsCursorError (cursor_path (names_of path.now))) }
     {
         self.open_prefix(path)?;
         Ok(Cursor {
@@ -132,17 +132,17 @@ impl<S: Find> Editor<S> {
 
     /// Opens the directory of a cursor's path, and makes that path the prefix.
     fn open_prefix(&mut self, path: &[BString]) -> Result<(), Error>
-        ensures prefix { OnOk result (self.new.prefix ≡ prefix_of (names_of path.now)) }
+        ensures prefix { OnOk result (self.new.prefix ≡ cursor_path (names_of path.now)) }
         ensures is_open { OnOk result (open_dirs self.new self.new.prefix ≢ None) }
         ensures ensured { OnOk result (OfTrees (S.objects self.old.store)
-            (λ trees. IsEnsured trees self.old (prefix_of (names_of path.now)) self.new)) }
+            (λ trees. IsEnsured trees self.old (cursor_path (names_of path.now)) self.new)) }
         ensures after_error { OnErr result (OfTrees (S.objects self.old.store)
-            (λ trees. IsEditFailure trees self.old (inside (prefix_of (names_of path.now))) self.new)) }
+            (λ trees. IsEditFailure trees self.old (inside (cursor_path (names_of path.now))) self.new)) }
         ensures error { IfErr result (IsErrorIn (store_model S.objects S.may_fail) self.old
-            IsCursorError (prefix_of (names_of path.now))) }
-        ensures not_looked_up { IfErr result (λ error. IsForAName error → self.new ≡ self.old) }
+            IsCursorError (cursor_path (names_of path.now))) }
+        ensures not_looked_up { IfErr result (λ error. IsNameError error → self.new ≡ self.old) }
     {
-        self.ensure_directory(without_a_single_empty_name(path))
+        self.ensure_directory(cursor_path_of(path))
     }
 
     /// Opens or makes the directory at a path and each one above it, and makes the path the prefix.
@@ -155,7 +155,7 @@ impl<S: Find> Editor<S> {
             (λ trees. IsEditFailure trees self.old (inside (names_of path.now)) self.new)) }
         ensures error { IfErr result (IsErrorIn (store_model S.objects S.may_fail) self.old
             IsCursorError (names_of path.now)) }
-        ensures not_looked_up { IfErr result (λ error. IsForAName error → self.new ≡ self.old) }
+        ensures not_looked_up { IfErr result (λ error. IsNameError error → self.new ≡ self.old) }
     {
         let alloc = *self.prefix.allocator();
         check_names(path)?;
@@ -213,8 +213,8 @@ impl<S> Editor<S> {
 }
 
 /// Returns the path, or the empty path for a single empty name.
-fn without_a_single_empty_name(path: &[BString]) -> &[BString]
-    ensures { names_of result.now ≡ prefix_of (names_of path.now) }
+fn cursor_path_of(path: &[BString]) -> &[BString]
+    ensures { names_of result.now ≡ cursor_path (names_of path.now) }
 {
     match path {
         [name] if name.is_empty() => &[],
@@ -279,7 +279,7 @@ impl<S: Find> Cursor<'_, S> {
             (from_root self.old.editor.now.prefix (names_of path.now)) self.new.editor.now)) }
         ensures error { IfErr result (IsErrorBelow (store_model S.objects S.may_fail)
             self.old.editor.now IsUpsertError (names_of path.now)) }
-        ensures not_looked_up { IfErr result (λ error. IsForAName error
+        ensures not_looked_up { IfErr result (λ error. IsNameError error
             → self.new.editor.now ≡ self.old.editor.now) }
     {
         let path = self.editor.path_from_root(path)?;

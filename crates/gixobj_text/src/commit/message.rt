@@ -6,9 +6,9 @@ ghost use Rattle.bstr.specs.BStr.{bstr_bytes};
 ghost use Rattle.gixobj_hash.specs.Optional.{bytes_if_some};
 ghost use Rattle.gixobj_text.specs.TrailerSteps.{is_owned, remaining_bytes};
 ghost use Rattle.gixobj_text.specs.MessageTrailers.{HasTrailerBlock};
-ghost use Rattle.gixobj_text.specs.Summing.{is_of_lines};
+ghost use Rattle.gixobj_text.specs.Summing.{is_multiline};
 ghost use Rattle.gixobj_text.specs.Titles.{SplitsTitle, summary_of};
-ghost use Rattle.gixobj_text.specs.TrailerBlocks.{IsBlockStart};
+ghost use Rattle.gixobj_text.specs.TrailerBlocks.{IsTrailerBlockStart};
 
 pub mod body;
 mod decode;
@@ -69,8 +69,8 @@ impl<'a> MessageRef<'a> {
     pub fn summary(&self, alloc: Global) -> Result<CowSlice<'a, u8>, OutOfMemory>
         ensures value { IfOk result (λ it. cow_slice_items it
             ≡ summary_of (bstr_bytes self.now.title)) }
-        ensures owned { IfOk result (λ it. is_owned it ≡ is_of_lines (bstr_bytes self.now.title)) }
-        ensures error { IfErr result (λ _. is_of_lines (bstr_bytes self.now.title) ≡ true) }
+        ensures owned { IfOk result (λ it. is_owned it ≡ is_multiline (bstr_bytes self.now.title)) }
+        ensures error { IfErr result (λ _. is_multiline (bstr_bytes self.now.title) ≡ true) }
     {
         summary(alloc, self.title.as_bytes())
     }
@@ -87,7 +87,7 @@ pub struct BodyRef<'a> {
 
 /// Initialization
 impl<'a> BodyRef<'a> {
-    ghost use Rattle.gixobj_text.specs.Bodies.{bytes_of_body, start_of_block};
+    ghost use Rattle.gixobj_text.specs.Bodies.{bytes_of_body, trailer_block_start};
 
     /// Finds the trailer block of a body. Allocates nothing.
     ///
@@ -96,7 +96,7 @@ impl<'a> BodyRef<'a> {
     #[tactic(auto, using(crate::proofs::Starts::block_start_le_len))]
     pub fn from_bytes(body: &'a [u8]) -> BodyRef<'a>
         ensures body { bytes_of_body result ≡ body.now }
-        ensures start { IsBlockStart body.now (start_of_block result) }
+        ensures start { IsTrailerBlockStart body.now (trailer_block_start result) }
     {
         BodyRef {
             body: BStr::new(body),
@@ -107,19 +107,19 @@ impl<'a> BodyRef<'a> {
 
 /// Access
 impl<'a> BodyRef<'a> {
-    ghost use Rattle.gixobj_text.specs.Bodies.{bytes_of_body, start_of_block};
+    ghost use Rattle.gixobj_text.specs.Bodies.{bytes_of_body, trailer_block_start};
     ghost use Rattle.gixobj_text.specs.BlockSteps.{remaining_block_bytes, first_start};
 
     /// Returns the body before its trailer block, or the entire body without a block. Allocates nothing.
     pub fn without_trailer(&self) -> BStr<'a>
-        ensures { bstr_bytes result ≡ take (start_of_block self.now) (bytes_of_body self.now) }
+        ensures { bstr_bytes result ≡ take (trailer_block_start self.now) (bytes_of_body self.now) }
     {
         BStr::new(&self.body.as_bytes()[..self.trailer_start])
     }
 
     /// Returns an iterator over the trailers of the block, in order. Making the iterator allocates nothing.
     pub fn trailers(&self, alloc: Global) -> Trailers<'a>
-        ensures { remaining_bytes result ≡ drop (start_of_block self.now) (bytes_of_body self.now) }
+        ensures { remaining_bytes result ≡ drop (trailer_block_start self.now) (bytes_of_body self.now) }
     {
         Trailers::new(alloc, &self.body.as_bytes()[self.trailer_start..])
     }
@@ -128,7 +128,7 @@ impl<'a> BodyRef<'a> {
     /// The first message extends at least to the trailer block. Allocates nothing.
     pub fn message_blocks(&self) -> MessageBlocks<'a>
         ensures encoded { remaining_block_bytes result ≡ bytes_of_body self.now }
-        ensures start { first_start result ≡ start_of_block self.now }
+        ensures start { first_start result ≡ trailer_block_start self.now }
     {
         MessageBlocks::new(self.body.as_bytes(), self.trailer_start)
     }

@@ -8,7 +8,7 @@ ghost use Rattle.gixobj_text.specs.BlockSteps.{NextBlock, block_view, remaining_
 ghost use Rattle.gixobj_text.specs.TrailerSteps.{NextTrailer, trailer_view, remaining_trailers};
 ghost use Rattle.gixobj_text.specs.MessageTrailers.{HasTrailerBlock, HasTrailers};
 ghost use Rattle.gixobj_text.specs.Titles.{SplitsTitle};
-ghost use Rattle.gixobj_text.specs.TrailerBlocks.{IsBlockStart};
+ghost use Rattle.gixobj_text.specs.TrailerBlocks.{IsTrailerBlockStart};
 ghost use Rattle.gixobj_text.specs.Trailers.{TrailerView};
 ghost use Rattle.gixobj_text.specs.declared.commit.message.body.blocks.MessageBlock.{MessageBlock};
 ghost use Rattle.gixobj_text.specs.declared.commit.message.body.blocks.MessageBlocks.{MessageBlocks};
@@ -31,8 +31,8 @@ pub fn trailer_line_decodes()
 
 /// A body has at most one start of its trailer block.
 pub fn trailer_block_start_is_unique()
-    ensures { (body : List ℕ) (start start' : ℕ) → IsBlockStart body start
-        → IsBlockStart body start' → start ≡ start' }
+    ensures { (body : List ℕ) (start start' : ℕ) → IsTrailerBlockStart body start
+        → IsTrailerBlockStart body start' → start ≡ start' }
 {}
 
 /// A message has at most one trailer block, and at most one list of trailers.

@@ -7,7 +7,7 @@ use Rattle.gixobj_callers.proofs.checkout.with_entries_at.Goals as goal
 use Rattle.gix_object.specs.Stores.{StoreModel}
 use Rattle.gix_object.specs.Bases.{HasBases}
 use Rattle.gix_object.specs.Calls.{names_of}
-use Rattle.gix_object.specs.Cursors.{prefix_of}
+use Rattle.gix_object.specs.Cursors.{cursor_path}
 use Rattle.gix_object.specs.Files.{Files, SameFiles}
 use Rattle.gix_object.specs.State.{EditorFiles, State, open_bases, open_dirs}
 
@@ -17,7 +17,7 @@ returns-in-Err-clause-error g c =
     let new = c.new-editor.ensures in
     let begun = state_is_started c.new-editor.result c.args.store c.args.object_hash c.args.root new.dirs new.bases new.store new.lookups new.object_hash
     new.prefix in
-    subst (λ (state : State g.row.S.Denot). IsNotFilled means state (prefix_of (names_of c.args.prefix.now)) c.args.entries.now c.in-Err.error) begun
+    subst (λ (state : State g.row.S.Denot). IsNotFilled means state (cursor_path (names_of c.args.prefix.now)) c.args.entries.now c.in-Err.error) begun
     (c.in-Err.ensures {u = tt}).error
 
 pub returns-in-Ok-clause-files : goal.returns-in-Ok-clause-files
@@ -26,12 +26,12 @@ returns-in-Ok-clause-files g c = λ trees fits T n agrees pairs.
     let new = c.new-editor.ensures in
     let begun = state_is_started c.new-editor.result c.args.store c.args.object_hash c.args.root new.dirs new.bases new.store new.lookups new.object_hash
     new.prefix in
-    let filled = subst (λ (state : State g.row.S.Denot). IsFilled means state (prefix_of (names_of c.args.prefix.now)) c.args.entries.now
+    let filled = subst (λ (state : State g.row.S.Denot). IsFilled means state (cursor_path (names_of c.args.prefix.now)) c.args.entries.now
     c.insert_entries_at.new.editor) begun (c.in_default.ensures {u = tt}).filled in
     let (last, wrote) = (c.in-Ok.ensures {u = tt}).written in
     let bases = subst (λ (state : State g.row.S.Denot). HasBases T (open_dirs state) (open_bases state)) begun (new.has_bases T) in
     let files = subst (λ (state : State g.row.S.Denot). SameFiles (EditorFiles T n state) (Files T n c.args.root)) begun (new.files T n) in
-    checked_out_files means (prefix_of (names_of c.args.prefix.now)) trees T n agrees _ c.args.out c.args.store c.args.object_hash c.args.root
+    checked_out_files means (cursor_path (names_of c.args.prefix.now)) trees T n agrees _ c.args.out c.args.store c.args.object_hash c.args.root
     c.args.entries.now c.in-Ok.written bases files
     (c.insert_entries_at.new.editor, c.write.new.self, last, filled, wrote) fits pairs
 
@@ -41,7 +41,7 @@ returns-in-Ok-clause-done g c =
     let new = c.new-editor.ensures in
     let begun = state_is_started c.new-editor.result c.args.store c.args.object_hash c.args.root new.dirs new.bases new.store new.lookups new.object_hash
     new.prefix in
-    let filled = subst (λ (state : State g.row.S.Denot). IsFilled means state (prefix_of (names_of c.args.prefix.now)) c.args.entries.now
+    let filled = subst (λ (state : State g.row.S.Denot). IsFilled means state (cursor_path (names_of c.args.prefix.now)) c.args.entries.now
     c.insert_entries_at.new.editor) begun (c.in_default.ensures {u = tt}).filled in
     let (last, wrote) = (c.in-Ok.ensures {u = tt}).written in
     (c.insert_entries_at.new.editor, c.write.new.self, last, filled, wrote)
@@ -52,7 +52,7 @@ returns-clause-error g c =
     let new = c.new-editor.ensures in
     let begun = state_is_started c.new-editor.result c.args.store c.args.object_hash c.args.root new.dirs new.bases new.store new.lookups new.object_hash
     new.prefix in
-    let filled = subst (λ (state : State g.row.S.Denot). IsFilled means state (prefix_of (names_of c.args.prefix.now)) c.args.entries.now
+    let filled = subst (λ (state : State g.row.S.Denot). IsFilled means state (cursor_path (names_of c.args.prefix.now)) c.args.entries.now
     c.insert_entries_at.new.editor) begun (c.in_default.ensures {u = tt}).filled in
     let (last, stopped) = (c.in-Err-write.ensures {u = tt}).error in
     (c.insert_entries_at.new.editor, last, filled, stopped)

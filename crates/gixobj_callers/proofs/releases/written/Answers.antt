@@ -14,7 +14,7 @@ encoding_error : (commit : Commit) (items : List ℕ) (room : ℕ) (after : Sink
     → IsEncodingError (IsOwnedCommitError commit) (encode_commit (owned_commit_lines commit)) error
 encoding_error commit items room after error none full is =
     let At : List ℕ → ℕ → Type 0 = λ xs n. IsWritingError (IsOwnedCommitError commit) (record { held = Some xs; room = n }) after
-        (encode_commit (owned_commit_lines commit)) error in
+    (encode_commit (owned_commit_lines commit)) error in
     (after, subst (At []) full (subst (λ (xs : List ℕ). At xs room) none is))
 
 pub returns-in_err-write_to_vec-clause-error : goal.returns-in_err-write_to_vec-clause-error

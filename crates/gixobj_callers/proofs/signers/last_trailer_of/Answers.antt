@@ -15,8 +15,7 @@ pub loop-trailer-preserved : goal.loop-trailer-preserved
 loop-trailer-preserved c =
     let (seen, yielded, last) = c.loop-trailer.invariant in
     let one = c.in_ok-trailer.field-0 in
-    let is : c.in-Some.trailer ≡ Ok one = search rules in
-    (
+    let is : c.in-Some.trailer ≡ Ok one = search rules in (
       seen ++ one ∷ [],
       ap (λ (items : List (Result TrailerRef OutOfMemory)). items ++ c.in-Some.trailer ∷ []) yielded
           ∙ ap (λ (item : Result TrailerRef OutOfMemory). map (λ (it : TrailerRef). Ok it) seen ++ item ∷ []) is
@@ -50,8 +49,7 @@ returns-clause-found c =
     c.loop-trailer.yielded_by) in
     let ended : NextTrailer at None c.next.new.self =
     subst (λ (item : Option (Result TrailerRef OutOfMemory)). NextTrailer at item c.next.new.self) c.in-None.is c.next.ensures.steps in
-    let all = c.readers_yield_all.ensures.trailers start seen (c.next.new.self, (at, yields, ended)) in
-    (
+    let all = c.readers_yield_all.ensures.trailers start seen (c.next.new.self, (at, yields, ended)) in (
       remaining_trailers start,
       (remaining_bytes start, c.message_trailers-trailer-items.ensures, refl),
       ap (option_map trailer_view) last ∙ last_or_map trailer_view None seen ∙ ap (last_or None) all,

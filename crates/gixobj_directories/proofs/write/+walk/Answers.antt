@@ -303,8 +303,8 @@ visit-returns-in_err-own-clause-error g t c =
     (seen.0, (seen.1, seen.2, seen.3)))
     c.in_err-own.field-0.0 c.in_err-own.ensures.error))
 
-pub visit-returns-then-is_bare-clause-ok : goal.visit-returns-then-is_bare-clause-ok
-visit-returns-then-is_bare-clause-ok g t c =
+pub visit-returns-then-has_no_entries-clause-ok : goal.visit-returns-then-has_no_entries-clause-ok
+visit-returns-then-has_no_entries-clause-ok g t c =
     let e = c.args.entry.now in
     let inside = child_side entries_side (option_copied c.args.child) in
     let based = child_side base_side (option_copied c.args.child) in
@@ -314,7 +314,7 @@ visit-returns-then-is_bare-clause-ok g t c =
     let ok = c.in_ok-own.ensures.ok in
     let own = so_far c.base_of-base.result.now c.in_ok-own.own in
     let found : EmitsBelow inside based ok.0 own ok.1 = emits_below_of_both _ _ inside based there base ok.0 own ok.1 ok.2 in
-    let bare = nil_of_is_empty own (c.if-is_bare.ensures {u = tt} c.base_of-base.result.now c.in_ok-own.ensures.shares_base) in (
+    let bare = nil_of_is_empty own (c.if-has_no_entries.ensures {u = tt} c.base_of-base.result.now c.in_ok-own.ensures.shares_base) in (
       ok.0,
       ok.1,
       visits_emptied inside based e ok.0 own ok.1 bare found,
@@ -335,7 +335,7 @@ visit-returns-then-is_base-clause-ok g t c =
     let ok = c.in_ok-own.ensures.ok in
     let own = so_far c.base_of-base.result.now c.in_ok-own.own in
     let found : EmitsBelow inside based ok.0 own ok.1 = emits_below_of_both _ _ inside based there base ok.0 own ok.1 ok.2 in
-    let filled = not_nil_of_not_empty own (c.if-is_bare.ensures {u = tt} c.base_of-base.result.now c.in_ok-own.ensures.shares_base) in
+    let filled = not_nil_of_not_empty own (c.if-has_no_entries.ensures {u = tt} c.base_of-base.result.now c.in_ok-own.ensures.shares_base) in
     let is_same : based [] ≡ Some own = sym (ap (λ (d : Dirs). d []) base) ∙ c.base_of-base.ensures
     ∙ ap Some (sym ((c.if-is_base.ensures {u = tt}).0 refl)) in
     let kept = subst (λ id. Visits inside based e ok.0 (entry_with e id) (ok.1 + 1)) (sym (ap (λ (x : EntryView). x.id) c.entry.view_is))
@@ -385,7 +385,7 @@ visit-returns-in_err-id-clause-error g t c =
     let ok = c.in_ok-own.ensures.ok in
     let own = so_far c.base_of-base.result.now c.in_ok-own.own in
     let found : EmitsBelow inside based ok.0 own ok.1 = emits_below_of_both _ _ inside based there base ok.0 own ok.1 ok.2 in
-    let filled = not_nil_of_not_empty own (c.if-is_bare.ensures {u = tt} c.base_of-base.result.now c.in_ok-own.ensures.shares_base) in
+    let filled = not_nil_of_not_empty own (c.if-has_no_entries.ensures {u = tt} c.base_of-base.result.now c.in_ok-own.ensures.shares_base) in
     let changed : based [] ≢ Some own = λ is. let so =
     (c.if-is_base.ensures {u = tt}).1 (same_some _ _ (sym is ∙ sym (ap (λ (d : Dirs). d []) base) ∙ c.base_of-base.ensures)) in absurd (cc so) in
     let tree = c.in_ok-tree.tree in
@@ -418,7 +418,7 @@ visit-returns-clause-ok g t c =
     let ok = c.in_ok-own.ensures.ok in
     let own = so_far c.base_of-base.result.now c.in_ok-own.own in
     let found : EmitsBelow inside based ok.0 own ok.1 = emits_below_of_both _ _ inside based there base ok.0 own ok.1 ok.2 in
-    let filled = not_nil_of_not_empty own (c.if-is_bare.ensures {u = tt} c.base_of-base.result.now c.in_ok-own.ensures.shares_base) in
+    let filled = not_nil_of_not_empty own (c.if-has_no_entries.ensures {u = tt} c.base_of-base.result.now c.in_ok-own.ensures.shares_base) in
     let changed : based [] ≢ Some own = λ is. let so =
     (c.if-is_base.ensures {u = tt}).1 (same_some _ _ (sym is ∙ sym (ap (λ (d : Dirs). d []) base) ∙ c.base_of-base.ensures)) in absurd (cc so) in
     let tree = c.in_ok-tree.tree in

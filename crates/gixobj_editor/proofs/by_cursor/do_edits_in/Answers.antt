@@ -2,8 +2,8 @@ use Rattle.std.proofs.Common.{List, Result, inr, rules, ◌≡◌}
 use Rattle.std.specs.Fn.{FnReturnsAt}
 use Rattle.gixobj_directories.specs.Calls.{names_of}
 use Rattle.gixobj_directories.specs.Openings.{OfTrees}
-use Rattle.gixobj_editor.specs.Cursors.{prefix_of}
-use Rattle.gixobj_editor.specs.Upserts.{IsForAName, IsEditFailure}
+use Rattle.gixobj_editor.specs.Cursors.{cursor_path}
+use Rattle.gixobj_editor.specs.Upserts.{IsNameError, IsEditFailure}
 use Rattle.gixobj_files.specs.State.{State}
 use Rattle.gixobj_files.specs.Unopened.{inside}
 use Rattle.gixobj_hash.specs.declared.hash.object_id.ObjectId.{ObjectId}
@@ -21,8 +21,8 @@ returns-in-Ok g c =
     let made = c.in-Ok.ensures {u = tt} in
     let pending = c.do_edits.new.cursor.editor.now in
     let done : (new : State g.row.S.Denot) → new ≡ pending
-    → IsReplyAt means answers (prefix_of (names_of c.args.prefix.now)) c.args.editor.now c.args.edits.items (reply.At c.do_edits.result) new =
-    λ new outside. done_at means answers (prefix_of (names_of c.args.prefix.now)) c.in-Ok.cursor.editor.now.prefix c.args.editor.now c.in-Ok.cursor.editor.now
+    → IsReplyAt means answers (cursor_path (names_of c.args.prefix.now)) c.args.editor.now c.args.edits.items (reply.At c.do_edits.result) new =
+    λ new outside. done_at means answers (cursor_path (names_of c.args.prefix.now)) c.in-Ok.cursor.editor.now.prefix c.args.editor.now c.in-Ok.cursor.editor.now
     pending new c.args.edits.items c.do_edits.result
     made.prefix made.ensured c.do_edits.ensures.replied outside in
     record { replied = done _ (search rules) }
@@ -31,6 +31,6 @@ pub returns-in-Err : goal.returns-in-Err
 returns-in-Err g c =
     let pending = c.cursor_at.follows.lender-at-none in
     let rejected : OfTrees (g.S.Store.objects c.args.editor.now.store)
-    (λ trees. IsEditFailure trees c.args.editor.now (inside (prefix_of (names_of c.args.prefix.now))) pending)
-    × (IsForAName c.in-Err.error → pending ≡ c.args.editor.now) = search rules in
+    (λ trees. IsEditFailure trees c.args.editor.now (inside (cursor_path (names_of c.args.prefix.now))) pending)
+    × (IsNameError c.in-Err.error → pending ≡ c.args.editor.now) = search rules in
     record { replied = inr (record { remaining = rejected.0; cause = (c.in-Err.ensures {u = tt}).error }, rejected.1) }

@@ -2,7 +2,7 @@ use Rattle.std.proofs.Common.{List, Result, rules, subst}
 use Rattle.std.specs.Fn.{FnReturnsAt}
 use Rattle.bstr.specs.declared.bstring.BString.{BString}
 use Rattle.gixobj_directories.specs.Calls.{names_of}
-use Rattle.gixobj_editor.specs.Cursors.{prefix_of}
+use Rattle.gixobj_editor.specs.Cursors.{cursor_path}
 use Rattle.gixobj_hash.specs.declared.hash.object_id.ObjectId.{ObjectId}
 use Rattle.gixobj_object.specs.Stores.{StoreModel}
 use Rattle.gixobj_tree.specs.Entries.{EntryView}
@@ -16,7 +16,7 @@ returns-in-At g c =
     let answers = λ (tree : List EntryView) (answer : Result ObjectId g.row.E.Denot). FnReturnsAt g.F.Fn c.args.out.now tree answer in
     record {
       replied = rw c.in-At.is
-          (subst (λ (l : List BString). IsReplyAt means answers (prefix_of (names_of l)) c.args.editor.now c.in-At.edits.items c.do_edits_at.result
+          (subst (λ (l : List BString). IsReplyAt means answers (cursor_path (names_of l)) c.args.editor.now c.in-At.edits.items c.do_edits_at.result
           c.do_edits_at.new.editor) c.deref.ensures.value c.do_edits_at.ensures.replied);
     }
 

@@ -4,7 +4,7 @@ ghost use Rattle.std.specs.Char.{is_whitespace};
 ghost use Rattle.std.specs.Cow.{cow_slice_items};
 ghost use Rattle.bstr.specs.Trim.{trim_end_by};
 ghost use Rattle.gixobj_text.specs.TrailerSteps.{is_owned};
-ghost use Rattle.gixobj_text.specs.Summing.{is_of_lines};
+ghost use Rattle.gixobj_text.specs.Summing.{is_multiline};
 ghost use Rattle.gixobj_text.specs.Titles.{is_trailing_space as is_trailing_space_of, pieces_of, summary_of, summary_of_pieces, without_trailing as without_trailing_of};
 
 use bstr::ByteSlice;
@@ -23,8 +23,8 @@ use std::borrow::CowSlice;
 #[tactic(auto, using(crate::proofs::Sums::summary_of_one_piece, crate::proofs::Sums::is_of_lines_false, crate::proofs::Sums::is_of_lines_true))]
 pub fn summary<'a>(alloc: Global, content: &'a [u8]) -> Result<CowSlice<'a, u8>, OutOfMemory>
     ensures value { IfOk result (λ it. cow_slice_items it ≡ summary_of content.now) }
-    ensures owned { IfOk result (λ it. is_owned it ≡ is_of_lines content.now) }
-    ensures error { IfErr result (λ _. is_of_lines content.now ≡ true) }
+    ensures owned { IfOk result (λ it. is_owned it ≡ is_multiline content.now) }
+    ensures error { IfErr result (λ _. is_multiline content.now ≡ true) }
 {
     let inner = content.trim();
     match split_newline(inner) {

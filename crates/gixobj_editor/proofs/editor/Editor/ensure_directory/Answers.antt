@@ -16,7 +16,7 @@ use Rattle.gixobj_editor.proofs.EnsuredAt.{ensured_at, ensured_path_is_open, cur
 use Rattle.gixobj_editor.proofs.Edited.{OpenedOn, OpenedSo, halted_so, opened_so, unchanged_at}
 use Rattle.gixobj_directories.proofs.NamedTrees.{trees_of_objects_exist}
 use Rattle.gixobj_directories.specs.declared.opening.Vacant.TheVariants as vacant
-use Rattle.gixobj_editor.proofs.StillOn.{ensured_on, halted_on, opened_on}
+use Rattle.gixobj_editor.proofs.OpenedOn.{ensured_on, halted_on, opened_on}
 use Rattle.gixobj_editor.proofs.editor.Editor.ensure_directory.Goals as goal
 
 pub returns-in_err-check_names-clause-error : goal.returns-in_err-check_names-clause-error

@@ -10,18 +10,18 @@ use Rattle.gixobj_editor.specs.Upserts.{IsEditFailure}
 use Rattle.gixobj_editor.proofs.editor.Editor.open_prefix.Goals as goal
 
 pub returns-clause-prefix : goal.returns-clause-prefix
-returns-clause-prefix g c = subst (λ (p : Path). OnOk c.ensure_directory.result (c.ensure_directory.new.self.prefix ≡ p)) c.without_a_single_empty_name.ensures
+returns-clause-prefix g c = subst (λ (p : Path). OnOk c.ensure_directory.result (c.ensure_directory.new.self.prefix ≡ p)) c.cursor_path_of.ensures
     c.ensure_directory.ensures.prefix
 
 pub returns-clause-ensured : goal.returns-clause-ensured
 returns-clause-ensured g c =
     subst (λ (p : Path). OnOk c.ensure_directory.result ((trees : Trees) → AreTreesOf (g.S.Store.objects c.args.self.now.store) trees
-    → IsEnsured trees c.args.self.now p c.ensure_directory.new.self)) c.without_a_single_empty_name.ensures c.ensure_directory.ensures.ensured
+    → IsEnsured trees c.args.self.now p c.ensure_directory.new.self)) c.cursor_path_of.ensures c.ensure_directory.ensures.ensured
 
 pub returns-clause-after_error : goal.returns-clause-after_error
 returns-clause-after_error g c =
     subst (λ (p : Path). OnErr c.ensure_directory.result ((trees : Trees) → AreTreesOf (g.S.Store.objects c.args.self.now.store) trees
-    → IsEditFailure trees c.args.self.now (inside p) c.ensure_directory.new.self)) c.without_a_single_empty_name.ensures
+    → IsEditFailure trees c.args.self.now (inside p) c.ensure_directory.new.self)) c.cursor_path_of.ensures
     c.ensure_directory.ensures.after_error
 
 pub returns-clause-error : goal.returns-clause-error
@@ -29,4 +29,4 @@ returns-clause-error g c =
     subst
     (λ (p : Path). IfErr c.ensure_directory.result (λ error. (trees : Trees) → AreTreesOf (g.S.Store.objects c.args.self.now.store) trees
     → IsCursorError (g.S.Store.objects c.args.self.now.store) (g.S.Store.may_fail c.args.self.now.store) trees (open_dirs c.args.self.now) p error))
-    c.without_a_single_empty_name.ensures c.ensure_directory.ensures.error
+    c.cursor_path_of.ensures c.ensure_directory.ensures.error

@@ -2,7 +2,7 @@
 use Rattle.std.proofs.Common.{[]}
 use Rattle.gixobj_editor.proofs.Edited.{map_is_opened}
 use Rattle.gixobj_editor.proofs.RootAlone.{root_alone_dirs_have_bases, root_alone_open_files, root_alone_is_opened}
-use Rattle.gixobj_editor.proofs.StillOn.{root_opened_on}
+use Rattle.gixobj_editor.proofs.OpenedOn.{root_opened_on}
 use Rattle.gixobj_editor.proofs.editor.Editor.set_root.Goals as goal
 
 pub invariant_of-self : goal.invariant_of-self

@@ -12,7 +12,7 @@ use Rattle.gixobj_editor.specs.Removals.{IsLeafDirectoryError, IsLeafRemovalErro
 use Rattle.gixobj_editor.proofs.Edited.{map_dirs_eq, stay_at}
 use Rattle.gixobj_directories.specs.declared.opening.Vacant.TheVariants as vacant
 use Rattle.gixobj_editor.proofs.RemovedAt.{rejected_at, removed_at, known_at}
-use Rattle.gixobj_editor.proofs.StillOn.{in_part_on, opened_on, taken_on}
+use Rattle.gixobj_editor.proofs.OpenedOn.{in_part_on, opened_on, taken_on}
 use Rattle.gixobj_editor.specs.Upserts.{directory_of}
 use Rattle.gixobj_editor.proofs.editor.Editor.try_remove_leaf.Goals as goal
 

@@ -17,7 +17,7 @@ use Rattle.gixobj_editor.proofs.Edited.{OpenedOn, OpenedSo, edited_bases_idle, h
 use Rattle.gixobj_directories.specs.declared.opening.Vacant.TheVariants as vacant
 use Rattle.gixobj_directories.proofs.NamedTrees.{trees_of_objects_exist}
 use Rattle.gixobj_editor.proofs.Paths.{names_of_snoc}
-use Rattle.gixobj_editor.proofs.StillOn.{halted_on, opened_on, inserted_on}
+use Rattle.gixobj_editor.proofs.OpenedOn.{halted_on, opened_on, inserted_on}
 use Rattle.gixobj_editor.proofs.editor.Editor.try_upsert.Goals as goal
 
 pub returns-in_err-check_names-clause-error : goal.returns-in_err-check_names-clause-error

@@ -10,7 +10,7 @@ use Rattle.gixobj_files.specs.Emission.{EmitsSome}
 use Rattle.gixobj_files.specs.Opening.{Dirs}
 use Rattle.gixobj_files.specs.State.{State, open_bases, open_dirs}
 use Rattle.gixobj_editor.proofs.Edited.{if_ok_and, map_bases_eq, map_dirs_eq}
-use Rattle.gixobj_editor.proofs.StillOn.{written_opened_on}
+use Rattle.gixobj_editor.proofs.OpenedOn.{written_opened_on}
 use Rattle.gixobj_editor.proofs.WrittenOut.{written_at}
 use Rattle.gixobj_editor.proofs.editor.Editor.try_write.Goals as goal
 

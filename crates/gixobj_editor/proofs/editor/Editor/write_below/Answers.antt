@@ -11,7 +11,7 @@ use Rattle.gixobj_files.specs.Emission.{EmitsSome, Saves}
 use Rattle.gixobj_files.specs.Opening.{Dirs, in_path}
 use Rattle.gixobj_files.specs.State.{State, open_bases, open_dirs}
 use Rattle.gixobj_editor.proofs.Edited.{if_ok_and, map_dirs, map_bases_eq, map_dirs_eq}
-use Rattle.gixobj_editor.proofs.StillOn.{IsWrittenSo, written_below_opened_on}
+use Rattle.gixobj_editor.proofs.OpenedOn.{IsWrittenSo, written_below_opened_on}
 use Rattle.gixobj_editor.proofs.WrittenBelow.{prefix_is_open, written_at}
 use Rattle.gixobj_editor.proofs.editor.Editor.write_below.Goals as goal
 

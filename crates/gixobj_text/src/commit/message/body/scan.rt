@@ -3,7 +3,7 @@ ghost use Rattle.std.specs.Prelude.{◌≡◌, ◌<◌, ◌≤◌, ◌+◌, ◌^
 ghost use Rattle.bstr.specs.Text.{lines_of};
 ghost use Rattle.gixobj_text.specs.BodyLines.{is_blank, trimmed_line};
 ghost use Rattle.gixobj_text.specs.Scanned.{AddsLine, Scanned};
-ghost use Rattle.gixobj_text.specs.TrailerBlocks.{IsBlockStart};
+ghost use Rattle.gixobj_text.specs.TrailerBlocks.{IsTrailerBlockStart};
 
 use crate::commit::message::body::lines::{is_blank_line, line_content, split_line};
 use crate::commit::message::body::run::Run;
@@ -155,7 +155,7 @@ fn scanned(body: &[u8]) -> Scan
 
 /// Returns the start of the trailer block of a body, or the length of the body without a block.
 pub(crate) fn block_start(body: &[u8]) -> usize
-    ensures { IsBlockStart body.now result }
+    ensures { IsTrailerBlockStart body.now result }
 {
     let scan = scanned(body);
     if scan.some && scan.run.is_block() {

@@ -9,7 +9,7 @@ ghost use Rattle.gixobj_text.specs.FirstLines.{HasLastLines};
 ghost use Rattle.gixobj_text.specs.TrailerNames.{is_named, names_part};
 ghost use Rattle.gixobj_text.specs.Trailers.{trailers_of_bytes, unfolded as unfolded_of};
 ghost use Rattle.gixobj_hash.specs.ByteStrings.{trimmed};
-ghost use Rattle.gixobj_text.specs.Unfolding.{IsNextTrailer, are_some, folded_prefix, with_folded, with_piece};
+ghost use Rattle.gixobj_text.specs.Unfolding.{IsNextTrailer, has_lines, folded_prefix, with_folded, with_piece};
 
 use crate::commit::message::body::lines::{
     begins_indented, is_blank_line, line_content, split_line,
@@ -193,7 +193,7 @@ fn after_folded(bytes: &[u8]) -> &[u8]
 #[inline(always)]
 #[tactic(auto, using(crate::proofs::Reading::no_folded_lines_at_end, crate::proofs::Folding::first_line_not_folded))]
 fn begins_folded(bytes: &[u8]) -> bool
-    ensures { result ≡ are_some (folded_prefix bytes.now) }
+    ensures { result ≡ has_lines (folded_prefix bytes.now) }
 {
     if !begins_indented(bytes) {
         return false;
@@ -215,8 +215,8 @@ fn parse_trailer<'a>(
     ensures token { IfOk result (λ it. bstr_bytes it.token ≡ token.now) }
     ensures value { IfOk result (λ it. cow_slice_items it.value
         ≡ unfolded_of first.now (map trimmed_line (folded_prefix rest.now))) }
-    ensures owned { IfOk result (λ it. is_owned it.value ≡ are_some (folded_prefix rest.now)) }
-    ensures error { IfErr result (λ _. are_some (folded_prefix rest.now) ≡ true) }
+    ensures owned { IfOk result (λ it. is_owned it.value ≡ has_lines (folded_prefix rest.now)) }
+    ensures error { IfErr result (λ _. has_lines (folded_prefix rest.now) ≡ true) }
 {
     if begins_folded(rest) {
         let value = unfolded(alloc, first, rest)?;

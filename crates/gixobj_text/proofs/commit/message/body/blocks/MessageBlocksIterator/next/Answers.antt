@@ -1,6 +1,6 @@
 use Rattle.std.proofs.Common.{◌≢◌, ◌<◌, ◌∙◌, [], List, ℕ, subst, sym, rules, length}
 use Rattle.bstr.specs.BStr.{bstr_bytes}
-use Rattle.gixobj_text.specs.Blocks.{IsFirstBlock}
+use Rattle.gixobj_text.specs.Blocks.{IsFirstMessageBlock}
 use Rattle.gixobj_text.proofs.Steps.{block_rest_len_lt, is_first_block_of_steps, not_nil_of_some}
 use Rattle.gixobj_text.proofs.commit.message.body.blocks.MessageBlocksIterator.next.Goals as goal
 
@@ -11,7 +11,7 @@ returns-clause-steps c =
     block_rest_len_lt c.args.self.now.trailer_start c.args.self.now.cursor.now c.split_at.result.1.now c.at_trailer-trailers.result.now
     c.skip_trailers-rest.result.now
     some c.split_at.ensures.back c.at_trailer-trailers.ensures c.skip_trailers-rest.ensures in (
-      subst (λ (rest : List ℕ). IsFirstBlock c.args.self.now.trailer_start c.args.self.now.cursor.now
+      subst (λ (rest : List ℕ). IsFirstMessageBlock c.args.self.now.trailer_start c.args.self.now.cursor.now
           (record { message = bstr_bytes c.new.result; trailers = c.prefix_before-2.result.now }) rest) (sym c.new-2.ensures.encoded)
           (is_first_block_of_steps c.args.self.now.trailer_start c.args.self.now.cursor.now c.split_at.result.1.now c.at_trailer-trailers.result.now
           c.skip_trailers-rest.result.now

@@ -1,6 +1,6 @@
 use Rattle.std.proofs.Common.{◌∙◌, [], append-nil, subst}
 use Rattle.gixobj_files.specs.WrittenTrees.{SharesBase}
-use Rattle.gixobj_files.proofs.written_tree.OwnTree.is_base.Goals as goal
+use Rattle.gixobj_files.proofs.written_tree.WrittenTree.is_base.Goals as goal
 
 pub returns-in-Own : goal.returns-in-Own
 returns-in-Own c =

@@ -17,7 +17,7 @@ use Rattle.gixobj_files.specs.Files.{Path, Trees}
 use Rattle.gixobj_files.specs.OpeningStops.{StopsOpening}
 use Rattle.gixobj_files.specs.Opening.{Dirs}
 use Rattle.gixobj_files.proofs.Calls.{ensured_null_based, are_null_based_of_none, opened_null_based, removed_null_based, upserted_null_based, written_null_based}
-use Rattle.gixobj_files.proofs.Halted.{halts_opens}
+use Rattle.gixobj_files.proofs.StoppedOpenings.{halts_opens}
 use Rattle.gixobj_files.proofs.StillOpenedOpenings.{is_opened_of_opens}
 use Rattle.gixobj_editor.specs.Upserts.{IsOpenedInPart}
 use Rattle.gixobj_editor.proofs.EnsuredAt.{is_opened_after_ensured}
@@ -53,9 +53,10 @@ module _ (trees : Trees) (ds mid : Opened) (first : OpenedSo ds mid) (was : Open
   pub in_part_on : {Ends : EntryView → Type 0} (path : Path) (n m : ℕ) → IsOpenedInPart Ends trees path (dirs_of ds) (dirs_of mid) n m → OpenedOn mid
   in_part_on path n m so = opened_on so.prefix so.requested so.opens
 
-  pub halted_on : {Ends : EntryView → Type 0} (path : Path) (queries : List ObjectId) (vain : Option ObjectId)
-      → StopsOpening Ends trees path (dirs_of ds) (dirs_of mid) queries vain → OpenedOn mid
-  halted_on path queries vain halts = let came = halts_opens trees path (dirs_of ds) (dirs_of mid) queries vain halts in opened_on came.0 came.2 came.5
+  pub halted_on : {Ends : EntryView → Type 0} (path : Path) (queries : List ObjectId) (failed_lookup : Option ObjectId)
+      → StopsOpening Ends trees path (dirs_of ds) (dirs_of mid) queries failed_lookup → OpenedOn mid
+  halted_on path queries failed_lookup halts = let came = halts_opens trees path (dirs_of ds) (dirs_of mid) queries failed_lookup halts in
+      opened_on came.0 came.2 came.5
 
   -- the invariant after directories were opened and edited
   module _ (ds' : Opened) (then : EditedSo mid ds') where

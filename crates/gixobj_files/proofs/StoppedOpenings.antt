@@ -54,14 +54,14 @@ module _ (trees : Trees) where
       )
 
   -- before the error the directories of a prefix of the path were opened, and at most one more id was looked up
-  pub halts_opens : {Ends : EntryView → Type 0} (path : Path) (old new : Dirs) (requested : List ObjectId) (vain : Option ObjectId)
-      → StopsOpening Ends trees path old new requested vain
+  pub halts_opens : {Ends : EntryView → Type 0} (path : Path) (old new : Dirs) (requested : List ObjectId) (failed_lookup : Option ObjectId)
+      → StopsOpening Ends trees path old new requested failed_lookup
       → (prefix back : Path) × (answered tried : List ObjectId) × (path ≡ prefix ++ back) × Opens Ends trees prefix old new answered
       × (requested ≡ answered ++ tried) × (length tried ≤ 1)
       × ((it : ObjectId) → tried ≡ it ∷ [] → IsNextUnopened trees old prefix back it)
-  halts_opens path old new requested vain (at_once name rest d e entry tree free none) =
+  halts_opens path old new requested failed_lookup (at_once name rest d e entry tree free none) =
       ([], name ∷ rest, [], [], refl, arrived d, refl, omega arith, λ it is. absurd (cc is))
-  halts_opens path old new requested vain (without_answer name rest d e entry tree free none filled) = (
+  halts_opens path old new requested failed_lookup (without_answer name rest d e entry tree free none filled) = (
     [],
     name ∷ rest,
     [],
@@ -80,7 +80,7 @@ module _ (trees : Trees) where
       cc is,
     ),
   )
-  halts_opens path old new requested vain (halting.down name rest d inner e entries more v has named is halts) =
+  halts_opens path old new requested failed_lookup (halting.down name rest d inner e entries more v has named is halts) =
       let r = halts_opens rest (in_dir name d) inner more v halts in (
         name ∷ r.0,
         r.1,
@@ -92,7 +92,7 @@ module _ (trees : Trees) where
         r.7,
         λ it tried. next_open name d entries is r.0 r.1 it (r.8 it tried),
       )
-  halts_opens path old new requested vain (halting.found name rest d inner e entries first more v entry tree free none finds halts) =
+  halts_opens path old new requested failed_lookup (halting.found name rest d inner e entries first more v entry tree free none finds halts) =
       let r = halts_opens rest (only entries) inner more v halts in (
         name ∷ r.0,
         r.1,
@@ -107,14 +107,14 @@ module _ (trees : Trees) where
 
   -- an opening that stopped looked up at most as many ids as there are unopened directories
   pub halted_count : {Ends : EntryView → Type 0} (path : Path) (last : List ℕ) (after : Path) (old new : Dirs) (requested : List ObjectId)
-      (vain : Option ObjectId) → StopsOpening Ends trees path old new requested vain → length requested ≤ unopened_count trees old
+      (failed_lookup : Option ObjectId) → StopsOpening Ends trees path old new requested failed_lookup → length requested ≤ unopened_count trees old
       (path ++ last ∷ after)
-  halted_count path last after old new requested vain (at_once name rest d e entry tree free none) = omega arith
-  halted_count path last after old new requested vain (without_answer name rest d e entry tree free none filled) =
+  halted_count path last after old new requested failed_lookup (at_once name rest d e entry tree free none) = omega arith
+  halted_count path last after old new requested failed_lookup (without_answer name rest d e entry tree free none filled) =
       count_vain trees name rest last after d e entry tree (none []) filled
-  halted_count path last after old new requested vain (halting.down name rest d inner e entries more v has named is halts) =
+  halted_count path last after old new requested failed_lookup (halting.down name rest d inner e entries more v has named is halts) =
       omega (arith, count_open trees name rest last after d entries is, halted_count rest last after (in_dir name d) inner more v halts)
-  halted_count path last after old new requested vain (halting.found name rest d inner e entries first more v entry tree free none finds halts) =
+  halted_count path last after old new requested failed_lookup (halting.found name rest d inner e entries first more v entry tree free none finds halts) =
       omega (
         arith,
         length-append first more,
@@ -163,11 +163,11 @@ module _ (trees : Trees) where
 
   -- an opening stops at an unopened directory on the path
   pub halted_at : {Ends : EntryView → Type 0} (path : Path) (last : List ℕ) (after : Path) (old new : Dirs) (requested : List ObjectId)
-      (vain : Option ObjectId)
-      → StopsOpening Ends trees path old new requested vain → (it : ObjectId) → vain ≡ Some it
+      (failed_lookup : Option ObjectId)
+      → StopsOpening Ends trees path old new requested failed_lookup → (it : ObjectId) → failed_lookup ≡ Some it
       → (h : IsUnopenedAbove trees old (path ++ last ∷ after) it) × (rest : Path) × (path ≡ h.place ++ rest)
-  halted_at path last after old new requested vain (at_once name rest d e entry tree free none) it is = absurd (cc is)
-  halted_at path last after old new requested vain (without_answer name rest d e entry tree free none filled) it is =
+  halted_at path last after old new requested failed_lookup (at_once name rest d e entry tree free none) it is = absurd (cc is)
+  halted_at path last after old new requested failed_lookup (without_answer name rest d e entry tree free none filled) it is =
       let remaining = one_more rest last after in (
         record {
           place = name ∷ [];
@@ -180,10 +180,10 @@ module _ (trees : Trees) where
         rest,
         refl,
       )
-  halted_at path last after old new requested vain (halting.down name rest d inner e entries more v has named there halts) it is =
+  halted_at path last after old new requested failed_lookup (halting.down name rest d inner e entries more v has named there halts) it is =
       let below = halted_at rest last after (in_dir name d) inner more v halts it is in
       (in_open name (rest ++ last ∷ after) d entries there it below.0, below.1, ap (λ p. name ∷ p) below.2)
-  halted_at path last after old new requested vain (halting.found name rest d inner e entries first more v entry tree free none finds halts) it is =
+  halted_at path last after old new requested failed_lookup (halting.found name rest d inner e entries first more v entry tree free none finds halts) it is =
       let below = halted_at rest last after (only entries) inner more v halts it is in
       (in_found name (rest ++ last ∷ after) d e entries first entry tree none finds it below.0, below.1, ap (λ p. name ∷ p) below.2)
 
@@ -205,12 +205,12 @@ module _ (trees : Trees) where
 
   -- an opening stops at a directory that isn't open
   pub halted_unopened : {Ends : EntryView → Type 0} (path : Path) (last : List ℕ) (after : Path) (old new : Dirs) (requested : List ObjectId)
-      (vain : Option ObjectId) → StopsOpening Ends trees path old new requested vain → IsUnopenedOnPath Ends trees old (path ++ last ∷ after)
-  halted_unopened path last after old new requested vain (at_once name rest d e entry tree free none) =
+      (failed_lookup : Option ObjectId) → StopsOpening Ends trees path old new requested failed_lookup → IsUnopenedOnPath Ends trees old (path ++ last ∷ after)
+  halted_unopened path last after old new requested failed_lookup (at_once name rest d e entry tree free none) =
       not_open_here name rest last after d e entry tree free none
-  halted_unopened path last after old new requested vain (without_answer name rest d e entry tree free none filled) =
+  halted_unopened path last after old new requested failed_lookup (without_answer name rest d e entry tree free none filled) =
       not_open_here name rest last after d e entry tree free none
-  halted_unopened path last after old new requested vain (halting.down name rest d inner e entries more v has named there halts) =
+  halted_unopened path last after old new requested failed_lookup (halting.down name rest d inner e entries more v has named there halts) =
       let h = halted_unopened rest last after (in_dir name d) inner more v halts in
       let at = h.above in
       record {
@@ -223,7 +223,7 @@ module _ (trees : Trees) where
         tree = h.tree;
         free = h.free;
       }
-  halted_unopened path last after old new requested vain (halting.found name rest d inner e entries first more v entry tree free none finds halts) =
+  halted_unopened path last after old new requested failed_lookup (halting.found name rest d inner e entries first more v entry tree free none finds halts) =
       let h = halted_unopened rest last after (only entries) inner more v halts in
       let at = h.above in
       record {

@@ -3,7 +3,7 @@ use Rattle.std.proofs.lemmas.List.{take-append-drop}
 use Rattle.gixobj_tree.specs.Entries.{EntryView}
 use Rattle.gixobj_files.specs.WrittenTrees.{so_far}
 use Rattle.gixobj_files.proofs.WrittenTrees.{on_err_of}
-use Rattle.gixobj_files.proofs.written_tree.OwnTree.into_tree.Goals as goal
+use Rattle.gixobj_files.proofs.written_tree.WrittenTree.into_tree.Goals as goal
 
 pub returns-in_err-entries-in-Prefix-clause-prefix_len : goal.returns-in_err-entries-in-Prefix-clause-prefix_len
 returns-in_err-entries-in-Prefix-clause-prefix_len c =

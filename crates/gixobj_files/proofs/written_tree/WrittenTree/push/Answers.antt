@@ -3,7 +3,7 @@ use Rattle.std.specs.Prelude.{slice_get}
 use Rattle.std.proofs.lemmas.Option.{slice_get_within}
 use Rattle.gixobj_files.specs.WrittenTrees.{SharesBase, with_id}
 use Rattle.gixobj_files.proofs.WrittenTrees.{prefix_differs_ne, take_succ_snoc}
-use Rattle.gixobj_files.proofs.written_tree.OwnTree.push.Goals as goal
+use Rattle.gixobj_files.proofs.written_tree.WrittenTree.push.Goals as goal
 
 pub returns-then-goes_on-clause-entries : goal.returns-then-goes_on-clause-entries
 returns-then-goes_on-clause-entries c =
