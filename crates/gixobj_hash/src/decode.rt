@@ -76,7 +76,7 @@ pub enum LooseHeaderDecodeError {
         /// A copy of the bytes of the size.
         number: BString,
     },
-    /// The input has no space, or no zero byte after it.
+    /// The input lacks a space, or a zero byte after its first space.
     #[error("{message}")]
     InvalidHeader {
         /// What is missing.
@@ -177,8 +177,8 @@ pub fn loose_content(alloc: Global, input: &[u8]) -> Result<(Kind, &[u8]), Loose
 /// Decodes the loose header at the beginning of the input.
 ///
 /// Returns the kind of the object, the size of its content in bytes, and the length of the header in bytes.
-/// That length includes the zero byte. A size is at most one sign, `+` or `-`, and then decimal digits.
-/// After `-` only zero is a size.
+/// That length includes the zero byte. A size is an optional sign, `+` or `-`, and at least one decimal
+/// digit; it fits 64 bits. After `-` only zero is a size.
 ///
 /// Allocates only the copy for an error.
 ///

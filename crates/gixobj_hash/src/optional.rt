@@ -15,7 +15,7 @@ pub fn borrowed(bytes: &Option<BString>) -> Option<BStr<'_>>
     }
 }
 
-/// Copies an optional byte string. Allocates the copy, and nothing for `None`.
+/// Copies an optional byte string. Only the copy of a `Some` allocates.
 ///
 /// # Errors
 ///

@@ -11,7 +11,7 @@ use std::io::Write;
 
 /// A borrowed object id: a slice of the 20 or 32 bytes of a digest.
 ///
-/// [`oid::try_from_bytes`] makes one of bytes, [`ObjectId::as_oid`] of an owned id.
+/// [`oid::try_from_bytes`] makes one from bytes, [`ObjectId::as_oid`] from an owned id.
 #[derive(Clone, Copy, Debug, PartialEq, Eq, PartialOrd, Ord)]
 pub struct oid<'a> {
     bytes: &'a [u8],
@@ -29,7 +29,7 @@ impl<'a> oid<'a> {
         oid { bytes }
     }
 
-    /// Makes an id of these bytes, or returns `None` if their number is neither 20 nor 32.
+    /// Makes an id of 20 or 32 bytes, or returns `None` for any other number of bytes.
     pub fn try_from_bytes(bytes: &'a [u8]) -> Option<oid<'a>>
         ensures accepts { IsSome result ↔ IsTrue (is_id_length (length bytes.now)) }
         ensures value { IfSome result (λ id. id_bytes (borrowed_id id) ≡ bytes.now) }

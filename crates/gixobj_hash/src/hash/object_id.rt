@@ -189,7 +189,7 @@ impl ObjectId {
     }
 }
 
-/// Compares the bytes. Ids of two hash functions differ in their bytes, so the lengths never decide.
+/// Compares the bytes lexicographically. Ids of different hash functions are never equal.
 impl Ord for ObjectId {
     ghost cmp = { id_cmp };
 
