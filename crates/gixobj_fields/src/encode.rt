@@ -109,7 +109,7 @@ impl From<AllocError> for Error {
 
 /// Appends a single-line field: the name, a space, the value and a newline (gitdatamodel, "commits").
 ///
-/// The caller ensures that neither the name nor the value has a newline. Only the sink may allocate.
+/// The name and the value are written without validation. Only the sink may allocate.
 ///
 /// # Errors
 ///
@@ -182,7 +182,7 @@ fn write_lower_case<S: Sink>(name: &[u8], content: &[u8], sink: &mut S) -> io::R
 
 /// Appends a single-line field: the name, a space, the value and a newline (gitdatamodel, "commits").
 ///
-/// Only the sink and the copy of a rejected value allocate.
+/// The name is written without validation. Only the sink and the copy of a rejected value allocate.
 ///
 /// # Errors
 ///
@@ -279,7 +279,7 @@ fn missing_newline(line: &[u8]) -> &[u8]
     if *last == b'\n' { b"" } else { b"\n" }
 }
 
-/// Splits after the first line, or returns `None` if no byte follows the first newline.
+/// Splits after the first line, or returns `None` for a last line.
 #[tactic(auto, using(crate::proofs::FieldWrites::folded_split_at_newline, crate::proofs::FieldWrites::rest_after_newline_len_lt, crate::proofs::FieldWrites::is_last_line_of_split))]
 fn first_line(value: &[u8]) -> Option<(&[u8], &[u8])>
     ensures { MatchOption result (IsLastLine value.now)

@@ -193,7 +193,7 @@ pub fn after_space(input: &[u8]) -> Option<&[u8]>
     }
 }
 
-/// Whether bytes without a space are a valid name of a header.
+/// Returns whether bytes without a space are a valid name of a header.
 fn is_header_name(name: &[u8]) -> bool
     ensures { MatchBool result ((name.now ≢ []) × IsByteFree newline name.now)
         (¬ IsHeaderName name.now) }

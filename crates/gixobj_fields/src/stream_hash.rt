@@ -97,7 +97,7 @@ pub fn compute_slice_hash(
 ///
 /// # Errors
 ///
-/// - [`Error::Io`] if the source fails, only if it may fail.
+/// - [`Error::Io`] if the source fails. Its `may_fail` then holds.
 /// - [`Error::UnexpectedEof`] if the source ends before `len` bytes.
 #[tactic(auto, using(crate::proofs::StreamReads::reads_object_of_digest))]
 pub fn compute_source_hash<S: Source>(
@@ -137,7 +137,7 @@ pub fn skip_stream<R: Read>(stream: &mut R, len: u64) -> Result<(), Error>
 ///
 /// # Errors
 ///
-/// - [`Error::Io`] if the source fails, only if it may fail.
+/// - [`Error::Io`] if the source fails. Its `may_fail` then holds.
 /// - [`Error::UnexpectedEof`] if the source ends before `len` bytes.
 pub fn skip_source<S: Source>(source: &mut S, len: u64) -> Result<(), Error>
     ensures read { OnOk result (SkipsExactly (S.rest source.old) (S.rest source.new) len) }

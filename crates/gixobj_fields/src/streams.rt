@@ -95,7 +95,7 @@ pub trait Sink {
         ensures same_loan { loan self.new ≡ loan self.old };
 }
 
-/// An append to a `Vec` fails only if more capacity is needed. It then appends nothing.
+/// An append to a `Vec` fails only if it needs capacity that can't be allocated. It then appends nothing.
 impl Sink for Vec<u8> {
     ghost view = { list_view };
 

@@ -36,7 +36,7 @@ pub trait WriteTo {
     /// Whether this value is rejected, and these are the parts of the encoding before it.
     ghost rejects: { Self → RejectedValue → List ℕ → Type 0 };
 
-    /// Appends the encoding of the object to a sink.
+    /// Appends the encoding of the object to a sink. Only the sink and the copy of a rejected value allocate.
     ///
     /// # Errors
     ///
@@ -67,7 +67,8 @@ pub trait WriteTo {
         requires { can_write self.now }
         ensures { IsSize result (encoding self.now) };
 
-    /// Writes the encoding of the object to a writer.
+    /// Writes the encoding of the object to a writer. Only the writer and the copy of a rejected value
+    /// allocate.
     ///
     /// # Errors
     ///
@@ -96,8 +97,8 @@ pub trait WriteTo {
         self.write_into(alloc, &mut ToWrite(out))
     }
 
-    /// Appends the encoding of the object to a list. A list without capacity first reserves the entire
-    /// size.
+    /// Appends the encoding of the object to a list. Only the list and the copy of a rejected value
+    /// allocate. A list without capacity first reserves the entire size.
     ///
     /// # Errors
     ///
