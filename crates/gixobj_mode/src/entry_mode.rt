@@ -225,7 +225,7 @@ impl TryFrom<u32> for EntryMode {
     ///
     /// # Errors
     ///
-    /// The number itself, if it exceeds 16 bits, or if it is neither `0o40000` nor has the bit `0o100000`.
+    /// The number itself, unless it is `0o40000`, or has at most 16 bits and the bit `0o100000`.
     fn try_from(number: u32) -> Result<EntryMode, u32> {
         match u16::try_from(number) {
             Ok(internal) if internal == 0o040000 || internal & 0o100000 == 0o100000 => {
@@ -253,7 +253,7 @@ impl<'a> TryFrom<&'a [u8]> for EntryMode {
     }
 }
 
-/// Encodes the mode of a kind, with a space after it. Returns `None` for any other mode.
+/// Encodes the mode of a kind, with a space after it. Returns `None` for any other mode. Allocates nothing.
 #[inline(always)]
 pub fn encode_kind(mode: EntryMode) -> Option<&'static [u8]>
     ensures found { IfSome result (λ content. content.now ≡ encode_mode (mode_bits mode) ++ space ∷ []) }
@@ -383,7 +383,7 @@ fn mode_from_digits(digits: &[u8]) -> Option<u16>
     }
 }
 
-/// Whether all bytes are octal digits.
+/// Returns whether all bytes are octal digits.
 fn are_octal(digits: &[u8]) -> bool
     ensures { IsTrue result ↔ AllDigits 8 digits.now }
 {
