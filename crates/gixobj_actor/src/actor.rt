@@ -42,9 +42,9 @@ pub struct SignatureRef<'a> {
 /// An actor and a time, owned. [`SignatureRef::to_owned`] makes one.
 #[derive(Clone, Debug, Drop, PartialEq, Eq, PartialOrd, Ord, Hash)]
 pub struct Signature {
-    /// The name. It can be written if it has no `<`, no `>` and no newline.
+    /// The name. A writer rejects it if it has a `<`, a `>` or a newline.
     pub name: BString,
-    /// The email. It can be written if it has no `<`, no `>` and no newline.
+    /// The email. A writer rejects it if it has a `<`, a `>` or a newline.
     pub email: BString,
     /// The time.
     pub time: Time,
@@ -161,7 +161,7 @@ impl Signature {
 impl SignatureRef<'_> {
     /// Encodes the actor and writes it: the name, ` <`, the email, `> ` and the bytes of the time.
     ///
-    /// Allocates nothing.
+    /// Only the writer may allocate.
     ///
     /// # Errors
     ///
@@ -180,7 +180,7 @@ impl SignatureRef<'_> {
         self.write_into(&mut ToWrite(out))
     }
 
-    /// Encodes the actor and appends it to a sink. The bytes are those of [`SignatureRef::write_to`].
+    /// Appends the encoding of [`SignatureRef::write_to`] to a sink. Only the sink may allocate.
     ///
     /// # Errors
     ///
@@ -230,7 +230,7 @@ impl SignatureRef<'_> {
 impl Signature {
     /// Encodes the actor and writes it: the name, ` <`, the email, `> ` and the encoded time.
     ///
-    /// Allocates nothing.
+    /// Only the writer may allocate.
     ///
     /// # Errors
     ///
@@ -250,7 +250,7 @@ impl Signature {
         self.to_ref(&mut time_buf).write_to(out)
     }
 
-    /// Encodes the actor and appends it to a sink. The bytes are those of [`Signature::write_to`].
+    /// Appends the encoding of [`Signature::write_to`] to a sink. Only the sink may allocate.
     ///
     /// # Errors
     ///
@@ -304,8 +304,8 @@ impl Signature {
     }
 }
 
-/// Returns whether a name or an email can be written: it has no `<`, no `>` and no newline. The three
-/// searches are independent.
+/// Returns whether a name or an email can be written: it lacks `<`, `>` and newlines. The three searches
+/// are independent.
 fn is_writable(content: &[u8]) -> bool
     ensures { IsTrue result ↔ IsWritable content.now }
 {

@@ -115,7 +115,7 @@ impl Default for Time {
 
 /// Decodes a time, or returns `None` if the bytes are malformed.
 ///
-/// The seconds are at most a minus and then at least one digit, and fit an `i64`. One space follows. The
+/// The seconds are an optional minus and at least one digit, and fit an `i64`. One space follows. The
 /// offset is a plus or a minus, two digits of hours, and two digits of minutes up to 59.
 pub fn parse_header(input: &[u8]) -> Option<Time>
     ensures found { IfSome result (λ time. DecodesToTime input.now time.seconds time.offset) }
@@ -162,7 +162,7 @@ fn digits_counted(number: u64) -> u64
     count
 }
 
-/// Decodes seconds: at most a minus, and then digits.
+/// Decodes seconds: an optional minus, and then digits.
 fn seconds_from_bytes(input: &[u8]) -> Option<i64>
     ensures found { IfSome result (DecodesToSeconds input.now) }
     ensures none { IfNone result ((seconds : ℤ) → ¬ DecodesToSeconds input.now seconds) }

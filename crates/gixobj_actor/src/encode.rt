@@ -13,7 +13,7 @@ use gixobj_fields::streams::{Sink, write_parts};
 /// Encodes the field of an actor and appends it to a sink: the name, a space, the actor and a newline
 /// (gitdatamodel, "commits").
 ///
-/// The bytes of the actor are those of [`Signature::write_to`]. Allocates nothing.
+/// The bytes of the actor are those of [`Signature::write_to`]. Only the sink may allocate.
 ///
 /// # Errors
 ///
