@@ -33,7 +33,7 @@ pub enum State {
     End,
 }
 
-/// A line of a commit, or a header of several lines. [`read_line`] decodes one.
+/// A line of a commit, or a header of several lines. [`decode_line`] decodes one.
 #[derive(Debug, Drop)]
 pub enum Line<'a> {
     /// The hex of the tree's id.
