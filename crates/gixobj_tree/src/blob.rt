@@ -21,7 +21,7 @@ impl<'a> BlobRef<'a> {
         BlobRef { bytes }
     }
 
-    /// Copies the blob into an owned [`Blob`].
+    /// Copies the blob into an owned [`Blob`]. The copy of the content allocates.
     ///
     /// # Errors
     ///

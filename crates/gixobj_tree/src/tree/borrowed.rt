@@ -46,7 +46,7 @@ impl<'a> TreeRef<'a> {
     /// Finds the entry of this name by binary search. `is_dir` says whether it is a directory.
     ///
     /// In a well-formed tree, and for a name without `/`, the result is exact: the entry of this name and
-    /// sort, or `None`. Otherwise the result is some entry that [`name_order`] finds equal, or `None`.
+    /// kind, or `None`. Otherwise the result is some entry that [`name_order`] finds equal, or `None`.
     /// Allocates nothing.
     ///
     /// # Examples

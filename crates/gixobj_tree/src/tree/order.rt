@@ -115,7 +115,7 @@ fn eight_order(left: &[u8], right: &[u8]) -> Ordering
     first_eight(left).cmp(&first_eight(right))
 }
 
-/// The first eight bytes as a big-endian number.
+/// Returns the first eight bytes as a big-endian number.
 fn first_eight(name: &[u8]) -> u64
     requires { 8 ≤ length name.now }
     ensures { result ≡ from_be_bytes w64 (take 8 name.now) }
@@ -134,7 +134,7 @@ fn four_order(left: &[u8], right: &[u8]) -> Ordering
     first_four(left).cmp(&first_four(right))
 }
 
-/// The first four bytes as a big-endian number.
+/// Returns the first four bytes as a big-endian number.
 fn first_four(name: &[u8]) -> u32
     requires { 4 ≤ length name.now }
     ensures { result ≡ from_be_bytes w32 (take 4 name.now) }
@@ -151,7 +151,7 @@ fn two_order(left: &[u8], right: &[u8]) -> Ordering
     first_two(left).cmp(&first_two(right))
 }
 
-/// The first two bytes as a big-endian number.
+/// Returns the first two bytes as a big-endian number.
 fn first_two(name: &[u8]) -> u16
     requires { 2 ≤ length name.now }
     ensures { result ≡ from_be_bytes w16 (take 2 name.now) }
@@ -171,14 +171,14 @@ pub fn key_order(left: &[u8], left_is_tree: bool, right: &[u8], right_is_tree: b
     names.then(lengths)
 }
 
-/// The length of the key: that of the name, and one more for a tree.
+/// Returns the length of the key: that of the name, and one more for a tree.
 fn key_len(name: &[u8], is_tree: bool) -> usize
     ensures { result ≡ length (key_of name.now is_tree) }
 {
     name.len() + usize::from(is_tree)
 }
 
-/// The first byte of the rest of a name. The end of a tree's name counts as `/`.
+/// Returns the first byte of the rest of a name. The end of a tree's name counts as `/`.
 fn next_byte(rest: &[u8], is_tree: bool) -> Option<u8>
     ensures { result ≡ next_byte rest.now is_tree }
 {

@@ -7,9 +7,9 @@ use super::{Entry, Tree};
 use gixobj_hash::split::has_byte;
 
 impl Tree {
-    /// Whether the tree is well-formed.
+    /// Returns whether the tree is well-formed.
     ///
-    /// Each name is non-empty and without `/`, no two names are equal, and the entries ascend by
+    /// Each name is non-empty and free of `/`, names are distinct, and the entries ascend by
     /// [`name_order`](super::name_order). Allocates nothing. A binary search looks up the name of each
     /// directory among the entries.
     pub fn is_well_formed(&self) -> bool
@@ -19,7 +19,7 @@ impl Tree {
     }
 }
 
-/// Whether each name is non-empty and without `/`.
+/// Returns whether each name is non-empty and without `/`.
 fn have_entry_names(entries: &[Entry]) -> bool
     ensures { IsTrue result ↔ HaveEntryNames entries.now }
 {
@@ -28,21 +28,21 @@ fn have_entry_names(entries: &[Entry]) -> bool
         .all(|entry| is_entry_name(entry.filename.as_bytes()))
 }
 
-/// Whether the name is non-empty and without `/`.
+/// Returns whether the name is non-empty and without `/`.
 fn is_entry_name(name: &[u8]) -> bool
     ensures { IsTrue result ↔ IsEntryName name.now }
 {
     !name.is_empty() && !has_byte(name, b'/')
 }
 
-/// Whether each entry comes before all later ones.
+/// Returns whether each entry comes before all later ones.
 fn ascend(entries: &[Entry]) -> bool
     ensures { IsTrue result ↔ EachLater ComesBefore entries.now }
 {
     entries.is_sorted_by(|entry, next| entry.key_order(next).is_lt())
 }
 
-/// Whether no two names are equal. Among ascending entries only a file and a directory can share a name.
+/// Returns whether names are distinct. Among ascending entries only a file and a directory can share one.
 fn are_apart(entries: &[Entry]) -> bool
     requires names { HaveEntryNames entries.now }
     requires ascending { EachLater ComesBefore entries.now }
@@ -51,7 +51,7 @@ fn are_apart(entries: &[Entry]) -> bool
     !entries.iter().any(|entry| has_namesake(entries, entry))
 }
 
-/// Whether the entry is a directory that shares its name with a file.
+/// Returns whether the entry is a directory that shares its name with a file.
 fn has_namesake(entries: &[Entry], entry: &Entry) -> bool
     requires { EachLater ComesBefore entries.now }
     ensures { IsTrue result ↔ HasNamesake entries.now entry.now }
@@ -59,7 +59,7 @@ fn has_namesake(entries: &[Entry], entry: &Entry) -> bool
     entry.mode.is_tree() && has_key(entries, entry.filename.as_bytes())
 }
 
-/// Whether an entry has this key.
+/// Returns whether an entry has this key.
 fn has_key(entries: &[Entry], key: &[u8]) -> bool
     requires { EachLater ComesBefore entries.now }
     ensures { IsTrue result ↔ HasKey entries.now key.now }

@@ -230,7 +230,7 @@ pub(super) fn size_with_entry_ref(size: u64, entry: &EntryRef<'_>) -> Option<u64
 
 /// Adds the length of the entry of this mode, name and id to a size in bytes.
 ///
-/// Returns `None` if the sum exceeds 64 bits.
+/// Returns `None` if the sum exceeds 64 bits. Allocates nothing.
 pub fn size_with(size: u64, mode: EntryMode, name: &[u8], id: oid<'_>) -> Option<u64>
     ensures { AddsSize result size (encode_entry
         (entry_of (mode_bits mode) name.now (borrowed_id id.entry))) }

@@ -15,7 +15,7 @@ use std::hash::{Hash, Hasher};
 
 /// An entry of a tree, borrowed: a file or a directory, with its name.
 ///
-/// [`decode_entry`](super::decode::read_entry) decodes one.
+/// [`decode_entry`](super::decode::decode_entry) decodes one.
 #[derive(Clone, Copy, Debug)]
 pub struct EntryRef<'a> {
     /// The kind of the object, and the permissions of a file.
