@@ -108,7 +108,7 @@ pub fn is_non_null(entry: &Entry) -> bool
 ///
 /// # Errors
 ///
-/// [`AllocError`] if memory runs out, and only then.
+/// [`AllocError`] if an allocation fails.
 pub fn copies(alloc: Global, entries: &[Entry]) -> Result<Vec<Entry>, AllocError>
     ensures { IfOk result (λ copied. copied.items ≡ entries.now) }
 {
@@ -125,7 +125,7 @@ pub fn copies(alloc: Global, entries: &[Entry]) -> Result<Vec<Entry>, AllocError
 ///
 /// # Errors
 ///
-/// [`AllocError`] if memory runs out, and only then.
+/// [`AllocError`] if an allocation fails.
 pub fn copy(alloc: Global, entry: &Entry) -> Result<Entry, AllocError>
     ensures { IfOk result (λ copied. copied ≡ entry.now) }
 {

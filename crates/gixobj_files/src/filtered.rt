@@ -47,8 +47,8 @@ fn assign_ids(entries: &mut [Entry], own: &[Entry])
     }
 }
 
-/// Sets an entry's id to that of the first of `left` if the names are equal, or else to the null id. Returns
-/// what remains of `left`.
+/// Sets an entry's id to that of the first of `pending` if the names are equal, or else to the null id.
+/// Returns what remains of `pending`.
 fn assign_id<'a>(entry: &mut Entry, pending: &'a [Entry]) -> &'a [Entry]
     ensures id { entry.new ≡ with_id entry.old (id_among entry.old.name pending.now) }
     ensures remaining { result.now ≡ filtered_out entry.old.name pending.now }

@@ -38,8 +38,8 @@ pub fn single_root_is_opened()
 
 /// Steps that start without files make the same files in every table.
 ///
-/// The steps may upsert no tree, and set no root but the empty one. `PlainHistory` states their files without
-/// a table and without a bound on their paths.
+/// The steps may upsert all but trees, and set only the empty root. `PlainHistory` states their files from
+/// the steps alone, with paths of any length.
 pub fn plain_history_is_table_independent()
     ensures { (steps : List Step) → All HasNoTree steps
         → (T : Table) (n : ℕ) (path : Path) (mode : ℕ) (id : ObjectId)

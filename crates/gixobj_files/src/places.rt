@@ -72,7 +72,7 @@ pub fn file_with_first_name(entries: &[Entry], name: &[u8], place: usize) -> Opt
 /// Searches for the entry of a name and kind: `Ok` with its position, or `Err` with the position of its key.
 ///
 /// At the position in `Err` an entry of this name and kind would be inserted. The key of a directory is its
-/// name followed by `/`, and that of a file its name.
+/// name followed by `/`, and that of a file its name. The entries must be well-formed, the name free of `/`.
 pub fn position_by_key(entries: &[Entry], name: &[u8], is_tree: bool) -> Result<usize, usize>
     requires well_formed { IsWellFormed entries.now }
     requires name { IsByteFree slash name.now }

@@ -30,7 +30,7 @@ impl WrittenTree {
         WrittenTree::Prefix(0)
     }
 
-    /// Appends the entry, with this id in place of its own.
+    /// Appends the entry, with this id in place of its own. `base` must be the base of the tree.
     ///
     /// Allocates nothing while the tree with the entry is a prefix of the base. The first entry that differs
     /// allocates copies of the prefix, with capacity for `room` entries in all. Each entry from there on
@@ -38,7 +38,7 @@ impl WrittenTree {
     ///
     /// # Errors
     ///
-    /// [`AllocError`] if memory runs out, and never if the tree with the entry is a prefix of the base.
+    /// [`AllocError`] if an allocation fails, never if the tree with the entry is a prefix of the base.
     pub fn push(
         &mut self,
         alloc: Global,
@@ -96,7 +96,7 @@ impl WrittenTree {
     ///
     /// # Errors
     ///
-    /// [`AllocError`] if memory runs out. Only a prefix of the base allocates.
+    /// [`AllocError`] if an allocation fails, only for a prefix of the base.
     pub fn into_tree(self, alloc: Global, base: &[Entry]) -> Result<Tree, AllocError>
         requires { SharesBase base.now self }
         ensures tree { IfOk result (λ tree. tree ≡ so_far base.now self) }
