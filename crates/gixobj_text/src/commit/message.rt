@@ -1,5 +1,4 @@
-//! Title, body and summary of a commit message, and the trailers of its body (git-commit, "DISCUSSION";
-//! git-interpret-trailers, "DESCRIPTION").
+//! Title, body, summary and trailers of commit messages (git-commit, "DISCUSSION"; git-interpret-trailers).
 ghost use Rattle.std.specs.Prelude.{◌≡◌, ◌≤◌, IfErr, IfOk, IfNone, IfSome, None, drop, length, take, true};
 ghost use Rattle.std.specs.Cow.{cow_slice_items};
 ghost use Rattle.bstr.specs.BStr.{bstr_bytes};
@@ -28,7 +27,7 @@ pub struct MessageRef<'a> {
     /// The bytes before the first two consecutive line breaks, or the entire message without them. A line
     /// break is a newline, or a carriage return and a newline.
     pub title: BStr<'a>,
-    /// The bytes after the first two consecutive line breaks, or `None` if no byte follows.
+    /// The bytes after the first two consecutive line breaks, if there are any.
     pub body: Option<BStr<'a>>,
 }
 
@@ -134,7 +133,7 @@ impl<'a> BodyRef<'a> {
     }
 }
 
-/// Returns the trailers of a message's body, none without a body. Making the iterator allocates nothing.
+/// Returns an iterator over the trailers of a message's body, if any. Making the iterator allocates nothing.
 pub fn message_trailers<'a>(alloc: Global, message: BStr<'a>) -> Trailers<'a>
     ensures { HasTrailerBlock (bstr_bytes message.entry) (remaining_bytes result) }
 {

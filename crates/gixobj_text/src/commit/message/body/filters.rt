@@ -44,7 +44,7 @@ pub struct Filtered<'a> {
     filter: Filter,
 }
 
-/// Filters by token, ASCII case ignored.
+/// Filters by token, ASCII case ignored. Making a filter allocates nothing.
 impl<'a> Trailers<'a> {
     /// Returns an iterator over the `Signed-off-by` trailers (git-commit, `--signoff`).
     pub fn signed_off_by(self) -> Filtered<'a>
@@ -103,7 +103,7 @@ impl<'a> Trailers<'a> {
     }
 }
 
-/// Yields the trailers that the filter keeps, and each [`OutOfMemory`] of the unfiltered iterator.
+/// Yields the trailers that the filter keeps. Allocates and fails as [`Trailers`] does, for each trailer.
 impl<'a> Iterator for Filtered<'a> {
     type Item = Result<TrailerRef<'a>, OutOfMemory>;
 
