@@ -103,7 +103,7 @@ impl Outcome {
     /// Returns whether the signature is valid.
     ///
     /// It is valid if the verifier succeeded, the status is `Good`, and the trust is at least the minimum
-    /// that [`evaluate`] received. An outcome without evaluation isn't valid.
+    /// that [`evaluate`] received. Before `evaluate` it isn't valid.
     pub fn is_valid(&self) -> bool
         ensures { result ≡ (outcome_view self.now).valid }
     {
@@ -114,7 +114,7 @@ impl Outcome {
 /// Evaluates the report of a verifier's call.
 ///
 /// The outcome is valid if and only if the call succeeded (`success`), the status is `Good`, and the trust is
-/// at least `minimum`.
+/// at least `minimum`. Allocates nothing.
 pub fn evaluate(report: Outcome, success: bool, minimum: TrustLevel) -> Outcome
     ensures { outcome_view result ≡ evaluated success minimum (outcome_view report) }
 {

@@ -22,12 +22,12 @@ use std::alloc::Global;
 /// begin with `[GNUPG:] `:
 ///
 /// - The status, the key and the signer are those of the single line that reports a status.
-/// - Without such a line the status is `Unknown`. Of several it is `Error`, with no key and no signer.
+/// - Without such a line the status is `Unknown`, and of several `Error`. Key and signer are then `None`.
 /// - The trust and the fingerprints are those of the last lines that report them. The trust is `Undefined`
-///   otherwise.
+///   otherwise, or for an unknown level.
 ///
-/// The outcome isn't valid before `evaluate`. The key, the signer and the fingerprints are allocated copies;
-/// without them nothing is allocated.
+/// The outcome isn't valid before `evaluate`. Only the copies of the key, of the signer and of the
+/// fingerprints allocate.
 ///
 /// # Errors
 ///

@@ -97,7 +97,7 @@ fn bytes_of(alloc: Global, bytes: &[u8]) -> Result<BString, OutOfMemory>
     Ok(BString::from_slice(alloc, bytes)?)
 }
 
-/// Returns the first line without its line end, or nothing without a line.
+/// Returns the first line without its line end. It is empty for empty content.
 fn first_line_of(content: &[u8]) -> &[u8]
     ensures { result.now ≡ first_line (lines_of content.now) }
 {
