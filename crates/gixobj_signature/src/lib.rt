@@ -1,5 +1,4 @@
-//! Signing and verification of objects by external programs (gitformat-signature; git-config, `gpg.program`,
-//! `gpg.ssh.program`, `gpg.ssh.allowedSignersFile`).
+//! Signing and verification of objects by external programs (gitformat-signature; git-config, `gpg.program`).
 #![tactic(auto)]
 
 pub mod signature;

@@ -33,7 +33,7 @@ pub struct Call {
     pub environment: Vec<(BString, BString)>,
     /// The contents of the files that the arguments name. The files exist during this call alone.
     pub files: Vec<BString>,
-    /// The bytes of the standard input, or `None` for a program without input.
+    /// The bytes of the standard input, if the program has one.
     pub input: Option<BString>,
     /// The index in [`Call::files`] of a file next to which the program may write another one. That file has
     /// the same path with `.sig` appended, and [`Output::result`] has its content.
@@ -49,7 +49,7 @@ pub struct Output {
     pub stdout: Vec<u8>,
     /// The bytes that the program wrote to its standard error.
     pub stderr: Vec<u8>,
-    /// The content of the file that [`Call::result`] requests, or `None` without a request or such a file.
+    /// The content of the file that [`Call::result`] requests, if the program wrote one.
     pub result: Option<Vec<u8>>,
 }
 
@@ -62,7 +62,7 @@ pub enum RunError {
     /// The program couldn't be started.
     #[error("not started: {0}")]
     Spawn(BString),
-    /// The input of the program couldn't be written, or its output couldn't be read.
+    /// A write of the program's input or a read of its output failed.
     #[error("no communication: {0}")]
     Communicate(BString),
     /// The time of [`Word::VerifyTime`] couldn't be formatted.
@@ -85,8 +85,7 @@ pub trait Runner {
 
     /// Runs a program to its end and returns its output.
     ///
-    /// The runner creates the files, sets `environment` for this program alone, writes `input` to its
-    /// standard input, and removes the files.
+    /// It creates the files, sets the environment, writes the standard input, and then removes the files.
     ///
     /// # Errors
     ///

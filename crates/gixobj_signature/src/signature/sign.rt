@@ -84,8 +84,7 @@ impl From<OutOfMemory> for Error {
 
 /// Returns the literal SSH key of a signing key, or `None` for a file's path (git-config, `user.signingKey`).
 ///
-/// The key follows a `key::` prefix. A signing key with the prefix `ssh-` is returned entire. Allocates
-/// nothing.
+/// It follows the prefix `key::`, or is an entire signing key that begins with `ssh-`. Allocates nothing.
 pub fn is_literal_ssh_key(key: &[u8]) -> Option<&[u8]>
     ensures { option_map (λ it. it.now) result ≡ literal_key key.now }
 {
@@ -100,21 +99,18 @@ pub fn is_literal_ssh_key(key: &[u8]) -> Option<&[u8]>
 
 /// Signs a payload with one call of the program and returns the signature.
 ///
-/// The signature loses each carriage return directly before a newline. All calls that sign an object use this
-/// one. It allocates the call and the signature.
+/// Each carriage return directly before a newline is removed. Allocates the call and the signature.
 ///
 /// # Errors
 ///
-/// - [`Error::MissingSigningKey`] if the signing key is empty. The runner isn't called, and `OutOfMemory`
-///   never replaces this error.
+/// - [`Error::MissingSigningKey`] if the signing key is empty. This error precedes the call and allocations.
 /// - [`Error::TemporaryFile`], [`Error::Spawn`] or [`Error::Communicate`], with the runner's message, if the
 ///   runner returns that case. [`RunError::CommitTime`] becomes `Communicate`.
 /// - [`Error::Failed`], with the program and its standard error, if the program doesn't succeed.
 /// - [`Error::MissingSignatureConfirmation`] if no line that an OpenPGP or X.509 program wrote to its
 ///   standard error begins with `[GNUPG:] SIG_CREATED ` (gnupg, doc/DETAILS).
 /// - [`Error::MissingSshSignature`] if an SSH program wrote no signature file.
-/// - [`Error::OutOfMemory`] if an allocation fails for the call or the signature, or if the runner returns
-///   that case.
+/// - [`Error::OutOfMemory`] if one of these allocations fails, or if the runner returns that case.
 pub fn sign_payload<R: Runner>(
     alloc: Global,
     payload: &[u8],
@@ -213,7 +209,7 @@ fn failed(program: BString, stderr: Vec<u8>) -> Error
     }
 }
 
-/// Whether a line of this standard error reports a signature.
+/// Returns whether a line of this standard error reports a signature.
 fn is_confirmed(stderr: &[u8]) -> bool
     ensures { result ≡ confirms stderr.now }
 {
@@ -237,7 +233,7 @@ fn without_returns_of(alloc: Global, content: &[u8]) -> Result<BString, OutOfMem
     Ok(BString::new(kept))
 }
 
-/// Whether the byte is a carriage return, and the next one a newline.
+/// Returns whether the byte is a carriage return, and the next one a newline.
 fn is_dropped(byte: u8, after: &[u8]) -> bool
     ensures { result ≡ is_return_before byte after.now }
 {

@@ -7,8 +7,7 @@ use bstr::BString;
 use gixobj_hash::OutOfMemory;
 use std::alloc::Global;
 
-/// The bytes that a signature covers: those of the object without the signature, as two borrowed slices
-/// (gitformat-signature). [`SignedData::new`] makes one.
+/// The bytes that a signature covers, as two slices (gitformat-signature). [`SignedData::new`] makes one.
 #[derive(Clone, Copy, Debug, PartialEq, Eq, Hash)]
 pub struct SignedData<'a> {
     pub(crate) before: &'a [u8],

@@ -156,20 +156,19 @@ impl SignedData<'_> {
     /// Verifies a signature of these bytes with the program of the options and returns the outcome.
     ///
     /// An invalid signature is no error: [`Outcome::is_valid`] reports it. An OpenPGP or X.509 program
-    /// verifies with one call. An SSH program lists the principals of the key, and then verifies for each
-    /// until one is accepted. If none is listed, it checks the signature for any key, and the outcome isn't
-    /// valid (ssh-keygen(1), `-Y find-principals`, `-Y verify`, `-Y check-novalidate`). Allocates the calls
-    /// and the outcome.
+    /// verifies with one call. An SSH program is called to list the principals of the key, and then to verify
+    /// for each until one is accepted. If all fail, the last call decides. If none is listed, a check for any
+    /// key yields an invalid outcome (ssh-keygen(1), `-Y find-principals`, `-Y verify`,
+    /// `-Y check-novalidate`). Allocates the calls and the outcome.
     ///
     /// # Errors
     ///
     /// - [`Error::UnsupportedFormat`] if the signature begins with no known marker.
-    /// - [`Error::FormatMismatch`], with both formats, if the marker isn't of the program's format. In these
-    ///   two cases the runner isn't called, and `OutOfMemory` never replaces the error.
+    /// - [`Error::FormatMismatch`], with both formats, if the marker isn't of the program's format. These two
+    ///   errors precede all calls and allocations.
     /// - [`Error::TemporaryFile`], [`Error::Spawn`], [`Error::Communicate`] or [`Error::CommitTime`], with
     ///   the runner's message, if the runner returns that case.
-    /// - [`Error::OutOfMemory`] if an allocation fails for a call or its output, or if the runner returns
-    ///   that case.
+    /// - [`Error::OutOfMemory`] if one of these allocations fails, or if the runner returns that case.
     ///
     /// # Examples
     ///

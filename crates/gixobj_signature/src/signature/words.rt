@@ -19,7 +19,7 @@ pub(crate) enum Piece<'a> {
     VerifyTime(Time),
 }
 
-/// Makes an argument of a copy of these bytes.
+/// Makes an argument of a copy of these bytes. Allocates the copy.
 ///
 /// # Errors
 ///
@@ -30,11 +30,11 @@ pub fn plain(alloc: Global, bytes: &[u8]) -> Result<Word, OutOfMemory>
     Ok(Word::Text(BString::from_slice(alloc, bytes)?))
 }
 
-/// Makes an argument of a copy of each of these strings, in order.
+/// Makes an argument of a copy of each of these strings, in order. Allocates the list and the copies.
 ///
 /// # Errors
 ///
-/// [`OutOfMemory`] if an allocation fails, and only if there is a string.
+/// [`OutOfMemory`] if an allocation fails, only for at least one string.
 pub fn words_of(alloc: Global, encodings: &[BString]) -> Result<Vec<Word>, OutOfMemory>
     ensures arguments { IfOk result (λ it. map word_view it.items
         ≡ map plain (map bstring_bytes encodings.now)) }
@@ -100,11 +100,11 @@ fn keyword_of(alloc: Global, piece: &Piece<'_>) -> Result<Word, OutOfMemory>
     }
 }
 
-/// Copies environment variables, as names and values.
+/// Copies environment variables, as names and values. Allocates the list and the copies.
 ///
 /// # Errors
 ///
-/// [`OutOfMemory`] if an allocation fails, and only if there is a variable.
+/// [`OutOfMemory`] if an allocation fails, only for at least one variable.
 pub fn environment_of(
     alloc: Global,
     environment: &[(BString, BString)],

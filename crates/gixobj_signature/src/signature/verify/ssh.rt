@@ -179,7 +179,7 @@ fn check_novalidate<R: Runner>(
     run_call(&call, runner)
 }
 
-/// Whether a call for a principal accepted it.
+/// Returns whether a call for a principal accepted it.
 fn is_accepted(output: &Output) -> bool
     ensures { result ≡ accepts (output_view output.now) }
 {
