@@ -31,8 +31,8 @@ pub fn requested_hash(command: &str, words: &[String]) -> Option<hash::Kind>
 ///
 /// # Errors
 ///
-/// - [`Refusal::Usage`] if an argument is not UTF-8, since no command has such an argument.
-/// - [`Refusal::OutOfMemory`] if the allocation of the arguments failed.
+/// - [`Failure::Usage`] if a read of the arguments fails, for example if one isn't UTF-8.
+/// - [`Failure::OutOfMemory`] if the allocation of the arguments failed.
 pub fn process_arguments<R: Env + AllocGlobal>(rt: &R) -> Result<Vec<String>, Failure>
     ensures error { IfErr result (λ cause. (cause ≡ Usage) ⊎ (cause ≡ OutOfMemory)) }
 {

@@ -15,14 +15,17 @@ use std::io::{Read, Write};
 
 /// Prints the kind, the size and the id of a loose object, and returns the exit status.
 ///
-/// The arguments are `show` for the id by SHA-1, or `show sha256` for the id by SHA-256. The entire input
-/// is held in memory.
+/// The arguments are `show` for the id by SHA-1, or `show sha256` for the id by SHA-256. Allocates the
+/// bytes of the entire input, and a copy for the error of a malformed header.
 ///
-/// - Status 0: all of the input was read, and the line `<kind> <size> <id>` of the loose object at its
-///   beginning was written to `output`.
+/// - Status 0: all of the input was read. The line `<kind> <size> <id>` of the loose object at its beginning
+///   was written to `output`.
 /// - Status 2: the arguments are invalid. Nothing was read, and a line on usage was written to `errors`.
 /// - Status 1: a line written to `errors` reports the failure: `bad header`, `short data`,
 ///   `input failed`, `output failed` or `out of memory`.
+///
+/// A failure leaves `output` unchanged; only `output failed` leaves a proper prefix of the line there. If the
+/// write to `errors` fails, only the status reports the failure.
 pub fn engine<R: Read, O: Write, E: Write>(
     alloc: Global,
     words: &[String],
@@ -51,7 +54,7 @@ pub fn engine<R: Read, O: Write, E: Write>(
 
 /// Runs [`engine`] over a source and two sinks, whose contracts say when they may fail.
 ///
-/// Over a slice and two vectors with room, the input never fails, and each line is written.
+/// Over a slice and two vectors with capacity, the input never fails, and each line is written.
 pub fn run<S: Source, O: Sink, E: Sink>(
     alloc: Global,
     words: &[String],

@@ -9,7 +9,7 @@ use gixobj_hash::decode::{LooseContentError, LooseHeaderDecodeError};
 /// reports it.
 #[derive(Clone, Copy, Debug, PartialEq, Eq)]
 pub enum Failure {
-    /// The arguments are those of no command.
+    /// The arguments are invalid.
     Usage,
     /// A read of standard input failed.
     InputFailed,
@@ -19,7 +19,7 @@ pub enum Failure {
     OutOfMemory,
     /// The input does not begin with a loose header.
     BadHeader,
-    /// The input has fewer bytes of content than its header says.
+    /// The input has fewer bytes of content than its header states.
     ShortData,
     /// The object is not a tree.
     NotATree,
@@ -58,7 +58,7 @@ impl Failure {
         }
     }
 
-    /// Returns the exit status: 2 for [`Refusal::Usage`], and 1 for any other error.
+    /// Returns the exit status: 2 for [`Failure::Usage`], and 1 for any other error.
     pub fn status(self) -> u8
         ensures { result ≡ exit_status_of self }
     {

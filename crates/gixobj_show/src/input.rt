@@ -11,8 +11,8 @@ use std::alloc::Global;
 ///
 /// # Errors
 ///
-/// - [`Refusal::InputFailed`] if the source fails.
-/// - [`Refusal::OutOfMemory`] if the allocation of the bytes failed.
+/// - [`Failure::InputFailed`] if the source fails.
+/// - [`Failure::OutOfMemory`] if the allocation of the bytes failed.
 pub fn read_all<S: Source>(alloc: Global, source: &mut S) -> Result<Vec<u8>, Failure>
     ensures all { IfOk result (λ bytes. Consumes (S.rest source.old) (S.rest source.new)
         bytes.items) }

@@ -1,5 +1,5 @@
-//! The program's command `show`, which prints the kind, the size and the id of an uncompressed loose
-//! object; and the arguments, the input and the errors of all its commands.
+//! The program's command `show`, which prints the kind, the size and the id of an uncompressed loose object.
+//! The arguments, the input and the errors of all commands are here too.
 #![tactic(auto)]
 
 pub mod arguments;

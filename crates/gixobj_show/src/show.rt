@@ -27,9 +27,9 @@ pub struct Shown {
 ///
 /// # Errors
 ///
-/// - [`Refusal::BadHeader`] if the input does not begin with a loose header.
-/// - [`Refusal::ShortData`] if fewer bytes follow the header than it says.
-/// - [`Refusal::OutOfMemory`] if the input does not begin with a loose header, and the allocation of the
+/// - [`Failure::BadHeader`] if the input does not begin with a loose header.
+/// - [`Failure::ShortData`] if fewer bytes follow the header than it states.
+/// - [`Failure::OutOfMemory`] if the input does not begin with a loose header, and the allocation of the
 ///   error failed.
 pub fn show(alloc: Global, hash: hash::Kind, input: &[u8]) -> Result<Shown, Failure>
     ensures found { IfOk result (λ shown. IsShown hash input.now shown.kind shown.size shown.id) }
@@ -44,8 +44,8 @@ pub fn show(alloc: Global, hash: hash::Kind, input: &[u8]) -> Result<Shown, Fail
 }
 
 impl Shown {
-    /// Encodes the line `<kind> <size> <id>` with its newline. It has at most 93 bytes, so nothing is
-    /// allocated.
+    /// Encodes the line `<kind> <size> <id>` with its newline, at most 93 bytes. Allocates nothing: they are
+    /// inline.
     pub fn line(&self, alloc: Global) -> SmallVec<u8, 96>
         ensures encoded { result.items ≡ show_line self.now.kind self.now.size self.now.id }
         ensures inline { result.capacity ≡ 96 }
