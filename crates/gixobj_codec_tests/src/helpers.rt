@@ -6,6 +6,30 @@ use std::alloc::Global;
 use std::cmp::Ordering;
 use std::hash::{DefaultHasher, Hash, Hasher};
 
+// What holds of the parts of a value that has this pattern. It is false of any other value.
+macro_rules! holds {
+    ($value:expr, $pattern:pat => $condition:expr) => {
+        match $value {
+            $pattern => $condition,
+            _ => false,
+        }
+    };
+}
+
+pub(crate) use holds;
+
+// Whether a call's outcome is complete: that of a second call, if memory ran out in the first.
+macro_rules! completes {
+    ($call:expr) => {
+        match $call {
+            Answer::WithoutMemory => $call == Answer::Complete,
+            outcome => outcome == Answer::Complete,
+        }
+    };
+}
+
+pub(crate) use completes;
+
 /// Returns the hash of a value.
 pub(crate) fn hash_of<T: Hash>(value: &T) -> u64 {
     let mut state = DefaultHasher::new();
@@ -16,6 +40,7 @@ pub(crate) fn hash_of<T: Hash>(value: &T) -> u64 {
 /// Returns whether values compare as wanted, and are equal with one hash if and only if `Equal` is wanted.
 pub(crate) fn are_ordered<T: Ord + Hash>(first: &T, second: &T, wanted: Ordering) -> bool {
     first.cmp(second) == wanted
+        && first.partial_cmp(second) == Some(wanted)
         && (first == second) == wanted.is_eq()
         && (hash_of(first) == hash_of(second)) == wanted.is_eq()
 }
@@ -40,26 +65,15 @@ pub(crate) fn are_in_order<T: Ord + Hash>(values: &[T]) -> bool {
     true
 }
 
-/// Returns whether a clone equals the value.
-pub(crate) fn is_copied<T: Clone + PartialEq + Drop>(value: &T) -> bool {
-    match value.clone() {
-        Ok(copy) => copy == *value,
-        Err(_) => false,
-    }
-}
-
 /// Returns whether a clone equals the value and has its hash.
-pub(crate) fn is_copied_with_hash<T: Clone + PartialEq + Hash + Drop>(value: &T) -> bool {
-    match value.clone() {
-        Ok(copy) => copy == *value && hash_of(&copy) == hash_of(value),
-        Err(_) => false,
-    }
+pub(crate) fn is_copied<T: Clone + PartialEq + Hash + Drop>(value: &T) -> bool {
+    holds!(value.clone(), Ok(copy) => copy == *value && hash_of(&copy) == hash_of(value))
 }
 
 /// Returns whether a clone of each value equals it and has its hash.
 pub(crate) fn are_copied<T: Clone + PartialEq + Hash + Drop>(values: &[T]) -> bool {
     for value in values {
-        if !is_copied_with_hash(value) {
+        if !is_copied(value) {
             return false;
         }
     }
@@ -75,6 +89,21 @@ pub(crate) fn written<T: WriteTo>(alloc: Global, object: &T) -> Result<Vec<u8>, 
     Ok(out)
 }
 
+/// Returns whether an object has this encoding, and the size of the encoding.
+pub(crate) fn is_written<T: WriteTo>(alloc: Global, object: &T, wanted: &[u8]) -> bool
+    requires { T.can_write object.now }
+{
+    object.size() == Some(wanted.len() as u64)
+        && holds!(written(alloc, object), Ok(out) => out.as_slice() == wanted)
+}
+
+/// Returns whether an object has this size, and as many bytes are written.
+pub(crate) fn has_size<T: WriteTo>(alloc: Global, object: &T, len: usize) -> bool
+    requires { T.can_write object.now }
+{
+    object.size() == Some(len as u64) && holds!(written(alloc, object), Ok(out) => out.len() == len)
+}
+
 /// Returns whether a writer with room for `room` bytes fails after that prefix of the encoding.
 fn stops_at<T: WriteTo>(alloc: Global, object: &T, bytes: &[u8], room: usize) -> bool
     requires { T.can_write object.now }
@@ -83,10 +112,8 @@ fn stops_at<T: WriteTo>(alloc: Global, object: &T, bytes: &[u8], room: usize) ->
         return false;
     };
     let mut writer = Limited { held, room };
-    match object.write_to(alloc, &mut writer) {
-        Err(encode::Error::Writer(_)) => Some(writer.held.as_slice()) == bytes.get(..room),
-        _ => false,
-    }
+    let outcome = object.write_to(alloc, &mut writer);
+    writer.stopped_at(&outcome, bytes, room)
 }
 
 /// Returns whether each writer with less room than the encoding fails after the prefix of that length.

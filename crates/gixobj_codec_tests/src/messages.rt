@@ -2,20 +2,22 @@
 
 mod allocation_failures;
 
-use crate::helpers::{hash_of, is_copied};
+use crate::commit::read;
+use crate::helpers::{hash_of, holds, is_copied};
 use bstr::BStr;
 use gixobj_base::OutOfMemory;
-use gixobj_base::hash::Kind::Sha1;
 use gixobj_codec::commit::message::BodyRef;
 use gixobj_codec::commit::message::body::{Filtered, TrailerRef};
 use gixobj_codec::commit::{CommitRef, MessageRef};
-use std::alloc::{AllocError, Global};
+use std::alloc::Global;
 use std::borrow::CowSlice;
+use std::hash::Hash;
 
 /// A commit with a trailer of each known name, and one of another name.
-const SIGNED: &[u8] =
-    b"tree 4b825dc642cb6eb9a060e54bf8d69288fbee4904\nauthor A <a@b> 0 +0000\ncommitter A <a@b> 0 +0000\n\n\
-title\nmore\n\nbody\n\nSigned-off-by: 1\nco-authored-by: 2\nASSISTED-BY: 3\nAcked-by: 4\nReviewed-by: 5\nTested-by: 6\nLink: 7\n";
+const SIGNED: &[u8] = b"tree 4b825dc642cb6eb9a060e54bf8d69288fbee4904\n\
+    author A <a@b> 0 +0000\ncommitter A <a@b> 0 +0000\n\
+    \ntitle\nmore\n\nbody\n\nSigned-off-by: 1\nco-authored-by: 2\nASSISTED-BY: 3\n\
+    Acked-by: 4\nReviewed-by: 5\nTested-by: 6\nLink: 7\n";
 
 /// Returns the values of the trailers that a filter yields, concatenated.
 fn values(alloc: Global, trailers: Filtered<'_>) -> Result<Vec<u8>, OutOfMemory> {
@@ -28,10 +30,7 @@ fn values(alloc: Global, trailers: Filtered<'_>) -> Result<Vec<u8>, OutOfMemory>
 
 /// Returns whether a filter yields trailers with these concatenated values.
 fn keeps(alloc: Global, trailers: Filtered<'_>, wanted: &[u8]) -> bool {
-    match values(alloc, trailers) {
-        Ok(values) => values.as_slice() == wanted,
-        Err(_) => false,
-    }
+    holds!(values(alloc, trailers), Ok(values) => values.as_slice() == wanted)
 }
 
 /// Returns whether each filter yields the trailers of its names.
@@ -43,25 +42,15 @@ fn filters_are_right(alloc: Global, commit: &CommitRef<'_>) -> bool {
         && keeps(alloc, commit.attribution_trailers(alloc), b"123456")
 }
 
-/// Returns whether each filter of a decoded commit yields the trailers of its names.
-fn is_filtered(alloc: Global, bytes: &[u8]) -> bool {
-    match CommitRef::from_bytes(alloc, bytes, Sha1) {
-        Ok(commit) => filters_are_right(alloc, &commit),
-        Err(_) => false,
-    }
-}
-
 #[test]
 fn filters_yield_trailers_of_their_names(rt: HostRuntime) {
-    assert!(rt; is_filtered(rt.alloc(), SIGNED));
+    assert!(rt; holds!(read(rt.alloc(), SIGNED), Ok(it) => filters_are_right(rt.alloc(), &it)));
 }
 
 /// Returns whether a commit's message has this title and this summary.
 fn begins(alloc: Global, commit: &CommitRef<'_>, title: &[u8], summary: &[u8]) -> bool {
-    match commit.message_summary(alloc) {
-        Ok(found) => { commit.message().title == BStr::new(title) && found.as_slice() == summary }
-        Err(_) => false,
-    }
+    commit.message().title == BStr::new(title)
+        && holds!(commit.message_summary(alloc), Ok(found) => found.as_slice() == summary)
 }
 
 /// Counts the trailers of a commit's message; `None` if one is an error.
@@ -76,37 +65,16 @@ fn count_trailers(alloc: Global, commit: &CommitRef<'_>) -> Option<usize> {
     Some(count)
 }
 
-/// Returns whether the signed commit's message has its title, its summary and this count of trailers.
-fn has_summary_and_trailers(alloc: Global, trailers: usize) -> bool {
-    match CommitRef::from_bytes(alloc, SIGNED, Sha1) {
-        Ok(commit) => {
-            begins(alloc, &commit, b"title\nmore", b"title more")
-                && count_trailers(alloc, &commit) == Some(trailers)
-        }
-        Err(_) => false,
-    }
-}
-
 #[test]
 fn yields_summary_and_trailers_of_commit(rt: HostRuntime) {
-    assert!(rt; has_summary_and_trailers(rt.alloc(), 7));
-}
-
-/// Returns `count` trailers, each with a continuation line.
-fn folded(alloc: Global, count: usize) -> Result<Vec<u8>, AllocError> {
-    let mut bytes = Vec::new(alloc);
-    for _ in 0..count {
-        bytes.extend_from_slice(b"A: 1\n 2\n")?;
-    }
-    Ok(bytes)
+    let commit = read(rt.alloc(), SIGNED);
+    assert!(rt; holds!(&commit, Ok(it) => begins(rt.alloc(), it, b"title\nmore", b"title more")));
+    assert!(rt; holds!(&commit, Ok(it) => count_trailers(rt.alloc(), it) == Some(7)));
 }
 
 /// Returns whether the item is a trailer with this token and this value.
 fn is_trailer(item: &Result<TrailerRef<'_>, OutOfMemory>, token: &[u8], value: &[u8]) -> bool {
-    match item {
-        Ok(trailer) => trailer.token.as_bytes() == token && trailer.value.as_slice() == value,
-        Err(_) => false,
-    }
+    holds!(item, Ok(it) => it.token.as_bytes() == token && it.value.as_slice() == value)
 }
 
 /// Counts the trailers of a body; `None` if one has another token or another value.
@@ -121,17 +89,15 @@ fn count_of(alloc: Global, body: &[u8], token: &[u8], value: &[u8]) -> Option<us
     Some(count)
 }
 
-/// Counts the trailers of a body of `count` trailers of two lines.
-fn count_folded(alloc: Global, count: usize) -> Option<usize> {
-    match folded(alloc, count) {
-        Ok(body) => count_of(alloc, &body, b"A", b"1 2"),
-        Err(_) => None,
-    }
+/// Returns whether a body of `count` trailers with a continuation line yields as many.
+fn yields_folded(alloc: Global, count: usize) -> bool {
+    let body = "A: 1\n 2\n".repeat(alloc, count);
+    holds!(body, Ok(body) => count_of(alloc, body.as_bytes(), b"A", b"1 2") == Some(count))
 }
 
 #[test]
 fn yields_many_trailers_of_two_lines(rt: HostRuntime) {
-    assert!(rt; count_folded(rt.alloc(), 3_000) == Some(3_000));
+    assert!(rt; yields_folded(rt.alloc(), 3_000));
 }
 
 /// Returns a trailer with this token.
@@ -180,37 +146,30 @@ fn predicates_hold_for_their_tokens(rt: HostRuntime) {
     }
 }
 
-/// Returns whether messages of the same bytes are equal, with one hash.
-fn are_messages_equal() -> bool {
-    let message = MessageRef::from_bytes(b"a\n\nb");
-    let same = MessageRef::from_bytes(b"a\n\nb");
-    message == same && hash_of(&message) == hash_of(&same)
+/// Returns whether the first two values are equal with one hash, and less than the third.
+fn are_in_order<T: Ord + Hash>(value: &T, same: &T, later: &T) -> bool {
+    value == same && hash_of(value) == hash_of(same) && value < later
 }
 
-/// Returns whether messages are in order.
+/// Returns whether messages are equal with one hash, and in order.
 fn are_messages_in_order() -> bool {
     let message = MessageRef::from_bytes(b"a\n\nb");
-    message < MessageRef::from_bytes(b"a\n\nc") && MessageRef::from_bytes(b"a") < message
+    let same = MessageRef::from_bytes(b"a\n\nb");
+    are_in_order(&message, &same, &MessageRef::from_bytes(b"a\n\nc"))
+        && MessageRef::from_bytes(b"a") < message
 }
 
 /// Returns whether bodies are equal with one hash, and in order.
 fn are_bodies_in_order() -> bool {
     let body = BodyRef::from_bytes(b"a\n\nB: 1");
     let same = BodyRef::from_bytes(b"a\n\nB: 1");
-    body == same && hash_of(&body) == hash_of(&same) && body < BodyRef::from_bytes(b"b")
-}
-
-/// Returns whether trailers are equal with one hash, and in order.
-fn are_trailers_in_order() -> bool {
-    let (trailer, same) = (named(b"a"), named(b"a"));
-    trailer == same && hash_of(&trailer) == hash_of(&same) && trailer < named(b"b")
+    are_in_order(&body, &same, &BodyRef::from_bytes(b"b"))
 }
 
 #[test]
 fn parts_compare_and_hash_by_bytes(rt: HostRuntime) {
-    assert!(rt; are_messages_equal());
     assert!(rt; are_messages_in_order());
     assert!(rt; are_bodies_in_order());
-    assert!(rt; are_trailers_in_order());
+    assert!(rt; are_in_order(&named(b"a"), &named(b"a"), &named(b"b")));
     assert!(rt; is_copied(&named(b"a")));
 }

@@ -1,77 +1,59 @@
 //! Objects of any kind: conversions, changes, writing, and verified ids. `gixobj_replay` compares decoded
 //! loose objects, and the bytes that are written of them.
 
-pub(crate) mod borrowed;
-pub(crate) mod owned;
+mod borrowed;
+mod entire;
+mod owned;
 mod samples;
 
-use crate::helpers::{is_copied, written};
+use crate::helpers::{holds, is_copied, is_written};
 use gixobj_base::decode::{Error, LooseHeaderDecodeError};
 use gixobj_base::hash::{Kind as HashKind, ObjectId};
 use gixobj_base::{Blob, Kind, WriteTo};
-use gixobj_codec::{Data, LooseDecodeError, Object, ObjectRef, data};
-use samples::{KINDS, bytes_of};
+use gixobj_codec::LooseDecodeError::{self, InvalidContent, InvalidHeader};
+use gixobj_codec::{Data, Object, ObjectRef, data};
+use samples::KINDS;
 use std::alloc::Global;
 
+#[test]
+fn conversion_keeps_cause(rt: HostRuntime) {
+    let of_memory = LooseDecodeError::from(Error::OutOfMemory);
+    let of_bytes = LooseDecodeError::from(Error::Malformed);
+    assert!(rt; matches!(&of_memory, InvalidContent(Error::OutOfMemory)));
+    assert!(rt; matches!(&of_bytes, InvalidContent(Error::Malformed)));
+}
+
 /// Returns whether a conversion returned the object if `wanted`, and nothing otherwise.
-fn is_same<T: PartialEq>(returned: &Option<T>, object: &Result<T, Error>, wanted: bool) -> bool {
-    match (returned, object) {
-        (Some(returned), Ok(object)) => wanted && returned == object,
-        (None, Ok(_)) => !wanted,
-        _ => false,
+fn is_same<T: PartialEq>(returned: &Option<T>, object: &Option<T>, wanted: bool) -> bool {
+    match returned {
+        Some(_) => wanted && returned == object,
+        None => !wanted && object.is_some(),
     }
 }
 
 /// Returns whether the first object is less than the second.
-fn is_before<T: Ord>(first: &Result<T, Error>, second: &Result<T, Error>) -> bool {
-    match (first, second) {
-        (Ok(first), Ok(second)) => first < second,
-        _ => false,
-    }
-}
-
-/// Returns whether an object has this kind, and this encoding is written.
-fn is_written<T: WriteTo>(alloc: Global, object: &T, kind: Kind, bytes: &[u8]) -> bool
-    requires { T.can_write object.now }
-{
-    match written(alloc, object) {
-        Ok(out) => out.as_slice() == bytes && object.kind() == kind,
-        Err(_) => false,
-    }
-}
-
-/// Decodes a loose object into its owned form.
-fn loose_object(alloc: Global, bytes: &[u8]) -> Option<Object> {
-    match ObjectRef::from_loose(alloc, bytes, HashKind::Sha1) {
-        Ok(object) => object.into_owned(alloc).ok(),
-        Err(_) => None,
-    }
+fn is_before<T: Ord>(first: &Option<T>, second: &Option<T>) -> bool {
+    holds!((first, second), (Some(first), Some(second)) => first < second)
 }
 
 /// Decodes a loose object into a blob.
 fn loose_blob(alloc: Global, bytes: &[u8]) -> Option<Blob> {
-    match loose_object(alloc, bytes) {
-        Some(object) => object.try_into_blob().ok(),
-        None => None,
-    }
+    let object = ObjectRef::from_loose(alloc, bytes, HashKind::Sha1).ok()?;
+    object.into_owned(alloc).ok()?.try_into_blob().ok()
 }
 
 /// Returns whether a blob has this loose header.
 fn has_header(alloc: Global, blob: &Blob, wanted: &[u8]) -> bool {
-    match blob.loose_header(alloc) {
-        Some(header) => header.as_slice() == wanted,
-        None => false,
-    }
+    holds!(blob.loose_header(alloc), Some(header) => header.as_slice() == wanted)
 }
 
 /// Returns whether the bytes are rejected for their invalid header.
 fn is_cut_short(alloc: Global, bytes: &[u8]) -> bool {
-    match ObjectRef::from_loose(alloc, bytes, HashKind::Sha1) {
-        Err(LooseDecodeError::InvalidHeader(cause)) => {
-            matches!(cause, LooseHeaderDecodeError::InvalidHeader { .. })
-        }
-        _ => false,
-    }
+    holds!(
+        ObjectRef::from_loose(alloc, bytes, HashKind::Sha1),
+        Err(InvalidHeader(it)) =>
+            matches!(it, LooseHeaderDecodeError::InvalidHeader { .. })
+    )
 }
 
 #[test]
@@ -80,24 +62,19 @@ fn rejects_blob_shorter_than_its_header_says(rt: HostRuntime) {
     assert!(rt; !is_cut_short(rt.alloc(), b"blob 5\0hello"));
 }
 
-/// Returns whether a blob has these bytes, and appends others to it.
-fn takes(blob: &mut Blob, bytes: &[u8], others: &[u8]) -> bool {
-    blob.bytes.as_slice() == bytes && blob.bytes.extend_from_slice(others).is_ok()
-}
-
-/// Appends to the blob of `hello`. Returns whether its encoding and loose header are then as expected.
-fn grows(alloc: Global, blob: &mut Blob) -> bool {
-    takes(blob, b"hello", b" world")
-        && is_written(alloc, blob, Kind::Blob, b"hello world")
-        && has_header(alloc, blob, b"blob 11\0")
+/// Returns whether a blob has this encoding and this loose header.
+fn is_blob(alloc: Global, blob: &Blob, bytes: &[u8], header: &[u8]) -> bool {
+    blob.kind() == Kind::Blob && is_written(alloc, blob, bytes) && has_header(alloc, blob, header)
 }
 
 /// Returns whether the blob of a loose object is `hello`, and is written as expected after an append.
 fn is_grown(alloc: Global, bytes: &[u8]) -> bool {
-    match loose_blob(alloc, bytes) {
-        Some(mut blob) => grows(alloc, &mut blob),
-        None => false,
-    }
+    let Some(mut blob) = loose_blob(alloc, bytes) else {
+        return false;
+    };
+    blob.bytes.as_slice() == b"hello".as_slice()
+        && blob.bytes.extend_from_slice(b" world").is_ok()
+        && is_blob(alloc, &blob, b"hello world", b"blob 11\0")
 }
 
 #[test]
@@ -130,31 +107,19 @@ fn verifies_ids_of_empty_objects(rt: HostRuntime) {
 
 /// Returns whether a clone of the decoded sample of this kind equals it.
 fn is_read_copied(alloc: Global, kind: Kind) -> bool {
-    match borrowed::object(alloc, kind) {
-        Ok(object) => is_copied(&object),
-        Err(_) => false,
-    }
+    holds!(borrowed::object(alloc, kind), Some(object) => is_copied(&object))
 }
 
 /// Returns the owned sample of this kind, by `to_owned`.
-fn owned_again(alloc: Global, kind: Kind) -> Result<Object, Error> {
-    ObjectRef::from_bytes(alloc, bytes_of(kind), kind, HashKind::Sha1)?.to_owned(alloc)
-}
-
-/// Returns whether `to_owned` of the sample of this kind returns this object.
-fn is_owned_again(alloc: Global, kind: Kind, object: &Object) -> bool {
-    match owned_again(alloc, kind) {
-        Ok(again) => again == *object,
-        Err(_) => false,
-    }
+fn owned_again(alloc: Global, kind: Kind) -> Option<Object> {
+    borrowed::object(alloc, kind)?.to_owned(alloc).ok()
 }
 
 /// Returns whether the owned sample of this kind equals its clone, and the result of `to_owned`.
 fn is_owned_copied(alloc: Global, kind: Kind) -> bool {
-    match owned::object(alloc, kind) {
-        Ok(object) => is_copied(&object) && is_owned_again(alloc, kind, &object),
-        Err(_) => false,
-    }
+    let object = owned::object(alloc, kind);
+    is_same(&owned_again(alloc, kind), &object, true)
+        && holds!(&object, Some(object) => is_copied(object))
 }
 
 #[test]

@@ -40,34 +40,15 @@ mod of_laws {
     pub use gixobj_codec::laws::{
         borrowed_header_search_complete, borrowed_mergetag_search_complete,
         commit_decode_encode_agree, commit_decodes_uniquely, commit_reencodes_identically,
-        header_round_trips, hex_decodes_uniquely, owned_commit_has_same_parts,
-        owned_header_search_complete, owned_mergetag_search_complete, readers, tokens,
-    };
-}
-
-mod of_laws_of_messages {
-    pub use gixobj_codec::laws::{
-        message_split_is_unique, parts_append_to_body, readers_yield_all,
-        trailer_block_start_is_unique, trailer_line_decodes, trailers_are_unique,
-    };
-}
-
-mod of_laws_of_stores {
-    pub use gixobj_codec::laws::object_map_insert;
-}
-
-mod of_laws_of_tags {
-    pub use gixobj_codec::laws::{
-        consumed_tag_tokens_are_prefix, owned_tag_has_same_parts, tag_decode_encode_agree,
-        tag_decodes_uniquely, tag_part_search_complete, tag_readers_agree,
-        tag_reencodes_identically, tag_tokens_decode_uniquely,
-    };
-}
-
-mod of_laws_of_trees {
-    pub use gixobj_codec::laws::{
-        consumed_entries_are_prefix, id_equality_is_decidable, remaining_bytes_are_suffix,
-        tree_decodes_uniquely, tree_readers_agree, tree_reencodes_identically, tree_round_trips,
+        consumed_entries_are_prefix, consumed_tag_tokens_are_prefix, header_round_trips,
+        hex_decodes_uniquely, id_equality_is_decidable, message_split_is_unique, object_map_insert,
+        owned_commit_has_same_parts, owned_header_search_complete, owned_mergetag_search_complete,
+        owned_tag_has_same_parts, parts_append_to_body, readers, readers_yield_all,
+        remaining_bytes_are_suffix, tag_decode_encode_agree, tag_decodes_uniquely,
+        tag_part_search_complete, tag_readers_agree, tag_reencodes_identically,
+        tag_tokens_decode_uniquely, tokens, trailer_block_start_is_unique, trailer_line_decodes,
+        trailers_are_unique, tree_decodes_uniquely, tree_readers_agree, tree_reencodes_identically,
+        tree_round_trips,
     };
 }
 

@@ -1,28 +1,41 @@
-//! Tests of tags: tokens, writing, order, rejected names, and signatures.
+//! Tests of tags: tokens, writing, order, and rejected names.
 
-mod data;
 mod iterated;
-mod names;
 mod orders;
-mod signature;
 mod writers;
 
-use std::alloc::{AllocError, Global};
+use crate::helpers::holds;
+use gixobj_base::encode;
+use gixobj_base::encode::RefNameFault::{DoubleDot, Empty};
+use gixobj_codec::tag::write::Error::{self, InvalidRefName, StartsWithDash};
+use std::alloc::Global;
 
 /// A tag of the empty tree, without a tagger and without a message.
-pub(crate) const BARE: &[u8] = b"object 4b825dc642cb6eb9a060e54bf8d69288fbee4904\n\
-    type tree\n\
-    tag v1\n";
+pub(crate) const BARE: &[u8] =
+    b"object 4b825dc642cb6eb9a060e54bf8d69288fbee4904\ntype tree\ntag v1\n";
 
 /// The bare tag with SHA-256 ids.
 pub(crate) const BARE_SHA256: &[u8] =
     b"object 6ef19b41225c5369f1c104d45d8d85efa9b057b53b14b4b9b939dd74decc5321\n\
-    type tree\n\
-    tag v1\n";
+    type tree\ntag v1\n";
 
-/// Returns the encoding of the bare tag, with these bytes after it.
-pub(crate) fn tag_with(alloc: Global, rest: &[u8]) -> Result<Vec<u8>, AllocError> {
-    let mut content = Vec::from_slice(alloc, BARE)?;
-    content.extend_from_slice(rest)?;
-    Ok(content)
+/// Errors and their messages, which are also those of the writer's errors.
+const SHOWN: &[(Error, &str)] = &[
+    (StartsWithDash, "the name of a tag begins with `-`"),
+    (InvalidRefName(Empty), "the name of a tag: it is empty"),
+    (InvalidRefName(DoubleDot), "the name of a tag: it has `..`"),
+];
+
+/// Returns whether an error has this message, also as a writer's error.
+fn is_shown(alloc: Global, error: Error, message: &str) -> bool {
+    let of_writer = encode::Error::from(error);
+    holds!(error.to_string(alloc), Ok(it) => it.as_str() == message)
+        && holds!(of_writer.to_string(alloc), Ok(it) => it.as_str() == message)
+}
+
+#[test]
+fn errors_print_their_messages(rt: HostRuntime) {
+    for &(error, message) in SHOWN {
+        assert!(rt; is_shown(rt.alloc(), error, message), "{message}");
+    }
 }

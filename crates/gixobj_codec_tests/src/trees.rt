@@ -1,18 +1,20 @@
-//! Trees: entries yielded from an object, orders, failing writers, and offsets of the reader.
+//! Trees: orders, failing writers, empty trees, and offsets of the reader.
 
-mod data;
-mod memory;
 mod offsets;
 mod orders;
 mod writers;
 
+use crate::helpers::holds;
+use gixobj_base::hash::Kind;
+use gixobj_base::{OutOfMemory, Tree};
+use gixobj_codec::TreeRef;
 use std::alloc::{AllocError, Global};
 
 /// The bytes of an id.
 const ONES: [u8; 20] = [1; 20];
 
 /// The encoding of a file's entry with the id of ones, of 29 bytes.
-const ENTRY: &[u8] = b"100644 a\0\
+pub(crate) const ENTRY: &[u8] = b"100644 a\0\
     \x01\x01\x01\x01\x01\x01\x01\x01\x01\x01\x01\x01\x01\x01\x01\x01\x01\x01\x01\x01";
 
 /// The tree of the folder `examples`.
@@ -33,4 +35,32 @@ fn tree_bytes(alloc: Global, prefixes: &[&str]) -> Result<Vec<u8>, AllocError> {
         content.extend_from_slice(&ONES)?;
     }
     Ok(content)
+}
+
+/// Returns whether an owned tree has no entries, and no allocation for any.
+fn holds_nothing(tree: &Result<Tree, OutOfMemory>) -> bool {
+    holds!(tree, Ok(it) => it.entries.is_empty() && it.entries.capacity() == 0)
+}
+
+/// Returns whether a tree has no entries, and no allocation for any.
+fn is_without_memory(tree: &TreeRef<'_>) -> bool {
+    tree.entries.is_empty() && tree.entries.capacity() == 0
+}
+
+/// The empty tree and its owned forms hold no allocation.
+#[test]
+fn empty_tree_allocates_nothing(rt: HostRuntime) {
+    assert!(rt; is_without_memory(&TreeRef::empty(rt.alloc())));
+    assert!(rt; holds_nothing(&TreeRef::empty(rt.alloc()).to_owned(rt.alloc())));
+    assert!(rt; holds_nothing(&TreeRef::empty(rt.alloc()).into_owned(rt.alloc())));
+}
+
+/// Returns whether a decoded tree has no entries, and no allocation for any.
+fn reads_nothing(alloc: Global, bytes: &[u8]) -> bool {
+    holds!(&TreeRef::from_bytes(alloc, bytes, Kind::Sha1), Ok(tree) => is_without_memory(tree))
+}
+
+#[test]
+fn decodes_no_bytes_without_allocation(rt: HostRuntime) {
+    assert!(rt; reads_nothing(rt.alloc(), b""));
 }

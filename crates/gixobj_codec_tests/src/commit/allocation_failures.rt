@@ -1,19 +1,17 @@
 //! Commits with failed allocations: each call returns out of memory in its own error and succeeds when made
 //! again; a failed reader yields nothing more.
 
-use super::{PLAIN, SIGNED, owned_form};
-use crate::helpers::{Answer, written};
+use super::{PLAIN, SIGNED, owned_form, read};
+use crate::helpers::{Answer, completes, written};
 use gixobj_base::hash::Kind;
 use gixobj_base::{WriteTo, decode, encode};
-use gixobj_codec::{CommitRef, CommitRefIter};
+use gixobj_codec::CommitRefIter;
 use std::alloc::Global;
 
 /// The plain commit with a header without a value.
 const WITH_A_HEADER: &[u8] = b"tree 4b825dc642cb6eb9a060e54bf8d69288fbee4904\n\
-    author A <a@b> 0 +0000\n\
-    committer A <a@b> 0 +0000\n\
-    x \n\
-    \nhi\n";
+    author A <a@b> 0 +0000\ncommitter A <a@b> 0 +0000\n\
+    x \n\nhi\n";
 
 /// Encodings of commits, and the count of their tokens.
 const ENCODINGS: &[(&[u8], usize)] = &[(PLAIN, 4), (WITH_A_HEADER, 5), (SIGNED, 5)];
@@ -26,42 +24,42 @@ fn of_error(error: &decode::Error) -> Answer {
     }
 }
 
-/// Classifies writing a commit by its encoding and its size.
-fn of_written<T: WriteTo>(alloc: Global, commit: &T, bytes: &[u8]) -> Answer
-    requires { T.can_write commit.now }
-{
-    match written(alloc, commit) {
-        Ok(out) => Answer::complete_where(
-            out.as_slice() == bytes && commit.size() == Some(bytes.len() as u64),
-        ),
+/// Classifies the bytes written of a commit.
+fn of_written(out: &Result<Vec<u8>, encode::Error>, bytes: &[u8]) -> Answer {
+    match out {
+        Ok(out) => Answer::complete_where(out.as_slice() == bytes),
         Err(encode::Error::Writer(_)) => Answer::WithoutMemory,
         Err(_) => Answer::Other,
     }
 }
 
+/// Classifies writing a commit by its encoding and its size.
+fn of_commit<T: WriteTo>(alloc: Global, commit: &T, bytes: &[u8]) -> Answer
+    requires { T.can_write commit.now }
+{
+    let of_size = Answer::complete_where(commit.size() == Some(bytes.len() as u64));
+    of_written(&written(alloc, commit), bytes).and(of_size)
+}
+
 /// Classifies decoding a commit and writing it.
 fn of_read(alloc: Global, bytes: &[u8]) -> Answer {
-    match CommitRef::from_bytes(alloc, bytes, Kind::Sha1) {
-        Ok(commit) => of_written(alloc, &commit, bytes),
+    match read(alloc, bytes) {
+        Ok(commit) => of_commit(alloc, &commit, bytes),
         Err(error) => of_error(&error),
     }
 }
 
 /// Classifies decoding a commit and writing its owned form.
 fn of_owned(alloc: Global, bytes: &[u8]) -> Answer {
-    match owned_form(alloc, bytes, Kind::Sha1) {
-        Ok(commit) => of_written(alloc, &commit, bytes),
+    match owned_form(alloc, bytes) {
+        Ok(commit) => of_commit(alloc, &commit, bytes),
         Err(error) => of_error(&error),
     }
 }
 
 /// Classifies a reader's error, after which it yields nothing.
 fn of_failed_reader(mut tokens: CommitRefIter<'_>, error: &decode::Error) -> Answer {
-    if tokens.next().is_some() {
-        Answer::Other
-    } else {
-        of_error(error)
-    }
+    of_error(error).and(Answer::complete_where(tokens.next().is_none()))
 }
 
 /// Classifies a run over the tokens of an encoding, by their count.
@@ -87,10 +85,6 @@ fn of_bytes(alloc: Global, bytes: &[u8], tokens: usize) -> Answer {
 #[test]
 fn decodes_and_writes_whatever_allocation_fails(rt: HostRuntime) {
     for &(bytes, tokens) in ENCODINGS {
-        let mut answer = of_bytes(rt.alloc(), bytes, tokens);
-        if answer == Answer::WithoutMemory {
-            answer = of_bytes(rt.alloc(), bytes, tokens);
-        }
-        assert!(rt; answer == Answer::Complete, "{tokens}");
+        assert!(rt; completes!(of_bytes(rt.alloc(), bytes, tokens)), "{tokens}");
     }
 }

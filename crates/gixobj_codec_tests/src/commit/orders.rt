@@ -1,7 +1,7 @@
 //! Orders and hashes of commits and tokens.
 
-use super::{PLAIN, owned_form};
-use crate::helpers::{are_copied, are_ordered, hash_of};
+use super::{PLAIN, owned_form, read};
+use crate::helpers::{are_copied, are_ordered, hash_of, holds};
 use bstr::{BStr, BString};
 use gixobj_base::decode::Error;
 use gixobj_base::hash::Kind;
@@ -13,49 +13,35 @@ use std::cmp::Ordering;
 
 /// A commit with a header.
 const WITH_HEADER: &[u8] = b"tree 4b825dc642cb6eb9a060e54bf8d69288fbee4904\n\
-    author A <a@b> 0 +0000\n\
-    committer A <a@b> 0 +0000\n\
-    x A\n\
-    \nhi\n";
+    author A <a@b> 0 +0000\ncommitter A <a@b> 0 +0000\n\
+    x A\n\nhi\n";
 
-/// Decodes the commit with a header.
-fn read(alloc: Global) -> Result<CommitRef<'static>, Error> {
-    CommitRef::from_bytes(alloc, WITH_HEADER, Kind::Sha1)
-}
-
-/// Returns a clone of the decoded commit.
+/// Returns a clone of the decoded commit with a header.
 fn copy(alloc: Global) -> Result<CommitRef<'static>, Error> {
-    Ok(read(alloc)?.clone()?)
+    Ok(read(alloc, WITH_HEADER)?.clone()?)
 }
 
 /// Replaces the value of a commit's header by an owned copy; returns whether this succeeds.
 fn copy_value(alloc: Global, commit: &mut CommitRef<'static>) -> bool {
     commit.extra_headers.clear();
-    match Vec::from_slice(alloc, b"A") {
-        Ok(value) => {
-            let header = (BStr::new(b"x"), CowSlice::Owned(value));
-            commit.extra_headers.push(header).is_ok()
-        }
-        Err(_) => false,
-    }
+    let Ok(value) = Vec::from_slice(alloc, b"A") else {
+        return false;
+    };
+    let header = (BStr::new(b"x"), CowSlice::Owned(value));
+    commit.extra_headers.push(header).is_ok()
 }
 
 /// Returns whether a commit compares as wanted with the decoded one.
 fn is_ordered(alloc: Global, commit: &CommitRef<'static>, wanted: Ordering) -> bool {
-    match read(alloc) {
-        Ok(other) => are_ordered(commit, &other, wanted),
-        Err(_) => false,
-    }
+    holds!(read(alloc, WITH_HEADER), Ok(other) => are_ordered(commit, &other, wanted))
 }
 
 /// Returns whether a clone with a copied header value is equal.
 fn is_equal_with_copied_value(alloc: Global) -> bool {
-    match copy(alloc) {
-        Ok(mut commit) => {
-            copy_value(alloc, &mut commit) && is_ordered(alloc, &commit, Ordering::Equal)
-        }
-        Err(_) => false,
-    }
+    let Ok(mut commit) = copy(alloc) else {
+        return false;
+    };
+    copy_value(alloc, &mut commit) && is_ordered(alloc, &commit, Ordering::Equal)
 }
 
 /// Commits are equal if the bytes of their header values are, at any address.
@@ -66,13 +52,11 @@ fn commits_equal_by_bytes_of_header_values(rt: HostRuntime) {
 
 /// Returns whether a clone with this message compares as wanted.
 fn is_ordered_with(alloc: Global, message: &'static [u8], wanted: Ordering) -> bool {
-    match copy(alloc) {
-        Ok(mut commit) => {
-            commit.message = BStr::new(message);
-            is_ordered(alloc, &commit, wanted)
-        }
-        Err(_) => false,
-    }
+    let Ok(mut commit) = copy(alloc) else {
+        return false;
+    };
+    commit.message = BStr::new(message);
+    is_ordered(alloc, &commit, wanted)
 }
 
 #[test]
@@ -82,68 +66,50 @@ fn commits_compare_by_message(rt: HostRuntime) {
 
 /// Returns whether an owned commit compares as wanted with that of an encoding.
 fn is_owned_ordered(alloc: Global, commit: &Commit, bytes: &[u8], wanted: Ordering) -> bool {
-    match owned_form(alloc, bytes, Kind::Sha1) {
-        Ok(other) => are_ordered(commit, &other, wanted),
-        Err(_) => false,
-    }
+    holds!(owned_form(alloc, bytes), Ok(other) => are_ordered(commit, &other, wanted))
 }
 
 /// Returns the owned form of the plain commit, by `to_owned`.
 fn owned_again(alloc: Global) -> Result<Commit, Error> {
-    CommitRef::from_bytes(alloc, PLAIN, Kind::Sha1)?.to_owned(alloc)
-}
-
-/// Returns whether `to_owned` of the plain commit returns its owned form.
-fn is_owned_again(alloc: Global) -> bool {
-    match owned_again(alloc) {
-        Ok(commit) => is_owned_ordered(alloc, &commit, PLAIN, Ordering::Equal),
-        Err(_) => false,
-    }
+    read(alloc, PLAIN)?.to_owned(alloc)
 }
 
 #[test]
 fn to_owned_equals_into_owned(rt: HostRuntime) {
-    assert!(rt; is_owned_again(rt.alloc()));
+    let (alloc, equal) = (rt.alloc(), Ordering::Equal);
+    assert!(rt; holds!(owned_again(alloc), Ok(it) => is_owned_ordered(alloc, &it, PLAIN, equal)));
 }
 
 /// Returns a clone of the owned commit.
 fn owned_copy(alloc: Global) -> Result<Commit, Error> {
-    Ok(owned_form(alloc, WITH_HEADER, Kind::Sha1)?.clone()?)
-}
-
-/// Returns whether a clone of the owned commit is equal.
-fn is_copy_equal(alloc: Global) -> bool {
-    match owned_copy(alloc) {
-        Ok(commit) => is_owned_ordered(alloc, &commit, WITH_HEADER, Ordering::Equal),
-        Err(_) => false,
-    }
+    Ok(owned_form(alloc, WITH_HEADER)?.clone()?)
 }
 
 /// Returns whether an owned commit is greater with a greater message.
 fn is_later(alloc: Global) -> bool {
-    match (owned_copy(alloc), BString::from_slice(alloc, b"ho\n")) {
-        (Ok(mut commit), Ok(message)) => {
-            commit.message = message;
-            is_owned_ordered(alloc, &commit, WITH_HEADER, Ordering::Greater)
-        }
-        _ => false,
-    }
+    let Ok(message) = BString::from_slice(alloc, b"ho\n") else {
+        return false;
+    };
+    let Ok(mut commit) = owned_copy(alloc) else {
+        return false;
+    };
+    commit.message = message;
+    is_owned_ordered(alloc, &commit, WITH_HEADER, Ordering::Greater)
 }
 
 #[test]
 fn owned_commits_compare_by_message(rt: HostRuntime) {
-    assert!(rt; is_copy_equal(rt.alloc()));
-    assert!(rt; is_later(rt.alloc()));
+    let (alloc, equal) = (rt.alloc(), Ordering::Equal);
+    assert!(rt;
+        holds!(owned_copy(alloc), Ok(it) => is_owned_ordered(alloc, &it, WITH_HEADER, equal))
+    );
+    assert!(rt; is_later(alloc));
 }
 
 /// A commit that has a token of each kind but a parent.
 const LINES: &[u8] = b"tree 4b825dc642cb6eb9a060e54bf8d69288fbee4904\n\
-    author A <a@b> 0 +0000\n\
-    committer A <a@b> 0 +0000\n\
-    encoding A\n\
-    x A\n\
-    \x20B\n\
-    \nhi\n";
+    author A <a@b> 0 +0000\ncommitter A <a@b> 0 +0000\n\
+    encoding A\nx A\n B\n\nhi\n";
 
 /// Returns the tokens of the commit, in order.
 fn tokens(alloc: Global) -> Result<Vec<Token<'static>>, Error> {
@@ -154,17 +120,9 @@ fn tokens(alloc: Global) -> Result<Vec<Token<'static>>, Error> {
     Ok(tokens)
 }
 
-/// Returns whether a clone of each token equals it and has its hash.
-fn are_tokens_copied(alloc: Global) -> bool {
-    match tokens(alloc) {
-        Ok(tokens) => are_copied(&tokens),
-        Err(_) => false,
-    }
-}
-
 #[test]
 fn cloned_tokens_are_equal(rt: HostRuntime) {
-    assert!(rt; are_tokens_copied(rt.alloc()));
+    assert!(rt; holds!(tokens(rt.alloc()), Ok(tokens) => are_copied(&tokens)));
 }
 
 /// Returns whether each token is less than the next one, with another hash.
@@ -177,25 +135,16 @@ fn ascend(tokens: &[Token<'_>]) -> bool {
     true
 }
 
-/// Returns whether the last token is this message.
-fn end_in(tokens: &[Token<'_>], message: &[u8]) -> bool {
-    match tokens.last() {
-        Some(last) => *last == Token::Message(BStr::new(message)),
-        None => false,
-    }
-}
-
 /// Returns whether there are `len` tokens in ascending order, of which the last is this message.
-fn are_tokens_in_order(alloc: Global, len: usize, message: &[u8]) -> bool {
-    match tokens(alloc) {
-        Ok(tokens) => tokens.len() == len && ascend(&tokens) && end_in(&tokens, message),
-        Err(_) => false,
-    }
+fn are_in_order(tokens: &[Token<'_>], len: usize, message: &[u8]) -> bool {
+    tokens.len() == len
+        && ascend(tokens)
+        && holds!(tokens.last(), Some(last) => *last == Token::Message(BStr::new(message)))
 }
 
 #[test]
 fn tokens_of_commit_ascend(rt: HostRuntime) {
-    assert!(rt; are_tokens_in_order(rt.alloc(), 6, b"hi\n"));
+    assert!(rt; holds!(tokens(rt.alloc()), Ok(it) => are_in_order(&it, 6, b"hi\n")));
 }
 
 /// Returns whether a token has an id if and only if it is a tree.
@@ -207,13 +156,8 @@ fn has_id_of_a_tree(token: Token<'_>) -> bool {
 /// Returns whether a commit's tokens have ids if and only if they are trees.
 fn have_ids_of_trees(alloc: Global, bytes: &[u8]) -> bool {
     for token in CommitRefIter::from_bytes(alloc, bytes, Kind::Sha1) {
-        match token {
-            Ok(token) => {
-                if !has_id_of_a_tree(token) {
-                    return false;
-                }
-            }
-            Err(_) => return false,
+        if !holds!(token, Ok(token) => has_id_of_a_tree(token)) {
+            return false;
         }
     }
     true

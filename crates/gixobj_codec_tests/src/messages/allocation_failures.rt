@@ -1,13 +1,12 @@
 //! Messages with failed allocations: an iterator yields out of memory as its last item, and the same call
 //! yields all items with memory.
 
-use crate::helpers::Answer;
+use crate::helpers::{Answer, completes};
 use gixobj_base::OutOfMemory;
 use gixobj_codec::commit::MessageRef;
 use gixobj_codec::commit::message::BodyRef;
 use gixobj_codec::commit::message::body::TrailerRef;
 use std::alloc::Global;
-use std::borrow::CowSlice;
 
 /// Two trailers of two lines, and then one of one line.
 const BODY: &[u8] = b"Signed-off-by: 1\n 2\nLink: 3\n 4\nSigned-off-by: 5\n";
@@ -27,16 +26,22 @@ fn after_item(
     }
 }
 
+/// Classifies a run that yields `count` trailers, or out of memory after at most one.
+fn of_run(answer: (Answer, usize), count: usize) -> Answer {
+    match answer {
+        (Answer::WithoutMemory, 0 | 1) => Answer::WithoutMemory,
+        (Answer::Complete, it) => Answer::complete_where(it == count),
+        _ => Answer::Other,
+    }
+}
+
 /// Classifies a run over all trailers.
 fn of_trailers(alloc: Global) -> Answer {
     let mut answer = (Answer::Complete, 0usize);
     for trailer in BodyRef::from_bytes(BODY).trailers(alloc) {
         answer = after_item(answer, &trailer);
     }
-    match answer {
-        (Answer::Complete, 3) | (Answer::WithoutMemory, 0 | 1) => answer.0,
-        _ => Answer::Other,
-    }
+    of_run(answer, 3)
 }
 
 /// Classifies a run over the sign-offs. The filter also yields the errors of other trailers.
@@ -45,19 +50,15 @@ fn of_sign_offs(alloc: Global) -> Answer {
     for trailer in BodyRef::from_bytes(BODY).trailers(alloc).signed_off_by() {
         answer = after_item(answer, &trailer);
     }
-    match answer {
-        (Answer::Complete, 2) | (Answer::WithoutMemory, 0 | 1) => answer.0,
-        _ => Answer::Other,
-    }
+    of_run(answer, 2)
 }
 
 /// Classifies the summary of a title of two lines.
 fn of_summary(alloc: Global) -> Answer {
-    let title: CowSlice<'_, u8> = match MessageRef::from_bytes(b"a\nb").summary(alloc) {
-        Ok(title) => title,
-        Err(OutOfMemory) => return Answer::WithoutMemory,
-    };
-    Answer::complete_where(title.as_slice() == b"a b".as_slice())
+    match MessageRef::from_bytes(b"a\nb").summary(alloc) {
+        Ok(title) => Answer::complete_where(title.as_slice() == b"a b".as_slice()),
+        Err(OutOfMemory) => Answer::WithoutMemory,
+    }
 }
 
 /// Bodies, the bytes before their trailers, and the tokens and values of the trailers.
@@ -107,38 +108,25 @@ fn of_body(alloc: Global, body: &[u8], before: &[u8], trailers: &[(&[u8], &[u8])
 
 #[test]
 fn yields_trailers_whatever_allocation_fails(rt: HostRuntime) {
-    let mut answer = of_trailers(rt.alloc());
-    if answer == Answer::WithoutMemory {
-        answer = of_trailers(rt.alloc());
-    }
-    assert!(rt; answer == Answer::Complete);
+    assert!(rt; completes!(of_trailers(rt.alloc())));
 }
 
 #[test]
 fn yields_sign_offs_whatever_allocation_fails(rt: HostRuntime) {
-    let mut answer = of_sign_offs(rt.alloc());
-    if answer == Answer::WithoutMemory {
-        answer = of_sign_offs(rt.alloc());
-    }
-    assert!(rt; answer == Answer::Complete);
+    assert!(rt; completes!(of_sign_offs(rt.alloc())));
 }
 
 #[test]
 fn yields_summary_whatever_allocation_fails(rt: HostRuntime) {
-    let mut answer = of_summary(rt.alloc());
-    if answer == Answer::WithoutMemory {
-        answer = of_summary(rt.alloc());
-    }
-    assert!(rt; answer == Answer::Complete);
+    assert!(rt; completes!(of_summary(rt.alloc())));
 }
 
 #[test]
 fn splits_bodies_whatever_allocation_fails(rt: HostRuntime) {
     for &(body, before, trailers) in BODIES {
-        let mut answer = of_body(rt.alloc(), body, before, trailers);
-        if answer == Answer::WithoutMemory {
-            answer = of_body(rt.alloc(), body, before, trailers);
-        }
-        assert!(rt; answer == Answer::Complete, "{body:?}");
+        assert!(rt;
+            completes!(of_body(rt.alloc(), body, before, trailers)),
+            "{body:?}"
+        );
     }
 }

@@ -1,15 +1,21 @@
 //! Borrowed objects of each kind, converted into each kind.
 
-use super::samples::{KINDS, bytes_of};
+use super::samples::{KINDS, PAIRS, bytes_of};
 use super::{is_before, is_same};
+use crate::helpers::holds;
 use gixobj_base::hash::Kind as HashKind;
-use gixobj_base::{BlobRef, Kind, decode};
+use gixobj_base::{BlobRef, Kind};
 use gixobj_codec::{CommitRef, ObjectRef, TagRef, TreeRef};
 use std::alloc::Global;
 
+/// Decodes an object.
+pub(super) fn read(alloc: Global, kind: Kind, bytes: &[u8]) -> Option<ObjectRef<'_>> {
+    ObjectRef::from_bytes(alloc, bytes, kind, HashKind::Sha1).ok()
+}
+
 /// Decodes the sample of this kind.
-pub(crate) fn object(alloc: Global, kind: Kind) -> Result<ObjectRef<'static>, decode::Error> {
-    ObjectRef::from_bytes(alloc, bytes_of(kind), kind, HashKind::Sha1)
+pub(super) fn object(alloc: Global, kind: Kind) -> Option<ObjectRef<'static>> {
+    read(alloc, kind, bytes_of(kind))
 }
 
 /// Returns whether the getter for this kind returns the object's part.
@@ -43,7 +49,7 @@ fn back(object: ObjectRef<'_>, wanted: Kind) -> Option<ObjectRef<'_>> {
 }
 
 /// Rebuilds an object from its part.
-pub(crate) fn made_again(object: ObjectRef<'_>) -> Option<ObjectRef<'_>> {
+fn made_again(object: ObjectRef<'_>) -> Option<ObjectRef<'_>> {
     match object.kind() {
         Kind::Tree => object.into_tree().map(ObjectRef::from),
         Kind::Blob => object.into_blob().map(ObjectRef::from),
@@ -54,90 +60,58 @@ pub(crate) fn made_again(object: ObjectRef<'_>) -> Option<ObjectRef<'_>> {
 
 /// Returns whether the getter for `wanted` returns the sample's part if and only if the kinds are equal.
 fn is_lent(alloc: Global, kind: Kind, wanted: Kind) -> bool {
-    match object(alloc, kind) {
-        Ok(object) => is_lent_as(&object, wanted) == (kind == wanted),
-        Err(_) => false,
-    }
-}
-
-/// Returns whether the getters return the sample's part for its own kind only.
-fn is_lent_alone(alloc: Global, kind: Kind) -> bool {
-    for wanted in KINDS {
-        if !is_lent(alloc, kind, wanted) {
-            return false;
-        }
-    }
-    true
+    holds!(object(alloc, kind), Some(it) => is_lent_as(&it, wanted) == (kind == wanted))
 }
 
 #[test]
 fn lends_part_of_own_kind_only(rt: HostRuntime) {
-    for kind in KINDS {
-        assert!(rt; is_lent_alone(rt.alloc(), kind), "{kind:?}");
+    for (kind, wanted) in PAIRS {
+        assert!(rt; is_lent(rt.alloc(), kind, wanted), "{kind:?} {wanted:?}");
     }
 }
 
 /// Returns whether the sample converts into `wanted` if and only if the kinds are equal.
 fn is_taken(alloc: Global, kind: Kind, wanted: Kind) -> bool {
-    match object(alloc, kind) {
-        Ok(object) => is_one(object, wanted) == (kind == wanted),
-        Err(_) => false,
-    }
-}
-
-/// Returns whether the sample converts into its own kind only.
-fn is_taken_alone(alloc: Global, kind: Kind) -> bool {
-    for wanted in KINDS {
-        if !is_taken(alloc, kind, wanted) {
-            return false;
-        }
-    }
-    true
+    holds!(object(alloc, kind), Some(it) => is_one(it, wanted) == (kind == wanted))
 }
 
 #[test]
 fn converts_into_own_kind_only(rt: HostRuntime) {
-    for kind in KINDS {
-        assert!(rt; is_taken_alone(rt.alloc(), kind), "{kind:?}");
+    for (kind, wanted) in PAIRS {
+        assert!(rt; is_taken(rt.alloc(), kind, wanted), "{kind:?} {wanted:?}");
     }
 }
 
 /// Returns the sample from a failed conversion into `wanted`; `None` if it succeeds.
 fn returned(alloc: Global, kind: Kind, wanted: Kind) -> Option<ObjectRef<'static>> {
-    back(object(alloc, kind).ok()?, wanted)
+    back(object(alloc, kind)?, wanted)
 }
 
 /// Returns whether the conversion into `wanted` returns the sample if and only if the kinds differ.
 fn is_returned(alloc: Global, kind: Kind, wanted: Kind) -> bool {
-    let object = object(alloc, kind);
-    is_same(&returned(alloc, kind, wanted), &object, kind != wanted)
-}
-
-/// Returns whether each conversion but that into its own kind returns the sample.
-fn is_returned_for_others(alloc: Global, kind: Kind) -> bool {
-    for wanted in KINDS {
-        if !is_returned(alloc, kind, wanted) {
-            return false;
-        }
-    }
-    true
+    let returned = returned(alloc, kind, wanted);
+    is_same(&returned, &object(alloc, kind), kind != wanted)
 }
 
 #[test]
 fn failed_conversion_returns_object(rt: HostRuntime) {
-    for kind in KINDS {
-        assert!(rt; is_returned_for_others(rt.alloc(), kind), "{kind:?}");
+    for (kind, wanted) in PAIRS {
+        assert!(rt;
+            is_returned(rt.alloc(), kind, wanted),
+            "{kind:?} {wanted:?}"
+        );
     }
 }
 
-/// Returns the sample of this kind, rebuilt from its part.
-fn made(alloc: Global, kind: Kind) -> Option<ObjectRef<'static>> {
-    made_again(object(alloc, kind).ok()?)
+/// Returns a decoded object, rebuilt from its part.
+pub(super) fn rebuilt(alloc: Global, kind: Kind, bytes: &[u8]) -> Option<ObjectRef<'_>> {
+    made_again(read(alloc, kind, bytes)?)
 }
 
 /// Returns whether the sample is rebuilt from its part unchanged.
 fn is_made_again(alloc: Global, kind: Kind) -> bool {
-    is_same(&made(alloc, kind), &object(alloc, kind), true)
+    let made = rebuilt(alloc, kind, bytes_of(kind));
+    is_same(&made, &object(alloc, kind), true)
 }
 
 #[test]

@@ -1,15 +1,20 @@
 //! Owned objects of each kind, converted into each kind.
 
-use super::samples::{KINDS, bytes_of};
-use super::{is_before, is_same};
-use gixobj_base::hash::Kind as HashKind;
-use gixobj_base::{Blob, Kind, Tree, decode};
-use gixobj_codec::{Commit, Object, ObjectRef, Tag};
+use super::samples::{KINDS, PAIRS, bytes_of};
+use super::{borrowed, is_before, is_same};
+use crate::helpers::holds;
+use gixobj_base::{Blob, Kind, Tree};
+use gixobj_codec::{Commit, Object, Tag};
 use std::alloc::Global;
 
+/// Decodes an object into its owned form.
+pub(super) fn read(alloc: Global, kind: Kind, bytes: &[u8]) -> Option<Object> {
+    borrowed::read(alloc, kind, bytes)?.into_owned(alloc).ok()
+}
+
 /// Returns the owned sample of this kind.
-pub(crate) fn object(alloc: Global, kind: Kind) -> Result<Object, decode::Error> {
-    ObjectRef::from_bytes(alloc, bytes_of(kind), kind, HashKind::Sha1)?.into_owned(alloc)
+pub(super) fn object(alloc: Global, kind: Kind) -> Option<Object> {
+    read(alloc, kind, bytes_of(kind))
 }
 
 /// Returns whether the getter for this kind returns the object's part.
@@ -43,7 +48,7 @@ fn converted_back(object: Object, wanted: Kind) -> Option<Object> {
 }
 
 /// Rebuilds an object from its part.
-pub(crate) fn made_again(object: Object) -> Object {
+fn made_again(object: Object) -> Object {
     match object.kind() {
         Kind::Tree => Object::from(object.into_tree()),
         Kind::Blob => Object::from(object.into_blob()),
@@ -54,84 +59,56 @@ pub(crate) fn made_again(object: Object) -> Object {
 
 /// Returns whether the getter for `wanted` returns the sample's part if and only if the kinds are equal.
 fn is_lent(alloc: Global, kind: Kind, wanted: Kind) -> bool {
-    match object(alloc, kind) {
-        Ok(object) => is_lent_as(&object, wanted) == (kind == wanted),
-        Err(_) => false,
-    }
-}
-
-/// Returns whether the getters return the sample's part for its own kind only.
-fn is_lent_alone(alloc: Global, kind: Kind) -> bool {
-    for wanted in KINDS {
-        if !is_lent(alloc, kind, wanted) {
-            return false;
-        }
-    }
-    true
+    holds!(object(alloc, kind), Some(it) => is_lent_as(&it, wanted) == (kind == wanted))
 }
 
 #[test]
 fn lends_part_of_own_kind_only(rt: HostRuntime) {
-    for kind in KINDS {
-        assert!(rt; is_lent_alone(rt.alloc(), kind), "{kind:?}");
+    for (kind, wanted) in PAIRS {
+        assert!(rt; is_lent(rt.alloc(), kind, wanted), "{kind:?} {wanted:?}");
     }
 }
 
 /// Returns the sample from a failed conversion into `wanted`; `None` if it succeeds.
 fn returned(alloc: Global, kind: Kind, wanted: Kind) -> Option<Object> {
-    back(object(alloc, kind).ok()?, wanted)
+    back(object(alloc, kind)?, wanted)
 }
 
 /// Returns the sample from a failed conversion of std into `wanted`; `None` if it succeeds.
 fn returned_by_std(alloc: Global, kind: Kind, wanted: Kind) -> Option<Object> {
-    converted_back(object(alloc, kind).ok()?, wanted)
-}
-
-/// Returns whether the conversion into `wanted` returns the sample if and only if the kinds differ.
-fn is_returned_by_method(alloc: Global, kind: Kind, wanted: Kind) -> bool {
-    is_same(
-        &returned(alloc, kind, wanted),
-        &object(alloc, kind),
-        kind != wanted,
-    )
-}
-
-/// Returns whether the conversion of std into `wanted` returns the sample if and only if the kinds differ.
-fn is_converted(alloc: Global, kind: Kind, wanted: Kind) -> bool {
-    let returned = returned_by_std(alloc, kind, wanted);
-    is_same(&returned, &object(alloc, kind), kind != wanted)
+    converted_back(object(alloc, kind)?, wanted)
 }
 
 /// Returns whether both conversions into `wanted` return the sample if and only if the kinds differ.
 fn is_returned(alloc: Global, kind: Kind, wanted: Kind) -> bool {
-    is_returned_by_method(alloc, kind, wanted) && is_converted(alloc, kind, wanted)
-}
-
-/// Returns whether each conversion but that into its own kind returns the sample.
-fn is_returned_for_others(alloc: Global, kind: Kind) -> bool {
-    for wanted in KINDS {
-        if !is_returned(alloc, kind, wanted) {
-            return false;
-        }
-    }
-    true
+    let object = object(alloc, kind);
+    is_same(&returned(alloc, kind, wanted), &object, kind != wanted)
+        && is_same(
+            &returned_by_std(alloc, kind, wanted),
+            &object,
+            kind != wanted,
+        )
 }
 
 #[test]
 fn failed_conversion_returns_object(rt: HostRuntime) {
-    for kind in KINDS {
-        assert!(rt; is_returned_for_others(rt.alloc(), kind), "{kind:?}");
+    for (kind, wanted) in PAIRS {
+        assert!(rt;
+            is_returned(rt.alloc(), kind, wanted),
+            "{kind:?} {wanted:?}"
+        );
     }
 }
 
-/// Returns the sample of this kind, rebuilt from its part.
-fn made(alloc: Global, kind: Kind) -> Option<Object> {
-    Some(made_again(object(alloc, kind).ok()?))
+/// Returns an owned object, rebuilt from its part.
+pub(super) fn rebuilt(alloc: Global, kind: Kind, bytes: &[u8]) -> Option<Object> {
+    Some(made_again(read(alloc, kind, bytes)?))
 }
 
 /// Returns whether the sample is rebuilt from its part unchanged.
 fn is_made_again(alloc: Global, kind: Kind) -> bool {
-    is_same(&made(alloc, kind), &object(alloc, kind), true)
+    let made = rebuilt(alloc, kind, bytes_of(kind));
+    is_same(&made, &object(alloc, kind), true)
 }
 
 #[test]

@@ -1,27 +1,38 @@
 //! Samples: one object of each kind.
 
 use crate::commit::PLAIN;
-use gixobj_base::Kind;
+use crate::tags::BARE;
+use gixobj_base::Kind::{self, Blob, Commit, Tag, Tree};
 
 /// The kinds of objects.
-pub(super) const KINDS: [Kind; 4] = [Kind::Tree, Kind::Blob, Kind::Commit, Kind::Tag];
+pub(super) const KINDS: [Kind; 4] = [Tree, Blob, Commit, Tag];
 
-/// A tree of one file, with an id of twenty bytes.
-const TREE: &[u8] = b"100644 a\0aaaaaaaaaaaaaaaaaaaa";
+/// Each kind with each.
+pub(super) const PAIRS: [(Kind, Kind); 16] = [
+    (Tree, Tree),
+    (Tree, Blob),
+    (Tree, Commit),
+    (Tree, Tag),
+    (Blob, Tree),
+    (Blob, Blob),
+    (Blob, Commit),
+    (Blob, Tag),
+    (Commit, Tree),
+    (Commit, Blob),
+    (Commit, Commit),
+    (Commit, Tag),
+    (Tag, Tree),
+    (Tag, Blob),
+    (Tag, Commit),
+    (Tag, Tag),
+];
 
-const BLOB: &[u8] = b"hello";
-
-/// A tag of the empty tree.
-const TAG: &[u8] = b"object 4b825dc642cb6eb9a060e54bf8d69288fbee4904\n\
-    type tree\n\
-    tag v1\n";
-
-/// Returns the encoding of the sample of this kind.
+/// Returns the encoding of the sample of this kind: a tree of one file, a blob, a commit or a tag.
 pub(super) fn bytes_of(kind: Kind) -> &'static [u8] {
     match kind {
-        Kind::Tree => TREE,
-        Kind::Blob => BLOB,
-        Kind::Commit => PLAIN,
-        Kind::Tag => TAG,
+        Tree => b"100644 a\0aaaaaaaaaaaaaaaaaaaa",
+        Blob => b"hello",
+        Commit => PLAIN,
+        Tag => BARE,
     }
 }

@@ -1,5 +1,6 @@
 //! The target and the tagger that a reader finds, from its start or after tokens that it yielded.
 
+use crate::helpers::holds;
 use crate::tags::BARE;
 use bstr::BStr;
 use gixobj_base::actor::SignatureRef;
@@ -10,19 +11,12 @@ use gixobj_codec::tag::ref_iter::Token;
 
 /// A tag with a tagger, a message and a signature.
 const SIGNED: &[u8] = b"object 4b825dc642cb6eb9a060e54bf8d69288fbee4904\n\
-    type tree\n\
-    tag v1\n\
-    tagger  A\t <a@b>  7 +0100\n\
-    \n\
-    hi\n\
-    -----BEGIN SSH SIGNATURE-----\n";
+    type tree\ntag v1\ntagger  A\t <a@b>  7 +0100\n\
+    \nhi\n-----BEGIN SSH SIGNATURE-----\n";
 
 /// Returns whether a reader finds this id as the target.
 fn finds_target(tokens: TagRefIter<'_>, target: ObjectId) -> bool {
-    match tokens.target_id() {
-        Ok(id) => id == target,
-        Err(_) => false,
-    }
+    holds!(tokens.target_id(), Ok(id) => id == target)
 }
 
 /// Returns whether a reader finds the target twice, and then yields five tokens.
@@ -92,11 +86,7 @@ fn has_id(token: Token<'_>, target: ObjectId) -> bool {
 /// Returns whether each token of a tag has the target's id if and only if it is a target.
 fn have_ids(bytes: &[u8], target: ObjectId) -> bool {
     for token in TagRefIter::from_bytes(bytes, hash::Kind::Sha1) {
-        let is_so = match token {
-            Ok(token) => has_id(token, target),
-            Err(_) => false,
-        };
-        if !is_so {
+        if !holds!(token, Ok(token) => has_id(token, target)) {
             return false;
         }
     }

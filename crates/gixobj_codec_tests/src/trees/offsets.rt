@@ -1,6 +1,7 @@
 //! Offsets of the reader of entries.
 
 use super::{ENTRY, EXAMPLE, tree_bytes};
+use crate::helpers::holds;
 use gixobj_base::hash::Kind;
 use gixobj_codec::laws::remaining_bytes_are_suffix;
 use gixobj_codec::tree::EntryRef;
@@ -21,10 +22,7 @@ fn offsets(alloc: Global, input: &[u8]) -> Result<Vec<usize>, AllocError> {
 
 /// Returns whether the next entries of a tree begin at these offsets.
 fn begin_at(alloc: Global, input: &[u8], wanted: &[usize]) -> bool {
-    match offsets(alloc, input) {
-        Ok(offsets) => offsets.as_slice() == wanted,
-        Err(_) => false,
-    }
+    holds!(offsets(alloc, input), Ok(offsets) => offsets.as_slice() == wanted)
 }
 
 /// The offsets of the entries in the tree of the folder `examples`, and the end of the last one.
@@ -36,27 +34,19 @@ fn offset_follows_each_entry(rt: HostRuntime) {
     assert!(rt; begin_at(rt.alloc(), b"", &[0]));
 }
 
-/// Returns whether the next entries of the tree of these prefixes begin at these offsets.
-fn prefixes_begin_at(alloc: Global, prefixes: &[&str], wanted: &[usize]) -> bool {
-    match tree_bytes(alloc, prefixes) {
-        Ok(input) => begin_at(alloc, &input, wanted),
-        Err(_) => false,
-    }
-}
-
 /// After an error no bytes remain.
 #[test]
 fn offset_is_end_after_error(rt: HostRuntime) {
     let prefixes = ["100644 a\0", "100648 b\0", "100644 c\0"];
-    assert!(rt; prefixes_begin_at(rt.alloc(), &prefixes, &[0, 29, 87]));
+    let input = tree_bytes(rt.alloc(), &prefixes);
+    assert!(rt; holds!(&input, Ok(input) => begin_at(rt.alloc(), input, &[0, 29, 87])));
 }
 
 /// Returns whether a reader yields these entries, and then ends.
 fn yields(mut seen: TreeRefIter<'_>, entries: &[EntryRef<'_>]) -> bool {
     for entry in entries {
-        match seen.next() {
-            Some(Ok(it)) if it == *entry => {}
-            _ => return false,
+        if !holds!(seen.next(), Some(Ok(it)) => it == *entry) {
+            return false;
         }
     }
     seen.next().is_none()
@@ -80,18 +70,11 @@ fn yields_from_each(input: &[u8], offsets: &[usize], entries: &[EntryRef<'_>]) -
     true
 }
 
-/// Returns whether a reader continues with the entries of the decoded tree from each of these offsets.
-fn is_resumed(alloc: Global, input: &[u8], offsets: &[usize]) -> bool {
-    match TreeRef::from_bytes(alloc, input, Kind::Sha1) {
-        Ok(tree) => yields_from_each(input, offsets, &tree.entries),
-        Err(_) => false,
-    }
-}
-
 /// A reader of the bytes from an offset yields the next entry.
 #[test]
 fn resumes_from_each_offset(rt: HostRuntime) {
-    assert!(rt; is_resumed(rt.alloc(), EXAMPLE, OFFSETS));
+    let tree = TreeRef::from_bytes(rt.alloc(), EXAMPLE, Kind::Sha1);
+    assert!(rt; holds!(&tree, Ok(it) => yields_from_each(EXAMPLE, OFFSETS, &it.entries)));
 }
 
 /// A copied reader has the position of the first.

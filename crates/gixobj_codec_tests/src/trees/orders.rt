@@ -1,14 +1,14 @@
 //! Orders and hashes of borrowed entries and trees, which are those of the owned ones.
 
 use super::tree_bytes;
-use crate::helpers::hash_of;
-use crate::signing::calls::Maker;
+use crate::helpers::{are_copied, are_in_order, hash_of, holds};
+use bstr::BString;
 use gixobj_base::hash::{Kind, ObjectId};
 use gixobj_base::tree::{Entry, EntryKind};
+use gixobj_base::{OutOfMemory, Tree, decode};
 use gixobj_codec::TreeRef;
 use gixobj_codec::tree::EntryRef;
-use std::alloc::Global;
-use std::cmp::Ordering;
+use std::alloc::{AllocError, Global};
 
 /// Kinds and names of entries, and whether the id is the empty blob's and not the null id.
 const ROWS: &[(EntryKind, &[u8], bool)] = &[
@@ -22,105 +22,81 @@ const ROWS: &[(EntryKind, &[u8], bool)] = &[
     (EntryKind::Blob, b"a0", false),
 ];
 
-/// Returns the entry of a row.
-fn entry(maker: &mut Maker, kind: EntryKind, name: &[u8], is_of_blob: bool) -> Entry {
-    Entry {
-        mode: kind.into(),
-        filename: maker.bstring(name),
-        oid: if is_of_blob {
-            ObjectId::empty_blob(Kind::Sha1)
-        } else {
-            ObjectId::null(Kind::Sha1)
-        },
+/// Returns the id of a row.
+fn id_of(is_of_blob: bool) -> ObjectId {
+    if is_of_blob {
+        ObjectId::empty_blob(Kind::Sha1)
+    } else {
+        ObjectId::null(Kind::Sha1)
     }
 }
 
 /// Returns entries in ascending order.
-fn ascending(maker: &mut Maker) -> Vec<Entry> {
-    let mut entries = Vec::new(maker.alloc);
+fn ascending(alloc: Global) -> Result<Vec<Entry>, AllocError> {
+    let mut entries = Vec::new(alloc);
     for &(kind, name, is_of_blob) in ROWS {
-        let entry = entry(maker, kind, name, is_of_blob);
-        maker.append(&mut entries, entry);
+        let (mode, oid) = (kind.into(), id_of(is_of_blob));
+        let filename = BString::from_slice(alloc, name)?;
+        entries.push(Entry {
+            mode,
+            filename,
+            oid,
+        })?;
     }
-    entries
+    Ok(entries)
 }
 
-/// Returns whether two entries compare as wanted, borrowed and owned.
-fn are_ordered(first: &Entry, second: &Entry, wanted: Ordering) -> bool {
-    let left = EntryRef::from(first);
-    let right = EntryRef::from(second);
-    left.partial_cmp(&right) == Some(wanted)
-        && left.cmp(&right) == wanted
-        && first.cmp(second) == wanted
+/// Returns entries, borrowed.
+fn borrowed(alloc: Global, entries: &[Entry]) -> Result<Vec<EntryRef<'_>>, AllocError> {
+    let mut all = Vec::new(alloc);
+    for entry in entries {
+        all.push(EntryRef::from(entry))?;
+    }
+    Ok(all)
 }
 
-/// Returns whether the entry at this position is greater than those before it, and less than those after it.
-fn is_at(entries: &[Entry], at: usize, entry: &Entry) -> bool {
-    for (other_at, other) in entries.iter().enumerate() {
-        if !are_ordered(entry, other, at.cmp(&other_at)) {
-            return false;
-        }
-    }
-    true
+/// Returns whether entries are in order, borrowed. Each then equals only itself, with its hash.
+fn are_in_order_borrowed(alloc: Global, entries: &[Entry]) -> bool {
+    holds!(&borrowed(alloc, entries), Ok(entries) => are_in_order(entries))
 }
 
 #[test]
 fn entries_compare_in_tree_order(rt: HostRuntime) {
-    let mut maker = Maker::new(rt.alloc());
-    let entries = ascending(&mut maker);
-    assert!(rt; !maker.is_failed);
-    for (at, entry) in entries.iter().enumerate() {
-        assert!(rt; is_at(&entries, at, entry), "{at}");
-    }
-}
-
-/// Returns whether two borrowed entries are equal with one hash if `wanted`, and differ in both otherwise.
-fn are_alike(first: &Entry, second: &Entry, wanted: bool) -> bool {
-    let left = EntryRef::from(first);
-    let right = EntryRef::from(second);
-    (left == right) == wanted && (hash_of(&left) == hash_of(&right)) == wanted
-}
-
-/// Returns whether the entry at this position equals only itself, borrowed.
-fn is_like_itself(entries: &[Entry], at: usize, entry: &Entry) -> bool {
-    for (other_at, other) in entries.iter().enumerate() {
-        if !are_alike(entry, other, at == other_at) {
-            return false;
-        }
-    }
-    true
+    let entries = ascending(rt.alloc());
+    assert!(rt; holds!(&entries, Ok(entries) => are_in_order(entries)));
+    assert!(rt; holds!(&entries, Ok(entries) => are_in_order_borrowed(rt.alloc(), entries)));
 }
 
 #[test]
 fn entries_equal_only_themselves(rt: HostRuntime) {
-    let mut maker = Maker::new(rt.alloc());
-    let entries = ascending(&mut maker);
-    assert!(rt; !maker.is_failed);
-    for (at, entry) in entries.iter().enumerate() {
-        assert!(rt; is_like_itself(&entries, at, entry), "{at}");
-    }
+    let entries = ascending(rt.alloc());
+    assert!(rt; holds!(&entries, Ok(entries) => are_in_order_borrowed(rt.alloc(), entries)));
 }
 
 /// Returns whether a borrowed entry has the hash of the owned one, and converts into it.
 fn becomes_itself(alloc: Global, entry: &Entry) -> bool {
     let borrowed = EntryRef::from(entry);
-    if hash_of(&borrowed) != hash_of(entry) {
-        return false;
+    hash_of(&borrowed) == hash_of(entry)
+        && holds!(
+            &borrowed.into_owned(alloc),
+            Ok(it) => it == entry && EntryRef::from(it) == borrowed
+        )
+}
+
+/// Returns whether each borrowed entry has the hash of the owned one, and converts into it.
+fn become_themselves(alloc: Global, entries: &[Entry]) -> bool {
+    for entry in entries {
+        if !becomes_itself(alloc, entry) {
+            return false;
+        }
     }
-    match borrowed.into_owned(alloc) {
-        Ok(owned) => owned == *entry && EntryRef::from(&owned) == borrowed,
-        Err(_) => false,
-    }
+    true
 }
 
 #[test]
 fn entries_convert_to_owned_unchanged(rt: HostRuntime) {
-    let mut maker = Maker::new(rt.alloc());
-    let entries = ascending(&mut maker);
-    assert!(rt; !maker.is_failed);
-    for entry in &entries {
-        assert!(rt; becomes_itself(rt.alloc(), entry));
-    }
+    let entries = ascending(rt.alloc());
+    assert!(rt; holds!(&entries, Ok(entries) => become_themselves(rt.alloc(), entries)));
 }
 
 /// Prefixes of entries, for trees in ascending order.
@@ -133,91 +109,78 @@ const TREES: &[&[&str]] = &[
     &["100644 b\0"],
 ];
 
-/// Returns whether the owned forms of two trees compare as wanted.
-fn are_owned_ordered(
-    alloc: Global,
-    left: &TreeRef<'_>,
-    right: &TreeRef<'_>,
-    wanted: Ordering,
-) -> bool {
-    match (left.to_owned(alloc), right.to_owned(alloc)) {
-        (Ok(left), Ok(right)) => left.cmp(&right) == wanted,
-        _ => false,
+/// Returns the encodings of the trees.
+fn encodings(alloc: Global) -> Result<Vec<Vec<u8>>, AllocError> {
+    let mut all = Vec::new(alloc);
+    for prefixes in TREES {
+        all.push(tree_bytes(alloc, prefixes)?)?;
     }
+    Ok(all)
 }
 
-/// Returns whether two trees compare as wanted, borrowed and owned.
-fn are_trees_ordered(alloc: Global, first: &[u8], second: &[u8], wanted: Ordering) -> bool {
-    let Ok(left) = TreeRef::from_bytes(alloc, first, Kind::Sha1) else {
-        return false;
-    };
-    match TreeRef::from_bytes(alloc, second, Kind::Sha1) {
-        Ok(right) => {
-            left.cmp(&right) == wanted
-                && left.partial_cmp(&right) == Some(wanted)
-                && (left == right) == wanted.is_eq()
-                && are_owned_ordered(alloc, &left, &right, wanted)
-        }
-        Err(_) => false,
+/// Returns the trees of encodings.
+fn decoded(alloc: Global, encodings: &[Vec<u8>]) -> Result<Vec<TreeRef<'_>>, decode::Error> {
+    let mut trees = Vec::new(alloc);
+    for bytes in encodings {
+        trees.push(TreeRef::from_bytes(alloc, bytes, Kind::Sha1)?)?;
     }
+    Ok(trees)
 }
 
-/// Returns whether the trees of these prefixes compare as wanted.
-fn are_prefixes_ordered(alloc: Global, first: &[&str], second: &[&str], wanted: Ordering) -> bool {
-    match (tree_bytes(alloc, first), tree_bytes(alloc, second)) {
-        (Ok(first), Ok(second)) => are_trees_ordered(alloc, &first, &second, wanted),
-        _ => false,
+/// Returns the owned forms of the trees of encodings.
+fn decoded_owned(alloc: Global, encodings: &[Vec<u8>]) -> Result<Vec<Tree>, decode::Error> {
+    let mut trees = Vec::new(alloc);
+    for bytes in encodings {
+        trees.push(TreeRef::from_bytes(alloc, bytes, Kind::Sha1)?.into_owned(alloc)?)?;
     }
+    Ok(trees)
 }
 
-/// Returns whether the tree at this position is greater than those before it, and less than those after it.
-fn is_tree_at(alloc: Global, at: usize, prefixes: &[&str]) -> bool {
-    for (other_at, other) in TREES.iter().enumerate() {
-        if !are_prefixes_ordered(alloc, prefixes, other, at.cmp(&other_at)) {
-            return false;
-        }
+/// Returns the owned forms of trees.
+fn owned(alloc: Global, trees: &[TreeRef<'_>]) -> Result<Vec<Tree>, OutOfMemory> {
+    let mut all = Vec::new(alloc);
+    for tree in trees {
+        all.push(tree.to_owned(alloc)?)?;
     }
-    true
+    Ok(all)
+}
+
+/// Returns whether the owned forms of trees are in order.
+fn are_in_order_owned(alloc: Global, trees: &[TreeRef<'_>]) -> bool {
+    holds!(&owned(alloc, trees), Ok(trees) => are_in_order(trees))
+}
+
+/// Returns whether the trees of encodings are in order, borrowed and owned.
+fn are_trees_in_order(alloc: Global, encodings: &[Vec<u8>]) -> bool {
+    let trees = decoded(alloc, encodings);
+    holds!(&trees, Ok(trees) => are_in_order(trees) && are_in_order_owned(alloc, trees))
 }
 
 #[test]
 fn trees_compare_by_entries(rt: HostRuntime) {
-    for (at, prefixes) in TREES.iter().enumerate() {
-        assert!(rt; is_tree_at(rt.alloc(), at, prefixes), "{at}");
-    }
+    let encodings = encodings(rt.alloc());
+    assert!(rt; holds!(&encodings, Ok(it) => are_trees_in_order(rt.alloc(), it)));
 }
 
-/// Returns whether the owned form of a tree has this hash.
-fn has_hash(alloc: Global, tree: TreeRef<'_>, hash: u64) -> bool {
-    match tree.into_owned(alloc) {
-        Ok(tree) => hash_of(&tree) == hash,
-        Err(_) => false,
+/// Returns whether each tree has the hash of its owned form.
+fn hash_alike(trees: &[TreeRef<'_>], owned: &[Tree]) -> bool {
+    for (tree, owned) in trees.iter().zip(owned) {
+        if hash_of(tree) != hash_of(owned) {
+            return false;
+        }
     }
+    trees.len() == owned.len()
 }
 
-/// Returns whether a tree has the hash of its owned form and of its clone.
-fn hashes_alike(alloc: Global, bytes: &[u8]) -> bool {
-    let Ok(tree) = TreeRef::from_bytes(alloc, bytes, Kind::Sha1) else {
-        return false;
-    };
-    let hash = hash_of(&tree);
-    match tree.clone() {
-        Ok(copy) => copy == tree && hash_of(&copy) == hash && has_hash(alloc, tree, hash),
-        Err(_) => false,
-    }
-}
-
-/// Returns whether the tree of these prefixes has the hash of its owned form and of its clone.
-fn prefixes_hash_alike(alloc: Global, prefixes: &[&str]) -> bool {
-    match tree_bytes(alloc, prefixes) {
-        Ok(bytes) => hashes_alike(alloc, &bytes),
-        Err(_) => false,
-    }
+/// Returns whether each tree equals its clone, and has the hash of that and of its owned form.
+fn hash_as_owned_and_cloned(alloc: Global, encodings: &[Vec<u8>]) -> bool {
+    let owned = decoded_owned(alloc, encodings);
+    holds!(&decoded(alloc, encodings), Ok(trees) => are_copied(trees)
+        && holds!(&owned, Ok(owned) => hash_alike(trees, owned)))
 }
 
 #[test]
 fn trees_hash_as_owned_and_cloned(rt: HostRuntime) {
-    for (at, prefixes) in TREES.iter().enumerate() {
-        assert!(rt; prefixes_hash_alike(rt.alloc(), prefixes), "{at}");
-    }
+    let encodings = encodings(rt.alloc());
+    assert!(rt; holds!(&encodings, Ok(it) => hash_as_owned_and_cloned(rt.alloc(), it)));
 }

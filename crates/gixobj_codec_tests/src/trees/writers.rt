@@ -1,7 +1,7 @@
 //! Written borrowed trees: rejected names, sizes, and failing writers.
 
 use super::{ENTRY, EXAMPLE, ONES};
-use crate::helpers::stops;
+use crate::helpers::{has_size, holds, stops};
 use bstr::BStr;
 use gixobj_base::WriteTo;
 use gixobj_base::encode::Error;
@@ -46,20 +46,18 @@ fn is_rejected_for(alloc: Global, tree: &TreeRef<'_>, name: &[u8], before: &[u8]
     let Ok(mut out) = Vec::from_slice(alloc, b"before") else {
         return false;
     };
-    match tree.write_to(alloc, &mut out) {
-        Err(Error::NullbyteInFilename { name: rejected }) => {
-            rejected.as_slice() == name && out.as_slice() == before
-        }
-        _ => false,
-    }
+    let outcome = tree.write_to(alloc, &mut out);
+    out.as_slice() == before
+        && holds!(&outcome, Err(Error::NullbyteInFilename { name: it }) => it.as_slice() == name)
 }
 
 /// Returns whether the tree of three entries is rejected for this name after these bytes, and has this size.
 fn is_tree_rejected_for(alloc: Global, name: &[u8], before: &[u8], size: u64) -> bool {
-    match with_a_zero_byte(alloc, &ObjectId::Sha1(ONES)) {
-        Ok(tree) => { is_rejected_for(alloc, &tree, name, before) && tree.size() == Some(size) }
-        Err(_) => false,
-    }
+    let id = ObjectId::Sha1(ONES);
+    let Ok(tree) = with_a_zero_byte(alloc, &id) else {
+        return false;
+    };
+    tree.size() == Some(size) && is_rejected_for(alloc, &tree, name, before)
 }
 
 /// Writes the entry before a rejected name, and its own mode and space.
@@ -68,38 +66,19 @@ fn rejects_name_with_zero_byte(rt: HostRuntime) {
     assert!(rt; is_tree_rejected_for(rt.alloc(), b"b\0c", BEFORE, 29 + 31 + 30));
 }
 
-/// Returns whether each writer with too little room fails for a decoded tree.
-fn stops_read(alloc: Global, bytes: &[u8]) -> bool {
-    match TreeRef::from_bytes(alloc, bytes, Kind::Sha1) {
-        Ok(tree) => stops(alloc, &tree, bytes),
-        Err(_) => false,
-    }
-}
-
 #[test]
 fn returns_writer_error_after_each_prefix(rt: HostRuntime) {
-    assert!(rt; stops_read(rt.alloc(), EXAMPLE));
-}
-
-/// Returns whether a tree has this size, and as many bytes are written.
-fn has_size(alloc: Global, tree: &TreeRef<'_>, len: usize) -> bool {
-    let mut out = Vec::new(alloc);
-    match tree.write_to(alloc, &mut out) {
-        Ok(()) => out.len() == len && tree.size() == Some(len as u64),
-        Err(_) => false,
-    }
+    let tree = TreeRef::from_bytes(rt.alloc(), EXAMPLE, Kind::Sha1);
+    assert!(rt; holds!(&tree, Ok(tree) => stops(rt.alloc(), tree, EXAMPLE)));
 }
 
 /// Returns whether a decoded tree with one more entry with this id has this size, and as many bytes are
 /// written.
 fn has_size_with(alloc: Global, bytes: &[u8], id: &ObjectId, len: usize) -> bool {
-    match TreeRef::from_bytes(alloc, bytes, Kind::Sha1) {
-        Ok(mut tree) => {
-            tree.entries.push(entry(EntryKind::Tree, b"b", id)).is_ok()
-                && has_size(alloc, &tree, len)
-        }
-        Err(_) => false,
-    }
+    let Ok(mut tree) = TreeRef::from_bytes(alloc, bytes, Kind::Sha1) else {
+        return false;
+    };
+    tree.entries.push(entry(EntryKind::Tree, b"b", id)).is_ok() && has_size(alloc, &tree, len)
 }
 
 /// Ids of both kinds are counted and written with their own length.

@@ -1,9 +1,7 @@
 //! Signatures: their formats, and the positions at which they begin.
 
-use crate::helpers::are_in_order;
-use bstr::BStr;
 use gixobj_text::signature::Format::{self, OpenPgp, Ssh, X509};
-use gixobj_text::signature::{SignatureRef, find};
+use gixobj_text::signature::find;
 use std::alloc::Global;
 
 /// Inputs, and the format of the marker with which they begin.
@@ -103,28 +101,4 @@ fn finds_no_marker_in_many_lines(rt: HostRuntime) {
     for &(line, count) in LINES {
         assert!(rt; has_no_marker(rt.alloc(), line, count), "{line}");
     }
-}
-
-/// Returns a signature of this format and these bytes.
-fn signature(format: Format, bytes: &[u8]) -> SignatureRef<'_> {
-    SignatureRef {
-        format,
-        bytes: BStr::new(bytes),
-    }
-}
-
-/// Signatures compare by their formats first.
-#[test]
-fn signatures_compare_by_format_first(rt: HostRuntime) {
-    let signatures = [
-        signature(OpenPgp, b"b"),
-        signature(OpenPgp, b"c"),
-        signature(Ssh, b"a"),
-    ];
-    assert!(rt; are_in_order(&signatures));
-}
-
-#[test]
-fn formats_compare_in_order(rt: HostRuntime) {
-    assert!(rt; are_in_order(&[OpenPgp, X509, Ssh]));
 }

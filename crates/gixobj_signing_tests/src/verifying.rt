@@ -1,8 +1,8 @@
 //! Verifying: the arguments of each call, and the outcome of each answer.
 
-use crate::signing::calls::{Maker, PROGRAM, ScriptedAnswer, Step, WHY, name_with, time};
-use crate::signing::objects::is_over;
-use crate::signing::scripted::Played;
+use crate::calls::{Maker, PROGRAM, ScriptedAnswer, Step, WHY, name_with, time};
+use crate::objects::is_over;
+use crate::scripted::Played;
 use bstr::{BStr, BString};
 use gixobj_signature::signature::SignedData;
 use gixobj_signature::signature::verify::TrustLevel::{self, Fully, Marginal, Ultimate};
@@ -188,10 +188,10 @@ const ROWS: &[Row] = &[
 ];
 
 /// The format of the program, the minimum trust, and the file of revoked keys.
-type How = (Format, TrustLevel, Option<&'static [u8]>);
+pub(crate) type How = (Format, TrustLevel, Option<&'static [u8]>);
 
 /// Returns the options of verifying.
-fn options_of(maker: &mut Maker, how: How) -> Options {
+pub(crate) fn options_of(maker: &mut Maker, how: How) -> Options {
     let (format, minimum_trust, revoked) = how;
     let program = maker.bstring(PROGRAM);
     let program_arguments = maker.bstrings(&[b"-x"]);

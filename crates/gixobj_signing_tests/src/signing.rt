@@ -1,7 +1,7 @@
 //! Signing: the arguments of each call, and the outcome of each answer.
 
-use crate::signing::calls::{Maker, PROGRAM, ScriptedAnswer, Step, WHY, name_with};
-use crate::signing::objects::is_over;
+use crate::calls::{Maker, PROGRAM, ScriptedAnswer, Step, WHY, name_with};
+use crate::objects::is_over;
 use bstr::BString;
 use gixobj_signature::signature::sign::{Error, Options, is_literal_ssh_key, sign_payload};
 use gixobj_text::signature::Format::{self, OpenPgp, Ssh, X509};

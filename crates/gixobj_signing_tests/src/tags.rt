@@ -1,10 +1,10 @@
 //! Signed tags, and signatures found in their encodings.
 
-use crate::signing::calls::{Maker, ScriptedAnswer, Step};
-use crate::signing::commits::has_bytes;
-use crate::signing::objects::{Outcome, Row, gpg, is_error_of, is_object, is_over, runner_of_row};
-use crate::signing::scripted::Played;
-use crate::signing::signing::CREATED;
+use crate::calls::{Maker, ScriptedAnswer, Step};
+use crate::commits::has_bytes;
+use crate::objects::{Outcome, Row, gpg, is_error_of, is_object, is_over, runner_of_row};
+use crate::scripted::Played;
+use crate::signing::CREATED;
 use bstr::BStr;
 use gixobj_hash::decode;
 use gixobj_hash::hash::Kind::{self, Sha1, Sha256};

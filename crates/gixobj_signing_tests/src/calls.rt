@@ -1,6 +1,6 @@
 //! Expected calls and scripted answers, in the notation of rows of tests.
 
-use crate::signing::scripted::Played;
+use crate::scripted::Played;
 use bstr::BString;
 use gixobj_actor::date::Time;
 use gixobj_signature::signature::{Call, Output, RunError, Word};
@@ -176,7 +176,7 @@ impl Maker {
     }
 
     /// Returns the call of a step.
-    fn call(&mut self, step: &Step<'_>) -> Call {
+    pub(crate) fn call(&mut self, step: &Step<'_>) -> Call {
         Call {
             program: self.bstring(step.program),
             words: self.arguments(step.arguments),

@@ -1,9 +1,9 @@
 //! Signed commits, and signatures found in their encodings.
 
-use crate::signing::calls::{Maker, ScriptedAnswer};
-use crate::signing::objects::{Outcome, Row, gpg, is_error_of, is_object, is_over, runner_of_row};
-use crate::signing::scripted::Played;
-use crate::signing::signing::CREATED;
+use crate::calls::{Maker, ScriptedAnswer};
+use crate::objects::{Outcome, Row, gpg, is_error_of, is_object, is_over, runner_of_row};
+use crate::scripted::Played;
+use crate::signing::CREATED;
 use gixobj_commit::{Commit, CommitRef};
 use gixobj_hash::decode;
 use gixobj_hash::hash::Kind::{self, Sha1, Sha256};
@@ -13,14 +13,14 @@ use gixobj_signature::signature::sign::Error;
 use std::alloc::Global;
 
 /// A commit of 99 bytes.
-const PLAIN: &[u8] = b"tree 4b825dc642cb6eb9a060e54bf8d69288fbee4904\n\
+pub(crate) const PLAIN: &[u8] = b"tree 4b825dc642cb6eb9a060e54bf8d69288fbee4904\n\
     author A <a@b> 0 +0000\n\
     committer A <a@b> 0 +0000\n\
     \n\
     hi\n";
 
 /// The plain commit with a signature, of 111 bytes.
-const SIGNED: &[u8] = b"tree 4b825dc642cb6eb9a060e54bf8d69288fbee4904\n\
+pub(crate) const SIGNED: &[u8] = b"tree 4b825dc642cb6eb9a060e54bf8d69288fbee4904\n\
     author A <a@b> 0 +0000\n\
     committer A <a@b> 0 +0000\n\
     gpgsig A\n\

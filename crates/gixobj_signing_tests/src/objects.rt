@@ -1,8 +1,8 @@
 //! Helpers for tests of signed commits and tags: `gpg` without further arguments, and the outcomes.
 
-use crate::signing::calls::{Maker, ScriptedAnswer, Step};
-use crate::signing::scripted::Played;
-use crate::signing::signing::name_of;
+use crate::calls::{Maker, ScriptedAnswer, Step};
+use crate::scripted::Played;
+use crate::signing::name_of;
 use gixobj_fields::{WriteTo, encode};
 use gixobj_hash::decode;
 use gixobj_hash::hash::Kind;
@@ -45,12 +45,9 @@ pub(crate) fn gpg(maker: &mut Maker, key: &[u8]) -> Options {
     }
 }
 
-/// Returns the runner that expects the call of a row, with the key `K`.
-pub(crate) fn runner_of_row(maker: &mut Maker, row: &Row) -> Played {
-    let Some((payload, answer)) = row.call else {
-        return maker.runner(&[]);
-    };
-    let step = Step {
+/// Returns the call that signs these bytes by `gpg` with the key `K`, with this answer.
+pub(crate) fn gpg_call(payload: &[u8], answer: ScriptedAnswer) -> Step<'_> {
+    Step {
         program: b"gpg",
         arguments: "--status-fd=2 -bsau K",
         in_english: false,
@@ -58,8 +55,20 @@ pub(crate) fn runner_of_row(maker: &mut Maker, row: &Row) -> Played {
         input: Some(payload),
         result: None,
         answer,
-    };
-    maker.runner(&[step])
+    }
+}
+
+/// Returns the runner that expects the call to sign these bytes with the key `K`, and no other.
+pub(crate) fn runner_of(maker: &mut Maker, payload: &[u8], answer: ScriptedAnswer) -> Played {
+    maker.runner(&[gpg_call(payload, answer)])
+}
+
+/// Returns the runner that expects the call of a row, if it makes one.
+pub(crate) fn runner_of_row(maker: &mut Maker, row: &Row) -> Played {
+    match row.call {
+        Some((payload, answer)) => runner_of(maker, payload, answer),
+        None => maker.runner(&[]),
+    }
 }
 
 /// Returns whether no allocation failed and all expected calls were made.

@@ -1,47 +1,29 @@
 //! Objects with all optional parts or none: their borrowed parts, and objects rebuilt from a part.
 
-use crate::objects::{borrowed, owned};
-use gixobj_base::decode::Error;
-use gixobj_base::hash::Kind as HashKind;
+use super::{borrowed, is_same, owned};
+use crate::helpers::holds;
 use gixobj_base::{Blob, Kind, Tree, WriteTo};
 use gixobj_codec::{Commit, Object, ObjectRef, Tag};
 use std::alloc::Global;
+
+/// A commit with an encoding.
+const COMMIT: &[u8] = b"tree 4b825dc642cb6eb9a060e54bf8d69288fbee4904\n\
+    author A <a@b> 0 +0000\ncommitter A <a@b> 0 +0000\n\
+    encoding ISO-8859-1\n\nhi\n";
+
+/// A tag with a tagger, a message and a signature.
+const TAG: &[u8] = b"object 4b825dc642cb6eb9a060e54bf8d69288fbee4904\n\
+    type tree\ntag v1\ntagger A <a@b> 0 +0000\n\
+    \nhi\n-----BEGIN PGP SIGNATURE-----\nA\n-----END PGP SIGNATURE-----\n";
 
 /// Kinds and encodings of objects.
 const ENCODINGS: &[(Kind, &[u8])] = &[
     (Kind::Tree, b""),
     (Kind::Tree, b"100644 a\0aaaaaaaaaaaaaaaaaaaa"),
     (Kind::Blob, b"hello"),
-    (
-        Kind::Commit,
-        b"tree 4b825dc642cb6eb9a060e54bf8d69288fbee4904\n\
-            author A <a@b> 0 +0000\n\
-            committer A <a@b> 0 +0000\n\
-            encoding ISO-8859-1\n\
-            \nhi\n",
-    ),
-    (
-        Kind::Tag,
-        b"object 4b825dc642cb6eb9a060e54bf8d69288fbee4904\n\
-            type tree\n\
-            tag v1\n\
-            tagger A <a@b> 0 +0000\n\
-            \nhi\n\
-            -----BEGIN PGP SIGNATURE-----\n\
-            A\n\
-            -----END PGP SIGNATURE-----\n",
-    ),
+    (Kind::Commit, COMMIT),
+    (Kind::Tag, TAG),
 ];
-
-/// Decodes an object.
-fn read(alloc: Global, kind: Kind, bytes: &[u8]) -> Result<ObjectRef<'_>, Error> {
-    ObjectRef::from_bytes(alloc, bytes, kind, HashKind::Sha1)
-}
-
-/// Decodes an object into its owned form.
-fn read_owned(alloc: Global, kind: Kind, bytes: &[u8]) -> Result<Object, Error> {
-    ObjectRef::from_bytes(alloc, bytes, kind, HashKind::Sha1)?.into_owned(alloc)
-}
 
 /// Returns whether the getter for the object's kind returns its part, which has that kind.
 fn is_lent(object: &ObjectRef<'_>) -> bool {
@@ -75,23 +57,21 @@ fn converted(object: Object) -> Option<Object> {
 
 /// Returns whether a decoded object has its part, and is rebuilt from it unchanged.
 fn is_entire(alloc: Global, kind: Kind, bytes: &[u8]) -> bool {
-    match (read(alloc, kind, bytes), read(alloc, kind, bytes)) {
-        (Ok(object), Ok(same)) => is_lent(&object) && borrowed::made_again(same) == Some(object),
-        _ => false,
-    }
+    let object = borrowed::read(alloc, kind, bytes);
+    is_same(&borrowed::rebuilt(alloc, kind, bytes), &object, true)
+        && holds!(&object, Some(object) => is_lent(object))
+}
+
+/// Rebuilds an owned object from its part, and then by the conversions of std.
+fn rebuilt(alloc: Global, kind: Kind, bytes: &[u8]) -> Option<Object> {
+    converted(owned::rebuilt(alloc, kind, bytes)?)
 }
 
 /// Returns whether an owned object has its part, and is rebuilt from it unchanged.
 fn is_owned_entire(alloc: Global, kind: Kind, bytes: &[u8]) -> bool {
-    match (
-        read_owned(alloc, kind, bytes),
-        read_owned(alloc, kind, bytes),
-    ) {
-        (Ok(object), Ok(same)) => {
-            is_owned_lent(&object) && converted(owned::made_again(same)) == Some(object)
-        }
-        _ => false,
-    }
+    let object = owned::read(alloc, kind, bytes);
+    is_same(&rebuilt(alloc, kind, bytes), &object, true)
+        && holds!(&object, Some(object) => is_owned_lent(object))
 }
 
 #[test]
