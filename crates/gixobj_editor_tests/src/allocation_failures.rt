@@ -1,7 +1,9 @@
 //! Four scenarios in which any allocation may fail: after the failed call is repeated, the result is that
 //! with ample memory. Ids are those that `git mktree --missing` prints.
 
-use crate::samples::{self, empty_editor, has_id_and_count, insert_by, path_of, stored_file};
+use crate::samples::{
+    self, empty_editor, has_id_and_count, insert_by, or_empty, path_of, stored_file,
+};
 use crate::writes::stops_at_the_second;
 use bstr::BString;
 use gixobj_editor::editor::{Cursor, Editor, Error, Written};
@@ -18,10 +20,10 @@ fn path_again(alloc: Global, bytes: &[u8]) -> Result<Vec<BString>, AllocError> {
 
 /// Returns an editor of one file whose directories below the root are stored; tries again if an allocation
 /// fails.
-fn stored_again(alloc: Global, names: &[&[u8]]) -> Option<Editor<Memory>> {
+fn stored_again(alloc: Global, names: &[&[u8]]) -> Editor<Memory> {
     match stored_file(alloc, names) {
-        Some(editor) => Some(editor),
-        None => stored_file(alloc, names),
+        Some(editor) => editor,
+        None => or_empty(alloc, stored_file(alloc, names)),
     }
 }
 
@@ -65,14 +67,16 @@ fn is_written(alloc: Global, editor: &mut Editor<Memory>, count: usize, root: &s
     }
 }
 
-/// Returns whether a directory that was removed and made again has only its new file.
-fn remove_then_again(alloc: Global) -> bool {
+/// A directory that was removed and made again has only its new file.
+#[test]
+fn remove_then_again_whatever_allocation_fails(rt: HostRuntime) {
+    let alloc = rt.alloc();
     let mut editor = empty_editor(alloc);
+    assert!(rt; is_inserted(alloc, &mut editor, b"a b"));
+    assert!(rt; is_removed(alloc, &mut editor, b"a"));
+    assert!(rt; is_inserted(alloc, &mut editor, b"a c"));
     let root = "f80f23b9ec7e1c6321e5ec3c2551a24e9c7afab2";
-    is_inserted(alloc, &mut editor, b"a b")
-        && is_removed(alloc, &mut editor, b"a")
-        && is_inserted(alloc, &mut editor, b"a c")
-        && is_written(alloc, &mut editor, 2, root)
+    assert!(rt; is_written(alloc, &mut editor, 2, root));
 }
 
 /// Returns whether the first or the second write stops at its second tree.
@@ -80,14 +84,16 @@ fn is_stopped(alloc: Global, editor: &mut Editor<Memory>) -> bool {
     stops_at_the_second(alloc, editor) || stops_at_the_second(alloc, editor)
 }
 
-/// Returns whether a write emits all trees after one that failed at its second tree.
-fn failed_out(alloc: Global) -> bool {
+/// A write emits all trees after one that failed at its second tree.
+#[test]
+fn failed_out_whatever_allocation_fails(rt: HostRuntime) {
+    let alloc = rt.alloc();
     let mut editor = empty_editor(alloc);
+    assert!(rt; is_inserted(alloc, &mut editor, b"a x"));
+    assert!(rt; is_inserted(alloc, &mut editor, b"b y"));
+    assert!(rt; is_stopped(alloc, &mut editor));
     let root = "77bbb40fde4f7afc2609858ec55da053db6ba24f";
-    is_inserted(alloc, &mut editor, b"a x")
-        && is_inserted(alloc, &mut editor, b"b y")
-        && is_stopped(alloc, &mut editor)
-        && is_written(alloc, &mut editor, 3, root)
+    assert!(rt; is_written(alloc, &mut editor, 3, root));
 }
 
 /// Inserts a file by a cursor, then removes the empty path.
@@ -126,15 +132,13 @@ fn is_inserted_at(alloc: Global, editor: &mut Editor<Memory>) -> bool {
     }
 }
 
-/// Returns whether a cursor at a stored directory keeps its file when it inserts another.
-fn cursor_keeps(alloc: Global) -> bool {
+/// A cursor at a stored directory keeps its file when it inserts another.
+#[test]
+fn cursor_keeps_whatever_allocation_fails(rt: HostRuntime) {
+    let mut editor = stored_again(rt.alloc(), &[b"a", b"b"]);
+    assert!(rt; is_inserted_at(rt.alloc(), &mut editor));
     let root = "d79ed5c1e2ff97a59beb0fc1a1b79b68aa0be74a";
-    match stored_again(alloc, &[b"a", b"b"]) {
-        Some(mut editor) => {
-            is_inserted_at(alloc, &mut editor) && is_written(alloc, &mut editor, 2, root)
-        }
-        None => false,
-    }
+    assert!(rt; is_written(rt.alloc(), &mut editor, 2, root));
 }
 
 /// Returns whether a write emits only the root, of this id, and counts two unchanged directories.
@@ -145,35 +149,18 @@ fn saves_two(alloc: Global, editor: &mut Editor<Memory>, root: &str) -> bool {
     }
 }
 
-/// Returns whether only the root is emitted after a file was inserted into a stored directory and removed.
-fn emits_only_root(alloc: Global) -> bool {
-    let root = "0777f611c446507a3c6fa4a976a7a8d5f0eaed6d";
-    match stored_again(alloc, &[b"a", b"b", b"c"]) {
-        Some(mut editor) => {
-            is_inserted(alloc, &mut editor, b"a b d")
-                && is_removed(alloc, &mut editor, b"a b d")
-                && saves_two(alloc, &mut editor, root)
-        }
-        None => false,
-    }
-}
-
-#[test]
-fn remove_then_again_whatever_allocation_fails(rt: HostRuntime) {
-    assert!(rt; remove_then_again(rt.alloc()));
-}
-
-#[test]
-fn failed_out_whatever_allocation_fails(rt: HostRuntime) {
-    assert!(rt; failed_out(rt.alloc()));
-}
-
+/// Only the root is emitted after a file was inserted into a stored directory and removed.
 #[test]
 fn emits_only_root_whatever_allocation_fails(rt: HostRuntime) {
-    assert!(rt; emits_only_root(rt.alloc()));
-}
-
-#[test]
-fn cursor_keeps_whatever_allocation_fails(rt: HostRuntime) {
-    assert!(rt; cursor_keeps(rt.alloc()));
+    let alloc = rt.alloc();
+    let mut editor = stored_again(alloc, &[b"a", b"b", b"c"]);
+    assert!(rt; is_inserted(alloc, &mut editor, b"a b d"));
+    assert!(rt; is_removed(alloc, &mut editor, b"a b d"));
+    assert!(rt;
+        saves_two(
+            alloc,
+            &mut editor,
+            "0777f611c446507a3c6fa4a976a7a8d5f0eaed6d"
+        )
+    );
 }

@@ -1,7 +1,7 @@
 //! Calls of a cursor that return the cursor, and its store. Ids are those that `git mktree --missing` prints.
 
 use crate::samples::{
-    FILE, cursor_of, empty_editor, path_of, stored_b, stored_file, upserted_by, writes,
+    FILE, cursor_of, empty_editor, or_empty, path_of, stored_b, stored_file, upserted_by, writes,
 };
 use bstr::BString;
 use gixobj_base::hash::ObjectId;
@@ -63,20 +63,11 @@ const C_AND_ROOT: &[&[u8]] = &[
     b"f80f23b9ec7e1c6321e5ec3c2551a24e9c7afab2",
 ];
 
-/// Returns whether the edits of an editor with the stored file `a/b` succeed, and a write emits
-/// [`C_AND_ROOT`].
-fn is_edited_and_written(alloc: Global) -> bool {
-    match stored_file(alloc, &[b"a", b"b"]) {
-        Some(mut editor) => {
-            is_edited(alloc, &mut editor) && writes(alloc, &mut editor, C_AND_ROOT)
-        }
-        None => false,
-    }
-}
-
 #[test]
 fn makes_chained_edits(rt: HostRuntime) {
-    assert!(rt; is_edited_and_written(rt.alloc()));
+    let mut editor = or_empty(rt.alloc(), stored_file(rt.alloc(), &[b"a", b"b"]));
+    assert!(rt; is_edited(rt.alloc(), &mut editor));
+    assert!(rt; writes(rt.alloc(), &mut editor, C_AND_ROOT));
 }
 
 /// The ids of the tree of the files `b` and `c`, and of the root with this tree at `a`.
@@ -84,11 +75,6 @@ const BOTH: &[&[u8]] = &[
     b"902b8b41da66fef3bfdbf578a9b45304b9114c0e",
     b"d79ed5c1e2ff97a59beb0fc1a1b79b68aa0be74a",
 ];
-
-/// Returns [`BOTH`].
-fn both() -> &'static [&'static [u8]] {
-    BOTH
-}
 
 /// Inserts the directory `a` of this id by a cursor, and returns whether that succeeds.
 fn is_inserted(alloc: Global, cursor: &mut Cursor<'_, Memory>, id: ObjectId) -> bool {
@@ -114,5 +100,33 @@ fn edits_in_directory_stored_by_cursor(rt: HostRuntime) {
     let mut editor = empty_editor(rt.alloc());
     assert!(rt; is_stored(rt.alloc(), &mut editor));
     assert!(rt; editor.lookups() == 1);
-    assert!(rt; writes(rt.alloc(), &mut editor, both()));
+    assert!(rt; writes(rt.alloc(), &mut editor, BOTH));
+}
+
+/// Inserts the file `b` by a cursor at the directory `a` after a use of its store, and returns whether that
+/// succeeds.
+fn is_inserted_after_use(alloc: Global, editor: &mut Editor<Memory>) -> bool {
+    let Some(mut cursor) = cursor_of(alloc, editor, b"a") else {
+        return false;
+    };
+    let _ = cursor.store_mut();
+    upserted_by(alloc, &mut cursor, b"b") == 0
+}
+
+/// Returns whether [`Editor::get`] returns the file at `a/b`.
+fn is_got(alloc: Global, editor: &Editor<Memory>) -> bool {
+    let Ok(file) = path_of(alloc, b"a b") else {
+        return false;
+    };
+    match editor.get(&file) {
+        Ok(Some(entry)) => entry.oid == FILE,
+        _ => false,
+    }
+}
+
+#[test]
+fn prefix_is_unchanged_after_use_of_store(rt: HostRuntime) {
+    let mut editor = empty_editor(rt.alloc());
+    assert!(rt; is_inserted_after_use(rt.alloc(), &mut editor));
+    assert!(rt; is_got(rt.alloc(), &editor));
 }

@@ -1,6 +1,6 @@
 //! Writes by cursors that fail, and later writes. Ids are those that `git mktree --missing` prints.
 
-use crate::samples::{cursor_of, emits, empty_editor, upserted, upserted_by, writes};
+use crate::samples::{are_upserted, cursor_of, emits, empty_editor, upserted, upserted_by, writes};
 use gixobj_base::Tree;
 use gixobj_base::hash::Kind as HashKind;
 use gixobj_editor::editor::{Cursor, Editor, WriteError};
@@ -22,13 +22,6 @@ fn stops_at(alloc: Global, cursor: &mut Cursor<'_, Memory>, number: u8) -> bool 
     };
     let stopped = matches!(cursor.write(out), Err(WriteError::Out(7)));
     stopped && calls == number
-}
-
-/// Inserts the files `a/x`, `b/y` and `c/d/z`, and returns whether that succeeds.
-fn are_inserted(alloc: Global, editor: &mut Editor<Memory>) -> bool {
-    upserted(alloc, editor, b"a x") == 0
-        && upserted(alloc, editor, b"b y") == 0
-        && upserted(alloc, editor, b"c d z") == 0
 }
 
 /// The id of the tree of the directory `c/d` with the file `z`.
@@ -53,11 +46,6 @@ const EMITTED: &[(&[u8], &[&[u8]])] = &[
     ),
 ];
 
-/// Returns [`EMITTED`].
-fn emitted() -> &'static [(&'static [u8], &'static [&'static [u8]])] {
-    EMITTED
-}
-
 /// Returns whether a write by a cursor that fails in the call of this number loses nothing. The next write
 /// emits trees of all these ids, and the one after it only the last.
 fn loses_nothing(
@@ -73,7 +61,7 @@ fn loses_nothing(
 /// Returns whether a write by a cursor at a directory that fails in one call loses nothing.
 fn loses_nothing_in(alloc: Global, directory: &[u8], number: u8, ids: &[&[u8]]) -> bool {
     let mut editor = empty_editor(alloc);
-    if !are_inserted(alloc, &mut editor) {
+    if !are_upserted(alloc, &mut editor, &[b"a x", b"b y", b"c d z"]) {
         return false;
     }
     match cursor_of(alloc, &mut editor, directory) {
@@ -96,7 +84,7 @@ fn loses_nothing_at_each_tree(alloc: Global, directory: &[u8], ids: &[&[u8]]) ->
 
 #[test]
 fn failed_out_at_each_tree(rt: HostRuntime) {
-    for (directory, ids) in emitted() {
+    for (directory, ids) in EMITTED {
         assert!(rt; loses_nothing_at_each_tree(rt.alloc(), directory, ids));
     }
 }
@@ -104,14 +92,12 @@ fn failed_out_at_each_tree(rt: HostRuntime) {
 /// Inserts the files `b/c` and `d` by a cursor at the directory `a`; returns whether a write by it stops at
 /// its second tree.
 fn stops_in_a(alloc: Global, editor: &mut Editor<Memory>) -> bool {
-    match cursor_of(alloc, editor, b"a") {
-        Some(mut cursor) => {
-            upserted_by(alloc, &mut cursor, b"b c") == 0
-                && upserted_by(alloc, &mut cursor, b"d") == 0
-                && stops_at(alloc, &mut cursor, 2)
-        }
-        None => false,
-    }
+    let Some(mut cursor) = cursor_of(alloc, editor, b"a") else {
+        return false;
+    };
+    upserted_by(alloc, &mut cursor, b"b c") == 0
+        && upserted_by(alloc, &mut cursor, b"d") == 0
+        && stops_at(alloc, &mut cursor, 2)
 }
 
 /// The ids of the trees of the directories `a/b` and `a` with the files `b/c` and `d`, and of the root that

@@ -1,12 +1,12 @@
 //! Entries that an editor and a cursor return after scripts; and names with a slash, which a script can't
 //! express.
 
-use crate::runs::samples::{editor_over, has_lookups};
 use crate::samples::{
     FILE, cursor_of, empty_editor, is_run, number, path_of, upserted, upserted_by, writes,
 };
-use gixobj_base::hash::ObjectId;
+use gixobj_base::hash::{Kind as HashKind, ObjectId};
 use gixobj_base::tree::{Entry, EntryKind};
+use gixobj_base::{OutOfMemory, Tree};
 use gixobj_editor::editor::{Cursor, Editor};
 use gixobj_find::Memory;
 use gixobj_find_tests::failing::Failing;
@@ -36,14 +36,17 @@ struct Row {
     lookups: u64,
 }
 
-const ROWS: &[Row] = &[
-    Row {
-        name: "shut-directories-and-files",
-        script: "upsert blob 0101010101010101010101010101010101010101 a/b
+/// A script that inserts the directory `a` by the id of a stored tree, which isn't opened.
+const SHUT: &str = "upsert blob 0101010101010101010101010101010101010101 a/b
 write
 root
 upsert tree ba0ec9c341e1d7e56243006b86ff39209e431800 a
-",
+";
+
+const ROWS: &[Row] = &[
+    Row {
+        name: "shut-directories-and-files",
+        script: SHUT,
         cursor: None,
         gets: &[
             (b"a", Got::Directory),
@@ -101,11 +104,7 @@ at a remove .
     },
     Row {
         name: "a-cursor-at-the-root",
-        script: "upsert blob 0101010101010101010101010101010101010101 a/b
-write
-root
-upsert tree ba0ec9c341e1d7e56243006b86ff39209e431800 a
-",
+        script: SHUT,
         cursor: Some(b"."),
         gets: &[(b"a", Got::Directory), (b"a c", Got::Nothing)],
         lookups: 0,
@@ -124,11 +123,7 @@ at . upsert blob 0101010101010101010101010101010101010101 a/c
     },
     Row {
         name: "files-of-a-directory",
-        script: "upsert blob 0101010101010101010101010101010101010101 a/b
-write
-root
-upsert tree ba0ec9c341e1d7e56243006b86ff39209e431800 a
-",
+        script: SHUT,
         cursor: Some(b"a"),
         gets: &[
             (b".", Got::Nothing),
@@ -139,17 +134,23 @@ upsert tree ba0ec9c341e1d7e56243006b86ff39209e431800 a
     },
 ];
 
-/// Returns [`ROWS`].
-fn rows() -> &'static [Row] {
-    ROWS
+/// Returns an editor of the empty root over a store without objects that counts its lookups.
+fn counting_editor(alloc: Global) -> Editor<Failing> {
+    let store = Failing::new(alloc, Memory::new(alloc), &[], &[]);
+    Editor::new(Tree::empty(alloc), store, HashKind::Sha1)
+}
+
+/// Returns whether the store and the editor count this number of lookups.
+fn has_lookups(editor: &mut Editor<Failing>, lookups: u64) -> bool {
+    editor.lookups() == lookups && editor.store_mut().lookups() == lookups
 }
 
 /// Returns whether an entry is the expected one.
-fn is_got(found: Option<&Entry>, wanted: Got) -> bool {
+fn is_got(found: Result<Option<&Entry>, OutOfMemory>, wanted: Got) -> bool {
     match (found, wanted) {
-        (None, Got::Nothing) => true,
-        (Some(entry), Got::Directory) => entry.mode.kind() == EntryKind::Tree,
-        (Some(entry), Got::Entry(kind, id)) => entry.mode.kind() == kind && entry.oid == id,
+        (Ok(None), Got::Nothing) => true,
+        (Ok(Some(entry)), Got::Directory) => entry.mode.kind() == EntryKind::Tree,
+        (Ok(Some(entry)), Got::Entry(kind, id)) => entry.mode.kind() == kind && entry.oid == id,
         _ => false,
     }
 }
@@ -157,10 +158,7 @@ fn is_got(found: Option<&Entry>, wanted: Got) -> bool {
 /// Returns whether [`Editor::get`] returns the expected entry for a path.
 fn gets(alloc: Global, editor: &Editor<Failing>, path: &[u8], wanted: Got) -> bool {
     match path_of(alloc, path) {
-        Ok(path) => match editor.get(&path) {
-            Ok(entry) => is_got(entry, wanted),
-            Err(_) => false,
-        },
+        Ok(path) => is_got(editor.get(&path), wanted),
         Err(_) => false,
     }
 }
@@ -168,10 +166,7 @@ fn gets(alloc: Global, editor: &Editor<Failing>, path: &[u8], wanted: Got) -> bo
 /// Returns whether [`Cursor::get`] returns the expected entry for a path.
 fn gets_by(alloc: Global, cursor: &Cursor<'_, Failing>, path: &[u8], wanted: Got) -> bool {
     match path_of(alloc, path) {
-        Ok(path) => match cursor.get(&path) {
-            Ok(entry) => is_got(entry, wanted),
-            Err(_) => false,
-        },
+        Ok(path) => is_got(cursor.get(&path), wanted),
         Err(_) => false,
     }
 }
@@ -207,7 +202,7 @@ fn gets_all(alloc: Global, editor: &mut Editor<Failing>, row: &Row) -> bool {
 /// Returns whether `get` returns all expected entries of a row after its script, with the expected number of
 /// lookups.
 fn is_all_got(alloc: Global, row: &Row) -> bool {
-    let mut editor = editor_over(alloc, &[], &[]);
+    let mut editor = counting_editor(alloc);
     is_run(alloc, &mut editor, row.script.as_bytes())
         && gets_all(alloc, &mut editor, row)
         && has_lookups(&mut editor, row.lookups)
@@ -215,7 +210,7 @@ fn is_all_got(alloc: Global, row: &Row) -> bool {
 
 #[test]
 fn returns_entries_after_scripts(rt: HostRuntime) {
-    for row in rows() {
+    for row in ROWS {
         assert!(rt; is_all_got(rt.alloc(), row), "{}", row.name);
     }
 }
@@ -241,20 +236,16 @@ fn is_inserted_deep(alloc: Global, editor: &mut Editor<Failing>) -> bool {
 
 /// Returns whether `get` returns the file at the path of a thousand names.
 fn is_got_deep(alloc: Global, editor: &Editor<Failing>) -> bool {
+    let wanted = Got::Entry(EntryKind::Blob, FILE);
     match thousand_names(alloc, b"d", b" d") {
-        Ok(path) => gets(
-            alloc,
-            editor,
-            path.as_slice(),
-            Got::Entry(EntryKind::Blob, FILE),
-        ),
+        Ok(path) => gets(alloc, editor, path.as_slice(), wanted),
         Err(_) => false,
     }
 }
 
 #[test]
 fn inserts_at_path_of_thousand_names(rt: HostRuntime) {
-    let mut editor = editor_over(rt.alloc(), &[], &[]);
+    let mut editor = counting_editor(rt.alloc());
     assert!(rt; is_inserted_deep(rt.alloc(), &mut editor));
     assert!(rt; is_got_deep(rt.alloc(), &editor));
 }
@@ -276,7 +267,7 @@ const WITH_A_SLASH: &[u8] = b"a b/c";
 #[test]
 fn rejects_names_with_slash(rt: HostRuntime) {
     let alloc = rt.alloc();
-    let mut editor = editor_over(alloc, &[], &[]);
+    let mut editor = counting_editor(alloc);
     assert!(rt; is_run(alloc, &mut editor, UNKNOWN_TREE));
     assert!(rt; upserted(alloc, &mut editor, b"a/b") == 2);
     assert!(rt; upserted(alloc, &mut editor, WITH_A_SLASH) == 2);
@@ -295,14 +286,12 @@ fn rejects_removal(alloc: Global, cursor: &mut Cursor<'_, Memory>) -> bool {
 /// Inserts the file `b` by a cursor at the directory `a`. Returns whether that succeeds, and the upsert of
 /// `c/d` and the removal of `b/c` fail.
 fn rejects_slashes(alloc: Global, editor: &mut Editor<Memory>) -> bool {
-    match cursor_of(alloc, editor, b"a") {
-        Some(mut cursor) => {
-            upserted_by(alloc, &mut cursor, b"b") == 0
-                && upserted_by(alloc, &mut cursor, b"c/d") == 2
-                && rejects_removal(alloc, &mut cursor)
-        }
-        None => false,
-    }
+    let Some(mut cursor) = cursor_of(alloc, editor, b"a") else {
+        return false;
+    };
+    upserted_by(alloc, &mut cursor, b"b") == 0
+        && upserted_by(alloc, &mut cursor, b"c/d") == 2
+        && rejects_removal(alloc, &mut cursor)
 }
 
 /// The ids, as `git mktree --missing` prints them, of the tree of the file `b`, and of the root with this

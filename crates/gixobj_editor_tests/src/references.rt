@@ -2,8 +2,8 @@
 //! Ids are those that `git mktree --missing` prints.
 
 use crate::samples::{
-    FILE, cursor_of, number, over_a_directory, path_of, push_entry, stored, stored_b, tree_of,
-    writes,
+    FILE, cursor_of, number, or_empty, over_a_directory, path_of, push_entry, stored, stored_b,
+    tree_of, writes,
 };
 use bstr::BString;
 use gixobj_base::Tree;
@@ -43,22 +43,22 @@ fn of_directories(alloc: Global) -> Option<Editor<Memory>> {
 /// The id of the root that has the directory `d`.
 const ROOT: &[u8] = b"01011506faae5bc4dc72cc34d48e0a13d7290d0c";
 
-/// Returns whether each edit by the editor at the path fails with the error of this number.
-fn editor_fails_with(editor: &mut Editor<Memory>, path: &[BString], error: u8) -> bool {
-    number(&editor.upsert(path, EntryKind::Blob, FILE)) == error
-        && number(&editor.remove(path)) == error
-        && answers_leaf(editor, path, error)
-}
-
 /// Returns whether `remove_leaf` by the editor returns the error of this number, or none for 0.
 fn answers_leaf(editor: &mut Editor<Memory>, path: &[BString], answer: u8) -> bool {
     number(&editor.remove_leaf(path)) == answer
 }
 
+/// Returns whether each edit by the editor at the path fails with the error of this number.
+fn fails_with(editor: &mut Editor<Memory>, path: &[BString], error: u8) -> bool {
+    number(&editor.upsert(path, EntryKind::Blob, FILE)) == error
+        && number(&editor.remove(path)) == error
+        && answers_leaf(editor, path, error)
+}
+
 /// Builds a path, and returns whether each edit by the editor at it fails with the error of this number.
-fn fails_by_editor(alloc: Global, editor: &mut Editor<Memory>, path: &[u8], error: u8) -> bool {
+fn fails(alloc: Global, editor: &mut Editor<Memory>, path: &[u8], error: u8) -> bool {
     match path_of(alloc, path) {
-        Ok(path) => editor_fails_with(editor, &path, error),
+        Ok(path) => fails_with(editor, &path, error),
         Err(_) => false,
     }
 }
@@ -72,46 +72,34 @@ fn is_leaf_answered(alloc: Global, editor: &mut Editor<Memory>, path: &[u8], ans
     }
 }
 
-/// Returns whether edits by an editor fail for an empty name, a slash in a name and a directory that the
-/// store lacks. The removal of a directory as a leaf has to fail too.
-fn all_fail_by_editor(alloc: Global, editor: &mut Editor<Memory>) -> bool {
-    fails_by_editor(alloc, editor, b"d a ", 1)
-        && fails_by_editor(alloc, editor, b"d a/b", 2)
-        && fails_by_editor(alloc, editor, b"d u x", 3)
-        && is_leaf_answered(alloc, editor, b"d a", 4)
-}
-
-/// Returns whether the edits by an editor fail, and a write emits the root unchanged.
-fn fails_all(alloc: Global) -> bool {
-    match of_directories(alloc) {
-        Some(mut editor) => {
-            all_fail_by_editor(alloc, &mut editor) && writes(alloc, &mut editor, &[ROOT])
-        }
-        None => false,
-    }
-}
-
+/// Edits by an editor fail for an empty name, a slash in a name and a directory that the store lacks. The
+/// removal of a directory as a leaf fails too.
 #[test]
 fn editor_is_unchanged_after_failed_edits(rt: HostRuntime) {
-    assert!(rt; fails_all(rt.alloc()));
+    let mut editor = or_empty(rt.alloc(), of_directories(rt.alloc()));
+    assert!(rt; fails(rt.alloc(), &mut editor, b"d a ", 1));
+    assert!(rt; fails(rt.alloc(), &mut editor, b"d a/b", 2));
+    assert!(rt; fails(rt.alloc(), &mut editor, b"d u x", 3));
+    assert!(rt; is_leaf_answered(rt.alloc(), &mut editor, b"d a", 4));
+    assert!(rt; writes(rt.alloc(), &mut editor, &[ROOT]));
 }
 
 /// Returns whether `remove_leaf` by the cursor fails with the error of this number.
-fn leaf_fails_with(cursor: &mut Cursor<'_, Memory>, path: &[BString], error: u8) -> bool {
+fn leaf_fails_by(cursor: &mut Cursor<'_, Memory>, path: &[BString], error: u8) -> bool {
     number(&cursor.remove_leaf(path)) == error
 }
 
 /// Returns whether each edit by the cursor at the path fails with the error of this number.
-fn fails_with(cursor: &mut Cursor<'_, Memory>, path: &[BString], error: u8) -> bool {
+fn fails_with_by(cursor: &mut Cursor<'_, Memory>, path: &[BString], error: u8) -> bool {
     number(&cursor.upsert(path, EntryKind::Blob, FILE)) == error
         && number(&cursor.remove(path)) == error
-        && leaf_fails_with(cursor, path, error)
+        && leaf_fails_by(cursor, path, error)
 }
 
 /// Builds a path, and returns whether each edit by the cursor at it fails with the error of this number.
 fn fails_by(alloc: Global, cursor: &mut Cursor<'_, Memory>, path: &[u8], error: u8) -> bool {
     match path_of(alloc, path) {
-        Ok(path) => fails_with(cursor, &path, error),
+        Ok(path) => fails_with_by(cursor, &path, error),
         Err(_) => false,
     }
 }
@@ -119,7 +107,7 @@ fn fails_by(alloc: Global, cursor: &mut Cursor<'_, Memory>, path: &[u8], error: 
 /// Returns whether the cursor fails to remove the directory `a` as a leaf.
 fn is_no_leaf(alloc: Global, cursor: &mut Cursor<'_, Memory>) -> bool {
     match path_of(alloc, b"a") {
-        Ok(directory) => leaf_fails_with(cursor, &directory, 4),
+        Ok(directory) => leaf_fails_by(cursor, &directory, 4),
         Err(_) => false,
     }
 }
@@ -127,28 +115,20 @@ fn is_no_leaf(alloc: Global, cursor: &mut Cursor<'_, Memory>) -> bool {
 /// Returns whether edits by a cursor at the directory `d` fail for an empty name, a slash in a name and a
 /// directory that the store lacks. The removal of a directory as a leaf has to fail too.
 fn all_fail(alloc: Global, editor: &mut Editor<Memory>) -> bool {
-    match cursor_of(alloc, editor, b"d") {
-        Some(mut cursor) => {
-            fails_by(alloc, &mut cursor, b"a ", 1)
-                && fails_by(alloc, &mut cursor, b"a/b", 2)
-                && fails_by(alloc, &mut cursor, b"u x", 3)
-                && is_no_leaf(alloc, &mut cursor)
-        }
-        None => false,
-    }
-}
-
-/// Returns whether the edits by a cursor fail, and a write by the editor emits the root unchanged.
-fn fails_all_by_a_cursor(alloc: Global) -> bool {
-    match of_directories(alloc) {
-        Some(mut editor) => { all_fail(alloc, &mut editor) && writes(alloc, &mut editor, &[ROOT]) }
-        None => false,
-    }
+    let Some(mut cursor) = cursor_of(alloc, editor, b"d") else {
+        return false;
+    };
+    fails_by(alloc, &mut cursor, b"a ", 1)
+        && fails_by(alloc, &mut cursor, b"a/b", 2)
+        && fails_by(alloc, &mut cursor, b"u x", 3)
+        && is_no_leaf(alloc, &mut cursor)
 }
 
 #[test]
 fn editor_is_unchanged_after_failed_edits_by_cursor(rt: HostRuntime) {
-    assert!(rt; fails_all_by_a_cursor(rt.alloc()));
+    let mut editor = or_empty(rt.alloc(), of_directories(rt.alloc()));
+    assert!(rt; all_fail(rt.alloc(), &mut editor));
+    assert!(rt; writes(rt.alloc(), &mut editor, &[ROOT]));
 }
 
 /// The ids of the tree of the directory `d` without the file `a/b`, and of the root that has it.
@@ -157,18 +137,9 @@ const WITHOUT_A_FILE: &[&[u8]] = &[
     b"4a6831fece856c4c40efe7fc134f559765d2ca54",
 ];
 
-/// Returns whether the editor removes the file as a leaf, and a write emits the changed trees.
-fn removes_a_leaf(alloc: Global) -> bool {
-    match of_directories(alloc) {
-        Some(mut editor) => {
-            is_leaf_answered(alloc, &mut editor, b"d a b", 0)
-                && writes(alloc, &mut editor, WITHOUT_A_FILE)
-        }
-        None => false,
-    }
-}
-
 #[test]
 fn editor_removes_leaf(rt: HostRuntime) {
-    assert!(rt; removes_a_leaf(rt.alloc()));
+    let mut editor = or_empty(rt.alloc(), of_directories(rt.alloc()));
+    assert!(rt; is_leaf_answered(rt.alloc(), &mut editor, b"d a b", 0));
+    assert!(rt; writes(rt.alloc(), &mut editor, WITHOUT_A_FILE));
 }

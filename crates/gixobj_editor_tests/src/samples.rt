@@ -4,11 +4,10 @@ use bstr::BString;
 use gixobj_base::hash::{Kind as HashKind, ObjectId};
 use gixobj_base::tree::{Entry, EntryKind};
 use gixobj_base::{Kind, Tree, WriteTo, encode};
-use gixobj_editor::Reply;
 use gixobj_editor::editor::{Cursor, Editor, Error, WriteError, Written};
 use gixobj_find::{Keep, Memory};
 use gixobj_object::Find;
-use gixobj_script::{edit_on, report_lines};
+use gixobj_script::edit_on;
 use std::alloc::{AllocError, Global};
 
 pub(crate) const FILE: ObjectId = ObjectId::Sha1([1; 20]);
@@ -112,6 +111,14 @@ pub(crate) fn empty_editor(alloc: Global) -> Editor<Memory> {
     Editor::new(Tree::empty(alloc), Memory::new(alloc), HashKind::Sha1)
 }
 
+/// Returns the editor, or an empty one if it can't be allocated.
+pub(crate) fn or_empty(alloc: Global, editor: Option<Editor<Memory>>) -> Editor<Memory> {
+    match editor {
+        Some(editor) => editor,
+        None => empty_editor(alloc),
+    }
+}
+
 /// Stores each tree on the path of these names to one file, and returns the root.
 fn stored_path(alloc: Global, store: &mut Memory, names: &[&[u8]]) -> Option<Tree> {
     let (mut kind, mut id) = (EntryKind::Blob, FILE);
@@ -134,23 +141,16 @@ pub(crate) fn stored_file(alloc: Global, names: &[&[u8]]) -> Option<Editor<Memor
     }
 }
 
-/// Returns the number of an error.
-pub(crate) fn number_of(error: &Error) -> u8 {
-    match error {
-        Error::EmptyPathComponent => 1,
-        Error::SlashInPathComponent => 2,
-        Error::FindExistingObject(_) => 3,
-        Error::CannotRemoveNonLeaf { .. } => 4,
-        Error::MalformedTree => 5,
-        Error::OutOfMemory => 6,
-    }
-}
-
 /// Returns the number of an error, or 0 for success.
 pub(crate) fn number<T>(answer: &Result<T, Error>) -> u8 {
     match answer {
         Ok(_) => 0,
-        Err(error) => number_of(error),
+        Err(Error::EmptyPathComponent) => 1,
+        Err(Error::SlashInPathComponent) => 2,
+        Err(Error::FindExistingObject(_)) => 3,
+        Err(Error::CannotRemoveNonLeaf { .. }) => 4,
+        Err(Error::MalformedTree) => 5,
+        Err(Error::OutOfMemory) => 6,
     }
 }
 
@@ -165,6 +165,20 @@ pub(crate) fn upserted<S: Find>(alloc: Global, editor: &mut Editor<S>, path: &[u
         Ok(path) => number(&insert(editor, &path)),
         Err(_) => NOT_CALLED,
     }
+}
+
+/// Inserts the file at each of these paths, and returns whether that succeeds.
+pub(crate) fn are_upserted<S: Find>(
+    alloc: Global,
+    editor: &mut Editor<S>,
+    paths: &[&[u8]],
+) -> bool {
+    for path in paths {
+        if upserted(alloc, editor, path) != 0 {
+            return false;
+        }
+    }
+    true
 }
 
 /// Returns a cursor at a directory, or `None` after an error.
@@ -195,19 +209,10 @@ pub(crate) fn upserted_by<S: Find>(alloc: Global, cursor: &mut Cursor<'_, S>, pa
     }
 }
 
-/// Runs a script on an editor, and returns its report, or `None` after an error.
-pub(crate) fn report_of<S: Keep>(
-    alloc: Global,
-    editor: &mut Editor<S>,
-    script: &[u8],
-) -> Option<Vec<u8>> {
-    let out = |tree: &Tree| tree.compute_id(alloc, HashKind::Sha1);
-    edit_on(alloc, editor, script, HashKind::Sha1, out).ok()
-}
-
 /// Runs a script on an editor, and returns whether it has a report.
 pub(crate) fn is_run<S: Keep>(alloc: Global, editor: &mut Editor<S>, script: &[u8]) -> bool {
-    report_of(alloc, editor, script).is_some()
+    let out = |tree: &Tree| tree.compute_id(alloc, HashKind::Sha1);
+    edit_on(alloc, editor, script, HashKind::Sha1, out).is_ok()
 }
 
 /// Returns whether a tree was emitted with this id, and the id is that of its encoding.
@@ -279,17 +284,4 @@ pub(crate) fn emits<S>(alloc: Global, cursor: &mut Cursor<'_, S>, ids: &[&[u8]])
 /// Returns whether a write emitted `count` trees, the last of this id.
 pub(crate) fn has_id_and_count(written: &Written, id: &str, count: usize) -> bool {
     ObjectId::from_hex(id.as_bytes()) == Some(written.id) && written.trees.len() == count
-}
-
-/// Returns whether the report of these replies and this number of lookups has these lines.
-pub(crate) fn reports_replies(
-    alloc: Global,
-    replies: &[Reply<encode::Error>],
-    lookups: u64,
-    lines: &str,
-) -> bool {
-    match report_lines(alloc, replies, lookups) {
-        Ok(report) => report.as_slice() == lines.as_bytes(),
-        Err(_) => false,
-    }
 }

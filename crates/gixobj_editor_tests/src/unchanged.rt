@@ -2,8 +2,8 @@
 //! entries and aren't emitted. Ids are those that `git mktree --missing` prints.
 
 use crate::samples::{
-    FILE, cursor_of, has_emitted, is_run, over_a_directory, push_entry, stored_file, tree_of,
-    upserted, written_by,
+    FILE, cursor_of, has_emitted, is_run, or_empty, over_a_directory, push_entry, stored_file,
+    tree_of, upserted, written_by,
 };
 use gixobj_base::Tree;
 use gixobj_base::hash::{Kind as HashKind, ObjectId};
@@ -50,11 +50,8 @@ const B_AND_C: &[u8] = b"902b8b41da66fef3bfdbf578a9b45304b9114c0e";
 
 const ROOT_OF_BOTH: &[u8] = b"d79ed5c1e2ff97a59beb0fc1a1b79b68aa0be74a";
 
-/// The trees that a write emits, and the number of unchanged directories that it counts.
-struct Saved {
-    saved: usize,
-    ids: &'static [&'static [u8]],
-}
+/// The number of unchanged directories that a write counts, and the trees that it emits.
+type Saved = (usize, &'static [&'static [u8]]);
 
 /// An editor of one stored file, and a script. After it a cursor at the directory `a` writes, if the row has
 /// such a write, and then the editor.
@@ -66,118 +63,92 @@ struct Row {
     by_the_editor: Saved,
 }
 
+/// The path of the stored file of most rows.
+const ABC: &[&[u8]] = &[b"a", b"b", b"c"];
+
 const ROWS: &[Row] = &[
     Row {
         name: "files-put-in-and-taken-out-1",
-        stored: &[b"a", b"b", b"c"],
+        stored: ABC,
         script: "upsert blob 0101010101010101010101010101010101010101 a/b/d
 remove a/b/d
 ",
         by_a_cursor: None,
-        by_the_editor: Saved {
-            saved: 2,
-            ids: &[ROOT],
-        },
+        by_the_editor: (2, &[ROOT]),
     },
     Row {
         name: "files-put-in-and-taken-out-2",
-        stored: &[b"a", b"b", b"c"],
+        stored: ABC,
         script: "upsert blob 0101010101010101010101010101010101010101 a/b/c
 upsert blob 0101010101010101010101010101010101010101 a/d
 remove a/b/none
 ",
         by_a_cursor: None,
-        by_the_editor: Saved {
-            saved: 1,
-            ids: &[A_WITH_D, ROOT_WITH_D],
-        },
+        by_the_editor: (1, &[A_WITH_D, ROOT_WITH_D]),
     },
     Row {
         name: "files-put-in-and-taken-out-3",
-        stored: &[b"a", b"b", b"c"],
+        stored: ABC,
         script: "remove a/none
 ",
         by_a_cursor: None,
-        by_the_editor: Saved {
-            saved: 1,
-            ids: &[ROOT],
-        },
+        by_the_editor: (1, &[ROOT]),
     },
     Row {
         name: "files-put-in-and-taken-out-4",
-        stored: &[b"a", b"b", b"c"],
+        stored: ABC,
         script: "upsert blob 0101010101010101010101010101010101010101 q
 remove a/b/c
 ",
         by_a_cursor: None,
-        by_the_editor: Saved {
-            saved: 0,
-            ids: &[b"0985bd2d2ac8c9c494f52be5d806e790f4fca759"],
-        },
+        by_the_editor: (0, &[b"0985bd2d2ac8c9c494f52be5d806e790f4fca759"]),
     },
     Row {
         name: "files-put-in-and-taken-out-5",
-        stored: &[b"a", b"b", b"c"],
+        stored: ABC,
         script: "upsert blob 0101010101010101010101010101010101010101 a/b/d
 remove a/b/c/d
 ",
         by_a_cursor: None,
-        by_the_editor: Saved {
-            saved: 0,
-            ids: &[
+        by_the_editor: (
+            0,
+            &[
                 b"913a84bc4f5451d6f909bed48c12f6c8f0f111fd",
                 b"7206ab6af4e031c645838a14c5f30885db43df5e",
                 b"2025f53f15ab6f7cfc8e9b8c993ff8dc56aa50aa",
             ],
-        },
+        ),
     },
     // The directory of a cursor is compared with its base also after a write by the cursor.
     Row {
         name: "a-cursors-write-and-then-the-root-1",
-        stored: &[b"a", b"b", b"c"],
+        stored: ABC,
         script: "at a upsert blob 0101010101010101010101010101010101010101 b/c
 ",
-        by_a_cursor: Some(Saved {
-            saved: 1,
-            ids: &[A],
-        }),
-        by_the_editor: Saved {
-            saved: 1,
-            ids: &[ROOT],
-        },
+        by_a_cursor: Some((1, &[A])),
+        by_the_editor: (1, &[ROOT]),
     },
     Row {
         name: "a-cursors-write-and-then-the-root-2",
         stored: &[b"a", b"b"],
         script: "at a upsert blob 0101010101010101010101010101010101010101 c
 ",
-        by_a_cursor: Some(Saved {
-            saved: 0,
-            ids: &[B_AND_C],
-        }),
-        by_the_editor: Saved {
-            saved: 0,
-            ids: &[B_AND_C, ROOT_OF_BOTH],
-        },
+        by_a_cursor: Some((0, &[B_AND_C])),
+        by_the_editor: (0, &[B_AND_C, ROOT_OF_BOTH]),
     },
 ];
 
-/// Returns [`ROWS`].
-fn rows() -> &'static [Row] {
-    ROWS
-}
-
 /// Returns whether a write by a cursor emits the expected trees, and counts the expected unchanged
 /// directories.
-fn saves_by(alloc: Global, cursor: &mut Cursor<'_, Memory>, wanted: &Saved) -> bool {
+fn saves_by(alloc: Global, cursor: &mut Cursor<'_, Memory>, wanted: Saved) -> bool {
     match written_by(alloc, cursor) {
-        Ok(written) => is_saved(alloc, &written, wanted.saved, wanted.ids),
+        Ok(written) => is_saved(alloc, &written, wanted.0, wanted.1),
         Err(_) => false,
     }
 }
 
 /// Returns whether a write by a cursor at the directory `a` is the expected one, if any is expected.
-fn saves_at_a(alloc: Global, editor: &mut Editor<Memory>, wanted: &Option<Saved>) -> bool {
+fn saves_at_a(alloc: Global, editor: &mut Editor<Memory>, wanted: Option<Saved>) -> bool {
     let Some(wanted) = wanted else {
         return true;
     };
@@ -187,30 +158,17 @@ fn saves_at_a(alloc: Global, editor: &mut Editor<Memory>, wanted: &Option<Saved>
     }
 }
 
-/// Runs the script of a row on its editor; returns whether the script is run, and the writes after it are the
-/// expected ones.
-fn are_written_of(alloc: Global, editor: &mut Editor<Memory>, row: &Row) -> bool {
-    is_run(alloc, editor, row.script.as_bytes())
-        && saves_at_a(alloc, editor, &row.by_a_cursor)
-        && saves(
-            alloc,
-            editor,
-            row.by_the_editor.saved,
-            row.by_the_editor.ids,
-        )
-}
-
-/// Returns whether the writes after the script of a row are the expected ones.
+/// Returns whether the script of a row is run, and the writes after it are the expected ones.
 fn are_written(alloc: Global, row: &Row) -> bool {
-    match stored_file(alloc, row.stored) {
-        Some(mut editor) => are_written_of(alloc, &mut editor, row),
-        None => false,
-    }
+    let mut editor = or_empty(alloc, stored_file(alloc, row.stored));
+    is_run(alloc, &mut editor, row.script.as_bytes())
+        && saves_at_a(alloc, &mut editor, row.by_a_cursor)
+        && saves(alloc, &mut editor, row.by_the_editor.0, row.by_the_editor.1)
 }
 
 #[test]
 fn emits_no_unchanged_directory(rt: HostRuntime) {
-    for row in rows() {
+    for row in ROWS {
         assert!(rt; are_written(rt.alloc(), row), "{}", row.name);
     }
 }
@@ -248,21 +206,12 @@ fn writes_by_an_old_id(alloc: Global, editor: &mut Editor<Memory>) -> bool {
     }
 }
 
-/// Inserts the file `a/b/d` next to the stored file `c`; returns whether that and the write of
-/// [`writes_by_an_old_id`] succeed.
-fn is_inserted_and_written(alloc: Global) -> bool {
-    match stored_file(alloc, &[b"a", b"b", b"c"]) {
-        Some(mut editor) => {
-            upserted(alloc, &mut editor, b"a b d") == 0 && writes_by_an_old_id(alloc, &mut editor)
-        }
-        None => false,
-    }
-}
-
 /// A changed directory gets the id that its entry had, so the directory above it is unchanged.
 #[test]
 fn parent_is_unchanged_if_directory_gets_previous_id(rt: HostRuntime) {
-    assert!(rt; is_inserted_and_written(rt.alloc()));
+    let mut editor = or_empty(rt.alloc(), stored_file(rt.alloc(), ABC));
+    assert!(rt; upserted(rt.alloc(), &mut editor, b"a b d") == 0);
+    assert!(rt; writes_by_an_old_id(rt.alloc(), &mut editor));
 }
 
 /// An id that isn't the digest of the tree that a store has by it.
@@ -289,21 +238,17 @@ fn is_kept(alloc: Global, store: &mut Memory, other: Option<ObjectId>) -> bool {
 /// [`b_and_another`].
 fn over_no_digest(alloc: Global, other: Option<ObjectId>) -> Option<Editor<Memory>> {
     let mut store = Memory::new(alloc);
-    if !is_kept(alloc, &mut store, other) {
-        return None;
+    match is_kept(alloc, &mut store, other) {
+        true => over_a_directory(alloc, b"a", NO_DIGEST, store),
+        false => None,
     }
-    over_a_directory(alloc, b"a", NO_DIGEST, store)
 }
 
 /// Inserts the file `a/b`, which exists already; returns whether the write after it emits these trees and
 /// counts `saved` directories.
 fn saves_the_same(alloc: Global, other: Option<ObjectId>, saved: usize, ids: &[&[u8]]) -> bool {
-    match over_no_digest(alloc, other) {
-        Some(mut editor) => {
-            upserted(alloc, &mut editor, b"a b") == 0 && saves(alloc, &mut editor, saved, ids)
-        }
-        None => false,
-    }
+    let mut editor = or_empty(alloc, over_no_digest(alloc, other));
+    upserted(alloc, &mut editor, b"a b") == 0 && saves(alloc, &mut editor, saved, ids)
 }
 
 /// The id of the root that has the directory by [`NO_DIGEST`], and the ids of the trees that are emitted for

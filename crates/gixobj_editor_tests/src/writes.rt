@@ -2,7 +2,8 @@
 //! that `git mktree --missing` prints.
 
 use crate::samples::{
-    cursor_of, empty_editor, has_emitted, over_a_directory, path_of, stored_b, upserted,
+    are_upserted, cursor_of, empty_editor, has_emitted, over_a_directory, path_of, stored_b,
+    upserted,
 };
 use crate::unchanged::saves;
 use gixobj_base::Tree;
@@ -42,19 +43,13 @@ const ALL_THREE: &[&[u8]] = &[
     b"77bbb40fde4f7afc2609858ec55da053db6ba24f",
 ];
 
-/// Returns [`ALL_THREE`].
-fn all_three() -> &'static [&'static [u8]] {
-    ALL_THREE
-}
-
 #[test]
 fn failed_out(rt: HostRuntime) {
     let alloc = rt.alloc();
     let mut editor = empty_editor(alloc);
-    assert!(rt; upserted(alloc, &mut editor, b"a x") == 0);
-    assert!(rt; upserted(alloc, &mut editor, b"b y") == 0);
+    assert!(rt; are_upserted(alloc, &mut editor, &[b"a x", b"b y"]));
     assert!(rt; stops_at_the_second(alloc, &mut editor));
-    assert!(rt; writes_by_borrowed_closure(alloc, &mut editor, all_three()));
+    assert!(rt; writes_by_borrowed_closure(alloc, &mut editor, ALL_THREE));
 }
 
 /// Returns whether a write emitted two trees, and the second is empty.
@@ -138,12 +133,10 @@ fn save_in_both(alloc: Global, editor: &mut Editor<&Memory>) -> bool {
 /// Returns whether a copy and its editor write the same, after the edits in an editor of the stored directory
 /// `a`.
 fn copies_directories(alloc: Global, store: &Memory, id: ObjectId) -> bool {
-    match over_a_directory(alloc, b"a", id, store) {
-        Some(mut editor) => {
-            edit_in_directories(alloc, &mut editor) && save_in_both(alloc, &mut editor)
-        }
-        None => false,
-    }
+    let Some(mut editor) = over_a_directory(alloc, b"a", id, store) else {
+        return false;
+    };
+    edit_in_directories(alloc, &mut editor) && save_in_both(alloc, &mut editor)
 }
 
 /// Returns whether a copy and its editor write the same over a store of the directory of the file `b`.

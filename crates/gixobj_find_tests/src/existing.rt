@@ -3,9 +3,11 @@
 
 use crate::failing::Failing;
 use crate::samples::{KINDS, bytes_of, id_of_bytes};
-use gix_object::find::{existing, existing_iter, existing_object};
-use gix_object::hash::{Kind as HashKind, ObjectId};
-use gix_object::{FindExt, HeaderExt, Kind, Memory, OutOfMemory, Store, decode, find};
+use gixobj_find::find::{existing, existing_iter, existing_object};
+use gixobj_find::{FindExt, HeaderExt, Memory, find};
+use gixobj_hash::hash::{Kind as HashKind, ObjectId};
+use gixobj_hash::{Kind, OutOfMemory, decode};
+use gixobj_object::Store;
 use std::alloc::Global;
 use std::test::Fail;
 

@@ -1,10 +1,13 @@
 //! The store without objects.
 
 use crate::samples::{id, id_of_bytes, is_id};
-use gix_object::find::Never;
-use gix_object::hash::{Kind as HashKind, ObjectId};
-use gix_object::{Exists, Find, FindHeader, Kind, ObjectRef, Write, stream_hash, write};
 use gixobj_base_tests::limited::Stepping;
+use gixobj_fields::stream_hash;
+use gixobj_find::find::Never;
+use gixobj_find::{Write, write};
+use gixobj_hash::Kind;
+use gixobj_hash::hash::{Kind as HashKind, ObjectId};
+use gixobj_object::{Exists, Find, FindHeader, ObjectRef};
 use std::alloc::Global;
 use std::test::Fail;
 

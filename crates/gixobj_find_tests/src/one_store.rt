@@ -3,8 +3,9 @@
 use crate::existing::{Answer, finds_the_empty_tree, found, found_reader};
 use crate::failing::Failing;
 use crate::samples::two_trees;
-use gix_object::hash::{Kind as HashKind, ObjectId};
-use gix_object::{FindExt, Kind, Memory, OutOfMemory, decode};
+use gixobj_find::{FindExt, Memory};
+use gixobj_hash::hash::{Kind as HashKind, ObjectId};
+use gixobj_hash::{Kind, OutOfMemory, decode};
 use std::alloc::Global;
 use std::test::Fail;
 

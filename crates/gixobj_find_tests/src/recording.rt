@@ -1,8 +1,10 @@
 //! A store that records the streams that are written into it.
 
 use bstr::BString;
-use gix_object::hash::{Kind as HashKind, ObjectId};
-use gix_object::{Kind, Write, stream_hash, write};
+use gixobj_fields::stream_hash;
+use gixobj_find::{Write, write};
+use gixobj_hash::Kind;
+use gixobj_hash::hash::{Kind as HashKind, ObjectId};
 use std::alloc::Global;
 use std::cell::RefCell;
 use std::io::Read;

@@ -1,8 +1,9 @@
 //! Objects that several tests look up.
 
 use bstr::BString;
-use gix_object::hash::{Kind as HashKind, ObjectId};
-use gix_object::{Kind, Memory, OutOfMemory, write};
+use gixobj_find::{Memory, write};
+use gixobj_hash::hash::{Kind as HashKind, ObjectId};
+use gixobj_hash::{Kind, OutOfMemory};
 use std::alloc::{AllocError, Global};
 
 /// The kinds of objects.

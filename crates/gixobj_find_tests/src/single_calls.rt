@@ -3,10 +3,12 @@
 
 use crate::recording::{Recorder, Stream};
 use crate::samples::{is_id, names};
-use gix_object::find::Never;
-use gix_object::hash::{Kind as HashKind, ObjectId};
-use gix_object::tree::next_entry;
-use gix_object::{Data, Kind, Write};
+use gixobj_find::Write;
+use gixobj_find::find::Never;
+use gixobj_hash::Kind;
+use gixobj_hash::hash::{Kind as HashKind, ObjectId};
+use gixobj_object::Data;
+use gixobj_object::tree::next_entry;
 use std::alloc::Global;
 use std::ops::ControlFlow;
 use std::rc::Rc;

@@ -2,9 +2,11 @@
 
 use crate::samples::{id_of_bytes, names};
 use bstr::BString;
-use gix_object::hash::{Kind as HashKind, ObjectId};
-use gix_object::tree::{EntryRef, next_entry};
-use gix_object::{Data, Kind};
+use gixobj_hash::Kind;
+use gixobj_hash::hash::{Kind as HashKind, ObjectId};
+use gixobj_object::Data;
+use gixobj_object::tree::next_entry;
+use gixobj_tree::tree::EntryRef;
 use std::alloc::Global;
 use std::ops::ControlFlow;
 

@@ -3,9 +3,14 @@
 use crate::recording::{Recorder, Stream};
 use crate::samples::{KINDS, bytes_of, id_of_bytes, is_id};
 use bstr::BString;
-use gix_object::hash::{Kind as HashKind, ObjectId};
-use gix_object::tree::{Entry, EntryKind};
-use gix_object::{BlobRef, Kind, ObjectRef, Tree, Write, WriteTo, encode, write};
+use gixobj_fields::{WriteTo, encode};
+use gixobj_find::{Write, write};
+use gixobj_hash::Kind;
+use gixobj_hash::hash::{Kind as HashKind, ObjectId};
+use gixobj_mode::EntryKind;
+use gixobj_object::ObjectRef;
+use gixobj_tree::tree::Entry;
+use gixobj_tree::{BlobRef, Tree};
 use std::alloc::{AllocError, Global};
 use std::rc::Rc;
 use std::test::Fail;

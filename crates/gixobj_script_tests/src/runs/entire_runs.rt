@@ -1,9 +1,8 @@
 //! A run of the entire script of ten lines, in which any allocation may fail. The replies after the one for
 //! memory follow from the commands that succeeded and the trees that were kept.
 
-use crate::runs::allocation_failures::{Ample, Outcome, ample_replies, outcome_of};
-use crate::runs::samples::{TEN_LINES, commands_of, editor_over, replies_to, run_on};
-use crate::samples::number_of;
+use crate::runs::allocation_failures::{Ample, Outcome, ample_replies, edit_reply, outcome_of};
+use crate::runs::samples::{TEN_LINES, editor_over, number_of, replies_to};
 use gixobj_base::encode;
 use gixobj_base::hash::ObjectId;
 use gixobj_editor::editor::{Editor, Error};
@@ -34,20 +33,11 @@ fn edit_effect(reply: &EditReply<encode::Error>) -> Effect {
     }
 }
 
-/// Returns what the first edit in a directory did.
-fn first_effect(replies: &[EditReply<encode::Error>]) -> Option<Effect> {
-    match replies.first() {
-        Some(reply) => Some(edit_effect(reply)),
-        None => None,
-    }
-}
-
-/// Returns what the command of a reply did; each command in a directory has one edit.
+/// Returns what the command of a reply did.
 fn effect_of(reply: &Reply<encode::Error>) -> Option<Effect> {
-    match reply {
-        Reply::Edit(reply) => Some(edit_effect(reply)),
-        Reply::At(replies) => first_effect(replies.as_slice()),
-        Reply::AtRefused(error) => Some(Effect::Failed(number_of(error))),
+    match (reply, edit_reply(reply)) {
+        (Reply::AtRefused(error), _) => Some(Effect::Failed(number_of(error))),
+        (_, Some(reply)) => Some(edit_effect(reply)),
         _ => None,
     }
 }
@@ -63,38 +53,20 @@ enum Stop {
     Other,
 }
 
-/// Classifies the replies to the edits in a directory, of which there is one.
-fn outcome_of_one(replies: &[EditReply<encode::Error>], ample: Ample) -> Outcome {
-    match replies {
-        [reply] => outcome_of(reply, ample),
-        _ => Outcome::Other,
-    }
-}
-
 /// Classifies the reply to a command; an edit in a directory counts as its command.
 fn outcome_of_command(reply: &Reply<encode::Error>, ample: Ample) -> Outcome {
-    match reply {
-        Reply::Edit(reply) => outcome_of(reply, ample),
-        Reply::At(replies) => outcome_of_one(replies.as_slice(), ample),
-        Reply::AtRefused(Error::OutOfMemory) => Outcome::OutOfMemory,
+    match (reply, edit_reply(reply)) {
+        (Reply::AtRefused(Error::OutOfMemory), _) => Outcome::OutOfMemory,
+        (_, Some(reply)) => outcome_of(reply, ample),
         _ => Outcome::Other,
-    }
-}
-
-/// Returns the number of kept trees, if the reply is that not all were kept for lack of memory.
-fn count_kept(reply: Option<&EditReply<encode::Error>>) -> Option<usize> {
-    match reply {
-        Some(EditReply::NotKept(_, count, KeepError::OutOfMemory)) => Some(*count),
-        _ => None,
     }
 }
 
 /// Returns the number of kept trees, if the reply to the command is that not all were kept for lack of
 /// memory.
 fn kept_in_part(reply: &Reply<encode::Error>) -> Option<usize> {
-    match reply {
-        Reply::Edit(reply) => count_kept(Some(reply)),
-        Reply::At(replies) => count_kept(replies.first()),
+    match edit_reply(reply) {
+        Some(EditReply::NotKept(_, count, KeepError::OutOfMemory)) => Some(*count),
         _ => None,
     }
 }
@@ -161,9 +133,9 @@ fn replies_anew(
 
 /// Returns whether there is a reply, and its command did the same as that of another.
 fn has_same_effect(reply: Option<&Reply<encode::Error>>, other: &Reply<encode::Error>) -> bool {
-    match reply {
-        Some(reply) => effect_of(reply) == effect_of(other),
-        None => false,
+    match (reply, effect_of(other)) {
+        (Some(reply), Some(effect)) => effect_of(reply) == Some(effect),
+        _ => false,
     }
 }
 
@@ -229,20 +201,15 @@ fn has_ample_replies(alloc: Global, editor: &mut Editor<Failing>) -> bool {
 
 /// Returns whether the replies of a run follow from what succeeded. If the entire run fails, nothing was
 /// done, and it is repeated.
-fn replies_follow(alloc: Global) -> Result<bool, AllocError> {
-    let commands = commands_of(alloc, TEN_LINES)?;
+fn replies_follow(alloc: Global) -> bool {
     let mut editor = editor_over(alloc, &[], &[]);
-    match run_on(alloc, &mut editor, commands) {
-        Ok(replies) => Ok(follow(alloc, replies.as_slice())),
-        Err(_) => Ok(has_ample_replies(alloc, &mut editor)),
+    match replies_to(alloc, &mut editor, TEN_LINES) {
+        Some(replies) => follow(alloc, replies.as_slice()),
+        None => has_ample_replies(alloc, &mut editor),
     }
 }
 
 #[test]
 fn runs_entire_script_whatever_allocation_fails(rt: HostRuntime) {
-    let same = match replies_follow(rt.alloc()) {
-        Ok(same) => same,
-        Err(_) => replies_follow(rt.alloc()) == Ok(true),
-    };
-    assert!(rt; same);
+    assert!(rt; replies_follow(rt.alloc()));
 }

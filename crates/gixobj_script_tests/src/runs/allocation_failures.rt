@@ -2,14 +2,13 @@
 //! memory, and the other replies are unchanged. A failed command that is repeated has the reply that it has
 //! with ample memory.
 
-use crate::runs::samples::{TEN_LINES, commands_of, editor_over, run_on};
-use crate::samples::has_id_and_count;
+use crate::runs::samples::{TEN_LINES, editor_over, has_id_and_count, replies_to};
 use gixobj_base::encode;
 use gixobj_editor::editor::{Editor, Error, WriteError, Written};
 use gixobj_editor::{EditReply, Reply};
 use gixobj_find::{Keep, KeepError};
 use gixobj_find_tests::failing::Failing;
-use std::alloc::{AllocError, Global};
+use std::alloc::Global;
 
 /// The reply to a command with ample memory.
 #[derive(Clone, Copy)]
@@ -132,6 +131,18 @@ fn unkept_outcome(
     }
 }
 
+/// Returns the reply to the one edit or write of a command.
+pub(crate) fn edit_reply(reply: &Reply<encode::Error>) -> Option<&EditReply<encode::Error>> {
+    match reply {
+        Reply::Edit(reply) => Some(reply),
+        Reply::At(replies) => match replies.as_slice() {
+            [reply] => Some(reply),
+            _ => None,
+        },
+        _ => None,
+    }
+}
+
 /// Classifies the reply to one edit or write.
 fn edit_outcome(
     editor: &mut Editor<Failing>,
@@ -146,72 +157,57 @@ fn edit_outcome(
     }
 }
 
-/// Classifies the replies to the edits in a directory, of which there is one.
-fn directory_outcome(
+/// Classifies the reply to one command.
+fn command_outcome(
     editor: &mut Editor<Failing>,
-    replies: &[EditReply<encode::Error>],
+    reply: &Reply<encode::Error>,
     ample: Ample,
 ) -> Outcome {
-    match replies {
-        [reply] => edit_outcome(editor, reply, ample),
+    match (reply, edit_reply(reply)) {
+        (Reply::AtRefused(Error::OutOfMemory), _) => Outcome::OutOfMemory,
+        (_, Some(reply)) => edit_outcome(editor, reply, ample),
         _ => Outcome::Other,
     }
 }
 
 /// Classifies the replies to one command.
-fn command_outcome(
+fn outcome_of_one(
     editor: &mut Editor<Failing>,
     replies: &[Reply<encode::Error>],
     ample: Ample,
 ) -> Outcome {
     match replies {
-        [Reply::Edit(reply)] => edit_outcome(editor, reply, ample),
-        [Reply::AtRefused(Error::OutOfMemory)] => Outcome::OutOfMemory,
-        [Reply::At(replies)] => directory_outcome(editor, replies.as_slice(), ample),
+        [reply] => command_outcome(editor, reply, ample),
         _ => Outcome::Other,
     }
 }
 
 /// Runs the command of a line alone, and classifies its reply.
-fn line_outcome(
-    alloc: Global,
-    editor: &mut Editor<Failing>,
-    line: &str,
-    ample: Ample,
-) -> Result<Outcome, AllocError> {
-    let commands = commands_of(alloc, line)?;
-    match run_on(alloc, editor, commands) {
-        Ok(replies) => Ok(command_outcome(editor, &replies, ample)),
-        Err(_) => Ok(Outcome::OutOfMemory),
+fn line_outcome(alloc: Global, editor: &mut Editor<Failing>, line: &str, ample: Ample) -> Outcome {
+    match replies_to(alloc, editor, line) {
+        Some(replies) => outcome_of_one(editor, replies.as_slice(), ample),
+        None => Outcome::OutOfMemory,
     }
 }
 
 /// Returns whether the command of a line has its reply, at once or in a second run after an allocation
 /// failed.
-fn gets(
-    alloc: Global,
-    editor: &mut Editor<Failing>,
-    line: &str,
-    ample: Ample,
-) -> Result<bool, AllocError> {
-    match line_outcome(alloc, editor, line, ample)? {
-        Outcome::Ample => Ok(true),
-        Outcome::OutOfMemory => Ok(matches!(
-            line_outcome(alloc, editor, line, ample)?,
-            Outcome::Ample
-        )),
-        Outcome::Other => Ok(false),
+fn gets(alloc: Global, editor: &mut Editor<Failing>, line: &str, ample: Ample) -> bool {
+    match line_outcome(alloc, editor, line, ample) {
+        Outcome::Ample => true,
+        Outcome::OutOfMemory => matches!(line_outcome(alloc, editor, line, ample), Outcome::Ample),
+        Outcome::Other => false,
     }
 }
 
 /// Returns whether each command has its reply.
-fn each_gets(alloc: Global, editor: &mut Editor<Failing>) -> Result<bool, AllocError> {
+fn each_gets(alloc: Global, editor: &mut Editor<Failing>) -> bool {
     for (line, ample) in TEN_LINES.lines().zip(ample_replies()) {
-        if !gets(alloc, editor, line, *ample)? {
-            return Ok(false);
+        if !gets(alloc, editor, line, *ample) {
+            return false;
         }
     }
-    Ok(true)
+    true
 }
 
 /// Returns whether the editor counts the lookups of the store: two, or three if one was repeated.
@@ -220,17 +216,9 @@ fn is_counted(editor: &mut Editor<Failing>) -> bool {
     lookups == editor.store_mut().lookups() && (2..4).contains(&lookups)
 }
 
-/// Returns whether each command has its reply, and the lookups are counted.
-fn all_get(alloc: Global) -> Result<bool, AllocError> {
-    let mut editor = editor_over(alloc, &[], &[]);
-    Ok(each_gets(alloc, &mut editor)? && is_counted(&mut editor))
-}
-
 #[test]
 fn runs_each_command_whatever_allocation_fails(rt: HostRuntime) {
-    let same = match all_get(rt.alloc()) {
-        Ok(same) => same,
-        Err(_) => all_get(rt.alloc()) == Ok(true),
-    };
-    assert!(rt; same);
+    let mut editor = editor_over(rt.alloc(), &[], &[]);
+    assert!(rt; each_gets(rt.alloc(), &mut editor));
+    assert!(rt; is_counted(&mut editor));
 }

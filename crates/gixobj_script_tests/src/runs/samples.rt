@@ -1,16 +1,17 @@
 //! Scripts and commands that several tests run, and functions that run them.
 
-use crate::samples::FILE;
 use bstr::BString;
-use gixobj_base::hash::Kind as HashKind;
+use gixobj_base::hash::{Kind as HashKind, ObjectId};
 use gixobj_base::tree::EntryKind;
 use gixobj_base::{OutOfMemory, Tree, encode};
-use gixobj_editor::editor::Editor;
+use gixobj_editor::editor::{Editor, Error, Written};
 use gixobj_editor::{Command, Edit, Reply, run};
 use gixobj_find::Memory;
 use gixobj_find_tests::failing::Failing;
-use gixobj_script::parse_script;
+use gixobj_script::{parse_script, report_lines};
 use std::alloc::{AllocError, Global};
+
+pub(crate) const FILE: ObjectId = ObjectId::Sha1([1; 20]);
 
 /// Edits before and after writes: an emitted directory is looked up again.
 pub(crate) const TEN_LINES: &str = "upsert blob fa49b077972391ad58037050f2a75f74e3671e92 new.txt
@@ -75,11 +76,6 @@ pub(crate) fn replies_to(
     }
 }
 
-/// Returns whether the store and the editor count this number of lookups.
-pub(crate) fn has_lookups(editor: &mut Editor<Failing>, lookups: u64) -> bool {
-    editor.lookups() == lookups && editor.store_mut().lookups() == lookups
-}
-
 /// Builds an edit that inserts a file of this name.
 pub(crate) fn insertion_of(alloc: Global, name: &[u8]) -> Result<Edit, AllocError> {
     let name = BString::from_slice(alloc, name)?;
@@ -125,5 +121,35 @@ pub(crate) fn replies_on_empty(
     match commands {
         Ok(commands) => run_on(alloc, &mut editor, commands).ok(),
         Err(_) => None,
+    }
+}
+
+/// Returns the number of an error.
+pub(crate) fn number_of(error: &Error) -> u8 {
+    match error {
+        Error::EmptyPathComponent => 1,
+        Error::SlashInPathComponent => 2,
+        Error::FindExistingObject(_) => 3,
+        Error::CannotRemoveNonLeaf { .. } => 4,
+        Error::MalformedTree => 5,
+        Error::OutOfMemory => 6,
+    }
+}
+
+/// Returns whether a write emitted `count` trees, the last of this id.
+pub(crate) fn has_id_and_count(written: &Written, id: &str, count: usize) -> bool {
+    ObjectId::from_hex(id.as_bytes()) == Some(written.id) && written.trees.len() == count
+}
+
+/// Returns whether the report of these replies and this number of lookups has these lines.
+pub(crate) fn reports(
+    alloc: Global,
+    replies: &[Reply<encode::Error>],
+    lookups: u64,
+    lines: &str,
+) -> bool {
+    match report_lines(alloc, replies, lookups) {
+        Ok(report) => report.as_slice() == lines.as_bytes(),
+        Err(_) => false,
     }
 }

@@ -1,10 +1,12 @@
 //! A failed edit between others in a directory, and a root that is rejected: the rest of the run is done.
 
-use crate::runs::samples::{in_a_and_written, insertion_of, push_insert, replies_on_empty};
-use crate::samples::{FILE, has_id_and_count, push_entry, tree_of};
+use crate::runs::samples::{
+    FILE, has_id_and_count, in_a_and_written, insertion_of, push_insert, replies_on_empty,
+};
+use bstr::BString;
 use gixobj_base::Tree;
 use gixobj_base::hash::ObjectId;
-use gixobj_base::tree::EntryKind;
+use gixobj_base::tree::{Entry, EntryKind};
 use gixobj_editor::editor::{Error, Written};
 use gixobj_editor::{Command, Edit, EditReply, Reply};
 use std::alloc::{AllocError, Global};
@@ -76,11 +78,19 @@ fn continues_after_failed_edit(rt: HostRuntime) {
     assert!(rt; fails_halfway(rt.alloc()));
 }
 
+/// Builds an entry of the file `g`.
+fn file_g(alloc: Global) -> Result<Entry, AllocError> {
+    Ok(Entry {
+        mode: EntryKind::Blob.into(),
+        filename: BString::from_slice(alloc, b"g")?,
+        oid: FILE,
+    })
+}
+
 /// Builds a tree of two files of one name.
 fn twice_the_same(alloc: Global) -> Result<Tree, AllocError> {
-    let mut tree = tree_of(alloc, EntryKind::Blob, b"g", FILE)?;
-    push_entry(alloc, &mut tree, EntryKind::Blob, b"g", FILE)?;
-    Ok(tree)
+    let entries = vec![in alloc; file_g(alloc)?, file_g(alloc)?]?;
+    Ok(Tree { entries })
 }
 
 /// Commands that insert a file, set a root that isn't well-formed, and write the root.

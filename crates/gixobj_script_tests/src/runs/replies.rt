@@ -1,6 +1,6 @@
 //! Report lines of replies that no script over a store in memory has.
 
-use crate::samples::reports_replies;
+use crate::runs::samples::reports;
 use bstr::BString;
 use gixobj_base::hash::ObjectId;
 use gixobj_base::{Tree, encode};
@@ -48,7 +48,7 @@ impl Replies {
 
     /// Returns whether there are all replies, and their report has these lines.
     fn has_report(&self, alloc: Global, lookups: u64, lines: &str) -> bool {
-        self.is_entire && reports_replies(alloc, self.held.as_slice(), lookups, lines)
+        self.is_entire && reports(alloc, self.held.as_slice(), lookups, lines)
     }
 }
 
@@ -178,4 +178,11 @@ fn reports_failures(alloc: Global, lines: &str) -> bool {
 fn reports_failed_commands(rt: HostRuntime) {
     let lines = "refused memory\nrefused 6\nrefused 5\nlookups 0\n";
     assert!(rt; reports_failures(rt.alloc(), lines));
+}
+
+#[test]
+fn reports_a_slash(rt: HostRuntime) {
+    let slash: EditReply<encode::Error> = EditReply::Refused(Error::SlashInPathComponent);
+    let replies = [Reply::Edit(slash)];
+    assert!(rt; reports(rt.alloc(), &replies, 0, "refused 2\nlookups 0\n"));
 }

@@ -1,15 +1,15 @@
 //! Stores that fail to keep or to find a tree: the report, and the rest of the run.
 
-use crate::runs::samples::{TEN_LINES, editor_over, replies_to};
-use crate::samples::{has_id_and_count, report_of};
-use gixobj_base::encode;
-use gixobj_base::hash::ObjectId;
+use crate::runs::samples::{TEN_LINES, editor_over, has_id_and_count, replies_to};
+use gixobj_base::hash::{Kind as HashKind, ObjectId};
+use gixobj_base::{Tree, encode};
 use gixobj_editor::editor::{Editor, Error};
 use gixobj_editor::{EditReply, Reply};
 use gixobj_find::KeepError;
 use gixobj_find::find::existing_object;
 use gixobj_find_tests::failing::{Failing, OFFLINE};
 use gixobj_object::{Find, find};
+use gixobj_script::edit_on;
 use std::alloc::Global;
 
 const BAK: &str = "d8329fc1cc938780ffdd9f94e0d364e0ea74f579";
@@ -57,8 +57,7 @@ upsert blob 0101010101010101010101010101010101010101 a/b/d
 struct Row {
     name: &'static str,
     script: &'static str,
-    lookups_that_fail: &'static [u64],
-    keeps_that_fail: &'static [u64],
+    failing: (&'static [u64], &'static [u64]),
     report: &'static str,
     keeps: u64,
 }
@@ -67,8 +66,7 @@ const ROWS: &[Row] = &[
     Row {
         name: "no-refusal",
         script: WRITE_AGAIN,
-        lookups_that_fail: &[],
-        keeps_that_fail: &[],
+        failing: (&[], &[]),
         report: "ok
 ok
 wrote 90b9c61d2318706c9668ce0b53d697aa2719b7b0 2
@@ -82,8 +80,7 @@ lookups 1
     Row {
         name: "the-second-tree-of-a-write-is-not-kept",
         script: WRITE_AGAIN,
-        lookups_that_fail: &[],
-        keeps_that_fail: &[2],
+        failing: (&[], &[2]),
         report: "ok
 ok
 unkept 90b9c61d2318706c9668ce0b53d697aa2719b7b0
@@ -97,8 +94,7 @@ lookups 1
     Row {
         name: "the-first-tree-of-a-write-is-not-kept",
         script: WRITE_AGAIN,
-        lookups_that_fail: &[],
-        keeps_that_fail: &[1],
+        failing: (&[], &[1]),
         report: "ok
 ok
 unkept 90b9c61d2318706c9668ce0b53d697aa2719b7b0
@@ -112,8 +108,7 @@ lookups 2
     Row {
         name: "the-tree-of-a-cursor-and-a-root-are-not-kept",
         script: WRITE_AGAIN,
-        lookups_that_fail: &[],
-        keeps_that_fail: &[3, 5],
+        failing: (&[], &[3, 5]),
         report: "ok
 ok
 wrote 90b9c61d2318706c9668ce0b53d697aa2719b7b0 2
@@ -127,8 +122,7 @@ lookups 1
     Row {
         name: "the-first-lookup-fails",
         script: WRITE_AGAIN,
-        lookups_that_fail: &[1],
-        keeps_that_fail: &[],
+        failing: (&[1], &[]),
         report: "ok
 ok
 wrote 90b9c61d2318706c9668ce0b53d697aa2719b7b0 2
@@ -142,8 +136,7 @@ lookups 2
     Row {
         name: "told-and-counted",
         script: TEN_LINES,
-        lookups_that_fail: &[],
-        keeps_that_fail: &[],
+        failing: (&[], &[]),
         report: "ok
 ok
 ok
@@ -167,8 +160,7 @@ upsert tree 708f683ce235f6e3b367a0d6fc2780c3ad22547e a
 upsert blob 0101010101010101010101010101010101010101 a/b/d
 upsert blob 0101010101010101010101010101010101010101 a/b/d
 ",
-        lookups_that_fail: &[2],
-        keeps_that_fail: &[],
+        failing: (&[2], &[]),
         report: "ok
 wrote 0777f611c446507a3c6fa4a976a7a8d5f0eaed6d 3
 ok
@@ -189,8 +181,7 @@ upsert blob 0101010101010101010101010101010101010101 a/d
 write
 upsert blob 0101010101010101010101010101010101010101 a/e
 ",
-        lookups_that_fail: &[2],
-        keeps_that_fail: &[],
+        failing: (&[2], &[]),
         report: "ok
 wrote 0777f611c446507a3c6fa4a976a7a8d5f0eaed6d 3
 ok
@@ -211,8 +202,7 @@ upsert tree 708f683ce235f6e3b367a0d6fc2780c3ad22547e a
 remove a/b/c
 remove a/b/c
 ",
-        lookups_that_fail: &[2],
-        keeps_that_fail: &[],
+        failing: (&[2], &[]),
         report: "ok
 wrote 0777f611c446507a3c6fa4a976a7a8d5f0eaed6d 3
 ok
@@ -230,8 +220,7 @@ remove a/b
 remove a
 write
 ",
-        lookups_that_fail: &[],
-        keeps_that_fail: &[],
+        failing: (&[], &[]),
         report: "ok
 refused 3
 ok
@@ -243,8 +232,7 @@ lookups 1
     Row {
         name: "a-store-that-fails",
         script: AT_THE_FIRST,
-        lookups_that_fail: &[1],
-        keeps_that_fail: &[],
+        failing: (&[1], &[]),
         report: "ok
 wrote 0777f611c446507a3c6fa4a976a7a8d5f0eaed6d 3
 ok
@@ -260,8 +248,7 @@ lookups 1
     Row {
         name: "a-store-that-fails-at-the-first-lookup-and-the-third",
         script: AT_THE_FIRST_AND_THE_THIRD,
-        lookups_that_fail: &[1, 3],
-        keeps_that_fail: &[],
+        failing: (&[1, 3], &[]),
         report: "ok
 wrote 0777f611c446507a3c6fa4a976a7a8d5f0eaed6d 3
 ok
@@ -288,8 +275,7 @@ leaf e/f
 remove e/f
 upsert blob 0101010101010101010101010101010101010101 e/f
 ",
-        lookups_that_fail: &[2],
-        keeps_that_fail: &[],
+        failing: (&[2], &[]),
         report: "ok
 wrote 0777f611c446507a3c6fa4a976a7a8d5f0eaed6d 3
 ok
@@ -315,8 +301,7 @@ upsert tree 708f683ce235f6e3b367a0d6fc2780c3ad22547e a
 upsert blob 0101010101010101010101010101010101010101 a/
 remove /a
 ",
-        lookups_that_fail: &[2],
-        keeps_that_fail: &[],
+        failing: (&[2], &[]),
         report: "ok
 wrote 0777f611c446507a3c6fa4a976a7a8d5f0eaed6d 3
 ok
@@ -329,16 +314,12 @@ lookups 0
     },
 ];
 
-/// Returns [`ROWS`].
-fn rows() -> &'static [Row] {
-    ROWS
-}
-
 /// Returns whether the script of a row has the expected report.
 fn has_report(alloc: Global, editor: &mut Editor<Failing>, row: &Row) -> bool {
-    match report_of(alloc, editor, row.script.as_bytes()) {
-        Some(report) => report.as_slice() == row.report.as_bytes(),
-        None => false,
+    let out = |tree: &Tree| tree.compute_id(alloc, HashKind::Sha1);
+    match edit_on(alloc, editor, row.script.as_bytes(), HashKind::Sha1, out) {
+        Ok(report) => report.as_slice() == row.report.as_bytes(),
+        Err(_) => false,
     }
 }
 
@@ -349,13 +330,13 @@ fn is_counted(editor: &mut Editor<Failing>, keeps: u64) -> bool {
 
 /// Returns whether the script of a row has the expected report, lookups and calls of `keep`.
 fn has_report_and_counts(alloc: Global, row: &Row) -> bool {
-    let mut editor = editor_over(alloc, row.lookups_that_fail, row.keeps_that_fail);
+    let mut editor = editor_over(alloc, row.failing.0, row.failing.1);
     has_report(alloc, &mut editor, row) && is_counted(&mut editor, row.keeps)
 }
 
 #[test]
 fn reports_errors(rt: HostRuntime) {
-    for row in rows() {
+    for row in ROWS {
         assert!(rt; has_report_and_counts(rt.alloc(), row), "{}", row.name);
     }
 }

@@ -3,7 +3,7 @@
 //! links. The mode of a tree is that of its encoding, without the `0` that git prepends.
 
 use super::{ONE_ENTRY, TREE, TREE_SHA256};
-use crate::streams::{Expected, answers, fails_at_reader};
+use crate::streams::{Row, answers};
 use std::alloc::Global;
 
 const LISTED: &[u8] = b"\
@@ -67,92 +67,74 @@ const TREES: &[(&str, &[u8], &[u8])] = &[
     ),
 ];
 
-/// Returns [`TREES`].
-fn listed_trees() -> &'static [(&'static str, &'static [u8], &'static [u8])] {
-    TREES
-}
-
 /// Returns whether the program writes this listing of a tree.
-fn lists(alloc: Global, line: &str, input: &[u8], output: &[u8]) -> bool {
-    let expected = Expected {
-        status: 0,
-        output,
-        errors: b"",
-    };
-    answers(alloc, line, input, expected)
+fn lists(alloc: Global, line: &'static str, tree: &'static [u8], listing: &'static [u8]) -> bool {
+    answers(alloc, &(line, tree, (0, listing, b"")))
 }
 
 #[test]
 fn lists_trees(rt: HostRuntime) {
-    for &(line, input, output) in listed_trees() {
-        assert!(rt; lists(rt.alloc(), line, input, output), "{line} {input:?}");
+    for &(line, tree, listing) in TREES {
+        assert!(rt; lists(rt.alloc(), line, tree, listing), "{line} {tree:?}");
     }
 }
 
-/// Arguments, inputs and the first fault of each.
-const FAULTS: &[(&str, &[u8], &str)] = &[
-    ("tree", b"", "bad header"),
-    ("tree", b"tree 0", "bad header"),
-    ("tree", b"tree x\x00", "bad header"),
-    ("tree", b"trees 0\x00", "bad header"),
+const BAD_HEADER: &[u8] = b"gixobj: bad header\n";
+
+const SHORT_DATA: &[u8] = b"gixobj: short data\n";
+
+const NOT_A_TREE: &[u8] = b"gixobj: not a tree\n";
+
+const BAD_TREE: &[u8] = b"gixobj: bad tree\n";
+
+/// Inputs of which only the first fault is reported.
+const FAULTS: &[Row] = &[
+    ("tree", b"", (1, b"", BAD_HEADER)),
+    ("tree", b"tree 0", (1, b"", BAD_HEADER)),
+    ("tree", b"tree x\x00", (1, b"", BAD_HEADER)),
+    ("tree", b"trees 0\x00", (1, b"", BAD_HEADER)),
     // short data: of a tree, of a tree with an invalid prefix, of another kind, with the prefix of a tree
     (
         "tree",
         b"tree 36\x00100644 test.txt\x00\x83\xba\xaea\x80Ne\xccs\xa7 \x1arRu\x0cv\x06",
-        "short data",
+        (1, b"", SHORT_DATA),
     ),
-    ("tree", b"tree 7\x00hello\n", "short data"),
-    ("tree", b"tree 1\x00", "short data"),
-    ("tree", b"blob 7\x00hello\n", "short data"),
+    ("tree", b"tree 7\x00hello\n", (1, b"", SHORT_DATA)),
+    ("tree", b"tree 1\x00", (1, b"", SHORT_DATA)),
+    ("tree", b"blob 7\x00hello\n", (1, b"", SHORT_DATA)),
     (
         "tree",
         b"blob 37\x00100644 test.txt\x00\x83\xba\xaea\x80Ne\xccs\xa7 \x1arRu\x0cv\x06j0",
-        "short data",
+        (1, b"", SHORT_DATA),
     ),
     // another kind, with content that is no tree, or that is a tree
-    ("tree", b"blob 6\x00hello\n", "not a tree"),
-    ("tree sha256", b"tag 0\x00", "not a tree"),
+    ("tree", b"blob 6\x00hello\n", (1, b"", NOT_A_TREE)),
+    ("tree sha256", b"tag 0\x00", (1, b"", NOT_A_TREE)),
     (
         "tree",
         b"commit 36\x00100644 test.txt\x00\x83\xba\xaea\x80Ne\xccs\xa7 \x1arRu\x0cv\x06j0",
-        "not a tree",
+        (1, b"", NOT_A_TREE),
     ),
     // a malformed tree: from its first entry, after a valid entry, or with ids of the other hash kind
-    ("tree", b"tree 6\x00hello\n", "bad tree"),
+    ("tree", b"tree 6\x00hello\n", (1, b"", BAD_TREE)),
     (
         "tree",
         b"tree 35\x00100644 test.txt\x00\x83\xba\xaea\x80Ne\xccs\xa7 \x1arRu\x0cv\x06j0",
-        "bad tree",
+        (1, b"", BAD_TREE),
     ),
     (
         "tree",
         b"tree 42\x00100644 test.txt\x00\x83\xba\xaea\x80Ne\xccs\xa7 \x1arRu\x0cv\x06j0hello\n",
-        "bad tree",
+        (1, b"", BAD_TREE),
     ),
-    ("tree sha256", ONE_ENTRY, "bad tree"),
-    ("tree sha256", TREE, "bad tree"),
-    ("tree", TREE_SHA256, "bad tree"),
+    ("tree sha256", ONE_ENTRY, (1, b"", BAD_TREE)),
+    ("tree sha256", TREE, (1, b"", BAD_TREE)),
+    ("tree", TREE_SHA256, (1, b"", BAD_TREE)),
 ];
-
-/// Returns [`FAULTS`].
-fn faults() -> &'static [(&'static str, &'static [u8], &'static str)] {
-    FAULTS
-}
-
-/// Returns whether the program fails with only this fault.
-fn has_fault(alloc: Global, line: &str, mut input: &[u8], fault: &str) -> bool {
-    match format!(in alloc; "gixobj: {fault}\n") {
-        Ok(errors) => fails_at_reader(alloc, line, &mut input, errors.as_bytes()),
-        Err(_) => false,
-    }
-}
 
 #[test]
 fn reports_first_fault(rt: HostRuntime) {
-    for &(line, input, fault) in faults() {
-        assert!(rt;
-            has_fault(rt.alloc(), line, input, fault),
-            "{line} {input:?}"
-        );
+    for row in FAULTS {
+        assert!(rt; answers(rt.alloc(), row), "{row:?}");
     }
 }

@@ -1,8 +1,7 @@
 //! Many edits in one directory, by one command, with ample memory: each is done. Ids are those that
 //! `git mktree --missing` prints.
 
-use crate::runs::samples::{in_a_and_written, push_insert, replies_on_empty};
-use crate::samples::has_id_and_count;
+use crate::runs::samples::{has_id_and_count, in_a_and_written, push_insert, replies_on_empty};
 use gixobj_editor::{Command, Edit, EditReply, Reply};
 use std::alloc::{AllocError, Global};
 

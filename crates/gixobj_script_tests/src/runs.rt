@@ -7,5 +7,5 @@ mod error_halfway;
 mod many_edits;
 mod not_stored;
 mod replies;
-pub(crate) mod samples;
+mod samples;
 mod write_errors;
