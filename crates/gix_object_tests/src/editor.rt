@@ -26,18 +26,6 @@ const BAK: &[u8] = b"d8329fc1cc938780ffdd9f94e0d364e0ea74f579";
 /// The tree of the file `a` with the first id.
 const A: &[u8] = b"a18166ad9dc2c46e84c28b674ab8be1e202f6f82";
 
-/// An editor of an empty tree after the upsert of one entry.
-fn editor_with(
-    alloc: Global,
-    path: &[BString],
-    kind: EntryKind,
-    hex: &[u8],
-) -> Result<Editor<Never>, Error> {
-    let mut editor = Editor::new(Tree::empty(alloc), Never, HashKind::Sha1);
-    editor.try_upsert(path, kind, id(hex))?;
-    Ok(editor)
-}
-
 /// Whether a write error is displayed as `wanted`.
 fn is_reported(alloc: Global, error: &WriteError<u8>, wanted: &[u8]) -> bool {
     match error.to_string(alloc) {
@@ -86,20 +74,13 @@ fn writes_a_alone(alloc: Global, editor: &mut Editor<Never>, a: &[BString], b: &
     }
 }
 
-/// Whether only `a` remains in an editor that had the directory `b`.
-fn writes_a_without_b(alloc: Global, a: &[BString], b: &[BString]) -> bool {
-    match editor_with(alloc, b, EntryKind::Tree, BAK) {
-        Ok(mut editor) => writes_a_alone(alloc, &mut editor, a, b),
-        Err(_) => false,
-    }
-}
-
 /// Whether only the file `a` remains if it is inserted next to the directory `b`, and `b` is removed.
 fn leaves_a(alloc: Global) -> bool {
-    match (path_of(alloc, &["a"]), path_of(alloc, &["b"])) {
-        (Ok(a), Ok(b)) => writes_a_without_b(alloc, &a, &b),
-        _ => false,
-    }
+    let a = path_of(alloc, &["a"]);
+    let b = path_of(alloc, &["b"]);
+    let mut editor = Editor::new(Tree::empty(alloc), Never, HashKind::Sha1);
+    editor.try_upsert(&b, EntryKind::Tree, id(BAK)).is_ok()
+        && writes_a_alone(alloc, &mut editor, &a, &b)
 }
 
 #[test]

@@ -1,16 +1,10 @@
-//! Tests of `gix_object`.
+//! Tests of `gix_object`, with samples that other tests share.
 #![tactic(auto)]
 
-#[cfg(test)]
-mod callers;
 #[cfg(test)]
 mod converted;
 #[cfg(test)]
 mod editor;
-#[cfg(test)]
-mod history;
-#[cfg(test)]
-mod import;
 #[cfg(test)]
 mod listing;
 #[cfg(test)]
@@ -21,9 +15,6 @@ mod public_paths;
 mod readme;
 #[cfg(test)]
 mod run_scripts;
-#[cfg(test)]
-mod samples;
+pub mod samples;
 #[cfg(test)]
 mod tasks;
-#[cfg(test)]
-mod values_and_objects;

@@ -1,10 +1,11 @@
 //! Edits of plain lists of files: the reference of other tests.
 
 use crate::listing::Listed;
+use crate::samples::string_of;
 use bstr::BString;
 use gix_object::hash::ObjectId;
 use gix_object::tree::EntryKind;
-use std::alloc::{AllocError, Global};
+use std::alloc::Global;
 
 /// Whether `head` is a prefix of a path.
 pub(crate) fn begins(path: &[BString], head: &[BString]) -> bool {
@@ -16,26 +17,19 @@ pub(crate) fn begins(path: &[BString], head: &[BString]) -> bool {
     head.len() <= path.len()
 }
 
-/// Copies the names of a path.
-pub(crate) fn copy_of(alloc: Global, path: &[BString]) -> Result<Vec<BString>, AllocError> {
-    let mut copied = Vec::new(alloc);
-    for name in path {
-        copied.push(BString::from_slice(alloc, name.as_bytes())?)?;
+/// Appends copies of names to a path. Fewer if memory runs out.
+fn add_names(alloc: Global, path: &mut Vec<BString>, names: &[BString]) {
+    for name in names {
+        let _ = path.push(string_of(alloc, name.as_bytes()));
     }
-    Ok(copied)
 }
 
 /// The path of `prefix` and the names after it.
-pub(crate) fn joined(
-    alloc: Global,
-    prefix: &[BString],
-    path: &[BString],
-) -> Result<Vec<BString>, AllocError> {
-    let mut names = copy_of(alloc, prefix)?;
-    for name in path {
-        names.push(BString::from_slice(alloc, name.as_bytes())?)?;
-    }
-    Ok(names)
+pub(crate) fn joined(alloc: Global, prefix: &[BString], path: &[BString]) -> Vec<BString> {
+    let mut names = Vec::new(alloc);
+    add_names(alloc, &mut names, prefix);
+    add_names(alloc, &mut names, path);
+    names
 }
 
 /// Removes the files at and below a path.
@@ -49,43 +43,32 @@ pub(crate) fn ensure_directory(files: &mut Vec<Listed>, path: &[BString]) {
 }
 
 /// Inserts a file at a path. Removes the files at it, below it and at its parent directories.
-pub(crate) fn insert_file(
-    alloc: Global,
-    files: &mut Vec<Listed>,
-    path: &[BString],
-    id: ObjectId,
-) -> Result<(), AllocError> {
+pub(crate) fn insert_file(alloc: Global, files: &mut Vec<Listed>, path: &[BString], id: ObjectId) {
     forget(files, path);
     ensure_directory(files, path);
-    let path = copy_of(alloc, path)?;
+    let path = joined(alloc, path, &[]);
     let mode = EntryKind::Blob.into();
-    files.push(Listed { path, mode, id })?;
-    Ok(())
+    let _ = files.push(Listed { path, mode, id });
 }
 
 /// A copy of a file without the first `count` names of its path.
-fn without(alloc: Global, file: &Listed, count: usize) -> Result<Listed, AllocError> {
-    let path = copy_of(alloc, file.path.get(count..).unwrap_or(&[]))?;
-    Ok(Listed {
-        path,
+fn without(alloc: Global, file: &Listed, count: usize) -> Listed {
+    Listed {
+        path: joined(alloc, file.path.get(count..).unwrap_or(&[]), &[]),
         mode: file.mode,
         id: file.id,
-    })
+    }
 }
 
-/// Copies the files below a prefix, by their paths from there.
-pub(crate) fn below(
-    alloc: Global,
-    files: &[Listed],
-    prefix: &[BString],
-) -> Result<Vec<Listed>, AllocError> {
+/// Copies the files below a prefix, by their paths from there. Fewer if memory runs out.
+pub(crate) fn below(alloc: Global, files: &[Listed], prefix: &[BString]) -> Vec<Listed> {
     let mut found = Vec::new(alloc);
     for file in files {
         if begins(&file.path, prefix) {
-            found.push(without(alloc, file, prefix.len())?)?;
+            let _ = found.push(without(alloc, file, prefix.len()));
         }
     }
-    Ok(found)
+    found
 }
 
 fn is_same(file: &Listed, other: &Listed) -> bool {

@@ -85,7 +85,7 @@ mod of_kind {
 mod of_laws {
     pub use gix_object::laws::{
         consistent_import_has_table, consistent_pairs_have_table, consistent_run_has_table,
-        encodable_tree_decodes_to_itself, list_has_table, looked_up_file_exists,
+        encodable_tree_decodes_to_itself, list_has_table, looked_up_file_exists, object_map_insert,
         plain_history_is_table_independent, single_root_is_opened, store_has_table,
         store_has_tree_map,
     };
@@ -127,10 +127,6 @@ mod of_laws_of_signatures {
         signature_format_is_unique, signed_commit_has_payload, signed_tag_has_payload,
         tag_payloads_are_signed, tag_signatures_agree,
     };
-}
-
-mod of_laws_of_stores {
-    pub use gix_object::laws::object_map_insert;
 }
 
 mod of_laws_of_tags {

@@ -4,7 +4,7 @@ use crate::listing::{Listed, files_of};
 use crate::ordinary_lists::{
     are_same, begins, below, ensure_directory, forget, insert_file, joined,
 };
-use crate::samples::tree_of;
+use crate::samples::{string_of, try_tree_of};
 use bstr::BString;
 use gix_object::hash::{Kind as HashKind, ObjectId};
 use gix_object::tree::EntryKind;
@@ -28,22 +28,27 @@ impl Numbers {
     }
 }
 
-/// Draws a path of one to three names, each one of four.
-fn drawn_path(alloc: Global, numbers: &mut Numbers) -> Result<Vec<BString>, AllocError> {
+/// Draws a name, one of four.
+fn drawn_name(numbers: &mut Numbers) -> &'static [u8] {
+    match numbers.draw() & 3 {
+        0 => b"a",
+        1 => b"b",
+        2 => b"c",
+        _ => b"d",
+    }
+}
+
+/// Draws a path of one to three names.
+fn drawn_path(alloc: Global, numbers: &mut Numbers) -> Vec<BString> {
     let mut path = Vec::new(alloc);
     let length = numbers.draw() & 3;
     for place in 0..3u64 {
-        let name = match numbers.draw() & 3 {
-            0 => b"a",
-            1 => b"b",
-            2 => b"c",
-            _ => b"d",
-        };
+        let name = drawn_name(numbers);
         if place <= length {
-            path.push(BString::from_slice(alloc, name.as_slice())?)?;
+            let _ = path.push(string_of(alloc, name));
         }
     }
-    Ok(path)
+    path
 }
 
 /// The state after the commands so far.
@@ -73,11 +78,10 @@ fn pair_of(
 ) -> Result<Tree, AllocError> {
     let [first, second] = names;
     let file = ObjectId::Sha1([9; 20]);
-    tree_of(alloc, &[(kind, first, id), (EntryKind::Blob, second, file)])
+    try_tree_of(alloc, &[(kind, first, id), (EntryKind::Blob, second, file)])
 }
 
-/// Draws a root: the empty one, one with its entries in the wrong order, or one of a stored directory and a
-/// file.
+/// Draws a root: the empty one, one with its entries in the wrong order, or a stored directory and a file.
 fn drawn_root(alloc: Global, numbers: &mut Numbers, stored: Stored) -> Result<Tree, AllocError> {
     match numbers.draw() & 3 {
         0 => Ok(Tree::empty(alloc)),
@@ -104,92 +108,75 @@ fn drawn_id(numbers: &mut Numbers) -> ObjectId {
 }
 
 /// Draws an edit or a write.
-fn drawn_edit(alloc: Global, numbers: &mut Numbers) -> Result<Edit, AllocError> {
-    let path = drawn_path(alloc, numbers)?;
+fn drawn_edit(alloc: Global, numbers: &mut Numbers) -> Edit {
+    let path = drawn_path(alloc, numbers);
     let id = drawn_id(numbers);
+    let kind = EntryKind::Blob;
     match numbers.draw() & 15 {
-        0..=2 => Ok(Edit::Remove { path }),
-        3..=4 => Ok(Edit::RemoveLeaf { path }),
-        5..=6 => Ok(Edit::Write),
-        _ => Ok(Edit::Upsert {
-            path,
-            kind: EntryKind::Blob,
-            id,
-        }),
+        0..=2 => Edit::Remove { path },
+        3..=4 => Edit::RemoveLeaf { path },
+        5..=6 => Edit::Write,
+        _ => Edit::Upsert { path, kind, id },
     }
 }
 
-/// Draws one to four edits in a directory.
-fn drawn_visit(alloc: Global, numbers: &mut Numbers) -> Result<Command, AllocError> {
-    let mut prefix = drawn_path(alloc, numbers)?;
-    let _ = prefix.pop();
+/// Draws one to four edits.
+fn drawn_edits(alloc: Global, numbers: &mut Numbers) -> Vec<Edit> {
     let mut edits = Vec::new(alloc);
     let count = numbers.draw() & 3;
     for place in 0..4u64 {
-        let edit = drawn_edit(alloc, numbers)?;
+        let edit = drawn_edit(alloc, numbers);
         if place <= count {
-            edits.push(edit)?;
+            let _ = edits.push(edit);
         }
     }
-    Ok(Command::At { prefix, edits })
+    edits
+}
+
+/// Draws one to four edits in a directory.
+fn drawn_visit(alloc: Global, numbers: &mut Numbers) -> Command {
+    let mut prefix = drawn_path(alloc, numbers);
+    let _ = prefix.pop();
+    let edits = drawn_edits(alloc, numbers);
+    Command::At { prefix, edits }
 }
 
 /// Draws a command: mostly an edit, at times edits in a directory, and rarely another root.
-fn drawn_command(
-    alloc: Global,
-    numbers: &mut Numbers,
-    stored: Stored,
-) -> Result<Command, AllocError> {
+fn drawn_command(alloc: Global, numbers: &mut Numbers, stored: Stored) -> Command {
     match numbers.draw() & 31 {
-        0 => match drawn_root(alloc, numbers, stored) {
-            Ok(root) => Ok(Command::SetRoot(root)),
-            Err(error) => Err(error),
-        },
+        0 => Command::SetRoot(drawn_root(alloc, numbers, stored).unwrap_or(Tree::empty(alloc))),
         1..=8 => drawn_visit(alloc, numbers),
-        _ => match drawn_edit(alloc, numbers) {
-            Ok(edit) => Ok(Command::Edit(edit)),
-            Err(error) => Err(error),
-        },
+        _ => Command::Edit(drawn_edit(alloc, numbers)),
     }
 }
 
-/// Draws a thousand commands from a seed.
-fn drawn_commands(alloc: Global, seed: u64, stored: Stored) -> Result<Vec<Command>, AllocError> {
+/// Draws a thousand commands from a seed. Fewer if memory runs out.
+fn drawn_commands(alloc: Global, seed: u64, stored: Stored) -> Vec<Command> {
     let mut numbers = Numbers { state: seed };
     let mut commands = Vec::new(alloc);
     for _ in 0..1000u16 {
-        commands.push(drawn_command(alloc, &mut numbers, stored)?)?;
+        let _ = commands.push(drawn_command(alloc, &mut numbers, stored));
     }
-    Ok(commands)
+    commands
 }
 
-/// Whether the last emitted tree has this id, and the files that the list has below the prefix.
-fn is_last(
-    alloc: Global,
-    listing: &Listing,
-    prefix: &[BString],
-    written: ObjectId,
-) -> Result<bool, AllocError> {
-    let Some((id, tree)) = listing.table.last() else {
-        return Ok(false);
-    };
-    let named = files_of(alloc, &listing.table, 6, tree)?;
-    let wanted = below(alloc, &listing.files, prefix)?;
-    Ok(*id == written && are_same(&named, &wanted))
+/// Whether a tree has the files that the list has below the prefix.
+fn has_files(alloc: Global, listing: &Listing, prefix: &[BString], tree: &Tree) -> bool {
+    match files_of(alloc, &listing.table, 6, tree) {
+        Ok(named) => are_same(&named, &below(alloc, &listing.files, prefix)),
+        Err(_) => false,
+    }
 }
 
-/// Appends the emitted trees to the table. Whether the last one has the files that the list has below the
-/// prefix.
-fn is_named(
-    alloc: Global,
-    listing: &mut Listing,
-    prefix: &[BString],
-    written: Written,
-) -> Result<bool, AllocError> {
+/// Appends the emitted trees to the table. Whether the last one has the list's files below the prefix.
+fn is_named(alloc: Global, listing: &mut Listing, prefix: &[BString], written: Written) -> bool {
     for pair in written.trees {
-        listing.table.push(pair)?;
+        let _ = listing.table.push(pair);
     }
-    is_last(alloc, listing, prefix, written.id)
+    match listing.table.last() {
+        Some((id, tree)) => *id == written.id && has_files(alloc, listing, prefix, tree),
+        None => false,
+    }
 }
 
 /// Whether the list has files below the path.
@@ -219,15 +206,15 @@ fn fits_upsert(
     path: &[BString],
     id: ObjectId,
     reply: &EditReply<encode::Error>,
-) -> Result<bool, AllocError> {
-    if !matches!(reply, EditReply::Done) {
-        return Ok(false);
+) -> bool {
+    let is_done = matches!(reply, EditReply::Done);
+    if is_done {
+        insert_file(alloc, files, path, id);
     }
-    insert_file(alloc, files, path, id)?;
-    if id.is_null() {
+    if is_done && id.is_null() {
         forget(files, path);
     }
-    Ok(true)
+    is_done
 }
 
 /// Whether a removal was accepted; the list then has nothing at the path.
@@ -243,8 +230,7 @@ fn fits_remove(
     is_done
 }
 
-/// Whether the reply fits a leaf removal: accepted if nothing is below the path, an error if no file is at
-/// it.
+/// Whether the reply fits a leaf removal: accepted if nothing is below the path, an error if it has no file.
 fn fits_remove_leaf(
     files: &mut Vec<Listed>,
     path: &[BString],
@@ -267,13 +253,13 @@ fn fits_edit(
     files: &mut Vec<Listed>,
     edit: &Edit,
     path: &[BString],
-    reply: EditReply<encode::Error>,
-) -> Result<bool, AllocError> {
+    reply: &EditReply<encode::Error>,
+) -> bool {
     match edit {
-        Edit::Upsert { id, .. } => fits_upsert(alloc, files, path, *id, &reply),
-        Edit::Remove { .. } => Ok(fits_remove(files, path, &reply)),
-        Edit::RemoveLeaf { .. } => Ok(fits_remove_leaf(files, path, &reply)),
-        Edit::Write => Ok(false),
+        Edit::Upsert { id, .. } => fits_upsert(alloc, files, path, *id, reply),
+        Edit::Remove { .. } => fits_remove(files, path, reply),
+        Edit::RemoveLeaf { .. } => fits_remove_leaf(files, path, reply),
+        Edit::Write => false,
     }
 }
 
@@ -287,6 +273,19 @@ fn path_of(edit: &Edit) -> Option<&[BString]> {
     }
 }
 
+/// Whether the reply fits a write in the directory of a prefix.
+fn fits_write(
+    alloc: Global,
+    listing: &mut Listing,
+    prefix: &[BString],
+    reply: EditReply<encode::Error>,
+) -> bool {
+    match reply {
+        EditReply::Written(written) => is_named(alloc, listing, prefix, written),
+        _ => false,
+    }
+}
+
 /// Whether the reply fits an edit in the directory of a prefix, or its write.
 fn fits_in(
     alloc: Global,
@@ -294,14 +293,13 @@ fn fits_in(
     prefix: &[BString],
     edit: &Edit,
     reply: EditReply<encode::Error>,
-) -> Result<bool, AllocError> {
-    if let Some(path) = path_of(edit) {
-        let path = joined(alloc, prefix, path)?;
-        return fits_edit(alloc, &mut listing.files, edit, &path, reply);
-    }
-    match reply {
-        EditReply::Written(written) => is_named(alloc, listing, prefix, written),
-        _ => Ok(false),
+) -> bool {
+    match path_of(edit) {
+        Some(path) => {
+            let path = joined(alloc, prefix, path);
+            fits_edit(alloc, &mut listing.files, edit, &path, &reply)
+        }
+        None => fits_write(alloc, listing, prefix, reply),
     }
 }
 
@@ -312,23 +310,24 @@ fn fit_at(
     prefix: &[BString],
     edits: &[Edit],
     replies: Vec<EditReply<encode::Error>>,
-) -> Result<bool, AllocError> {
+) -> bool {
     ensure_directory(&mut listing.files, prefix);
-    if edits.len() != replies.len() {
-        return Ok(false);
-    }
+    let mut all_fit = edits.len() == replies.len();
     for (edit, reply) in edits.iter().zip(replies) {
-        if !fits_in(alloc, listing, prefix, edit, reply)? {
-            return Ok(false);
-        }
+        all_fit = fits_in(alloc, listing, prefix, edit, reply) && all_fit;
     }
-    Ok(true)
+    all_fit
 }
 
 /// Replaces the list by the files of another root. Whether the entries of that root are in order.
-fn list_root(alloc: Global, listing: &mut Listing, root: &Tree) -> Result<bool, AllocError> {
-    listing.files = files_of(alloc, &listing.table, 6, root)?;
-    Ok(!is_in_wrong_order(root))
+fn list_root(alloc: Global, listing: &mut Listing, root: &Tree) -> bool {
+    match files_of(alloc, &listing.table, 6, root) {
+        Ok(files) => {
+            listing.files = files;
+            !is_in_wrong_order(root)
+        }
+        Err(_) => false,
+    }
 }
 
 /// Whether the reply fits the command.
@@ -337,15 +336,15 @@ fn fits(
     listing: &mut Listing,
     command: &Command,
     reply: Reply<encode::Error>,
-) -> Result<bool, AllocError> {
+) -> bool {
     match (command, reply) {
         (Command::Edit(edit), Reply::Edit(reply)) => { fits_in(alloc, listing, &[], edit, reply) }
         (Command::At { prefix, edits }, Reply::At(replies)) => {
             fit_at(alloc, listing, prefix, edits, replies)
         }
         (Command::SetRoot(root), Reply::RootSet) => list_root(alloc, listing, root),
-        (Command::SetRoot(root), Reply::RootRefused) => Ok(is_in_wrong_order(root)),
-        _ => Ok(false),
+        (Command::SetRoot(root), Reply::RootRefused) => is_in_wrong_order(root),
+        _ => false,
     }
 }
 
@@ -355,16 +354,12 @@ fn all_fit(
     listing: &mut Listing,
     commands: &[Command],
     replies: Vec<Reply<encode::Error>>,
-) -> Result<bool, AllocError> {
-    if commands.len() != replies.len() {
-        return Ok(false);
-    }
+) -> bool {
+    let mut all_fit = commands.len() == replies.len();
     for (command, reply) in commands.iter().zip(replies) {
-        if !fits(alloc, listing, command, reply)? {
-            return Ok(false);
-        }
+        all_fit = all_fit && fits(alloc, listing, command, reply);
     }
-    Ok(true)
+    all_fit
 }
 
 /// A store and a table of its trees.
@@ -404,29 +399,21 @@ fn replies_to(
     commands: Vec<Command>,
 ) -> Result<Vec<Reply<encode::Error>>, OutOfMemory> {
     let mut editor = Editor::new(Tree::empty(alloc), store, HashKind::Sha1);
-    run(
-        alloc,
-        &mut editor,
-        commands,
-        |tree: &Tree| tree.compute_id(alloc, HashKind::Sha1),
-    )
+    let out = |tree: &Tree| tree.compute_id(alloc, HashKind::Sha1);
+    run(alloc, &mut editor, commands, out)
 }
 
 /// Whether the replies to the commands of a seed fit them.
-fn replies_fit(
-    alloc: Global,
-    filled: Filled,
-    seed: u64,
-    stored: Stored,
-) -> Result<bool, OutOfMemory> {
-    let commands = drawn_commands(alloc, seed, stored)?;
-    let replies = replies_to(alloc, filled.store, commands)?;
-    let same_commands = drawn_commands(alloc, seed, stored)?;
+fn replies_fit(alloc: Global, filled: Filled, seed: u64, stored: Stored) -> bool {
+    let commands = drawn_commands(alloc, seed, stored);
     let mut listing = Listing {
         files: Vec::new(alloc),
         table: filled.table,
     };
-    Ok(all_fit(alloc, &mut listing, &same_commands, replies)?)
+    match replies_to(alloc, filled.store, drawn_commands(alloc, seed, stored)) {
+        Ok(replies) => all_fit(alloc, &mut listing, &commands, replies),
+        Err(_) => false,
+    }
 }
 
 /// Whether a run of a thousand commands agrees with the list: each written tree has the list's files.
@@ -436,7 +423,7 @@ fn agrees(alloc: Global, seed: u64) -> bool {
         table: Vec::new(alloc),
     };
     match fill(alloc, &mut filled) {
-        Some(stored) => replies_fit(alloc, filled, seed, stored).unwrap_or(false),
+        Some(stored) => replies_fit(alloc, filled, seed, stored),
         None => false,
     }
 }

@@ -12,7 +12,7 @@ mod listing;
 mod loose;
 mod paths;
 mod rewording;
-pub(crate) mod runners;
+mod runners;
 mod runs;
 mod signing;
 mod stores;
@@ -25,14 +25,13 @@ mod walks;
 mod writes;
 mod writing;
 
-use crate::import::samples::step_by;
-use crate::samples::{Row, edits_of, id, path_of};
-use bstr::{BStr, BString};
+use crate::samples::{Row, edits_of, id, path_of, step_by, string_of};
+use bstr::BStr;
 use gix_object::hash::{Kind as HashKind, ObjectId};
 use gix_object::signature::Output;
 use gix_object::tree::editor::{Editor, Error};
 use gix_object::{Commit, CommitRef, Data, Exists, Find, Kind, Memory, OutOfMemory, Tree, decode};
-use std::alloc::{AllocError, Global};
+use std::alloc::Global;
 
 const BLOB: &[u8] = b"ce013625030ba8dba906f756967f9e9ca394464a";
 
@@ -70,12 +69,8 @@ fn writes_id_in_lower_case(rt: HostRuntime) {
 
 /// Whether a loose object is the blob, without a link.
 fn is_loose_blob(alloc: Global, loose: &[u8]) -> bool {
-    match loose::shown(alloc, loose) {
-        Ok(it) if it == (Kind::Blob, 6, id(BLOB)) => {
-            matches!(&loose::first_link(alloc, loose), Ok(None))
-        }
-        _ => false,
-    }
+    loose::shown(alloc, loose).ok() == Some((Kind::Blob, 6, id(BLOB)))
+        && loose::first_link(alloc, loose).ok() == Some(None)
 }
 
 /// Whether the blob is encoded as a loose object.
@@ -88,10 +83,7 @@ fn is_loose(alloc: Global) -> bool {
 
 /// Whether the blob has its id if it is read from a stream.
 fn is_streamed() -> bool {
-    match streams::blob_id(&mut b"hello\n".as_slice(), 6) {
-        Ok(streamed) => streamed == id(BLOB),
-        Err(_) => false,
-    }
+    streams::blob_id(&mut b"hello\n".as_slice(), 6).ok() == Some(id(BLOB))
 }
 
 #[test]
@@ -135,10 +127,7 @@ fn is_signed_off(alloc: Global) -> bool {
 
 /// Whether a commit merges no tag, and is signed as `wanted` says.
 fn is_signed(alloc: Global, content: &[u8], wanted: bool) -> bool {
-    match headers::signed_and_merging(alloc, content) {
-        Ok((signed, merging)) => signed == wanted && !merging,
-        Err(_) => false,
-    }
+    headers::signed_and_merging(alloc, content).ok() == Some((wanted, false))
 }
 
 #[test]
@@ -151,18 +140,12 @@ fn decodes_commit_fields_and_trailers(rt: HostRuntime) {
 
 /// Whether the decoded id has these hex digits.
 fn is_id(read: Result<ObjectId, decode::Error>, hex: &[u8]) -> bool {
-    match read {
-        Ok(read) => read == id(hex),
-        Err(_) => false,
-    }
+    read.ok() == Some(id(hex))
 }
 
 /// Whether the first parent of the second commit is the first.
 fn is_first_parent(alloc: Global) -> bool {
-    match tokens::first_parent(alloc, SECOND_BYTES) {
-        Ok(parent) => parent == Some(id(FIRST)),
-        Err(_) => false,
-    }
+    tokens::first_parent(alloc, SECOND_BYTES).ok() == Some(Some(id(FIRST)))
 }
 
 #[test]
@@ -178,20 +161,12 @@ const TAG_BYTES: &[u8] =
 
 /// Whether the tag has its name, and the first commit as its target.
 fn is_named() -> bool {
-    match tags::named(TAG_BYTES) {
-        Ok((name, kind, target)) => {
-            name == BStr::new(b"v1") && kind == Kind::Commit && target == id(FIRST)
-        }
-        Err(_) => false,
-    }
+    tags::named(TAG_BYTES).ok() == Some((BStr::new(b"v1"), Kind::Commit, id(FIRST)))
 }
 
 /// Whether the tag has its tagger.
 fn is_tagged() -> bool {
-    match tags::tagger_email(TAG_BYTES) {
-        Ok(email) => email == Some(BStr::new(b"a@b")),
-        Err(_) => false,
-    }
+    tags::tagger_email(TAG_BYTES).ok() == Some(Some(BStr::new(b"a@b")))
 }
 
 #[test]
@@ -210,10 +185,7 @@ fn runs_script(alloc: Global) -> bool {
 
 /// Whether the tree has this file, or none, under a name.
 fn is_file(alloc: Global, name: &[u8], wanted: Option<ObjectId>) -> bool {
-    match entries::file_id(alloc, TREE_BYTES, name) {
-        Ok(found) => found == wanted,
-        Err(_) => false,
-    }
+    entries::file_id(alloc, TREE_BYTES, name).ok() == Some(wanted)
 }
 
 #[test]
@@ -224,12 +196,6 @@ fn finds_files_of_tree(rt: HostRuntime) {
     assert!(rt; is_file(alloc, b"a", None));
 }
 
-/// The second commit with another message.
-fn reworded(alloc: Global) -> Result<Commit, decode::Error> {
-    let message = BString::from_slice(alloc, b"other\n")?;
-    rewording::reworded(alloc, SECOND_BYTES, message)
-}
-
 /// Whether the encoding of a commit has this id and `size` bytes.
 fn is_written(alloc: Global, commit: &Commit, hex: &[u8], size: usize) -> bool {
     match writing::written(alloc, commit) {
@@ -238,9 +204,9 @@ fn is_written(alloc: Global, commit: &Commit, hex: &[u8], size: usize) -> bool {
     }
 }
 
-/// Whether the reworded second commit has this id and size.
+/// Whether the second commit with another message has this id and size.
 fn is_reworded(alloc: Global, hex: &[u8], size: usize) -> bool {
-    match reworded(alloc) {
+    match rewording::reworded(alloc, SECOND_BYTES, string_of(alloc, b"other\n")) {
         Ok(commit) => is_written(alloc, &commit, hex, size),
         Err(_) => false,
     }
@@ -269,10 +235,7 @@ fn is_ancestor(
     generations: u32,
     wanted: Option<ObjectId>,
 ) -> bool {
-    match walks::ancestor(alloc, store, id(SECOND), generations) {
-        Ok(found) => found == wanted,
-        Err(_) => false,
-    }
+    walks::ancestor(alloc, store, id(SECOND), generations).ok() == Some(wanted)
 }
 
 /// Whether the tree has the script.
@@ -283,61 +246,37 @@ fn has_script(alloc: Global, store: &stores::Overlay<'_, Memory>) -> bool {
     }
 }
 
-/// Whether walks and lookups succeed in a store with the second commit added.
-fn is_walked(alloc: Global, store: Memory) -> bool {
+/// Walks and lookups succeed in the store with the second commit added.
+#[test]
+fn finds_objects_in_own_store(rt: HostRuntime) {
+    let alloc = rt.alloc();
     let store = stores::Overlay {
-        store,
+        store: store(alloc).unwrap_or(Memory::new(alloc)),
         id: id(SECOND),
         object: Data::new(SECOND_BYTES, Kind::Commit, HashKind::Sha1),
     };
-    is_ancestor(alloc, &store, 1, Some(id(FIRST)))
-        && is_ancestor(alloc, &store, 2, None)
-        && has_script(alloc, &store)
-}
-
-/// Whether walks and lookups succeed in the store of the first commit and of the tree.
-fn is_walked_with_second(alloc: Global) -> bool {
-    match store(alloc) {
-        Ok(store) => is_walked(alloc, store),
-        Err(_) => false,
-    }
-}
-
-#[test]
-fn finds_objects_in_own_store(rt: HostRuntime) {
-    assert!(rt; is_walked_with_second(rt.alloc()));
+    assert!(rt; is_ancestor(alloc, &store, 1, Some(id(FIRST))));
+    assert!(rt; is_ancestor(alloc, &store, 2, None));
+    assert!(rt; has_script(alloc, &store));
 }
 
 /// Whether the editor moves a file.
-fn renames<S: Find>(
-    alloc: Global,
-    editor: &mut Editor<S>,
-    from: &[&str],
-    to: &[&str],
-) -> Result<bool, AllocError> {
-    let from = path_of(alloc, from)?;
-    let to = path_of(alloc, to)?;
-    Ok(edits::rename(editor, &from, &to, id(BLOB)).is_ok())
+fn renames<S: Find>(alloc: Global, editor: &mut Editor<S>, from: &[&str], to: &[&str]) -> bool {
+    let from = path_of(alloc, from);
+    let to = path_of(alloc, to);
+    edits::rename(editor, &from, &to, id(BLOB)).is_ok()
 }
 
 /// Whether the editor inserts a file into a directory.
-fn fills<S: Find>(
-    alloc: Global,
-    editor: &mut Editor<S>,
-    directory: &[&str],
-    name: &[&str],
-) -> Result<bool, AllocError> {
-    let directory = path_of(alloc, directory)?;
-    let file = (path_of(alloc, name)?, id(BLOB));
-    Ok(edits::fill(editor, &directory, &[file]).is_ok())
+fn fills<S: Find>(alloc: Global, editor: &mut Editor<S>, names: &[&str], name: &[&str]) -> bool {
+    let directory = path_of(alloc, names);
+    let file = (path_of(alloc, name), id(BLOB));
+    edits::fill(editor, &directory, &[file]).is_ok()
 }
 
 /// Whether a write returns this root and emits `count` trees.
 fn writes_root<S>(alloc: Global, editor: &mut Editor<S>, root: &[u8], count: usize) -> bool {
-    match writes::write(alloc, editor) {
-        Ok((written, trees)) => written == id(root) && trees == count,
-        Err(_) => false,
-    }
+    writes::write(alloc, editor).ok() == Some((id(root), count))
 }
 
 /// Id that `git mktree` prints for `b.txt`, `docs` and `run.sh`.
@@ -345,8 +284,8 @@ const EDITED: &[u8] = b"cb60b5d33be5a9a5d719af0c303354a83d95214a";
 
 /// Whether the editor moves a file, inserts one into a directory, and writes the tree.
 fn is_edited<S: Find>(alloc: Global, editor: &mut Editor<S>) -> bool {
-    renames(alloc, editor, &["a.txt"], &["b.txt"]).unwrap_or(false)
-        && fills(alloc, editor, &["docs"], &["c.txt"]).unwrap_or(false)
+    renames(alloc, editor, &["a.txt"], &["b.txt"])
+        && fills(alloc, editor, &["docs"], &["c.txt"])
         && writes_root(alloc, editor, EDITED, 2)
 }
 
@@ -360,59 +299,44 @@ fn is_edited_in(alloc: Global, store: &Memory) -> bool {
 
 /// Whether an editor of the blob fails: the store has no such tree.
 fn is_unknown_in(alloc: Global, store: &Memory) -> bool {
-    matches!(
-        &editors::editor_of(alloc, store, id(BLOB)),
-        Err(Error::FindExistingObject(_))
-    )
-}
-
-/// Whether the edits succeed, and the editor of the blob fails.
-fn is_edited_in_store(alloc: Global) -> bool {
-    match store(alloc) {
-        Ok(store) => is_edited_in(alloc, &store) && is_unknown_in(alloc, &store),
-        Err(_) => false,
+    match editors::editor_of(alloc, store, id(BLOB)) {
+        Err(Error::FindExistingObject(_)) => true,
+        _ => false,
     }
 }
 
 #[test]
 fn edits_stored_tree(rt: HostRuntime) {
-    assert!(rt; is_edited_in_store(rt.alloc()));
+    let alloc = rt.alloc();
+    let store = store(alloc).unwrap_or(Memory::new(alloc));
+    assert!(rt; is_edited_in(alloc, &store));
+    assert!(rt; is_unknown_in(alloc, &store));
 }
 
 /// Whether the edits of the rows and a write have `count` replies.
 fn keeps(alloc: Global, editor: &mut Editor<Memory>, rows: &[Row], count: usize) -> bool {
-    let Ok(edits) = edits_of(alloc, rows) else {
-        return false;
-    };
-    match runs::keep_edits(alloc, editor, edits) {
+    match runs::keep_edits(alloc, editor, edits_of(alloc, rows)) {
         Ok(replies) => replies.len() == count,
         Err(_) => false,
     }
 }
 
+/// A file in a directory.
+const DOCS: &[Row] = &[Row::File(&["docs", "c.txt"], BLOB)];
+
 #[test]
 fn keeps_trees_of_edits(rt: HostRuntime) {
     let alloc = rt.alloc();
     let mut editor = Editor::new(Tree::empty(alloc), Memory::new(alloc), HashKind::Sha1);
-    assert!(rt;
-        keeps(
-            alloc,
-            &mut editor,
-            &[Row::File(&["docs", "c.txt"], BLOB)],
-            2
-        )
-    );
+    assert!(rt; keeps(alloc, &mut editor, DOCS, 2));
     let docs = id(b"2bcada35da78a7011b5497fcf851bb11e2353a39");
     assert!(rt; editor.store_mut().exists(docs.as_oid()));
 }
 
 /// Whether the tip after one step of these rows is the commit with this id.
 fn is_tip_of(alloc: Global, rows: &[Row], hex: &[u8]) -> bool {
-    let Ok(step) = step_by(alloc, "A", rows) else {
-        return false;
-    };
-    match imports::tip(alloc, &[step]) {
-        Ok(tip) => tip == Some(id(hex)),
+    match step_by(alloc, "A", rows) {
+        Ok(step) => imports::tip(alloc, &[step]).ok() == Some(Some(id(hex))),
         Err(_) => false,
     }
 }
@@ -427,61 +351,47 @@ fn imports_step_as_commit(rt: HostRuntime) {
 const SIGNATURE: &[u8] = b"-----BEGIN PGP SIGNATURE-----\nA\n";
 
 /// A runner whose program succeeds with this output.
-pub(crate) fn runner(
-    alloc: Global,
-    stdout: &[u8],
-    stderr: &[u8],
-) -> Result<runners::Same, AllocError> {
-    let stdout = Vec::from_slice(alloc, stdout)?;
-    let stderr = Vec::from_slice(alloc, stderr)?;
+fn runner(alloc: Global, stdout: &[u8], stderr: &[u8]) -> runners::Same {
     let answer = Output {
         success: true,
-        stdout,
-        stderr,
+        stdout: Vec::from_slice(alloc, stdout).unwrap_or(Vec::new(alloc)),
+        stderr: Vec::from_slice(alloc, stderr).unwrap_or(Vec::new(alloc)),
         result: None,
     };
-    Ok(runners::Same { answer })
+    runners::Same { answer }
 }
 
-/// The second commit in its owned form.
-fn second(alloc: Global) -> Result<Commit, decode::Error> {
-    let commit = CommitRef::from_bytes(alloc, SECOND_BYTES, HashKind::Sha1)?;
-    Ok(commit.into_owned(alloc)?)
+/// The second commit in its owned form. `None` if memory runs out.
+fn second(alloc: Global) -> Option<Commit> {
+    match CommitRef::from_bytes(alloc, SECOND_BYTES, HashKind::Sha1) {
+        Ok(commit) => commit.into_owned(alloc).ok(),
+        Err(_) => None,
+    }
 }
 
 /// Signs a commit. `None` if signing fails.
-fn signed(alloc: Global, commit: Commit, signer: &mut runners::Same) -> Option<Commit> {
-    let program = BString::from_slice(alloc, b"gpg").ok()?;
-    let key = BString::from_slice(alloc, b"K").ok()?;
-    signing::signed(alloc, commit, program, key, signer).ok()
+fn signed(alloc: Global, commit: Commit) -> Option<Commit> {
+    let mut signer = runner(alloc, SIGNATURE, b"[GNUPG:] SIG_CREATED x\n");
+    let program = string_of(alloc, b"gpg");
+    let key = string_of(alloc, b"K");
+    signing::signed(alloc, commit, program, key, &mut signer).ok()
 }
 
 /// Encodes the signed second commit. `None` if signing fails.
 fn signed_payload(alloc: Global) -> Option<Vec<u8>> {
-    let mut signer = runner(alloc, SIGNATURE, b"[GNUPG:] SIG_CREATED x\n").ok()?;
-    let commit = signed(alloc, second(alloc).ok()?, &mut signer)?;
+    let commit = signed(alloc, second(alloc)?)?;
     match writing::written(alloc, &commit) {
         Ok((_, content)) => Some(content),
         Err(_) => None,
     }
 }
 
-/// Whether a program verifies the signature of a commit as valid.
-fn is_valid(alloc: Global, content: &[u8], program: BString, verifier: &mut runners::Same) -> bool {
-    match verifying::verified(alloc, content, program, verifier) {
-        Ok(Some(outcome)) => outcome.is_valid(),
-        _ => false,
-    }
-}
-
 /// Whether a program that reports a good signature verifies the commit as valid.
 fn is_verified(alloc: Global, content: &[u8]) -> bool {
     let report = b"[GNUPG:] GOODSIG K A\n[GNUPG:] TRUST_FULLY\n";
-    match (
-        runner(alloc, report, b""),
-        BString::from_slice(alloc, b"gpg"),
-    ) {
-        (Ok(mut verifier), Ok(program)) => is_valid(alloc, content, program, &mut verifier),
+    let mut verifier = runner(alloc, report, b"");
+    match verifying::verified(alloc, content, string_of(alloc, b"gpg"), &mut verifier) {
+        Ok(Some(outcome)) => outcome.is_valid(),
         _ => false,
     }
 }

@@ -101,16 +101,13 @@ const TO_A_DEPTH: &[(usize, &str)] = &[
     (3, "blob a 3\nblob d b 2\ntree u 4\nblob v 1\n"),
 ];
 
-/// The table of these rows: an id, and the entries of its tree.
-fn table_of(
-    alloc: Global,
-    rows: &[(ObjectId, &[Row])],
-) -> Result<Vec<(ObjectId, Tree)>, AllocError> {
+/// The table of these rows: an id, and the entries of its tree. Shorter if memory runs out.
+fn table_of(alloc: Global, rows: &[(ObjectId, &[Row])]) -> Vec<(ObjectId, Tree)> {
     let mut table = Vec::new(alloc);
     for (id, entries) in rows {
-        table.push((*id, tree_of(alloc, entries)?))?;
+        let _ = table.push((*id, tree_of(alloc, entries)));
     }
-    Ok(table)
+    table
 }
 
 /// Whether the files of a tree have these lines to each depth, with a table of these rows.
@@ -120,10 +117,7 @@ fn is_listed(
     tree: &[Row],
     wanted: &[(usize, &str)],
 ) -> bool {
-    match (table_of(alloc, rows), tree_of(alloc, tree)) {
-        (Ok(table), Ok(tree)) => are_shown(alloc, &table, &tree, wanted),
-        _ => false,
-    }
+    are_shown(alloc, &table_of(alloc, rows), &tree_of(alloc, tree), wanted)
 }
 
 /// Two trees of one id. The first one is used.

@@ -2,13 +2,12 @@
 //! (gitformat-signature).
 
 use super::CUT;
-use crate::tasks::runner;
-use crate::tasks::runners::Same;
 use bstr::{BString, ByteSlice};
 use gix_object::hash::Kind as HashKind;
 use gix_object::signature::verify::{self, Outcome, TrustLevel};
 use gix_object::signature::{Call, Format, Output, RunError, Runner, sign};
 use gix_object::{Commit, CommitRef, Kind, decode};
+use gix_object_tests::samples::string_of;
 use gixobj_callers::releases::{AuditError, audit, signed_payload};
 use std::alloc::Global;
 
@@ -61,10 +60,37 @@ const BAD: &[u8] = b"[GNUPG:] BADSIG K A\n[GNUPG:] TRUST_FULLY\n";
 #[derive(Drop)]
 struct ExpectingRunner {
     alloc: Global,
-    answers: Same,
     input: &'static [u8],
     file: Option<&'static [u8]>,
+    output: (&'static [u8], &'static [u8]),
     is_called: bool,
+}
+
+/// A runner that expects these bytes as input and in its one file, or none, and answers with this output.
+fn runner(
+    alloc: Global,
+    input: &'static [u8],
+    file: Option<&'static [u8]>,
+    output: (&'static [u8], &'static [u8]),
+) -> ExpectingRunner {
+    ExpectingRunner {
+        alloc,
+        input,
+        file,
+        output,
+        is_called: false,
+    }
+}
+
+/// The output of a program that succeeds.
+fn output_of(alloc: Global, output: (&[u8], &[u8])) -> Output {
+    let (stdout, stderr) = output;
+    Output {
+        success: true,
+        stdout: Vec::from_slice(alloc, stdout).unwrap_or(Vec::new(alloc)),
+        stderr: Vec::from_slice(alloc, stderr).unwrap_or(Vec::new(alloc)),
+        result: None,
+    }
 }
 
 /// Whether a call has one file with these bytes, or none.
@@ -92,7 +118,7 @@ impl Runner for ExpectingRunner {
     fn run(&mut self, call: &Call) -> Result<Output, RunError> {
         self.is_called = true;
         if is_input(&call.input, self.input) && are_files(&call.files, self.file) {
-            self.answers.run(call)
+            Ok(output_of(self.alloc, self.output))
         } else {
             Err(RunError::Spawn(BString::new(Vec::new(self.alloc))))
         }
@@ -100,43 +126,26 @@ impl Runner for ExpectingRunner {
 }
 
 /// Options of signing.
-fn signing_options(alloc: Global) -> Option<sign::Options> {
-    match (
-        BString::from_slice(alloc, b"gpg"),
-        BString::from_slice(alloc, b"K"),
-    ) {
-        (Ok(program), Ok(signing_key)) => Some(sign::Options {
-            format: Format::OpenPgp,
-            program,
-            program_arguments: Vec::new(alloc),
-            signing_key,
-            environment: Vec::new(alloc),
-        }),
-        _ => None,
+fn signing_options(alloc: Global) -> sign::Options {
+    sign::Options {
+        format: Format::OpenPgp,
+        program: string_of(alloc, b"gpg"),
+        program_arguments: Vec::new(alloc),
+        signing_key: string_of(alloc, b"K"),
+        environment: Vec::new(alloc),
     }
 }
 
-/// A runner that expects these bytes to sign, and answers with the signature.
-fn signer(alloc: Global, input: &'static [u8]) -> Option<ExpectingRunner> {
-    match runner(alloc, SIGNATURE, b"[GNUPG:] SIG_CREATED x\n") {
-        Ok(answers) => Some(ExpectingRunner {
-            alloc,
-            answers,
-            input,
-            file: None,
-            is_called: false,
-        }),
-        Err(_) => None,
-    }
-}
-
-/// Whether a commit that the runner signs has this encoding.
-fn is_written(alloc: Global, commit: Commit, runner: &mut ExpectingRunner, content: &[u8]) -> bool {
-    let Some(options) = signing_options(alloc) else {
-        return false;
-    };
-    match signed_payload(alloc, commit, options, runner) {
-        Ok(written) => written.as_slice() == content,
+/// Whether a commit has the encoding `signed` after a runner that expects `payload` has signed it.
+fn is_written(alloc: Global, commit: Commit, payload: &'static [u8], signed: &[u8]) -> bool {
+    let mut runner = runner(
+        alloc,
+        payload,
+        None,
+        (SIGNATURE, b"[GNUPG:] SIG_CREATED x\n"),
+    );
+    match signed_payload(alloc, commit, signing_options(alloc), &mut runner) {
+        Ok(written) => written.as_slice() == signed,
         Err(_) => false,
     }
 }
@@ -152,11 +161,11 @@ fn commit_of(alloc: Global, content: &[u8]) -> Option<Commit> {
     }
 }
 
-/// Whether a commit has the encoding `signed` after a runner that expects `payload` has signed it.
+/// Whether a decoded commit has the encoding `signed` after a runner that expects `payload` has signed it.
 fn is_signed_as(alloc: Global, content: &[u8], payload: &'static [u8], signed: &[u8]) -> bool {
-    match (commit_of(alloc, content), signer(alloc, payload)) {
-        (Some(commit), Some(mut runner)) => is_written(alloc, commit, &mut runner, signed),
-        _ => false,
+    match commit_of(alloc, content) {
+        Some(commit) => is_written(alloc, commit, payload, signed),
+        None => false,
     }
 }
 
@@ -169,29 +178,12 @@ fn signs_payload_without_old_signature(rt: HostRuntime) {
 }
 
 /// Options of verification.
-fn verifying_options(alloc: Global) -> Option<verify::Options> {
-    match BString::from_slice(alloc, b"gpg") {
-        Ok(program) => Some(verify::Options::OpenPgp {
-            program,
-            program_arguments: Vec::new(alloc),
-            environment: Vec::new(alloc),
-            minimum_trust: TrustLevel::Marginal,
-        }),
-        Err(_) => None,
-    }
-}
-
-/// A runner that expects these bytes with the signature, and answers with this report.
-fn verifier(alloc: Global, input: &'static [u8], report: &[u8]) -> Option<ExpectingRunner> {
-    match runner(alloc, report, b"") {
-        Ok(answers) => Some(ExpectingRunner {
-            alloc,
-            answers,
-            input,
-            file: Some(SIGNATURE),
-            is_called: false,
-        }),
-        Err(_) => None,
+fn verifying_options(alloc: Global) -> verify::Options {
+    verify::Options::OpenPgp {
+        program: string_of(alloc, b"gpg"),
+        program_arguments: Vec::new(alloc),
+        environment: Vec::new(alloc),
+        minimum_trust: TrustLevel::Marginal,
     }
 }
 
@@ -204,18 +196,10 @@ fn outcome_name(outcome: &Outcome) -> &'static str {
     }
 }
 
-/// Names the result of the audit of an object.
-fn audited_by(
-    alloc: Global,
-    kind: Kind,
-    content: &[u8],
-    runner: &mut ExpectingRunner,
-) -> &'static str {
-    let Some(options) = verifying_options(alloc) else {
-        return "no memory";
-    };
-    match audit(alloc, kind, HashKind::Sha1, content, options, runner) {
-        Ok(Some(outcome)) => outcome_name(&outcome),
+/// Names the result of an audit.
+fn audit_name(audited: &Result<Option<Outcome>, AuditError>) -> &'static str {
+    match audited {
+        Ok(Some(outcome)) => outcome_name(outcome),
         Ok(None) => "no signature",
         Err(AuditError::NoRelease) => "no release",
         Err(AuditError::Read(decode::Error::Malformed)) => "malformed",
@@ -224,30 +208,38 @@ fn audited_by(
     }
 }
 
-/// Whether an audit has this result and calls the runner. The runner expects `payload` with the signature,
-/// and answers with this report.
+/// Names the result of the audit of an object, and whether it calls the runner. The runner expects `payload`
+/// with the signature, and answers with this report.
+fn audited(
+    alloc: Global,
+    kind: Kind,
+    content: &[u8],
+    payload: &'static [u8],
+    report: &'static [u8],
+) -> (&'static str, bool) {
+    let mut runner = runner(alloc, payload, Some(SIGNATURE), (report, b""));
+    let options = verifying_options(alloc);
+    let name = audit_name(&audit(alloc, kind, HashKind::Sha1, content, options, &mut runner));
+    (name, runner.is_called)
+}
+
+/// Whether an audit has this result and calls the runner.
 fn is_audited(
     alloc: Global,
     kind: Kind,
     content: &[u8],
     payload: &'static [u8],
-    report: &[u8],
+    report: &'static [u8],
     wanted: &str,
 ) -> bool {
-    match verifier(alloc, payload, report) {
-        Some(mut runner) => audited_by(alloc, kind, content, &mut runner) == wanted
-            && runner.is_called,
-        None => false,
-    }
+    let (name, is_called) = audited(alloc, kind, content, payload, report);
+    name == wanted && is_called
 }
 
 /// Whether an audit has this result without a call of the runner.
 fn is_audited_without_call(alloc: Global, kind: Kind, content: &[u8], wanted: &str) -> bool {
-    match verifier(alloc, PLAIN, GOOD) {
-        Some(mut runner) => audited_by(alloc, kind, content, &mut runner) == wanted
-            && !runner.is_called,
-        None => false,
-    }
+    let (name, is_called) = audited(alloc, kind, content, PLAIN, GOOD);
+    name == wanted && !is_called
 }
 
 #[test]

@@ -1,33 +1,32 @@
 //! Entries inserted into a directory of the empty root.
 
 use super::FIRST;
-use crate::samples::{id, path_of};
 use bstr::BString;
 use gix_object::find::Never;
 use gix_object::hash::Kind;
 use gix_object::tree::EntryKind;
 use gix_object::tree::editor::{Error, WriteError, Written};
 use gix_object::{Tree, encode};
+use gix_object_tests::samples::{id, path_of};
 use gixobj_callers::checkout::{CheckoutError, Planned, with_entries_at};
-use std::alloc::{AllocError, Global};
+use std::alloc::Global;
 
 /// A file with the first id at a path.
-fn file_at(alloc: Global, names: &[&str]) -> Result<Planned, AllocError> {
-    let path = path_of(alloc, names)?;
-    Ok(Planned {
-        path,
+fn file_at(alloc: Global, names: &[&str]) -> Planned {
+    Planned {
+        path: path_of(alloc, names),
         kind: EntryKind::Blob,
         id: id(FIRST),
-    })
+    }
 }
 
-/// Files with the first id at these paths.
-fn files_at(alloc: Global, paths: &[&[&str]]) -> Result<Vec<Planned>, AllocError> {
+/// Files with the first id at these paths. Fewer if memory runs out.
+fn files_at(alloc: Global, paths: &[&[&str]]) -> Vec<Planned> {
     let mut files = Vec::new(alloc);
     for names in paths {
-        files.push(file_at(alloc, names)?)?;
+        let _ = files.push(file_at(alloc, names));
     }
-    Ok(files)
+    files
 }
 
 fn check_out(
@@ -58,7 +57,7 @@ fn root_name(written: &Written) -> &'static str {
 }
 
 /// Names the result of a checkout of files into a directory.
-fn outcome(alloc: Global, prefix: &[BString], entries: &[Planned]) -> &'static str {
+fn outcome_name(alloc: Global, prefix: &[BString], entries: &[Planned]) -> &'static str {
     match check_out(alloc, prefix, entries) {
         Ok(written) => root_name(&written),
         Err(CheckoutError::Edit(Error::EmptyPathComponent)) => "empty name",
@@ -69,29 +68,26 @@ fn outcome(alloc: Global, prefix: &[BString], entries: &[Planned]) -> &'static s
 }
 
 /// Names the result of a checkout of files at paths below a directory.
-fn outcome_at(alloc: Global, prefix: &[&str], paths: &[&[&str]]) -> &'static str {
-    match (path_of(alloc, prefix), files_at(alloc, paths)) {
-        (Ok(prefix), Ok(files)) => outcome(alloc, &prefix, &files),
-        _ => "no memory",
-    }
+fn outcome(alloc: Global, prefix: &[&str], paths: &[&[&str]]) -> &'static str {
+    outcome_name(alloc, &path_of(alloc, prefix), &files_at(alloc, paths))
 }
 
 #[test]
 fn writes_files_below_directory(rt: HostRuntime) {
     let files: [&[&str]; 2] = [&["hello.txt"], &["b", "hello.txt"]];
-    assert!(rt; outcome_at(rt.alloc(), &["a"], &files) == "both");
+    assert!(rt; outcome(rt.alloc(), &["a"], &files) == "both");
 }
 
 /// The empty prefix is the root.
 #[test]
 fn writes_file_at_root_for_empty_prefix(rt: HostRuntime) {
-    assert!(rt; outcome_at(rt.alloc(), &[], &[&["hello.txt"]]) == "alone");
+    assert!(rt; outcome(rt.alloc(), &[], &[&["hello.txt"]]) == "alone");
 }
 
 #[test]
 fn rejects_invalid_names(rt: HostRuntime) {
     let alloc = rt.alloc();
-    assert!(rt; outcome_at(alloc, &["a", ""], &[&["x"]]) == "empty name");
-    assert!(rt; outcome_at(alloc, &["a"], &[&["x/y"]]) == "slash in a name");
-    assert!(rt; outcome_at(alloc, &["a"], &[&["\0"]]) == "not written");
+    assert!(rt; outcome(alloc, &["a", ""], &[&["x"]]) == "empty name");
+    assert!(rt; outcome(alloc, &["a"], &[&["x/y"]]) == "slash in a name");
+    assert!(rt; outcome(alloc, &["a"], &[&["\0"]]) == "not written");
 }

@@ -2,11 +2,11 @@
 ghost use Rattle.gix_object.specs.CommitViews.{commit_lines};
 ghost use Rattle.gix_object.specs.Hash.{IsIdHex};
 
-use super::TREE as TARGET;
-use crate::samples::id;
+use super::{TREE as TARGET, is_copy};
 use bstr::BStr;
 use gix_object::hash::Kind;
 use gix_object::{CommitRef, TagRef};
+use gix_object_tests::samples::id;
 use gixobj_callers::auditor::merged_tags_of;
 use gixobj_callers::publisher::{checked_name, tag_copy_of, target_of};
 use gixobj_callers::verifier::read_both_ways;
@@ -21,14 +21,6 @@ const MERGE: &[u8] = b"tree 4b825dc642cb6eb9a060e54bf8d69288fbee4904\n\
     committer A <a@b> 0 +0000\n\
     mergetag object 4b825dc642cb6eb9a060e54bf8d69288fbee4904\n type tree\n tag v1\n\nhi\n";
 
-/// Whether the tag's copy has the same bytes.
-fn is_copied(alloc: Global) -> bool {
-    match tag_copy_of(alloc, TAG, Kind::Sha1) {
-        Ok(copy) => copy.as_slice() == TAG,
-        Err(_) => false,
-    }
-}
-
 /// Whether the tag has its name.
 fn is_named(name: BStr<'_>) -> bool {
     match TagRef::from_bytes(TAG, Kind::Sha1) {
@@ -39,7 +31,7 @@ fn is_named(name: BStr<'_>) -> bool {
 
 #[test]
 fn copies_tag_and_finds_target_and_name(rt: HostRuntime) {
-    assert!(rt; is_copied(rt.alloc()));
+    assert!(rt; is_copy(tag_copy_of(rt.alloc(), TAG, Kind::Sha1), TAG));
     assert!(rt; target_of(TAG, Kind::Sha1) == Some(id(TARGET)));
     assert!(rt; is_named(BStr::new(b"v1")));
 }

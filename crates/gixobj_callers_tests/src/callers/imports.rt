@@ -1,10 +1,10 @@
 //! Edits that are imported into a store.
 
 use super::{FIRST, SECOND};
-use crate::samples::{Row, edits_of, id};
 use gix_object::hash::Kind;
-use gix_object::tree::editor::{Edit, Editor, Error, WriteError, Written};
+use gix_object::tree::editor::{Editor, Error, WriteError, Written};
 use gix_object::{Memory, Tree, encode};
+use gix_object_tests::samples::{Row, edits_of, id};
 use gixobj_callers::importer::{ImportError, import_files};
 use std::alloc::Global;
 
@@ -15,33 +15,16 @@ fn empty_editor(alloc: Global) -> Editor<Memory> {
 fn import(
     alloc: Global,
     editor: &mut Editor<Memory>,
-    edits: Vec<Edit>,
+    rows: &[Row],
 ) -> Result<Written, ImportError<encode::Error>> {
-    import_files(
-        alloc,
-        editor,
-        edits,
-        |tree: &Tree| tree.compute_id(alloc, Kind::Sha1),
-    )
-}
-
-/// Whether the root has this id, with two emitted trees.
-fn is_root(written: &Written, root: &[u8]) -> bool {
-    written.id == id(root) && written.trees.len() == 2
-}
-
-/// Whether an import writes the root with this id and emits two trees.
-fn makes(alloc: Global, editor: &mut Editor<Memory>, edits: Vec<Edit>, root: &[u8]) -> bool {
-    match import(alloc, editor, edits) {
-        Ok(written) => is_root(&written, root),
-        Err(_) => false,
-    }
+    let out = |tree: &Tree| tree.compute_id(alloc, Kind::Sha1);
+    import_files(alloc, editor, edits_of(alloc, rows), out)
 }
 
 /// Whether an import of these rows writes the root with this id and emits two trees.
 fn is_imported(alloc: Global, editor: &mut Editor<Memory>, rows: &[Row], root: &[u8]) -> bool {
-    match edits_of(alloc, rows) {
-        Ok(edits) => makes(alloc, editor, edits, root),
+    match import(alloc, editor, rows) {
+        Ok(written) => written.id == id(root) && written.trees.len() == 2,
         Err(_) => false,
     }
 }
@@ -64,9 +47,9 @@ fn imports_two_lists_of_edits(rt: HostRuntime) {
     assert!(rt; is_imported(alloc, &mut editor, &rows, IMPORTED_NEXT));
 }
 
-/// Names the result of an import.
-fn outcome(alloc: Global, editor: &mut Editor<Memory>, edits: Vec<Edit>) -> &'static str {
-    match import(alloc, editor, edits) {
+/// Names the result of an import of these rows.
+fn outcome(alloc: Global, editor: &mut Editor<Memory>, rows: &[Row]) -> &'static str {
+    match import(alloc, editor, rows) {
         Err(ImportError::HoldsWrite) => "holds a write",
         Err(
             ImportError::Edit {
@@ -79,21 +62,13 @@ fn outcome(alloc: Global, editor: &mut Editor<Memory>, edits: Vec<Edit>) -> &'st
     }
 }
 
-/// Names the result of an import of these rows.
-fn outcome_of_rows(alloc: Global, editor: &mut Editor<Memory>, rows: &[Row]) -> &'static str {
-    match edits_of(alloc, rows) {
-        Ok(edits) => outcome(alloc, editor, edits),
-        Err(_) => "no memory",
-    }
-}
-
 #[test]
 fn rejects_writes_and_invalid_names(rt: HostRuntime) {
     let alloc = rt.alloc();
     let mut editor = empty_editor(alloc);
     let rows = [Row::File(&["c"], SECOND), Row::Write];
-    assert!(rt; outcome_of_rows(alloc, &mut editor, &rows) == "holds a write");
+    assert!(rt; outcome(alloc, &mut editor, &rows) == "holds a write");
     let rows = [Row::File(&["c"], SECOND), Row::File(&["a/b"], FIRST)];
-    assert!(rt; outcome_of_rows(alloc, &mut editor, &rows) == "slash in the second");
-    assert!(rt; outcome_of_rows(alloc, &mut editor, &[Row::File(&["\0"], FIRST)]) == "not written");
+    assert!(rt; outcome(alloc, &mut editor, &rows) == "slash in the second");
+    assert!(rt; outcome(alloc, &mut editor, &[Row::File(&["\0"], FIRST)]) == "not written");
 }

@@ -2,22 +2,20 @@
 
 use super::plans::stored;
 use super::{FIRST, SECOND};
-use crate::samples::{Row, edits_of, id};
 use gix_object::hash::Kind;
 use gix_object::tree::editor::{Command, Edit, Editor, WriteError};
 use gix_object::{Memory, Tree, encode};
+use gix_object_tests::samples::{Row, edits_of, id};
 use gixobj_callers::planner::root_in;
 use gixobj_callers::rebuilder::{CompareError, wrote_the_same};
 use gixobj_callers::upload::{Upload, upload_of};
-use std::alloc::{AllocError, Global};
+use std::alloc::Global;
 
-/// An editor of the stored root with the file `a/b/c` of the first id. `None` if memory runs out.
-fn deep_editor(alloc: Global) -> Option<Editor<Memory>> {
-    let (store, root) = stored(alloc, &["c", "b", "a"])?;
-    match root_in(alloc, &store, root) {
-        Ok(tree) => Some(Editor::new(tree, store, Kind::Sha1)),
-        Err(_) => None,
-    }
+/// An editor of the stored root with the file `a/b/c` of the first id. Of the empty root if it isn't found.
+fn deep_editor(alloc: Global) -> Editor<Memory> {
+    let (store, root) = stored(alloc, &["c", "b", "a"]);
+    let tree = root_in(alloc, &store, root).unwrap_or(Tree::empty(alloc));
+    Editor::new(tree, store, Kind::Sha1)
 }
 
 /// Whether an upsert or a removal is accepted.
@@ -29,22 +27,13 @@ fn edits(editor: &mut Editor<Memory>, edit: &Edit) -> bool {
     }
 }
 
-/// Whether all edits are accepted.
-fn edits_all(editor: &mut Editor<Memory>, list: &[Edit]) -> bool {
-    for edit in list {
-        if !edits(editor, edit) {
-            return false;
-        }
-    }
-    true
-}
-
 /// Whether the edits of all rows are accepted.
 fn does(alloc: Global, editor: &mut Editor<Memory>, rows: &[Row]) -> bool {
-    match edits_of(alloc, rows) {
-        Ok(list) => edits_all(editor, &list),
-        Err(_) => false,
+    let mut is_done = true;
+    for edit in &edits_of(alloc, rows) {
+        is_done = edits(editor, edit) && is_done;
     }
+    is_done
 }
 
 fn upload(alloc: Global, editor: &mut Editor<Memory>) -> Result<Upload, WriteError<encode::Error>> {
@@ -78,26 +67,16 @@ const AND_BACK: &[Row] = &[
     Row::Remove(&["a", "b", "d"]),
 ];
 
-/// Whether a file inserted and removed needs an upload of the root alone, and `a/e` one of two trees.
-fn is_uploaded(alloc: Global, editor: &mut Editor<Memory>) -> bool {
-    does(alloc, editor, AND_BACK)
-        && is_upload(alloc, editor, DEEP, 1, 2)
-        && does(alloc, editor, AND_BACK)
-        && does(alloc, editor, &[Row::File(&["a", "e"], SECOND)])
-        && is_upload(alloc, editor, WITH_E, 2, 1)
-}
-
-/// Whether the uploads of an editor of the stored root have these trees.
-fn is_uploaded_from_deep(alloc: Global) -> bool {
-    match deep_editor(alloc) {
-        Some(mut editor) => is_uploaded(alloc, &mut editor),
-        None => false,
-    }
-}
-
+/// A file inserted and removed needs an upload of the root alone, and `a/e` one of two trees.
 #[test]
 fn uploads_only_changed_trees(rt: HostRuntime) {
-    assert!(rt; is_uploaded_from_deep(rt.alloc()));
+    let alloc = rt.alloc();
+    let mut editor = deep_editor(alloc);
+    assert!(rt; does(alloc, &mut editor, AND_BACK));
+    assert!(rt; is_upload(alloc, &mut editor, DEEP, 1, 2));
+    assert!(rt; does(alloc, &mut editor, AND_BACK));
+    assert!(rt; does(alloc, &mut editor, &[Row::File(&["a", "e"], SECOND)]));
+    assert!(rt; is_upload(alloc, &mut editor, WITH_E, 2, 1));
 }
 
 /// Whether an upload fails as a tree is emitted.
@@ -111,25 +90,15 @@ fn is_failed(alloc: Global, editor: &mut Editor<Memory>) -> bool {
 /// The file `a/e`, and one with an invalid name.
 const WITH_ZERO: &[Row] = &[Row::File(&["a", "e"], SECOND), Row::File(&["\0"], SECOND)];
 
-/// Whether an invalid name fails, and the rest is uploaded after its removal.
-fn is_uploaded_at_last(alloc: Global, editor: &mut Editor<Memory>) -> bool {
-    does(alloc, editor, WITH_ZERO)
-        && is_failed(alloc, editor)
-        && does(alloc, editor, &[Row::Remove(&["\0"])])
-        && is_upload(alloc, editor, WITH_E, 2, 0)
-}
-
-/// Whether the upload from the stored root fails until the invalid name is removed.
-fn fails_from_deep(alloc: Global) -> bool {
-    match deep_editor(alloc) {
-        Some(mut editor) => is_uploaded_at_last(alloc, &mut editor),
-        None => false,
-    }
-}
-
+/// An invalid name fails, and the rest is uploaded after its removal.
 #[test]
 fn uploads_rest_after_failed_write(rt: HostRuntime) {
-    assert!(rt; fails_from_deep(rt.alloc()));
+    let alloc = rt.alloc();
+    let mut editor = deep_editor(alloc);
+    assert!(rt; does(alloc, &mut editor, WITH_ZERO));
+    assert!(rt; is_failed(alloc, &mut editor));
+    assert!(rt; does(alloc, &mut editor, &[Row::Remove(&["\0"])]));
+    assert!(rt; is_upload(alloc, &mut editor, WITH_E, 2, 0));
 }
 
 /// Inserts a file and writes, inserts another one next to it and writes, removes it and writes.
@@ -142,22 +111,18 @@ const SCRIPT: &[Row] = &[
     Row::Write,
 ];
 
-/// The commands of the script.
-fn script(alloc: Global) -> Result<Vec<Command>, AllocError> {
+/// The commands of the script. Fewer if memory runs out.
+fn script(alloc: Global) -> Vec<Command> {
     let mut commands = Vec::new(alloc);
-    for edit in edits_of(alloc, SCRIPT)? {
-        commands.push(Command::Edit(edit))?;
+    for edit in edits_of(alloc, SCRIPT) {
+        let _ = commands.push(Command::Edit(edit));
     }
-    Ok(commands)
+    commands
 }
 
-/// Compares the writes of commands at two positions.
-fn compare(
-    alloc: Global,
-    commands: Vec<Command>,
-    place: usize,
-    other: usize,
-) -> Result<bool, CompareError> {
+/// Compares the writes of the script at two positions.
+fn compare(alloc: Global, place: usize, other: usize) -> Result<bool, CompareError> {
+    let commands = script(alloc);
     let store = Memory::new(alloc);
     let out = |tree: &Tree| tree.compute_id(alloc, Kind::Sha1);
     wrote_the_same(alloc, store, Kind::Sha1, commands, place, other, out)
@@ -165,18 +130,12 @@ fn compare(
 
 /// Whether the writes of the script at two positions are the same. `None` if the comparison fails.
 fn compared(alloc: Global, place: usize, other: usize) -> Option<bool> {
-    match script(alloc) {
-        Ok(commands) => compare(alloc, commands, place, other).ok(),
-        Err(_) => None,
-    }
+    compare(alloc, place, other).ok()
 }
 
 /// The position that the comparison reports as having no write.
 fn without_write(alloc: Global, place: usize, other: usize) -> Option<usize> {
-    let Ok(commands) = script(alloc) else {
-        return None;
-    };
-    match compare(alloc, commands, place, other) {
+    match compare(alloc, place, other) {
         Err(CompareError::NoWrite { place }) => Some(place),
         _ => None,
     }

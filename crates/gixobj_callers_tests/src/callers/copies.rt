@@ -1,8 +1,9 @@
 //! Round trips of trees, and a loose object whose id is verified.
 
-use crate::samples::id;
+use super::is_copy;
 use gix_object::hash::Kind;
 use gix_object::{Tree, TreeRef, decode};
+use gix_object_tests::samples::id;
 use gixobj_callers::planner::{is_tree, read_back};
 use gixobj_callers::store::{TakeError, taken_over, tree_copy_of};
 use std::alloc::Global;
@@ -42,21 +43,13 @@ fn decoded_tree_round_trips(alloc: Global, bytes: &[u8]) -> bool {
     }
 }
 
-/// Whether the copy of a tree has the same bytes. `None` for malformed input.
-fn is_copied(alloc: Global, bytes: &[u8]) -> Option<bool> {
-    match tree_copy_of(alloc, bytes, Kind::Sha1) {
-        Ok(copy) => Some(copy.as_slice() == bytes),
-        Err(_) => None,
-    }
-}
-
 #[test]
 fn copies_tree_and_rejects_cut_one(rt: HostRuntime) {
     let alloc = rt.alloc();
     assert!(rt; is_tree(TREE, Kind::Sha1));
     assert!(rt; !is_tree(CUT, Kind::Sha1));
-    assert!(rt; is_copied(alloc, TREE) == Some(true));
-    assert!(rt; is_copied(alloc, CUT).is_none());
+    assert!(rt; is_copy(tree_copy_of(alloc, TREE, Kind::Sha1), TREE));
+    assert!(rt; tree_copy_of(alloc, CUT, Kind::Sha1).is_err());
     assert!(rt; decoded_tree_round_trips(alloc, TREE));
 }
 

@@ -1,15 +1,22 @@
 //! An entry that is inserted into a stored tree or into the empty one.
 
 use super::{FIRST, SECOND};
-use crate::samples::{bytes_of, id, path_of, tree_of};
 use bstr::BString;
 use gix_object::find::Never;
 use gix_object::hash::{Kind as HashKind, ObjectId};
 use gix_object::tree::EntryKind;
 use gix_object::tree::editor::{Error, WriteError, Written};
-use gix_object::{Find, Kind, Memory, Tree, encode};
+use gix_object::{Find, Kind, Memory, Tree, WriteTo, encode};
+use gix_object_tests::samples::{id, path_of, tree_of};
 use gixobj_callers::planner::{PlanError, RootError, with_entry_in_stored};
 use std::alloc::Global;
+
+/// Encodes a tree.
+fn encode_tree(alloc: Global, tree: &Tree) -> Result<Vec<u8>, encode::Error> {
+    let mut content = Vec::new(alloc);
+    tree.write_to(alloc, &mut content)?;
+    Ok(content)
+}
 
 /// Stores a tree of one entry and returns its id. `None` if memory runs out.
 fn insert_tree(
@@ -19,48 +26,46 @@ fn insert_tree(
     kind: EntryKind,
     id: ObjectId,
 ) -> Option<ObjectId> {
-    let tree = tree_of(alloc, &[(kind, name.as_bytes(), id)]).ok()?;
-    let bytes = bytes_of(alloc, &tree).ok()?;
-    store.insert(Kind::Tree, HashKind::Sha1, &bytes).ok()
+    let tree = tree_of(alloc, &[(kind, name.as_bytes(), id)]);
+    match encode_tree(alloc, &tree) {
+        Ok(bytes) => store.insert(Kind::Tree, HashKind::Sha1, &bytes).ok(),
+        Err(_) => None,
+    }
 }
 
 /// A store with a file of the first id at the path of `names`, its last name first, and the id of the root.
-/// `None` if memory runs out.
-pub(super) fn stored(alloc: Global, names: &[&str]) -> Option<(Memory, ObjectId)> {
+pub(super) fn stored(alloc: Global, names: &[&str]) -> (Memory, ObjectId) {
     let mut store = Memory::new(alloc);
     let mut kind = EntryKind::Blob;
     let mut oid = id(FIRST);
     for name in names {
-        oid = insert_tree(alloc, &mut store, name, kind, oid)?;
+        oid = insert_tree(alloc, &mut store, name, kind, oid).unwrap_or(id(b""));
         kind = EntryKind::Tree;
     }
-    Some((store, oid))
+    (store, oid)
 }
 
 /// Inserts a file at a path of the stored root, and writes the tree.
-fn plan<S: Find + Drop>(
+fn plan_at<S: Find + Drop>(
     alloc: Global,
     root: ObjectId,
     store: S,
     path: &[BString],
-    file: &[u8],
+    file: ObjectId,
 ) -> Result<Written, PlanError<encode::Error>> {
     let out = |tree: &Tree| tree.compute_id(alloc, HashKind::Sha1);
-    with_entry_in_stored(alloc, root, store, path, EntryKind::Blob, id(file), out)
+    with_entry_in_stored(alloc, root, store, path, EntryKind::Blob, file, out)
 }
 
-/// Inserts a file at the path of these names, and writes the tree. `None` if memory runs out.
-fn plan_at<S: Find + Drop>(
+/// Inserts a file at the path of these names in the stored root, and writes the tree.
+fn plan<S: Find + Drop>(
     alloc: Global,
     root: ObjectId,
     store: S,
     names: &[&str],
     file: &[u8],
-) -> Option<Result<Written, PlanError<encode::Error>>> {
-    match path_of(alloc, names) {
-        Ok(path) => Some(plan(alloc, root, store, &path, file)),
-        Err(_) => None,
-    }
+) -> Result<Written, PlanError<encode::Error>> {
+    plan_at(alloc, root, store, &path_of(alloc, names), id(file))
 }
 
 /// Inserts a file with the second id into the stored tree of the path `files`, its last name first.
@@ -68,28 +73,32 @@ fn plan_in(
     alloc: Global,
     files: &[&str],
     names: &[&str],
-) -> Option<Result<Written, PlanError<encode::Error>>> {
-    match stored(alloc, files) {
-        Some((store, root)) => plan_at(alloc, root, store, names, SECOND),
-        None => None,
+) -> Result<Written, PlanError<encode::Error>> {
+    let (store, root) = stored(alloc, files);
+    plan(alloc, root, store, names, SECOND)
+}
+
+/// Whether this root is written, and `count` trees are emitted.
+fn is_written(
+    planned: &Result<Written, PlanError<encode::Error>>,
+    root: &[u8],
+    count: usize,
+) -> bool {
+    match planned {
+        Ok(written) => written.id == id(root) && written.trees.len() == count,
+        Err(_) => false,
     }
 }
 
 /// Whether an insertion into the stored tree of the file `a/b` writes this root and emits `count` trees.
 fn is_planned(alloc: Global, names: &[&str], root: &[u8], count: usize) -> bool {
-    match plan_in(alloc, &["b", "a"], names) {
-        Some(Ok(written)) => written.id == id(root) && written.trees.len() == count,
-        _ => false,
-    }
+    is_written(&plan_in(alloc, &["b", "a"], names), root, count)
 }
 
-/// Whether an insertion into the empty tree writes the root with this id.
+/// Whether an insertion into the empty tree writes the root with this id, and emits it alone.
 fn is_planned_alone(alloc: Global, name: &str, file: &[u8], root: &[u8]) -> bool {
     let empty = ObjectId::empty_tree(HashKind::Sha1);
-    match plan_at(alloc, empty, Never, &[name], file) {
-        Some(Ok(written)) => written.id == id(root),
-        _ => false,
-    }
+    is_written(&plan(alloc, empty, Never, &[name], file), root, 1)
 }
 
 /// Id that `git mktree --missing` prints for the directory `a` alone, with the files `b` of the first id and
@@ -117,12 +126,12 @@ fn inserts_file_into_stored_and_empty_trees(rt: HostRuntime) {
 }
 
 /// Names the result of a plan.
-fn outcome_name(answer: &Option<Result<Written, PlanError<encode::Error>>>) -> &'static str {
-    match answer {
-        Some(Err(PlanError::Root(RootError::Find(_)))) => "no root",
-        Some(Err(PlanError::Root(RootError::Malformed))) => "malformed root",
-        Some(Err(PlanError::Edit(Error::EmptyPathComponent))) => "empty name",
-        Some(Err(PlanError::Write(WriteError::Out(_)))) => "not written",
+fn outcome_name(planned: &Result<Written, PlanError<encode::Error>>) -> &'static str {
+    match planned {
+        Err(PlanError::Root(RootError::Find(_))) => "no root",
+        Err(PlanError::Root(RootError::Malformed)) => "malformed root",
+        Err(PlanError::Edit(Error::EmptyPathComponent)) => "empty name",
+        Err(PlanError::Write(WriteError::Out(_))) => "not written",
         _ => "otherwise",
     }
 }
@@ -135,7 +144,7 @@ fn outcome_in(alloc: Global, files: &[&str], names: &[&str]) -> &'static str {
 /// Names the result of an insertion into the root with the null id.
 fn outcome_without_root(alloc: Global) -> &'static str {
     let null = ObjectId::null(HashKind::Sha1);
-    outcome_name(&plan_at(alloc, null, Never, &["x"], SECOND))
+    outcome_name(&plan(alloc, null, Never, &["x"], SECOND))
 }
 
 #[test]

@@ -1,13 +1,12 @@
-//! Imports of the three steps while an allocation fails. The steps before it are imported, and a new importer
-//! imports all of them.
+//! Imports of the three steps while an allocation fails, and then all of them by a new importer.
 
 use crate::import::samples::{
-    COMMITS, are_commits, are_first_commits, has_all, importer_of, imports, outcome_by, plain_steps,
+    COMMITS, STEPS, are_first_commits, has_all, import, importer_of, outcome_by, try_steps_of,
 };
-use gix_object::import::{ImportError, Importer, Step, Stopped, import_all};
+use gix_object::import::{ImportError, Imported, Importer, Step};
 use gix_object::tree::editor::{Error, WriteError};
 use gix_object::{KeepError, Memory, encode};
-use std::alloc::{AllocError, Global};
+use std::alloc::Global;
 
 /// Whether the error is an allocation failure.
 fn is_for_memory(error: &ImportError) -> bool {
@@ -21,48 +20,54 @@ fn is_for_memory(error: &ImportError) -> bool {
     }
 }
 
-/// Whether an import stopped only at an allocation failure, after the expected commits.
-fn is_cut_off(stopped: &Stopped) -> bool {
-    are_first_commits(&stopped.done) && is_for_memory(&stopped.error)
-}
-
 /// Whether an importer that stopped rejects a later step. No allocation fails any more. If there was no
 /// memory for the list, nothing was done, and the importer accepts the step.
-fn rejects_more(alloc: Global, importer: &mut Importer<Memory>, stopped: &Stopped) -> bool {
+fn rejects_more(alloc: Global, importer: &mut Importer<Memory>, done: &[Imported]) -> bool {
     match outcome_by(alloc, importer, "A", &[]) {
         Some(7) => true,
-        Some(0) => stopped.done.is_empty(),
+        Some(0) => done.is_empty(),
         _ => false,
     }
+}
+
+/// Whether an import stopped only at an allocation failure, and a new importer imports all steps.
+fn is_cut_off(
+    alloc: Global,
+    importer: &mut Importer<Memory>,
+    steps: &[Step],
+    done: &[Imported],
+    error: &ImportError,
+) -> bool {
+    are_first_commits(done)
+        && is_for_memory(error)
+        && rejects_more(alloc, importer, done)
+        && has_all(alloc, importer.store_mut(), done)
+        && import(&mut importer_of(alloc), steps).has(&COMMITS, 0)
 }
 
 /// Whether the steps are imported, or stopped and then imported by a new importer.
 fn imports_or_is_cut_off(alloc: Global, steps: &[Step]) -> bool {
     let mut importer = importer_of(alloc);
-    match import_all(&mut importer, steps) {
-        Ok(imported) => are_commits(&imported, &COMMITS),
-        Err(stopped) => {
-            is_cut_off(&stopped)
-                && rejects_more(alloc, &mut importer, &stopped)
-                && has_all(alloc, importer.store_mut(), &stopped.done)
-                && imports(&mut importer_of(alloc), steps, &COMMITS)
-        }
+    let outcome = import(&mut importer, steps);
+    match &outcome.error {
+        Some(error) => is_cut_off(alloc, &mut importer, steps, &outcome.done, error),
+        None => outcome.has(&COMMITS, 0),
     }
 }
 
 /// The three steps, built again if an allocation fails.
-fn plain_steps_at_last(alloc: Global) -> Result<Vec<Step>, AllocError> {
-    match plain_steps(alloc) {
-        Ok(steps) => Ok(steps),
-        Err(_) => plain_steps(alloc),
+fn steps_at_last(alloc: Global) -> Option<Vec<Step>> {
+    match try_steps_of(alloc, &STEPS) {
+        Ok(steps) => Some(steps),
+        Err(_) => try_steps_of(alloc, &STEPS).ok(),
     }
 }
 
 /// Whether the three steps are imported, or stopped and then imported by a new importer.
 fn imports_plain_at_last(alloc: Global) -> bool {
-    match plain_steps_at_last(alloc) {
-        Ok(steps) => imports_or_is_cut_off(alloc, &steps),
-        Err(_) => false,
+    match steps_at_last(alloc) {
+        Some(steps) => imports_or_is_cut_off(alloc, &steps),
+        None => false,
     }
 }
 

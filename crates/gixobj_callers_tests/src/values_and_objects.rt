@@ -2,10 +2,10 @@
 ghost use Rattle.gix_object.specs.CommitViews.{commit_lines};
 ghost use Rattle.gix_object.specs.Hash.{IsIdHex};
 
-use crate::samples::id;
 use bstr::BStr;
 use gix_object::hash::{Kind as HashKind, ObjectId, oid};
 use gix_object::{CommitRef, Data, Exists, FindHeader, Kind};
+use gix_object_tests::samples::id;
 use gixobj_callers::auditor::value_of;
 use gixobj_callers::shelf::Shelf;
 use std::alloc::Global;

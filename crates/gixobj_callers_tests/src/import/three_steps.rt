@@ -2,12 +2,12 @@
 //! commit-tree` print the ids, in a repository of either object format.
 
 use crate::import::samples::{
-    COMMITS, STEPS, are_commits, importer_of, kept_commit, outcome_by, steps_of,
+    COMMITS, Outcome, STEPS, StepRow, import_rows, importer_of, kept_commit, outcome_by,
 };
-use crate::samples::{Row, id};
 use gix_object::Memory;
 use gix_object::hash::Kind as HashKind;
-use gix_object::import::{Imported, Importer, Step, import_all};
+use gix_object::import::{Imported, Importer};
+use gix_object_tests::samples::{Row, id};
 use std::alloc::Global;
 
 /// The tree of each step, the number of emitted trees, and the size of the commit.
@@ -48,13 +48,16 @@ const NEW: &[u8] = b"bd965fae20eb0dd136c5fb90b7c99ea1863ab46bb9a2647be049f387517
 const OTHER: &[u8] = b"6d5fd291bb0f67444e99ab492f1bf1fcdf5dca09dab24cf331e05111b4cfc1a3";
 
 /// The three steps with ids by SHA-256.
-const STEPS_256: [&[Row]; 3] = [
-    &[Row::File(&["test.txt"], OLD)],
-    &[
-        Row::File(&["new.txt"], OTHER),
-        Row::File(&["test.txt"], NEW),
-    ],
-    &[Row::File(&["bak", "test.txt"], OLD)],
+const STEPS_256: [StepRow; 3] = [
+    ("A", &[Row::File(&["test.txt"], OLD)]),
+    (
+        "A",
+        &[
+            Row::File(&["new.txt"], OTHER),
+            Row::File(&["test.txt"], NEW),
+        ],
+    ),
+    ("A", &[Row::File(&["bak", "test.txt"], OLD)]),
 ];
 
 /// Whether the trees are these, with these numbers of emitted trees.
@@ -67,31 +70,9 @@ fn are_trees(imported: &[Imported], rows: &[(&str, usize, usize)]) -> bool {
     true
 }
 
-/// Whether the steps are imported as these trees and commits.
-fn imports_steps(
-    importer: &mut Importer<Memory>,
-    steps: &[Step],
-    rows: &[(&str, usize, usize)],
-    commits: &[&str],
-) -> bool {
-    match import_all(importer, steps) {
-        Ok(imported) => are_trees(&imported, rows) && are_commits(&imported, commits),
-        Err(_) => false,
-    }
-}
-
-/// Whether the steps of these rows are imported as these trees and commits.
-fn imports_rows(
-    alloc: Global,
-    importer: &mut Importer<Memory>,
-    list: &[&[Row]],
-    rows: &[(&str, usize, usize)],
-    commits: &[&str],
-) -> bool {
-    match steps_of(alloc, list) {
-        Ok(steps) => imports_steps(importer, &steps, rows, commits),
-        Err(_) => false,
-    }
+/// Whether all steps are imported as these trees and commits.
+fn is_imported(outcome: &Outcome, rows: &[(&str, usize, usize)], commits: &[&str]) -> bool {
+    are_trees(&outcome.done, rows) && outcome.has(commits, 0)
 }
 
 /// Whether a store has these commits with these sizes.
@@ -113,7 +94,7 @@ fn has_commits(
 fn imports_three_steps_and_rejects_two(rt: HostRuntime) {
     let alloc = rt.alloc();
     let mut importer = importer_of(alloc);
-    assert!(rt; imports_rows(alloc, &mut importer, &STEPS, &SHA1, &COMMITS));
+    assert!(rt; is_imported(&import_rows(alloc, &mut importer, &STEPS), &SHA1, &COMMITS));
     assert!(rt; outcome_by(alloc, &mut importer, "A>", &[]) == Some(5));
     assert!(rt; outcome_by(alloc, &mut importer, "A", &[]) == Some(7));
     assert!(rt; has_commits(alloc, importer.store_mut(), &SHA1, &COMMITS));
@@ -123,6 +104,7 @@ fn imports_three_steps_and_rejects_two(rt: HostRuntime) {
 fn imports_three_steps_by_sha256(rt: HostRuntime) {
     let alloc = rt.alloc();
     let mut importer = Importer::new(alloc, Memory::new(alloc), HashKind::Sha256);
-    assert!(rt; imports_rows(alloc, &mut importer, &STEPS_256, &SHA256, &COMMITS_256));
+    let outcome = import_rows(alloc, &mut importer, &STEPS_256);
+    assert!(rt; is_imported(&outcome, &SHA256, &COMMITS_256));
     assert!(rt; has_commits(alloc, importer.store_mut(), &SHA256, &COMMITS_256));
 }

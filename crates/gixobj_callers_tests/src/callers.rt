@@ -13,10 +13,10 @@ mod signers;
 mod tags;
 mod uploads;
 
-use crate::samples::id;
 use bstr::BStr;
 use gix_object::CommitRef;
 use gix_object::hash::{Kind, ObjectId};
+use gix_object_tests::samples::id;
 use gixobj_callers::auditor::{position_of, value_of, values_of};
 use gixobj_callers::importer::owned_copy_of;
 use gixobj_callers::store::{CopyError, copy_of};
@@ -43,34 +43,20 @@ const CUT: &[u8] = b"tree 4b";
 
 /// The tree of a commit. `None` for malformed input.
 fn tree_in(alloc: Global, bytes: &[u8]) -> Option<ObjectId> {
-    match tree_of(alloc, bytes, Kind::Sha1) {
-        Ok(tree) => Some(tree),
-        Err(_) => None,
-    }
+    tree_of(alloc, bytes, Kind::Sha1).ok()
 }
 
-/// Whether the list is both parents in order.
-fn are_both(parents: &[ObjectId]) -> bool {
-    match parents {
-        [first, second] => *first == id(FIRST) && *second == id(SECOND),
-        _ => false,
-    }
-}
-
-/// Whether the commit has both parents.
+/// Whether the commit has both parents in order.
 fn has_both_parents(alloc: Global) -> bool {
     match parents_of(alloc, MERGE, Kind::Sha1) {
-        Ok(parents) => are_both(&parents),
+        Ok(parents) => parents.as_slice() == [id(FIRST), id(SECOND)].as_slice(),
         Err(_) => false,
     }
 }
 
 /// Whether the commit has its message.
 fn has_message(alloc: Global) -> bool {
-    match message_of(alloc, MERGE, Kind::Sha1) {
-        Ok(message) => message == BStr::new(b"hi\n"),
-        Err(_) => false,
-    }
+    message_of(alloc, MERGE, Kind::Sha1).ok() == Some(BStr::new(b"hi\n"))
 }
 
 #[test]
@@ -83,18 +69,10 @@ fn finds_tree_parents_and_message(rt: HostRuntime) {
     assert!(rt; tree_in(alloc, CUT).is_none());
 }
 
-/// Whether the commit's copy has the same bytes.
-fn is_copied(alloc: Global) -> bool {
-    match copy_of(alloc, MERGE, Kind::Sha1) {
-        Ok(copy) => copy.as_slice() == MERGE,
-        Err(_) => false,
-    }
-}
-
-/// Whether the commit's copy through its owned form has the same bytes.
-fn is_copied_by_owned(alloc: Global) -> bool {
-    match owned_copy_of(alloc, MERGE, Kind::Sha1) {
-        Ok(copy) => copy.as_slice() == MERGE,
+/// Whether a copy has these bytes.
+fn is_copy(copied: Result<Vec<u8>, CopyError>, bytes: &[u8]) -> bool {
+    match copied {
+        Ok(copy) => copy.as_slice() == bytes,
         Err(_) => false,
     }
 }
@@ -107,11 +85,12 @@ fn is_not_read(alloc: Global) -> bool {
     }
 }
 
+/// A commit is copied, also through its owned form.
 #[test]
 fn copies_commit_and_rejects_cut_one(rt: HostRuntime) {
     let alloc = rt.alloc();
-    assert!(rt; is_copied(alloc));
-    assert!(rt; is_copied_by_owned(alloc));
+    assert!(rt; is_copy(copy_of(alloc, MERGE, Kind::Sha1), MERGE));
+    assert!(rt; is_copy(owned_copy_of(alloc, MERGE, Kind::Sha1), MERGE));
     assert!(rt; is_not_read(alloc));
 }
 

@@ -1,10 +1,9 @@
 //! A walk through a caller's own store of two commits and their trees.
 
-use crate::samples::{id, path_of};
-use bstr::BString;
 use gix_object::hash::{Kind as HashKind, ObjectId};
 use gix_object::tree::Entry;
 use gix_object::{Data, Kind};
+use gix_object_tests::samples::{id, path_of};
 use gixobj_callers::history::{Error, ancestor, entry_of};
 use gixobj_callers::shelf::Shelf;
 use std::alloc::Global;
@@ -69,18 +68,12 @@ fn ancestor_at(alloc: Global, generations: u32) -> Result<ObjectId, Error> {
 
 /// Whether the ancestor `generations` commits before the second one has this id.
 fn is_ancestor(alloc: Global, generations: u32, hex: &[u8]) -> bool {
-    match ancestor_at(alloc, generations) {
-        Ok(found) => found == id(hex),
-        Err(_) => false,
-    }
+    ancestor_at(alloc, generations).ok() == Some(id(hex))
 }
 
 /// Whether a walk over `generations` commits reaches a commit without parents.
 fn has_no_ancestor(alloc: Global, generations: u32) -> bool {
-    match ancestor_at(alloc, generations) {
-        Err(Error::NoParent(_)) => true,
-        _ => false,
-    }
+    matches!(&ancestor_at(alloc, generations), Err(Error::NoParent(_)))
 }
 
 #[test]
@@ -92,10 +85,10 @@ fn finds_ancestor_in_each_generation(rt: HostRuntime) {
 }
 
 /// The entry at a path in the tree of a commit.
-fn at(alloc: Global, commit: &[u8], path: &[BString]) -> Result<Option<Entry>, Error> {
+fn at(alloc: Global, commit: &[u8], names: &[&str]) -> Result<Option<Entry>, Error> {
     let objects = objects();
     let store = Shelf { objects: &objects };
-    entry_of(alloc, &store, id(commit), path)
+    entry_of(alloc, &store, id(commit), &path_of(alloc, names))
 }
 
 /// Whether the entry is the file of the inner tree.
@@ -103,21 +96,13 @@ fn is_version_1(entry: &Entry) -> bool {
     entry.oid == id(VERSION_1) && entry.filename.as_bytes() == b"test.txt".as_slice()
 }
 
-/// Names the result of a lookup.
-fn outcome_name(found: &Result<Option<Entry>, Error>) -> &'static str {
-    match found {
+/// Names the result of the lookup of a path in the tree of a commit.
+fn found_at(alloc: Global, commit: &[u8], names: &[&str]) -> &'static str {
+    match &at(alloc, commit, names) {
         Ok(Some(entry)) if is_version_1(entry) => "version 1",
         Ok(None) => "nothing",
         Err(Error::Commit(_)) => "no commit",
         _ => "otherwise",
-    }
-}
-
-/// Names the result of the lookup of a path in the tree of a commit.
-fn found_at(alloc: Global, commit: &[u8], names: &[&str]) -> &'static str {
-    match path_of(alloc, names) {
-        Ok(path) => outcome_name(&at(alloc, commit, &path)),
-        Err(_) => "no memory",
     }
 }
 

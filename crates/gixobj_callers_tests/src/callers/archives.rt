@@ -1,10 +1,10 @@
 //! The tip of an archived history.
 
-use crate::import::samples::{COMMITS, plain_steps};
-use crate::samples::id;
+use crate::import::samples::{COMMITS, STEPS, steps_of};
 use gix_object::Memory;
 use gix_object::hash::Kind;
 use gix_object::import::{Imported, Step};
+use gix_object_tests::samples::id;
 use gixobj_callers::archive::tip_of;
 use std::alloc::Global;
 
@@ -26,17 +26,9 @@ fn has_last(alloc: Global, steps: &[Step]) -> Option<bool> {
     }
 }
 
-/// Whether the tip of the three steps is the last one.
-fn is_archived(alloc: Global) -> bool {
-    match plain_steps(alloc) {
-        Ok(steps) => has_last(alloc, &steps) == Some(true),
-        Err(_) => false,
-    }
-}
-
 #[test]
 fn returns_last_step_as_tip(rt: HostRuntime) {
     let alloc = rt.alloc();
-    assert!(rt; is_archived(alloc));
+    assert!(rt; has_last(alloc, &steps_of(alloc, &STEPS)) == Some(true));
     assert!(rt; has_last(alloc, &[]).is_none());
 }

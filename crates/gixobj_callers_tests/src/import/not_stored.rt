@@ -1,0 +1,74 @@
+//! Imports in which each call to keep a tree or a commit fails in turn.
+
+use crate::import::samples::{
+    COMMITS, STEPS, are_first_commits, has_all, import_rows, imports_plain, outcome_by,
+};
+use gix_object::Memory;
+use gix_object::hash::Kind as HashKind;
+use gix_object::import::{Imported, Importer};
+use gixobj_find_tests::failing::Failing;
+use std::alloc::Global;
+
+/// The calls that fail; how many steps are imported before; how many calls are made, and how many of them
+/// keep a commit. The steps keep one tree, one tree, and two trees, each with a commit.
+const ROWS: [(&[u64], usize, (u64, u64)); 7] = [
+    (&[1], 0, (1, 0)),
+    (&[2], 0, (2, 1)),
+    (&[3], 1, (3, 1)),
+    (&[4], 1, (4, 2)),
+    (&[5], 2, (5, 2)),
+    (&[6], 2, (6, 2)),
+    (&[7], 2, (7, 3)),
+];
+
+/// An importer into an empty store in which the calls to keep something at these positions fail.
+fn failing(alloc: Global, rejected: &'static [u64]) -> Importer<Failing> {
+    let store = Failing::new(alloc, Memory::new(alloc), &[], rejected);
+    Importer::new(alloc, store, HashKind::Sha1)
+}
+
+/// Whether this many calls were made to keep something, and to keep a commit.
+fn has_counts(store: &Failing, counts: (u64, u64)) -> bool {
+    (store.keeps(), store.commits()) == counts
+}
+
+/// Whether these calls were made, with none for a later step, and the store has the commits.
+fn keeps_only_done_steps(
+    alloc: Global,
+    importer: &mut Importer<Failing>,
+    done: &[Imported],
+    counts: (u64, u64),
+) -> bool {
+    has_counts(importer.store_mut(), counts)
+        && outcome_by(alloc, importer, "A", &[]) == Some(7)
+        && has_counts(importer.store_mut(), counts)
+        && has_all(alloc, importer.store_mut(), done)
+}
+
+/// Whether an import stops after `before` steps, and the importer rejects a later step.
+fn stops(alloc: Global, rejected: &'static [u64], before: usize, counts: (u64, u64)) -> bool {
+    let mut importer = failing(alloc, rejected);
+    let outcome = import_rows(alloc, &mut importer, &STEPS);
+    outcome.number() == 4
+        && outcome.done.len() == before
+        && are_first_commits(&outcome.done)
+        && keeps_only_done_steps(alloc, &mut importer, &outcome.done, counts)
+}
+
+#[test]
+fn stops_at_each_failed_keep(rt: HostRuntime) {
+    for &(rejected, before, counts) in &ROWS {
+        assert!(rt;
+            stops(rt.alloc(), rejected, before, counts),
+            "at {rejected:?}"
+        );
+    }
+}
+
+#[test]
+fn imports_steps_if_no_keep_fails(rt: HostRuntime) {
+    let alloc = rt.alloc();
+    let mut importer = failing(alloc, &[8]);
+    assert!(rt; imports_plain(alloc, &mut importer, &COMMITS, 0));
+    assert!(rt; has_counts(importer.store_mut(), (7, 3)));
+}
