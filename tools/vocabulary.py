@@ -1,6 +1,6 @@
 """The in-house words that names and comments avoid, and the search for them: `tools/house --vocabulary`.
 
-Searched are the names and comments of src/, specs/ and proofs/, and the file names of must-fail/. A name is searched
+Searched are the names and comments of src/, specs/ and proofs/, and the file names of mutants. A name is searched
 component by component: `write_text` has the components `write` and `text`. A comment is searched without what is in
 backticks. Strings and data/ aren't searched.
 """
@@ -159,8 +159,10 @@ def places_of_mutant(path):
 def places_of(top, crate):
     """The places of a crate: of its sources, definitions and proofs, and of the names of its mutants."""
     found = []
-    for folder, ending in (("src", ".rt"), ("specs", ".antt"), ("proofs", ".antt"), ("must-fail", ".edit")):
-        for at, folders, names in os.walk(f"{top}/crates/{crate}/{folder}"):
+    own, mutants = f"crates/{crate}", f"mutants/{crate}"
+    parts = ((f"{own}/src", ".rt"), (f"{own}/specs", ".antt"), (f"{own}/proofs", ".antt"), (f"{own}/must-fail", ".edit"))
+    for folder, ending in (*parts, (mutants, ".edit")):
+        for at, folders, names in os.walk(f"{top}/{folder}"):
             folders.sort()
             for name in sorted(it for it in names if it.endswith(ending)):
                 path = os.path.relpath(f"{at}/{name}", top)
