@@ -37,7 +37,7 @@ struct Row {
 }
 
 /// A script that inserts the directory `a` by the id of a stored tree, which isn't opened.
-const SHUT: &str = "upsert blob 0101010101010101010101010101010101010101 a/b
+const CLOSED: &str = "upsert blob 0101010101010101010101010101010101010101 a/b
 write
 root
 upsert tree ba0ec9c341e1d7e56243006b86ff39209e431800 a
@@ -46,7 +46,7 @@ upsert tree ba0ec9c341e1d7e56243006b86ff39209e431800 a
 const ROWS: &[Row] = &[
     Row {
         name: "shut-directories-and-files",
-        script: SHUT,
+        script: CLOSED,
         cursor: None,
         gets: &[
             (b"a", Got::Directory),
@@ -104,7 +104,7 @@ at a remove .
     },
     Row {
         name: "a-cursor-at-the-root",
-        script: SHUT,
+        script: CLOSED,
         cursor: Some(b"."),
         gets: &[(b"a", Got::Directory), (b"a c", Got::Nothing)],
         lookups: 0,
@@ -123,7 +123,7 @@ at . upsert blob 0101010101010101010101010101010101010101 a/c
     },
     Row {
         name: "files-of-a-directory",
-        script: SHUT,
+        script: CLOSED,
         cursor: Some(b"a"),
         gets: &[
             (b".", Got::Nothing),
