@@ -4,9 +4,10 @@
 use super::CUT;
 use bstr::{BString, ByteSlice};
 use gix_object::hash::Kind as HashKind;
+use gix_object::laws::{signed_commit_has_payload, signed_tag_has_payload};
 use gix_object::signature::verify::{self, Outcome, TrustLevel};
 use gix_object::signature::{Call, Format, Output, RunError, Runner, sign};
-use gix_object::{Commit, CommitRef, Kind, decode};
+use gix_object::{Commit, CommitRef, Kind, Tag, TagRef, WriteTo, decode};
 use gix_object_tests::samples::string_of;
 use gixobj_callers::releases::{AuditError, audit, signed_payload};
 use std::alloc::Global;
@@ -175,6 +176,63 @@ fn signs_payload_without_old_signature(rt: HostRuntime) {
     assert!(rt; is_signed_as(alloc, PLAIN, PLAIN, SIGNED));
     assert!(rt; is_signed_as(alloc, SIGNED, PLAIN, SIGNED));
     assert!(rt; !is_signed_as(alloc, PLAIN, SIGNED, SIGNED));
+}
+
+/// Whether the encoding of a commit is `wanted`.
+fn is_commit_encoding(alloc: Global, commit: &Commit, wanted: &[u8]) -> bool {
+    let mut content = Vec::new(alloc);
+    commit.write_to_vec(alloc, &mut content).is_ok() && content.as_slice() == wanted
+}
+
+/// Whether a commit is `signed` after the law of signed commits has signed it, with this payload.
+fn is_signed_by_law(alloc: Global, commit: Commit, payload: &'static [u8], signed: &[u8]) -> bool {
+    let mut runner = runner(
+        alloc,
+        payload,
+        None,
+        (SIGNATURE, b"[GNUPG:] SIG_CREATED x\n"),
+    );
+    match signed_commit_has_payload(alloc, commit, signing_options(alloc), &mut runner) {
+        Ok(commit) => is_commit_encoding(alloc, &commit, signed),
+        Err(_) => false,
+    }
+}
+
+/// Whether the encoding of a tag is `wanted`.
+fn is_tag_encoding(alloc: Global, tag: &Tag, wanted: &[u8]) -> bool {
+    let mut content = Vec::new(alloc);
+    tag.write_to_vec(alloc, &mut content).is_ok() && content.as_slice() == wanted
+}
+
+/// Whether a tag is `signed` after the law of signed tags has signed it, with this payload.
+fn is_tag_signed_by_law(alloc: Global, tag: Tag, payload: &'static [u8], signed: &[u8]) -> bool {
+    let mut runner = runner(
+        alloc,
+        payload,
+        None,
+        (SIGNATURE, b"[GNUPG:] SIG_CREATED x\n"),
+    );
+    match signed_tag_has_payload(alloc, tag, signing_options(alloc), &mut runner) {
+        Ok(tag) => is_tag_encoding(alloc, &tag, signed),
+        Err(_) => false,
+    }
+}
+
+/// Decodes a tag into its owned form.
+fn tag_of(alloc: Global, content: &[u8]) -> Option<Tag> {
+    match TagRef::from_bytes(content, HashKind::Sha1) {
+        Ok(tag) => tag.into_owned(alloc).ok(),
+        Err(_) => None,
+    }
+}
+
+#[test]
+fn laws_of_signed_objects_sign(rt: HostRuntime) {
+    let alloc = rt.alloc();
+    let commit = commit_of(alloc, PLAIN).expect(&rt, "a commit");
+    assert!(rt; is_signed_by_law(alloc, commit, PLAIN, SIGNED));
+    let tag = tag_of(alloc, SIGNED_TAG).expect(&rt, "a tag");
+    assert!(rt; is_tag_signed_by_law(alloc, tag, PLAIN_TAG, SIGNED_TAG));
 }
 
 /// Options of verification.

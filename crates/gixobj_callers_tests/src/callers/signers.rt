@@ -1,10 +1,11 @@
-//! Sign-offs of a commit, and the parts of a body.
+//! Sign-offs of a commit, its last trailer, and the parts of a body.
 
+use bstr::ByteSlice;
 use gix_object::commit::message::BodyRef;
 use gix_object::commit::message::body::TrailerRef;
-use gix_object::decode;
 use gix_object::hash::Kind;
-use gixobj_callers::signers::{parts_of, signers_of};
+use gix_object::{CommitRef, decode};
+use gixobj_callers::signers::{last_trailer_of, parts_of, signers_of};
 use std::alloc::Global;
 
 /// A commit with two sign-offs, one of them folded over two lines.
@@ -47,6 +48,41 @@ fn finds_sign_offs_and_rejects_malformed_commit(rt: HostRuntime) {
     let alloc = rt.alloc();
     assert!(rt; are_signers(alloc, b"A", b"C D"));
     assert!(rt; is_malformed(alloc, b"tree 4b"));
+}
+
+/// Whether the last trailer of the commit has this token and this value.
+fn is_last_trailer(alloc: Global, commit: &CommitRef<'_>, token: &[u8], value: &[u8]) -> bool {
+    match last_trailer_of(alloc, commit) {
+        Ok(Some(trailer)) => {
+            trailer.token.as_bytes() == token && trailer.value.as_slice() == value
+        }
+        _ => false,
+    }
+}
+
+/// Whether the last trailer of the encoded commit has this token and this value.
+fn ends_with_trailer(alloc: Global, bytes: &[u8], token: &[u8], value: &[u8]) -> bool {
+    match CommitRef::from_bytes(alloc, bytes, Kind::Sha1) {
+        Ok(commit) => is_last_trailer(alloc, &commit, token, value),
+        Err(_) => false,
+    }
+}
+
+/// A commit with two trailers of one line each.
+const ONE_LINE: &[u8] = b"tree 4b825dc642cb6eb9a060e54bf8d69288fbee4904\n\
+    author A <a@b> 0 +0000\n\
+    committer A <a@b> 0 +0000\n\
+    \n\
+    hi\n\
+    \n\
+    Signed-off-by: A\n\
+    Acked-by: B\n";
+
+#[test]
+fn finds_last_trailer(rt: HostRuntime) {
+    let alloc = rt.alloc();
+    assert!(rt; ends_with_trailer(alloc, ONE_LINE, b"Acked-by", b"B"));
+    assert!(rt; ends_with_trailer(alloc, SIGNED, b"SIGNED-OFF-BY", b"C D"));
 }
 
 /// Counts the parts of a body. `None` if memory runs out.
