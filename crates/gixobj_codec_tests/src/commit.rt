@@ -27,5 +27,5 @@ pub(crate) fn read(alloc: Global, bytes: &[u8]) -> Result<CommitRef<'_>, decode:
 
 /// Returns the owned form of a decoded commit.
 pub(crate) fn owned_form(alloc: Global, bytes: &[u8]) -> Result<Commit, decode::Error> {
-    read(alloc, bytes)?.into_owned(alloc)
+    CommitRef::from_bytes(alloc, bytes, Sha1)?.into_owned(alloc)
 }

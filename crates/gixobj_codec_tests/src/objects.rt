@@ -12,7 +12,7 @@ use gixobj_base::hash::{Kind as HashKind, ObjectId};
 use gixobj_base::{Blob, Kind, WriteTo};
 use gixobj_codec::LooseDecodeError::{self, InvalidContent, InvalidHeader};
 use gixobj_codec::{Data, Object, ObjectRef, data};
-use samples::KINDS;
+use samples::{KINDS, bytes_of};
 use std::alloc::Global;
 
 #[test]
@@ -112,7 +112,8 @@ fn is_read_copied(alloc: Global, kind: Kind) -> bool {
 
 /// Returns the owned sample of this kind, by `to_owned`.
 fn owned_again(alloc: Global, kind: Kind) -> Option<Object> {
-    borrowed::object(alloc, kind)?.to_owned(alloc).ok()
+    let object = ObjectRef::from_bytes(alloc, bytes_of(kind), kind, HashKind::Sha1);
+    object.ok()?.to_owned(alloc).ok()
 }
 
 /// Returns whether the owned sample of this kind equals its clone, and the result of `to_owned`.

@@ -1,11 +1,11 @@
 //! Commits with failed allocations: each call returns out of memory in its own error and succeeds when made
 //! again; a failed reader yields nothing more.
 
-use super::{PLAIN, SIGNED, owned_form, read};
+use super::{PLAIN, SIGNED, owned_form};
 use crate::helpers::{Answer, completes, written};
 use gixobj_base::hash::Kind;
 use gixobj_base::{WriteTo, decode, encode};
-use gixobj_codec::CommitRefIter;
+use gixobj_codec::{CommitRef, CommitRefIter};
 use std::alloc::Global;
 
 /// The plain commit with a header without a value.
@@ -43,7 +43,7 @@ fn of_commit<T: WriteTo>(alloc: Global, commit: &T, bytes: &[u8]) -> Answer
 
 /// Classifies decoding a commit and writing it.
 fn of_read(alloc: Global, bytes: &[u8]) -> Answer {
-    match read(alloc, bytes) {
+    match CommitRef::from_bytes(alloc, bytes, Kind::Sha1) {
         Ok(commit) => of_commit(alloc, &commit, bytes),
         Err(error) => of_error(&error),
     }

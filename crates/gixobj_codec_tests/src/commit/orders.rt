@@ -71,7 +71,7 @@ fn is_owned_ordered(alloc: Global, commit: &Commit, bytes: &[u8], wanted: Orderi
 
 /// Returns the owned form of the plain commit, by `to_owned`.
 fn owned_again(alloc: Global) -> Result<Commit, Error> {
-    read(alloc, PLAIN)?.to_owned(alloc)
+    CommitRef::from_bytes(alloc, PLAIN, Kind::Sha1)?.to_owned(alloc)
 }
 
 #[test]

@@ -19,14 +19,14 @@ fn long_commit(alloc: Global) -> Result<String, AllocError> {
 
 /// Returns whether both forms of a commit are written back as its input.
 fn is_written_back(alloc: Global, bytes: &[u8]) -> bool {
-    holds!(read(alloc, bytes), Ok(commit) => is_written(alloc, &commit, bytes))
+    holds!(CommitRef::from_bytes(alloc, bytes, Kind::Sha1), Ok(commit) => is_written(alloc, &commit, bytes))
         && holds!(owned_form(alloc, bytes), Ok(commit) => is_written(alloc, &commit, bytes))
 }
 
 /// Returns whether a commit has these counts of parents and tokens.
 fn has_counts(alloc: Global, bytes: &[u8], parents: usize, tokens: usize) -> bool {
     CommitRefIter::from_bytes(alloc, bytes, Kind::Sha1).count() == tokens
-        && holds!(read(alloc, bytes), Ok(commit) => commit.parents().count() == parents)
+        && holds!(CommitRef::from_bytes(alloc, bytes, Kind::Sha1), Ok(commit) => commit.parents().count() == parents)
 }
 
 /// Returns whether the long commit is written back, with this length and these counts of parents and tokens.
@@ -65,7 +65,7 @@ const WITH_HEADERS: &[u8] = b"tree 4b825dc642cb6eb9a060e54bf8d69288fbee4904\n\
 
 /// Returns whether each writer with too little room fails for a decoded commit.
 fn stops_read(alloc: Global, bytes: &[u8]) -> bool {
-    holds!(read(alloc, bytes), Ok(commit) => stops(alloc, &commit, bytes))
+    holds!(CommitRef::from_bytes(alloc, bytes, Kind::Sha1), Ok(commit) => stops(alloc, &commit, bytes))
 }
 
 /// Writing fails for the plain commit, and for the one with headers.
@@ -109,6 +109,8 @@ fn is_owned_encoded(alloc: Global, commit: &Commit, bytes: &[u8]) -> bool {
 #[test]
 fn reencodes_identically(rt: HostRuntime) {
     let alloc = rt.alloc();
-    assert!(rt; holds!(read(alloc, SIGNED), Ok(it) => is_encoded(alloc, &it, SIGNED)));
+    assert!(rt;
+        holds!(CommitRef::from_bytes(alloc, SIGNED, Kind::Sha1), Ok(it) => is_encoded(alloc, &it, SIGNED))
+    );
     assert!(rt; holds!(owned_form(alloc, SIGNED), Ok(it) => is_owned_encoded(alloc, &it, SIGNED)));
 }

@@ -1,15 +1,17 @@
 //! Owned objects of each kind, converted into each kind.
 
 use super::samples::{KINDS, PAIRS, bytes_of};
-use super::{borrowed, is_before, is_same};
+use super::{is_before, is_same};
 use crate::helpers::holds;
+use gixobj_base::hash::Kind as HashKind;
 use gixobj_base::{Blob, Kind, Tree};
-use gixobj_codec::{Commit, Object, Tag};
+use gixobj_codec::{Commit, Object, ObjectRef, Tag};
 use std::alloc::Global;
 
 /// Decodes an object into its owned form.
 pub(super) fn read(alloc: Global, kind: Kind, bytes: &[u8]) -> Option<Object> {
-    borrowed::read(alloc, kind, bytes)?.into_owned(alloc).ok()
+    let object = ObjectRef::from_bytes(alloc, bytes, kind, HashKind::Sha1);
+    object.ok()?.into_owned(alloc).ok()
 }
 
 /// Returns the owned sample of this kind.
