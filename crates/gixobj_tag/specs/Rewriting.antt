@@ -1,4 +1,4 @@
--- Tags that are decoded and encoded again.
+-- Tags that are decoded and encoded again (gitdatamodel, "tag objects").
 use Rattle.std.specs.Prelude.{◌≡◌, ◌⊎◌, ℕ, List, IsFalse, Option, None, Some}
 use Rattle.std.specs.Str.{str_to_ascii_lowercase}
 use Rattle.gixobj_actor.specs.ActorWriting.{IsCanonical, IsUnwritable}
@@ -26,11 +26,12 @@ pub record AreNormalizedPartsOfTag (tag own : TagLines) : Type 0 where
   pub message : own.message ≡ tag.message
   pub signature : own.signature ≡ tag.signature
 
--- the tag has a tagger that no owned form writes
+-- the tag has a tagger whose name or email can't be written
 abbrev pub HasUnwritableTagger : TagLines → Type 0
 HasUnwritableTagger tag = (line : List ℕ) × (tag.tagger ≡ Some line) × IsUnwritable line
 
--- the error of writing a tag's owned form: the sink failed after a prefix, or the name or the tagger isn't valid in it
+-- the error of writing a tag's owned form. Writer: the sink failed after a proper prefix; InvalidRefName or
+-- StartsWithDash: the name is invalid; IllegalActor: the tagger can't be written
 abbrev pub IsNormalizedTagError : TagLines → SinkView → SinkView → List ℕ → Error → Type 0
 IsNormalizedTagError tag before after bytes (error.Writer cause) = AppendsPrefix before after bytes
 IsNormalizedTagError tag before after bytes (error.InvalidRefName fault) = IsFirstFault tag.name fault

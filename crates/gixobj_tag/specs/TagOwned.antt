@@ -1,4 +1,4 @@
--- Decoded taggers and owned tags.
+-- Decoded taggers, owned tags, and the error of a copy (gitdatamodel, "tag objects").
 use Rattle.std.specs.Prelude.{◌≡◌, ℕ, List, Option, Some, None, ⊤}
 use Rattle.bstr.specs.Owned.{bstring_bytes}
 use Rattle.gixobj_actor.specs.Actor.{IsActorOf, IsNoActor, IsOwnedActor, IsTrimmedActor, NamesActor, actor_view}
@@ -25,17 +25,17 @@ IsTagger (Some line) (Some actor) = IsActorOf line (actor_view actor)
 IsTagger None (Some actor) = ⊥
 IsTagger (Some line) None = ⊥
 
--- there is a tagger line that is no actor, or in which bytes follow the actor
+-- there is a tagger line that is malformed, or in which bytes follow the time of its actor
 abbrev pub IsBadTagger : Option (List ℕ) → Type 0
 IsBadTagger None = ⊥
 IsBadTagger (Some line) = IsNoActor line
 
--- the tagger line, if there is one, is an actor to its end
+-- the tagger line, if there is one, is an actor, and nothing follows its time
 abbrev pub IsGoodTagger : Option (List ℕ) → Type 0
 IsGoodTagger None = ⊤
 IsGoodTagger (Some line) = NamesActor line
 
--- the actor of the tagger line, untrimmed, with its decoded time, or none without a line
+-- the actor of the tagger line, untrimmed, with its decoded time or the default one; or none without a line
 abbrev pub IsOwnedTagger : Option (List ℕ) → Option Signature → Type 0
 IsOwnedTagger None None = ⊤
 IsOwnedTagger (Some line) (Some actor) = IsOwnedActor line actor
@@ -51,7 +51,8 @@ pub record IsOwnedFormOfTag (lines : TagLines) (tag : Tag) : Type 0 where
   pub message : bstring_bytes tag.message ≡ lines.message
   pub signature : owned_bytes_if_some tag.signature ≡ lines.signature
 
--- the error of a copy: the tagger line isn't an actor to its end, or else memory ran out
+-- Malformed: the tagger line is malformed, or bytes follow its time; OutOfMemory: the tagger line is valid or absent,
+-- and an allocation failed
 abbrev pub IsIntoOwnedTagError : TagLines → Error → Type 0
 IsIntoOwnedTagError lines Malformed = IsBadTagger lines.tagger
 IsIntoOwnedTagError lines OutOfMemory = IsGoodTagger lines.tagger

@@ -54,8 +54,8 @@ abbrev pub HasNoPayload : Tag → Error → Type 0
 HasNoPayload tag error = (RejectsNothing (IsOwnedTagError tag) × (error ≡ sign.OutOfMemory))
     ⊎ ((cause : encode.Error) × (error ≡ sign.Encode cause) × IsTagEncodingError tag cause)
 
--- the error of a tag that isn't signed. It is a result of the plan for the payload, and no value of the tag is
--- rejected; or the tag can't be written without its signature, and no call was made
+-- why signing fails: the plan for the payload led to this error, and no value of the tag is rejected. Or the tag can't
+-- be encoded without its signature, and no call was made
 abbrev pub IsTagSigningError : {S : Type 0} → (S → CallView → Answer → S → Type 0) → Options → Tag → S → S → Error
     → Type 0
 IsTagSigningError runs options tag old new error =

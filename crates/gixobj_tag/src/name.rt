@@ -15,7 +15,7 @@ pub enum Error {
     /// The name begins with `-`.
     #[error("the name of a tag begins with `-`")]
     StartsWithDash,
-    /// The name isn't valid for a reference. The payload is its first fault.
+    /// The name is invalid as the name of a reference. The payload is its first fault.
     #[error("the name of a tag: {0}")]
     InvalidRefName(RefNameFault),
 }
@@ -35,13 +35,13 @@ impl From<Error> for encode::Error {
 
 /// Returns the name if a tag may have it (git-check-ref-format, "DESCRIPTION"; git-tag, "<tagname>").
 ///
-/// Allocates nothing.
+/// The name is the part of the reference's name after `refs/tags/`. Allocates nothing.
 ///
 /// # Errors
 ///
 /// - [`Error::InvalidRefName`], with the first fault of the name in the order of [`RefNameFault`], if it has
 ///   one.
-/// - [`Error::StartsWithDash`] if a name without a fault begins with `-`, which a command parses as an
+/// - [`Error::StartsWithDash`] if a name without such a fault begins with `-`. A command would parse it as an
 ///   option.
 pub fn validated_name(name: BStr<'_>) -> Result<BStr<'_>, Error>
     ensures accepted { IsOk result ↔ IsTagName (bstr_bytes name.entry) }

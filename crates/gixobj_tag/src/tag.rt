@@ -32,12 +32,13 @@ pub struct TagRef<'a> {
     pub target: BStr<'a>,
     /// The kind of the tagged object.
     pub target_kind: Kind,
-    /// The name of the tag, such as `v1.0`.
+    /// The name of the tag, such as `v1.0`. A writer validates it by [`write::validated_name`].
     pub name: BStr<'a>,
     /// The value of the tagger line with all its white space, or `None` without that line. [`TagRef::tagger`]
     /// decodes it.
     pub tagger: Option<BStr<'a>>,
-    /// The message, without the newline before the signature, if there is one.
+    /// The message: the body without its first newline, the signature, and the newline before the signature.
+    /// A body of newlines alone is the message.
     pub message: BStr<'a>,
     /// The signature at the end of the tag, from its marker on, or `None`. [`TagRef::signature`] detects its
     /// format.
@@ -51,11 +52,11 @@ pub struct Tag {
     pub target: ObjectId,
     /// The kind of the tagged object.
     pub target_kind: Kind,
-    /// The name of the tag, such as `v1.0`.
+    /// The name of the tag, such as `v1.0`. A writer validates it by [`write::validated_name`].
     pub name: BString,
-    /// Who made the tag and when, or `None`.
+    /// Who made the tag and when, or `None`. A writer rejects a name or email with a `<`, a `>` or a newline.
     pub tagger: Option<Signature>,
-    /// The message, without the newline before the signature, if there is one.
+    /// The message. A newline is written before it, unless it consists of newlines alone.
     pub message: BString,
     /// The signature, which is written after the message and a newline, or `None`.
     pub signature: Option<BString>,
@@ -75,11 +76,11 @@ impl<'a> TagRef<'a> {
 
     /// Decodes the tagger, or returns `None` without a tagger line. Allocates nothing.
     ///
-    /// Name, email and time have no white space at their ends.
+    /// White space at the ends of name, email and time is removed.
     ///
     /// # Errors
     ///
-    /// [`Error::Malformed`] if the tagger line is no actor, or if bytes follow the actor.
+    /// [`Error::Malformed`] if the tagger line is malformed, or if bytes follow the time of its actor.
     ///
     /// # Examples
     ///
@@ -114,16 +115,15 @@ impl<'a> TagRef<'a> {
 
 /// Conversion
 impl TagRef<'_> {
-    /// Copies the tag to an owned one.
+    /// Copies the tag into an owned one, and decodes its id, tagger and time. Allocates the copy.
     ///
-    /// The id is decoded, and the tagger is not trimmed. A time that doesn't decode becomes the start of 1970
-    /// in UTC. The field `target` must be an id in hex, as it is in each tag that [`TagRef::from_bytes`]
-    /// returns. Allocates the copies.
+    /// The tagger keeps its white space. A malformed time becomes the start of 1970 in UTC. The field
+    /// `target` must be an id in hex, as it is in each tag that [`TagRef::from_bytes`] returns.
     ///
     /// # Errors
     ///
-    /// - [`Error::Malformed`] if the tagger line is no actor, or if bytes follow the actor.
-    /// - [`Error::OutOfMemory`] if an allocation fails, and the tagger line, if there is one, is valid.
+    /// - [`Error::Malformed`] if the tagger line is malformed, or if bytes follow the time of its actor.
+    /// - [`Error::OutOfMemory`] otherwise, if an allocation fails.
     pub fn into_owned(self, alloc: Global) -> Result<Tag, Error>
         requires { IsIdHex (tag_lines self).target }
         ensures owned { IfOk result (IsOwnedFormOfTag (tag_lines self.entry)) }

@@ -18,7 +18,7 @@ use gixobj_fields::WriteTo;
 use gixobj_fields::encode::Error;
 use std::alloc::Global;
 
-/// Bytes are the encoding of at most one tag.
+/// A tag decodes uniquely: with ids of one kind, bytes decode to at most one tag.
 pub fn tag_decodes_uniquely()
     ensures { (kind : Kind) (content : List ℕ) (tag tag' : TagLines) → DecodesToTag kind content tag
         → DecodesToTag kind content tag' → tag ≡ tag' }
@@ -26,7 +26,7 @@ pub fn tag_decodes_uniquely()
 
 /// A decoded tag is encoded identically if it is unsigned, or if its message isn't newlines alone.
 ///
-/// Writing a tag rejects nothing but a name that no tag may have.
+/// Writing a borrowed tag rejects nothing if its name is valid.
 pub fn tag_reencodes_identically()
     ensures same_bytes { (kind : Kind) (content : List ℕ) (tag : TagLines) → DecodesToTag kind content tag
         → PreservesBody tag → encode_tag tag ≡ content }
@@ -37,8 +37,8 @@ pub fn tag_reencodes_identically()
 /// The owned form of a tag has the same fields.
 ///
 /// The id is in lower case, the tagger and its time are as they are written, and the other fields are
-/// unchanged. Writing fails only if the sink fails, if the name isn't valid, or if the tagger has a byte that
-/// no owned one may have.
+/// unchanged. Writing fails only if the sink fails, if the name is invalid, or if the tagger is illegal. A
+/// tagger is illegal if its name or its email has a `<`, a `>` or a newline.
 pub fn owned_tag_has_same_parts()
     ensures parts { (lines : TagLines) (tag : Tag) → IsOwnedFormOfTag lines tag
         → AreNormalizedPartsOfTag lines (owned_tag_lines tag) }
@@ -55,8 +55,9 @@ pub fn owned_tag_has_same_parts()
 ///
 /// # Errors
 ///
-/// - [`Error::Writer`] if the list has no capacity for the encoding, of which it then has a prefix.
-/// - [`Error::InvalidRefName`] or [`Error::StartsWithDash`] if no tag may have the name.
+/// - [`Error::Writer`] if an allocation of the list fails. A proper prefix of the encoding is then appended.
+/// - [`Error::InvalidRefName`] or [`Error::StartsWithDash`] if the name is invalid. The lines before it are
+///   then appended.
 pub fn tag_decode_encode_agree(
     alloc: Global,
     tag: &TagRef<'_>,

@@ -1,4 +1,4 @@
-//! The faults of a name (git-check-ref-format, "DESCRIPTION"). No test allocates.
+//! The faults of a name (git-check-ref-format, "DESCRIPTION"). Testing for them allocates nothing.
 ghost use Rattle.std.specs.Prelude.{◌≡◌, ◌↔◌, IsTrue, MatchOption};
 ghost use Rattle.gixobj_fields.specs.declared.encode.RefNameFault.TheVariants as fault;
 ghost use Rattle.gixobj_tag.specs.NameRule.{HasFault, HasNoFault, IsFirstFault, IsForbidden};
@@ -57,7 +57,8 @@ fn first_found(name: &[u8]) -> Option<RefNameFault>
     None
 }
 
-/// Whether the name consists of runs of plain bytes, separated by single dots, and doesn't end with `.lock`.
+/// Returns whether the name consists of runs of plain bytes, separated by single dots, and doesn't end with
+/// `.lock`.
 #[inline(always)]
 fn is_plain(name: &[u8]) -> bool
     ensures { IsTrue result ↔ IsPlainName name.now }
@@ -65,7 +66,7 @@ fn is_plain(name: &[u8]) -> bool
     is_dotted(name) && !name.ends_with(b".lock")
 }
 
-/// Whether the name consists of runs of plain bytes, separated by single dots.
+/// Returns whether the name consists of runs of plain bytes, separated by single dots.
 #[inline(always)]
 fn is_dotted(name: &[u8]) -> bool
     ensures { IsTrue result ↔ IsDotted name.now }
@@ -80,7 +81,7 @@ fn is_dotted(name: &[u8]) -> bool
     before != b'.'
 }
 
-/// Whether the byte may follow the one before it: it is plain, and they are not two dots.
+/// Returns whether the byte may follow the one before it: it is plain, and they are not two dots.
 #[inline(always)]
 fn may_follow(before: u8, byte: u8) -> bool
     ensures { result ≡ may_follow_of before byte }
@@ -88,7 +89,7 @@ fn may_follow(before: u8, byte: u8) -> bool
     is_plain_byte(byte) && (before != b'.' || byte != b'.')
 }
 
-/// Whether the byte is a letter, a digit, a dash, an underscore or a dot.
+/// Returns whether the byte is a letter, a digit, a dash, an underscore or a dot.
 #[inline(always)]
 fn is_plain_byte(byte: u8) -> bool
     ensures { result ≡ is_plain_byte_of byte }
@@ -96,7 +97,7 @@ fn is_plain_byte(byte: u8) -> bool
     byte.is_ascii_alphanumeric() || byte == b'-' || byte == b'_' || byte == b'.'
 }
 
-/// Whether a part begins with `.`: the first one, or one after a slash.
+/// Returns whether a part begins with `.`: the first one, or one after a slash.
 #[tactic(auto, using(crate::proofs::Names::dot_start_iff_at_start))]
 fn has_dot_start(name: &[u8]) -> bool
     ensures { IsTrue result ↔ HasFault fault.DotStart name.now }
@@ -104,7 +105,7 @@ fn has_dot_start(name: &[u8]) -> bool
     name.starts_with(b".") || name.contains_str(b"/.")
 }
 
-/// Whether a part ends with `.lock`: the last one, or one before a slash.
+/// Returns whether a part ends with `.lock`: the last one, or one before a slash.
 #[tactic(auto, using(crate::proofs::Names::lock_suffix_iff_at_end))]
 fn has_lock_suffix(name: &[u8]) -> bool
     ensures { IsTrue result ↔ HasFault fault.LockSuffix name.now }
@@ -112,42 +113,42 @@ fn has_lock_suffix(name: &[u8]) -> bool
     name.ends_with(b".lock") || name.contains_str(b".lock/")
 }
 
-/// Whether two dots follow each other.
+/// Returns whether two dots follow each other.
 fn has_double_dot(name: &[u8]) -> bool
     ensures { IsTrue result ↔ HasFault fault.DoubleDot name.now }
 {
     name.contains_str(b"..")
 }
 
-/// Whether `@{` occurs in the name.
+/// Returns whether `@{` occurs in the name.
 fn has_at_brace(name: &[u8]) -> bool
     ensures { IsTrue result ↔ HasFault fault.AtBrace name.now }
 {
     name.contains_str(b"@{")
 }
 
-/// Whether a backslash occurs in the name.
+/// Returns whether a backslash occurs in the name.
 fn has_backslash(name: &[u8]) -> bool
     ensures { IsTrue result ↔ HasFault fault.Backslash name.now }
 {
     has_byte(name, b'\\')
 }
 
-/// Whether a forbidden byte occurs in the name.
+/// Returns whether a forbidden byte occurs in the name.
 fn has_invalid_byte(name: &[u8]) -> bool
     ensures { IsTrue result ↔ HasFault fault.InvalidByte name.now }
 {
     name.iter().any(|byte| is_forbidden(*byte))
 }
 
-/// Whether the byte is forbidden in names: a control character, a space, or one of `~^:?*[`.
+/// Returns whether the byte is forbidden in names: a control character, a space, or one of `~^:?*[`.
 fn is_forbidden(byte: u8) -> bool
     ensures { IsTrue result ↔ IsForbidden byte }
 {
     byte.is_ascii_control() || has_byte(b" ~^:?*[", byte)
 }
 
-/// Whether a slash is first or last, or two follow each other.
+/// Returns whether a slash is first or last, or two follow each other.
 #[tactic(auto, using(crate::proofs::Names::bad_slash_iff_at_end))]
 fn has_bad_slash(name: &[u8]) -> bool
     ensures { IsTrue result ↔ HasFault fault.BadSlash name.now }
@@ -155,7 +156,7 @@ fn has_bad_slash(name: &[u8]) -> bool
     name.starts_with(b"/") || name.ends_with(b"/") || name.contains_str(b"//")
 }
 
-/// Whether the last byte is `.`.
+/// Returns whether the last byte is `.`.
 fn has_dot_end(name: &[u8]) -> bool
     ensures { IsTrue result ↔ HasFault fault.DotEnd name.now }
 {

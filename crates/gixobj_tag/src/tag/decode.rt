@@ -20,9 +20,11 @@ use gixobj_hash::hash::Kind;
 use gixobj_text::signature;
 
 impl<'a> TagRef<'a> {
-    /// Decodes a tag whose target has an id of this kind. Allocates nothing.
+    /// Decodes a tag whose target has an id of this kind (gitdatamodel, "tag objects"). Allocates nothing.
     ///
-    /// The tagger line may have bytes after its actor, which [`TagRef::tagger`] rejects.
+    /// The lines are `object`, `type`, `tag` and, optionally, `tagger`; the body follows. Any name is decoded
+    /// that isn't empty: a writer validates it. The tagger line may have bytes after its actor, which
+    /// [`TagRef::tagger`] rejects.
     ///
     /// # Errors
     ///
@@ -92,7 +94,7 @@ pub type TaggerLine<'a> = (BStr<'a>, SignatureRef<'a>);
 /// Decodes the tagger line at the beginning of the input, and returns it and the rest.
 ///
 /// The line is `None` if the input doesn't begin with `tagger` and a space. The result is `None` if it does,
-/// but no line with an actor follows. Allocates nothing.
+/// but the line lacks its newline, or its value doesn't begin with an actor. Allocates nothing.
 #[tactic(auto, using(crate::proofs::Lines::no_tagger_of_missing_newline))]
 pub fn tagger(input: &[u8]) -> Option<(Option<TaggerLine<'_>>, &[u8])>
     ensures found { IfSome result (λ it. HasTagger input.now (line_if_some it.0) it.1.now) }
@@ -158,7 +160,7 @@ fn parted(content: &[u8]) -> (BStr<'_>, Option<BStr<'_>>)
     )
 }
 
-/// Whether all bytes are newlines, also if there are none.
+/// Returns whether all bytes are newlines, also if there are none.
 pub(super) fn are_newlines(content: &[u8]) -> bool
     ensures { result ≡ are_newlines_of content.now }
 {

@@ -15,8 +15,8 @@ use gixobj_hash::decode::Error;
 use gixobj_hash::optional::copied;
 use std::alloc::Global;
 
-/// Decodes the untrimmed actor of a tagger line, if there is one. [`Error::Malformed`] if the line is no
-/// actor, or if bytes follow the actor.
+/// Decodes the untrimmed actor of a tagger line, if there is one. Fails with [`Error::Malformed`] if the line
+/// is malformed, or if bytes follow the time of its actor.
 pub(super) fn actor(line: Option<BStr<'_>>) -> Result<Option<SignatureRef<'_>>, Error>
     ensures found { IfOk result (IsTagger (bytes_if_some line.entry)) }
     ensures error { IfErr result (λ e. (e ≡ Malformed) × IsBadTagger (bytes_if_some line.entry)) }
@@ -27,7 +27,7 @@ pub(super) fn actor(line: Option<BStr<'_>>) -> Result<Option<SignatureRef<'_>>, 
     }
 }
 
-/// Copies a tag with this tagger, which has to be that of its line.
+/// Copies a tag with this tagger, which must be that of its line.
 pub(super) fn copy(
     alloc: Global,
     tag: &TagRef<'_>,

@@ -27,8 +27,8 @@ impl Tag {
     ///
     /// # Errors
     ///
-    /// - [`Error::Encode`] if the tag without its signature can't be written: an invalid name or tagger, or
-    ///   no capacity for the encoding. The runner isn't called.
+    /// - [`Error::Encode`], with its cause, if the payload can't be written: the name or the tagger is
+    ///   rejected, or an allocation for the encoding fails. The runner isn't called.
     /// - [`Error::OutOfMemory`] if another allocation fails, or if the runner returns that case.
     /// - [`Error::MissingSigningKey`], [`Error::TemporaryFile`], [`Error::Spawn`], [`Error::Communicate`],
     ///   [`Error::Failed`], [`Error::MissingSignatureConfirmation`] or [`Error::MissingSshSignature`] if
@@ -56,6 +56,7 @@ impl TagRef<'_> {
     /// Copies the tag and signs the copy, as [`Tag::sign`] does.
     ///
     /// The field `target` must be an id in hex, as it is in each tag that [`TagRef::from_bytes`] returns.
+    /// Allocates the copy and what [`Tag::sign`] allocates.
     ///
     /// # Errors
     ///

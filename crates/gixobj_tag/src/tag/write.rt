@@ -28,13 +28,16 @@ use gixobj_hash::hash::ObjectId;
 use std::alloc::Global;
 use std::io;
 
-/// Writes the target's hex and the value of the tagger line unchanged. Allocates nothing.
+/// Writes the tag, with the target's hex and the value of the tagger line unchanged.
+///
+/// A newline precedes the message, unless it consists of newlines alone. Another one precedes the signature.
+/// Only the sink may allocate.
 ///
 /// # Errors
 ///
 /// - [`encode::Error::InvalidRefName`] or [`encode::Error::StartsWithDash`] if [`validated_name`] rejects the
 ///   name. The lines before it are then written, and no byte of its own line.
-/// - [`encode::Error::Writer`] if the writer fails.
+/// - [`encode::Error::Writer`] if the sink fails. A proper prefix of the encoding is then written.
 impl WriteTo for TagRef<'_> {
     ghost use Rattle.gixobj_hash.specs.declared.kind.Kind.TheVariants as kind;
     ghost use Rattle.gixobj_tag.specs.TagViews.{tag_lines};
@@ -140,7 +143,7 @@ const LABELS_LEN: u64 = 11;
 /// The number of bytes of `tagger` with a space and a newline.
 const TAGGER_LEN: u64 = 8;
 
-/// The number of bytes that [`write_tag`] writes without a signature, or `None` over 64 bits.
+/// Returns the number of bytes that [`write_tag`] writes without a signature, or `None` over 64 bits.
 fn unsigned_size<T: Target, A: Tagger>(
     target: &T,
     target_kind: Kind,
@@ -296,7 +299,7 @@ fn write_target<T: Target, S: Sink>(target: &T, kind: Kind, sink: &mut S) -> io:
     sink.write_bytes(kind_line(kind))
 }
 
-/// The line of a kind.
+/// Returns the line of a kind.
 #[inline(always)]
 fn kind_line(kind: Kind) -> &'static [u8]
     ensures { result.now ≡ encode_field (codes "type") (kind_name kind) }
@@ -396,7 +399,7 @@ fn write_after_newline<S: Sink>(content: BStr<'_>, sink: &mut S) -> io::Result<(
     sink.write_bytes(content.as_bytes())
 }
 
-/// The newline before the message, or nothing before a message of newlines alone.
+/// Returns the newline before the message, or no bytes before a message of newlines alone.
 fn opening(message: BStr<'_>) -> &[u8]
     ensures encoded { encode_message (bstr_bytes message.entry)
         ≡ result.now ++ bstr_bytes message.entry }

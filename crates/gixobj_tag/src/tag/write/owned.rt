@@ -12,7 +12,10 @@ use gixobj_hash::Kind;
 use gixobj_hash::optional::borrowed;
 use std::alloc::Global;
 
-/// Writes the tagger and the time in the form of an owned actor. Allocates nothing.
+/// Writes the tag, with its id in lower-case hex and its tagger as `Signature::write_to` encodes it.
+///
+/// A newline precedes the message, unless it consists of newlines alone. Another one precedes the signature.
+/// Only the sink may allocate.
 ///
 /// # Errors
 ///
@@ -20,7 +23,7 @@ use std::alloc::Global;
 ///   rejects the name. The lines before it are then written, and no byte of its own line.
 /// - [`encode::Error::IllegalActor`] if the name or email of the tagger has a `<`, a `>` or a newline. The
 ///   lines before the tagger are then written, and `tagger` and a space.
-/// - [`encode::Error::Writer`] if the writer fails.
+/// - [`encode::Error::Writer`] if the sink fails. A proper prefix of the encoding is then written.
 impl WriteTo for Tag {
     ghost use Rattle.gixobj_hash.specs.declared.kind.Kind.TheVariants as kind;
     ghost use Rattle.gixobj_tag.specs.TagViews.{owned_tag_lines};
@@ -60,9 +63,9 @@ impl WriteTo for Tag {
     }
 }
 
-/// The number of bytes of a signature and the newline before it, or 0 without one.
+/// Returns the number of bytes of a signature and the newline before it, or 0 without one.
 ///
-/// Without a signature the length of the other string is loaded, so that no branch has to be predicted.
+/// Without a signature the length of the other string is loaded, so there is no branch to predict.
 #[inline(always)]
 fn signature_len(signature: &Option<BString>, other: &BString) -> u64
     ensures { result ≡ length (encode_signature (owned_bytes_if_some signature.now)) }
