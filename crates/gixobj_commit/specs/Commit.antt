@@ -41,7 +41,7 @@ abbrev pub before_encoding : CommitLines → List ℕ
 before_encoding commit = encode_ids commit ++ encode_field (codes "author") commit.author ++ encode_field
     (codes "committer") commit.committer
 
--- the message encoding has no newline; without one, the first extra header is not named `encoding`
+-- the message encoding has no newline; without a message encoding, the first extra header is not named `encoding`
 abbrev pub IsEncoding : Option (List ℕ) → List Header → Type 0
 IsEncoding (Some encoding) headers = IsByteFree newline encoding
 IsEncoding None [] = ⊤
@@ -88,7 +88,8 @@ abbrev pub ReachesHeader : Kind → List ℕ → Type 0
 ReachesHeader kind bytes = (commit : CommitLines) × (rest : List ℕ) × BeginsCommit kind bytes commit rest
     × (commit.extra_headers ≢ [])
 
--- why decoding fails: the bytes are malformed, or memory ran out at a second parent or at an extra header
+-- Malformed: the bytes are the encoding of no commit; OutOfMemory: valid lines up to a second parent, or to an extra
+-- header, come first
 abbrev pub IsCommitDecodeError : Kind → List ℕ → Error → Type 0
 IsCommitDecodeError kind bytes Malformed = IsMalformedCommit kind bytes
 IsCommitDecodeError kind bytes OutOfMemory = ReachesSecondParent kind bytes ⊎ ReachesHeader kind bytes

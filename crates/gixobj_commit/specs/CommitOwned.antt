@@ -1,4 +1,4 @@
--- Owned copies of borrowed commits, and the times of actors.
+-- Owned copies of borrowed commits, and the times of actors (gitdatamodel, "commits").
 use Rattle.std.specs.Prelude.{◌≡◌, ◌⊎◌, ℕ, List, map}
 use Rattle.std.specs.List.{AllZip}
 use Rattle.bstr.specs.Owned.{bstring_bytes}
@@ -12,7 +12,7 @@ use Rattle.gixobj_commit.specs.Commit.{CommitLines}
 use Rattle.gixobj_hash.specs.Optional.{owned_bytes_if_some}
 use Rattle.gixobj_commit.specs.declared.commit.Commit.{Commit}
 
--- the time of the line's actor, or the default time if the actor's is malformed
+-- the line is an actor, and this is its time, or the start of 1970 in UTC if its time is malformed
 pub record IsTimeOfLine (line : List ℕ) (it : Time) : Type 0 where
   pub name : List ℕ
   pub email : List ℕ
@@ -20,7 +20,7 @@ pub record IsTimeOfLine (line : List ℕ) (it : Time) : Type 0 where
   pub read : IsActor line name email time
   pub announced : IsTimeOrDefault time it
 
--- the owned commit has the parts of these lines, with ids, actors and times decoded
+-- the owned commit has these lines: ids, untrimmed actors and times are decoded, and all else is copied
 pub record IsOwnedFormOfCommit (lines : CommitLines) (commit : Commit) : Type 0 where
   pub tree : DecodesToId lines.tree commit.tree
   pub parents : AllZip DecodesToId lines.parents commit.parents.items
@@ -30,7 +30,8 @@ pub record IsOwnedFormOfCommit (lines : CommitLines) (commit : Commit) : Type 0 
   pub message : bstring_bytes commit.message ≡ lines.message
   pub extra_headers : map owned_header_of commit.extra_headers.items ≡ lines.extra_headers
 
--- why copying fails: an actor line is malformed; or memory ran out, and both actor lines are valid
+-- Malformed: an actor line is malformed, or bytes follow the time of its actor; OutOfMemory: both actor lines are
+-- valid, and an allocation failed
 abbrev pub IsIntoOwnedCommitError : CommitLines → Error → Type 0
 IsIntoOwnedCommitError lines Malformed = IsNoActor lines.author ⊎ IsNoActor lines.committer
 IsIntoOwnedCommitError lines OutOfMemory = NamesActor lines.author × NamesActor lines.committer

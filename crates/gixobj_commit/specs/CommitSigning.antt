@@ -65,8 +65,8 @@ pub record IsSignedCommit {S : Type 0} (runs : S → CallView → Answer → S �
 abbrev pub IsCommitEncodingError : Commit → List ℕ → encode.Error → Type 0
 IsCommitEncodingError commit content cause = IsEncodingError (IsOwnedCommitError commit) content cause
 
--- why signing fails: the signer's error or a missing key, if the commit is writable; or an error of encoding the
--- payload, before any call
+-- why signing fails: the plan for the payload led to this error, and no value of the commit is rejected. Or the payload
+-- can't be encoded, and no call was made
 abbrev pub IsCommitSigningError : {S : Type 0} → (S → CallView → Answer → S → Type 0) → Options → Commit → S → S → Error
     → Type 0
 IsCommitSigningError runs options commit old new error =

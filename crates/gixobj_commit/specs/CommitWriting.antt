@@ -1,4 +1,4 @@
--- The encoder of commits, and what it rejects.
+-- The encoding of commits, and the values that are rejected (gitdatamodel, "commits").
 use Rattle.std.specs.Prelude.{◌≡◌, ◌⊎◌, ℕ, List, [], ◌∷◌, ◌++◌, All, Option, Some, None, codes, map}
 use Rattle.std.specs.List.{flat_map}
 use Rattle.std.specs.Str.{str_to_ascii_lowercase}
@@ -27,7 +27,7 @@ in_lower_case commit = record {
   message = commit.message;
 }
 
--- the line of the tree, from the hex of its id
+-- the line of the tree: its id is decoded from hex, and encoded in lower case
 abbrev pub hex_tree : BStr → List ℕ
 hex_tree hex = encode_field (codes "tree") (encode_id_hex (decoded_id (bstr_bytes hex)))
 
@@ -39,16 +39,16 @@ hex_parent hex = encode_parent (str_to_ascii_lowercase (bstr_bytes hex))
 abbrev pub hex_lines : BStr → List BStr → List ℕ
 hex_lines tree parents = hex_tree tree ++ flat_map hex_parent parents
 
--- what is written before the author's bytes
+-- the bytes before the author: the lines of the ids, `author` and a space
 abbrev pub before_author : CommitLines → List ℕ
 before_author commit = encode_ids commit ++ codes "author" ++ space ∷ []
 
--- what is written before the committer's bytes
+-- the bytes before the committer: the lines of the ids and of the author, `committer` and a space
 abbrev pub before_committer : CommitLines → List ℕ
 before_committer commit = encode_ids commit ++ encode_field (codes "author") commit.author ++ codes "committer" ++ space
     ∷ []
 
--- the encoding of a commit
+-- the encoding of a commit: its lines, its extra headers, an empty line and the message
 abbrev pub encode_commit : CommitLines → List ℕ
 encode_commit commit = before_encoding commit ++ encode_encoding commit.encoding ++ flat_map encode_header
     commit.extra_headers ++ newline ∷ commit.message

@@ -1,4 +1,4 @@
--- Searches of a commit's headers by name.
+-- Searches of a commit's extra headers by name (gitdatamodel, "commits").
 use Rattle.std.specs.Prelude.{◌≡◌, ◌≢◌, ℕ, suc, List, [], ◌∷◌, ◌++◌, All, Option, None, Some, MatchOption, codes, length, map}
 use Rattle.std.specs.Iterator.{Yields, YieldsThen}
 use Rattle.std.specs.List.{filter}
@@ -20,7 +20,7 @@ signature_field hash.Sha256 = codes "gpgsig-sha256"
 abbrev pub iterator_of : {I : Type 0} → ExtraHeaders I → I
 iterator_of headers = headers.inner
 
--- the kind of the commit's ids
+-- the kind of the commit's ids, which determines the name of the signature header
 abbrev pub hash_kind_of : {I : Type 0} → ExtraHeaders I → Kind
 hash_kind_of headers = headers.hash_kind
 

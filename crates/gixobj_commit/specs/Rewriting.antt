@@ -1,4 +1,4 @@
--- Decoded commits that are copied and encoded again.
+-- Decoded commits that are copied and encoded again (gitdatamodel, "commits").
 use Rattle.std.specs.Prelude.{◌≡◌, ◌⊎◌, ℕ, List, [], Some, map}
 use Rattle.std.specs.Str.{str_to_ascii_lowercase}
 use Rattle.gixobj_actor.specs.ActorWriting.{IsCanonical, IsUnwritable}
@@ -21,8 +21,8 @@ pub record AreNormalizedPartsOfCommit (commit own : CommitLines) : Type 0 where
 abbrev pub HasEmptyEncoding : CommitLines → Type 0
 HasEmptyEncoding commit = commit.encoding ≡ Some []
 
--- why encoding the owned copy of a decoded commit fails: a prefix was written, an actor can't be written, or the
--- message encoding is empty
+-- the error of encoding the owned copy of a decoded commit. Writer: the sink failed after a proper prefix;
+-- IllegalActor: an actor can't be written; EmptyValue: the message encoding is empty
 abbrev pub IsNormalizedCommitError : CommitLines → SinkView → SinkView → List ℕ → Error → Type 0
 IsNormalizedCommitError commit before after content (error.Writer cause) = AppendsPrefix before after content
 IsNormalizedCommitError commit before after content error.IllegalActor = IsUnwritable commit.author

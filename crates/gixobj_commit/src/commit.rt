@@ -50,7 +50,8 @@ pub struct CommitRef<'a> {
     pub encoding: Option<BStr<'a>>,
     /// The message in that character encoding, as unchanged bytes.
     pub message: BStr<'a>,
-    /// The other headers, as pairs of name and value, in the order of the encoding.
+    /// The other headers, as pairs of name and value, in the order of the encoding. A decoded value of one
+    /// line has no newline; one of several lines has a newline after each.
     pub extra_headers: Vec<(BStr<'a>, CowSlice<'a, u8>)>,
 }
 
@@ -69,7 +70,8 @@ pub struct Commit {
     pub encoding: Option<BString>,
     /// The message in that character encoding, as unchanged bytes.
     pub message: BString,
-    /// The other headers, as pairs of name and value, in the order in which they are written.
+    /// The other headers, as pairs of name and value, in the order in which they are written. A writer
+    /// doesn't validate their names.
     pub extra_headers: Vec<(BString, BString)>,
 }
 
@@ -77,7 +79,7 @@ pub struct Commit {
 impl<'a> CommitRef<'a> {
     /// Returns the id of the tree. Allocates nothing.
     ///
-    /// The `tree` field has to be a hex id, as [`CommitRef::from_bytes`] ensures.
+    /// The `tree` field must be a hex id, as [`CommitRef::from_bytes`] ensures.
     pub fn tree(&self) -> ObjectId
         requires { IsIdHex (commit_lines self.now).tree }
         ensures { DecodesToId (commit_lines self.now).tree result }
@@ -87,7 +89,7 @@ impl<'a> CommitRef<'a> {
 
     /// Returns an iterator over the ids of the parents, in order. Allocates nothing.
     ///
-    /// Each of the `parents` has to be a hex id, as [`CommitRef::from_bytes`] ensures.
+    /// Each of the `parents` must be a hex id, as [`CommitRef::from_bytes`] ensures.
     ///
     /// # Examples
     ///
@@ -108,7 +110,8 @@ impl<'a> CommitRef<'a> {
 
     /// Returns the headers after the author, the committer and the encoding. Allocates nothing.
     ///
-    /// The `tree` field sets the kind of ids. It has to be a hex id, as [`CommitRef::from_bytes`] ensures.
+    /// The `tree` field determines the kind of ids. It must be a hex id, as [`CommitRef::from_bytes`]
+    /// ensures.
     ///
     /// # Examples
     ///
@@ -132,7 +135,8 @@ impl<'a> CommitRef<'a> {
     ///
     /// # Errors
     ///
-    /// [`Error::Malformed`] if the `author` line is malformed.
+    /// [`Error::Malformed`] if the `author` line is malformed, or if bytes follow the time of its actor. No
+    /// commit that [`CommitRef::from_bytes`] returns has such a line.
     ///
     /// # Examples
     ///
@@ -157,7 +161,8 @@ impl<'a> CommitRef<'a> {
     ///
     /// # Errors
     ///
-    /// [`Error::Malformed`] if the `committer` line is malformed.
+    /// [`Error::Malformed`] if the `committer` line is malformed, or if bytes follow the time of its actor.
+    /// No commit that [`CommitRef::from_bytes`] returns has such a line.
     pub fn committer(&self) -> Result<SignatureRef<'a>, Error>
         ensures found { IfOk result (IsTrimmedActor (commit_lines self.now).committer) }
         ensures error { IfErr result (λ e. (e ≡ Malformed)
@@ -166,12 +171,15 @@ impl<'a> CommitRef<'a> {
         trimmed_actor(self.committer)
     }
 
-    /// Decodes when the commit was made: seconds since the epoch and the offset from UTC in seconds, from the
-    /// untrimmed `committer` line. An invalid time decodes as the epoch in UTC. Allocates nothing.
+    /// Decodes when the commit was made, from the untrimmed `committer` line. Allocates nothing.
+    ///
+    /// The time is the seconds since the epoch, and the offset from UTC in seconds. A malformed time decodes
+    /// as the epoch in UTC.
     ///
     /// # Errors
     ///
-    /// [`Error::Malformed`] if the `committer` line is malformed.
+    /// [`Error::Malformed`] if the `committer` line is malformed, or if bytes follow the time of its actor.
+    /// No commit that [`CommitRef::from_bytes`] returns has such a line.
     ///
     /// # Examples
     ///
@@ -199,13 +207,15 @@ impl<'a> CommitRef<'a> {
 
 /// Conversion
 impl CommitRef<'_> {
-    /// Copies the commit into an owned one, with ids, untrimmed actors and times decoded. An invalid time
-    /// becomes the epoch in UTC. The hex fields have to be ids, as [`CommitRef::from_bytes`] ensures.
-    /// Allocates the copy.
+    /// Copies the commit into an owned one, and decodes its ids, actors and times. Allocates the copy.
+    ///
+    /// The actors keep their white space. A malformed time becomes the epoch in UTC. The fields `tree` and
+    /// `parents` must be hex ids, as [`CommitRef::from_bytes`] ensures.
     ///
     /// # Errors
     ///
-    /// - [`Error::Malformed`] if the `author` or the `committer` line is malformed.
+    /// - [`Error::Malformed`] if the `author` or the `committer` line is malformed, or if bytes follow the
+    ///   time of its actor. No commit that [`CommitRef::from_bytes`] returns has such a line.
     /// - [`Error::OutOfMemory`] otherwise, if an allocation fails.
     ///
     /// # Examples
@@ -226,12 +236,14 @@ impl CommitRef<'_> {
         owned_copy(alloc, &self)
     }
 
-    /// Copies the commit into an owned one, by [`CommitRef::into_owned`]. The hex fields have to be ids, as
-    /// [`CommitRef::from_bytes`] ensures. Allocates the copy.
+    /// Copies the commit into an owned one, by [`CommitRef::into_owned`]. Allocates the copy.
+    ///
+    /// The fields `tree` and `parents` must be hex ids, as [`CommitRef::from_bytes`] ensures.
     ///
     /// # Errors
     ///
-    /// - [`Error::Malformed`] if the `author` or the `committer` line is malformed.
+    /// - [`Error::Malformed`] if the `author` or the `committer` line is malformed, or if bytes follow the
+    ///   time of its actor.
     /// - [`Error::OutOfMemory`] otherwise, if an allocation fails.
     pub fn to_owned(self, alloc: Global) -> Result<Commit, Error>
         requires { HasIds (commit_lines self) }
@@ -254,12 +266,14 @@ impl Commit {
     }
 }
 
-/// Copies a borrowed commit into an owned one, by the rules of [`CommitRef::into_owned`]. The hex fields have
-/// to be ids, as [`CommitRef::from_bytes`] ensures. Allocates the copy.
+/// Copies a borrowed commit into an owned one, by the rules of [`CommitRef::into_owned`]. Allocates the copy.
+///
+/// The fields `tree` and `parents` must be hex ids, as [`CommitRef::from_bytes`] ensures.
 ///
 /// # Errors
 ///
-/// - [`Error::Malformed`] if the `author` or the `committer` line is malformed.
+/// - [`Error::Malformed`] if the `author` or the `committer` line is malformed, or if bytes follow the time
+///   of its actor.
 /// - [`Error::OutOfMemory`] otherwise, if an allocation fails.
 pub fn owned_copy(alloc: Global, commit: &CommitRef<'_>) -> Result<Commit, Error>
     requires { HasIds (commit_lines commit.now) }

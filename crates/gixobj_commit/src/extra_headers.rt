@@ -1,4 +1,5 @@
-//! The extra headers of commits, searched by name: signatures and merged tags.
+//! The extra headers of commits, searched by name: signatures (gitformat-signature, "Commit signatures") and
+//! merged tags (git-merge, "MERGING TAG").
 ghost use Rattle.std.specs.Prelude.{◌≡◌, ◌↔◌, ◌<◌, ◌^◌, IsTrue, codes, map};
 ghost use Rattle.bstr.specs.BStr.{bstr_bytes};
 ghost use Rattle.std.specs.Iterator.{IsFinite, MakesProgress, size};
@@ -55,7 +56,9 @@ impl<'a, I: Iterator<Item = (BStr<'a>, BStr<'a>)> + Drop> ExtraHeaders<I> {
 
 /// Access
 impl<'a, I: Iterator<Item = (BStr<'a>, BStr<'a>)> + Drop> ExtraHeaders<I> {
-    /// Finds the value of the first header of this name. Allocates nothing.
+    /// Finds the value of the first header of this name, or returns `None` without one. Allocates nothing.
+    ///
+    /// The wrapped iterator must be finite, as those of commits are.
     pub fn find(self, name: &str) -> Option<BStr<'a>>
         requires can_next { I.can_next (iterator_of self) }
         requires ends { IsFinite (I.remaining (iterator_of self)) }
@@ -65,7 +68,10 @@ impl<'a, I: Iterator<Item = (BStr<'a>, BStr<'a>)> + Drop> ExtraHeaders<I> {
         next_value(&mut headers, name)
     }
 
-    /// Finds the position, from 0, of the first header of this name. Allocates nothing.
+    /// Finds the position, from 0, of the first header of this name, or returns `None` without one.
+    ///
+    /// The wrapped iterator must be finite, with fewer than 2^64 headers, as those of commits are.
+    /// Allocates nothing.
     #[tactic(auto, using(crate::proofs::HeaderSearches::no_header_named_in_nil, crate::proofs::HeaderSearches::no_header_named_snoc))]
     pub fn find_pos(self, name: &str) -> Option<usize>
         requires can_next { I.can_next (iterator_of self) }
@@ -94,8 +100,10 @@ impl<'a, I: Iterator<Item = (BStr<'a>, BStr<'a>)> + Drop> ExtraHeaders<I> {
         }
     }
 
-    /// Returns an iterator over the merged tags: the tag that each `mergetag` header encodes, or an error, in
-    /// order (git-merge, "MERGING TAG"). The call itself decodes nothing. Allocates nothing.
+    /// Returns an iterator over the merged tags, in order (git-merge, "MERGING TAG").
+    ///
+    /// It yields, for each `mergetag` header, the tag that its value encodes, or an error. Making the
+    /// iterator decodes nothing. Allocates nothing.
     pub fn mergetags(self) -> Mergetags<'a, I>
         ensures headers { searched (mergetag_values result) ≡ iterator_of self }
         ensures name { searched_name (mergetag_values result) ≡ codes "mergetag" }
@@ -108,8 +116,11 @@ impl<'a, I: Iterator<Item = (BStr<'a>, BStr<'a>)> + Drop> ExtraHeaders<I> {
         }
     }
 
-    /// Finds the signature of the commit: the value of the first header with the name that
-    /// [`signature_field_name`] returns for the kind of the commit's ids. Allocates nothing.
+    /// Finds the signature of the commit, in any format, or returns `None` without one. Allocates nothing.
+    ///
+    /// It is the value of the first header named [`signature_field_name`] of the kind of the commit's ids
+    /// (gitformat-signature, "Commit signatures"). The wrapped iterator must be finite, as those of
+    /// commits are.
     pub fn pgp_signature(self) -> Option<BStr<'a>>
         requires can_next { I.can_next (iterator_of self) }
         requires ends { IsFinite (I.remaining (iterator_of self)) }
@@ -128,6 +139,9 @@ pub struct FindAll<'a, I> {
     name: &'a str,
 }
 
+/// Yields the value of the next header of the name. Allocates nothing.
+///
+/// The wrapped iterator must be finite, as those of commits are.
 impl<'a, I: Iterator<Item = (BStr<'a>, BStr<'a>)> + Drop> Iterator for FindAll<'a, I> {
     ghost use Rattle.std.specs.Prelude.{◌≡◌};
     ghost use Rattle.std.specs.Iterator.{IsFinite};
@@ -153,7 +167,14 @@ pub struct Mergetags<'a, I> {
     hash_kind: Kind,
 }
 
-/// Yields [`Error::Malformed`] for a header value that isn't the encoding of a tag. Allocates nothing.
+/// Yields the next tag. Allocates nothing.
+///
+/// The wrapped iterator must be finite, as those of commits are.
+///
+/// # Errors
+///
+/// [`Error::Malformed`] if the next value isn't the encoding of a tag. The iterator then continues with the
+/// value after it.
 impl<'a, I: Iterator<Item = (BStr<'a>, BStr<'a>)> + Drop> Iterator for Mergetags<'a, I> {
     ghost use Rattle.std.specs.Iterator.{IsFinite};
     ghost use Rattle.gixobj_commit.specs.ExtraHeaders.{searched};
@@ -176,7 +197,7 @@ impl<'a, I: Iterator<Item = (BStr<'a>, BStr<'a>)> + Drop> Iterator for Mergetags
     }
 }
 
-/// Decodes the tag that the value encodes.
+/// Decodes the tag that the value encodes. Fails with [`Error::Malformed`] if it encodes none.
 fn read_tag(value: BStr<'_>, hash_kind: Kind) -> Result<TagRef<'_>, Error>
     ensures { IsTagOf hash_kind (bstr_bytes value.entry) result }
 {
@@ -186,14 +207,14 @@ fn read_tag(value: BStr<'_>, hash_kind: Kind) -> Result<TagRef<'_>, Error>
     }
 }
 
-/// Whether the key is this name.
+/// Returns whether the key is this name.
 fn is_named(key: BStr<'_>, name: &str) -> bool
     ensures { IsTrue result ↔ (bstr_bytes key.entry ≡ name.now) }
 {
     key.as_bytes() == name.as_bytes()
 }
 
-/// Returns the value of the next header of this name.
+/// Returns the value of the next header of this name, or `None` if no remaining header has it.
 #[tactic(auto, using(crate::proofs::HeaderSearches::no_header_named_in_nil, crate::proofs::HeaderSearches::no_header_named_snoc))]
 fn next_value<'a, I: Iterator<Item = (BStr<'a>, BStr<'a>)>>(
     headers: &mut I,
@@ -219,7 +240,7 @@ pub struct BorrowedHeaders<'a, 'b> {
 }
 
 impl<'a, 'b> BorrowedHeaders<'a, 'b> {
-    /// Returns an iterator over these headers, in order.
+    /// Returns an iterator over these headers, in order. Allocates nothing.
     pub fn new(headers: &'a [(BStr<'b>, CowSlice<'b, u8>)]) -> BorrowedHeaders<'a, 'b>
         ensures { remaining_headers result ≡ map header_of headers.now }
     {
@@ -227,6 +248,7 @@ impl<'a, 'b> BorrowedHeaders<'a, 'b> {
     }
 }
 
+/// Yields the next header. Allocates nothing.
 impl<'a, 'b> Iterator for BorrowedHeaders<'a, 'b> {
     ghost use Rattle.std.specs.Iterator.{YieldsFirstBy, item_count};
     ghost use Rattle.gixobj_commit.specs.ExtraHeaders.{pair_of};
@@ -254,7 +276,7 @@ pub struct OwnedHeaders<'a> {
 }
 
 impl<'a> OwnedHeaders<'a> {
-    /// Returns an iterator over these headers, in order.
+    /// Returns an iterator over these headers, in order. Allocates nothing.
     pub fn new(headers: &'a [(BString, BString)]) -> OwnedHeaders<'a>
         ensures { remaining_owned_headers result ≡ map owned_header_of headers.now }
     {
@@ -262,6 +284,7 @@ impl<'a> OwnedHeaders<'a> {
     }
 }
 
+/// Yields the next header. Allocates nothing.
 impl<'a> Iterator for OwnedHeaders<'a> {
     ghost use Rattle.std.specs.Iterator.{YieldsFirstBy, item_count};
     ghost use Rattle.gixobj_commit.specs.ExtraHeaders.{pair_of};

@@ -18,7 +18,9 @@ pub struct Parents<'a> {
 impl<'a> Parents<'a> {
     ghost use Rattle.gixobj_commit.specs.RemainingParents.{remaining_parents};
 
-    /// Returns an iterator over the ids with this hex, each of which has to be an id. Allocates nothing.
+    /// Returns an iterator over the ids that these hex digits encode, in order. Allocates nothing.
+    ///
+    /// Each of `hexes` must be a hex id.
     #[tactic(auto, using(crate::proofs::ParentHexes::parents_are_hex_of_their_kind))]
     pub fn new(hexes: &'a [BStr<'a>]) -> Parents<'a>
         requires { All IsIdHex (map bstr_bytes hexes.now) }
@@ -28,6 +30,7 @@ impl<'a> Parents<'a> {
     }
 }
 
+/// Yields the id of the next parent. Allocates nothing.
 impl Iterator for Parents<'_> {
     ghost use Rattle.std.specs.Iterator.{YieldsFirst, item_count};
     ghost use Rattle.gixobj_commit.specs.RemainingParents.{remaining_parents};

@@ -16,15 +16,19 @@ use smallvec::SmallVec;
 use std::alloc::Global;
 
 impl<'a> CommitRef<'a> {
-    /// Decodes a commit from its entire encoding, with ids of `hash_kind`.
+    /// Decodes a commit from its entire encoding, with ids of `hash_kind` (gitdatamodel, "commits").
     ///
-    /// Header values of one line are borrowed. Allocates for a second parent, for extra headers and for their
-    /// values of several lines.
+    /// The lines are `tree`, any number of `parent`, `author`, `committer`, optionally `encoding`, and extra
+    /// headers. An empty line and the message follow. In the line of an actor its time must be last.
+    ///
+    /// Header values of one line are borrowed. Allocates for parents after the first, for extra headers and
+    /// for their values of several lines.
     ///
     /// # Errors
     ///
-    /// - [`Error::Malformed`] if the bytes, down to the empty line before the message, encode no commit.
-    /// - [`Error::OutOfMemory`] if an allocation fails at a second parent or at an extra header.
+    /// - [`Error::Malformed`] if the bytes are not the encoding of a commit.
+    /// - [`Error::OutOfMemory`] if an allocation fails for a parent after the first or for an extra header.
+    ///   The lines after it may be malformed.
     ///
     /// # Examples
     ///

@@ -43,14 +43,15 @@ impl<'a> CommitRef<'a> {
         MessageRef::from_bytes(self.message.as_bytes())
     }
 
-    /// Returns a summary of the message: its first lines, joined into one.
+    /// Returns the first lines of the message on one line (git-log, "PRETTY FORMATS", `%s`).
     ///
-    /// [`MessageRef::summary`] summarizes the title alone. Here leading empty lines of the entire message are
-    /// left out, and an empty line ends the title. Allocates only for a message of several lines.
+    /// The message is trimmed. One line is borrowed and allocates nothing. Several lines are joined by spaces
+    /// in an allocated value, up to the first empty line. [`MessageRef::summary`] does so for the title
+    /// alone.
     ///
     /// # Errors
     ///
-    /// [`OutOfMemory`] if an allocation fails.
+    /// [`OutOfMemory`] if the allocation for a message of several lines fails.
     pub fn message_summary(&self, alloc: Global) -> Result<CowSlice<'a, u8>, OutOfMemory>
         ensures value { IfOk result (λ it. cow_slice_items it
             ≡ summary_of (commit_lines self.now).message) }
@@ -61,8 +62,11 @@ impl<'a> CommitRef<'a> {
         summary(alloc, self.message.as_bytes())
     }
 
-    /// Returns an iterator over the trailers at the end of the message's body, in order; a message without
-    /// body has none. The call itself allocates nothing.
+    /// Returns an iterator over the trailers at the end of the message's body, in order
+    /// (git-interpret-trailers, "DESCRIPTION").
+    ///
+    /// A message without body has none. Making the iterator allocates nothing. It allocates each value of
+    /// several lines that it yields, and yields an error if that fails.
     pub fn message_trailers(&self, alloc: Global) -> Trailers<'a>
         ensures { HasTrailerBlock (commit_lines self.now).message (remaining_bytes result) }
     {
@@ -70,7 +74,8 @@ impl<'a> CommitRef<'a> {
     }
 }
 
-/// Trailers of the message by token, with ASCII case ignored
+/// Trailers of the message by token, with ASCII case ignored. They allocate as those of
+/// [`CommitRef::message_trailers`] do.
 impl<'a> CommitRef<'a> {
     /// Returns an iterator over the `Signed-off-by` trailers of the message (git-commit, `--signoff`).
     ///
@@ -109,7 +114,7 @@ impl<'a> CommitRef<'a> {
         self.message_trailers(alloc).assisted_by()
     }
 
-    /// Returns an iterator over the trailers that name authors: `Signed-off-by` and `Co-authored-by`.
+    /// Returns an iterator over the trailers of the change's authors: `Signed-off-by` and `Co-authored-by`.
     pub fn author_trailers(&self, alloc: Global) -> Filtered<'a>
         ensures trailers { HasTrailerBlock (commit_lines self.now).message
             (remaining_bytes (all_of result)) }
@@ -118,8 +123,10 @@ impl<'a> CommitRef<'a> {
         self.message_trailers(alloc).authors()
     }
 
-    /// Returns an iterator over the trailers that name contributors: `Signed-off-by`, `Co-authored-by`,
-    /// `Assisted-by`, `Acked-by`, `Reviewed-by` and `Tested-by`. A name may occur more than once.
+    /// Returns an iterator over the trailers of everyone who had a part in the change.
+    ///
+    /// Authors: `Signed-off-by`, `Co-authored-by`. Others: `Assisted-by`, `Acked-by`, `Reviewed-by`,
+    /// `Tested-by`.
     pub fn attribution_trailers(&self, alloc: Global) -> Filtered<'a>
         ensures trailers { HasTrailerBlock (commit_lines self.now).message
             (remaining_bytes (all_of result)) }

@@ -27,10 +27,12 @@ impl Commit {
     ///
     /// # Errors
     ///
-    /// - [`Error::Encode`] with its cause if the payload can't be written; no call is made.
-    /// - [`Error::MissingSigningKey`] if the key is empty; no call is made.
-    /// - [`Error::TemporaryFile`], [`Error::Spawn`] or [`Error::Communicate`] with the runner's reason.
-    /// - [`Error::Failed`] with the program and its standard error if the program fails.
+    /// - [`Error::Encode`], with its cause, if the payload can't be written: an actor or the message encoding
+    ///   is rejected, or an allocation for the encoding fails. No call is made.
+    /// - [`Error::MissingSigningKey`] if the key is empty. No call is made.
+    /// - [`Error::TemporaryFile`], [`Error::Spawn`] or [`Error::Communicate`], with the runner's message, if
+    ///   the runner returns that case.
+    /// - [`Error::Failed`], with the program and its standard error, if the program doesn't succeed.
     /// - [`Error::MissingSignatureConfirmation`] if a program of OpenPGP or X.509 confirms no signature.
     /// - [`Error::MissingSshSignature`] if a program of SSH leaves no file with a signature.
     /// - [`Error::OutOfMemory`] if the call, the signature, its header or the runner fails to allocate.
@@ -68,12 +70,14 @@ impl Commit {
 
 /// Signing
 impl CommitRef<'_> {
-    /// Copies the commit, and signs the copy by [`Commit::sign`]. The hex fields have to be ids, as
-    /// [`CommitRef::from_bytes`] ensures.
+    /// Copies the commit, and signs the copy by [`Commit::sign`].
+    ///
+    /// The fields `tree` and `parents` must be hex ids, as [`CommitRef::from_bytes`] ensures. Allocates
+    /// the copy and what [`Commit::sign`] allocates.
     ///
     /// # Errors
     ///
-    /// - [`Error::Decode`] with the error of [`CommitRef::into_owned`] if the copy fails; no call is made.
+    /// - [`Error::Decode`], with the error of [`CommitRef::into_owned`], if the copy fails. No call is made.
     /// - Otherwise an error of [`Commit::sign`].
     pub fn sign<R: Runner>(
         self,
@@ -144,7 +148,7 @@ fn without_headers_of(commit: Commit, name: &[u8]) -> Commit
     commit
 }
 
-/// Whether the header has this name.
+/// Returns whether the header has this name.
 fn has_name(header: &(BString, BString), name: &[u8]) -> bool
     ensures { result ≡ is_header_named name.now (owned_header_of header.now) }
 {

@@ -28,14 +28,19 @@ use std::alloc::Global;
 use std::borrow::CowSlice;
 use std::io;
 
-/// Encodes a commit with ids in lower case and unchanged actor lines. The hex fields have to be ids.
+/// Encodes a commit with ids in lower case and unchanged actor lines. The hex fields must be ids.
+///
+/// Actor lines and the names of extra headers are written without validation. Only the sink and the copy of a
+/// rejected message encoding allocate.
 ///
 /// # Errors
 ///
-/// - [`Error::Writer`] with the sink's error; a prefix of the encoding is written.
-/// - [`Error::EmptyValue`] if the message encoding is empty, before its line.
-/// - [`Error::NewlineInHeaderValue`] with the message encoding if it has a newline, before its line.
-/// - [`Error::OutOfMemory`] if copying the rejected message encoding fails to allocate.
+/// - [`Error::Writer`] with the sink's error. A proper prefix of the encoding is then written.
+/// - [`Error::EmptyValue`] if the message encoding is empty.
+/// - [`Error::NewlineInHeaderValue`] with a copy of the message encoding, if it has a newline.
+/// - [`Error::OutOfMemory`] if it has a newline, and the allocation of the copy fails.
+///
+/// At the last three, the lines before the message encoding are written.
 impl WriteTo for CommitRef<'_> {
     ghost use Rattle.gixobj_hash.specs.declared.kind.Kind.TheVariants as kind;
     ghost use Rattle.gixobj_commit.specs.CommitViews.{commit_lines};
@@ -137,7 +142,7 @@ fn ids_size<T: Field>(tree: &ObjectId, parents: &[T]) -> Option<u64>
 trait Field {
     ghost use Rattle.std.specs.Prelude.{ℕ, List, ⊤};
 
-    /// What the field has to satisfy to be encoded.
+    /// The precondition of encoding the field.
     ghost can_encode: { Self → Type 0 } = { λ _. ⊤ };
 
     /// The encoding of the field.

@@ -20,14 +20,15 @@ use gixobj_fields::WriteTo;
 use gixobj_fields::encode::Error;
 use std::alloc::Global;
 
-/// Bytes are the encoding of at most one commit.
+/// A commit decodes uniquely: with ids of one kind, bytes decode to at most one commit.
 pub fn commit_decodes_uniquely()
     ensures { (kind : Kind) (content : List ℕ) (commit commit' : CommitLines)
         → DecodesToCommit kind content commit → DecodesToCommit kind content commit' → commit ≡ commit' }
 {}
 
-/// A decoded commit re-encodes identically if its ids are in lower case. Its encoder rejects nothing but an
-/// empty message encoding.
+/// A decoded commit re-encodes identically if its ids are in lower case.
+///
+/// The encoder rejects nothing of a decoded commit whose message encoding is absent or not empty.
 pub fn commit_reencodes_identically()
     ensures same_bytes { (kind : Kind) (content : List ℕ) (commit : CommitLines)
         → DecodesToCommit kind content commit → AllPass is_lower_hex_digit commit.tree
@@ -42,7 +43,8 @@ pub fn commit_reencodes_identically()
 ///
 /// Ids are in lower case, actors and their times are encoded from their parts, and all else is unchanged.
 /// Copying a decoded commit fails only if memory runs out. Encoding the copy fails only if the sink fails, an
-/// actor has a byte that owned actors reject, or the message encoding is empty.
+/// actor is illegal, or the message encoding is empty. An actor is illegal if its name or its email has a
+/// `<`, a `>` or a newline.
 pub fn owned_commit_has_same_parts()
     ensures parts { (lines : CommitLines) (commit : Commit) → IsOwnedFormOfCommit lines commit
         → AreNormalizedPartsOfCommit lines (owned_commit_lines commit) }
@@ -59,12 +61,13 @@ pub fn owned_commit_has_same_parts()
 
 /// Appends the encoding of a commit to a list.
 ///
-/// A commit that was decoded from bytes with lower-case ids appends the same bytes.
+/// A commit that was decoded from bytes with lower-case ids appends the same bytes. The hex fields must be
+/// ids. The list allocates the capacity that it lacks.
 ///
 /// # Errors
 ///
-/// - [`Error::Writer`] if the list fails to allocate; it then holds a prefix of the encoding. It is the only
-///   error of a decoded commit whose message encoding is absent or not empty.
+/// - [`Error::Writer`] if an allocation of the list fails. A proper prefix of the encoding is then appended.
+///   It is the only error of a decoded commit whose message encoding is absent or not empty.
 /// - Otherwise an error of [`WriteTo::write_to_vec`].
 pub fn commit_decode_encode_agree(
     alloc: Global,

@@ -16,8 +16,10 @@ ghost use Rattle.gixobj_hash.specs.declared.decode.Error.{Error};
 ghost use Rattle.gixobj_tag.specs.TagFormat.{TagLines};
 ghost use Rattle.gixobj_tag.specs.declared.tag.TagRef.{TagRef};
 
-/// Searches of a borrowed commit's headers are complete. For a name, `find` returns the value of the first
-/// header, `find_pos` its position from 0; `find_all` yields all values in order.
+/// Searches of a borrowed commit's headers are complete.
+///
+/// For a name, `find` returns the value of the first header, and `find_pos` its position from 0. Both return
+/// `None` if no header has the name. `find_all` yields all values in order.
 pub fn borrowed_header_search_complete()
     ensures value { (name : List ℕ) (headers : BorrowedHeaders) (result : Option BStr)
         → FindsValue (YieldsFirstBy pair_of remaining_headers) name headers result
@@ -30,8 +32,10 @@ pub fn borrowed_header_search_complete()
         (values_named (searched_name values) (remaining_headers (searched values))) }
 {}
 
-/// Searches of an owned commit's headers are complete. For a name, `find` returns the value of the first
-/// header, `find_pos` its position from 0; `find_all` yields all values in order.
+/// Searches of an owned commit's headers are complete.
+///
+/// For a name, `find` returns the value of the first header, and `find_pos` its position from 0. Both return
+/// `None` if no header has the name. `find_all` yields all values in order.
 pub fn owned_header_search_complete()
     ensures value { (name : List ℕ) (headers : OwnedHeaders) (result : Option BStr)
         → FindsValue (YieldsFirstBy pair_of remaining_owned_headers) name headers result
@@ -44,8 +48,10 @@ pub fn owned_header_search_complete()
         (values_named (searched_name values) (remaining_owned_headers (searched values))) }
 {}
 
-/// `mergetags` decodes every `mergetag` header of a borrowed commit, in order. A run to the end yields, for
-/// each value, its tag or `Malformed`. If each value is known as a tag or malformed, every run yields that.
+/// `mergetags` decodes every `mergetag` header of a borrowed commit, in order.
+///
+/// A run to the end yields, for each value, its tag or `Malformed`. Given for each value its tag, or that it
+/// is malformed, every run yields these tags, and an error for each malformed value.
 pub fn borrowed_mergetag_search_complete()
     ensures yielded { (tags after : Mergetags BorrowedHeaders) (passed : List (Result TagRef Error))
         → YieldsThen (NextMergetag (YieldsFirstBy pair_of remaining_headers)) tags passed None after
@@ -55,8 +61,10 @@ pub fn borrowed_mergetag_search_complete()
         → YieldsList (NextMergetag (YieldsFirstBy pair_of remaining_headers)) tag_if_ok tags read }
 {}
 
-/// `mergetags` decodes every `mergetag` header of an owned commit, in order. A run to the end yields, for
-/// each value, its tag or `Malformed`. If each value is known as a tag or malformed, every run yields that.
+/// `mergetags` decodes every `mergetag` header of an owned commit, in order.
+///
+/// A run to the end yields, for each value, its tag or `Malformed`. Given for each value its tag, or that it
+/// is malformed, every run yields these tags, and an error for each malformed value.
 pub fn owned_mergetag_search_complete()
     ensures yielded { (tags after : Mergetags OwnedHeaders) (passed : List (Result TagRef Error))
         → YieldsThen (NextMergetag (YieldsFirstBy pair_of remaining_owned_headers)) tags passed None

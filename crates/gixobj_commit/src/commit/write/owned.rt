@@ -12,14 +12,19 @@ use std::alloc::Global;
 
 /// Encodes a commit from the parts of its actors and times.
 ///
+/// The names of extra headers are written without validation. Only the sink and the copy of a rejected
+/// message encoding allocate.
+///
 /// # Errors
 ///
-/// - [`Error::Writer`] with the sink's error; a prefix of the encoding is written.
-/// - [`Error::IllegalActor`] if a name or email has a `<`, a `>` or a newline, after `author` or `committer`
-///   and a space.
-/// - [`Error::EmptyValue`] if the message encoding is empty, before its line.
-/// - [`Error::NewlineInHeaderValue`] with the message encoding if it has a newline, before its line.
-/// - [`Error::OutOfMemory`] if copying the rejected message encoding fails to allocate.
+/// - [`Error::Writer`] with the sink's error. A proper prefix of the encoding is then written.
+/// - [`Error::IllegalActor`] if a name or email has a `<`, a `>` or a newline. The lines before that actor
+///   are then written, and `author` or `committer` and a space.
+/// - [`Error::EmptyValue`] if the message encoding is empty.
+/// - [`Error::NewlineInHeaderValue`] with a copy of the message encoding, if it has a newline.
+/// - [`Error::OutOfMemory`] if it has a newline, and the allocation of the copy fails.
+///
+/// At the last three, the lines before the message encoding are written.
 impl WriteTo for Commit {
     ghost use Rattle.gixobj_hash.specs.declared.kind.Kind.TheVariants as kind;
     ghost use Rattle.gixobj_commit.specs.CommitViews.{owned_commit_lines};
