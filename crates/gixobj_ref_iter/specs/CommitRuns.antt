@@ -1,4 +1,4 @@
--- The run of a token iterator over a commit, from its state to its end.
+-- The run of a token iterator over a commit, from its state to its end (gitdatamodel, "commits").
 use Rattle.std.specs.Prelude.{ℕ, List}
 use Rattle.gixobj_fields.specs.Runs as runs
 use Rattle.gixobj_fields.specs.Runs.{Ending}
@@ -6,6 +6,6 @@ use Rattle.gixobj_hash.specs.declared.hash.kind.Kind.{Kind}
 use Rattle.gixobj_ref_iter.specs.CommitTokens.{HasCommitToken, CommitTokenView}
 use Rattle.gixobj_line.specs.declared.lines.State.{State}
 
--- from this state the input yields these tokens, and the run ends like this
+-- the complete run from this state over this input yields these tokens, and has this ending
 abbrev pub YieldsCommitTokens : Kind → State → List ℕ → List CommitTokenView → Ending → Type 0
 YieldsCommitTokens kind before input tokens ending = runs.Yields (HasCommitToken kind) before input tokens ending

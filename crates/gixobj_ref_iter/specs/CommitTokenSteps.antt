@@ -1,4 +1,4 @@
--- The steps of a token iterator over a commit.
+-- The steps of a token iterator over a commit (gitdatamodel, "commits").
 use Rattle.std.specs.Prelude.{◌≡◌, ℕ, List, Option, Some, None, Result, Ok, Err, length, ⊤}
 use Rattle.std.specs.Iterator.{Count, at_most}
 use Rattle.gixobj_hash.specs.declared.decode.Error.{Error}
@@ -42,7 +42,7 @@ NextCommitToken = NextPiece commit_reader_state HasCommitToken (λ kind. NeedsAl
 
 -- ---- ids of tokens
 
--- the id of a tree or a parent
+-- the id of a tree or a parent, or none for another token
 abbrev pub commit_token_id : CommitTokenView → Option ObjectId
 commit_token_id (tree_token id) = Some id
 commit_token_id (parent_token id) = Some id
@@ -52,7 +52,7 @@ commit_token_id (encoding_token encoding) = None
 commit_token_id (header_token header) = None
 commit_token_id (message_token message) = None
 
--- the id, or `Malformed` without one
+-- this id, or `Malformed` without one
 abbrev pub commit_id_or_malformed : Option ObjectId → Result ObjectId Error
 commit_id_or_malformed (Some id) = Ok id
 commit_id_or_malformed None = Err Malformed

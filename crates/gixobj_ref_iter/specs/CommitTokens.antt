@@ -1,4 +1,4 @@
--- The tokens of a commit.
+-- The tokens of a commit (gitdatamodel, "commits").
 use Rattle.std.specs.Prelude.{ℕ, List, []}
 use Rattle.bstr.specs.BStr.{bstr_bytes}
 use Rattle.gixobj_actor.specs.Actor.{ActorView, IsActorOf, actor_view}

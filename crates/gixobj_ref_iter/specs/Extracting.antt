@@ -36,7 +36,7 @@ pub record HasCommitSignature (kind : Kind) (content value signed : List ℕ) : 
   pub joined : content ≡ prefix ++ input
   pub remaining : signed ≡ prefix ++ rest
 
--- the bytes decode to their end, and have no signature header
+-- the bytes decode to lines, to their end, and none of them is a signature header
 abbrev pub HasNoSignature : Kind → List ℕ → Type 0
 HasNoSignature kind content =
     runs.YieldsNone (HasLine kind) (IsNamedLine (signature_field kind)) state.Tree content complete
@@ -47,7 +47,8 @@ FindsSignatureOfCommit kind content (Some it) = HasCommitSignature kind content 
     (signed_bytes it.1)
 FindsSignatureOfCommit kind content None = HasNoSignature kind content
 
--- why no signature is found: before any signature header a line is malformed, or a header fails to allocate
+-- Malformed: after lines that are no signature header comes a malformed one; OutOfMemory: after such lines comes a
+-- header of several lines, whose value allocates
 abbrev pub IsCommitSignatureError : Kind → List ℕ → Error → Type 0
 IsCommitSignatureError kind content Malformed =
     runs.YieldsNone (HasLine kind) (IsNamedLine (signature_field kind)) state.Tree content broken

@@ -1,4 +1,4 @@
--- A commit and its tokens.
+-- A commit and its tokens (gitdatamodel, "commits").
 use Rattle.std.specs.Prelude.{◌≡◌, ℕ, List, [], ◌∷◌, ◌++◌}
 use Rattle.std.specs.List.{AllZip}
 use Rattle.gixobj_commit.specs.Commit.{CommitLines, lines_of_commit}

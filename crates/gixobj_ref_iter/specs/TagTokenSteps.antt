@@ -1,4 +1,4 @@
--- The steps, runs and searches of a token iterator over a tag.
+-- The steps, runs and searches of a token iterator over a tag (gitdatamodel, "tag objects").
 use Rattle.std.specs.Prelude.{◌≡◌, ◌+◌, ℕ, List, Option, Some, None, Result, Ok, Err, length, ⊤}
 use Rattle.std.specs.Iterator.{Count, at_most}
 use Rattle.std.specs.List.{AllZip, concat}
@@ -53,7 +53,7 @@ NextTagToken = NextPiece tag_reader_state HasTagToken NoTokenAllocates tag_token
 
 -- ---- runs
 
--- from this state the input yields these tokens, and the run ends like this
+-- the complete run from this state over this input yields these tokens, and has this ending
 abbrev pub YieldsTagTokens : Kind → State → List ℕ → List TagTokenView → Ending → Type 0
 YieldsTagTokens kind before input tokens ending = runs.Yields (HasTagToken kind) before input tokens ending
 
@@ -70,7 +70,7 @@ DecodesToTagTokens kind input tokens = (encodings : List (List ℕ)) × (input �
 
 -- ---- ids of tokens
 
--- the id of a target
+-- the id of a target, or none for another token
 abbrev pub tag_token_id : TagTokenView → Option ObjectId
 tag_token_id (target_token id) = Some id
 tag_token_id (kind_token kind) = None
@@ -79,7 +79,7 @@ tag_token_id (tagger_token actor) = None
 tag_token_id no_tagger_token = None
 tag_token_id (body_token message signature) = None
 
--- the id, or `Malformed` without one
+-- this id, or `Malformed` without one
 abbrev pub tag_id_or_malformed : Option ObjectId → Result ObjectId Error
 tag_id_or_malformed (Some id) = Ok id
 tag_id_or_malformed None = Err Malformed
@@ -90,7 +90,7 @@ answered_tag_id (Some (Ok token)) = tag_id_or_malformed (tag_token_id (tag_token
 answered_tag_id (Some (Err error)) = Err error
 answered_tag_id None = Err Malformed
 
--- the id of the next token
+-- one step, and the id of its token
 abbrev pub NextIdOfTag : TagRefIter → Result ObjectId Error → Type 0
 NextIdOfTag before result = (answer : Option (Result Token Error)) × (after : TagRefIter)
     × NextTagToken before answer after × (result ≡ answered_tag_id answer)
@@ -108,11 +108,11 @@ abbrev pub token_of_tagger : Option SignatureRef → TagTokenView
 token_of_tagger (Some actor) = tagger_token (actor_view actor)
 token_of_tagger None = no_tagger_token
 
--- after other tokens, the token of this tagger or of its absence follows
+-- the token of this tagger, or of its absence, follows tokens that are neither
 abbrev pub FindsTagger : TagRefIter → Option SignatureRef → Type 0
 FindsTagger reader tagger = readers.FindsFirst tag_reader_state HasTagToken IsTaggerToken reader
     (token_of_tagger tagger)
 
--- the run has no tagger token, and ends like this
+-- the complete run yields no tagger token, not even that of its absence, and has this ending
 abbrev pub YieldsNoTagger : TagRefIter → Ending → Type 0
 YieldsNoTagger = readers.YieldsNone tag_reader_state HasTagToken IsTaggerToken

@@ -1,4 +1,4 @@
--- The tokens of a tag.
+-- The tokens of a tag (gitdatamodel, "tag objects").
 use Rattle.std.specs.Prelude.{◌≡◌, ◌≢◌, ℕ, List, [], Option, Some, None, codes}
 use Rattle.bstr.specs.BStr.{bstr_bytes}
 use Rattle.gixobj_actor.specs.Actor.{ActorView, IsActorLineOf, actor_view}

@@ -1,4 +1,4 @@
--- Iterators over the parents of a commit alone, or over its actors alone.
+-- Iterators over the parents of a commit alone, or over its actors alone (gitdatamodel, "commits").
 use Rattle.std.specs.Prelude.{◌≡◌, Option, Some, None}
 use Rattle.std.specs.Iterator.{Count}
 use Rattle.gixobj_actor.specs.Actor.{actor_view}
@@ -34,18 +34,18 @@ abbrev pub ReadsFirstToken : (CommitTokenView → Type 0) → (CommitTokenView �
     → Type 0
 ReadsFirstToken = readers.ReadsFirst commit_reader_state HasCommitToken
 
--- no token with the property comes before the end, or before a header that fails to allocate; the iterator is at its
--- end
+-- no token with the property comes before the end, a malformed token, or a header whose value allocates; the iterator
+-- is at its end
 abbrev pub ReadsNoToken : (CommitTokenView → Type 0) → CommitRefIter → CommitRefIter → Type 0
 ReadsNoToken = readers.ReadsNone commit_reader_state HasCommitToken (λ kind. NeedsAllocation)
 
--- the next parent, or none
+-- the next parent; or none, at the end of the tokens or at an error
 abbrev pub NextParent : ParentIds → Option ObjectId → ParentIds → Type 0
 NextParent before (Some id) after = ReadsFirstToken IsParentToken (λ token. token ≡ parent_token id)
     (parents_reader before) (parents_reader after)
 NextParent before None after = ReadsNoToken IsParentToken (parents_reader before) (parents_reader after)
 
--- the next author or committer, or none
+-- the next author or committer; or none, at the end of the tokens or at an error
 abbrev pub NextActor : Signatures → Option SignatureRef → Signatures → Type 0
 NextActor before (Some it) after = ReadsFirstToken IsActorToken (IsActorTokenOf (actor_view it)) (actors_reader before)
     (actors_reader after)

@@ -1,4 +1,4 @@
--- The tokens that a search consumes, and what it finds.
+-- The tokens that a search in a commit consumes, and what it finds (gitdatamodel, "commits").
 use Rattle.std.specs.Prelude.{◌≡◌, ◌⊎◌, ℕ, List, [], ⊤}
 use Rattle.std.specs.List.{AllZip, concat}
 use Rattle.gixobj_actor.specs.Actor.{ActorView}
@@ -24,17 +24,17 @@ HasConsumedCommitTokens kind content tokens reader =
     runs.Passes (HasCommitToken kind) state.Tree content tokens (commit_reader_state reader).state
     (commit_reader_state reader).bytes × ((commit_reader_state reader).kind ≡ kind)
 
--- the end of a search for a token: the first token; the end of the run without one; the error of a search that requires
--- a token; or the error of a search that may end without one
+-- the end of a search for a token: the first token, the ending of a run without one, or an error. The error is that of
+-- a search that requires a token, or of one that may end without it
 pub data SearchEnd : Type 0 where
   first_token : CommitTokenView → SearchEnd
   no_token : Ending → SearchEnd
   required_error : Error → SearchEnd
   optional_error : Error → SearchEnd
 
--- how a search for a token with this property ends: at a token that follows tokens without the property; without one,
--- as the run ends; with an error if a token is required, since the run yields none or a header before it fails to
--- allocate; with an error if the end is accepted, since a token is malformed or a header before it fails to allocate
+-- how a search for a token with this property ends. At the first token with it; or at the end of a run without one. The
+-- error Malformed: of a required token, the run yields none; of an optional one, the run yields none and is broken. The
+-- error OutOfMemory: after tokens without the property comes a header whose value allocates
 abbrev pub EndsSearch : (CommitTokenView → Type 0) → CommitRefIter → SearchEnd → Type 0
 EndsSearch Is reader (first_token token) = readers.FindsFirst commit_reader_state HasCommitToken Is reader token
 EndsSearch Is reader (no_token ending) = readers.YieldsNone commit_reader_state HasCommitToken Is reader ending

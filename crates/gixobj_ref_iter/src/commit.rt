@@ -1,4 +1,4 @@
-//! The token iterator over commits.
+//! The token iterator over commits (gitdatamodel, "commits").
 ghost use Rattle.std.specs.Prelude.{◌≡◌, MatchOption, None, Some};
 ghost use Rattle.gixobj_hash.specs.Hash.Borrowed.{borrowed_id};
 ghost use Rattle.gixobj_line.specs.Lines.{HasHex, IsParsedLine, line_view};
@@ -32,8 +32,9 @@ pub struct CommitRefIter<'a> {
 
 /// Lifecycle
 impl<'a> CommitRefIter<'a> {
-    /// Returns an iterator over the tokens of a commit's encoding, with ids of `hash_kind`. Decodes nothing
-    /// yet, and allocates nothing.
+    /// Returns an iterator over the tokens of a commit's encoding, with ids of `hash_kind`.
+    ///
+    /// Decodes nothing yet, and allocates nothing.
     ///
     /// # Examples
     ///
@@ -58,13 +59,15 @@ impl<'a> CommitRefIter<'a> {
     }
 }
 
-/// Yields the next token. After an error the iterator is at its end.
+/// Yields the next token, or `None` if no bytes remain. After an error the iterator is at its end.
+///
+/// Bytes that end after a line yield no error, even without a message. Only the value of a header of several
+/// lines is allocated.
 ///
 /// # Errors
 ///
 /// - [`Error::Malformed`] if the remaining bytes begin with no token that may come next.
-/// - [`Error::OutOfMemory`] if the value of a header of several lines fails to allocate. No other token
-///   allocates.
+/// - [`Error::OutOfMemory`] if the value of a header of several lines can't be allocated.
 impl<'a> Iterator for CommitRefIter<'a> {
     type Item = Result<Token<'a>, Error>;
 
@@ -115,7 +118,7 @@ pub enum Token<'a> {
     },
     /// The name of the message's character encoding.
     Encoding(BStr<'a>),
-    /// An extra header: its name and its value.
+    /// An extra header: its name and its value. A value of one line is borrowed.
     ExtraHeader((BStr<'a>, CowSlice<'a, u8>)),
     /// The message, as unchanged bytes.
     Message(BStr<'a>),
@@ -145,7 +148,7 @@ impl<'a> Token<'a> {
 
 /// Access
 impl<'a> Token<'a> {
-    /// Returns the id of a tree or parent token, borrowed.
+    /// Returns the id of a tree or parent token, borrowed, or `None` for another token. Allocates nothing.
     pub fn id(&self) -> Option<oid<'_>>
         ensures { MatchOption result (commit_token_id (commit_token_view self.now) ≡ None)
             (λ id. commit_token_id (commit_token_view self.now) ≡ Some (borrowed_id id)) }
@@ -156,7 +159,7 @@ impl<'a> Token<'a> {
         }
     }
 
-    /// Returns the id of a tree or parent token.
+    /// Returns the id of a tree or parent token, or `None` for another token. Allocates nothing.
     pub fn try_into_id(self) -> Option<ObjectId>
         ensures { result ≡ commit_token_id (commit_token_view self.entry) }
     {

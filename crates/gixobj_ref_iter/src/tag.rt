@@ -1,4 +1,4 @@
-//! The token iterator over tags.
+//! The token iterator over tags (gitdatamodel, "tag objects").
 ghost use Rattle.std.specs.Prelude.{◌≡◌, ◌≢◌, [], IfErr, IfNone, IfOk, IfSome, MatchOption, None, Some};
 ghost use Rattle.gixobj_fields.specs.Runs.{Ending, HasNoPiece};
 ghost use Rattle.gixobj_hash.specs.Hash.Borrowed.{borrowed_id};
@@ -48,8 +48,9 @@ pub struct TagRefIter<'a> {
 
 /// Lifecycle
 impl<'a> TagRefIter<'a> {
-    /// Returns an iterator over the tokens of a tag's encoding, with a target id of `hash_kind`. Decodes
-    /// nothing yet, and allocates nothing.
+    /// Returns an iterator over the tokens of a tag's encoding, with a target id of `hash_kind`.
+    ///
+    /// Decodes nothing yet, and allocates nothing.
     pub fn from_bytes(bytes: &'a [u8], hash_kind: hash::Kind) -> TagRefIter<'a>
         ensures { IsAtStartOfTag hash_kind bytes.now result }
     {
@@ -82,13 +83,14 @@ impl<'a> TagRefIter<'a> {
         }
     }
 
-    /// Returns who made the tag, and when, untrimmed; `None` if other bytes than a tagger line follow the
-    /// name. Allocates nothing.
+    /// Returns who made the tag, and when, untrimmed. Allocates nothing.
+    ///
+    /// Returns `None` if other bytes than a tagger line follow the name.
     ///
     /// # Errors
     ///
-    /// [`Error::Malformed`] if a token up to the tagger is malformed, or if the bytes end with the name or
-    /// earlier.
+    /// [`Error::Malformed`] if a token up to the tagger is malformed, or if no tagger token remains. The
+    /// latter is so if the bytes end with the name or earlier, or if the token was consumed.
     #[tactic(auto, using(crate::proofs::TagRuns::searches_nil, crate::proofs::TagRuns::finds_first_at_token))]
     pub fn tagger(self) -> Result<Option<SignatureRef<'a>>, Error>
         ensures found { IfOk result (FindsTagger self.entry) }
@@ -105,7 +107,10 @@ impl<'a> TagRefIter<'a> {
     }
 }
 
-/// Yields the next token. After an error the iterator is at its end. Allocates nothing.
+/// Yields the next token, or `None` if no bytes remain. After an error the iterator is at its end.
+///
+/// Bytes that end after a line yield no error, even if lines are missing. A tag that ends with its name
+/// yields neither a tagger nor a body. Allocates nothing.
 ///
 /// # Errors
 ///
@@ -135,7 +140,8 @@ impl<'a> Iterator for TagRefIter<'a> {
     }
 }
 
-/// Decodes the token at the start of the input in this state, with the state after it and the rest.
+/// Decodes the token at the start of the input in this state, with the state after it and the rest. Returns
+/// `None` if the input begins with no such token.
 #[tactic(auto, using(crate::specs::TagTokens::target_comes, crate::specs::TagTokens::kind_comes, crate::specs::TagTokens::name_comes, crate::specs::TagTokens::body_comes))]
 fn decode_token(
     input: &[u8],
@@ -197,9 +203,9 @@ pub enum Token<'a> {
     TargetKind(Kind),
     /// The name of the tag.
     Name(BStr<'a>),
-    /// Who made the tag, and when, untrimmed; `None` without a tagger line.
+    /// Who made the tag, and when, untrimmed; `None` if other bytes than a tagger line follow the name.
     Tagger(Option<SignatureRef<'a>>),
-    /// The bytes after the header lines.
+    /// The bytes after the header lines, if there are any.
     Body {
         /// The message.
         message: BStr<'a>,
@@ -210,7 +216,7 @@ pub enum Token<'a> {
 
 /// Access
 impl Token<'_> {
-    /// Returns the id of a target token, borrowed.
+    /// Returns the id of a target token, borrowed, or `None` for another token. Allocates nothing.
     pub fn id(&self) -> Option<oid<'_>>
         ensures { MatchOption result (tag_token_id (tag_token_view self.now) ≡ None)
             (λ id. tag_token_id (tag_token_view self.now) ≡ Some (borrowed_id id)) }
@@ -221,7 +227,7 @@ impl Token<'_> {
         }
     }
 
-    /// Returns the id of a target token.
+    /// Returns the id of a target token, or `None` for another token. Allocates nothing.
     pub fn into_id(self) -> Option<ObjectId>
         ensures { result ≡ tag_token_id (tag_token_view self.entry) }
     {

@@ -13,13 +13,15 @@ use gixobj_hash::hash::ObjectId;
 
 /// Access
 impl<'a> CommitRefIter<'a> {
-    /// Returns the id of the next token, which is the tree's at the start.
+    /// Consumes the next token and returns its id, which is the tree's at the start.
+    ///
+    /// At the start this allocates nothing.
     ///
     /// # Errors
     ///
     /// - [`Error::Malformed`] if the next token is malformed, is missing or has no id.
-    /// - [`Error::OutOfMemory`] if the next token is a header of several lines, and its value fails to
-    ///   allocate.
+    /// - [`Error::OutOfMemory`] if the next token is a header of several lines, and its value can't be
+    ///   allocated.
     ///
     /// # Examples
     ///
@@ -43,11 +45,12 @@ impl<'a> CommitRefIter<'a> {
 
     /// Returns who made the change, and when: the first remaining author, untrimmed.
     ///
+    /// Allocates the values of headers of several lines that it consumes. In a commit they follow the author.
+    ///
     /// # Errors
     ///
     /// - [`Error::Malformed`] if a malformed token or the end comes before an author.
-    /// - [`Error::OutOfMemory`] if the value of a header of several lines before the author fails to
-    ///   allocate.
+    /// - [`Error::OutOfMemory`] if such a value can't be allocated.
     #[tactic(auto, using(crate::proofs::CommitRuns::searches_nil, crate::proofs::CommitRuns::ends_search_at_first))]
     pub fn author(self) -> Result<SignatureRef<'a>, Error>
         ensures found { IfOk result (λ it. FindsAuthor self.entry (actor_view it)) }
@@ -64,11 +67,13 @@ impl<'a> CommitRefIter<'a> {
 
     /// Returns who made the commit, and when: the first remaining committer, untrimmed.
     ///
+    /// Allocates the values of headers of several lines that it consumes. In a commit they follow the
+    /// committer.
+    ///
     /// # Errors
     ///
     /// - [`Error::Malformed`] if a malformed token or the end comes before a committer.
-    /// - [`Error::OutOfMemory`] if the value of a header of several lines before the committer fails to
-    ///   allocate.
+    /// - [`Error::OutOfMemory`] if such a value can't be allocated.
     #[tactic(auto, using(crate::proofs::CommitRuns::searches_nil, crate::proofs::CommitRuns::ends_search_at_first))]
     pub fn committer(self) -> Result<SignatureRef<'a>, Error>
         ensures found { IfOk result (λ it. FindsCommitter self.entry (actor_view it)) }
@@ -83,14 +88,14 @@ impl<'a> CommitRefIter<'a> {
         Err(Error::Malformed)
     }
 
-    /// Returns the message: all bytes after the empty line, or no bytes if the end comes before it. Headers
-    /// of several lines before the message allocate their values.
+    /// Returns the message: all bytes after the empty line, or no bytes if the end comes before it.
+    ///
+    /// Allocates the values of headers of several lines before the message.
     ///
     /// # Errors
     ///
     /// - [`Error::Malformed`] if a malformed token comes before the message.
-    /// - [`Error::OutOfMemory`] if the value of a header of several lines before the message fails to
-    ///   allocate.
+    /// - [`Error::OutOfMemory`] if such a value can't be allocated.
     #[tactic(auto, using(crate::proofs::CommitRuns::searches_nil, crate::proofs::CommitRuns::ends_search_at_first))]
     pub fn message(self) -> Result<BStr<'a>, Error>
         ensures found { IfOk result (λ it. FindsMessage self.entry (bstr_bytes it)) }

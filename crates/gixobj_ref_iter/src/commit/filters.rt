@@ -20,15 +20,20 @@ impl<'a> CommitRefIter<'a> {
     ghost use Rattle.std.specs.Prelude.{◌≡◌};
     ghost use Rattle.gixobj_ref_iter.specs.TokenFilters.{actors_reader, parents_reader};
 
-    /// Returns an iterator over the ids of the remaining parents. An error ends it silently.
+    /// Returns an iterator over the ids of the remaining parents. An error of a token ends it silently.
+    ///
+    /// Making the iterator allocates nothing. Its last step decodes the other tokens, and allocates the
+    /// values of headers of several lines.
     pub fn parent_ids(self) -> ParentIds<'a>
         ensures { parents_reader result ≡ self.entry }
     {
         ParentIds { tokens: self }
     }
 
-    /// Returns an iterator over the remaining actors, untrimmed: the author, then the committer. An error
-    /// ends it silently.
+    /// Returns an iterator over the remaining actors, untrimmed: the author, then the committer.
+    ///
+    /// An error of a token ends it silently. Making the iterator allocates nothing. Its last step decodes the
+    /// other tokens, and allocates the values of headers of several lines.
     pub fn signatures(self) -> Signatures<'a>
         ensures { actors_reader result ≡ self.entry }
     {
@@ -36,7 +41,7 @@ impl<'a> CommitRefIter<'a> {
     }
 }
 
-/// Yields the next parent. It ends with the tokens or at an error.
+/// Yields the next parent, or `None` at the end of the tokens and at an error of a token.
 impl<'a> Iterator for ParentIds<'a> {
     type Item = ObjectId;
 
@@ -60,7 +65,7 @@ impl<'a> Iterator for ParentIds<'a> {
     }
 }
 
-/// Yields the next author or committer. It ends with the tokens or at an error.
+/// Yields the next author or committer, or `None` at the end of the tokens and at an error of a token.
 impl<'a> Iterator for Signatures<'a> {
     type Item = SignatureRef<'a>;
 

@@ -11,7 +11,7 @@ use gixobj_actor::actor::SignatureRef;
 use gixobj_hash::hash::ObjectId;
 
 impl<'a> Token<'a> {
-    /// Returns the id of a parent token.
+    /// Returns the id of a parent token, or `None` for another token.
     pub(super) fn as_parent(&self) -> Option<ObjectId>
         ensures { MatchOption result (¬ IsParentToken (commit_token_view self.now))
             (λ id. commit_token_view self.now ≡ parent_token id) }
@@ -22,7 +22,7 @@ impl<'a> Token<'a> {
         }
     }
 
-    /// Returns the actor of an author token.
+    /// Returns the actor of an author token, or `None` for another token.
     pub(super) fn as_author(&self) -> Option<SignatureRef<'a>>
         ensures { MatchOption result (¬ IsAuthorToken (commit_token_view self.now))
             (λ it. commit_token_view self.now ≡ author_token (actor_view it)) }
@@ -33,7 +33,7 @@ impl<'a> Token<'a> {
         }
     }
 
-    /// Returns the actor of a committer token.
+    /// Returns the actor of a committer token, or `None` for another token.
     pub(super) fn as_committer(&self) -> Option<SignatureRef<'a>>
         ensures { MatchOption result (¬ IsCommitterToken (commit_token_view self.now))
             (λ it. commit_token_view self.now ≡ committer_token (actor_view it)) }
@@ -44,7 +44,7 @@ impl<'a> Token<'a> {
         }
     }
 
-    /// Returns the actor of an author or committer token.
+    /// Returns the actor of an author or committer token, or `None` for another token.
     pub(super) fn as_actor(&self) -> Option<SignatureRef<'a>>
         ensures { MatchOption result (¬ IsActorToken (commit_token_view self.now))
             (λ it. IsActorTokenOf (actor_view it) (commit_token_view self.now)) }
@@ -55,7 +55,7 @@ impl<'a> Token<'a> {
         }
     }
 
-    /// Returns the bytes of a message token.
+    /// Returns the bytes of a message token, or `None` for another token.
     pub(super) fn as_message(&self) -> Option<BStr<'a>>
         ensures { MatchOption result (¬ IsMessageToken (commit_token_view self.now))
             (λ it. commit_token_view self.now ≡ message_token (bstr_bytes it)) }

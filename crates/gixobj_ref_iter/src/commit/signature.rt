@@ -18,17 +18,19 @@ use std::borrow::CowSlice;
 
 /// Signatures
 impl<'a> CommitRefIter<'a> {
-    /// Finds the signature in a commit's encoding with ids of `hash_kind`, and the data that it signs: all
-    /// bytes except the signature's header. Returns `None` if no header has the name [`signature_field_name`]
-    /// of `hash_kind`.
+    /// Finds the signature in a commit's encoding with ids of `hash_kind`, and the data that it signs.
     ///
-    /// The first header of that name is the signature, and lines after it aren't decoded. Headers of several
-    /// lines allocate their values; a value of one line is borrowed.
+    /// The signature is the value of the first header named [`signature_field_name`] of `hash_kind`. The data
+    /// is all bytes except that header. Lines after it aren't decoded. Returns `None` if all lines are valid,
+    /// and none is such a header.
+    ///
+    /// Allocates the values of headers of several lines, up to the signature. A value of one line is
+    /// borrowed.
     ///
     /// # Errors
     ///
-    /// - [`Error::Malformed`] if a line before the signature is malformed or, without a signature, any line.
-    /// - [`Error::OutOfMemory`] if the value of a header of several lines fails to allocate.
+    /// - [`Error::Malformed`] if a line up to the signature is malformed or, without a signature, any line.
+    /// - [`Error::OutOfMemory`] if such a value can't be allocated.
     pub fn signature(
         alloc: Global,
         bytes: &'a [u8],

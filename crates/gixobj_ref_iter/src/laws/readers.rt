@@ -22,9 +22,10 @@ ghost use Rattle.gixobj_line.specs.declared.lines.State.TheVariants as state;
 ghost use Rattle.gixobj_ref_iter.specs.declared.commit.Token.{Token};
 ghost use Rattle.gixobj_ref_iter.specs.declared.commit.filters.ParentIds.{ParentIds};
 
-/// The token iterator and the decoder of entire commits accept the same language. The encoding of a commit
-/// yields exactly the tokens of that commit, to the end. Bytes that yield tokens to the end, with a message
-/// last, are the encoding of a commit with these tokens.
+/// The token iterator and the decoder of entire commits accept the same bytes.
+///
+/// The encoding of a commit yields the tokens of that commit, to the end. Bytes that yield tokens to the end,
+/// with a message last, are the encoding of a commit with these tokens.
 pub fn commit_readers_agree()
     ensures yields { (kind : Kind) (content : List ℕ) (commit : CommitLines)
         → DecodesToCommit kind content commit → (tokens : List CommitTokenView)
@@ -35,9 +36,10 @@ pub fn commit_readers_agree()
         → (commit : CommitLines) × DecodesToCommit kind content commit × AreTokensOfCommit commit tokens }
 {}
 
-/// The tokens that an iterator has consumed are a prefix of the tokens of its bytes. At its start it has
-/// consumed none, and each yielded token is consumed too. At its end the consumed tokens are the complete
-/// run; at a malformed token they are the run up to there.
+/// The tokens that an iterator has consumed are a prefix of the tokens of its bytes.
+///
+/// At its start it has consumed none, and each yielded token is consumed too. At its end the consumed tokens
+/// are the complete run; at a malformed token they are the run up to there.
 pub fn consumed_commit_tokens_are_prefix()
     ensures starts { (kind : Kind) (content : List ℕ) (reader : CommitRefIter)
         → IsAtStartOfCommit kind content reader → HasConsumedCommitTokens kind content [] reader }
@@ -67,8 +69,9 @@ pub fn id_search_complete()
         × YieldsList NextParent (λ id. id) parents ids }
 {}
 
-/// A token iterator at the start of a commit's encoding finds the commit's author and committer. Each search
-/// fails only if memory runs out.
+/// A token iterator at the start of a commit's encoding finds the commit's author and committer.
+///
+/// Each search fails only if memory runs out.
 pub fn actor_search_complete()
     ensures author { (kind : Kind) (content : List ℕ) (commit : CommitLines) (reader : CommitRefIter)
         (actor : ActorView) → DecodesToCommit kind content commit → IsAtStartOfCommit kind content reader
@@ -85,8 +88,9 @@ pub fn actor_search_complete()
         → IsAtStartOfCommit kind content reader → ¬ EndsSearch IsCommitterToken reader (required_error Malformed) }
 {}
 
-/// A token iterator at the start of a commit's encoding finds the commit's message. The search fails only if
-/// memory runs out.
+/// A token iterator at the start of a commit's encoding finds the commit's message.
+///
+/// The search fails only if memory runs out.
 pub fn message_search_complete()
     ensures message { (kind : Kind) (content : List ℕ) (commit : CommitLines) (reader : CommitRefIter)
         (message : List ℕ) → DecodesToCommit kind content commit → IsAtStartOfCommit kind content reader

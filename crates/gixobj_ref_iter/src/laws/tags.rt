@@ -16,8 +16,9 @@ ghost use Rattle.gixobj_ref_iter.specs.declared.tag.TagRefIter.{TagRefIter};
 ghost use Rattle.gixobj_ref_iter.specs.declared.tag.Token.{Token};
 ghost use Rattle.gixobj_tag.specs.TagFormat.{DecodesToTag, TagLines};
 
-/// In each state bytes begin with at most one token, and they have at most one run of tokens, with one
-/// ending. If the run is complete, the bytes are the concatenated encodings of its tokens.
+/// In each state bytes begin with at most one token, and have at most one run of tokens, with one ending.
+///
+/// If the run is complete, the bytes are the concatenated encodings of its tokens.
 pub fn tag_tokens_decode_uniquely()
     ensures one_token { (kind : Kind) (before : State) (input : List ℕ)
         (token token' : TagTokenView) (following after' : State) (rest rest' : List ℕ)
@@ -32,9 +33,10 @@ pub fn tag_tokens_decode_uniquely()
         → YieldsTagTokens kind before input tokens complete → DecodesToTagTokens kind input tokens }
 {}
 
-/// The tokens that an iterator has consumed are a prefix of the tokens of its bytes. At its start it has
-/// consumed none, and each yielded token is consumed too. At its end the consumed tokens are the complete
-/// run; at an error they are the run up to there.
+/// The tokens that an iterator has consumed are a prefix of the tokens of its bytes.
+///
+/// At its start it has consumed none, and each yielded token is consumed too. At its end the consumed tokens
+/// are the complete run; at an error they are the run up to there.
 pub fn consumed_tag_tokens_are_prefix()
     ensures starts { (kind : Kind) (bytes : List ℕ) (reader : TagRefIter)
         → IsAtStartOfTag kind bytes reader → HasConsumedTagTokens kind bytes [] reader }
@@ -51,9 +53,11 @@ pub fn consumed_tag_tokens_are_prefix()
         → YieldsTagTokens kind state.Target bytes tokens broken }
 {}
 
-/// The token iterator and the decoder of entire tags accept the same language. The encoding of a tag yields
-/// the tokens of that tag to the end, its name among them. Bytes that yield tokens to the end, with a name
-/// among them, are the encoding of a tag with these tokens.
+/// The token iterator and the decoder of entire tags accept the same bytes.
+///
+/// The encoding of a tag yields the tokens of that tag to the end, its name among them. Bytes that yield
+/// tokens to the end, with a name among them, are the encoding of a tag with these tokens. A tag that ends
+/// with its name has no token for its absent tagger, and an empty body has none either.
 pub fn tag_readers_agree()
     ensures yields { (kind : Kind) (bytes : List ℕ) (tag : TagLines) → DecodesToTag kind bytes tag
         → (tokens : List TagTokenView) × YieldsTagTokens kind state.Target bytes tokens complete
@@ -64,7 +68,9 @@ pub fn tag_readers_agree()
 {}
 
 /// A token iterator at the start of a tag's encoding finds the tag's target, and its tagger or that it has
-/// none. It yields no tagger token only if the encoding ends after the name.
+/// none.
+///
+/// It yields no tagger token only if the encoding ends with the name.
 pub fn tag_part_search_complete()
     ensures target { (kind : Kind) (bytes : List ℕ) (tag : TagLines) (reader : TagRefIter)
         (result : Result ObjectId decode.Error) → DecodesToTag kind bytes tag

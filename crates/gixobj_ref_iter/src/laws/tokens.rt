@@ -16,8 +16,9 @@ pub fn commit_tokens_decode_uniquely()
         × (after ≡ after') × (rest ≡ rest') }
 {}
 
-/// Bytes have at most one run of tokens, with one ending. If the run is complete, the bytes are the
-/// concatenated encodings of its tokens.
+/// From each state bytes have at most one run of tokens, with one ending.
+///
+/// If the run is complete, the bytes are the concatenated encodings of its tokens.
 pub fn commit_run_iff_tokens()
     ensures one_run { (kind : Kind) (before : State) (input : List ℕ)
         (tokens tokens' : List CommitTokenView) (ending ending' : Ending)

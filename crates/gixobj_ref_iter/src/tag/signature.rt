@@ -10,11 +10,10 @@ use gixobj_text::signature::{SignatureRef, find};
 
 /// Signatures
 impl<'a> TagRefIter<'a> {
-    /// Finds the signature in a tag's encoding, and the data that it signs: all bytes before it. The
-    /// signature begins at the last marker at the start of a line; without a marker there is none. The other
-    /// bytes aren't decoded.
+    /// Finds the signature in a tag's encoding, and the data that it signs: all bytes before it.
     ///
-    /// Allocates nothing.
+    /// The signature begins at the last marker at the start of a line. Returns `None` without such a marker.
+    /// The bytes aren't decoded as a tag. Allocates nothing.
     pub fn signature(bytes: &'a [u8]) -> Option<(SignatureRef<'a>, SignedData<'a>)>
         ensures found { IfSome result (FindsSignatureOfTag bytes.now) }
         ensures none { IfNone result (HasNoMarker bytes.now) }
