@@ -1,4 +1,5 @@
--- Borrowed objects of any kind: their kind, their encoding, errors of encoding, and owned copies.
+-- Borrowed objects of any kind: their kind, their encoding, errors of encoding, and owned copies (gitdatamodel,
+-- "objects").
 use Rattle.std.specs.Prelude.{◌≡◌, ◌≢◌, ℕ, List, [], ⊤}
 use Rattle.gixobj_commit.specs.CommitOwned.{IsOwnedFormOfCommit as IsOwnedCommit, IsIntoOwnedCommitError}
 use Rattle.gixobj_commit.specs.CommitViews.{commit_lines}
@@ -68,7 +69,7 @@ IsOwnedObject (object.Commit commit) (own.Commit copy) = IsOwnedCommit (commit_l
 IsOwnedObject (object.Tag tag) (own.Tag copy) = IsOwnedTag (tag_lines tag) copy
 IsOwnedObject _ _ = ⊥
 
--- the error of an owned copy is that of a commit or a tag; a blob, and a tree with entries, are only out of memory
+-- the error of an owned copy: that of a commit or a tag. A blob, or a tree with entries, has no error but out of memory
 abbrev pub IsIntoOwnedObjectError : ObjectRef → Error → Type 0
 IsIntoOwnedObjectError (object.Tree tree) error = (error ≡ OutOfMemory) × (tree_entries tree ≢ [])
 IsIntoOwnedObjectError (object.Blob blob) error = error ≡ OutOfMemory

@@ -1,4 +1,4 @@
--- Ids of objects that are not decoded yet.
+-- Ids of objects that are not decoded yet (git-hash-object).
 use Rattle.std.specs.Prelude.{◌≡◌}
 use Rattle.gixobj_hash.specs.Hash.{id_of}
 use Rattle.gixobj_hash.specs.declared.hash.kind.Kind.{Kind}

@@ -1,4 +1,4 @@
--- Steps of the iterator over tree entries.
+-- Steps of the iterator over tree entries (gitdatamodel, "trees").
 use Rattle.std.specs.Prelude.{◌≡◌, ◌++◌, ℕ, List, Option, Result, length, ⊤}
 use Rattle.std.specs.Iterator.{Count, at_most}
 use Rattle.gixobj_fields.specs.Iterators.{NextPiece, ReaderState}
@@ -31,7 +31,7 @@ remaining_entries reader = at_most (length (remaining_tree_bytes reader))
 abbrev pub NoEntryAllocates : Kind → ⊤ → List ℕ → Type 0
 NoEntryAllocates kind before input = ⊥
 
--- one call yields the next entry; or an error, after which no bytes remain; or nothing if no bytes remain
+-- one call yields the next entry; or an error, after which no bytes remain; or none, if no bytes remain
 abbrev pub NextEntry : TreeRefIter → Option (Result EntryRef Error) → TreeRefIter → Type 0
 NextEntry = NextPiece tree_reader_state HasEntry NoEntryAllocates entry_view (λ entry. ⊤)
 

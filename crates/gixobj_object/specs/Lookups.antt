@@ -1,4 +1,4 @@
--- Lookup of tree entries by name, and along paths through the trees of a store.
+-- Lookup of tree entries by name, and along paths through the trees of a store (git-rev-parse, `<rev>:<path>`).
 use Rattle.std.specs.Prelude.{◌≡◌, ◌≢◌, ◌++◌, ◌∷◌, ℕ, Bool, IsTrue, List, [], None, Option, Some, drop, map}
 use Rattle.std.specs.List.{AllZip, zip}
 use Rattle.std.specs.declared.ops.ControlFlow.{ControlFlow}
@@ -37,8 +37,8 @@ HasNoEntryNamed hash content name = (e : EntryView) → ¬ HasFirstNamed hash co
 
 -- ---- one step
 
--- a step into a tree breaks with the entry of the last name, or with none if no entry has the first name; it continues
--- with the id of the entry if more names follow
+-- the result of a step into a tree. Break: the entry of the last name, or none if no entry has the first name; without
+-- names, none. Continue: the id of the entry of the first name, after which more names follow
 abbrev pub IsStep : StoredObject → List Name → ControlFlow (Option EntryRef) ObjectId → Type 0
 IsStep tree names (Break (Some entry)) = (name : Name) × (names ≡ name ∷ [])
     × HasFirstNamed tree.object_hash tree.bytes name (entry_view entry)
@@ -77,8 +77,8 @@ abbrev pub LeadsOn : Objects → Option StoredObject → List Name → EntryView
 LeadsOn objects first names e = (begun more : List Name) × (names ≡ begun ++ more) × (more ≢ [])
     × LeadsTo objects first begun e
 
--- the error of a lookup by the names: the store failed for the id of an entry on the path, whose lookup may fail; or
--- out of memory after the first name was found
+-- Store: a proper prefix of the names leads to an entry with an id whose lookup may fail; OutOfMemory: the first name
+-- was found
 abbrev pub IsPathError : Objects → (ObjectId → Bool) → Option StoredObject → List Name → Error → Type 0
 IsPathError objects may_fail first names (Store message) = (e : EntryView) × LeadsOn objects first names e
     × IsTrue (may_fail e.id)

@@ -14,7 +14,7 @@ use Rattle.gixobj_object.specs.declared.object.borrowed.ObjectRef.{ObjectRef}
 use Rattle.gixobj_object.specs.declared.object.borrowed.decode.LooseDecodeError.{LooseDecodeError}
 use Rattle.gixobj_object.specs.declared.object.borrowed.decode.LooseDecodeError.TheVariants.{InvalidContent, InvalidHeader, OutOfMemory}
 
--- the size in the header is 2^64 or more
+-- the size in the header is 2^64 or more, which no header states
 abbrev pub IsTooLarge : List ℕ → ℕ → Type 0
 IsTooLarge input size = (kind : Kind) × (rest : List ℕ) × BeginsWithHeader input kind size rest × (2 ^ 64 ≤ size)
 
@@ -33,16 +33,16 @@ abbrev pub IsInvalidHeader : LooseHeaderDecodeError → Type 0
 IsInvalidHeader (header.InvalidHeader message) = ⊤
 IsInvalidHeader _ = ⊥
 
--- conversion of an error of loose content: that of a header is unchanged; a content that is too short is an invalid
--- header, or out of memory if its size is 2^64 or more
+-- conversion of an error of loose content. The error of a header is unchanged. A content that is too short is an
+-- invalid header, or out of memory if its size is 2^64 or more
 abbrev pub ConvertsContentError : LooseContentError → LooseDecodeError → Type 0
 ConvertsContentError (content.Header error) it = it ≡ InvalidHeader error
 ConvertsContentError (content.Short size) (InvalidHeader error) = IsInvalidHeader error
 ConvertsContentError (content.Short size) (OutOfMemory said) = (2 ^ 64 ≤ size) × (said ≡ size)
 ConvertsContentError (content.Short size) (InvalidContent error) = ⊥
 
--- the error of a loose object: its header is invalid, or fewer bytes follow than its size; its content does not decode;
--- or out of memory for a size of 2^64 or more
+-- InvalidHeader: the header is invalid, or fewer bytes follow than its size; InvalidContent: the content does not
+-- decode; OutOfMemory: the size is 2^64 or more
 abbrev pub IsLooseObjectError : hash.Kind → List ℕ → LooseDecodeError → Type 0
 IsLooseObjectError hash input (InvalidHeader error) = IsLooseHeaderError input error
     ⊎ (IsShort input × IsInvalidHeader error)

@@ -1,4 +1,4 @@
--- Owned objects of any kind: their kind, their encoding, and errors of encoding.
+-- Owned objects of any kind: their kind, their encoding, and errors of encoding (gitdatamodel, "objects").
 use Rattle.std.specs.Prelude.{ℕ, List}
 use Rattle.gixobj_commit.specs.CommitViews.{owned_commit_lines}
 use Rattle.gixobj_commit.specs.CommitWriting.{IsOwnedCommitError, encode_commit}

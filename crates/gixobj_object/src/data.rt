@@ -49,14 +49,15 @@ impl<'a> Data<'a> {
 impl<'a> Data<'a> {
     /// Decodes the content as an object of its kind.
     ///
-    /// Allocates the entries of a tree, the parents of a commit from the second one on, and its extra
-    /// headers.
+    /// Allocates the entries of a tree, the parents of a commit after the first, and its extra headers with
+    /// their values of several lines.
     ///
     /// # Errors
     ///
-    /// - [`Error::Malformed`] if the content is not the encoding of an object of its kind. A blob never
-    ///   fails.
-    /// - [`Error::OutOfMemory`] if an allocation fails, for a tree or a commit only.
+    /// - [`Error::Malformed`] if the content is not the encoding of an object of its kind.
+    /// - [`Error::OutOfMemory`] if an allocation for a tree or a commit fails.
+    ///
+    /// A blob never fails.
     pub fn decode(&self, alloc: Global) -> Result<ObjectRef<'a>, Error>
         ensures found { IfOk result (DecodesToObject self.now.object_hash self.now.kind
             self.now.bytes.now) }

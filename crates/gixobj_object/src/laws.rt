@@ -16,7 +16,7 @@ ghost use Rattle.gixobj_object.specs.declared.tree.TreeRefIter.{TreeRefIter};
 
 /// The tree decoder and the iterator over entries accept the same trees.
 ///
-/// - `reported`: the iterator yields all entries of an encoded tree, and then ends without an error.
+/// - `yields`: the iterator yields all entries of an encoded tree, and then ends without an error.
 /// - `read`: bytes that the iterator yields without an error are the encoding of the tree of these entries.
 /// - `before_an_error`: the entries yielded before an error are those of the longest prefix that encodes a
 ///   tree.
@@ -81,7 +81,9 @@ pub fn object_map_insert()
         → named (finite.insert objects id it) other ≡ named objects other }
 {}
 
-/// Two ids are equal or different. A statement on the empty tree's id and on each other id holds for all ids.
+/// Two ids are equal or different.
+///
+/// So a statement holds for all ids if it holds for one id, such as the empty tree's, and for each other one.
 pub fn id_equality_is_decidable()
     ensures { (id other : ObjectId) → (id ≡ other) ⊎ (id ≢ other) }
 {}

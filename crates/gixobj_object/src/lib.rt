@@ -1,5 +1,6 @@
-//! Objects of any kind, owned and borrowed, undecoded objects, iterators over tree entries, and object
-//! stores. Objects are decoded by their kind or as loose objects, converted to their parts, and encoded.
+//! Objects of any kind: owned, borrowed or undecoded. Iterators over tree entries, and object stores.
+//!
+//! Objects are decoded by their kind or as loose objects, converted to their parts, and encoded.
 #![tactic(auto)]
 
 pub mod data;

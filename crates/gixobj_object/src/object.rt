@@ -26,7 +26,7 @@ pub enum Object {
     Tag(Tag),
 }
 
-/// Access
+/// Access. These calls allocate nothing.
 impl Object {
     /// Returns the kind of the object.
     pub fn kind(&self) -> Kind

@@ -12,7 +12,7 @@ use gixobj_hash::hash::oid;
 
 /// The model of an object store, as contracts see it. It has no calls.
 ///
-/// A store states its model here, and implements [`Find`], [`FindHeader`] and [`Exists`]. The model
+/// A store defines its model here, and implements [`Find`], [`FindHeader`] and [`Exists`]. The model
 /// determines their results.
 pub trait Store {
     ghost use Rattle.std.specs.Prelude.{Bool};
@@ -30,11 +30,11 @@ pub trait Store {
 pub trait Find: Store {
     /// Looks up the object that `id` names, or returns `None` if it names none.
     ///
-    /// The content is written to `buffer`. After an error the buffer may hold any bytes.
+    /// The content is written to `buffer`. Without an object the buffer may hold any bytes afterwards.
     ///
     /// # Errors
     ///
-    /// - [`Error::Store`] with the message of the store, only if the lookup of `id` may fail.
+    /// - [`Error::Store`], with the message of the store, only if the lookup of `id` may fail.
     /// - [`Error::OutOfMemory`] if an allocation fails.
     ///
     /// # Examples
@@ -60,7 +60,7 @@ pub trait FindHeader: Store {
     ///
     /// # Errors
     ///
-    /// - [`Error::Store`] with the message of the store, only if the lookup of `id` may fail.
+    /// - [`Error::Store`], with the message of the store, only if the lookup of `id` may fail.
     /// - [`Error::OutOfMemory`] if an allocation fails.
     fn try_header(&self, id: oid<'_>) -> Result<Option<Header>, Error>
         ensures found { IfOk result (IsHeaderFound (Self.objects self.now) (borrowed_id id.entry)) }
@@ -70,13 +70,13 @@ pub trait FindHeader: Store {
 
 /// An object store that knows which objects it has.
 pub trait Exists: Store {
-    /// Returns whether `id` names an object. For an id whose lookup may fail the result may be either.
+    /// Returns whether `id` names an object. The result may be either if the lookup of `id` may fail.
     fn exists(&self, id: oid<'_>) -> bool
         ensures { IsFalse (Self.may_fail self.now (borrowed_id id.entry))
             → result ≡ is_some (named (Self.objects self.now) (borrowed_id id.entry)) };
 }
 
-/// An object store that looks up objects and their headers.
+/// An object store that looks up objects and their headers. Every store with both lookups implements it.
 pub trait FindObjectOrHeader: Find + FindHeader {}
 
 impl<T: Find + FindHeader> FindObjectOrHeader for T {}

@@ -55,7 +55,7 @@ impl<'a> Default for TreeRefIter<'a> {
 
     ghost is_default = { IsAtEntry Sha1 [] };
 
-    /// Makes an iterator over no bytes, with ids of the default hash kind.
+    /// Makes an iterator over no bytes, with ids of the default hash kind, SHA-1. Allocates nothing.
     fn default() -> TreeRefIter<'a> {
         TreeRefIter::from_bytes(b"", hash::Kind::default())
     }
@@ -68,7 +68,7 @@ impl<'a> TreeRefIter<'a> {
     /// # Errors
     ///
     /// - [`Error::Malformed`] if the remaining bytes are not the encoding of a tree.
-    /// - [`Error::OutOfMemory`] if an allocation fails; then the remaining bytes begin with an entry.
+    /// - [`Error::OutOfMemory`] if an allocation fails. The remaining bytes then begin with an entry.
     pub fn entries(self, alloc: Global) -> Result<Vec<EntryRef<'a>>, Error>
         ensures found { IfOk result (λ entries.
             DecodesToTree self.entry.hash_kind (remaining_tree_bytes self.entry)
@@ -80,7 +80,7 @@ impl<'a> TreeRefIter<'a> {
         Ok(tree.entries)
     }
 
-    /// Returns the offset of the next entry in `buf`, in bytes. `buf` has to end with the remaining bytes.
+    /// Returns the offset of the next entry in `buf`, in bytes. `buf` must end with the remaining bytes.
     ///
     /// A new iterator over the bytes from this offset continues like this one. Allocates nothing.
     pub fn offset_to_next_entry(&self, buf: &[u8]) -> usize
@@ -91,7 +91,9 @@ impl<'a> TreeRefIter<'a> {
     }
 }
 
-/// Yields the next entry. After an error the iterator is at its end. Allocates nothing.
+/// Yields the next entry, or `None` if no bytes remain. After an error the iterator is at its end.
+///
+/// Allocates nothing.
 ///
 /// # Errors
 ///

@@ -1,4 +1,4 @@
-//! The test that an object has the id by which it is named.
+//! Verification that an object has the expected id (git-fsck, "EXTRACTED DIAGNOSTICS").
 ghost use Rattle.std.specs.Prelude.{◌≡◌, ◌↔◌, IfErr, IfOk, IsOk};
 ghost use Rattle.gixobj_hash.specs.Hash.{id_kind};
 ghost use Rattle.gixobj_hash.specs.Hash.Borrowed.{borrowed_id};
@@ -11,7 +11,7 @@ use gixobj_hash::{compute_hash, hash};
 /// The error of [`Data::verify_checksum`].
 #[derive(Debug, Drop, thiserror::Error)]
 pub enum Error {
-    /// The object has another id than the expected one.
+    /// The object has another id than the expected one. The payload has both ids.
     #[error("{0}")]
     Verify(hash::verify::Error),
 }
@@ -27,10 +27,14 @@ impl From<hash::verify::Error> for Error {
 }
 
 impl Data<'_> {
-    /// The id of the object, where it is the expected one: the digest of its loose header and its content, of
-    /// the expected id's kind. It takes no memory.
+    /// Computes the id of the object, and returns it if it is the expected one. Allocates nothing.
     ///
-    /// `Verify` where it is another, with both ids.
+    /// The id is the digest of the loose header and the content, by the hash function of `expected`
+    /// ([`compute_hash`]).
+    ///
+    /// # Errors
+    ///
+    /// [`Error::Verify`], with the actual and the expected id, if they differ.
     pub fn verify_checksum(&self, expected: oid<'_>) -> Result<ObjectId, Error>
         ensures accepts { IsOk result ↔ (checksum (id_kind (borrowed_id expected.entry)) self.now
             ≡ borrowed_id expected.entry) }

@@ -26,7 +26,7 @@ pub enum ObjectRef<'a> {
     Tag(TagRef<'a>),
 }
 
-/// Access
+/// Access. These calls allocate nothing.
 impl<'a> ObjectRef<'a> {
     /// Returns the kind of the object.
     pub fn kind(&self) -> Kind

@@ -80,7 +80,7 @@ impl Object {
         }
     }
 
-    /// Converts the object into its tree. The object has to be a tree.
+    /// Converts the object into its tree. The object must be a tree.
     pub fn into_tree(self) -> Tree
         requires { owned_kind self ≡ Kind.Tree }
         ensures { self ≡ Object.Tree result }
@@ -91,7 +91,7 @@ impl Object {
         }
     }
 
-    /// Converts the object into its blob. The object has to be a blob.
+    /// Converts the object into its blob. The object must be a blob.
     pub fn into_blob(self) -> Blob
         requires { owned_kind self ≡ Kind.Blob }
         ensures { self ≡ Object.Blob result }
@@ -102,7 +102,7 @@ impl Object {
         }
     }
 
-    /// Converts the object into its commit. The object has to be a commit.
+    /// Converts the object into its commit. The object must be a commit.
     pub fn into_commit(self) -> Commit
         requires { owned_kind self ≡ Kind.Commit }
         ensures { self ≡ Object.Commit result }
@@ -113,7 +113,7 @@ impl Object {
         }
     }
 
-    /// Converts the object into its tag. The object has to be a tag.
+    /// Converts the object into its tag. The object must be a tag.
     pub fn into_tag(self) -> Tag
         requires { owned_kind self ≡ Kind.Tag }
         ensures { self ≡ Object.Tag result }
@@ -157,7 +157,7 @@ impl From<Tag> for Object {
     }
 }
 
-/// Converts the object into its tree; the error is an object of another kind, unchanged.
+/// Converts the object into its tree. The error is an object of another kind, unchanged.
 impl TryFrom<Object> for Tree {
     type Error = Object;
 
@@ -168,7 +168,7 @@ impl TryFrom<Object> for Tree {
     }
 }
 
-/// Converts the object into its blob; the error is an object of another kind, unchanged.
+/// Converts the object into its blob. The error is an object of another kind, unchanged.
 impl TryFrom<Object> for Blob {
     type Error = Object;
 
@@ -179,7 +179,7 @@ impl TryFrom<Object> for Blob {
     }
 }
 
-/// Converts the object into its commit; the error is an object of another kind, unchanged.
+/// Converts the object into its commit. The error is an object of another kind, unchanged.
 impl TryFrom<Object> for Commit {
     type Error = Object;
 
@@ -190,7 +190,7 @@ impl TryFrom<Object> for Commit {
     }
 }
 
-/// Converts the object into its tag; the error is an object of another kind, unchanged.
+/// Converts the object into its tag. The error is an object of another kind, unchanged.
 impl TryFrom<Object> for Tag {
     type Error = Object;
 

@@ -7,7 +7,11 @@ use gixobj_fields::streams::Sink;
 use gixobj_hash::Kind;
 use std::alloc::Global;
 
-/// Encodes the tree, blob, commit or tag of the object, and fails with the error of that part.
+/// Encodes the tree, blob, commit or tag of the object. Allocates what that part allocates.
+///
+/// # Errors
+///
+/// The error of the encoder of that part. A blob returns only [`Error::Writer`].
 impl WriteTo for Object {
     ghost use Rattle.gixobj_object.specs.Objects.{IsOwnedObjectError, owned_kind, encode_owned_object};
 

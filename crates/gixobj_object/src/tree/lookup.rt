@@ -24,13 +24,13 @@ use std::ops::ControlFlow;
 
 /// Looks up the first name of `components` in `tree`, and removes the name from `components`.
 ///
-/// The first entry of a name counts, and no entry after a malformed one. Allocates nothing. The result is
+/// The first entry of a name is found, and no entry after a malformed one. Allocates nothing. The result is
 ///
 /// - `Continue` with the entry's id if more names follow, whatever the entry's mode;
 /// - `Break` with the entry if the name was the last one;
 /// - `Break(None)` if the object is not a tree, if no name remains, or if no entry has the name.
 ///
-/// If the object is not a tree, `components` is unchanged.
+/// If the object is not a tree, or if no name remains, `components` is unchanged.
 pub fn next_entry<'a>(
     components: &mut &[BString],
     tree: Data<'a>,
@@ -54,7 +54,7 @@ pub fn next_entry<'a>(
 
 /// Access
 impl<'a> TreeRefIter<'a> {
-    /// Returns the first remaining entry of this name before any malformed one. Allocates nothing.
+    /// Returns the first remaining entry of this name before any malformed one, or `None` without one.
     fn first_named(self, name: &[u8]) -> Option<EntryRef<'a>>
         ensures found { IfSome result (λ entry.
             HasFirstNamed self.entry.hash_kind (remaining_tree_bytes self.entry) name.now
@@ -72,8 +72,8 @@ impl<'a> TreeRefIter<'a> {
         None
     }
 
-    /// Looks up one name of a path: breaks with the last name's entry or `None`, or continues with an entry's
-    /// id.
+    /// Looks up one name of a path. Breaks with the entry of the last name, or with `None` if no entry has
+    /// the name. Continues with the id of the entry of any other name.
     fn step_to(self, name: &[u8], is_last: bool) -> ControlFlow<Option<EntryRef<'a>>, ObjectId>
         ensures { (others : List Name) → MatchBool is_last (others ≡ []) (others ≢ [])
             → IsStep (remaining_tree self.entry) (name.now ∷ others) result }
@@ -94,14 +94,15 @@ impl<'a> TreeRefIter<'a> {
     /// names in `store`. Returns `None` if a name is not found, if such an id names no tree in the store, or
     /// if `path` is empty.
     ///
-    /// In each tree the first entry of a name counts, and no entry after a malformed one. `buffer` receives
-    /// the trees of the store; after an error it may hold any bytes. Allocates for `buffer` and for the
-    /// returned entry.
+    /// In each tree the first entry of a name is found, of any mode, and no entry after a malformed one. The
+    /// trees of the store are written to `buffer`, which may hold any bytes afterwards. Allocates for
+    /// `buffer` and for the returned entry.
     ///
     /// # Errors
     ///
-    /// - [`Error::Store`] if the store fails for an id on the path whose lookup may fail.
-    /// - [`Error::OutOfMemory`] if an allocation fails; then the first name was found.
+    /// - [`Error::Store`], with the message of the store, if it fails for an id on the path whose lookup may
+    ///   fail.
+    /// - [`Error::OutOfMemory`] if an allocation fails. The first name was then found.
     pub fn lookup_entry<S: Find>(
         &self,
         alloc: Global,
@@ -131,15 +132,16 @@ impl<'a> TreeRefIter<'a> {
         }
     }
 
-    /// Looks up the entry at a path of names that are separated by slashes.
+    /// Looks up the entry at a path of names that are separated by slashes (git-rev-parse, `<rev>:<path>`).
     ///
-    /// Empty parts are skipped; `.` is a name like others. Each name is split off where it is looked up, so
+    /// Empty parts are skipped; `.` is a name like others. Each name is split off when it is looked up, so
     /// the path allocates nothing. Results and allocations are those of [`TreeRefIter::lookup_entry`].
     ///
     /// # Errors
     ///
-    /// - [`Error::Store`] if the store fails for an id on the path whose lookup may fail.
-    /// - [`Error::OutOfMemory`] if an allocation fails; then the first name was found.
+    /// - [`Error::Store`], with the message of the store, if it fails for an id on the path whose lookup may
+    ///   fail.
+    /// - [`Error::OutOfMemory`] if an allocation fails. The first name was then found.
     ///
     /// # Examples
     ///
@@ -190,7 +192,7 @@ fn owned(alloc: Global, found: Option<EntryRef<'_>>) -> Result<Option<Entry>, Ou
     }
 }
 
-/// Looks up the first name of a path in bytes, and removes it from the path, like [`next_entry`].
+/// Looks up the first name of a path in bytes, and removes it from the path, by the rules of [`next_entry`].
 fn next_entry_in_bytes<'a>(
     path: &mut &[u8],
     tree: Data<'a>,

@@ -18,12 +18,15 @@ use std::alloc::Global;
 impl ObjectRef<'_> {
     /// Converts the object into an owned one. Allocates copies of its parts.
     ///
+    /// Ids, actors and times are decoded. A malformed time becomes the start of 1970 in UTC. The hex fields
+    /// of a commit or a tag must be ids, as [`ObjectRef::from_bytes`] ensures. An empty tree allocates
+    /// nothing.
+    ///
     /// # Errors
     ///
-    /// - [`Error::Malformed`] if the line of an author, a committer or a tagger is not the encoding of an
-    ///   actor.
-    /// - [`Error::OutOfMemory`] if an allocation fails; then all lines of actors are valid. An empty tree
-    ///   allocates nothing.
+    /// - [`Error::Malformed`] if the line of an author, a committer or a tagger is malformed, or if bytes
+    ///   follow the time of its actor.
+    /// - [`Error::OutOfMemory`] otherwise, if an allocation fails.
     pub fn into_owned(self, alloc: Global) -> Result<Object, Error>
         requires { HasObjectIds self }
         ensures owned { IfOk result (IsOwnedObject self.entry) }
@@ -34,12 +37,15 @@ impl ObjectRef<'_> {
 
     /// Copies the object into an owned one. Allocates copies of its parts.
     ///
+    /// Ids, actors and times are decoded. A malformed time becomes the start of 1970 in UTC. The hex fields
+    /// of a commit or a tag must be ids, as [`ObjectRef::from_bytes`] ensures. An empty tree allocates
+    /// nothing.
+    ///
     /// # Errors
     ///
-    /// - [`Error::Malformed`] if the line of an author, a committer or a tagger is not the encoding of an
-    ///   actor.
-    /// - [`Error::OutOfMemory`] if an allocation fails; then all lines of actors are valid. An empty tree
-    ///   allocates nothing.
+    /// - [`Error::Malformed`] if the line of an author, a committer or a tagger is malformed, or if bytes
+    ///   follow the time of its actor.
+    /// - [`Error::OutOfMemory`] otherwise, if an allocation fails.
     pub fn to_owned(&self, alloc: Global) -> Result<Object, Error>
         requires { HasObjectIds self.now }
         ensures owned { IfOk result (IsOwnedObject self.now) }
@@ -86,7 +92,7 @@ impl<'a> From<TagRef<'a>> for ObjectRef<'a> {
     }
 }
 
-/// Converts the object into its tree; the error is an object of another kind, unchanged.
+/// Converts the object into its tree. The error is an object of another kind, unchanged.
 impl<'a> TryFrom<ObjectRef<'a>> for TreeRef<'a> {
     type Error = ObjectRef<'a>;
 
@@ -100,7 +106,7 @@ impl<'a> TryFrom<ObjectRef<'a>> for TreeRef<'a> {
     }
 }
 
-/// Converts the object into its blob; the error is an object of another kind, unchanged.
+/// Converts the object into its blob. The error is an object of another kind, unchanged.
 impl<'a> TryFrom<ObjectRef<'a>> for BlobRef<'a> {
     type Error = ObjectRef<'a>;
 
@@ -114,7 +120,7 @@ impl<'a> TryFrom<ObjectRef<'a>> for BlobRef<'a> {
     }
 }
 
-/// Converts the object into its commit; the error is an object of another kind, unchanged.
+/// Converts the object into its commit. The error is an object of another kind, unchanged.
 impl<'a> TryFrom<ObjectRef<'a>> for CommitRef<'a> {
     type Error = ObjectRef<'a>;
 
@@ -128,7 +134,7 @@ impl<'a> TryFrom<ObjectRef<'a>> for CommitRef<'a> {
     }
 }
 
-/// Converts the object into its tag; the error is an object of another kind, unchanged.
+/// Converts the object into its tag. The error is an object of another kind, unchanged.
 impl<'a> TryFrom<ObjectRef<'a>> for TagRef<'a> {
     type Error = ObjectRef<'a>;
 

@@ -17,13 +17,14 @@ use std::alloc::Global;
 /// The error of [`ObjectRef::from_loose`].
 #[derive(Debug, Drop, thiserror::Error)]
 pub enum LooseDecodeError {
-    /// The input begins with no loose header, or has fewer bytes after it than the header says.
+    /// The input begins with no loose header, or fewer bytes follow the header than it states.
     #[error("{0}")]
     InvalidHeader(LooseHeaderDecodeError),
     /// The content is malformed for the kind in the header, or an allocation failed.
     #[error("{0}")]
     InvalidContent(Error),
-    /// The header has a size that no `usize` holds. With a 64-bit `usize` this error never occurs.
+    /// Fewer bytes follow the header than it states, and no `usize` holds its size. With a 64-bit `usize`
+    /// this error never occurs.
     #[error("no room for an object of {size} bytes")]
     OutOfMemory {
         /// The size in the header, in bytes.
@@ -63,17 +64,18 @@ impl<'a> ObjectRef<'a> {
     /// Decodes the loose object at the start of `input`, with ids of `hash_kind`.
     ///
     /// A loose object is a header and a content of the size in the header, in bytes. Bytes after it are
-    /// ignored. Allocates the entries of a tree, the parents of a commit from the second one on, its extra
-    /// headers, and copies in errors.
+    /// ignored. The content allocates as in [`ObjectRef::from_bytes`], and an error of the header may
+    /// allocate a copy.
     ///
     /// # Errors
     ///
-    /// - [`LooseDecodeError::InvalidHeader`] if the input begins with no header, or if fewer bytes follow
-    ///   than its size and a `usize` holds the size. Its payload is `OutOfMemory` if an allocation for the
-    ///   header's error fails.
-    /// - [`LooseDecodeError::OutOfMemory`] if fewer bytes follow than its size and no `usize` holds it.
-    /// - [`LooseDecodeError::InvalidContent`] with [`Error::Malformed`] if the content does not decode as its
-    ///   kind, or with [`Error::OutOfMemory`] if an allocation fails for a tree or a commit.
+    /// - [`LooseDecodeError::InvalidHeader`], with the error of [`gixobj_hash::decode::loose_header`], if the
+    ///   input begins with no header. It is out of memory if the copy for another error can't be allocated.
+    /// - [`LooseDecodeError::InvalidHeader`], with [`LooseHeaderDecodeError::InvalidHeader`], if fewer bytes
+    ///   follow the header than its size, and a `usize` holds the size.
+    /// - [`LooseDecodeError::OutOfMemory`], with the size, if fewer bytes follow and no `usize` holds it.
+    /// - [`LooseDecodeError::InvalidContent`], with the error of [`ObjectRef::from_bytes`], if that call
+    ///   fails for the content.
     ///
     /// # Examples
     ///
@@ -100,13 +102,15 @@ impl<'a> ObjectRef<'a> {
 
     /// Decodes `bytes` as an object of this kind, with ids of `hash_kind`.
     ///
-    /// Allocates the entries of a tree, the parents of a commit from the second one on, and its extra
-    /// headers.
+    /// Allocates the entries of a tree, the parents of a commit after the first, and its extra headers with
+    /// their values of several lines.
     ///
     /// # Errors
     ///
-    /// - [`Error::Malformed`] if `bytes` is not the encoding of an object of this kind. A blob never fails.
-    /// - [`Error::OutOfMemory`] if an allocation fails, for a tree or a commit only.
+    /// - [`Error::Malformed`] if `bytes` is not the encoding of an object of this kind.
+    /// - [`Error::OutOfMemory`] if an allocation for a tree or a commit fails.
+    ///
+    /// A blob never fails.
     pub fn from_bytes(
         alloc: Global,
         bytes: &'a [u8],
@@ -125,7 +129,8 @@ impl<'a> ObjectRef<'a> {
     }
 }
 
-/// Decodes an object of any kind, in a call of its own that keeps the setup away from blobs.
+/// Decodes an object of any kind. It is never inlined, so that a blob doesn't pay for the setup of the
+/// others.
 #[inline(never)]
 fn parsed<'a>(
     alloc: Global,
@@ -146,7 +151,7 @@ fn parsed<'a>(
     }
 }
 
-/// Returns the error for an object with fewer bytes than the size in its header.
+/// Returns the error for a content with fewer bytes than the size in its header.
 fn short(size: u64) -> LooseDecodeError
     ensures { ConvertsContentError (Short size) result }
 {

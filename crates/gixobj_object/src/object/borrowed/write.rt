@@ -9,7 +9,13 @@ use gixobj_fields::streams::Sink;
 use gixobj_hash::Kind;
 use std::alloc::Global;
 
-/// Encodes the tree, blob, commit or tag of the object, and fails with the error of that part.
+/// Encodes the tree, blob, commit or tag of the object. Allocates what that part allocates.
+///
+/// The hex fields of a commit must be ids, as [`ObjectRef::from_bytes`] ensures.
+///
+/// # Errors
+///
+/// The error of the encoder of that part. A blob returns only [`Error::Writer`].
 impl WriteTo for ObjectRef<'_> {
     ghost use Rattle.gixobj_object.specs.BorrowedObjects.{IsReadyToWrite, IsBorrowedObjectError, borrowed_kind, encode_borrowed_object};
 
@@ -43,7 +49,7 @@ impl WriteTo for ObjectRef<'_> {
     }
 }
 
-/// Returns the size of any object, in a call of its own so that a blob's size needs no jump and no test.
+/// Returns the size of any object. It is never inlined, so that a blob's size needs no jump and no test.
 #[inline(never)]
 fn bytes_size(object: &ObjectRef<'_>) -> Option<u64>
     requires { IsReadyToWrite object.now }
