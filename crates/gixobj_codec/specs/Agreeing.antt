@@ -1,4 +1,4 @@
--- Signatures of tags, found in two ways.
+-- Signatures of tags, found in two ways (gitformat-signature, "Tag signatures").
 use Rattle.std.specs.Prelude.{◌≡◌, Option, Some, None, ⊤}
 use Rattle.bstr.specs.BStr.{bstr_bytes}
 use Rattle.gixobj_text.specs.declared.signature.SignatureRef.{SignatureRef}

@@ -1,4 +1,4 @@
--- Commits with valid header names, and without a newline in fields of one line.
+-- Commits with valid header names, and without a newline in fields of one line (gitdatamodel, "commits").
 use Rattle.std.specs.Prelude.{ℕ, List, All, Option, Some, None, ⊤}
 use Rattle.gixobj_fields.specs.HeaderFormat.{IsHeaderName}
 use Rattle.gixobj_commit.specs.Commit.{CommitLines}
@@ -14,7 +14,7 @@ abbrev pub IsOneLine : Option (List ℕ) → Type 0
 IsOneLine None = ⊤
 IsOneLine (Some bytes) = IsByteFree newline bytes
 
--- no field of one line has a newline, as in every commit that its encoder accepts
+-- no field of one line has a newline: neither an id, an actor nor the message encoding
 pub record HasLineFields (commit : CommitLines) : Type 0 where
   pub tree : IsByteFree newline commit.tree
   pub parents : All (λ hex. IsByteFree newline hex) commit.parents

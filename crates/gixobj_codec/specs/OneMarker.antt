@@ -1,4 +1,4 @@
--- Signatures with one marker.
+-- Signatures with one marker (gitformat-signature, "DESCRIPTION").
 use Rattle.std.specs.Prelude.{◌≡◌, ℕ, List}
 use Rattle.gixobj_text.specs.Markers.{BeginsWithMarker, MarksPlace}
 use Rattle.gixobj_text.specs.declared.signature.Format.{Format}

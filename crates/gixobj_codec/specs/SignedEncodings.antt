@@ -1,4 +1,4 @@
--- The payloads that a signer got, found in the encodings of signed commits and tags.
+-- The payloads that a signer got, found in the encodings of signed commits and tags (gitformat-signature).
 use Rattle.std.specs.Prelude.{◌≡◌, ℕ, List}
 use Rattle.gixobj_hash.specs.declared.hash.kind.Kind.{Kind}
 use Rattle.gixobj_signature.specs.Calls.{Answer, CallView}
@@ -10,7 +10,7 @@ use Rattle.gixobj_text.specs.declared.signature.Format.{Format}
 use Rattle.gixobj_ref_iter.specs.TagExtracting as tags
 use Rattle.gixobj_ref_iter.specs.Extracting as commits
 
--- the calls that were made signed this payload
+-- the calls that were made carried out the plan for this payload, and led to a signature
 abbrev pub WasSigned : {S : Type 0} → (S → CallView → Answer → S → Type 0) → Options → List ℕ → S → S → Type 0
 WasSigned runs options payload old new = (bytes : List ℕ) × Carries runs (sign_plan (options_view options) payload) old
     (signature bytes) new

@@ -1,4 +1,4 @@
-//! Lemmas that the encodings of ids and actors are one line.
+//! Lemmas: the encodings of ids and of actors are one line each.
 ghost use Rattle.std.specs.Prelude.{All};
 ghost use Rattle.gixobj_actor.specs.ActorWriting.{IsLegal, encode_owned_actor};
 ghost use Rattle.gixobj_hash.specs.Hash.{encode_id_hex};

@@ -1,5 +1,5 @@
-//! Laws on the payloads of signed commits and tags. Two functions sign, and their contracts state the result;
-//! the others compute nothing, and their contract is the law.
+//! Laws on the payloads of signed commits and tags (gitformat-signature). Two functions sign, and their
+//! contracts state the result; the others compute nothing, and their contract is the law.
 ghost use Rattle.std.specs.Prelude.{◌≡◌, ℕ, IfErr, IfNone, IfOk, IfSome, List, Option, Some};
 ghost use Rattle.gixobj_commit.specs.CommitSigning.{IsCommitSigningError, IsSignedCommit, payload_of_commit, with_signature};
 ghost use Rattle.gixobj_commit.specs.CommitViews.{owned_commit_lines};
@@ -34,9 +34,9 @@ use std::alloc::Global;
 
 /// The payload that is found in a signed commit is the one that was signed.
 ///
-/// In the encoding of a signed commit a signature is found. Both facts need only valid header names, and no
-/// newline in fields of one line. In the encoding of a commit the search for a signature never fails with
-/// `Malformed`.
+/// In the encoding of a signed commit the search for a signature never returns `None`. Both facts need only
+/// valid header names, and no newline in fields of one line. In the encoding of a commit the search never
+/// fails with `Malformed`.
 pub fn commit_payloads_are_signed()
     ensures payload { (kind : Kind) (commit : CommitLines) (bytes value signed : List ℕ)
         → HasHeaderNames commit → HasLineFields commit
@@ -49,8 +49,9 @@ pub fn commit_payloads_are_signed()
         → DecodesToCommit kind content read → ¬ IsCommitSignatureError kind content Malformed }
 {}
 
-/// An owned commit that its encoder accepts has no newline in a field of one line. Every commit that was
-/// signed is accepted.
+/// An owned commit of which the encoder rejects nothing has no newline in a field of one line.
+///
+/// The encoder rejects nothing of a commit that [`Commit::sign`] signed.
 pub fn owned_commits_have_line_fields(commit: &Commit)
     ensures { RejectsNothing (IsOwnedCommitError commit.now)
         → HasLineFields (owned_commit_lines commit.now) }
@@ -63,8 +64,9 @@ pub fn owned_commits_have_line_fields(commit: &Commit)
 
 /// Signs a commit by [`Commit::sign`].
 ///
-/// If the header names are valid, a signature is found in the encoding of the signed commit. The payload that
-/// is found with it is the one that the signer got.
+/// If the header names are valid, the search for a signature in the encoding of the signed commit never
+/// returns `None`. The payload that it finds is the one that the signer got. Allocates what [`Commit::sign`]
+/// allocates.
 ///
 /// # Errors
 ///
@@ -88,7 +90,8 @@ pub fn signed_commit_has_payload<R: Runner>(
 }
 
 /// The payload that is found in a signed tag is the one that was signed, and the signature is the signer's.
-/// In the encoding of a signed tag a signature is found. The signature has to begin with a marker, and no
+///
+/// In the encoding of a signed tag a signature is found. The signature must begin with a marker, and no
 /// other line of it may begin with one.
 pub fn tag_payloads_are_signed()
     ensures found { (lines : TagLines) (bytes : List ℕ) → HasOneMarker bytes
@@ -101,7 +104,8 @@ pub fn tag_payloads_are_signed()
 /// Signs a tag by [`Tag::sign`].
 ///
 /// If the signer's bytes begin with their one marker, the signature that is found in the encoding is these
-/// bytes. The payload that is found with it is the one that the signer got.
+/// bytes. The payload that is found with it is the one that the signer got. Allocates what [`Tag::sign`]
+/// allocates.
 ///
 /// # Errors
 ///
@@ -120,7 +124,8 @@ pub fn signed_tag_has_payload<R: Runner>(
     tag.sign(alloc, options, runner)
 }
 
-/// `TagRef::signature` and `TagRefIter::signature` return the same signature of a decoded tag.
+/// `TagRef::signature` and `TagRefIter::signature` find the same signature in the encoding of a tag, or both
+/// find none.
 pub fn tag_signatures_agree()
     ensures { (kind : Kind) (content : List ℕ) (lines : TagLines) (own : Option SignatureRef)
         (found : Option (SignatureRef × SignedData)) → DecodesToTag kind content lines
