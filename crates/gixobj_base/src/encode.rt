@@ -1,4 +1,4 @@
-//! The errors of encoding an object, and the encoding of loose headers (`gitformat-loose`, "Loose object
+//! The errors of encoding an object, and the encoding of loose headers (gitformat-loose, "Loose object
 //! format").
 
 pub use gixobj_fields::encode::{Error, RefNameFault};

@@ -1,8 +1,12 @@
 //! Decodes and encodes object ids, loose headers with their kinds, actors and times. Encodes trees and
 //! blobs.
 //!
-//! This crate has no code. It re-exports the crates below it, under the names that users know. Their
-//! modules are [`gixobj_hash`], [`gixobj_fields`], [`gixobj_actor`], [`gixobj_mode`] and [`gixobj_tree`].
+//! This crate has no code. It re-exports the crates below it under the names that users know:
+//!
+//! - [`gixobj_hash`]: ids, kinds and loose headers;
+//! - [`gixobj_fields`]: header fields, sinks and the trait of objects that can be written;
+//! - [`gixobj_actor`]: actors and times;
+//! - [`gixobj_mode`] and [`gixobj_tree`]: modes, entries, trees and blobs.
 #![tactic(auto)]
 
 pub mod encode;
