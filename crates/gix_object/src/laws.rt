@@ -1,5 +1,5 @@
-//! Laws of the definitions, which are public lemmas that users import. The body of most functions here is
-//! empty: the contract is the law.
+//! Laws of the definitions: public lemmas that users import. Most functions here have an empty body: their
+//! contract is the law.
 
 pub use gixobj_base::laws::{
     actor_line_decodes_uniquely, actor_round_trips, header_field_decodes_uniquely,
