@@ -1,4 +1,4 @@
--- Lookups of objects by id and kind in a store.
+-- Lookups of objects by id and kind in a store (git-cat-file).
 use Rattle.std.specs.Prelude.{◌≡◌, ◌≢◌, ◌⊎◌, ℕ, Bool, List, [], None}
 use Rattle.gixobj_object.specs.Stores.{Names, Objects, IsFindError, StoredObject, named}
 use Rattle.gixobj_hash.specs.Hash.{id_kind, id_of}
@@ -57,7 +57,7 @@ IsReaderError objects may_fail kind id error =
     IsMissing objects may_fail id error
     ⊎ ((actual : Kind) × (error ≡ iter.ObjectKind id actual kind) × NamesOther objects id actual kind)
 
--- the error of a decoding lookup: the lookup failed, the id names no object, or its content does not decode as its kind
+-- the error of a decoding lookup: the lookup failed, the id names no object, or its content is not decoded as its kind
 abbrev pub FailsToRead : Objects → (ObjectId → Bool) → ObjectId → decoded.Error → Type 0
 FailsToRead objects may_fail id (object.Find cause) = IsFindError may_fail id cause
 FailsToRead objects may_fail id (object.NotFound said) = (said ≡ id) × NamesNone objects id

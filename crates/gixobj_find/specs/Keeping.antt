@@ -23,13 +23,12 @@ abbrev pub with_trees : List Pair → Objects → Objects
 with_trees [] objects = objects
 with_trees (it ∷ trees) objects = with_trees trees (with_tree it objects)
 
--- the error of keeping a tree: the store failed, and the lookup of the id may fail or the tree cannot be encoded; or
--- out of memory
+-- the error of keeping a tree. Store: the lookup of the id may fail, or the tree cannot be encoded; or out of memory
 abbrev pub IsKeepError : (ObjectId → Bool) → ObjectId → List EntryView → KeepError → Type 0
 IsKeepError may_fail id entries (Store message) = IsTrue (may_fail id) ⊎ IsUnencodableTree entries
 IsKeepError may_fail id entries OutOfMemory = ⊤
 
--- the tree at this index failed with the error, and the trees before it are kept
+-- the tree at this index failed with the error; the trees before it are kept, and no other
 pub record StopsKeepingAt (may_fail : ObjectId → Bool) (trees : List Pair) (old new : Objects) (number : ℕ)
     (error : KeepError) : Type 0 where
   pub failed_pair : Pair
@@ -48,7 +47,7 @@ commit_object id bytes = record { kind = Commit; object_hash = id_kind id; bytes
 abbrev pub with_commit : ObjectId → List ℕ → Objects → Objects
 with_commit id bytes objects = map.insert objects id (commit_object id bytes)
 
--- the error of keeping a commit: the store failed, and the lookup of the id may fail; or out of memory
+-- the error of keeping a commit. Store: the lookup of the id may fail; or out of memory
 abbrev pub IsKeepCommitError : (ObjectId → Bool) → ObjectId → KeepError → Type 0
 IsKeepCommitError may_fail id (Store message) = IsTrue (may_fail id)
 IsKeepCommitError may_fail id OutOfMemory = ⊤

@@ -1,4 +1,4 @@
--- Results of writes to the store that keeps nothing.
+-- Results of writes to the store that keeps nothing (git-hash-object, without `-w`).
 use Rattle.std.specs.Prelude.{◌≡◌, ℕ, Err, List, Ok, Option, Result, ⊤}
 use Rattle.gixobj_fields.specs.StreamHash.{ReadsObject, IsStreamError, SkipsExactly}
 use Rattle.gixobj_fields.specs.declared.stream_hash.Error as stream

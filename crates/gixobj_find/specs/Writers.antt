@@ -1,4 +1,4 @@
--- Writes of objects to a store.
+-- Writes of objects to a store (git-hash-object, `-w`).
 use Rattle.std.specs.Prelude.{◌≡◌, ◌⊎◌, ℕ, Err, List, [], Option, Result, Some, length}
 use Rattle.gixobj_fields.specs.Streams.{SinkView}
 use Rattle.gixobj_fields.specs.Writing.{RejectedValue, RejectsNothing, IsWritingError}

@@ -12,7 +12,7 @@ use gixobj_object::Find;
 use gixobj_tree::Tree;
 use std::alloc::{AllocError, AllocFailed};
 
-/// The error of a store that keeps a tree or a commit.
+/// The error of a store that keeps trees or commits: why an object is not kept.
 #[derive(Debug, Drop, thiserror::Error)]
 pub enum KeepError {
     /// The store failed to keep the object; the payload is the message of the store.
@@ -56,14 +56,16 @@ impl<T: Drop> From<AllocFailed<T>> for KeepError {
     }
 }
 
-/// An object store that keeps trees, which lookups then find.
+/// An object store that keeps trees, which lookups then find. What a call allocates depends on the store.
 pub trait Keep: Find {
     /// Keeps the encoding of a tree under `id`, with ids of the hash kind of `id`.
     ///
     /// It replaces the object that `id` named before. After an error each id names what it named before. The
-    /// ids for which a lookup may fail never change.
+    /// call leaves the ids for which a lookup may fail unchanged.
     ///
     /// # Errors
+    ///
+    /// A tree with a zero byte in a name cannot be encoded, and is never kept.
     ///
     /// - [`KeepError::Store`] with the message of the store, only if the lookup of `id` may fail or the tree
     ///   cannot be encoded.
@@ -78,12 +80,12 @@ pub trait Keep: Find {
             → Self.may_fail self.new other ≡ Self.may_fail self.old other };
 }
 
-/// An object store that keeps commits, which lookups then find.
+/// An object store that keeps commits, which lookups then find. What a call allocates depends on the store.
 pub trait KeepCommit: Find {
     /// Keeps a commit of these bytes under `id`, with ids of the hash kind of `id`.
     ///
     /// It replaces the object that `id` named before. The bytes are not validated. After an error each id
-    /// names what it named before. The ids for which a lookup may fail never change.
+    /// names what it named before. The call leaves the ids for which a lookup may fail unchanged.
     ///
     /// # Errors
     ///
@@ -98,11 +100,14 @@ pub trait KeepCommit: Find {
             → Self.may_fail self.new other ≡ Self.may_fail self.old other };
 }
 
-/// Keeps trees in order, each under its id.
+/// Keeps trees in order, each under its id, up to the first that is not kept.
+///
+/// Allocates what [`Keep::keep`] allocates for each.
 ///
 /// # Errors
 ///
-/// The error of the first tree that is not kept, with the number of kept trees, which is its index.
+/// The index of the first tree that is not kept, and its error of [`Keep::keep`]. The trees before it are
+/// kept then, and the others are not.
 pub fn keep_all<S: Keep>(
     store: &mut S,
     trees: &[(ObjectId, Tree)],

@@ -47,7 +47,8 @@ impl Memory {
     /// Inserts an object of this kind and content, with ids of `object_hash`, and returns its id by
     /// `object_hash`.
     ///
-    /// Allocates a copy of `bytes`, and an entry of the store.
+    /// It replaces the object that the id named before. The bytes are not validated. Allocates a copy of
+    /// `bytes`, and an entry of the store.
     ///
     /// # Errors
     ///
@@ -94,7 +95,7 @@ impl Store for Memory {
     ghost may_fail = { λ store id. false };
 }
 
-/// Lookups fail only if an allocation for the copy of a found object fails.
+/// Lookups allocate a copy of the found object, and fail only if that allocation fails.
 impl Find for Memory {
     #[tactic(auto, using(crate::proofs::Objects::named_memory_objects))]
     fn try_find<'a>(
@@ -133,7 +134,7 @@ impl FindHeader for Memory {
     }
 }
 
-/// Allocates nothing.
+/// Returns whether an id names an object of the store. Allocates nothing.
 impl Exists for Memory {
     #[tactic(auto, using(crate::proofs::Objects::named_memory_objects))]
     fn exists(&self, id: oid<'_>) -> bool
@@ -143,7 +144,8 @@ impl Exists for Memory {
     }
 }
 
-/// Keeping fails only for a tree with a zero byte in a name, or if an allocation fails.
+/// Keeping fails only for a tree with a zero byte in a name, or if an allocation fails. Allocates the
+/// encoding of the tree, and an entry of the store.
 impl Keep for Memory {
     fn keep(&mut self, id: ObjectId, tree: &Tree) -> Result<(), KeepError> {
         let mut bytes = Vec::new(self.alloc);
@@ -161,7 +163,7 @@ impl Keep for Memory {
     }
 }
 
-/// Keeping fails only if an allocation fails.
+/// Keeping fails only if an allocation fails. Allocates a copy of the bytes, and an entry of the store.
 impl KeepCommit for Memory {
     fn keep_commit(&mut self, id: ObjectId, bytes: &[u8]) -> Result<(), KeepError> {
         let commit = Stored {

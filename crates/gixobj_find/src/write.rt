@@ -10,13 +10,13 @@ pub enum Error {
     /// The store failed; the payload is the message of the store.
     #[error("{0}")]
     Store(BString),
-    /// The object cannot be encoded.
+    /// The object was not encoded: a value is rejected, or an allocation failed. The payload says which.
     #[error("{0}")]
     Encode(encode::Error),
-    /// The stream failed, or ended early.
+    /// The stream failed or ended early, as the payload says.
     #[error("{0}")]
     Read(stream_hash::Error),
-    /// An allocation failed.
+    /// An allocation of the store failed.
     #[error("out of memory")]
     OutOfMemory,
 }

@@ -36,7 +36,7 @@ impl Find for Never {
     }
 }
 
-/// Returns `false` for each id.
+/// Returns `false` for each id. Allocates nothing.
 impl Exists for Never {
     #[tactic(auto, using(crate::proofs::Nothing::not_named_in_empty))]
     fn exists(&self, id: oid<'_>) -> bool

@@ -29,17 +29,20 @@ use gixobj_tag::TagRef;
 use gixobj_tree::{BlobRef, TreeRef};
 use std::alloc::Global;
 
-/// Lookups of objects that have to exist. Implemented for every [`Find`].
+/// Lookups of objects that have to exist (git-cat-file). Implemented for every [`Find`].
 ///
 /// The object's bytes are written to `buffer`, which the result borrows. After an error `buffer` may hold any
-/// bytes. An allocation failure in the lookup is `Find`, and one while the object is decoded is `Decode`.
+/// bytes. What a lookup allocates depends on the store.
+///
+/// An allocation failure in the lookup is `Find` with `OutOfMemory`. One while the object is decoded is
+/// `Decode` with `OutOfMemory`.
 pub trait FindExt: Find {
-    /// Looks up the object that `id` names, without decoding it.
+    /// Looks up the object that `id` names, without decoding it. Allocates only in the lookup.
     ///
     /// # Errors
     ///
     /// - [`existing::Error::Find`] with the error of the lookup if it fails.
-    /// - [`existing::Error::NotFound`] if `id` names no object.
+    /// - [`existing::Error::NotFound`] with `id` if it names no object.
     final fn find<'a>(
         &self,
         id: oid<'_>,
@@ -58,15 +61,16 @@ pub trait FindExt: Find {
 
     /// Looks up and decodes the blob that `id` names.
     ///
-    /// The empty blob is found in every store, without a lookup.
+    /// The empty blob is found in every store, without a lookup. Allocates only in the lookup, or to decode
+    /// an object of another kind.
     ///
     /// # Errors
     ///
     /// - [`existing_object::Error::Find`] with the error of the lookup if it fails.
-    /// - [`existing_object::Error::NotFound`] if `id` names no object.
-    /// - [`existing_object::Error::Decode`] if the object does not decode as its own kind, or if an
-    ///   allocation fails there.
-    /// - [`existing_object::Error::ObjectKind`] with both kinds if the object is not a blob.
+    /// - [`existing_object::Error::NotFound`] with `id` if it names no object.
+    /// - [`existing_object::Error::Decode`] with `id` and the error of decoding, if the object does not
+    ///   decode as its own kind or an allocation fails there.
+    /// - [`existing_object::Error::ObjectKind`] with `id` and both kinds if the object is not a blob.
     #[tactic(auto, using(crate::proofs::OfKinds::names_blob))]
     final fn find_blob<'a>(
         &self,
@@ -100,10 +104,10 @@ pub trait FindExt: Find {
     /// # Errors
     ///
     /// - [`existing_object::Error::Find`] with the error of the lookup if it fails.
-    /// - [`existing_object::Error::NotFound`] if `id` names no object.
-    /// - [`existing_object::Error::Decode`] if the object does not decode as its own kind, or if an
-    ///   allocation fails there.
-    /// - [`existing_object::Error::ObjectKind`] with both kinds if the object is not a tree.
+    /// - [`existing_object::Error::NotFound`] with `id` if it names no object.
+    /// - [`existing_object::Error::Decode`] with `id` and the error of decoding, if the object does not
+    ///   decode as its own kind or an allocation fails there.
+    /// - [`existing_object::Error::ObjectKind`] with `id` and both kinds if the object is not a tree.
     ///
     /// # Examples
     ///
@@ -146,10 +150,10 @@ pub trait FindExt: Find {
     /// # Errors
     ///
     /// - [`existing_object::Error::Find`] with the error of the lookup if it fails.
-    /// - [`existing_object::Error::NotFound`] if `id` names no object.
-    /// - [`existing_object::Error::Decode`] if the object does not decode as its own kind, or if an
-    ///   allocation fails there.
-    /// - [`existing_object::Error::ObjectKind`] with both kinds if the object is not a commit.
+    /// - [`existing_object::Error::NotFound`] with `id` if it names no object.
+    /// - [`existing_object::Error::Decode`] with `id` and the error of decoding, if the object does not
+    ///   decode as its own kind or an allocation fails there.
+    /// - [`existing_object::Error::ObjectKind`] with `id` and both kinds if the object is not a commit.
     ///
     /// # Examples
     ///
@@ -187,13 +191,15 @@ pub trait FindExt: Find {
 
     /// Looks up and decodes the tag that `id` names.
     ///
+    /// Allocates only in the lookup, or to decode an object of another kind.
+    ///
     /// # Errors
     ///
     /// - [`existing_object::Error::Find`] with the error of the lookup if it fails.
-    /// - [`existing_object::Error::NotFound`] if `id` names no object.
-    /// - [`existing_object::Error::Decode`] if the object does not decode as its own kind, or if an
-    ///   allocation fails there.
-    /// - [`existing_object::Error::ObjectKind`] with both kinds if the object is not a tag.
+    /// - [`existing_object::Error::NotFound`] with `id` if it names no object.
+    /// - [`existing_object::Error::Decode`] with `id` and the error of decoding, if the object does not
+    ///   decode as its own kind or an allocation fails there.
+    /// - [`existing_object::Error::ObjectKind`] with `id` and both kinds if the object is not a tag.
     #[tactic(auto, using(crate::proofs::OfKinds::names_tag))]
     final fn find_tag<'a>(
         &self,
@@ -214,13 +220,15 @@ pub trait FindExt: Find {
         }
     }
 
-    /// Looks up the commit that `id` names, and returns an iterator over its tokens. Decodes nothing yet.
+    /// Looks up the commit that `id` names, and returns an iterator over its tokens.
+    ///
+    /// Decodes nothing yet, and allocates only in the lookup.
     ///
     /// # Errors
     ///
     /// - [`existing_iter::Error::Find`] with the error of the lookup if it fails.
-    /// - [`existing_iter::Error::NotFound`] if `id` names no object.
-    /// - [`existing_iter::Error::ObjectKind`] with both kinds if the object is not a commit.
+    /// - [`existing_iter::Error::NotFound`] with `id` if it names no object.
+    /// - [`existing_iter::Error::ObjectKind`] with `id` and both kinds if the object is not a commit.
     final fn find_commit_iter<'a>(
         &self,
         alloc: Global,
@@ -240,13 +248,15 @@ pub trait FindExt: Find {
         }
     }
 
-    /// Looks up the tree that `id` names, and returns an iterator over its entries. Decodes nothing yet.
+    /// Looks up the tree that `id` names, and returns an iterator over its entries.
+    ///
+    /// Decodes nothing yet, and allocates only in the lookup.
     ///
     /// # Errors
     ///
     /// - [`existing_iter::Error::Find`] with the error of the lookup if it fails.
-    /// - [`existing_iter::Error::NotFound`] if `id` names no object.
-    /// - [`existing_iter::Error::ObjectKind`] with both kinds if the object is not a tree.
+    /// - [`existing_iter::Error::NotFound`] with `id` if it names no object.
+    /// - [`existing_iter::Error::ObjectKind`] with `id` and both kinds if the object is not a tree.
     ///
     /// # Examples
     ///
@@ -273,13 +283,15 @@ pub trait FindExt: Find {
         }
     }
 
-    /// Looks up the tag that `id` names, and returns an iterator over its tokens. Decodes nothing yet.
+    /// Looks up the tag that `id` names, and returns an iterator over its tokens.
+    ///
+    /// Decodes nothing yet, and allocates only in the lookup.
     ///
     /// # Errors
     ///
     /// - [`existing_iter::Error::Find`] with the error of the lookup if it fails.
-    /// - [`existing_iter::Error::NotFound`] if `id` names no object.
-    /// - [`existing_iter::Error::ObjectKind`] with both kinds if the object is not a tag.
+    /// - [`existing_iter::Error::NotFound`] with `id` if it names no object.
+    /// - [`existing_iter::Error::ObjectKind`] with `id` and both kinds if the object is not a tag.
     final fn find_tag_iter<'a>(
         &self,
         id: oid<'_>,

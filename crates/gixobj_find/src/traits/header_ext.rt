@@ -9,14 +9,16 @@ use gixobj_hash::Header;
 use gixobj_hash::hash::oid;
 use gixobj_object::FindHeader;
 
-/// Lookups of headers of objects that have to exist. Implemented for every [`FindHeader`].
+/// Lookups of headers of objects that have to exist (git-cat-file, `-t` and `-s`). Implemented for every
+/// [`FindHeader`].
 pub trait HeaderExt: FindHeader {
-    /// Looks up the kind of the object that `id` names, and the size of its content in bytes.
+    /// Looks up the kind of the object that `id` names, and the size of its content in bytes. Allocates only
+    /// in the lookup.
     ///
     /// # Errors
     ///
     /// - [`existing::Error::Find`] with the error of the lookup if it fails.
-    /// - [`existing::Error::NotFound`] if `id` names no object.
+    /// - [`existing::Error::NotFound`] with `id` if it names no object.
     final fn header(&self, id: oid<'_>) -> Result<Header, existing::Error>
         ensures found { IfOk result (λ it. (kept : StoredObject)
             × Names (Self.objects self.now) (borrowed_id id.entry) kept × (it ≡ header kept)) }

@@ -12,10 +12,12 @@ use gixobj_hash::hash::ObjectId;
 use std::alloc::Global;
 use std::io::Read;
 
-/// An object store to which objects are written, with their content unchanged and without compression.
+/// An object store to which objects are written (git-hash-object, `-w`). The calls take the content of an
+/// object, neither compressed nor with a loose header.
 ///
 /// No contract describes what a store keeps under a shared reference. An implementation states in `answers`
-/// which results a stream may have. The default calls pass it the encoding of the object as that stream.
+/// and `answers_known` which results a stream may have. By default [`Write::write`] and
+/// [`Write::write_buf`] call [`Write::write_stream`].
 pub trait Write {
     ghost use Rattle.std.specs.Prelude.{ℕ, List, Option, Result};
     ghost use Rattle.gixobj_hash.specs.declared.hash.object_id.ObjectId.{ObjectId};
@@ -33,13 +35,14 @@ pub trait Write {
 
     /// Writes an object, and returns its id.
     ///
-    /// Allocates its encoding, and passes it to [`Write::write_stream`].
+    /// By default it allocates the encoding, and passes it to [`Write::write_stream`]. A call that fails with
+    /// one of the first two errors passes no stream.
     ///
     /// # Errors
     ///
-    /// - [`Error::Encode`] if the object cannot be encoded; then no stream is passed. Its `Writer` is out of
-    ///   memory for the encoding.
-    /// - Each other error is that of [`Write::write_stream`].
+    /// - [`Error::Encode`] with the error of the encoding, if a value of the object is rejected.
+    /// - [`Error::Encode`] with `Writer` or `OutOfMemory`, if an allocation for the encoding fails.
+    /// - Any error that the store's `answers` states for this encoding.
     fn write<T: WriteTo>(&self, alloc: Global, object: &T) -> Result<ObjectId, Error>
         requires { T.can_write object.now }
         ensures { IsWrittenObject (answers self.now) (T.object_kind object.now)
@@ -57,9 +60,11 @@ pub trait Write {
 
     /// Writes an object of this kind and content, and returns its id.
     ///
+    /// By default it allocates only in [`Write::write_stream`].
+    ///
     /// # Errors
     ///
-    /// The errors of [`Write::write_stream`].
+    /// The errors that the store's `answers` states for this kind and content.
     fn write_buf(&self, alloc: Global, kind: Kind, from: &[u8]) -> Result<ObjectId, Error>
         ensures { answers self.now kind (length from.now) (Some from.now) result }
     {
@@ -71,7 +76,7 @@ pub trait Write {
     ///
     /// # Errors
     ///
-    /// The errors of [`Write::write_stream_with_known_id`].
+    /// The errors that the store's `answers_known` states for this id, kind and content.
     fn write_buf_with_known_id(
         &self,
         alloc: Global,
@@ -82,7 +87,7 @@ pub trait Write {
         ensures { answers_known self.now id kind (length from.now) (Some from.now) result };
 
     /// Writes an object of this kind and size in bytes, with the stream as its content, and returns its id
-    /// (git-hash-object, `-w`).
+    /// (git-hash-object, `-w`). What it allocates, and what remains of the stream, depends on the store.
     ///
     /// # Errors
     ///
@@ -98,7 +103,7 @@ pub trait Write {
 
     /// Writes an object of this kind and size in bytes, with the stream as its content, whose id is known.
     ///
-    /// The store may trust the id.
+    /// The store may trust the id. What it allocates, and what remains of the stream, depends on the store.
     ///
     /// # Errors
     ///

@@ -16,7 +16,8 @@ use gixobj_hash::{Kind, compute_hash, hash};
 use std::alloc::Global;
 use std::io::Read;
 
-/// Each call returns the SHA-1 id of the object, or the id that the caller knows.
+/// Returns ids and keeps nothing (git-hash-object, without `-w`). A successful call returns the SHA-1 id of
+/// the object, or the id that the caller knows.
 impl Write for Never {
     ghost answers = { λ store. AnswersId };
 
@@ -26,7 +27,8 @@ impl Write for Never {
     ///
     /// # Errors
     ///
-    /// [`Error::Encode`] if the object cannot be encoded, or if an allocation fails.
+    /// - [`Error::Encode`] with the error of the encoding, if a value of the object is rejected.
+    /// - [`Error::Encode`] with `Writer` or `OutOfMemory`, if an allocation fails.
     fn write<T: WriteTo>(&self, alloc: Global, object: &T) -> Result<ObjectId, Error>
         requires { T.can_write object.now }
         ensures written { IsWrittenObject AnswersId (T.object_kind object.now)
@@ -69,7 +71,8 @@ impl Write for Never {
     ///
     /// # Errors
     ///
-    /// [`Error::Read`] if the stream fails, or if it ends before `size` bytes.
+    /// [`Error::Read`] with `Io` if the stream fails, or with `UnexpectedEof` if it ends before `size` bytes.
+    /// Fewer than `size` bytes have then been read.
     fn write_stream<R: Read>(
         &self,
         alloc: Global,
@@ -90,7 +93,8 @@ impl Write for Never {
     ///
     /// # Errors
     ///
-    /// [`Error::Read`] if the stream fails, or if it ends before `size` bytes.
+    /// [`Error::Read`] with `Io` if the stream fails, or with `UnexpectedEof` if it ends before `size` bytes.
+    /// Fewer than `size` bytes have then been read.
     fn write_stream_with_known_id<R: Read>(
         &self,
         alloc: Global,
