@@ -27,7 +27,7 @@ kept_with e None = []
 kept_with e (Some id) = entry_with e id
 
 -- a write stopped with an error; `out` returned ids for a prefix of the emitted pairs, and then an error for the next
--- tree, or memory ran out
+-- tree, or an allocation failed
 abbrev pub Stopped : {F E : Type 0} → (F → Pair → F → Type 0) → (F → List EntryView → E → F → Type 0)
     → (List Pair → Type 0) → F → F → WriteError E → Type 0
 Stopped {F} gave rejected goes_out old new (write.Out e) =

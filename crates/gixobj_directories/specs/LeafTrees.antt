@@ -14,7 +14,7 @@ is_at_or_below [] path = true
 is_at_or_below (name ∷ rest) [] = false
 is_at_or_below (name ∷ rest) (next ∷ path) = same_name next name && is_at_or_below rest path
 
--- the first of these directories is open in the directory of this path
+-- the first of these directories, if there is one, is at or below this path
 abbrev pub is_above : Path → Opened → Bool
 is_above path [] = false
 is_above path (d ∷ ds) = is_at_or_below path d.0
@@ -29,7 +29,7 @@ abbrev pub leaf_trees : Opened → List (List EntryView)
 leaf_trees [] = []
 leaf_trees (d ∷ ds) = (if not (is_above d.0 ds) && is_leaf_tree d.1 then d.1.0 ∷ [] else []) ++ leaf_trees ds
 
--- the open directories without the directory itself
+-- the open directories without the first, which is the directory itself
 abbrev pub inside_of : Opened → Opened
 inside_of [] = []
 inside_of (d ∷ ds) = ds

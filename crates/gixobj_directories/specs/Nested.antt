@@ -88,8 +88,8 @@ is_child_before name c = is_lt (slice_cmp nat_cmp (key_of (bstring_bytes c.name)
 abbrev pub AreOrdered : List Part → Type 0
 AreOrdered ps = EachLater (λ p q. slice_cmp nat_cmp (part_key p) (part_key q) ≡ Less) ps
 
--- the invariant of one level; its tree is well-formed, and the open directories in it are in the order of their
--- entries, each with the name of an entry of tree mode
+-- the invariant of one level; its tree is well-formed; the open directories in it are in the order of their entries,
+-- and each has the name of an entry of tree mode
 pub record IsLevel (entries : List EntryView) (ps : List Part) : Type 0 where
   pub formed : IsWellFormed entries
   pub ordered : AreOrdered ps
@@ -117,7 +117,7 @@ bases_in name ps = part_at base_side name ps
 abbrev pub other_parts : List ℕ → List Part → List Part
 other_parts name ps = filter (λ p. not (same_name p.0 name)) ps
 
--- the directories with one more, before the first whose entry comes later
+-- the directories with one more, before the first whose entry does not come before its own
 abbrev pub with_part : Part → List Part → List Part
 with_part p [] = p ∷ []
 with_part p (q ∷ qs) = if is_part_before q p then q ∷ with_part p qs else p ∷ q ∷ qs

@@ -17,7 +17,7 @@ use Rattle.gixobj_directories.specs.declared.opening.Error.TheVariants as openin
 use Rattle.gixobj_directories.specs.declared.opening.Vacant.{Vacant}
 use Rattle.gixobj_directories.specs.declared.opening.Vacant.TheVariants as vacant
 
--- the entries before which an opening ends
+-- an opening ends before this entry, by what it does at directories that are never looked up
 abbrev pub EndsBefore : Vacant → EntryView → Type 0
 EndsBefore vacant.Opened = IsNoTree
 EndsBefore vacant.Unopened = IsNotLookedUp
@@ -27,7 +27,7 @@ abbrev pub NamesTree : Objects → ObjectId → List EntryView → Type 0
 NamesTree objects id entries = NamesSuch objects id Tree (λ hash bytes. DecodesToTree hash bytes entries)
     × IsWellFormed entries
 
--- the trees are those that the store names
+-- the trees are the well-formed ones that the store names, each by its id
 abbrev pub AreTreesOf : Objects → Trees → Type 0
 AreTreesOf objects trees = (id : ObjectId) (entries : List EntryView)
     → (trees id ≡ Some entries → NamesTree objects id entries)
@@ -42,7 +42,7 @@ abbrev pub NamesMalformed : Objects → ObjectId → Type 0
 NamesMalformed objects id = (entries : List EntryView)
     × NamesSuch objects id Tree (λ hash bytes. DecodesToTree hash bytes entries) × (¬ IsWellFormed entries)
 
--- the error of a failed lookup; an allocation failure is an error of its own
+-- the error of an opening for a failed lookup: any allocation failure is out of memory, and any other error the cause
 abbrev pub open_error_of : found.Error → Error
 open_error_of (object.Find (find.Store message)) = opening.FindExistingObject (object.Find (find.Store message))
 open_error_of (object.Find find.OutOfMemory) = opening.OutOfMemory
@@ -51,7 +51,7 @@ open_error_of (object.Decode id decode.OutOfMemory) = opening.OutOfMemory
 open_error_of (object.NotFound id) = opening.FindExistingObject (object.NotFound id)
 open_error_of (object.ObjectKind id actual expected) = opening.FindExistingObject (object.ObjectKind id actual expected)
 
--- the error of a directory that isn't opened: its lookup failed, its tree isn't well-formed, or memory ran out
+-- the error of a directory that isn't opened: its lookup failed, its tree isn't well-formed, or an allocation failed
 abbrev pub IsDirectoryError : Objects → (ObjectId → Bool) → ObjectId → Error → Type 0
 IsDirectoryError objects may_fail id (opening.FindExistingObject cause) =
     IsFindObjectError objects may_fail Tree id cause × (open_error_of cause ≡ opening.FindExistingObject cause)

@@ -17,16 +17,18 @@ use std::alloc::{AllocError, Global};
 impl Open {
     /// Ensures that the directory at a path, and each parent directory of it, is open.
     ///
-    /// A directory that isn't open is opened as empty. Its entry is unchanged if it is of tree mode.
-    /// Otherwise an entry of kind tree with the id `null` is inserted, in place of any entry of that name. A
-    /// path without names changes nothing.
+    /// A directory that isn't open is opened as empty, without a lookup. Its entry is unchanged if it is of
+    /// tree mode. Otherwise an entry of kind tree with the id `null` is inserted, in place of any entry of
+    /// that name. A path without names changes nothing.
+    ///
+    /// Each name of the path must be a valid name of an entry: not empty, and without `/`.
     ///
     /// Allocates the directories that aren't open and their entries. Allocates nothing if the directory is
     /// open.
     ///
     /// # Errors
     ///
-    /// [`AllocError`] if memory runs out. Nothing is changed then.
+    /// [`AllocError`] if an allocation fails, only if the directory isn't open. Nothing is changed then.
     pub fn ensure_directory(
         &mut self,
         alloc: Global,

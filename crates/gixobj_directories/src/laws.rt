@@ -1,4 +1,4 @@
-//! Laws of stores and lookups by a path. Each function does nothing: its contract is the law.
+//! Laws of stores and lookups by a path. The contract of each function is a law.
 ghost use Rattle.std.specs.Prelude.{ℕ, List, length};
 ghost use Rattle.gixobj_object.specs.Lookups.{Name};
 ghost use Rattle.gixobj_object.specs.Stores.{Objects};
@@ -10,7 +10,7 @@ ghost use Rattle.gixobj_hash.specs.declared.hash.kind.Kind.{Kind};
 ghost use Rattle.gixobj_tree.specs.TreeDecoding.{DecodesToTree};
 ghost use Rattle.gixobj_tree.specs.Entries.{EntryView};
 
-/// Every store has a map of the trees that it names.
+/// Every store has a map of the well-formed trees that it names.
 ///
 /// A statement about all such maps of a store is therefore never vacuous.
 pub fn store_has_tree_map()
@@ -19,7 +19,8 @@ pub fn store_has_tree_map()
 
 /// A file that a lookup by a path finds is a file of the tree that the lookup began with, at that path.
 ///
-/// The lookup leads through directories of the store.
+/// The lookup leads through well-formed trees of the store. This holds in every table that agrees with the
+/// store.
 pub fn looked_up_file_exists()
     ensures { (objects : Objects) (trees : Trees) → AreTreesOf objects trees → (T : Table)
         → AgreesWithStore T trees → (kind : Kind) (bytes : List ℕ) (root : List EntryView)

@@ -30,9 +30,11 @@ use std::marker::Model;
 
 /// An open directory: its tree, its base, and the open directories in it. [`Open::new`] makes one.
 ///
-/// The base is the tree that it was opened with. In contracts the directory is the list of the open paths,
-/// each with the entries of its directory and its base. Its own path, without names, is the first. A path is
-/// a list of names.
+/// The base is the store's tree that the directory was opened with. It is empty for a directory that was
+/// opened as empty, and for one that [`Open::new`] makes. A write compares a directory with its base.
+///
+/// In contracts the directory is the list of the open paths, each with the entries of its directory and its
+/// base. Its own path, without names, is the first. A path is a list of names.
 ///
 /// Its tree is well-formed. The open directories in it are in the order of their entries, each with the name
 /// of an entry of tree mode.
@@ -185,7 +187,8 @@ impl Open {
 
     /// Returns the entry at a path, if the directory of the entry is open and has it.
     ///
-    /// A path without names has no entry. Allocates nothing, and looks no directory up.
+    /// A path without names has no entry. The entry of an open directory has the id from before its edits.
+    /// Allocates nothing, and looks no directory up.
     pub fn get(&self, path: &[BString]) -> Option<&Entry>
         ensures { option_copied result ≡ entry_at (names_of path.now) (dirs_of self.now) }
     {
@@ -206,14 +209,17 @@ impl Open {
     ///
     /// Directories that were open at or below the path are closed. A path without names changes nothing.
     ///
-    /// Each parent directory of the path is open then. One that isn't open is opened as empty. Its entry is
-    /// unchanged if it is of tree mode. Otherwise an entry of kind tree with the id `null` is inserted, in
-    /// place of any entry of that name. Allocates the name of the entry, and those directories with their
-    /// entries.
+    /// Each parent directory of the path is open then. One that isn't open is opened as empty, without a
+    /// lookup. Its entry is unchanged if it is of tree mode. Otherwise an entry of kind tree with the id
+    /// `null` is inserted, in place of any entry of that name.
+    ///
+    /// Each name of the path must be a valid name of an entry: not empty, and without `/`.
+    ///
+    /// Allocates the name of the entry and capacity for it, and those directories with their entries.
     ///
     /// # Errors
     ///
-    /// [`AllocError`] if memory runs out. Nothing is changed then.
+    /// [`AllocError`] if an allocation fails. Nothing is changed then.
     pub fn insert_entry(
         &mut self,
         alloc: Global,
@@ -285,7 +291,7 @@ impl Open {
     ///
     /// # Errors
     ///
-    /// [`AllocError`] if memory runs out, and only then.
+    /// [`AllocError`] if an allocation fails.
     pub fn copy(&self, alloc: Global) -> Result<Open, AllocError>
         ensures { IfOk result (λ it. it ≡ self.now) }
     {

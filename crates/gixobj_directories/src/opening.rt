@@ -30,13 +30,13 @@ use std::alloc::{AllocError, Global};
 pub enum Error {
     /// The lookup of the directory's tree failed, with this error.
     ///
-    /// The store failed, has no object of that id, or has one that is malformed or no tree.
+    /// The store failed, has no object with that id, or has one that is malformed or of another kind.
     #[error("{0}")]
     FindExistingObject(existing_object::Error),
     /// The directory's tree in the store isn't well-formed ([`Tree::is_well_formed`]).
     #[error("a tree in the store isn't well-formed")]
     MalformedTree,
-    /// Memory ran out, in the lookup or outside of it.
+    /// An allocation failed, in the lookup or outside of it.
     #[error("out of memory")]
     OutOfMemory,
 }
@@ -179,21 +179,23 @@ fn load<S: Find>(
 impl Open {
     /// Opens each directory on a path, from the top, until there is none.
     ///
-    /// An open directory is unchanged. Any other is looked up in the store by the id of its entry. A
-    /// directory with the null id or the empty tree's id isn't looked up: `not_looked_up` says whether it is
-    /// opened as empty, or the opening ends above it. Each lookup is counted in `lookups`, which saturates at
-    /// the maximum of `u64`.
+    /// An open directory has the same entries afterwards. Any other is looked up in the store by the id of
+    /// its entry, and the tree that is found is its base too. A directory with the null id or the empty
+    /// tree's id isn't looked up. For it `not_looked_up` says whether it is opened as empty, or the opening
+    /// ends above it.
+    ///
+    /// Each lookup is counted in `lookups`, a failed one too. The count saturates at the maximum of `u64`.
     ///
     /// Allocates the trees that it opens, a base for each, and their names.
     ///
     /// # Errors
     ///
-    /// Directories that were opened before the error are open afterwards.
+    /// Directories that were opened before the error are open afterwards. The others are unchanged.
     ///
     /// - [`Error::FindExistingObject`] with the lookup's error, if the store fails, or a directory's id names
-    ///   no tree that decodes.
+    ///   no tree that decodes, except for lack of memory.
     /// - [`Error::MalformedTree`] if the store's tree of a directory isn't well-formed.
-    /// - [`Error::OutOfMemory`] if memory runs out.
+    /// - [`Error::OutOfMemory`] if an allocation fails, in the lookup too.
     pub fn open_along<S: Find>(
         &mut self,
         alloc: Global,

@@ -29,19 +29,19 @@ use std::alloc::{AllocError, AllocFailed, Global};
 use std::fmt::Display;
 use std::mem;
 
-/// What a write emitted: the changed trees, and that of the written directory. [`write_all`] and [`write_at`]
-/// return it.
+/// What a write emitted: the changed trees, and the tree of the written directory. [`write_all`] and
+/// [`write_at`] return it.
 #[derive(Debug, Drop)]
 pub struct Written {
-    /// The id of the written directory.
+    /// The id that `out` returned for the tree of the written directory.
     pub id: ObjectId,
-    /// Each emitted tree with its id, in the order of the calls of `out`. The written directory's own is the
-    /// last.
+    /// Each emitted tree with its id, in the order of the calls of `out`. The last is that of the written
+    /// directory.
     pub trees: Vec<(ObjectId, Tree)>,
-    /// The number of open directories below the written one that have entries and weren't emitted.
+    /// The number of unchanged open directories below the written one, which weren't emitted.
     ///
-    /// Their written trees are their bases, and their entries keep their ids. The number saturates at the
-    /// maximum of `usize`.
+    /// The written tree of each has entries and is its base, and its entry keeps its id. The number saturates
+    /// at the maximum of `usize`.
     pub saved: usize,
 }
 
@@ -49,10 +49,10 @@ pub struct Written {
 #[derive(Debug, Drop, thiserror::Error)]
 #[error_bound(E: Display)]
 pub enum WriteError<E> {
-    /// `out` rejected a tree, with this error.
+    /// `out` returned this error for a tree.
     #[error("a tree was refused: {0}")]
     Out(E),
-    /// Memory ran out.
+    /// An allocation failed.
     #[error("out of memory")]
     OutOfMemory,
 }
@@ -208,7 +208,7 @@ fn entries_of(tree: &Tree) -> &[Entry]
     &tree.entries
 }
 
-/// Returns the entries that the directory was opened with.
+/// Returns the entries of the directory's base.
 pub(crate) fn base_of(node: &Open) -> &[Entry]
     ensures { bases_of node.now [] ≡ Some result.now }
 {
@@ -306,28 +306,34 @@ fn keep_entry(
     own.push(alloc, base, entry, id, room)
 }
 
-/// Writes a directory: emits the changed directories that are open in it, and then its own written tree.
+/// Writes a directory: emits the changed directories that are open in it, and then its written tree
+/// (git-write-tree).
 ///
-/// Each directory is emitted after those in it. The directory's written tree is emitted even if it is empty
-/// or unchanged. The directory keeps it, with no directory open in it, and its base is unchanged.
+/// To emit a tree is to call `out` on it: `out` returns the tree's id. Each directory is emitted after those
+/// in it.
 ///
-/// A directory is changed if its written tree isn't its base. Its entry gets the id that `out` returns for
-/// it. An unchanged directory keeps its id, and is counted in [`Written::saved`]. A directory whose written
-/// tree is empty is left out and not counted, and entries with null ids are left out.
+/// The directory's written tree is emitted even if it is empty or unchanged. The directory keeps it, with no
+/// directory open in it, and its base is unchanged.
+///
+/// The written tree has the entries of the directory, with the new ids of changed directories. Entries with
+/// null ids are left out, and so are directories whose written trees are empty.
+///
+/// Any other open directory is changed if its written tree isn't its base. Its entry gets the id that `out`
+/// returns for it. An unchanged directory keeps its id, and is counted in [`Written::saved`].
 ///
 /// `out` must be callable on every well-formed tree without null ids, whatever it was called on before.
 ///
-/// A directory below this one, in which no directory is open and no id is null, is emitted without a copy.
-/// Its tree is moved after the last call of `out`. Allocates the other emitted trees, including that of this
-/// directory, the list of all and a list of the moved ones; nothing else. The directory keeps its written
-/// tree without a second copy.
+/// A changed directory below this one, in which no directory is open and no id is null, is emitted without a
+/// copy. Its tree is moved after the last call of `out`. Allocates the other emitted trees, including that of
+/// this directory, the list of all and a list of the moved ones; nothing else. The directory keeps its
+/// written tree without a second copy.
 ///
 /// # Errors
 ///
 /// The open directories are unchanged. `out` may have been called by then.
 ///
-/// - [`WriteError::Out`] if `out` rejects a tree, with its error. It isn't called again.
-/// - [`WriteError::OutOfMemory`] if memory runs out.
+/// - [`WriteError::Out`] with the error that `out` returns for a tree. It isn't called again.
+/// - [`WriteError::OutOfMemory`] if an allocation fails.
 pub fn write_all<E, F: FnMut(&Tree) -> Result<ObjectId, E>>(
     alloc: Global,
     node: &mut Open,
@@ -374,14 +380,17 @@ fn become_own(tree: &mut Tree, own: &Tree, placed: bool)
 
 /// Writes the directory at a path, which must be open, by the rules of [`write_all`].
 ///
-/// Directories outside of it are open as before, and the base of each open directory is unchanged.
+/// Directories outside of it are open as before, with the same entries: the entry of the directory itself
+/// keeps its id. The base of each open directory is unchanged.
+///
+/// Allocates as [`write_all`] does for the directory.
 ///
 /// # Errors
 ///
 /// The open directories are unchanged. `out` may have been called by then.
 ///
-/// - [`WriteError::Out`] if `out` rejects a tree, with its error. It isn't called again.
-/// - [`WriteError::OutOfMemory`] if memory runs out.
+/// - [`WriteError::Out`] with the error that `out` returns for a tree. It isn't called again.
+/// - [`WriteError::OutOfMemory`] if an allocation fails.
 pub fn write_at<E, F: FnMut(&Tree) -> Result<ObjectId, E>>(
     alloc: Global,
     node: &mut Open,
