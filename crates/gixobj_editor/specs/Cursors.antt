@@ -33,8 +33,9 @@ abbrev pub from_root : Path → Path → Path
 from_root prefix [] = []
 from_root prefix (name ∷ path) = prefix ++ name ∷ path
 
--- the errors of a cursor at a path: the first invalid name; else an unopened directory at or above the path that the
--- store doesn't have as a well-formed tree, or whose lookup fails; or out of memory, if the path has names
+-- the errors of a cursor at a path: that of the first invalid name. If each name is valid, that of an unopened
+-- directory at or above the path: the store doesn't have it as a well-formed tree, or its lookup fails. Or out of
+-- memory, if the path has names
 abbrev pub IsCursorError : Objects → (ObjectId → Bool) → Trees → Dirs → Path → Error → Type 0
 IsCursorError objects may_fail trees dirs path error.EmptyPathComponent = IsFirstNameError path error.EmptyPathComponent
 IsCursorError objects may_fail trees dirs path error.SlashInPathComponent =
@@ -58,8 +59,8 @@ IsErrorBelow means state Rejects path error =
     (Rejects (means.objects state.store) (means.may_fail state.store) trees (open_dirs state)
     (from_root state.prefix path)) error)
 
--- the effect of a new cursor at a path. Its directory is open, with the entries that it had, and the path is the
--- prefix. The record states the open directories, the lookups and the files; the rest is unchanged
+-- the effect of a new cursor at a path. Its directory is open, with the entries that it had, or none if it is made. The
+-- path is the prefix. The record states the open directories, the lookups and the files; the rest is unchanged
 pub record IsEnsured {S : Type 0} (trees : Trees) (old : State S) (path : Path) (new : State S) : Type 0 where
   pub names : AreNames path
   -- the directories at and above the path are opened, and then the missing ones are made
@@ -81,9 +82,10 @@ pub record IsEnsured {S : Type 0} (trees : Trees) (old : State S) (path : Path) 
   pub has_bases : (T : Table) → AgreesWithStore T trees → HasBases T (open_dirs old) (open_bases old)
       → HasBases T (open_dirs new) (open_bases new)
 
--- the effect of a write of the directory at a prefix. The emitted pairs end with its own, and the closure was called on
--- these trees alone, in this order. Then the directory is open with the last emitted tree, no directory in it is, and
--- the rest is unchanged. The named tree has exactly the files below the prefix; the editor's files are unchanged
+-- the effect of a write of the directory at a prefix. The emitted pairs end with that of the directory, and the closure
+-- was called on these trees alone, in this order. Then the directory is open with the last emitted tree, and no
+-- directory in it is open. The rest is unchanged. The named tree has exactly the files below the prefix; the editor's
+-- files are unchanged
 pub record IsWrittenBelow {S F : Type 0} (gave : F → Pair → F → Type 0) (queries : F) (old : State S) (prefix : Path)
     (it : Written) (new : State S) (answered : F) : Type 0 where
   pub emitted : Emits (in_path prefix (open_dirs old)) (in_path prefix (open_bases old)) it.saved it.trees.items

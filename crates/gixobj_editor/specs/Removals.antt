@@ -1,4 +1,4 @@
--- Effects and errors of removals by an editor.
+-- Effects and errors of removals by an editor (git-update-index, `--force-remove`).
 use Rattle.std.specs.Prelude.{◌≡◌, ◌⊎◌, ◌++◌, ℕ, Bool, true, false, List, [], ◌∷◌, Some, ⊤}
 use Rattle.bstr.specs.Owned.{bstring_bytes, joined}
 use Rattle.gixobj_object.specs.Stores.{Objects}
@@ -37,8 +37,9 @@ abbrev pub IsOpenErrorOnPath : Objects → (ObjectId → Bool) → Trees → Dir
 IsOpenErrorOnPath objects may_fail trees dirs path cause = (it : ObjectId) × (h : IsUnopenedAbove trees dirs path it)
     × AreNames h.place × IsDirectoryError objects may_fail it cause
 
--- the errors of a removal, the first on the way from the root: an invalid name; an unopened directory that the store
--- doesn't have as a well-formed tree, or whose lookup fails; or out of memory, if a directory is to be opened
+-- the errors of a removal, the first on the way from the root: that of an invalid name; that of an unopened directory,
+-- which the store doesn't have as a well-formed tree, or whose lookup fails. Or out of memory, if a directory is to be
+-- opened
 abbrev pub IsRemovalError : (EntryView → Type 0) → Objects → (ObjectId → Bool) → Trees → Dirs → Path → Error → Type 0
 IsRemovalError Ends objects may_fail trees dirs path error.EmptyPathComponent =
     HasInvalidName Ends trees dirs path error.EmptyPathComponent
@@ -51,7 +52,7 @@ IsRemovalError Ends objects may_fail trees dirs path error.MalformedTree =
 IsRemovalError Ends objects may_fail trees dirs path (error.CannotRemoveNonLeaf at) = ⊥
 IsRemovalError Ends objects may_fail trees dirs path error.OutOfMemory = IsUnopenedOnPath Ends trees dirs path
 
--- a directory is at the path: by the open directories, else by the store's own table
+-- a directory is at the path: by the open directories, else by the store's trees
 abbrev pub IsDirectory : Trees → Dirs → Path → Type 0
 IsDirectory trees dirs path = (e : EntryView) × (looked_up_entry trees path dirs ≡ Some e)
     × (is_tree_mode e.mode ≡ true)

@@ -1,4 +1,4 @@
--- Effects and errors of upserts by an editor, and the effect of a failed edit.
+-- Effects and errors of upserts by an editor (git-update-index, `--cacheinfo`), and the effect of a failed edit.
 use Rattle.std.specs.Prelude.{◌≡◌, ◌≢◌, ◌≤◌, ◌⊎◌, ◌++◌, ℕ, Bool, List, [], ◌∷◌, Contains, Some, length, ⊤}
 use Rattle.gixobj_object.specs.Stores.{StoreModel, Objects}
 use Rattle.gixobj_directories.specs.Calls.{AreNames}
@@ -63,8 +63,9 @@ abbrev pub IsOpenErrorAbove : Objects → (ObjectId → Bool) → Trees → Dirs
 IsOpenErrorAbove objects may_fail trees dirs path cause = AreNames path
     × IsUnopenedError objects may_fail trees dirs path cause
 
--- the errors of an upsert: the first invalid name; else an unopened directory above the path that the store doesn't
--- have as a well-formed tree, or whose lookup fails; or out of memory, if the path has names
+-- the errors of an upsert: that of the first invalid name. If each name is valid, that of an unopened directory above
+-- the path: the store doesn't have it as a well-formed tree, or its lookup fails. Or out of memory, if the path has
+-- names
 abbrev pub IsUpsertError : Objects → (ObjectId → Bool) → Trees → Dirs → Path → Error → Type 0
 IsUpsertError objects may_fail trees dirs path error.EmptyPathComponent = IsFirstNameError path error.EmptyPathComponent
 IsUpsertError objects may_fail trees dirs path error.SlashInPathComponent =

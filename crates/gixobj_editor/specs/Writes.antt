@@ -1,4 +1,4 @@
--- The effect of a write of an editor's root.
+-- The effect of a write of an editor's root (git-write-tree).
 use Rattle.std.specs.Prelude.{◌≡◌, ◌++◌, ℕ, List, [], ◌∷◌, All}
 use Rattle.std.specs.List.{FoldsTo}
 use Rattle.gixobj_directories.specs.Calls.{IsStorable}
@@ -10,7 +10,7 @@ use Rattle.gixobj_files.specs.State.{EditorFiles, State, open_bases, open_dirs, 
 use Rattle.gixobj_files.specs.Tables.{AgreesWithPairs}
 use Rattle.gixobj_tree.specs.Entries.{EntryView, Pair}
 
--- the effect of a successful write. The emitted pairs end with the root's own, and the closure was called on these
+-- the effect of a successful write. The emitted pairs end with that of the root, and the closure was called on these
 -- trees alone, in this order. Then the root alone is open, with the last emitted tree. The named tree has the editor's
 -- files, which are unchanged
 pub record IsWrittenEditor {S F : Type 0} (gave : F → Pair → F → Type 0) (requested : F) (old : State S) (it : Written)

@@ -21,12 +21,13 @@ pub enum Edit {
         /// The path of the removed entry.
         path: Vec<BString>,
     },
-    /// Removes the entry at the path unless it is a directory.
+    /// Removes the entry at the path. The edit fails if the entry is a directory.
     RemoveLeaf {
         /// The path of the removed entry.
         path: Vec<BString>,
     },
-    /// Writes the changed open directories, and has the store keep the emitted trees.
+    /// Writes the changed open directories, and last the root or the directory of a [`Command::At`]. The
+    /// store then keeps the emitted trees.
     Write,
 }
 
@@ -42,7 +43,7 @@ pub enum Command {
         /// The edits, in order.
         edits: Vec<Edit>,
     },
-    /// Replaces the root of the editor by this tree, as [`Editor::set_root`](crate::editor::Editor::set_root)
-    /// does.
+    /// Replaces the root of the editor by this tree, if it is well-formed, as
+    /// [`Editor::set_root`](crate::editor::Editor::set_root) does.
     SetRoot(Tree),
 }

@@ -44,9 +44,12 @@ use std::marker::Model;
 
 /// An editor of a tree and of the trees below it, over an object store. [`Editor::new`] makes one.
 ///
-/// In contracts it has the entries of each open directory and its base, the entries that it was opened with,
-/// both by the directory's path. It also has the store, the number of lookups, the kind of the ids, and the
-/// path of the newest cursor. An entry with a null id is a placeholder, which a write leaves out.
+/// In contracts it has the entries of each open directory and its base, both by the directory's path. The
+/// base is the store's tree that the directory was opened with, and is empty if an edit made the directory.
+/// That of the root is empty, and has no effect.
+///
+/// In contracts the editor also has the store, the number of lookups, the kind of the ids, and the path of
+/// the newest cursor. An entry with a null id is a placeholder, which a write leaves out.
 #[derive(Drop)]
 pub struct Editor<S> {
     root: Open,
@@ -144,6 +147,7 @@ impl<S> Editor<S> {
 /// Access
 impl<S> Editor<S> {
     /// Returns the store, for example to keep emitted trees in it. The rest of the editor is unchanged.
+    /// Allocates nothing.
     pub fn store_mut(&mut self) -> &mut S
         ensures* writes_back { sem 𝓛 (Lends (the_row S.row) S.row self.entry result
             (with_store self.old)) }
@@ -152,8 +156,8 @@ impl<S> Editor<S> {
         &mut self.store
     }
 
-    /// The number of trees looked up in the store since the editor was made, failed lookups included. It
-    /// saturates at `u64::MAX`.
+    /// Returns the number of trees looked up in the store since the editor was made, failed lookups included.
+    /// It saturates at `u64::MAX`. Allocates nothing.
     pub fn lookups(&self) -> u64
         ensures { result ≡ self.now.lookups }
     {
@@ -165,8 +169,8 @@ impl<S> Editor<S> {
 impl<S: Find> Editor<S> {
     /// Inserts or replaces an entry like [`Editor::try_upsert`], and returns the editor, so that calls chain.
     ///
-    /// A caller's proof knows nothing of the editor after the call: callers with proofs use
-    /// [`Editor::try_upsert`].
+    /// The contract states the effect on the returned editor, and nothing of what an error leaves. Callers
+    /// with proofs use [`Editor::try_upsert`].
     ///
     /// # Errors
     ///
@@ -200,8 +204,8 @@ impl<S: Find> Editor<S> {
 
     /// Removes an entry like [`Editor::try_remove`], and returns the editor, so that calls chain.
     ///
-    /// A caller's proof knows nothing of the editor after the call: callers with proofs use
-    /// [`Editor::try_remove`].
+    /// The contract states the effect on the returned editor, and nothing of what an error leaves. Callers
+    /// with proofs use [`Editor::try_remove`].
     ///
     /// # Errors
     ///
@@ -220,8 +224,8 @@ impl<S: Find> Editor<S> {
 
     /// Removes an entry like [`Editor::try_remove_leaf`], and returns the editor, so that calls chain.
     ///
-    /// A caller's proof knows nothing of the editor after the call: callers with proofs use
-    /// [`Editor::try_remove_leaf`].
+    /// The contract states the effect on the returned editor, and nothing of what an error leaves. Callers
+    /// with proofs use [`Editor::try_remove_leaf`].
     ///
     /// # Errors
     ///
@@ -241,8 +245,10 @@ impl<S: Find> Editor<S> {
     /// Inserts an entry of this kind and id at the path (git-update-index, `--cacheinfo`).
     ///
     /// It replaces any entry of that name and everything below it. Each parent directory on the path becomes
-    /// an open directory: one that isn't open is looked up, a missing one is made, and an entry that isn't a
+    /// an open directory. One that isn't open is looked up, a missing one is made, and an entry that isn't a
     /// tree is replaced. A directory at the path itself is no longer open. An empty path changes nothing.
+    ///
+    /// A directory with the null id or the empty tree's id is opened as empty, without a lookup.
     ///
     /// A name is bytes without `/`. A name with a zero byte is accepted, but its tree can't be encoded.
     ///
@@ -258,7 +264,8 @@ impl<S: Find> Editor<S> {
     /// - [`Error::MalformedTree`] for the first directory whose tree isn't well-formed;
     /// - [`Error::OutOfMemory`] if allocation fails, only for a path with names.
     ///
-    /// The files are unchanged after an error; directories that were opened on the way are still open.
+    /// The editor is unchanged after an invalid name. After any other error its files are unchanged, and
+    /// directories that were opened on the way are still open.
     pub fn try_upsert(
         &mut self,
         path: &[BString],
@@ -295,7 +302,9 @@ impl<S: Find> Editor<S> {
     ///
     /// The directories above it are looked up unless they are open. If one is missing or isn't a directory,
     /// there is nothing to remove, and the names after it aren't validated. An empty path changes nothing.
-    /// Allocates only for directories that it opens.
+    ///
+    /// A directory with the null id or the empty tree's id is opened as empty, without a lookup. Allocates
+    /// only for directories that it opens, twice for one that is looked up.
     ///
     /// # Errors
     ///
@@ -305,7 +314,7 @@ impl<S: Find> Editor<S> {
     /// - [`Error::SlashInPathComponent`] if a name contains a `/`;
     /// - [`Error::FindExistingObject`] with the lookup's error, if a directory isn't found as a tree;
     /// - [`Error::MalformedTree`] if a directory's tree isn't well-formed;
-    /// - [`Error::OutOfMemory`] if allocation fails.
+    /// - [`Error::OutOfMemory`] if allocation fails, only if a directory above the entry isn't open.
     ///
     /// The files are unchanged after an error; directories that were opened on the way are still open.
     ///
@@ -343,10 +352,10 @@ impl<S: Find> Editor<S> {
     ///
     /// # Errors
     ///
-    /// Those of [`Editor::try_remove`], and
+    /// Those of [`Editor::try_remove`], with the same effect on the editor, and
     ///
     /// - [`Error::CannotRemoveNonLeaf`] with the path from the root, if a directory is at the path;
-    /// - [`Error::OutOfMemory`] also if the allocation of that path fails.
+    /// - [`Error::OutOfMemory`] also if a directory is at the path, and the allocation of that path fails.
     pub fn try_remove_leaf(&mut self, path: &[BString]) -> Result<(), Error>
         ensures removed { OnOk result (OfTrees (S.objects self.old.store)
             (λ trees. IsLeafRemoved trees self.old (names_of path.now) self.new)) }
@@ -390,8 +399,8 @@ impl<S: Clone> Editor<S> {
     /// Copies the editor, with a clone of its store, which must equal the store.
     ///
     /// The copy has the same open directories with their bases, and the same number of lookups. Both editors
-    /// emit the same trees in the next write. Allocates for each open directory, its entries and its base,
-    /// and for the names of the newest cursor's path.
+    /// emit the same trees in the next write, if `out` returns the same ids. Allocates for each open
+    /// directory, its entries and its base, and for the names of the newest cursor's path.
     ///
     /// # Errors
     ///
@@ -419,7 +428,7 @@ impl<S> Editor<S> {
     /// Emits the changed open directories to `out`, and last the root, as gix-object documents its
     /// `Editor::write`.
     ///
-    /// It is [`Editor::try_write`] with an owned closure.
+    /// It is [`Editor::try_write`] with an owned closure, which must be callable as is said there.
     ///
     /// # Errors
     ///
@@ -453,12 +462,17 @@ impl<S> Editor<S> {
     /// Directories come in the order of their entries, each after those in it. Then only the root is open,
     /// with the emitted tree.
     ///
-    /// A directory is changed if its tree differs from its base, the tree that it was opened with. An
-    /// unchanged one that has entries keeps its id, and [`Written::saved`] counts it. A directory that is
-    /// empty then is left out, as are entries with null ids. The id that `out` returns for a tree becomes its
-    /// id in the tree above; a null id leaves it out.
+    /// A directory is changed if its written tree differs from its base. That is the tree that it was opened
+    /// with, or the empty tree if an edit made it. An unchanged one that has entries keeps its id, and
+    /// [`Written::saved`] counts it. A directory that is empty then is left out, as are entries with null
+    /// ids. The id that `out` returns for a tree becomes its id in the tree above; a null id leaves it out.
     ///
-    /// Allocates the root's tree, the list of emitted trees, and each emitted tree whose directory has an
+    /// The returned id names a tree with exactly the editor's files, which are unchanged. This holds in each
+    /// table that has the emitted trees and the bases of the open directories.
+    ///
+    /// `out` must be callable on every well-formed tree without null ids, whatever it was called on before.
+    ///
+    /// Allocates the root's tree, two lists of emitted trees, and each emitted tree whose directory has an
     /// open directory or a null id in it. The other trees are emitted without a copy. It looks nothing up.
     ///
     /// # Errors

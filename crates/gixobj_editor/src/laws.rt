@@ -14,8 +14,8 @@ ghost use Rattle.gixobj_tree.specs.Rewriting.{RoundTrips};
 use crate::reply::Reply;
 use gixobj_tree::laws::{tree_decodes_uniquely, tree_round_trips};
 
-/// Some table agrees with a run if the emitted pairs are consistent with the store's trees and each kept tree
-/// decodes to itself.
+/// Some table agrees with a run if the emitted pairs are consistent with the store's trees before it, and
+/// each kept tree decodes to itself.
 ///
 /// Consistent pairs name no tree by a null id, only the empty tree by its id, and no two trees by one id. The
 /// trees of the store count too. A tree decodes to itself if its encoding decodes to no other well-formed

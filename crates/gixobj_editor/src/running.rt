@@ -29,20 +29,22 @@ use std::alloc::Global;
 /// Each command gets a reply; a failed one doesn't end the run. After each successful write the store keeps
 /// the emitted trees in their order, up to the first that it doesn't keep. At the end it has its former
 /// objects and the trees that the replies report as kept. Allocates the replies; edits and writes allocate as
-/// the calls of [`Editor`].
+/// the calls of [`Editor`], and the store as its [`Keep::keep`].
+///
+/// `out` must be callable on every well-formed tree without null ids.
 ///
 /// A tree whose id a write of the root returns has, at every depth, exactly the files that the accepted
 /// commands before that write make. They start with the files of the last root: the last one that was set, or
 /// else the editor's files at the start. This holds for every table of trees that agrees with the editor's
-/// bases and with the run up to that write. It assumes nothing of later commands.
+/// bases and with the run up to that write, its trees included. It assumes nothing of later commands.
 ///
 /// Let the editor be new with the empty root, and let no command insert a tree or set another root. Then two
-/// writes of the root return one id if and only if their files are equal at every depth. This assumes that no
-/// id names two trees, and that no tree got two ids.
+/// writes of the root return one id if and only if their files are equal at every depth. This assumes a table
+/// that agrees with the run, so that no id names two trees. It also assumes that no tree got two ids.
 ///
 /// # Errors
 ///
-/// [`OutOfMemory`] if the allocation of the replies fails: nothing was done then.
+/// [`OutOfMemory`] if the allocation of the list of replies fails: nothing was done then.
 ///
 /// # Examples
 ///

@@ -84,8 +84,10 @@ impl<S: Find> Editor<S> {
     /// Makes a cursor at the directory of a path, which is opened with each directory above it.
     ///
     /// An empty path and a single empty name mean the root. A directory that isn't open is looked up, and its
-    /// entries are kept; a missing one is made, and an entry that isn't a tree is replaced. Each opened
-    /// directory has a base, by which a write detects a change; it is empty for a directory that is made.
+    /// entries are kept. A missing one is made, and an entry that isn't a tree is replaced. Each opened
+    /// directory has a base, by which a write detects a change. It is empty for a directory that is made.
+    ///
+    /// A directory with the null id or the empty tree's id is opened as empty, without a lookup.
     ///
     /// Allocates for each directory that isn't open, twice for one that is looked up, and for a copy of the
     /// names.
@@ -99,7 +101,8 @@ impl<S: Find> Editor<S> {
     /// - [`Error::MalformedTree`] for the first directory whose tree isn't well-formed;
     /// - [`Error::OutOfMemory`] if allocation fails, only for a path other than the root's.
     ///
-    /// The files are unchanged after an error; directories that were opened on the way are still open.
+    /// The editor is unchanged after an invalid name. After any other error its files and its prefix are
+    /// unchanged, and directories that were opened on the way are still open.
     ///
     /// # Examples
     ///
@@ -226,12 +229,12 @@ fn cursor_path_of(path: &[BString]) -> &[BString]
 impl<S: Find> Cursor<'_, S> {
     /// Inserts or replaces an entry like [`Cursor::try_upsert`], and returns the cursor, so that calls chain.
     ///
-    /// A caller's proof knows nothing of the cursor after the call: callers with proofs use
-    /// [`Cursor::try_upsert`].
+    /// The contract states the effect on the returned cursor, and nothing of what an error leaves. Callers
+    /// with proofs use [`Cursor::try_upsert`].
     ///
     /// # Errors
     ///
-    /// Those of [`Cursor::try_upsert`].
+    /// Those of [`Cursor::try_upsert`], with the same effect on the editor.
     pub fn upsert(
         &mut self,
         path: &[BString],
@@ -260,8 +263,8 @@ impl<S: Find> Cursor<'_, S> {
     ///
     /// # Errors
     ///
-    /// Those of [`Editor::try_upsert`]; [`Error::OutOfMemory`] also if the allocation of the path from the
-    /// root fails.
+    /// Those of [`Editor::try_upsert`], with the same effect on the editor. [`Error::OutOfMemory`] also if
+    /// the allocation of the path from the root fails.
     pub fn try_upsert(
         &mut self,
         path: &[BString],
@@ -288,12 +291,12 @@ impl<S: Find> Cursor<'_, S> {
 
     /// Removes an entry like [`Cursor::try_remove`], and returns the cursor, so that calls chain.
     ///
-    /// A caller's proof knows nothing of the cursor after the call: callers with proofs use
-    /// [`Cursor::try_remove`].
+    /// The contract states the effect on the returned cursor, and nothing of what an error leaves. Callers
+    /// with proofs use [`Cursor::try_remove`].
     ///
     /// # Errors
     ///
-    /// Those of [`Cursor::try_remove`].
+    /// Those of [`Cursor::try_remove`], with the same effect on the editor.
     pub fn remove(&mut self, path: &[BString]) -> Result<&mut Self, Error>
         ensures same_reference { IfOk result (λ it. it.ghost_name ≡ self.entry.ghost_name) }
         ensures same_editor { IfOk result
@@ -316,8 +319,8 @@ impl<S: Find> Cursor<'_, S> {
     ///
     /// # Errors
     ///
-    /// Those of [`Editor::try_remove`]; [`Error::OutOfMemory`] also if the allocation of the path from the
-    /// root fails.
+    /// Those of [`Editor::try_remove`], with the same effect on the editor. [`Error::OutOfMemory`] also if
+    /// the allocation of the path from the root fails.
     pub fn try_remove(&mut self, path: &[BString]) -> Result<(), Error>
         ensures same_reference { self.new.editor.ghost_name ≡ self.old.editor.ghost_name }
         ensures prefix { self.new.editor.now.prefix ≡ self.old.editor.now.prefix }
@@ -336,12 +339,12 @@ impl<S: Find> Cursor<'_, S> {
 
     /// Removes an entry like [`Cursor::try_remove_leaf`], and returns the cursor, so that calls chain.
     ///
-    /// A caller's proof knows nothing of the cursor after the call: callers with proofs use
-    /// [`Cursor::try_remove_leaf`].
+    /// The contract states the effect on the returned cursor, and nothing of what an error leaves. Callers
+    /// with proofs use [`Cursor::try_remove_leaf`].
     ///
     /// # Errors
     ///
-    /// Those of [`Cursor::try_remove_leaf`].
+    /// Those of [`Cursor::try_remove_leaf`], with the same effect on the editor.
     pub fn remove_leaf(&mut self, path: &[BString]) -> Result<&mut Self, Error>
         ensures same_reference { IfOk result (λ it. it.ghost_name ≡ self.entry.ghost_name) }
         ensures same_editor { IfOk result
@@ -364,9 +367,9 @@ impl<S: Find> Cursor<'_, S> {
     ///
     /// # Errors
     ///
-    /// Those of [`Editor::try_remove_leaf`]; [`Error::OutOfMemory`] also if the allocation of the path from
-    /// the root fails.
-    /// [`Error::CannotRemoveNonLeaf`] has the path from the root.
+    /// Those of [`Editor::try_remove_leaf`], with the same effect on the editor. [`Error::OutOfMemory`] also
+    /// if the allocation of the path from the root fails. [`Error::CannotRemoveNonLeaf`] has the path from
+    /// the root.
     pub fn try_remove_leaf(&mut self, path: &[BString]) -> Result<(), Error>
         ensures same_reference { self.new.editor.ghost_name ≡ self.old.editor.ghost_name }
         ensures prefix { self.new.editor.now.prefix ≡ self.old.editor.now.prefix }
@@ -391,7 +394,7 @@ impl<S> Cursor<'_, S> {
     ghost use Rattle.std.specs.Borrow.{Lends};
     ghost use mir.Syntax.{named};
 
-    /// Returns the store of the editor, as [`Editor::store_mut`] does.
+    /// Returns the store of the editor, as [`Editor::store_mut`] does. Allocates nothing.
     pub fn store_mut(&mut self) -> &mut S
         ensures* writes_back { sem 𝓛 (Lends (cursor_row (record { mir = named 1; lft = [] }) S.row)
             S.row self.entry result (with_cursor_store self.old)) }
@@ -418,7 +421,7 @@ impl<S> Cursor<'_, S> {
     /// Emits the changed open directories below the prefix to `out`, and last the directory at the prefix,
     /// like gix-object's `Cursor::write`.
     ///
-    /// It is [`Cursor::try_write`] with an owned closure.
+    /// It is [`Cursor::try_write`] with an owned closure, which must be callable as is said there.
     ///
     /// # Errors
     ///
@@ -451,6 +454,11 @@ impl<S> Cursor<'_, S> {
     ///
     /// The base of the directory is unchanged, since its entry in the tree above still has the old id. If it
     /// is changed then, the next write of the root emits it once more.
+    ///
+    /// The returned id names a tree with exactly the files below the prefix; the editor's files are
+    /// unchanged. This holds in each table that has the emitted trees and the bases of the open directories.
+    ///
+    /// `out` must be callable on every well-formed tree without null ids, whatever it was called on before.
     ///
     /// # Errors
     ///

@@ -26,7 +26,7 @@ pub enum Error {
     /// The stored tree of a directory on the path isn't well-formed.
     #[error("a tree in the store isn't well-formed")]
     MalformedTree,
-    /// Allocation failed, in a lookup or in the editor.
+    /// An allocation failed, in a lookup or in the editor.
     #[error("out of memory")]
     OutOfMemory,
 }
