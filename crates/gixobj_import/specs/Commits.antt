@@ -1,4 +1,4 @@
--- The commit of a step.
+-- The commit of a step (gitdatamodel, "commits"; git-commit-tree).
 use Rattle.std.specs.Prelude.{◌≡◌, ℕ, List, [], ◌∷◌, Option, Some, None, map}
 use Rattle.bstr.specs.Owned.{bstring_bytes}
 use Rattle.gixobj_actor.specs.Actor.{IsActor}

@@ -29,7 +29,7 @@ abbrev pub without_files : {S : Type 0} → S → hash.Kind → State S
 without_files store hash =
     record { dirs = root_alone []; bases = root_alone []; store = store; lookups = 0; object_hash = hash; prefix = [] }
 
--- an importer that has imported nothing
+-- a new importer: it has no files and no commits, and hasn't failed
 pub record IsNewImporter {S : Type 0} (importer : Importer S) : Type 0 where
   pub editor : importer.editor ≡ without_files importer.editor.store importer.hash
   pub last : importer.last ≡ None
@@ -74,8 +74,8 @@ pub record AgreesWithImports (T : Table) (objects : Objects) (parent : Option Ob
   pub writes : AgreesWithPairs T (pairs_of_imports imported)
   pub stores : (count : ℕ) → AgreesWithObjects T (with_imports parent (take count steps) (take count imported) objects)
 
--- the commit of a step; its id is the digest of an encoding with the step's author, committer and message, and with the
--- commit before it as only parent; the store has it
+-- the commit of a step. Its id is the digest of an encoding with the step's author, committer and message, and with the
+-- commit before it as only parent. The store names this commit by the id, or another object with the same digest
 pub record IsCommitOf (hash : hash.Kind) (parent : Option ObjectId) (step : Step) (it : Imported)
     (objects : Objects) : Type 0 where
   pub id : it.commit ≡ id_of hash Commit (encode_step step it.written.id parent)
@@ -97,13 +97,13 @@ HaveFiles T n files steps imported =
     (k : ℕ) (it : Imported) → slice_get imported k ≡ Some it
     → SameFiles (NamedFiles T n it.written.id) (history.History T n (edits_of (take (suc k) steps)) files)
 
--- the tree of each commit has, to every depth, exactly the files that the edits so far make of none; that holds in
+-- the tree of each commit has, to every depth, exactly the files that the edits so far make of none. That holds in
 -- every table that agrees with the store and with the emitted ids
 abbrev pub HaveFilesOfNothing : Objects → List Step → List Imported → Type 0
 HaveFilesOfNothing objects steps imported =
     (T : Table) (n : ℕ) → AgreesWithImports T objects None steps imported
     → HaveFiles T n NoFiles steps imported
 
--- the steps before the one that failed
+-- the steps that were imported, before the one that failed
 abbrev pub before : List Imported → List Step → List Step
 before done steps = take (length done) steps

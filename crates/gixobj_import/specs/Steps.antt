@@ -32,7 +32,7 @@ over_store importer store = record importer { editor = with_store importer.edito
 abbrev pub HaveHex : hash.Kind → List ObjectId → Type 0
 HaveHex hash ids = All (λ id. IsIdHexOfKind hash (encode_id_hex id)) ids
 
--- the error of a step's commit that isn't encoded: no commit may have its author or committer, or memory ran out
+-- the error of a step's commit that isn't encoded: no commit may have its author or committer, or an allocation failed
 abbrev pub IsStepEncodeError : Step → ImportError → Type 0
 IsStepEncodeError step (import.Commit error) = (error ≡ IllegalActor)
     × (¬ (IsLegal step.author) ⊎ ¬ (IsLegal step.committer))
@@ -62,7 +62,7 @@ module _ {S : Type 0} (means : StoreModel S) where
     pub may_fail : (it : ObjectId) → means.may_fail new.store it ≡ means.may_fail old.store it
 
   -- the error of a step's commit that isn't kept: no commit may have its author or committer, the store doesn't keep
-  -- it, or memory ran out
+  -- it, or an allocation failed
   abbrev pub IsStepCommitError : hash.Kind → Step → ObjectId → Option ObjectId → State S → ImportError → State S
       → Type 0
   IsStepCommitError hash step tree parent old (import.NotKept error) new =
@@ -131,7 +131,7 @@ module _ {S : Type 0} (means : StoreModel S) where
     pub imported : AreImported old (take (length done) steps) done reached
     pub cause : IsStepError reached failed_step error new
 
-  -- memory ran out for the list, and nothing was done
+  -- the allocation of the list failed, and nothing was done
   pub record HasNoList (old : Importer S) (done : List Imported) (error : ImportError) (new : Importer S) : Type 0 where
     pub nothing : done ≡ []
     pub memory : error ≡ import.OutOfMemory

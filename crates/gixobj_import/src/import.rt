@@ -1,4 +1,4 @@
-//! The importer: it edits a tree step by step, and makes each step a commit.
+//! The importer: it edits a tree step by step, and makes each step a commit (gitdatamodel, "commits").
 ghost use Rattle.std.specs.Prelude.{◌≡◌, [], ℕ, IfErr, IfOk, None};
 ghost use Rattle.std.specs.Borrow.{Lends, sem};
 ghost use Rattle.gixobj_files.specs.Bases.{HasBases};
@@ -33,9 +33,9 @@ use std::alloc::Global;
 pub struct Step {
     /// The edits, in order. None of them may be a write.
     pub edits: Vec<Edit>,
-    /// The author, who made the change.
+    /// The author, who made the change. It may have no `<`, `>` or newline in its name or email.
     pub author: Signature,
-    /// The committer, who made the commit.
+    /// The committer, who made the commit. It may have no `<`, `>` or newline in its name or email.
     pub committer: Signature,
     /// The commit message.
     pub message: BString,
@@ -50,7 +50,7 @@ pub struct Imported {
     pub written: Written,
 }
 
-/// The error of a step: why it isn't imported.
+/// The error of [`Importer::step`]: why the step isn't imported.
 #[derive(Debug, Drop, thiserror::Error)]
 pub enum ImportError {
     /// One of the edits is a write. Nothing was done.
@@ -59,21 +59,22 @@ pub enum ImportError {
     /// An edit failed.
     #[error("edit {index} was refused: {error}")]
     Edit {
-        /// The number of the edit, from 0.
+        /// The index of the edit, from 0.
         index: usize,
         /// The error of the edit.
         error: Error,
     },
-    /// The trees weren't written: one has a name with a zero byte, or memory ran out.
+    /// The trees weren't written, with this error: one has a name with a zero byte, or an allocation failed.
     #[error("not written: {0}")]
     Write(WriteError<encode::Error>),
     /// The store didn't keep a tree or the commit, with this error.
     #[error("not kept: {0}")]
     NotKept(KeepError),
-    /// The commit can't be written, since no commit may have its author or committer.
+    /// The commit can't be encoded, since no commit may have its author or committer. The payload is
+    /// `IllegalActor`.
     #[error("the commit can't be written: {0}")]
     Commit(encode::Error),
-    /// Memory ran out.
+    /// An allocation failed, for the commit or for the list of [`import_all`].
     #[error("out of memory")]
     OutOfMemory,
     /// An earlier step failed with another error than [`ImportError::WriteInStep`]. Nothing was done.
@@ -95,7 +96,7 @@ impl From<OutOfMemory> for ImportError {
 /// An import that stopped. [`import_all`] returns it as its error.
 #[derive(Debug, Drop)]
 pub struct Stopped {
-    /// The steps that were imported before.
+    /// What was imported before, one for each step.
     pub done: Vec<Imported>,
     /// The error that stopped the import.
     pub error: ImportError,
@@ -131,7 +132,7 @@ impl<S> Importer<S> {
         }
     }
 
-    /// Returns the store of the importer.
+    /// Returns the store of the importer. The rest of the importer is unchanged. Allocates nothing.
     pub fn store_mut(&mut self) -> &mut S
         ensures* writes_back { sem 𝓛 (Lends (the_row S.row) S.row self.entry result
             (over_store self.old)) }
@@ -142,30 +143,36 @@ impl<S> Importer<S> {
 }
 
 impl<S: Keep + KeepCommit> Importer<S> {
-    /// Imports a step: does its edits, writes the changed trees, and makes its commit.
+    /// Imports a step: does its edits, writes the changed trees, and makes its commit (git-commit-tree).
     ///
-    /// The store keeps the trees, and then the commit. The only parent of the commit is the last imported
-    /// commit, if there is one.
+    /// The store keeps the trees, and then the commit. The id of each is the digest of its encoding. The only
+    /// parent of the commit is the last imported commit, if there is one.
+    ///
+    /// The commit's tree has, at every depth, exactly the files that the edits make of the importer's. The
+    /// importer has these files then. This holds in each table that agrees with the store and the emitted
+    /// trees, and has the bases of the open directories.
     ///
     /// Each id afterwards names in the store what it named before, or an object whose digest it is. That
     /// holds after an error too.
     ///
     /// Allocates the directories that the edits open, the emitted trees and the bytes of each. For the commit
-    /// it allocates a copy of the step's actors and message, and its bytes.
+    /// it allocates a copy of the step's actors and message, and its bytes. The store allocates what it
+    /// keeps.
     ///
     /// # Errors
     ///
     /// Nothing is changed after the first two. After any other the importer has failed, and each further step
-    /// fails with [`ImportError::Failed`].
+    /// fails with [`ImportError::Failed`]. The edits before the error are done, and kept trees stay in the
+    /// store.
     ///
     /// - [`ImportError::Failed`] if an earlier step failed, except with [`ImportError::WriteInStep`].
     /// - [`ImportError::WriteInStep`] if one of the edits is a write.
     /// - [`ImportError::Edit`] with the number and the error of the first edit that fails.
-    /// - [`ImportError::Write`] with the write's error, if a tree has a name with a zero byte, or memory runs
-    ///   out for the trees or their bytes.
+    /// - [`ImportError::Write`] with the write's error, if a tree has a name with a zero byte, or an
+    ///   allocation fails for the trees or their bytes.
     /// - [`ImportError::NotKept`] with the store's error, if the store doesn't keep a tree or the commit.
-    /// - [`ImportError::Commit`] with the encoder's error, if no commit may have the author or the committer.
-    /// - [`ImportError::OutOfMemory`] if memory runs out for the commit.
+    /// - [`ImportError::Commit`] with `IllegalActor`, if no commit may have the author or the committer.
+    /// - [`ImportError::OutOfMemory`] if an allocation fails for the commit.
     pub fn step(&mut self, step: &Step) -> Result<Imported, ImportError>
         ensures imported { IfOk result (λ it.
             IsImported (store_model S.objects S.may_fail) self.old step.now it self.new) }
@@ -212,13 +219,16 @@ impl<S: Keep + KeepCommit> Importer<S> {
 ///
 /// With a new importer, the id of each commit is the digest of an encoding with the step's author, committer
 /// and message. The only parent is the commit before it. The store then names this commit by the id, or
-/// another object with the same digest. Whatever trees other ids name, the commit's tree has, at every depth,
-/// exactly the files that the edits of the steps so far make of none.
+/// another object with the same digest. The commit's tree has, at every depth, exactly the files that the
+/// edits of the steps so far make of none. This holds in each table that agrees with the store and the
+/// emitted trees.
 ///
 /// # Errors
 ///
-/// [`Stopped`] at the first step that fails, with the error of [`Importer::step`] and with what was imported
-/// before. If memory runs out for the list, the error is [`ImportError::OutOfMemory`] and nothing was done.
+/// - [`Stopped`] at the first step that fails, with the error of [`Importer::step`] and with what was
+///   imported before. With a new importer, the above holds of these commits too.
+/// - [`Stopped`] with [`ImportError::OutOfMemory`] and an empty list, if the allocation of the list fails.
+///   Nothing was done then.
 ///
 /// # Examples
 ///
@@ -277,7 +287,7 @@ pub fn import_all<S: Keep + KeepCommit>(
     Ok(imported)
 }
 
-/// Returns the import for whose list memory ran out.
+/// Returns the error of an import for whose list an allocation failed.
 fn no_list(alloc: Global) -> Stopped
     ensures done { result.done.items ≡ [] }
     ensures error { result.error ≡ ImportError.OutOfMemory }

@@ -1,4 +1,4 @@
-//! Laws of imports. Each function does nothing: its contract is the law.
+//! Laws of imports. The contract of each function is a law.
 ghost use Rattle.std.specs.Prelude.{All, None};
 ghost use Rattle.gixobj_object.specs.Stores.{Objects};
 ghost use Rattle.gixobj_directories.specs.Openings.{AreTreesOf};
@@ -11,10 +11,13 @@ use crate::import::{Imported, Step};
 use gixobj_files::laws::consistent_pairs_have_table;
 use gixobj_object::laws::{id_equality_is_decidable, object_map_insert};
 
-/// Some table agrees with an import if its emitted trees are consistent with the store.
+/// Some table agrees with an import by a new importer, if the emitted trees are consistent.
 ///
-/// No id of these trees may name two trees, and the encoding of each of them may decode to no other
-/// well-formed tree. The law holds for the store in memory, whose objects may be any.
+/// They must be consistent with the store's trees before the import, and each must decode to itself.
+///
+/// Consistent pairs name no tree by a null id, only the empty tree by its id, and no two trees by one id. The
+/// trees of the store count too. A tree decodes to itself if its encoding decodes to no other well-formed
+/// tree. The law holds for every store, since its objects may be any.
 pub fn consistent_import_has_table(steps: &[Step], imported: &[Imported])
     ensures { (objects : Objects) (trees : Trees) → AreTreesOf objects trees
         → IsConsistentWith (pairs_of_imports imported.now) trees
