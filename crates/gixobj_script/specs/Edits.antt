@@ -34,7 +34,7 @@ pub record WasRun {S E : Type 0} (means : StoreModel S) (answers : Answers E) (h
   pub decodes : IsScript hash script (map command_view commands)
   pub ran : IsRun means answers old commands replies new
 
--- the model of the store in memory: no lookup fails
+-- the model of the store in memory: no lookup fails, except for memory
 abbrev pub memory_model : StoreModel Memory
 memory_model = record { objects = memory_objects; may_fail = λ store id. false }
 

@@ -23,7 +23,7 @@ abbrev pub Edited : List (List ℕ) → Option (List ℕ) → Option (List ℕ) 
 Edited words rest rest' out out' = (bytes : List ℕ) × IsReportOfInput words rest rest' bytes × AppendsAll out out' bytes
 
 -- the error of a run: the first bad line of the input; a failed input; a failed output, to which a proper prefix of the
--- report was written; or out of memory
+-- report was written; or out of memory, of any run
 abbrev pub IsEditingError : List (List ℕ) → Option (List ℕ) → Option (List ℕ) → Type 0 → SinkView → SinkView → Fault
     → Type 0
 IsEditingError words rest rest' may_fail out out' (fault.BadLine number) =

@@ -1,4 +1,5 @@
--- Lists of the entries of a loose tree, and runs of `tree`: its input, its output and its errors.
+-- Lists of the entries of a loose tree (git-ls-tree lists the same entries), and runs of `tree`: its input, its output
+-- and its errors.
 use Rattle.std.specs.Prelude.{◌≡◌, ◌≢◌, ◌⊎◌, ℕ, List, [], ◌∷◌, ◌++◌, Option, codes}
 use Rattle.std.specs.List.{flat_map}
 use Rattle.gixobj_hash.specs.Bytes.{newline, space}
@@ -59,7 +60,8 @@ IsListedTreeError input ShortData = IsShort input
 IsListedTreeError input NotATree = IsOfAnotherKind input
 IsListedTreeError input _ = ⊥
 
--- the error of a list. Out of memory occurs only for the copy in the error of a header, or for entries and their lines
+-- the error of a list. Out of memory occurs only for the copy in the error of a header, or for content that begins with
+-- an entry
 abbrev pub IsListingError : hash.Kind → List ℕ → Failure → Type 0
 IsListingError hash input BadHeader = HasNoLooseHeader input
 IsListingError hash input ShortData = IsShort input
@@ -78,7 +80,7 @@ IsListOfInput words rest rest' bytes =
 abbrev pub Listed : List (List ℕ) → Option (List ℕ) → Option (List ℕ) → SinkView → SinkView → Type 0
 Listed words rest rest' out out' = (bytes : List ℕ) × IsListOfInput words rest rest' bytes × AppendsAll out out' bytes
 
--- the error of a run; at a failed output a proper prefix of the list was written
+-- the error of a run; at a failed output a proper prefix of the list was written; out of memory is that of any run
 abbrev pub IsListError : List (List ℕ) → Option (List ℕ) → Option (List ℕ) → Type 0 → SinkView → SinkView → Failure
     → Type 0
 IsListError words rest rest' may_fail out out' InputFailed = IsListCommand words × may_fail

@@ -18,14 +18,16 @@ use std::alloc::Global;
 /// Runs a script on the empty root, over an empty store in memory, and returns the report of [`edit_on`].
 ///
 /// Ids are of `hash`; the id of a tree is the digest of its encoding. Allocates the commands, the replies,
-/// the store and the report.
+/// the store and the report. [`parse_script`] describes the lines of a script.
+///
+/// An allocation that fails in an edit or a write is no error of the call. The report has a line for it.
 ///
 /// # Errors
 ///
 /// - [`ScriptError::BadLine`] with the number of the first line that is neither empty nor a command. Nothing
 ///   is run.
-/// - [`ScriptError::OutOfMemory`] if an allocation fails, for a command before any bad line or in a script
-///   without one.
+/// - [`ScriptError::OutOfMemory`] if an allocation fails for a command before any bad line. Without a bad
+///   line also if one fails for the list of replies or the report.
 pub fn edit(alloc: Global, script: &[u8], hash: Kind) -> Result<Vec<u8>, ScriptError>
     ensures reported { IfOk result (λ content. IsEdit hash script.now content.items) }
     ensures error { IfErr result (IsScriptRunError hash script.now) }
@@ -44,17 +46,20 @@ pub fn edit(alloc: Global, script: &[u8], hash: Kind) -> Result<Vec<u8>, ScriptE
 
 /// Runs a script on an editor, and returns a report of the replies.
 ///
-/// `out` returns the ids of written trees. The report has a line for each command, or for each edit in a
-/// directory. Its last line has the number of all lookups that the editor has made. Allocates the commands,
-/// the replies and the report.
+/// `out` returns the ids of written trees. It must be callable on every well-formed tree without null ids.
+/// [`report_lines`] describes the lines of the report. The last has the number of all lookups that the
+/// editor has made.
+///
+/// Allocates the commands, the replies and the report; the editor and the store allocate for the commands.
+/// An allocation that fails in an edit or a write is no error of the call. The report has a line for it.
 ///
 /// # Errors
 ///
 /// - [`ScriptError::BadLine`] with the number of the first line that is neither empty nor a command. Nothing
 ///   is run.
-/// - [`ScriptError::OutOfMemory`] if an allocation fails for a command before any bad line; or, if no line is
-///   bad, for the replies or the report. Then nothing was run, or the entire script was run and has no
-///   report.
+/// - [`ScriptError::OutOfMemory`] if an allocation fails for a command before any bad line. Without a bad
+///   line also if one fails for the list of replies or the report. Then nothing was run, or the entire script
+///   was run and has no report.
 pub fn edit_on<S: Keep, E: Drop, F: Fn(&Tree) -> Result<ObjectId, E> + Drop>(
     alloc: Global,
     editor: &mut Editor<S>,

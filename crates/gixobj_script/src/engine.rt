@@ -30,14 +30,21 @@ use std::io::{Read, Write};
 /// - `edit` runs the input as a script of edits on the empty tree. It writes a line for each reply, and last
 ///   the number of lookups.
 ///
-/// Success is status 0. With other arguments, nothing is read, a line on usage is written to `errors`, and
-/// the status is 2. Else the status is 1, and a line in `errors` has the fault:
+/// Status 0: the output was written, and nothing was written to `errors`. Status 2: the arguments are
+/// invalid. Nothing was read, and a line on usage was written to `errors`. Status 1: a line written to
+/// `errors` reports the fault:
 ///
 /// - `bad header` or `short data`, for `show` and `tree`;
 /// - `not a tree` or `bad tree`, for `tree`;
 /// - `line N`, for `edit`, with the number of the first line that is neither empty nor a command; then
 ///   nothing is run;
 /// - `input failed`, `output failed` or `out of memory`, for all three.
+///
+/// A fault leaves `output` unchanged; only `output failed` leaves a proper prefix of the lines there. If the
+/// write to `errors` fails, a prefix of the line is there, and the status alone reports the fault.
+///
+/// Allocates the bytes of the entire input, and what the command allocates: [`edit`],
+/// [`listing`](crate::tree::listing), or `show`.
 pub fn engine<R: Read, O: Write, E: Write>(
     alloc: Global,
     words: &[String],

@@ -57,7 +57,7 @@ fn report_line<E: Sink>(line: &[u8], errors: &mut E)
 
 /// Writes the line of a fault, and returns the exit status.
 ///
-/// If the line cannot be written, the status alone reports the fault.
+/// If the line cannot be written, the status alone reports the fault. Only the sink may allocate.
 pub fn report_fault<E: Sink>(alloc: Global, fault: Fault, errors: &mut E) -> u8
     ensures status { result ≡ fault_status fault }
     ensures reported { IsPrinted (E.view errors.old) (E.view errors.new) (fault_line fault) }

@@ -1,4 +1,4 @@
-//! Laws of scripts and of their runs. Most functions do nothing: their contract is the law.
+//! Laws of scripts and of their runs. The contract of each function is a law.
 
 mod runs;
 mod scripts;

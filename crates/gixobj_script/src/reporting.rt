@@ -16,9 +16,10 @@ use std::alloc::Global;
 /// Edits in a directory have a line each, and each other reply has one line:
 ///
 /// - `ok`, for an edit or a new root;
-/// - `refused N`, for an edit that failed, with the number of its [`Error`], from 1 in the order of its
-///   cases. For a directory that was to be removed as a leaf, the line is `refused 4` with a space and its
-///   path. A new root that is not well-formed is reported as a malformed tree, 5;
+/// - `refused N`, for an edit that failed or a directory that isn't opened. N is the number of the [`Error`],
+///   from 1 in the order of its cases. For a directory that was to be removed as a leaf, the line is
+///   `refused 4` with a space and its path. A new root that is not well-formed is reported as a malformed
+///   tree, 5;
 /// - `wrote ID COUNT`, `refused out` or `refused memory`, for a write. COUNT is the number of emitted trees;
 /// - `unkept ID`, for a write whose trees the store did not all keep.
 ///

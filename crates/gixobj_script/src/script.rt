@@ -45,7 +45,19 @@ impl<T: Drop> From<AllocFailed<T>> for ScriptError {
 /// Parses a script into its commands, in order, with ids of `hash`.
 ///
 /// Each line is a command or empty, and ends in a newline, which the last one may lack. Empty lines are
-/// skipped. Allocates the commands.
+/// skipped. The commands are
+///
+/// - `upsert KIND ID PATH`; the kind is `tree`, `blob`, `exe`, `link` or `commit`, and the id is in hex of
+///   either case;
+/// - `remove PATH`, and `leaf PATH` for the removal of an entry unless it is a directory;
+/// - `write`;
+/// - `at PREFIX EDIT`, for one of these in the directory at a path without spaces;
+/// - `root`, for the empty tree as the new root.
+///
+/// One space separates two tokens, and a path extends to the end of the line. It is split at each `/` into
+/// names, which may be empty. The path `.` has no names.
+///
+/// Allocates the commands.
 ///
 /// # Errors
 ///

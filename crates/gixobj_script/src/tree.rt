@@ -103,17 +103,19 @@ fn listed<S: Source, O: Sink>(
 
 /// Lists the entries of the loose tree at the start of the input, with ids of `hash`.
 ///
-/// Each entry is a line `<mode> <kind> <id> <name>`, with the name's bytes unchanged. Bytes after the tree
-/// are ignored. Allocates the entries and their lines.
+/// Each entry is a line `<mode> <kind> <id> <name>`, with the name's bytes unchanged (git-ls-tree lists the
+/// same entries). The kind is `tree`, `blob`, `exe`, `link` or `commit`. Bytes after the tree are ignored.
+///
+/// Allocates the entries and their lines, and a copy for the error of a malformed header.
 ///
 /// # Errors
 ///
-/// - [`Refusal::BadHeader`] if the input begins with no loose header.
-/// - [`Refusal::ShortData`] if fewer bytes follow than the size in the header.
-/// - [`Refusal::NotATree`] if the object is of another kind.
-/// - [`Refusal::BadTree`] if the content is not the encoding of a tree with ids of `hash`.
-/// - [`Refusal::OutOfMemory`] if an allocation fails: for the error of a header, or for the entries or the
-///   lines of a tree with an entry.
+/// - [`Failure::BadHeader`] if the input begins with no loose header.
+/// - [`Failure::ShortData`] if fewer bytes follow than the size in the header.
+/// - [`Failure::NotATree`] if the object is of another kind.
+/// - [`Failure::BadTree`] if the content is not the encoding of a tree with ids of `hash`.
+/// - [`Failure::OutOfMemory`] if an allocation fails: for the error of a header, or for content that begins
+///   with an entry.
 pub fn listing(alloc: Global, hash: hash::Kind, input: &[u8]) -> Result<Vec<u8>, Failure>
     ensures found { IfOk result (λ listed_lines. IsListed hash input.now listed_lines.items) }
     ensures error { IfErr result (IsListingError hash input.now) }

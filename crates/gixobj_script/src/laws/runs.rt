@@ -21,8 +21,8 @@ use gixobj_fields::encode;
 
 /// A run over a store in memory that is empty at first, with digests as ids, has a table that agrees with it.
 ///
-/// It requires that different emitted trees have different ids, and that the entries of each kept tree
-/// round-trip.
+/// It requires that different emitted trees have different ids, the empty tree included, and that no id is
+/// null. The entries of each kept tree must round-trip.
 pub fn digest_run_has_table(replies: &[Reply<encode::Error>])
     ensures { (hash : Kind) (before after : State Memory) (commands : List Command)
         → memory_objects before.store ≡ finite.empty
