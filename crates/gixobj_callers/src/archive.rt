@@ -10,11 +10,16 @@ use std::alloc::Global;
 
 /// Imports the steps of a history into a store, and returns the last import: its commit and the written root.
 ///
-/// The result is `None` if and only if there are no steps.
+/// The result is `None` if and only if there are no steps. The commit's tree has, at every depth, exactly the
+/// files that the edits of all steps make of none. This holds in each table that agrees with the store and
+/// the imports.
+///
+/// Allocates as [`import_all`], and drops the store at the end.
 ///
 /// # Errors
 ///
-/// [`ImportError`] of the first step that fails, which ends the import.
+/// - [`ImportError`] of the first step that fails, which ends the import.
+/// - [`ImportError::OutOfMemory`] also if the allocation of the list of imports fails.
 pub fn tip_of<S: Keep + KeepCommit + Drop>(
     alloc: Global,
     store: S,

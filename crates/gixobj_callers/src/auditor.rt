@@ -18,7 +18,9 @@ use gix_object::laws::{
 use gix_object::{Commit, CommitRef, OutOfMemory, TagRef};
 use std::alloc::Global;
 
-/// Returns the value of the first header of this name.
+/// Returns the value of the first header of this name, or `None` if there is none. Allocates nothing.
+///
+/// The commit's tree must be an id in hex, as in each decoded commit.
 pub fn value_of<'a>(commit: &'a CommitRef<'_>, name: &str) -> Option<BStr<'a>>
     requires { IsIdHex (commit_lines commit.now).tree }
     ensures { IsFirstValue name.now (commit_lines commit.now).extra_headers result }
@@ -27,7 +29,8 @@ pub fn value_of<'a>(commit: &'a CommitRef<'_>, name: &str) -> Option<BStr<'a>>
     commit.extra_headers().find(name)
 }
 
-/// Returns the position of the first header of this name in an owned commit.
+/// Returns the position of the first header of this name in an owned commit, or `None` if there is none.
+/// Allocates nothing.
 pub fn position_of(commit: &Commit, name: &str) -> Option<usize>
     ensures { IsFirstPlace name.now (owned_commit_lines commit.now).extra_headers result }
 {
@@ -36,6 +39,8 @@ pub fn position_of(commit: &Commit, name: &str) -> Option<usize>
 }
 
 /// Returns the values of all headers of this name, in order. Allocates the list.
+///
+/// The commit's tree must be an id in hex, as in each decoded commit.
 ///
 /// # Errors
 ///
@@ -57,7 +62,7 @@ pub fn values_of<'a>(
 /// Decodes the value of each `mergetag` header, in order: a merged tag, or [`Error::Malformed`]. Allocates
 /// the list.
 ///
-/// The ids of the tags' targets are of the kind of the commit's tree.
+/// The ids of the tags' targets are of the kind of the commit's tree, which must be an id in hex.
 ///
 /// # Errors
 ///

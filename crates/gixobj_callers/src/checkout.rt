@@ -47,10 +47,14 @@ pub enum CheckoutError<E> {
 /// named tree has, at every depth, exactly the files that these steps make of the root's. This holds in each
 /// table that agrees with the store and the emitted trees.
 ///
+/// The root must be well-formed. `out` must be callable on every well-formed tree without null ids, whatever
+/// it was called on before. Allocates as the calls of [`Editor`], and drops the store at the end.
+///
 /// # Errors
 ///
-/// - [`CheckoutError::Edit`] if the directory isn't made, or an entry isn't inserted;
-/// - [`CheckoutError::Write`] if the write fails.
+/// - [`CheckoutError::Edit`] with the error of the edit, if the directory isn't made, or an entry isn't
+///   inserted;
+/// - [`CheckoutError::Write`] with the error of the write, if it fails.
 pub fn with_entries_at<S: Find + Drop, E: Drop, F: FnMut(&Tree) -> Result<ObjectId, E> + Drop>(
     root: Tree,
     store: S,

@@ -62,11 +62,14 @@ impl From<find::Error> for Error {
     }
 }
 
-/// Returns the id of an ancestor: that many generations before the start, from first parent to first parent.
+/// Returns the id of an ancestor: `generations` steps from the start, each to a first parent (git-rev-parse,
+/// `<rev>~<n>`).
+///
+/// The start itself is looked up only if there is a step. Allocates a buffer, and what each commit allocates.
 ///
 /// # Errors
 ///
-/// - [`Error::Commit`] if a commit on the way isn't found;
+/// - [`Error::Commit`] with the lookup's error, if a commit on the way isn't found or doesn't decode;
 /// - [`Error::NoParent`] with the id of a commit on the way that has no parent.
 #[tactic(auto, using(crate::proofs::Commits::is_ancestor_succ))]
 pub fn ancestor<S: Find>(
@@ -104,13 +107,16 @@ fn first_parent<S: Find>(
     }
 }
 
-/// Returns the entry at a path in the tree of a commit, or `None` if there is none.
+/// Returns the entry at a path in the tree of a commit, or `None` if there is none (git-rev-parse,
+/// `<rev>:<path>`).
+///
+/// Allocates two buffers, the commit and a copy of the entry's name.
 ///
 /// # Errors
 ///
-/// - [`Error::Commit`] if the commit isn't found;
-/// - [`Error::Tree`] if its tree isn't found;
-/// - [`Error::Path`] if a lookup on the path fails.
+/// - [`Error::Commit`] with the lookup's error, if the commit isn't found or doesn't decode;
+/// - [`Error::Tree`] with the lookup's error, if its tree isn't found;
+/// - [`Error::Path`] with the lookup's error, if a lookup on the path fails.
 pub fn entry_of<S: Find>(
     alloc: Global,
     store: &S,

@@ -77,13 +77,19 @@ impl<E> From<OutOfMemory> for ImportError<E> {
 /// each table that agrees with the store and the emitted trees, and has the bases of the open directories.
 /// The editor has these files then, and its root alone is open.
 ///
+/// `out` must be callable on every well-formed tree without null ids. Allocates the commands and their
+/// replies; the editor and the store allocate for them.
+///
 /// # Errors
 ///
 /// - [`ImportError::HoldsWrite`] if and only if one of the edits is a write;
-/// - [`ImportError::Edit`] with index and error, for the first edit that fails;
-/// - [`ImportError::Write`] if the write fails;
+/// - [`ImportError::Edit`] with index and error, for the first edit that fails; the others and the write are
+///   still tried;
+/// - [`ImportError::Write`] with the error of the write, if it fails;
 /// - [`ImportError::NotKept`] with result, count and error, if the store doesn't keep all emitted trees;
-/// - [`ImportError::OutOfMemory`] if allocation of the commands or of their replies fails.
+/// - [`ImportError::OutOfMemory`] if allocation of the commands or of the list of their replies fails.
+///
+/// The editor is unchanged after the first and the last.
 pub fn import_files<S: Keep, E: Drop, F: Fn(&Tree) -> Result<ObjectId, E> + Drop>(
     alloc: Global,
     editor: &mut Editor<S>,
@@ -184,12 +190,14 @@ fn position_of_reply<E>(replies: &[Reply<E>]) -> Option<usize>
 /// Decodes a commit, and encodes an owned copy of it.
 ///
 /// The copy has the decoded parts, with ids in lower case, and with actors and times as they are encoded.
+/// Allocates the decoded commit, its owned copy and the encoding.
 ///
 /// # Errors
 ///
 /// - [`CopyError::Read`] if the bytes are malformed, or allocation fails;
-/// - [`CopyError::Write`] if an actor has a byte that no owned one may have, the encoding header is empty, or
-///   allocation fails.
+/// - [`CopyError::Write`] with `IllegalActor` if an actor has a byte that no owned one may have;
+/// - [`CopyError::Write`] with `EmptyValue` if the encoding header is empty, or with `Writer` if allocation
+///   fails.
 pub fn owned_copy_of(alloc: Global, bytes: &[u8], kind: Kind) -> Result<Vec<u8>, CopyError>
     ensures parts { IfOk result (λ copy. (commit own : CommitLines)
         × DecodesToCommit kind bytes.now commit × AreNormalizedPartsOfCommit commit own

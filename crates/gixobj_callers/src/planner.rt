@@ -44,6 +44,8 @@ pub fn is_tree(content: &[u8], kind: Kind) -> bool
 
 /// Encodes a tree and decodes it again. The result equals the tree if each entry round-trips.
 ///
+/// Allocates the encoding, and the entries of the result.
+///
 /// # Errors
 ///
 /// - [`CopyError::Write`] if the tree can't be encoded, or allocation fails;
@@ -104,9 +106,11 @@ pub enum PlanError<E> {
 /// Returns the well-formed tree with this id from a store. For the empty tree's id it has no entries, and
 /// isn't looked up.
 ///
+/// Allocates a buffer, and the entries of the tree.
+///
 /// # Errors
 ///
-/// - [`RootError::Find`] if the lookup fails;
+/// - [`RootError::Find`] with the lookup's error, if the id names no tree that decodes, or the lookup fails;
 /// - [`RootError::Malformed`] if the stored tree isn't well-formed;
 /// - [`RootError::OutOfMemory`] if allocation of its entries fails.
 pub fn root_in<S: Find>(alloc: Global, store: &S, id: ObjectId) -> Result<Tree, RootError>
@@ -132,13 +136,16 @@ pub fn root_in<S: Find>(alloc: Global, store: &S, id: ObjectId) -> Result<Tree, 
 ///
 /// The root is looked up by its id; that of the empty tree is found in every store. The named tree has, at
 /// every depth, exactly the files that the edit makes of the root's. This holds in each table that agrees
-/// with the store and the emitted trees. The null id names no tree in a table, whatever the store has for it.
+/// with the store and the emitted trees, if the root's id isn't null. In a table the null id names no tree.
+///
+/// `out` must be callable on every well-formed tree without null ids, whatever it was called on before.
+/// Allocates the root, and as the calls of [`Editor`]; drops the store at the end.
 ///
 /// # Errors
 ///
-/// - [`PlanError::Root`] if the root isn't found, or is invalid;
-/// - [`PlanError::Edit`] if the edit fails;
-/// - [`PlanError::Write`] if the write fails.
+/// - [`PlanError::Root`] with the error of [`root_in`], if the root isn't found, or is invalid;
+/// - [`PlanError::Edit`] with the error of the edit, if it fails;
+/// - [`PlanError::Write`] with the error of the write, if it fails.
 pub fn with_entry_in_stored<S: Find + Drop, E: Drop, F: FnMut(&Tree) -> Result<ObjectId, E> + Drop>(
     alloc: Global,
     root: ObjectId,

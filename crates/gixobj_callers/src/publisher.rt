@@ -21,12 +21,12 @@ use gix_object::{TagRef, TagRefIter, WriteTo};
 use std::alloc::Global;
 
 /// Decodes a tag and encodes it. The result equals the bytes if the tag is unsigned or its message is more
-/// than newlines.
+/// than newlines. Allocates the encoding.
 ///
 /// # Errors
 ///
 /// - [`CopyError::Read`] if the bytes are malformed;
-/// - [`CopyError::Write`] if the name is invalid, or allocation fails.
+/// - [`CopyError::Write`] if the name is invalid as that of a reference, or allocation fails.
 pub fn tag_copy_of(alloc: Global, bytes: &[u8], kind: Kind) -> Result<Vec<u8>, CopyError>
     ensures same { IfOk result (λ copy. (tag : TagLines) → DecodesToTag kind bytes.now tag
         → PreservesBody tag → copy.items ≡ bytes.now) }
@@ -47,7 +47,9 @@ pub fn tag_copy_of(alloc: Global, bytes: &[u8], kind: Kind) -> Result<Vec<u8>, C
     }
 }
 
-/// Returns the id of the tagged object without decoding the rest: always for the encoding of a tag.
+/// Returns the id of the tagged object without decoding the rest. Allocates nothing.
+///
+/// The result is never `None` for the encoding of a tag. For other bytes it is unspecified.
 pub fn target_of(bytes: &[u8], kind: Kind) -> Option<ObjectId>
     ensures { (tag : TagLines) → DecodesToTag kind bytes.now tag → (id : ObjectId) × (result ≡ Some id)
         × DecodesToId tag.target id }
@@ -59,7 +61,8 @@ pub fn target_of(bytes: &[u8], kind: Kind) -> Option<ObjectId>
     }
 }
 
-/// Returns the name of the tag if it is a valid name of a reference.
+/// Returns the name of the tag if it is valid as the name of a reference (git-check-ref-format). Allocates
+/// nothing.
 pub fn checked_name<'a>(tag: &TagRef<'a>) -> Option<BStr<'a>>
     ensures { MatchOption result (¬ IsTagName (tag_lines tag.now).name)
         (λ name. (bstr_bytes name ≡ (tag_lines tag.now).name)

@@ -40,15 +40,19 @@ impl From<OutOfMemory> for CompareError {
 /// one id.
 ///
 /// A write also counts if the store didn't keep all its trees. Allocates the replies, and what the edits
-/// allocate.
+/// allocate; drops the store at the end.
 ///
-/// Let the commands insert no tree and set no root but the empty one, and let `out` return one id for each
-/// tree. Then the result is whether the files of both writes are equal at every depth.
+/// Let the commands insert no tree and set no root but the empty one, and let no emitted tree have two ids.
+/// Then the result is whether the files of both writes are equal at every depth. This assumes a table that
+/// agrees with the run, so that no id names two trees.
+///
+/// `out` must be callable on every well-formed tree without null ids.
 ///
 /// # Errors
 ///
-/// - [`CompareError::NoWrite`] with the index, if its command isn't a successful write of the root;
-/// - [`CompareError::OutOfMemory`] if allocation of the replies fails.
+/// - [`CompareError::NoWrite`] with the first of the two indices whose command is missing, or isn't a
+///   successful write of the root;
+/// - [`CompareError::OutOfMemory`] if allocation of the list of replies fails.
 pub fn wrote_the_same<S: Keep + Drop, E: Drop, F: Fn(&Tree) -> Result<ObjectId, E> + Drop>(
     alloc: Global,
     store: S,

@@ -18,11 +18,13 @@ use gix_object::{Commit, CommitRefIter, Kind, TagRefIter, WriteTo, decode, encod
 use std::alloc::Global;
 use std::borrow::CowSlice;
 
-/// Signs a commit, and returns its encoding with the new signature.
+/// Signs a commit, and returns its encoding with the new signature (git-commit, `-S`).
+///
+/// Allocates the signed commit and its encoding.
 ///
 /// # Errors
 ///
-/// [`sign::Error`] if the commit isn't signed; `Encode` also if the signed commit can't be encoded.
+/// [`sign::Error`] if the commit isn't signed; `Encode` also if the signed commit isn't encoded.
 pub fn signed_payload<R: Runner>(
     alloc: Global,
     commit: Commit,
@@ -78,8 +80,10 @@ pub enum AuditError {
 /// # Errors
 ///
 /// - [`AuditError::NoRelease`] if the object is neither a commit nor a tag;
-/// - [`AuditError::Read`] if a line before the signature is malformed, or allocation fails;
-/// - [`AuditError::Verify`] if the signature isn't verified.
+/// - [`AuditError::Read`] if a line before the signature of a commit is malformed, or allocation fails;
+/// - [`AuditError::Verify`] with the error of the verification, if the signature isn't verified.
+///
+/// No program is called for the first two, nor for an unsigned object.
 pub fn audit<R: Runner>(
     alloc: Global,
     kind: Kind,

@@ -17,7 +17,9 @@ use gix_object::laws::{parts_append_to_body, readers_yield_all};
 use gix_object::{CommitRef, OutOfMemory};
 use std::alloc::Global;
 
-/// Decodes a commit, and returns the trailers that sign it off, in order.
+/// Decodes a commit, and returns the trailers that sign it off, in order (git-interpret-trailers).
+///
+/// Allocates the decoded commit, the list, and the values of trailers of several lines.
 ///
 /// # Errors
 ///
@@ -37,7 +39,9 @@ pub fn signers_of<'a>(
     Ok(signers)
 }
 
-/// Returns the trailers of a commit's message that sign it off, in order. Allocates the list.
+/// Returns the trailers of a commit's message that sign it off, in order.
+///
+/// Allocates the list, and the values of trailers of several lines.
 ///
 /// # Errors
 ///
@@ -57,7 +61,8 @@ pub fn sign_offs_of<'a>(
     Ok(found)
 }
 
-/// Returns the last trailer of a commit's message. Allocates nothing if each trailer is of one line.
+/// Returns the last trailer of a commit's message, or `None` if it has none. Allocates nothing if each
+/// trailer is of one line.
 ///
 /// # Errors
 ///
@@ -79,6 +84,7 @@ pub fn last_trailer_of<'a>(
 }
 
 /// Returns the messages of a body, each with the trailers that follow it. Their concatenation is the body.
+/// Allocates the list.
 ///
 /// # Errors
 ///

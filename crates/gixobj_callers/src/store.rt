@@ -33,7 +33,10 @@ pub enum CopyError {
     Write(encode::Error),
 }
 
-/// Decodes a commit and encodes it. The result equals the bytes if their ids are in lower case.
+/// Decodes a commit and encodes it. The result equals the bytes if the ids of the tree and the parents are in
+/// lower case.
+///
+/// Allocates the decoded commit and the encoding.
 ///
 /// # Errors
 ///
@@ -61,6 +64,8 @@ pub fn copy_of(alloc: Global, bytes: &[u8], kind: Kind) -> Result<Vec<u8>, CopyE
 }
 
 /// Decodes a tree and encodes it. The result equals the bytes if each mode is in canonical form.
+///
+/// Allocates the entries and the encoding.
 ///
 /// # Errors
 ///
@@ -100,13 +105,16 @@ pub enum TakeError {
     Verify(verify::Error),
 }
 
-/// Decodes the loose object with this id, of any kind, and returns its encoding, which has the id.
+/// Decodes the loose object with this id, of any kind, and returns its encoding, which has the id
+/// (gitformat-loose, "Loose object format").
+///
+/// Allocates the decoded object and the encoding.
 ///
 /// # Errors
 ///
-/// - [`TakeError::Read`] if the bytes aren't a loose object;
-/// - [`TakeError::Write`] if the object isn't encoded;
-/// - [`TakeError::Verify`] if the encoding has another id.
+/// - [`TakeError::Read`] with the error of decoding, if the bytes aren't a loose object, or allocation fails;
+/// - [`TakeError::Write`] with the error of the encoding, if a part is invalid, or allocation fails;
+/// - [`TakeError::Verify`] with both ids, if the encoding has another id.
 pub fn taken_over(alloc: Global, loose: &[u8], id: oid<'_>) -> Result<Vec<u8>, TakeError>
     ensures object { IfOk result (λ copy. (object : ObjectRef)
         × IsLooseObject (id_kind (borrowed_id id.entry)) loose.now object

@@ -17,17 +17,21 @@ use gix_object::tree::editor::{Editor, WriteError};
 pub struct Upload {
     /// The id of the root.
     pub id: ObjectId,
-    /// The trees, each with its id: those in a directory before the directory, and the root's own last.
+    /// The trees, each with its id: those in a directory before the directory, and that of the root last.
     pub trees: Vec<(ObjectId, Tree)>,
-    /// The number of open directories below the root that have entries and aren't uploaded: their trees are
-    /// as they were opened. It saturates at `usize::MAX`.
+    /// The number of open directories below the root that aren't uploaded, since their written trees have
+    /// entries and are as they were opened. It saturates at `usize::MAX`.
     pub unchanged: usize,
 }
 
 /// Writes the files of an editor, and returns what to upload for them. `out` returns the id of each emitted
 /// tree.
 ///
-/// The editor still has these files, and its root alone is open then. Allocates for the emitted trees.
+/// The editor still has these files, and its root alone is open then. With what is uploaded, the returned id
+/// names these files, and no tree is missing unless the editor's files lack one. Allocates for the emitted
+/// trees.
+///
+/// `out` must be callable on every well-formed tree without null ids, whatever it was called on before.
 ///
 /// # Errors
 ///

@@ -13,11 +13,11 @@ use gix_object::laws::readers::{id_search_complete, message_search_complete};
 use gix_object::{CommitRefIter, OutOfMemory};
 use std::alloc::Global;
 
-/// Returns the id of a commit's tree.
+/// Returns the id of a commit's tree without decoding the rest. Allocates nothing.
 ///
 /// # Errors
 ///
-/// [`Error`] only if the bytes aren't the encoding of a commit.
+/// [`Error`] only if the bytes aren't the encoding of a commit. Such bytes may also have a result.
 pub fn tree_of(alloc: Global, bytes: &[u8], kind: Kind) -> Result<ObjectId, Error>
     ensures tree { IfOk result (λ id. (commit : CommitLines) → DecodesToCommit kind bytes.now commit
         → DecodesToId commit.tree id) }
@@ -28,6 +28,8 @@ pub fn tree_of(alloc: Global, bytes: &[u8], kind: Kind) -> Result<ObjectId, Erro
 }
 
 /// Returns the ids of a commit's parents, in order. Allocates the list.
+///
+/// For bytes that aren't the encoding of a commit, the result is unspecified.
 ///
 /// # Errors
 ///
@@ -43,11 +45,12 @@ pub fn parents_of(alloc: Global, bytes: &[u8], kind: Kind) -> Result<Vec<ObjectI
     Ok(ids)
 }
 
-/// Returns the message of a commit.
+/// Returns the message of a commit. Headers of several lines allocate their values.
 ///
 /// # Errors
 ///
-/// [`Error`]: for the encoding of a commit only [`Error::OutOfMemory`].
+/// - [`Error::OutOfMemory`] if allocation fails.
+/// - [`Error::Malformed`] only if the bytes aren't the encoding of a commit.
 pub fn message_of<'a>(alloc: Global, bytes: &'a [u8], kind: Kind) -> Result<BStr<'a>, Error>
     ensures message { IfOk result (λ message. (commit : CommitLines)
         → DecodesToCommit kind bytes.now commit → bstr_bytes message ≡ commit.message) }
