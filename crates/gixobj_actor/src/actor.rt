@@ -169,7 +169,7 @@ impl SignatureRef<'_> {
     ///   then.
     /// - [`Error::Writer`] with the error of the writer. A proper prefix of the encoding is written then.
     pub fn write_to<W: Write>(&self, out: &mut W) -> Result<(), Error>
-        ensures ok { OnOk result (IsLegalActor (bstr_bytes self.now.name)
+        ensures written { OnOk result (IsLegalActor (bstr_bytes self.now.name)
             (bstr_bytes self.now.email) × Appends (W.contents out.old) (W.contents out.new)
             (encode_borrowed_actor self.now)) }
         ensures error { IfErr result (IsActorError (bstr_bytes self.now.name)
@@ -188,7 +188,7 @@ impl SignatureRef<'_> {
     ///   unchanged.
     /// - [`Error::Writer`] with the error of the sink. A proper prefix of the encoding is appended then.
     pub fn write_into<S: Sink>(&self, sink: &mut S) -> Result<(), Error>
-        ensures ok { OnOk result (IsLegalActor (bstr_bytes self.now.name)
+        ensures written { OnOk result (IsLegalActor (bstr_bytes self.now.name)
             (bstr_bytes self.now.email) × AppendsAll (S.view sink.old) (S.view sink.new)
             (encode_borrowed_actor self.now)) }
         ensures error { IfErr result (IsActorError (bstr_bytes self.now.name)
@@ -238,7 +238,7 @@ impl Signature {
     ///   then.
     /// - [`Error::Writer`] with the error of the writer. A proper prefix of the encoding is written then.
     pub fn write_to<W: Write>(&self, out: &mut W) -> Result<(), Error>
-        ensures ok { OnOk result (IsLegalActor (bstring_bytes self.now.name)
+        ensures written { OnOk result (IsLegalActor (bstring_bytes self.now.name)
             (bstring_bytes self.now.email)
             × Appends (W.contents out.old) (W.contents out.new) (encode_owned_actor self.now)) }
         ensures error { IfErr result (IsActorError (bstring_bytes self.now.name)
@@ -258,7 +258,7 @@ impl Signature {
     ///   unchanged.
     /// - [`Error::Writer`] with the error of the sink. A proper prefix of the encoding is appended then.
     pub fn write_into<S: Sink>(&self, sink: &mut S) -> Result<(), Error>
-        ensures ok { OnOk result (IsLegalActor (bstring_bytes self.now.name)
+        ensures written { OnOk result (IsLegalActor (bstring_bytes self.now.name)
             (bstring_bytes self.now.email)
             × AppendsAll (S.view sink.old) (S.view sink.new) (encode_owned_actor self.now)) }
         ensures error { IfErr result (IsActorError (bstring_bytes self.now.name)
@@ -273,7 +273,7 @@ impl Signature {
     /// The bytes after the email are appended in one call.
     pub(crate) fn write_with<S: Sink>(&self, terminator: &[u8], sink: &mut S) -> Result<(), Error>
         requires bounded { length terminator.now ≤ 1 }
-        ensures ok { OnOk result (IsLegal self.now
+        ensures written { OnOk result (IsLegal self.now
             × AppendsAll (S.view sink.old) (S.view sink.new) (encode_owned_actor self.now ++ terminator.now)) }
         ensures error { IfErr result (IsActorError (bstring_bytes self.now.name)
             (bstring_bytes self.now.email) (sink.new ≡ sink.old)

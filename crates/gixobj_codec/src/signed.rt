@@ -45,7 +45,7 @@ pub fn commit_payloads_are_signed()
     ensures found { (kind : Kind) (commit : CommitLines) (bytes : List ℕ) → HasHeaderNames commit
         → HasLineFields commit → ¬ HasNoSignature kind
         (encode_commit (with_signature kind bytes commit)) }
-    ensures no_fault { (kind : Kind) (content : List ℕ) (read : CommitLines)
+    ensures no_error { (kind : Kind) (content : List ℕ) (read : CommitLines)
         → DecodesToCommit kind content read → ¬ IsCommitSignatureError kind content Malformed }
 {}
 

@@ -125,7 +125,7 @@ pub fn compute_source_hash<S: Source>(
 /// - [`Error::Io`] if the reader fails.
 /// - [`Error::UnexpectedEof`] if the reader ends before `len` bytes.
 pub fn skip_stream<R: Read>(stream: &mut R, len: u64) -> Result<(), Error>
-    ensures read { OnOk result (SkipsExactly (R.remaining stream.old) (R.remaining stream.new)
+    ensures remaining { OnOk result (SkipsExactly (R.remaining stream.old) (R.remaining stream.new)
         len) }
     ensures error { IfErr result (IsStreamError ⊤ (R.remaining stream.old)
         (R.remaining stream.new) len) }
@@ -140,7 +140,7 @@ pub fn skip_stream<R: Read>(stream: &mut R, len: u64) -> Result<(), Error>
 /// - [`Error::Io`] if the source fails. Its `may_fail` then holds.
 /// - [`Error::UnexpectedEof`] if the source ends before `len` bytes.
 pub fn skip_source<S: Source>(source: &mut S, len: u64) -> Result<(), Error>
-    ensures read { OnOk result (SkipsExactly (S.rest source.old) (S.rest source.new) len) }
+    ensures remaining { OnOk result (SkipsExactly (S.rest source.old) (S.rest source.new) len) }
     ensures error { IfErr result (IsStreamError (S.may_fail source.old) (S.rest source.old)
         (S.rest source.new) len) }
     ensures stays_valid { S.may_fail source.new → S.may_fail source.old }
@@ -157,7 +157,7 @@ pub fn skip_source<S: Source>(source: &mut S, len: u64) -> Result<(), Error>
 
 /// Appends the next `len` bytes of a source to the message that is hashed.
 fn update_from<S: Source>(hasher: &mut Hasher, source: &mut S, len: u64) -> Result<(), Error>
-    ensures read { OnOk result ((content : List ℕ)
+    ensures content { OnOk result ((content : List ℕ)
         × ReadsExactly (S.rest source.old) (S.rest source.new) len content
         × AddsBytes hasher.old hasher.new content) }
     ensures error { IfErr result (IsStreamError (S.may_fail source.old) (S.rest source.old)

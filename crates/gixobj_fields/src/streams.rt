@@ -34,7 +34,7 @@ pub trait Source {
     fn read_some(&mut self, buffer: &mut [u8]) -> io::Result<usize>
         ensures bound { ReadsAtMost result buffer.new }
         ensures bytes { ReadConsumes (rest self.old) (rest self.new) result buffer.new }
-        ensures err { OnErr result (may_fail self.old) }
+        ensures error { OnErr result (may_fail self.old) }
         ensures stays_valid { may_fail self.new → may_fail self.old }
         ensures same_loan { loan self.new ≡ loan self.old };
 }

@@ -122,7 +122,7 @@ impl FindHeader for Memory {
     fn try_header(&self, id: oid<'_>) -> Result<Option<Header>, find::Error>
         ensures found { IfOk result (IsHeaderFound (memory_objects self.now)
             (borrowed_id id.entry)) }
-        ensures succeeds { IsOk result }
+        ensures no_error { IsOk result }
     {
         let Some(stored) = self.objects.get(&id.to_owned()) else {
             return Ok(None);

@@ -20,7 +20,7 @@ pub fn loose_header_round_trips()
 /// The encoded hex of an id is in lower case, and it decodes to the same id.
 pub fn hex_round_trips()
     ensures lower_case { (id : ObjectId) → IsId id → AllPass is_lower_hex_digit (encode_id_hex id) }
-    ensures read { (id : ObjectId) → IsId id → IsIdHex (encode_id_hex id) }
+    ensures is_hex { (id : ObjectId) → IsId id → IsIdHex (encode_id_hex id) }
     ensures same_id { (id : ObjectId) → IsId id → DecodesToId (encode_id_hex id) id }
 {}
 

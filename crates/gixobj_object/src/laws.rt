@@ -24,7 +24,7 @@ ghost use Rattle.gixobj_object.specs.declared.tree.TreeRefIter.{TreeRefIter};
 pub fn tree_readers_agree()
     ensures yields { (kind : Kind) (bytes : List ℕ) (entries : List EntryView)
         → DecodesToTree kind bytes entries → YieldsEntries kind bytes entries complete }
-    ensures read { (kind : Kind) (bytes : List ℕ) (entries : List EntryView)
+    ensures decodes { (kind : Kind) (bytes : List ℕ) (entries : List EntryView)
         → YieldsEntries kind bytes entries complete → DecodesToTree kind bytes entries }
     ensures before_an_error { (kind : Kind) (bytes : List ℕ) (entries : List EntryView)
         → YieldsEntries kind bytes entries broken → IsLongestPrefix kind bytes entries }
@@ -74,10 +74,10 @@ pub fn remaining_bytes_are_suffix()
 /// So after a list is inserted from its last object to its first, an id names the first object listed with
 /// it.
 pub fn object_map_insert()
-    ensures nothing { (id : ObjectId) → named finite.empty id ≡ None }
-    ensures there { (objects : Objects) (id : ObjectId) (it : StoredObject)
+    ensures empty { (id : ObjectId) → named finite.empty id ≡ None }
+    ensures inserted { (objects : Objects) (id : ObjectId) (it : StoredObject)
         → named (finite.insert objects id it) id ≡ Some it }
-    ensures elsewhere { (objects : Objects) (id other : ObjectId) (it : StoredObject) → other ≢ id
+    ensures unchanged { (objects : Objects) (id other : ObjectId) (it : StoredObject) → other ≢ id
         → named (finite.insert objects id it) other ≡ named objects other }
 {}
 

@@ -44,8 +44,8 @@ impl From<Error> for encode::Error {
 /// - [`Error::StartsWithDash`] if a name without such a fault begins with `-`. A command would parse it as an
 ///   option.
 pub fn validated_name(name: BStr<'_>) -> Result<BStr<'_>, Error>
-    ensures accepted { IsOk result ↔ IsTagName (bstr_bytes name.entry) }
-    ensures same { IfOk result (λ it. bstr_bytes it ≡ bstr_bytes name.entry) }
+    ensures accepts { IsOk result ↔ IsTagName (bstr_bytes name.entry) }
+    ensures name { IfOk result (λ it. bstr_bytes it ≡ bstr_bytes name.entry) }
     ensures error { IfErr result (IsTagNameError (bstr_bytes name.entry)) }
 {
     let bytes = name.as_bytes();

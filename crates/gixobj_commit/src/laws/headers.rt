@@ -56,7 +56,7 @@ pub fn borrowed_mergetag_search_complete()
     ensures yielded { (tags after : Mergetags BorrowedHeaders) (passed : List (Result TagRef Error))
         → YieldsThen (NextMergetag (YieldsFirstBy pair_of remaining_headers)) tags passed None after
         → AllZip (IsTagOf (mergetag_kind tags)) (remaining_mergetags remaining_headers tags) passed }
-    ensures listed { (tags : Mergetags BorrowedHeaders) (read : List (Option TagLines))
+    ensures tags { (tags : Mergetags BorrowedHeaders) (read : List (Option TagLines))
         → AllZip (IsTagOrNone (mergetag_kind tags)) (remaining_mergetags remaining_headers tags) read
         → YieldsList (NextMergetag (YieldsFirstBy pair_of remaining_headers)) tag_if_ok tags read }
 {}
@@ -70,7 +70,7 @@ pub fn owned_mergetag_search_complete()
         → YieldsThen (NextMergetag (YieldsFirstBy pair_of remaining_owned_headers)) tags passed None
         after → AllZip (IsTagOf (mergetag_kind tags)) (remaining_mergetags remaining_owned_headers tags)
         passed }
-    ensures listed { (tags : Mergetags OwnedHeaders) (read : List (Option TagLines))
+    ensures tags { (tags : Mergetags OwnedHeaders) (read : List (Option TagLines))
         → AllZip (IsTagOrNone (mergetag_kind tags)) (remaining_mergetags remaining_owned_headers tags) read
         → YieldsList (NextMergetag (YieldsFirstBy pair_of remaining_owned_headers)) tag_if_ok tags
         read }

@@ -56,7 +56,7 @@ impl ObjectId {
     /// Returns the null id, whose bytes are all zero. It names no object.
     pub fn null(kind: Kind) -> ObjectId
         ensures value { result ≡ null_id kind }
-        ensures null { IsNull result }
+        ensures is_null { IsNull result }
     {
         match kind {
             Kind::Sha1 => ObjectId::Sha1([0; 20]),

@@ -31,7 +31,7 @@ pub fn commit_readers_agree()
         → DecodesToCommit kind content commit → (tokens : List CommitTokenView)
         × YieldsCommitTokens kind state.Tree content tokens complete × AreTokensOfCommit commit tokens
         × EndsInMessage tokens }
-    ensures read { (kind : Kind) (content : List ℕ) (tokens : List CommitTokenView)
+    ensures decodes { (kind : Kind) (content : List ℕ) (tokens : List CommitTokenView)
         → YieldsCommitTokens kind state.Tree content tokens complete → EndsInMessage tokens
         → (commit : CommitLines) × DecodesToCommit kind content commit × AreTokensOfCommit commit tokens }
 {}

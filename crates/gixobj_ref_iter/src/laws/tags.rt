@@ -62,7 +62,7 @@ pub fn tag_readers_agree()
     ensures yields { (kind : Kind) (bytes : List ℕ) (tag : TagLines) → DecodesToTag kind bytes tag
         → (tokens : List TagTokenView) × YieldsTagTokens kind state.Target bytes tokens complete
         × AreTokensOfTag tag tokens × IsAfterName tokens }
-    ensures read { (kind : Kind) (bytes : List ℕ) (tokens : List TagTokenView)
+    ensures decodes { (kind : Kind) (bytes : List ℕ) (tokens : List TagTokenView)
         → YieldsTagTokens kind state.Target bytes tokens complete → IsAfterName tokens → (tag : TagLines)
         × DecodesToTag kind bytes tag × AreTokensOfTag tag tokens }
 {}

@@ -8,5 +8,5 @@ returns-clause-payload c kind commit bytes value signed named fields has = paylo
 pub returns-clause-found : goal.returns-clause-found
 returns-clause-found c = signature_is_there
 
-pub returns-clause-no_fault : goal.returns-clause-no_fault
-returns-clause-no_fault c = no_signature_error_of_decoded
+pub returns-clause-no_error : goal.returns-clause-no_error
+returns-clause-no_error c = no_signature_error_of_decoded

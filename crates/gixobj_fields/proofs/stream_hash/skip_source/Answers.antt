@@ -23,5 +23,5 @@ returns-in_err-count-clause-error g c =
     rw (p.1, p.2) (skipping_error_is_stream_error _ _ _ _ _ _ _ _ c.loop-missing.invariant.skipping c.loop-missing.invariant.lasting
     (c.in_err-count.ensures).error)
 
-pub returns-clause-read : goal.returns-clause-read
-returns-clause-read g c = skipping_complete _ _ _ _ c.loop-missing.invariant.skipping c.loop-missing-test.false
+pub returns-clause-remaining : goal.returns-clause-remaining
+returns-clause-remaining g c = skipping_complete _ _ _ _ c.loop-missing.invariant.skipping c.loop-missing-test.false

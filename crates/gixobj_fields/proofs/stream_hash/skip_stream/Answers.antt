@@ -1,5 +1,5 @@
 use Rattle.std.proofs.Common.{rules}
 use Rattle.gixobj_fields.proofs.stream_hash.skip_stream.Goals as goal
 
-pub returns-clause-read : goal.returns-clause-read
-returns-clause-read g c = search rules
+pub returns-clause-remaining : goal.returns-clause-remaining
+returns-clause-remaining g c = search rules

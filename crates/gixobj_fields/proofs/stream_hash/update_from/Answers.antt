@@ -23,5 +23,5 @@ returns-in_err-count-clause-error g c =
     rw (p.1, p.2) (stream_error_after_piece _ _ _ _ _ _ _ _ _ _ c.loop-missing.invariant.digesting c.loop-missing.invariant.lasting
     (c.in_err-count.ensures).error)
 
-pub returns-clause-read : goal.returns-clause-read
-returns-clause-read g c = digesting_complete _ _ _ _ _ _ c.loop-missing.invariant.digesting c.loop-missing-test.false
+pub returns-clause-content : goal.returns-clause-content
+returns-clause-content g c = digesting_complete _ _ _ _ _ _ c.loop-missing.invariant.digesting c.loop-missing-test.false

@@ -81,7 +81,7 @@ impl Write for Never {
         from: &mut R,
     ) -> Result<ObjectId, Error>
         ensures answer { AnswersId kind size (R.remaining from.old) result }
-        ensures read { IfOk result (ReadsObject Sha1 kind (R.remaining from.old)
+        ensures remaining { IfOk result (ReadsObject Sha1 kind (R.remaining from.old)
             (R.remaining from.new) size) }
         ensures error { IfErr result (IsReadError (R.remaining from.old) (R.remaining from.new)
             size) }
@@ -105,7 +105,7 @@ impl Write for Never {
     ) -> Result<ObjectId, Error>
         ensures answer { AnswersKnownId known kind size (R.remaining from.old) result }
         ensures id { IfOk result (λ it. it ≡ known) }
-        ensures read { IfOk result (λ _.
+        ensures remaining { IfOk result (λ _.
             SkipsExactly (R.remaining from.old) (R.remaining from.new) size) }
         ensures error { IfErr result (IsReadError (R.remaining from.old) (R.remaining from.new)
             size) }

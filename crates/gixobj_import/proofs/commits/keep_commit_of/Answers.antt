@@ -19,7 +19,7 @@ returns-in-Ok-keep_commit-clause-stored g c =
       author = c.names_actor.ensures;
       committer = c.names_actor-2.ensures;
       id = c.compute_hash-commit.ensures ∙ ap (λ (bytes : List ℕ). id_of c.args.hash Commit bytes) (c.deref.ensures.value ∙ c.in-Ok.ensures.encoded);
-      hex = have_hex_of_id c.args.hash commit c.hex_round_trips.ensures.read c.hex_round_trips.ensures.same_id c.is_an_id.ensures
+      hex = have_hex_of_id c.args.hash commit c.hex_round_trips.ensures.is_hex c.hex_round_trips.ensures.same_id c.is_an_id.ensures
           (digest_id_kind c.args.hash Commit c.deref.result.now commit c.compute_hash-commit.ensures);
       decodes = λ hex. encode_step_decodes c.args.hash c.args.step.now c.args.tree c.args.parent c.names_actor.ensures c.names_actor-2.ensures hex;
       rest = refl;

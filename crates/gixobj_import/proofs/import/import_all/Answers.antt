@@ -34,8 +34,8 @@ returns-in-Err g c =
     let laws : OfStores = record {
       trees_of = c.store_has_tree_map.ensures;
       inserted = record {
-        there = c.object_map_insert.ensures.there;
-        elsewhere = c.object_map_insert.ensures.elsewhere;
+        there = c.object_map_insert.ensures.inserted;
+        elsewhere = c.object_map_insert.ensures.unchanged;
         same_or_not = c.id_equality_is_decidable.ensures;
       };
     } in
@@ -60,8 +60,8 @@ returns-in-Err-step g c =
     let laws : OfStores = record {
       trees_of = c.store_has_tree_map.ensures;
       inserted = record {
-        there = c.object_map_insert.ensures.there;
-        elsewhere = c.object_map_insert.ensures.elsewhere;
+        there = c.object_map_insert.ensures.inserted;
+        elsewhere = c.object_map_insert.ensures.unchanged;
         same_or_not = c.id_equality_is_decidable.ensures;
       };
     } in
@@ -86,8 +86,8 @@ returns g c =
     let laws : OfStores = record {
       trees_of = c.store_has_tree_map.ensures;
       inserted = record {
-        there = c.object_map_insert.ensures.there;
-        elsewhere = c.object_map_insert.ensures.elsewhere;
+        there = c.object_map_insert.ensures.inserted;
+        elsewhere = c.object_map_insert.ensures.unchanged;
         same_or_not = c.id_equality_is_decidable.ensures;
       };
     } in

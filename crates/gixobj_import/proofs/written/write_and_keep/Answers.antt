@@ -14,7 +14,7 @@ returns-in-Ok-keep_all-clause-written g c =
 
 pub returns-in-Ok-keep_all-clause-root : goal.returns-in-Ok-keep_all-clause-root
 returns-in-Ok-keep_all-clause-root g c =
-    have_hex_of_id c.args.hash c.in-Ok.written.id c.hex_round_trips.ensures.read c.hex_round_trips.ensures.same_id c.is_an_id.ensures
+    have_hex_of_id c.args.hash c.in-Ok.written.id c.hex_round_trips.ensures.is_hex c.hex_round_trips.ensures.same_id c.is_an_id.ensures
     (written_root_id_kind c.args.hash c.args.editor.now c.write_by_digests.new.editor c.in-Ok.written (c.in-Ok.ensures {u = tt}).written)
 
 pub returns-in-Err-keep_all-clause-error : goal.returns-in-Err-keep_all-clause-error

@@ -5,8 +5,8 @@ use Rattle.gixobj_tree.proofs.EntryRuns as runs
 pub returns-clause-yields : goal.returns-clause-yields
 returns-clause-yields c = runs.yields_entries_iff
 
-pub returns-clause-read : goal.returns-clause-read
-returns-clause-read c = runs.decodes_to_tree_of_run
+pub returns-clause-decodes : goal.returns-clause-decodes
+returns-clause-decodes c = runs.decodes_to_tree_of_run
 
 pub returns-clause-before_an_error : goal.returns-clause-before_an_error
 returns-clause-before_an_error c = is_longest_prefix_of_walk

@@ -5,5 +5,5 @@ use Rattle.gixobj_commit.proofs.laws.headers.owned_mergetag_search_complete.Goal
 pub returns-clause-yielded : goal.returns-clause-yielded
 returns-clause-yielded c = all_passed remaining_owned_headers
 
-pub returns-clause-listed : goal.returns-clause-listed
-returns-clause-listed c = all_listed remaining_owned_headers
+pub returns-clause-tags : goal.returns-clause-tags
+returns-clause-tags c = all_listed remaining_owned_headers

@@ -53,8 +53,8 @@ returns-in-Err g c =
     let laws : OfStores = record {
       trees_of = c.store_has_tree_map.ensures;
       inserted = record {
-        there = c.object_map_insert.ensures.there;
-        elsewhere = c.object_map_insert.ensures.elsewhere;
+        there = c.object_map_insert.ensures.inserted;
+        elsewhere = c.object_map_insert.ensures.unchanged;
         same_or_not = c.id_equality_is_decidable.ensures;
       };
     } in
@@ -76,8 +76,8 @@ returns-in-Err-kept g c =
     let laws : OfStores = record {
       trees_of = c.store_has_tree_map.ensures;
       inserted = record {
-        there = c.object_map_insert.ensures.there;
-        elsewhere = c.object_map_insert.ensures.elsewhere;
+        there = c.object_map_insert.ensures.inserted;
+        elsewhere = c.object_map_insert.ensures.unchanged;
         same_or_not = c.id_equality_is_decidable.ensures;
       };
     } in
@@ -110,8 +110,8 @@ returns g c =
     let laws : OfStores = record {
       trees_of = c.store_has_tree_map.ensures;
       inserted = record {
-        there = c.object_map_insert.ensures.there;
-        elsewhere = c.object_map_insert.ensures.elsewhere;
+        there = c.object_map_insert.ensures.inserted;
+        elsewhere = c.object_map_insert.ensures.unchanged;
         same_or_not = c.id_equality_is_decidable.ensures;
       };
     } in

@@ -4,5 +4,5 @@ use Rattle.gixobj_ref_iter.proofs.laws.readers.commit_readers_agree.Goals as goa
 pub returns-clause-yields : goal.returns-clause-yields
 returns-clause-yields c = yields_tokens_of_commit
 
-pub returns-clause-read : goal.returns-clause-read
-returns-clause-read c = commit_of_tokens_exists
+pub returns-clause-decodes : goal.returns-clause-decodes
+returns-clause-decodes c = commit_of_tokens_exists
