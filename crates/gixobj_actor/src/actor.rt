@@ -399,7 +399,7 @@ fn without_gap(content: &[u8]) -> &[u8]
 /// Splits the longest prefix of time bytes from the rest.
 fn split_time(content: &[u8]) -> (&[u8], &[u8])
     ensures joined { content.now ≡ result.0.now ++ result.1.now }
-    ensures timed { AllPass is_time_byte_of result.0.now }
+    ensures time { AllPass is_time_byte_of result.0.now }
     ensures ends { EndsTime result.1.now }
 {
     let len = content

@@ -92,7 +92,7 @@ impl Time {
     #[inline(always)]
     #[tactic(auto, using(crate::proofs::TimeSizes::encode_time_len))]
     pub(crate) fn encoded_len(&self) -> u64
-        ensures is { result ≡ length (encode_time self.now.seconds self.now.offset) }
+        ensures len { result ≡ length (encode_time self.now.seconds self.now.offset) }
         ensures bounded { result ≤ 27 }
     {
         u64::from(self.seconds < 0) + digit_count(self.seconds.unsigned_abs()) + OFFSET_LEN
@@ -137,7 +137,7 @@ const OFFSET_LEN: u64 = 6;
 #[inline(always)]
 #[tactic(auto, using(crate::proofs::TimeSizes::decimal_len_ten))]
 fn digit_count(number: u64) -> u64
-    ensures is { result ≡ length (decimal number) }
+    ensures len { result ≡ length (decimal number) }
     ensures bounded { result ≤ 20 }
 {
     if 1_000_000_000 <= number && number < 10_000_000_000 {
@@ -150,7 +150,7 @@ fn digit_count(number: u64) -> u64
 /// Returns the number of digits, counted one by one.
 #[tactic(auto, using(crate::proofs::TimeSizes::decimal_len_one, crate::proofs::TimeSizes::decimal_len_succ, crate::proofs::TimeSizes::decimal_len_le_twenty))]
 fn digits_counted(number: u64) -> u64
-    ensures is { result ≡ length (decimal number) }
+    ensures len { result ≡ length (decimal number) }
     ensures bounded { result ≤ 20 }
 {
     let mut count = 1;
@@ -181,7 +181,7 @@ fn seconds_from_bytes(input: &[u8]) -> Option<i64>
 
 /// Returns whether the bytes begin with a minus, and the bytes after it.
 fn split_minus(input: &[u8]) -> (bool, &[u8])
-    ensures minus { result.0 ≡ starts_with_minus input.now }
+    ensures sign { result.0 ≡ starts_with_minus input.now }
     ensures digits { result.1.now ≡ seconds_digits input.now }
 {
     match input {

@@ -28,7 +28,7 @@ pub fn trusted_header_signature<S: Sink>(
 ) -> Result<(), Error>
     ensures written { OnOk result (AppendsAll (S.view sink.old) (S.view sink.new)
         (encode_field name.now (encode_owned_actor actor.now))) }
-    ensures legal { OnOk result (IsLegal actor.now) }
+    ensures encodable { OnOk result (IsLegal actor.now) }
     ensures error { IfErr result (IsWritingError (IsActorFieldError name.now actor.now)
         (S.view sink.old) (S.view sink.new) (encode_field name.now (encode_owned_actor actor.now))) }
     ensures same_loan { S.loan sink.new ≡ S.loan sink.old }

@@ -73,7 +73,7 @@ pub fn with_entries_at<S: Find + Drop, E: Drop, F: FnMut(&Tree) -> Result<Object
         (Files T n root)))) }
     // The directory is filled, and then the write succeeds; or the error reports which of them failed, and
     // why.
-    ensures done { IfOk result (IsCheckedOut (store_model S.objects S.may_fail)
+    ensures written { IfOk result (IsCheckedOut (store_model S.objects S.may_fail)
         (started store object_hash root) (cursor_path (names_of prefix.now)) entries.now
         (answered F.FnMut) out) }
     ensures error { IfErr result (IsCheckoutError (store_model S.objects S.may_fail)
@@ -96,7 +96,7 @@ fn insert_entries_at<S: Find>(
     prefix: &[BString],
     entries: &[Planned],
 ) -> Result<(), Error>
-    ensures filled { OnOk result (IsFilled (store_model S.objects S.may_fail) editor.old
+    ensures inserted { OnOk result (IsFilled (store_model S.objects S.may_fail) editor.old
         (cursor_path (names_of prefix.now)) entries.now editor.new) }
     ensures error { IfErr result (IsNotFilled (store_model S.objects S.may_fail) editor.old
         (cursor_path (names_of prefix.now)) entries.now) }

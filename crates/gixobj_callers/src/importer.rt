@@ -110,10 +110,10 @@ pub fn import_files<S: Keep, E: Drop, F: Fn(&Tree) -> Result<ObjectId, E> + Drop
     ensures stored { IfOk result (λ written. S.objects editor.new.store
         ≡ with_trees written.trees.items (S.objects editor.old.store)) }
     // Each edit succeeds, and then the write; or the error reports which call failed, and why.
-    ensures done { IfOk result (λ written.
+    ensures written { IfOk result (λ written.
         HasWriteReply (store_model S.objects S.may_fail) (FnReturnsAt F.Fn out) editor.old edits.items
         (EditReply.Written written) editor.new) }
-    ensures fails { IfErr result (λ error.
+    ensures error { IfErr result (λ error.
         FailsImport (store_model S.objects S.may_fail) (FnReturnsAt F.Fn out) editor.old edits.items
         error editor.new) }
     ensures holds_write { (result ≡ Err ImportError.HoldsWrite) ↔ Contains edits.items Edit.Write }

@@ -53,7 +53,7 @@ pub fn is_tree(content: &[u8], kind: Kind) -> bool
 ///
 /// If each entry round-trips, the call fails only for memory.
 pub fn read_back(alloc: Global, tree: &Tree, kind: Kind) -> Result<Tree, CopyError>
-    ensures same { IfOk result (λ back. All (RoundTrips kind) tree.now → back ≡ tree.now) }
+    ensures unchanged { IfOk result (λ back. All (RoundTrips kind) tree.now → back ≡ tree.now) }
     ensures has_capacity { IfErr result (λ error. All (RoundTrips kind) tree.now → FailsForRoom error) }
 {
     tree_decodes_uniquely();
@@ -163,7 +163,7 @@ pub fn with_entry_in_stored<S: Find + Drop, E: Drop, F: FnMut(&Tree) -> Result<O
         (Upserted T n (names_of path.now) (mode_of_kind kind) id (NamedFiles T n root)))) }
     // The root is found, the edit succeeds, and then the write; or the error reports which of them failed,
     // and why.
-    ensures done { IfOk result (IsPlanned (store_model S.objects S.may_fail) store root
+    ensures written { IfOk result (IsPlanned (store_model S.objects S.may_fail) store root
         (names_of path.now) (mode_of_kind kind) id (answered F.FnMut) out) }
     ensures error { IfErr result (IsPlanError (store_model S.objects S.may_fail) store root
         (names_of path.now) (mode_of_kind kind) id (answered F.FnMut) (denied F.FnMut) out) }

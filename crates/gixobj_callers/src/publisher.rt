@@ -28,7 +28,7 @@ use std::alloc::Global;
 /// - [`CopyError::Read`] if the bytes are malformed;
 /// - [`CopyError::Write`] if the name is invalid as that of a reference, or allocation fails.
 pub fn tag_copy_of(alloc: Global, bytes: &[u8], kind: Kind) -> Result<Vec<u8>, CopyError>
-    ensures same { IfOk result (λ copy. (tag : TagLines) → DecodesToTag kind bytes.now tag
+    ensures same_bytes { IfOk result (λ copy. (tag : TagLines) → DecodesToTag kind bytes.now tag
         → PreservesBody tag → copy.items ≡ bytes.now) }
     ensures has_capacity { IfErr result (λ error. (tag : TagLines) → DecodesToTag kind bytes.now tag
         → IsTagName tag.name → FailsForRoom error) }

@@ -43,7 +43,7 @@ pub enum CopyError {
 /// - [`CopyError::Read`] if the bytes are malformed, or allocation fails;
 /// - [`CopyError::Write`] if the encoding header is empty, or allocation fails.
 pub fn copy_of(alloc: Global, bytes: &[u8], kind: Kind) -> Result<Vec<u8>, CopyError>
-    ensures same { IfOk result (λ copy. (commit : CommitLines) → DecodesToCommit kind bytes.now commit
+    ensures same_bytes { IfOk result (λ copy. (commit : CommitLines) → DecodesToCommit kind bytes.now commit
         → AllPass is_lower_hex_digit commit.tree
         → All (λ hex. AllPass is_lower_hex_digit hex) commit.parents → copy.items ≡ bytes.now) }
     ensures has_capacity { IfErr result (λ error. (commit : CommitLines) → DecodesToCommit kind bytes.now commit
@@ -72,7 +72,7 @@ pub fn copy_of(alloc: Global, bytes: &[u8], kind: Kind) -> Result<Vec<u8>, CopyE
 /// - [`CopyError::Read`] if the bytes are malformed, or allocation fails;
 /// - [`CopyError::Write`] if allocation fails.
 pub fn tree_copy_of(alloc: Global, bytes: &[u8], kind: Kind) -> Result<Vec<u8>, CopyError>
-    ensures same { IfOk result (λ copy. (entries : List EntryView)
+    ensures same_bytes { IfOk result (λ copy. (entries : List EntryView)
         → HasCanonicalModes kind bytes.now entries → copy.items ≡ bytes.now) }
     ensures has_capacity { IfErr result (λ error. (entries : List EntryView)
         → DecodesToTree kind bytes.now entries → FailsForRoom error) }

@@ -46,8 +46,8 @@ pub fn upload_of<S, E, F: FnMut(&Tree) -> Result<ObjectId, E>>(
     requires callable { IsCallableOnTrees F.pre (answered F.FnMut) out.old }
     ensures divided { IfOk result (Divides editor.old) }
     ensures files { IfOk result (NamesItsFiles editor.old) }
-    ensures enough { IfOk result (IsEnough editor.old) }
-    ensures done { IfOk result (λ it. IsWrittenEditor (answered F.FnMut) out.old editor.old
+    ensures complete { IfOk result (IsEnough editor.old) }
+    ensures written { IfOk result (λ it. IsWrittenEditor (answered F.FnMut) out.old editor.old
         (record { id = it.id; trees = it.trees; saved = it.unchanged }) editor.new out.new) }
     ensures error { IfErr result (Stopped (answered F.FnMut) (denied F.FnMut)
         (EmitsSome (open_dirs editor.old) (open_bases editor.old)) out.old out.new) }

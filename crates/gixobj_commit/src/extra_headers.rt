@@ -223,7 +223,7 @@ fn next_value<'a, I: Iterator<Item = (BStr<'a>, BStr<'a>)>>(
     requires can_next { I.can_next headers.old }
     requires ends { IsFinite (I.remaining headers.old) }
     ensures value { NextValue I.next_gives name.now headers.old result headers.new }
-    ensures goes { MakesProgress I.can_next I.remaining headers.old result headers.new }
+    ensures progress { MakesProgress I.can_next I.remaining headers.old result headers.new }
 {
     'headers: while let Some((key, value)) = headers.next() {
         if is_named(key, name) {

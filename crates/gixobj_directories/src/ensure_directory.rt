@@ -36,7 +36,7 @@ impl Open {
         null: ObjectId,
     ) -> Result<(), AllocError>
         requires { AllByRecursion IsEntryName (names_of path.now) }
-        ensures ok { OnOk result ((at : Path)
+        ensures dirs { OnOk result ((at : Path)
             → dirs_of self.new at ≡ ensured_dirs (names_of path.now) null (dirs_of self.old) at) }
         ensures bases { OnOk result ((at : Path)
             → bases_of self.new at ≡ edited_bases (dirs_of self.old) (dirs_of self.new)

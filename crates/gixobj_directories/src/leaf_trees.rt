@@ -20,7 +20,7 @@ impl Open {
     /// A leaf tree has entries, none of them with a null id, and isn't the directory's base; no directory in
     /// it is open.
     pub(crate) fn leaf_tree(&self) -> Option<&Tree>
-        ensures some { IfSome result (λ tree. (base : List EntryView)
+        ensures found { IfSome result (λ tree. (base : List EntryView)
             × (self.now ≡ opened tree.now base []) × (is_leaf_tree (tree.now, base) ≡ true)) }
         ensures storable { IfSome result (λ tree. IsStorable tree.now) }
         ensures none { IfNone result (leaf_trees self.now ≡ leaf_trees (inside_of self.now)) }

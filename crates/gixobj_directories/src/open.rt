@@ -229,7 +229,7 @@ impl Open {
         null: ObjectId,
     ) -> Result<(), AllocError>
         requires { AllByRecursion IsEntryName (names_of path.now) }
-        ensures ok { OnOk result ((at : Path)
+        ensures dirs { OnOk result ((at : Path)
             → dirs_of self.new at ≡ upserted_dirs (names_of path.now) (mode_bits mode) id null
             (dirs_of self.old) at) }
         ensures bases { OnOk result ((at : Path)
@@ -328,7 +328,7 @@ fn set_entry(
 ) -> Result<(), AllocError>
     requires well_formed { IsWellFormed tree.old }
     requires name { IsEntryName (bstring_bytes name.now) }
-    ensures ok { OnOk result (tree.new ≡ with_entry
+    ensures tree { OnOk result (tree.new ≡ with_entry
         (record { mode = mode_bits mode; name = bstring_bytes name.now; id = id }) tree.old) }
     ensures unchanged { OnErr result (tree.new ≡ tree.old) }
 {
@@ -365,7 +365,7 @@ fn has_tree_named(tree: &Tree, name: &BString) -> bool
 fn make_directory(tree: &mut Tree, name: &BString, null: ObjectId) -> Result<(), AllocError>
     requires well_formed { IsWellFormed tree.old }
     requires name { IsEntryName (bstring_bytes name.now) }
-    ensures ok { OnOk result (tree.new ≡ with_directory (bstring_bytes name.now) null tree.old) }
+    ensures tree { OnOk result (tree.new ≡ with_directory (bstring_bytes name.now) null tree.old) }
     ensures unchanged { OnErr result (tree.new ≡ tree.old) }
 {
     if has_tree_named(tree, name) {
@@ -388,7 +388,8 @@ pub(crate) fn add_directory(
     requires ordered { AreOrdered (parts children.old.items) }
     requires position { place ≡ prefix_len (is_child_before (bstring_bytes name.now))
         children.old.items }
-    ensures ok { OnOk result ((tree.new ≡ with_directory (bstring_bytes name.now) null tree.old)
+    ensures inserted { OnOk result ((tree.new
+        ≡ with_directory (bstring_bytes name.now) null tree.old)
         × (parts children.new.items ≡ with_part (bstring_bytes name.now, inner)
         (parts children.old.items))) }
     ensures unchanged { OnErr result ((tree.new ≡ tree.old)
@@ -418,7 +419,7 @@ pub(crate) fn room_for(
     children: &mut Vec<Child>,
     name: &BString,
 ) -> Result<BString, AllocError>
-    ensures ok { IfOk result (λ copied. (bstring_bytes copied ≡ bstring_bytes name.now)
+    ensures found { IfOk result (λ copied. (bstring_bytes copied ≡ bstring_bytes name.now)
         × (vec_len children.new < vec_capacity children.new)) }
     ensures items { children.new.items ≡ children.old.items }
 {
@@ -463,7 +464,7 @@ pub(crate) fn place_for(children: &[Child], name: &BString) -> usize
 /// Returns the id of the entry of a name, if it is of tree mode.
 pub(crate) fn tree_id(tree: &Tree, name: &BString) -> Option<ObjectId>
     requires { IsWellFormed tree.now }
-    ensures some { IfSome result (λ id. (e : EntryView)
+    ensures found { IfSome result (λ id. (e : EntryView)
         × IsEntryOf (bstring_bytes name.now) (Some tree.now) e × (is_tree_mode e.mode ≡ true)
         × (e.id ≡ id)) }
     ensures none { IfNone result ((e : EntryView) → Has tree.now e → e.name ≡ bstring_bytes name.now

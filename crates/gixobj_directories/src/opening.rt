@@ -109,7 +109,7 @@ fn is_not_looked_up(id: ObjectId) -> bool
 /// Returns the id of the directory of a name, if there is one that an opening enters.
 fn next_id(tree: &Tree, name: &BString, not_looked_up: Vacant) -> Option<ObjectId>
     requires { IsWellFormed tree.now }
-    ensures some { IfSome result (λ id. (e : EntryView)
+    ensures found { IfSome result (λ id. (e : EntryView)
         × IsEntryOf (bstring_bytes name.now) (Some tree.now) e × (is_tree_mode e.mode ≡ true)
         × (¬ EndsBefore not_looked_up e) × (e.id ≡ id)) }
     ensures none { IfNone result ((e : EntryView) → Has tree.now e → e.name ≡ bstring_bytes name.now
@@ -142,7 +142,7 @@ fn find_directory<S: Find>(alloc: Global, store: &S, id: ObjectId) -> Result<Tre
 fn find_copied<S: Find>(alloc: Global, store: &S, id: ObjectId) -> Result<(Tree, Tree), Error>
     requires { ¬ IsNeverLookedUp id }
     ensures found { IfOk result (λ it. NamesTree (S.objects store.now) id it.0) }
-    ensures copied { IfOk result (λ it. it.1 ≡ it.0) }
+    ensures base { IfOk result (λ it. it.1 ≡ it.0) }
     ensures error { IfErr result (IsDirectoryError (S.objects store.now) (S.may_fail store.now)
         id) }
 {
@@ -160,11 +160,11 @@ fn load<S: Find>(
     lookups: &mut u64,
 ) -> Result<(Tree, Tree), Error>
     ensures well_formed { IfOk result (λ it. IsWellFormed it.0) }
-    ensures copied { IfOk result (λ it. it.1 ≡ it.0) }
+    ensures base { IfOk result (λ it. it.1 ≡ it.0) }
     ensures found { IfOk result (λ it. OfTrees (S.objects store.now)
         (λ trees. (queries : List ObjectId) × Finds trees id it.0 queries
         × (lookups.new ≡ counted lookups.old queries))) }
-    ensures requested { OnErr result ((¬ IsNeverLookedUp id)
+    ensures lookups { OnErr result ((¬ IsNeverLookedUp id)
         × (lookups.new ≡ counted lookups.old (id ∷ []))) }
     ensures error { IfErr result (IsDirectoryError (S.objects store.now) (S.may_fail store.now)
         id) }

@@ -90,7 +90,7 @@ fn leaves<E, F: FnMut(&Tree) -> Result<ObjectId, E>>(
 ) -> Result<WrittenTree, WriteError<E>>
     requires callable { IsCallableOnTrees F.pre (answered F.FnMut) out.old }
     ensures shares_base { IfOk result (SharesBase base.now) }
-    ensures ok { IfOk result (λ own. (below : List Pair) × (count : ℕ)
+    ensures emitted { IfOk result (λ own. (below : List Pair) × (count : ℕ)
         × EmitsBelow (dirs_of node.now) (bases_of node.now) below (so_far base.now own) count
         × (saved.new ≡ raised saved.old count)
         × Adds pairs.old.items pairs.new.items (leaf_trees (inside_of node.now)) below
@@ -136,7 +136,7 @@ fn visit<E, F: FnMut(&Tree) -> Result<ObjectId, E>>(
     saved: &mut usize,
 ) -> Result<Option<ObjectId>, WriteError<E>>
     requires callable { IsCallableOnTrees F.pre (answered F.FnMut) out.old }
-    ensures ok { IfOk result (λ id. (inner : List Pair) × (count : ℕ)
+    ensures emitted { IfOk result (λ id. (inner : List Pair) × (count : ℕ)
         × Visits (child_side entries_side (option_copied child.entry))
         (child_side base_side (option_copied child.entry)) entry.now inner (kept_with entry.now id)
         count × (saved.new ≡ raised saved.old count)
@@ -180,7 +180,7 @@ fn leaves_copied<E, F: FnMut(&Tree) -> Result<ObjectId, E>>(
     saved: &mut usize,
 ) -> Result<(Tree, bool), WriteError<E>>
     requires callable { IsCallableOnTrees F.pre (answered F.FnMut) out.old }
-    ensures ok { IfOk result (λ it. (below : List Pair) × (count : ℕ)
+    ensures emitted { IfOk result (λ it. (below : List Pair) × (count : ℕ)
         × EmitsBelow (dirs_of node.now) (bases_of node.now) below it.0 count
         × (saved.new ≡ raised saved.old count)
         × Adds pairs.old.items pairs.new.items (leaf_trees (inside_of node.now)) below
@@ -230,7 +230,7 @@ fn emit_tree<E, F: FnMut(&Tree) -> Result<ObjectId, E>>(
 ) -> Result<ObjectId, WriteError<E>>
     requires callable { IsCallableOnTrees F.pre (answered F.FnMut) out.old }
     requires storable { IsStorable tree }
-    ensures ok { IfOk result (λ id. (pairs.new.items ≡ pairs.old.items ++ (id, tree) ∷ [])
+    ensures emitted { IfOk result (λ id. (pairs.new.items ≡ pairs.old.items ++ (id, tree) ∷ [])
         × CalledAt F.FnMut out.old tree (Ok id) out.new) }
     ensures error { IfErr result (Stopped (answered F.FnMut) (denied F.FnMut)
         (λ ps. (id : ObjectId) × (ps ≡ (id, tree) ∷ [])) out.old out.new) }
@@ -249,7 +249,7 @@ fn emit_leaf_tree<E, F: FnMut(&Tree) -> Result<ObjectId, E>>(
 ) -> Result<ObjectId, WriteError<E>>
     requires callable { IsCallableOnTrees F.pre (answered F.FnMut) out.old }
     requires storable { IsStorable tree.now }
-    ensures ok { IfOk result (λ id. (pairs.new.items ≡ pairs.old.items ++ (id, []) ∷ [])
+    ensures emitted { IfOk result (λ id. (pairs.new.items ≡ pairs.old.items ++ (id, []) ∷ [])
         × CalledAt F.FnMut out.old tree.now (Ok id) out.new) }
     ensures error { IfErr result (Stopped (answered F.FnMut) (denied F.FnMut)
         (λ ps. (id : ObjectId) × (ps ≡ (id, tree.now) ∷ [])) out.old out.new) }
@@ -267,7 +267,7 @@ fn emit<E, F: FnMut(&Tree) -> Result<ObjectId, E>>(
 ) -> Result<ObjectId, WriteError<E>>
     requires callable { IsCallableOnTrees F.pre (answered F.FnMut) out.old }
     requires storable { IsStorable tree.now }
-    ensures ok { IfOk result (λ id. CalledAt F.FnMut out.old tree.now (Ok id) out.new) }
+    ensures emitted { IfOk result (λ id. CalledAt F.FnMut out.old tree.now (Ok id) out.new) }
     ensures has_capacity { OnOk result (vec_len pairs.new < vec_capacity pairs.new) }
     ensures items { pairs.new.items ≡ pairs.old.items }
     ensures error { IfErr result (Stopped (answered F.FnMut) (denied F.FnMut)
@@ -294,7 +294,7 @@ fn keep_entry(
     ensures entries { OnOk result (so_far base.now own.new
         ≡ so_far base.now own.old ++ kept_with entry.now id) }
     ensures shares_base { OnOk result (SharesBase base.now own.new) }
-    ensures off { OnErr result ((rest : List EntryView)
+    ensures allocates { OnErr result ((rest : List EntryView)
         → (so_far base.now own.old ++ kept_with entry.now id) ++ rest ≢ base.now) }
 {
     let Some(id) = id else {
@@ -340,7 +340,7 @@ pub fn write_all<E, F: FnMut(&Tree) -> Result<ObjectId, E>>(
     out: &mut F,
 ) -> Result<Written, WriteError<E>>
     requires { IsCallableOnTrees F.pre (answered F.FnMut) out.old }
-    ensures ok { IfOk result (λ it. (below : List Pair) × (own : List EntryView)
+    ensures written { IfOk result (λ it. (below : List Pair) × (own : List EntryView)
         × Saves (dirs_of node.old) (bases_of node.old) below own it.saved
         × (it.trees.items ≡ below ++ (it.id, own) ∷ [])
         × FoldsTo (answered F.FnMut) out.old (below ++ (it.id, own) ∷ []) out.new × IsStorable own
@@ -369,7 +369,7 @@ pub fn write_all<E, F: FnMut(&Tree) -> Result<ObjectId, E>>(
 fn become_own(tree: &mut Tree, own: &Tree, placed: bool)
     requires well_formed { IsWellFormed tree.old }
     requires filtered { IsFilteredTree own.now tree.old }
-    requires filled { All (λ e. IsFalse (is_null e.id)) own.now }
+    requires non_null { All (λ e. IsFalse (is_null e.id)) own.now }
     requires is_at { IsTrue placed → own.now ≡ tree.old }
     ensures { tree.new ≡ own.now }
 {
@@ -399,7 +399,7 @@ pub fn write_at<E, F: FnMut(&Tree) -> Result<ObjectId, E>>(
 ) -> Result<Written, WriteError<E>>
     requires callable { IsCallableOnTrees F.pre (answered F.FnMut) out.old }
     requires is_open { dirs_of node.old (names_of path.now) ≢ None }
-    ensures ok { IfOk result (λ it. (below : List Pair) × (own : List EntryView)
+    ensures written { IfOk result (λ it. (below : List Pair) × (own : List EntryView)
         × Saves (in_path (names_of path.now) (dirs_of node.old))
         (in_path (names_of path.now) (bases_of node.old)) below own it.saved
         × (it.trees.items ≡ below ++ (it.id, own) ∷ [])

@@ -26,7 +26,7 @@ pub(crate) fn do_edits_at<S: Keep, E: Drop, F: Fn(&Tree) -> Result<ObjectId, E>>
     out: &F,
 ) -> Reply<E>
     requires callable { IsCallable F.pre out.now }
-    ensures replied { IsReplyAt (store_model S.objects S.may_fail) (FnReturnsAt F.Fn out.now)
+    ensures reply { IsReplyAt (store_model S.objects S.may_fail) (FnReturnsAt F.Fn out.now)
         (cursor_path (names_of prefix.now)) editor.old edits.items result editor.new }
 {
     match Vec::with_capacity(alloc, edits.len()) {
@@ -46,7 +46,7 @@ fn do_edits_in<S: Keep, E: Drop, F: Fn(&Tree) -> Result<ObjectId, E>>(
     requires callable { IsCallable F.pre out.now }
     requires empty { replies.items ≡ [] }
     requires has_capacity { length edits.items ≤ vec_capacity replies }
-    ensures replied { IsReplyAt (store_model S.objects S.may_fail) (FnReturnsAt F.Fn out.now)
+    ensures reply { IsReplyAt (store_model S.objects S.may_fail) (FnReturnsAt F.Fn out.now)
         (cursor_path (names_of prefix.now)) editor.old edits.items result editor.new }
 {
     match editor.cursor_at(prefix) {
@@ -66,7 +66,7 @@ fn do_edits<S: Keep, E: Drop, F: Fn(&Tree) -> Result<ObjectId, E>>(
     requires empty { replies.items ≡ [] }
     requires has_capacity { length edits.items ≤ vec_capacity replies }
     ensures same_reference { cursor.new.editor.ghost_name ≡ cursor.old.editor.ghost_name }
-    ensures replied { AreEditReplies (store_model S.objects S.may_fail) (FnReturnsAt F.Fn out.now)
+    ensures replies { AreEditReplies (store_model S.objects S.may_fail) (FnReturnsAt F.Fn out.now)
         (at_cursor cursor.old.editor.now.prefix) cursor.old.editor.now edits.items result.items
         cursor.new.editor.now }
 {
@@ -87,7 +87,7 @@ fn do_edit_by<S: Keep, E, F: Fn(&Tree) -> Result<ObjectId, E>>(
     requires callable { IsCallable F.pre out.now }
     ensures same_reference { cursor.new.editor.ghost_name ≡ cursor.old.editor.ghost_name }
     ensures prefix { cursor.new.editor.now.prefix ≡ cursor.old.editor.now.prefix }
-    ensures replied { IsEditReply (store_model S.objects S.may_fail) (FnReturnsAt F.Fn out.now)
+    ensures reply { IsEditReply (store_model S.objects S.may_fail) (FnReturnsAt F.Fn out.now)
         (at_cursor cursor.old.editor.now.prefix) cursor.old.editor.now edit result
         cursor.new.editor.now }
 {
@@ -107,7 +107,7 @@ fn do_write_by<S: Keep, E, F: Fn(&Tree) -> Result<ObjectId, E>>(
     requires callable { IsCallable F.pre out.now }
     ensures same_reference { cursor.new.editor.ghost_name ≡ cursor.old.editor.ghost_name }
     ensures prefix { cursor.new.editor.now.prefix ≡ cursor.old.editor.now.prefix }
-    ensures replied { IsEditReply (store_model S.objects S.may_fail) (FnReturnsAt F.Fn out.now)
+    ensures reply { IsEditReply (store_model S.objects S.may_fail) (FnReturnsAt F.Fn out.now)
         (at_cursor cursor.old.editor.now.prefix) cursor.old.editor.now Edit.Write result
         cursor.new.editor.now }
 {

@@ -19,7 +19,7 @@ pub(crate) fn do_edit<S: Keep, E, F: Fn(&Tree) -> Result<ObjectId, E>>(
     out: &F,
 ) -> EditReply<E>
     requires callable { IsCallable F.pre out.now }
-    ensures replied { IsEditReply (store_model S.objects S.may_fail) (FnReturnsAt F.Fn out.now) at_root
+    ensures reply { IsEditReply (store_model S.objects S.may_fail) (FnReturnsAt F.Fn out.now) at_root
         editor.old edit result editor.new }
 {
     match edit {
@@ -36,7 +36,7 @@ fn do_write<S: Keep, E, F: Fn(&Tree) -> Result<ObjectId, E>>(
     out: &F,
 ) -> EditReply<E>
     requires callable { IsCallable F.pre out.now }
-    ensures replied { IsEditReply (store_model S.objects S.may_fail) (FnReturnsAt F.Fn out.now) at_root
+    ensures reply { IsEditReply (store_model S.objects S.may_fail) (FnReturnsAt F.Fn out.now) at_root
         editor.old Edit.Write result editor.new }
 {
     let written = match editor.write(out) {

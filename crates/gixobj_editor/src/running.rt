@@ -99,7 +99,7 @@ fn do_command<S: Keep, E: Drop, F: Fn(&Tree) -> Result<ObjectId, E>>(
     out: &F,
 ) -> Reply<E>
     requires callable { IsCallable F.pre out.now }
-    ensures replied { IsReply (store_model S.objects S.may_fail) (FnReturnsAt F.Fn out.now) editor.old
+    ensures reply { IsReply (store_model S.objects S.may_fail) (FnReturnsAt F.Fn out.now) editor.old
         command result editor.new }
 {
     match command {

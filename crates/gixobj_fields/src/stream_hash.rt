@@ -179,7 +179,7 @@ fn update_from<S: Source>(hasher: &mut Hasher, source: &mut S, len: u64) -> Resu
 /// number, which is at least 1.
 #[tactic(auto, using(crate::proofs::StreamReads::stream_error_of_read, crate::proofs::StreamReads::stream_error_of_end, crate::proofs::StreamReads::consumes_take))]
 fn read_piece<S: Source>(source: &mut S, buffer: &mut [u8], most: u64) -> Result<usize, Error>
-    requires some { 0 < most }
+    requires positive { 0 < most }
     requires has_capacity { 0 < length buffer.old }
     ensures count { IfOk result (λ count. (0 < count) × (count ≤ most)) }
     ensures bound { ReadsAtMost result buffer.new }

@@ -17,7 +17,7 @@ use gixobj_tree::tree::Entry;
 pub fn become_tree(tree: &mut Tree, own: &Tree)
     requires well_formed { IsWellFormed tree.old }
     requires filtered { IsFilteredTree own.now tree.old }
-    requires filled { All (λ e. IsFalse (is_null e.id)) own.now }
+    requires non_null { All (λ e. IsFalse (is_null e.id)) own.now }
     ensures { tree.new ≡ own.now }
 {
     sift(&mut tree.entries, &own.entries);
@@ -27,7 +27,7 @@ pub fn become_tree(tree: &mut Tree, own: &Tree)
 fn sift(entries: &mut Vec<Entry>, own: &[Entry])
     requires apart { EachLater (λ x y. x.name ≢ y.name) entries.old.items }
     requires filtered { IsFilteredTree own.now entries.old.items }
-    requires filled { All (λ e. IsFalse (is_null e.id)) own.now }
+    requires non_null { All (λ e. IsFalse (is_null e.id)) own.now }
     ensures { entries.new.items ≡ own.now }
 {
     assign_ids(entries, own);
@@ -38,7 +38,7 @@ fn sift(entries: &mut Vec<Entry>, own: &[Entry])
 fn assign_ids(entries: &mut [Entry], own: &[Entry])
     requires apart { EachLater (λ x y. x.name ≢ y.name) entries.old }
     requires filtered { IsFilteredTree own.now entries.old }
-    requires filled { All (λ e. IsFalse (is_null e.id)) own.now }
+    requires non_null { All (λ e. IsFalse (is_null e.id)) own.now }
     ensures { non_null_entries entries.new ≡ own.now }
 {
     let mut pending = own;

@@ -51,7 +51,7 @@ impl WrittenTree {
         ensures entries { OnOk result (so_far base.now self.new
             ≡ so_far base.now self.old ++ with_id entry.now id ∷ []) }
         ensures shares_base { OnOk result (SharesBase base.now self.new) }
-        ensures off { OnErr result ((rest : List EntryView)
+        ensures allocates { OnErr result ((rest : List EntryView)
             → (so_far base.now self.old ++ with_id entry.now id ∷ []) ++ rest ≢ base.now) }
     {
         match self {

@@ -263,7 +263,7 @@ fn size_from_bytes(bytes: &[u8]) -> Result<u64, ParseIntegerErrorKind>
 
 /// Returns whether the bytes begin with a minus, and the bytes after a sign.
 fn split_sign(bytes: &[u8]) -> (bool, &[u8])
-    ensures minus { result.0 ≡ starts_with_minus bytes.now }
+    ensures sign { result.0 ≡ starts_with_minus bytes.now }
     ensures digits { result.1.now ≡ size_digits bytes.now }
 {
     match bytes {

@@ -60,7 +60,7 @@ fn bytes_of(
     parent: Option<ObjectId>,
 ) -> Result<Vec<u8>, ImportError>
     ensures encoded { IfOk result (λ content. content.items ≡ encode_step step.now tree parent) }
-    ensures legal { OnOk result (IsLegal step.now.author × IsLegal step.now.committer) }
+    ensures encodable { OnOk result (IsLegal step.now.author × IsLegal step.now.committer) }
     ensures error { IfErr result (IsStepEncodeError step.now) }
 {
     let commit = commit_of(alloc, step, tree, parent)?;

@@ -22,7 +22,7 @@ pub(crate) fn do_edits<S: Find>(
     edits: &[Edit],
 ) -> Result<(), (usize, Error)>
     requires no_write { ¬ Contains edits.now Edit.Write }
-    ensures done { OnOk result (AreDone (store_model S.objects S.may_fail) editor.old edits.now
+    ensures edited { OnOk result (AreDone (store_model S.objects S.may_fail) editor.old edits.now
         editor.new) }
     ensures after_error { IfErr result (λ it.
         IsFailedAt (store_model S.objects S.may_fail) editor.old edits.now it.0 it.1 editor.new) }

@@ -73,7 +73,7 @@ pub fn decode_line(
 ) -> Result<(Line<'_>, State, &[u8]), Error>
     ensures found { IfOk result (λ it. HasLine kind before input.now (line_view it.0) it.1
         it.2.now) }
-    ensures parsed { IfOk result (λ it. IsParsedLine it.0) }
+    ensures parts { IfOk result (λ it. IsParsedLine it.0) }
     ensures error { IfErr result (IsLineError kind before input.now) }
 {
     match before {
@@ -92,7 +92,7 @@ pub fn decode_line(
 fn decode_tree_line(kind: Kind, input: &[u8]) -> Result<(Line<'_>, State, &[u8]), Error>
     ensures found { IfOk result (λ it. HasLine kind state.Tree input.now (line_view it.0) it.1
         it.2.now) }
-    ensures parsed { IfOk result (λ it. IsParsedLine it.0) }
+    ensures parts { IfOk result (λ it. IsParsedLine it.0) }
     ensures error { IfErr result (IsLineError kind state.Tree input.now) }
 {
     let Some((hex, rest)) = header_id(input, b"tree", kind) else {
@@ -107,7 +107,7 @@ fn decode_tree_line(kind: Kind, input: &[u8]) -> Result<(Line<'_>, State, &[u8])
 fn decode_parent_or_author(kind: Kind, input: &[u8]) -> Result<(Line<'_>, State, &[u8]), Error>
     ensures found { IfOk result (λ it. HasLine kind state.Parents input.now (line_view it.0) it.1
         it.2.now) }
-    ensures parsed { IfOk result (λ it. IsParsedLine it.0) }
+    ensures parts { IfOk result (λ it. IsParsedLine it.0) }
     ensures error { IfErr result (IsLineError kind state.Parents input.now) }
 {
     if let Some((hex, rest)) = header_id(input, b"parent", kind) {
@@ -125,7 +125,7 @@ fn decode_parent_or_author(kind: Kind, input: &[u8]) -> Result<(Line<'_>, State,
 fn decode_committer(input: &[u8]) -> Result<(Line<'_>, State, &[u8]), Error>
     ensures found { (kind : Kind) → IfOk result
         (λ it. HasLine kind state.Committer input.now (line_view it.0) it.1 it.2.now) }
-    ensures parsed { IfOk result (λ it. IsParsedLine it.0) }
+    ensures parts { IfOk result (λ it. IsParsedLine it.0) }
     ensures error { (kind : Kind) → IfErr result (IsLineError kind state.Committer input.now) }
 {
     let Some((line, actor, rest)) = actor_line(input, b"committer") else {
@@ -140,7 +140,7 @@ fn decode_committer(input: &[u8]) -> Result<(Line<'_>, State, &[u8]), Error>
 fn decode_encoding_or_header(alloc: Global, input: &[u8]) -> Result<(Line<'_>, State, &[u8]), Error>
     ensures found { (kind : Kind) → IfOk result
         (λ it. HasLine kind state.Encoding input.now (line_view it.0) it.1 it.2.now) }
-    ensures parsed { IfOk result (λ it. IsParsedLine it.0) }
+    ensures parts { IfOk result (λ it. IsParsedLine it.0) }
     ensures error { (kind : Kind) → IfErr result (IsLineError kind state.Encoding input.now) }
 {
     let Some(_) = after_name(input, b"encoding") else {
@@ -162,7 +162,7 @@ fn decode_encoding_or_header(alloc: Global, input: &[u8]) -> Result<(Line<'_>, S
 fn decode_header_or_message(alloc: Global, input: &[u8]) -> Result<(Line<'_>, State, &[u8]), Error>
     ensures found { (kind : Kind) → IfOk result
         (λ it. HasLine kind state.ExtraHeaders input.now (line_view it.0) it.1 it.2.now) }
-    ensures parsed { IfOk result (λ it. IsParsedLine it.0) }
+    ensures parts { IfOk result (λ it. IsParsedLine it.0) }
     ensures error { (kind : Kind) → IfErr result (IsLineError kind state.ExtraHeaders input.now) }
 {
     if let Some(message) = after_newline(input) {
@@ -176,7 +176,7 @@ fn decode_header_or_message(alloc: Global, input: &[u8]) -> Result<(Line<'_>, St
 #[inline(always)]
 fn actor_line<'a>(input: &'a [u8], name: &[u8]) -> Option<(BStr<'a>, SignatureRef<'a>, &'a [u8])>
     ensures found { IfSome result (λ it. HasActor name.now input.now (bstr_bytes it.0) it.2.now) }
-    ensures parsed { IfSome result (λ it. IsActorOf (bstr_bytes it.0) (actor_view it.1)) }
+    ensures actor { IfSome result (λ it. IsActorOf (bstr_bytes it.0) (actor_view it.1)) }
     ensures none { IfNone result (HasNoActor name.now input.now) }
 {
     let Some((line, rest)) = header_field(input, name) else {

@@ -129,7 +129,7 @@ impl<'a> Token<'a> {
     /// Converts a line into its token. Allocates nothing.
     #[tactic(auto, using(crate::specs::CommitTokens::yields_tree, crate::specs::CommitTokens::yields_parent, crate::specs::CommitTokens::yields_author, crate::specs::CommitTokens::yields_committer, crate::specs::CommitTokens::yields_encoding, crate::specs::CommitTokens::yields_header, crate::specs::CommitTokens::yields_message))]
     fn of_line(line: Line<'a>) -> Token<'a>
-        requires parsed { IsParsedLine line }
+        requires parts { IsParsedLine line }
         requires ids { HasHex (line_view line) }
         ensures yields { IsTokenOfLine (line_view line.entry) (commit_token_view result) }
         ensures borrowed { BorrowsValue result }

@@ -71,7 +71,7 @@ pub fn edit_on<S: Keep, E: Drop, F: Fn(&Tree) -> Result<ObjectId, E> + Drop>(
     ensures reported { IfOk result (λ content. IsReported (store_model S.objects S.may_fail) (FnReturnsAt F.Fn out)
         hash script.now editor.old content.items editor.new) }
     ensures error { IfErr result (IsScriptRunError hash script.now) }
-    ensures not_run { IfErr result (λ error. (number : ℕ) → error ≡ BadLine number
+    ensures unchanged { IfErr result (λ error. (number : ℕ) → error ≡ BadLine number
         → editor.new ≡ editor.old) }
     ensures remaining { OnErr result ((editor.new ≡ editor.old)
         ⊎ WasRun (store_model S.objects S.may_fail) (FnReturnsAt F.Fn out) hash script.now editor.old

@@ -52,7 +52,7 @@ pub fn engine<R: Read, O: Write, E: Write>(
     output: &mut O,
     errors: &mut E,
 ) -> u8
-    ensures answer { result ≡ 0 → IsNeitherCommand (map string_bytes words.now)
+    ensures written { result ≡ 0 → IsNeitherCommand (map string_bytes words.now)
         → Answered (map string_bytes words.now) (R.remaining input.old) (R.remaining input.new)
         (writer_view (O.contents output.old)) (writer_view (O.contents output.new)) }
     ensures error { result ≢ 0 → IsNeitherCommand (map string_bytes words.now)
@@ -60,18 +60,18 @@ pub fn engine<R: Read, O: Write, E: Write>(
         (writer_view (O.contents output.old)) (writer_view (O.contents output.new))
         (writer_view (E.contents errors.old)) (writer_view (E.contents errors.new))
         (input.new ≡ input.old) (output.new ≡ output.old) result }
-    ensures listed { result ≡ 0 → IsListCommand (map string_bytes words.now)
+    ensures list_written { result ≡ 0 → IsListCommand (map string_bytes words.now)
         → Listed (map string_bytes words.now) (R.remaining input.old) (R.remaining input.new)
         (writer_view (O.contents output.old)) (writer_view (O.contents output.new)) }
-    ensures unlisted { result ≢ 0 → IsListCommand (map string_bytes words.now)
+    ensures list_error { result ≢ 0 → IsListCommand (map string_bytes words.now)
         → IsUnlisted (map string_bytes words.now) (R.remaining input.old) (R.remaining input.new) ⊤
         (writer_view (O.contents output.old)) (writer_view (O.contents output.new))
         (writer_view (E.contents errors.old)) (writer_view (E.contents errors.new))
         (output.new ≡ output.old) result }
-    ensures edited { result ≡ 0 → IsEditCommand (map string_bytes words.now)
+    ensures edit_written { result ≡ 0 → IsEditCommand (map string_bytes words.now)
         → Edited (map string_bytes words.now) (R.remaining input.old) (R.remaining input.new)
         (writer_view (O.contents output.old)) (writer_view (O.contents output.new)) }
-    ensures fault { result ≢ 0 → IsEditCommand (map string_bytes words.now)
+    ensures edit_error { result ≢ 0 → IsEditCommand (map string_bytes words.now)
         → IsFault (map string_bytes words.now) (R.remaining input.old) (R.remaining input.new) ⊤
         (writer_view (O.contents output.old)) (writer_view (O.contents output.new))
         (writer_view (E.contents errors.old)) (writer_view (E.contents errors.new))
@@ -104,24 +104,24 @@ pub fn run<S: Source, O: Sink, E: Sink>(
     output: &mut O,
     errors: &mut E,
 ) -> u8
-    ensures answer { result ≡ 0 → IsNeitherCommand (map string_bytes words.now)
+    ensures written { result ≡ 0 → IsNeitherCommand (map string_bytes words.now)
         → Answered (map string_bytes words.now) (S.rest input.old) (S.rest input.new)
         (O.view output.old) (O.view output.new) }
     ensures error { result ≢ 0 → IsNeitherCommand (map string_bytes words.now)
         → IsReportedError (map string_bytes words.now) (S.rest input.old) (S.rest input.new)
         (S.may_fail input.old) (O.view output.old) (O.view output.new) (E.view errors.old)
         (E.view errors.new) (input.new ≡ input.old) (output.new ≡ output.old) result }
-    ensures listed { result ≡ 0 → IsListCommand (map string_bytes words.now)
+    ensures list_written { result ≡ 0 → IsListCommand (map string_bytes words.now)
         → Listed (map string_bytes words.now) (S.rest input.old) (S.rest input.new)
         (O.view output.old) (O.view output.new) }
-    ensures unlisted { result ≢ 0 → IsListCommand (map string_bytes words.now)
+    ensures list_error { result ≢ 0 → IsListCommand (map string_bytes words.now)
         → IsUnlisted (map string_bytes words.now) (S.rest input.old) (S.rest input.new)
         (S.may_fail input.old) (O.view output.old) (O.view output.new) (E.view errors.old)
         (E.view errors.new) (output.new ≡ output.old) result }
-    ensures edited { result ≡ 0 → IsEditCommand (map string_bytes words.now)
+    ensures edit_written { result ≡ 0 → IsEditCommand (map string_bytes words.now)
         → Edited (map string_bytes words.now) (S.rest input.old) (S.rest input.new)
         (O.view output.old) (O.view output.new) }
-    ensures fault { result ≢ 0 → IsEditCommand (map string_bytes words.now)
+    ensures edit_error { result ≢ 0 → IsEditCommand (map string_bytes words.now)
         → IsFault (map string_bytes words.now) (S.rest input.old) (S.rest input.new)
         (S.may_fail input.old) (O.view output.old) (O.view output.new) (E.view errors.old)
         (E.view errors.new) (output.new ≡ output.old) result }
@@ -148,10 +148,10 @@ fn run_script<S: Source, O: Sink, E: Sink>(
     output: &mut O,
     errors: &mut E,
 ) -> u8
-    requires requested { IsCommandOfHash (map string_bytes words.now) (codes "edit") hash }
-    ensures edited { result ≡ 0 → Edited (map string_bytes words.now) (S.rest input.old)
+    requires command { IsCommandOfHash (map string_bytes words.now) (codes "edit") hash }
+    ensures written { result ≡ 0 → Edited (map string_bytes words.now) (S.rest input.old)
         (S.rest input.new) (O.view output.old) (O.view output.new) }
-    ensures fault { result ≢ 0 → IsFault (map string_bytes words.now) (S.rest input.old)
+    ensures error { result ≢ 0 → IsFault (map string_bytes words.now) (S.rest input.old)
         (S.rest input.new) (S.may_fail input.old) (O.view output.old) (O.view output.new)
         (E.view errors.old) (E.view errors.new) (output.new ≡ output.old) result }
     ensures no_error { result ≡ 0 → errors.new ≡ errors.old }
@@ -172,8 +172,8 @@ fn edited<S: Source, O: Sink>(
     input: &mut S,
     output: &mut O,
 ) -> Result<(), Fault>
-    requires requested { IsCommandOfHash (map string_bytes words.now) (codes "edit") hash }
-    ensures reported { OnOk result (Edited (map string_bytes words.now) (S.rest input.old)
+    requires command { IsCommandOfHash (map string_bytes words.now) (codes "edit") hash }
+    ensures written { OnOk result (Edited (map string_bytes words.now) (S.rest input.old)
         (S.rest input.new) (O.view output.old) (O.view output.new)) }
     ensures error { IfErr result (IsEditingError (map string_bytes words.now) (S.rest input.old)
         (S.rest input.new) (S.may_fail input.old) (O.view output.old) (O.view output.new)) }

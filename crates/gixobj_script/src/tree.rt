@@ -30,11 +30,11 @@ pub(crate) fn list_read<R: Read, O: Write, E: Write>(
     output: &mut O,
     errors: &mut E,
 ) -> u8
-    requires requested { IsCommandOfHash (map string_bytes words.now) (codes "tree") hash }
-    ensures listed { result ≡ 0 → Listed (map string_bytes words.now) (R.remaining input.old)
+    requires command { IsCommandOfHash (map string_bytes words.now) (codes "tree") hash }
+    ensures written { result ≡ 0 → Listed (map string_bytes words.now) (R.remaining input.old)
         (R.remaining input.new) (writer_view (O.contents output.old))
         (writer_view (O.contents output.new)) }
-    ensures unlisted { result ≢ 0 → IsUnlisted (map string_bytes words.now)
+    ensures error { result ≢ 0 → IsUnlisted (map string_bytes words.now)
         (R.remaining input.old) (R.remaining input.new) ⊤ (writer_view (O.contents output.old))
         (writer_view (O.contents output.new)) (writer_view (E.contents errors.old))
         (writer_view (E.contents errors.new)) (output.new ≡ output.old) result }
@@ -60,10 +60,10 @@ pub(crate) fn list<S: Source, O: Sink, E: Sink>(
     output: &mut O,
     errors: &mut E,
 ) -> u8
-    requires requested { IsCommandOfHash (map string_bytes words.now) (codes "tree") hash }
-    ensures listed { result ≡ 0 → Listed (map string_bytes words.now) (S.rest input.old)
+    requires command { IsCommandOfHash (map string_bytes words.now) (codes "tree") hash }
+    ensures written { result ≡ 0 → Listed (map string_bytes words.now) (S.rest input.old)
         (S.rest input.new) (O.view output.old) (O.view output.new) }
-    ensures unlisted { result ≢ 0 → IsUnlisted (map string_bytes words.now) (S.rest input.old)
+    ensures error { result ≢ 0 → IsUnlisted (map string_bytes words.now) (S.rest input.old)
         (S.rest input.new) (S.may_fail input.old) (O.view output.old) (O.view output.new)
         (E.view errors.old) (E.view errors.new) (output.new ≡ output.old) result }
     ensures no_error { result ≡ 0 → errors.new ≡ errors.old }
@@ -84,8 +84,8 @@ fn listed<S: Source, O: Sink>(
     input: &mut S,
     output: &mut O,
 ) -> Result<(), Failure>
-    requires requested { IsCommandOfHash (map string_bytes words.now) (codes "tree") hash }
-    ensures listed { OnOk result (Listed (map string_bytes words.now) (S.rest input.old)
+    requires command { IsCommandOfHash (map string_bytes words.now) (codes "tree") hash }
+    ensures written { OnOk result (Listed (map string_bytes words.now) (S.rest input.old)
         (S.rest input.new) (O.view output.old) (O.view output.new)) }
     ensures error { IfErr result (IsListError (map string_bytes words.now) (S.rest input.old)
         (S.rest input.new) (S.may_fail input.old) (O.view output.old) (O.view output.new)) }
@@ -146,7 +146,7 @@ fn tree_content(alloc: Global, input: &[u8]) -> Result<&[u8], Failure>
 /// Returns the lines of a tree's entries. An empty tree allocates nothing.
 fn lines(alloc: Global, tree: &TreeRef<'_>) -> Result<Vec<u8>, AllocError>
     ensures encoded { IfOk result (λ listed_lines. listed_lines.items ≡ listing_of (tree_entries tree.now)) }
-    ensures some { OnErr result (tree_entries tree.now ≢ []) }
+    ensures allocates { OnErr result (tree_entries tree.now ≢ []) }
 {
     let mut listed_lines = Vec::new(alloc);
     for entry in &tree.entries {

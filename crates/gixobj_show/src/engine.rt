@@ -33,7 +33,7 @@ pub fn engine<R: Read, O: Write, E: Write>(
     output: &mut O,
     errors: &mut E,
 ) -> u8
-    ensures answer { result ≡ 0 → Answered (map string_bytes words.now) (R.remaining input.old)
+    ensures written { result ≡ 0 → Answered (map string_bytes words.now) (R.remaining input.old)
         (R.remaining input.new) (writer_view (O.contents output.old))
         (writer_view (O.contents output.new)) }
     ensures no_error { result ≡ 0 → errors.new ≡ errors.old }
@@ -62,7 +62,7 @@ pub fn run<S: Source, O: Sink, E: Sink>(
     output: &mut O,
     errors: &mut E,
 ) -> u8
-    ensures answer { result ≡ 0 → Answered (map string_bytes words.now) (S.rest input.old)
+    ensures written { result ≡ 0 → Answered (map string_bytes words.now) (S.rest input.old)
         (S.rest input.new) (O.view output.old) (O.view output.new) }
     ensures no_error { result ≡ 0 → errors.new ≡ errors.old }
     ensures error { result ≢ 0 → IsReportedError (map string_bytes words.now) (S.rest input.old)
@@ -85,7 +85,7 @@ fn answer<S: Source, O: Sink>(
     input: &mut S,
     output: &mut O,
 ) -> Result<(), Failure>
-    ensures answer { OnOk result (Answered (map string_bytes words.now) (S.rest input.old)
+    ensures written { OnOk result (Answered (map string_bytes words.now) (S.rest input.old)
         (S.rest input.new) (O.view output.old) (O.view output.new)) }
     ensures error { IfErr result (IsAnswerError (map string_bytes words.now) (S.rest input.old)
         (S.rest input.new) (S.may_fail input.old) (O.view output.old) (O.view output.new)) }

@@ -178,7 +178,7 @@ impl<S> Editor<S> {
             ≡ from_root self.now.prefix (names_of path.now)) }
         ensures allocates { OnErr result (names_of path.now ≢ []) }
         ensures is_opened { IsOpened (open_dirs self.now) }
-        ensures idle { (at : Path) → open_bases self.now at
+        ensures bases { (at : Path) → open_bases self.now at
             ≡ opened_bases (open_dirs self.now) (open_dirs self.now) (open_bases self.now) at }
     {
         join_paths(*self.prefix.allocator(), &self.prefix, path)

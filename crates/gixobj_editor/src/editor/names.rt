@@ -69,7 +69,7 @@ pub(crate) fn join_paths(
 
 /// Copies the names.
 pub(crate) fn copy_names(alloc: Global, names: &[BString]) -> Result<Vec<BString>, AllocError>
-    ensures copied { IfOk result (λ it. names_of it.items ≡ names_of names.now) }
+    ensures names { IfOk result (λ it. names_of it.items ≡ names_of names.now) }
     ensures allocates { OnErr result (names_of names.now ≢ []) }
 {
     join_paths(alloc, &[], names)

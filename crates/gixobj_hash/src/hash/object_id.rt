@@ -275,7 +275,7 @@ fn bytes_from_hex<const N: usize>(hex: &[u8]) -> Option<[u8; N]>
 fn value_of(digit: u8) -> u8
     requires { is_hex_digit digit ≡ true }
     ensures value { hex_digit_value digit ≡ Some result }
-    ensures small { result < 16 }
+    ensures bounded { result < 16 }
 {
     if digit <= b'9' {
         digit - b'0'

@@ -183,7 +183,7 @@ impl<'a> TreeRefIter<'a> {
 
 /// Copies a found entry into an owned one.
 fn owned(alloc: Global, found: Option<EntryRef<'_>>) -> Result<Option<Entry>, OutOfMemory>
-    ensures same { IfOk result (λ copy. copy ≡ option_map entry_view found.entry) }
+    ensures found { IfOk result (λ copy. copy ≡ option_map entry_view found.entry) }
     ensures error { OnErr result (IsSome found.entry) }
 {
     match found {

@@ -155,7 +155,7 @@ fn with_status_if_any<'a>(before: Statuses<'a>, found: Option<(Status, &'a [u8])
 
 /// Returns what the statuses of all lines report together.
 fn reported_by(alloc: Global, statuses: Statuses<'_>) -> Result<LineReport, OutOfMemory>
-    ensures reported_value { IfOk result (λ it. reported_view it ≡ verdict_of statuses.entry []) }
+    ensures reported { IfOk result (λ it. reported_view it ≡ verdict_of statuses.entry []) }
     ensures allocates { OnErr result (reported_names (verdict_of statuses.entry []) ≢ (None, None)) }
 {
     match statuses {
@@ -179,7 +179,7 @@ fn nothing_but(status: Status) -> LineReport
 /// Decodes a single reported status from the bytes after its keyword.
 #[tactic(auto, using(crate::proofs::Fields::reported_names_of_key, crate::proofs::Fields::reported_names_of_signer))]
 fn reported_by_one(alloc: Global, status: Status, rest: &[u8]) -> Result<LineReport, OutOfMemory>
-    ensures reported_value { IfOk result (λ it. reported_view it ≡ verdict ((status, rest.now) ∷ [])) }
+    ensures reported { IfOk result (λ it. reported_view it ≡ verdict ((status, rest.now) ∷ [])) }
     ensures allocates { OnErr result (reported_names (verdict ((status, rest.now) ∷ [])) ≢ (None, None)) }
 {
     let (keyword, following) = split_at_space(rest);
@@ -341,7 +341,7 @@ fn first_token_of<'a>(line: &'a [u8]) -> &'a [u8]
 
 /// Returns a copy of the bytes, or `None` if they are empty.
 fn copy_unless_empty(alloc: Global, content: &[u8]) -> Result<Option<BString>, OutOfMemory>
-    ensures copied { IfOk result (λ it. option_map bstring_bytes it ≡ unless_empty content.now) }
+    ensures content { IfOk result (λ it. option_map bstring_bytes it ≡ unless_empty content.now) }
     ensures allocates { OnErr result (content.now ≢ []) }
 {
     if content.is_empty() {

@@ -76,7 +76,7 @@ fn key_in<'a>(output: &'a [u8]) -> Option<&'a [u8]>
 
 /// Returns a copy of the bytes, if there are some.
 fn copy_of(alloc: Global, content: Option<&[u8]>) -> Result<Option<BString>, OutOfMemory>
-    ensures copied { IfOk result (λ it. option_map bstring_bytes it
+    ensures content { IfOk result (λ it. option_map bstring_bytes it
         ≡ option_map (λ it. it.now) content.entry) }
     ensures allocates { OnErr result (option_map (λ it. it.now) content.entry ≢ None) }
 {
@@ -88,7 +88,7 @@ fn copy_of(alloc: Global, content: Option<&[u8]>) -> Result<Option<BString>, Out
 
 /// Returns a copy of the bytes. An empty copy allocates nothing.
 fn bytes_of(alloc: Global, bytes: &[u8]) -> Result<BString, OutOfMemory>
-    ensures copied { IfOk result (λ it. bstring_bytes it ≡ bytes.now) }
+    ensures bytes { IfOk result (λ it. bstring_bytes it ≡ bytes.now) }
     ensures allocates { OnErr result (bytes.now ≢ []) }
 {
     if bytes.is_empty() {
@@ -126,7 +126,7 @@ fn after_last_key<'a>(line: &'a [u8]) -> Option<&'a [u8]>
 /// Returns the bytes after `content` if it is at this offset, or `None` otherwise.
 #[inline(always)]
 fn after_at<'a>(bytes: &'a [u8], at: usize, content: &[u8]) -> Option<&'a [u8]>
-    requires inside { at ≤ length bytes.now }
+    requires bounded { at ≤ length bytes.now }
     ensures { option_map (λ it. it.now) result ≡ after_prefix content.now (drop at bytes.now) }
 {
     bytes.split_at(at).1.strip_prefix(content)

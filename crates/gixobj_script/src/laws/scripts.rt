@@ -18,9 +18,9 @@ pub fn script_parses_uniquely()
 ///
 /// So a parser with right results parses each script. It rejects no line but the first bad one.
 pub fn script_has_no_bad_line()
-    ensures one_bad { (hash : Kind) (bytes : List ℕ) (number number' : ℕ)
+    ensures one_bad_line { (hash : Kind) (bytes : List ℕ) (number number' : ℕ)
         → IsFirstBad hash bytes number → IsFirstBad hash bytes number' → number ≡ number' }
-    ensures no_bad { (hash : Kind) (bytes : List ℕ) (commands : List CommandView) (number : ℕ)
+    ensures no_bad_line { (hash : Kind) (bytes : List ℕ) (commands : List CommandView) (number : ℕ)
         → IsScript hash bytes commands → ¬ IsFirstBad hash bytes number }
 {}
 

@@ -109,7 +109,8 @@ pub fn environment_of(
     alloc: Global,
     environment: &[(BString, BString)],
 ) -> Result<Vec<(BString, BString)>, OutOfMemory>
-    ensures copied { IfOk result (λ it. map pair_view it.items ≡ map pair_view environment.now) }
+    ensures environment { IfOk result (λ it. map pair_view it.items
+        ≡ map pair_view environment.now) }
     ensures allocates { OnErr result (environment.now ≢ []) }
 {
     let mut copies = Vec::new(alloc);

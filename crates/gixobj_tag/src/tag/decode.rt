@@ -98,7 +98,7 @@ pub type TaggerLine<'a> = (BStr<'a>, SignatureRef<'a>);
 #[tactic(auto, using(crate::proofs::Lines::no_tagger_of_missing_newline))]
 pub fn tagger(input: &[u8]) -> Option<(Option<TaggerLine<'_>>, &[u8])>
     ensures found { IfSome result (λ it. HasTagger input.now (line_if_some it.0) it.1.now) }
-    ensures parsed { IfSome result (λ it. IsParsedTagger it.0) }
+    ensures parts { IfSome result (λ it. IsParsedTagger it.0) }
     ensures none { IfNone result (HasNoTagger input.now) }
 {
     let Some(_) = after_name(input, b"tagger") else {

@@ -91,7 +91,7 @@ fn short_order(left: &[u8], right: &[u8]) -> Ordering
 /// before.
 fn long_order(left: &[u8], right: &[u8]) -> Ordering
     requires same_length { length left.now ≡ length right.now }
-    requires long { 8 ≤ length left.now }
+    requires min_len { 8 ≤ length left.now }
     ensures { result ≡ slice_cmp nat_cmp left.now right.now }
 {
     let last = left.len() - 8;

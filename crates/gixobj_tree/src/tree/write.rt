@@ -73,7 +73,7 @@ fn size_with_prefix(size: u64, entry: &Entry) -> Option<u64>
 #[inline(always)]
 fn longer_one(id: &ObjectId) -> u64
     ensures len { length (id_bytes id.now) ≡ 20 + 12 * result }
-    ensures one { result ≤ 1 }
+    ensures bounded { result ≤ 1 }
 {
     match id.as_bytes().len() {
         20 => 0,
@@ -132,7 +132,7 @@ pub(super) fn write_entry_ref<S: Sink>(
 ) -> Result<(), Error>
     ensures written { OnOk result (AppendsAll (S.view sink.old) (S.view sink.new)
         (encode_entry (entry_view entry.now))) }
-    ensures free { OnOk result (IsByteFree 0 (entry_view entry.now).name) }
+    ensures encodable { OnOk result (IsByteFree 0 (entry_view entry.now).name) }
     ensures error { IfErr result (IsWritingError (IsEntryEncodeError (entry_view entry.now))
         (S.view sink.old) (S.view sink.new) (encode_entry (entry_view entry.now))) }
     ensures same_loan { S.loan sink.new ≡ S.loan sink.old }
@@ -160,7 +160,7 @@ pub fn write_entry<S: Sink>(
 ) -> Result<(), Error>
     ensures written { OnOk result (AppendsAll (S.view sink.old) (S.view sink.new)
         (encode_entry (entry_of (mode_bits mode) name.now (borrowed_id id.entry)))) }
-    ensures free { OnOk result (IsByteFree 0 name.now) }
+    ensures encodable { OnOk result (IsByteFree 0 name.now) }
     ensures error { IfErr result (IsWritingError
         (IsEntryEncodeError (entry_of (mode_bits mode) name.now (borrowed_id id.entry))) (S.view sink.old)
         (S.view sink.new) (encode_entry (entry_of (mode_bits mode) name.now

@@ -25,6 +25,6 @@ returns-clause-found c =
       spaced = c.without_gap.ensures.2;
       joined = c.split_time.ensures.joined;
       named = c.without_final_space.ensures;
-      timed = c.split_time.ensures.timed;
+      timed = c.split_time.ensures.time;
       ends = c.split_time.ensures.ends;
     })

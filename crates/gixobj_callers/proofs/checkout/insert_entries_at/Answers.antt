@@ -6,8 +6,8 @@ use Rattle.gix_object.specs.Stores.{StoreModel}
 use Rattle.gix_object.specs.Calls.{names_of}
 use Rattle.gix_object.specs.Cursors.{cursor_path}
 
-pub returns-clause-filled : goal.returns-clause-filled
-returns-clause-filled g c =
+pub returns-clause-inserted : goal.returns-clause-inserted
+returns-clause-inserted g c =
     let means : StoreModel g.row.S.Denot = record { objects = g.S.Store.objects; may_fail = g.S.Store.may_fail } in
     let cursor = c.in_ok-cursor.ensures {u = tt} in
     let made = c.in_ok-cursor.cursor.editor.now in

@@ -22,8 +22,8 @@ returns-in-Err-from_bytes-clause-has_capacity c = λ all.
     tree_fails_for_room c.args.kind (encode_tree c.args.tree.now) c.args.tree.now c.in-Err-from_bytes.error
     (subst (λ (it : List ℕ). IsTreeDecodeError c.args.kind it c.in-Err-from_bytes.error) written c.in-Err-from_bytes.ensures.error) is
 
-pub returns-in-Ok-into_owned-clause-same : goal.returns-in-Ok-into_owned-clause-same
-returns-in-Ok-into_owned-clause-same c = λ all.
+pub returns-in-Ok-into_owned-clause-unchanged : goal.returns-in-Ok-into_owned-clause-unchanged
+returns-in-Ok-into_owned-clause-unchanged c = λ all.
     let is = c.tree_round_trips.ensures c.args.kind c.args.tree.now all in
     let written : c.deref.result.now ≡ encode_tree c.args.tree.now =
     c.deref.ensures.value ∙ c.in_default.ensures.written ∙ ap (λ (it : List ℕ). it ++ encode_tree c.args.tree.now) c.new-bytes.ensures.items in

@@ -28,8 +28,8 @@ returns-in-Ok-write-clause-files g c =
     c.id_equality_is_decidable.ensures _ c.args.out last c.try_upsert.new.self c.write.new.self c.in-Ok-write.written
     (c.in_default.ensures {u = tt}).upserted wrote
 
-pub returns-in-Ok-write-clause-done : goal.returns-in-Ok-write-clause-done
-returns-in-Ok-write-clause-done g c =
+pub returns-in-Ok-write-clause-written : goal.returns-in-Ok-write-clause-written
+returns-in-Ok-write-clause-written g c =
     let means : StoreModel g.row.S.Denot = record { objects = g.S.Store.objects; may_fail = g.S.Store.may_fail } in
     let new = c.new-editor.ensures in
     let begun = state_is_started c.new-editor.result c.args.store (id_kind c.args.root) c.in-Ok.tree new.dirs new.bases new.store new.lookups

@@ -10,8 +10,8 @@ use Rattle.gixobj_callers.proofs.publisher.tag_copy_of.Goals as goal
 pub returns-in-Err-clause-has_capacity : goal.returns-in-Err-clause-has_capacity
 returns-in-Err-clause-has_capacity c = λ tag is valid. absurd (c.in-Err.ensures.error.1 tag is)
 
-pub returns-in-Ok-write_to_vec-clause-same : goal.returns-in-Ok-write_to_vec-clause-same
-returns-in-Ok-write_to_vec-clause-same c = λ tag is keeps.
+pub returns-in-Ok-write_to_vec-clause-same_bytes : goal.returns-in-Ok-write_to_vec-clause-same_bytes
+returns-in-Ok-write_to_vec-clause-same_bytes c = λ tag is keeps.
     let same = c.tag_decodes_uniquely.ensures c.args.kind c.args.bytes.now tag (tag_lines c.in-Ok.tag) is c.in-Ok.ensures.found in
     let bytes = c.tag_reencodes_identically.ensures.same_bytes c.args.kind c.args.bytes.now tag is keeps in
     c.in-Ok-write_to_vec.ensures.written ∙ ap (λ (it : List ℕ). it ++ encode_tag (tag_lines c.in-Ok.tag)) c.new-copy.ensures.items

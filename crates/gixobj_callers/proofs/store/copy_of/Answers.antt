@@ -10,8 +10,8 @@ use Rattle.gixobj_callers.proofs.store.copy_of.Goals as goal
 pub returns-in-Err-clause-has_capacity : goal.returns-in-Err-clause-has_capacity
 returns-in-Err-clause-has_capacity c = λ commit is some. fails_for_room_of_read c.args.kind c.args.bytes.now commit c.in-Err.error c.in-Err.ensures.error is
 
-pub returns-in-Ok-write_to_vec-clause-same : goal.returns-in-Ok-write_to_vec-clause-same
-returns-in-Ok-write_to_vec-clause-same c = λ commit is tree parents.
+pub returns-in-Ok-write_to_vec-clause-same_bytes : goal.returns-in-Ok-write_to_vec-clause-same_bytes
+returns-in-Ok-write_to_vec-clause-same_bytes c = λ commit is tree parents.
     let same = c.commit_decodes_uniquely.ensures c.args.kind c.args.bytes.now commit (commit_lines c.in-Ok.commit) is c.in-Ok.ensures.found in
     let bytes = c.commit_reencodes_identically.ensures.same_bytes c.args.kind c.args.bytes.now commit is tree parents in
     c.in-Ok-write_to_vec.ensures.written ∙ ap (λ (it : List ℕ). it ++ encode_commit (in_lower_case (commit_lines c.in-Ok.commit))) c.new-copy.ensures.items

@@ -8,8 +8,8 @@ use Rattle.gixobj_callers.proofs.store.tree_copy_of.Goals as goal
 pub returns-in-Err-clause-has_capacity : goal.returns-in-Err-clause-has_capacity
 returns-in-Err-clause-has_capacity c = λ entries is. tree_fails_for_room c.args.kind c.args.bytes.now entries c.in-Err.error c.in-Err.ensures.error is
 
-pub returns-in-Ok-write_to_vec-clause-same : goal.returns-in-Ok-write_to_vec-clause-same
-returns-in-Ok-write_to_vec-clause-same c = λ entries own.
+pub returns-in-Ok-write_to_vec-clause-same_bytes : goal.returns-in-Ok-write_to_vec-clause-same_bytes
+returns-in-Ok-write_to_vec-clause-same_bytes c = λ entries own.
     let back = c.tree_reencodes_identically.ensures.same_bytes c.args.kind c.args.bytes.now entries own in
     let same = c.tree_decodes_uniquely.ensures.one_tree c.args.kind c.args.bytes.now entries (tree_entries c.in-Ok.tree) back.0 c.in-Ok.ensures.found in
     c.in-Ok-write_to_vec.ensures.written ∙ ap (λ (it : List ℕ). it ++ encode_tree (tree_entries c.in-Ok.tree)) c.new-written.ensures.items

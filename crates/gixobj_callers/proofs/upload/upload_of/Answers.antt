@@ -13,7 +13,7 @@ returns-clause-divided g c =
 pub returns-clause-files : goal.returns-clause-files
 returns-clause-files g c = λ T n has. let wrote = (c.in_ok-written.ensures {u = tt}).written in wrote.files T n has.pairs has.bases
 
-pub returns-clause-enough : goal.returns-clause-enough
-returns-clause-enough g c = λ T n has lacks path mode id there.
+pub returns-clause-complete : goal.returns-clause-complete
+returns-clause-complete g c = λ T n has lacks path mode id there.
     let wrote = (c.in_ok-written.ensures {u = tt}).written in
     lacks path mode id ((wrote.files T n has.pairs has.bases path mode id).0 there)

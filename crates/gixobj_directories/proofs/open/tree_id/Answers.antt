@@ -12,8 +12,8 @@ returns-in_err-entry-clause-none c =
     (entry_name_ne (bstring_bytes c.args.name.now) c.args.tree.now (option_of_copied_none c.find_entry.result _ c.find_entry.ensures c.in_err-entry.was) e h
     named))
 
-pub returns-then-is_tree-clause-some : goal.returns-then-is_tree-clause-some
-returns-then-is_tree-clause-some c =
+pub returns-then-is_tree-clause-found : goal.returns-then-is_tree-clause-found
+returns-then-is_tree-clause-found c =
     let e = c.in_ok-entry.entry.now in
     let one = is_entry_of_first (bstring_bytes c.args.name.now) c.args.tree.now e
     (option_of_copied_some c.find_entry.result _ c.in_ok-entry.entry c.find_entry.ensures c.in_ok-entry.was) c.requires.apart in (

@@ -33,6 +33,6 @@ returns-clause-found g c =
       c.saturating_add.ensures,
     )) c.find_copied.ensures.found
 
-pub returns-clause-requested : goal.returns-clause-requested
-returns-clause-requested g c =
+pub returns-clause-lookups : goal.returns-clause-lookups
+returns-clause-lookups g c =
     on_err_of c.find_copied.result _ ((λ empty. true≢false (sym (c.is_not_looked_up.ensures.1 empty) ∙ c.if-is_not_looked_up.false)), c.saturating_add.ensures)

@@ -60,7 +60,7 @@ leaves-loop-entry-preserved g t c =
     let based = child_side base_side next in
     let base : in_dir e.name bases ≡ based =
     λ i path. (go.here base_side path ∙ ap (λ (o : Option Child). child_side base_side o path) (sym c.next_of.ensures.next)) i in
-    let ok = c.in_ok-id.ensures.ok in
+    let ok = c.in_ok-id.ensures.emitted in
     let kept = c.in_ok-keep_entry.ensures in
     let remaining = c.loop-entry.remaining.now in
     let ahead : child_leaf_trees next ++ leaf_trees (below (parts c.next_of.result.1.now)) ≡ leaf_trees (below (parts remaining)) =
@@ -157,7 +157,7 @@ leaves-returns-in_err-keep_entry-clause-error g t c =
     λ i path. (go.here base_side path ∙ ap (λ (o : Option Child). child_side base_side o path) (sym c.next_of.ensures.next)) i in
     let root : dirs [] ≡ Some items = dirs_of_nil node c.node.inside.tree (parts c.node.inside.children.items) c.node.view_is
     ∙ ap Some (sym c.entries_of-entry-items.ensures) in
-    let ok = c.in_ok-id.ensures.ok in
+    let ok = c.in_ok-id.ensures.emitted in
     let kept = kept_with e c.in_ok-id.id in
     let acc = so_far c.args.base.now c.loop-entry.own in
     let rest = walk_exists_of_open node (drop (c.loop-entry.entry-index + 1) items) in
@@ -173,8 +173,8 @@ leaves-returns-in_err-keep_entry-clause-error g t c =
           so.5 (acc ++ kept) refl rest.0 rest.1 rest.2 rest.3),
     ))
 
-pub leaves-returns-clause-ok : goal.leaves-returns-clause-ok
-leaves-returns-clause-ok g t c =
+pub leaves-returns-clause-emitted : goal.leaves-returns-clause-emitted
+leaves-returns-clause-emitted g t c =
     let so = c.loop-entry.invariant.emits in
     let node = c.args.node.now in
     let dirs = dirs_of node in
@@ -209,8 +209,8 @@ leaves-returns-clause-storable g t c =
 same_some : (xs ys : List EntryView) → Some xs ≡ Some ys → xs ≡ ys
 same_some xs ys is = cc is
 
-pub visit-returns-in_default-clause-ok : goal.visit-returns-in_default-clause-ok
-visit-returns-in_default-clause-ok g t c =
+pub visit-returns-in_default-clause-emitted : goal.visit-returns-in_default-clause-emitted
+visit-returns-in_default-clause-emitted g t c =
     let e = c.args.entry.now in
     let inside = child_side entries_side (option_copied c.args.child) in
     let based = child_side base_side (option_copied c.args.child) in
@@ -227,8 +227,8 @@ visit-returns-in_default-clause-ok g t c =
       refl,
     )
 
-pub visit-returns-in-Some-leaf_tree-clause-ok : goal.visit-returns-in-Some-leaf_tree-clause-ok
-visit-returns-in-Some-leaf_tree-clause-ok g t c =
+pub visit-returns-in-Some-leaf_tree-clause-emitted : goal.visit-returns-in-Some-leaf_tree-clause-emitted
+visit-returns-in-Some-leaf_tree-clause-emitted g t c =
     let e = c.args.entry.now in
     let inside = child_side entries_side (option_copied c.args.child) in
     let based = child_side base_side (option_copied c.args.child) in
@@ -236,11 +236,11 @@ visit-returns-in-Some-leaf_tree-clause-ok g t c =
     let there = side_of_open_child entries_side c.args.child c.in-Some.child c.in-Some.is in
     let base = side_of_open_child base_side c.args.child c.in-Some.child c.in-Some.is in
     let tree = c.in-Some-leaf_tree.tree.now in
-    let some = c.in-Some-leaf_tree.ensures.some in
+    let some = c.in-Some-leaf_tree.ensures.found in
     let goes = leaf_tree_has_base_or_is_emitted child.open tree some.0 some.1 some.2 in
     let found : EmitsBelow inside based [] tree 0 = emits_below_of_both _ _ inside based there base [] tree 0 goes.found in
     let changed : based [] ≢ Some tree = λ is. goes.changed (same_some _ _ (sym is ∙ sym (ap (λ (d : Dirs). d []) base) ∙ goes.based)) in
-    let emitted = c.in_ok-passed.ensures.ok in
+    let emitted = c.in_ok-passed.ensures.emitted in
     let id = c.in_ok-passed.passed in
     let gave = λ (f : g.row.F.Denot) (p : Pair) (h : g.row.F.Denot). CalledAt g.F.FnMut f p.1 (Ok p.0) h in (
       (id, tree) ∷ [],
@@ -262,7 +262,7 @@ visit-returns-in_err-passed-clause-error g t c =
     let there = side_of_open_child entries_side c.args.child c.in-Some.child c.in-Some.is in
     let base = side_of_open_child base_side c.args.child c.in-Some.child c.in-Some.is in
     let tree = c.in-Some-leaf_tree.tree.now in
-    let some = c.in-Some-leaf_tree.ensures.some in
+    let some = c.in-Some-leaf_tree.ensures.found in
     let goes = leaf_tree_has_base_or_is_emitted child.open tree some.0 some.1 some.2 in
     let found : EmitsBelow inside based [] tree 0 = emits_below_of_both _ _ inside based there base [] tree 0 goes.found in
     let changed : based [] ≢ Some tree = λ is. goes.changed (same_some _ _ (sym is ∙ sym (ap (λ (d : Dirs). d []) base) ∙ goes.based)) in
@@ -303,15 +303,15 @@ visit-returns-in_err-own-clause-error g t c =
     (seen.0, (seen.1, seen.2, seen.3)))
     c.in_err-own.field-0.0 c.in_err-own.ensures.error))
 
-pub visit-returns-then-has_no_entries-clause-ok : goal.visit-returns-then-has_no_entries-clause-ok
-visit-returns-then-has_no_entries-clause-ok g t c =
+pub visit-returns-then-has_no_entries-clause-emitted : goal.visit-returns-then-has_no_entries-clause-emitted
+visit-returns-then-has_no_entries-clause-emitted g t c =
     let e = c.args.entry.now in
     let inside = child_side entries_side (option_copied c.args.child) in
     let based = child_side base_side (option_copied c.args.child) in
     let child = c.in-Some.child.now in
     let there = side_of_open_child entries_side c.args.child c.in-Some.child c.in-Some.is in
     let base = side_of_open_child base_side c.args.child c.in-Some.child c.in-Some.is in
-    let ok = c.in_ok-own.ensures.ok in
+    let ok = c.in_ok-own.ensures.emitted in
     let own = so_far c.base_of-base.result.now c.in_ok-own.own in
     let found : EmitsBelow inside based ok.0 own ok.1 = emits_below_of_both _ _ inside based there base ok.0 own ok.1 ok.2 in
     let bare = nil_of_is_empty own (c.if-has_no_entries.ensures {u = tt} c.base_of-base.result.now c.in_ok-own.ensures.shares_base) in (
@@ -324,15 +324,15 @@ visit-returns-then-has_no_entries-clause-ok g t c =
       ok.5,
     )
 
-pub visit-returns-then-is_base-clause-ok : goal.visit-returns-then-is_base-clause-ok
-visit-returns-then-is_base-clause-ok g t c =
+pub visit-returns-then-is_base-clause-emitted : goal.visit-returns-then-is_base-clause-emitted
+visit-returns-then-is_base-clause-emitted g t c =
     let e = c.args.entry.now in
     let inside = child_side entries_side (option_copied c.args.child) in
     let based = child_side base_side (option_copied c.args.child) in
     let child = c.in-Some.child.now in
     let there = side_of_open_child entries_side c.args.child c.in-Some.child c.in-Some.is in
     let base = side_of_open_child base_side c.args.child c.in-Some.child c.in-Some.is in
-    let ok = c.in_ok-own.ensures.ok in
+    let ok = c.in_ok-own.ensures.emitted in
     let own = so_far c.base_of-base.result.now c.in_ok-own.own in
     let found : EmitsBelow inside based ok.0 own ok.1 = emits_below_of_both _ _ inside based there base ok.0 own ok.1 ok.2 in
     let filled = not_nil_of_not_empty own (c.if-has_no_entries.ensures {u = tt} c.base_of-base.result.now c.in_ok-own.ensures.shares_base) in
@@ -357,7 +357,7 @@ visit-returns-in_err-tree-clause-error g t c =
     let child = c.in-Some.child.now in
     let there = side_of_open_child entries_side c.args.child c.in-Some.child c.in-Some.is in
     let base = side_of_open_child base_side c.args.child c.in-Some.child c.in-Some.is in
-    let ok = c.in_ok-own.ensures.ok in
+    let ok = c.in_ok-own.ensures.emitted in
     let own = so_far c.base_of-base.result.now c.in_ok-own.own in
     let found : EmitsBelow inside based ok.0 own ok.1 = emits_below_of_both _ _ inside based there base ok.0 own ok.1 ok.2 in
     let seen = visits_open inside based e ok.0 own ok.1 found in
@@ -368,7 +368,7 @@ visit-returns-in_err-tree-clause-error g t c =
 
 pub visit-emit_tree-requires-clause-callable : goal.visit-emit_tree-requires-clause-callable
 visit-emit_tree-requires-clause-callable g t c = let ok =
-    c.in_ok-own.ensures.ok in callable_after_folds _ (λ f p h. CalledAt g.F.FnMut f p.1 (Ok p.0) h) c.args.out.now ok.0 c.leaves.new.out ok.5
+    c.in_ok-own.ensures.emitted in callable_after_folds _ (λ f p h. CalledAt g.F.FnMut f p.1 (Ok p.0) h) c.args.out.now ok.0 c.leaves.new.out ok.5
     c.requires.callable
 
 pub visit-emit_tree-requires-clause-storable : goal.visit-emit_tree-requires-clause-storable
@@ -382,7 +382,7 @@ visit-returns-in_err-id-clause-error g t c =
     let child = c.in-Some.child.now in
     let there = side_of_open_child entries_side c.args.child c.in-Some.child c.in-Some.is in
     let base = side_of_open_child base_side c.args.child c.in-Some.child c.in-Some.is in
-    let ok = c.in_ok-own.ensures.ok in
+    let ok = c.in_ok-own.ensures.emitted in
     let own = so_far c.base_of-base.result.now c.in_ok-own.own in
     let found : EmitsBelow inside based ok.0 own ok.1 = emits_below_of_both _ _ inside based there base ok.0 own ok.1 ok.2 in
     let filled = not_nil_of_not_empty own (c.if-has_no_entries.ensures {u = tt} c.base_of-base.result.now c.in_ok-own.ensures.shares_base) in
@@ -407,15 +407,15 @@ visit-returns-in_err-id-clause-error g t c =
     ))
     c.in_err-id.field-0.0 c.in_err-id.ensures.error))
 
-pub visit-returns-clause-ok : goal.visit-returns-clause-ok
-visit-returns-clause-ok g t c =
+pub visit-returns-clause-emitted : goal.visit-returns-clause-emitted
+visit-returns-clause-emitted g t c =
     let e = c.args.entry.now in
     let inside = child_side entries_side (option_copied c.args.child) in
     let based = child_side base_side (option_copied c.args.child) in
     let child = c.in-Some.child.now in
     let there = side_of_open_child entries_side c.args.child c.in-Some.child c.in-Some.is in
     let base = side_of_open_child base_side c.args.child c.in-Some.child c.in-Some.is in
-    let ok = c.in_ok-own.ensures.ok in
+    let ok = c.in_ok-own.ensures.emitted in
     let own = so_far c.base_of-base.result.now c.in_ok-own.own in
     let found : EmitsBelow inside based ok.0 own ok.1 = emits_below_of_both _ _ inside based there base ok.0 own ok.1 ok.2 in
     let filled = not_nil_of_not_empty own (c.if-has_no_entries.ensures {u = tt} c.base_of-base.result.now c.in_ok-own.ensures.shares_base) in
@@ -423,7 +423,7 @@ visit-returns-clause-ok g t c =
     (c.if-is_base.ensures {u = tt}).1 (same_some _ _ (sym is ∙ sym (ap (λ (d : Dirs). d []) base) ∙ c.base_of-base.ensures)) in absurd (cc so) in
     let tree = c.in_ok-tree.tree in
     let made : own ≡ tree = sym c.in_ok-tree.ensures.tree in
-    let emitted = c.in_ok-id.ensures.ok in
+    let emitted = c.in_ok-id.ensures.emitted in
     let gave = λ (f : g.row.F.Denot) (p : Pair) (h : g.row.F.Denot). CalledAt g.F.FnMut f p.1 (Ok p.0) h in (
       ok.0 ++ (c.in_ok-id.id, tree) ∷ [],
       ok.1,

@@ -19,8 +19,8 @@ use Rattle.gixobj_directories.proofs.BaseSteps.{editing, set_moved}
 use Rattle.gixobj_directories.proofs.Ordered.{level_names_apart}
 use Rattle.gixobj_directories.proofs.write.+write_at.Goals as goal
 
-pub returns-in_default-clause-ok : goal.returns-in_default-clause-ok
-returns-in_default-clause-ok g t c = MatchResult-weaker c.write_all.result c.write_all.ensures.ok (λ it ok.
+pub returns-in_default-clause-written : goal.returns-in_default-clause-written
+returns-in_default-clause-written g t c = MatchResult-weaker c.write_all.result c.write_all.ensures.written (λ it ok.
     let none = names_of_nil c.args.path.now c.in_default.ensures.cases in
     let dirs = dirs_of c.args.node.now in (
       ok.0,
@@ -61,8 +61,8 @@ unreachable-requires g t c = c.requires.is_open
     (ap names_of c.in-Some.ensures.cases.0) c.deref.ensures.value
     (c.in_default-child_at.ensures {u = tt}))
 
-pub returns-clause-ok : goal.returns-clause-ok
-returns-clause-ok g t c = MatchResult-weaker c.write_at.result c.write_at.ensures.ok (λ it ok.
+pub returns-clause-written : goal.returns-clause-written
+returns-clause-written g t c = MatchResult-weaker c.write_at.result c.write_at.ensures.written (λ it ok.
     let name = bstring_bytes c.in-Some.name.now in
     let cs = c.node.inside.children.items in
     let rest = names_of c.in-Some.rest.now in

@@ -13,7 +13,7 @@ use Rattle.gixobj_directories.proofs.write.leaves_copied.Goals as goal
 
 pub returns-in_err-entries-clause-error : goal.returns-in_err-entries-clause-error
 returns-in_err-entries-clause-error g c =
-    let some = (c.in-Some.ensures {u = tt}).some in
+    let some = (c.in-Some.ensures {u = tt}).found in
     let goes = leaf_tree_has_base_or_is_emitted c.args.node.now c.in-Some.tree.now some.0 some.1 some.2 in
     if_err_weaken c.from_residual.result _ _ c.from_residual.ensures.1
     (stopped_at_call (λ f p h. CalledAt g.F.FnMut f p.1 (Ok p.0) h) (λ f tree x h. CalledAt g.F.FnMut f tree (Err x) h)
@@ -21,9 +21,9 @@ returns-in_err-entries-clause-error g c =
     [] refl
     (c.in-Some.tree.now, 0, goes.found))
 
-pub returns-in-Some-clause-ok : goal.returns-in-Some-clause-ok
-returns-in-Some-clause-ok g c =
-    let some = (c.in-Some.ensures {u = tt}).some in
+pub returns-in-Some-clause-emitted : goal.returns-in-Some-clause-emitted
+returns-in-Some-clause-emitted g c =
+    let some = (c.in-Some.ensures {u = tt}).found in
     let goes = leaf_tree_has_base_or_is_emitted c.args.node.now c.in-Some.tree.now some.0 some.1 some.2 in
     let pairs = c.args.pairs.now.items in
     let adds = subst (λ ts. Adds pairs pairs ts []) (sym (ap (λ (ds : Opened). leaf_trees (inside_of ds)) some.1)) (adds_nil pairs) in
@@ -35,12 +35,12 @@ returns-in-Some-clause-storable g c = subst IsStorable (sym ((c.in_ok-entries.en
 
 pub returns-in-Some-clause-is_at : goal.returns-in-Some-clause-is_at
 returns-in-Some-clause-is_at g c = λ _.
-    let some = (c.in-Some.ensures {u = tt}).some in
+    let some = (c.in-Some.ensures {u = tt}).found in
     dirs_of_nil c.args.node.now c.in-Some.tree.now [] (sym some.1) ∙ ap Some (sym ((c.in_ok-entries.ensures {u = tt}) ∙ c.deref.ensures.value ∙ c.tree.view_is))
 
 pub returns-in_err-tree-clause-error : goal.returns-in_err-tree-clause-error
 returns-in_err-tree-clause-error g c =
-    let ok = (c.in_ok-own.ensures {u = tt}).ok in
+    let ok = (c.in_ok-own.ensures {u = tt}).emitted in
     let own = so_far c.base_of-base.result.now c.in_ok-own.own in
     if_err_weaken c.from_residual-in_err-tree.result _ _ c.from_residual-in_err-tree.ensures.1
     (stopped_at_call (λ f p h. CalledAt g.F.FnMut f p.1 (Ok p.0) h) (λ f tree x h. CalledAt g.F.FnMut f tree (Err x) h)
@@ -48,9 +48,9 @@ returns-in_err-tree-clause-error g c =
     [] ok.5
     (own, ok.1, rw append-nil ok.2))
 
-pub returns-clause-ok : goal.returns-clause-ok
-returns-clause-ok g c =
-    let ok = (c.in_ok-own.ensures {u = tt}).ok in
+pub returns-clause-emitted : goal.returns-clause-emitted
+returns-clause-emitted g c =
+    let ok = (c.in_ok-own.ensures {u = tt}).emitted in
     (ok.0, ok.1, rw c.in_ok-tree.ensures.tree ok.2, ok.3, ok.4, ok.5)
 
 pub returns-clause-storable : goal.returns-clause-storable

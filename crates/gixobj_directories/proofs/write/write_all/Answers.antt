@@ -38,7 +38,7 @@ pub returns-in_err-complete_trees-clause-error : goal.returns-in_err-complete_tr
 returns-in_err-complete_trees-clause-error g c =
     let dirs = dirs_of c.args.node.now in
     let bases = bases_of c.args.node.now in
-    let ok = (c.in_ok-own.ensures {u = tt}).ok in
+    let ok = (c.in_ok-own.ensures {u = tt}).emitted in
     let more = emits_some_append dirs bases ok.0 c.in_ok-own.own ok.1 ok.2 in
     if_err_weaken c.from_residual-in_err-complete_trees.result _ _ c.from_residual-in_err-complete_trees.ensures.1
     (stopped_at_call (λ f p h. CalledAt g.F.FnMut f p.1 (Ok p.0) h) (λ f tree x h. CalledAt g.F.FnMut f tree (Err x) h)
@@ -48,7 +48,7 @@ pub returns-in_err-id-clause-error : goal.returns-in_err-id-clause-error
 returns-in_err-id-clause-error g c =
     let dirs = dirs_of c.args.node.now in
     let bases = bases_of c.args.node.now in
-    let ok = (c.in_ok-own.ensures {u = tt}).ok in
+    let ok = (c.in_ok-own.ensures {u = tt}).emitted in
     let own = c.in_ok-own.own in
     if_err_weaken c.from_residual-in_err-id.result _ _ c.from_residual-in_err-id.ensures.1
     (λ error is. subst (Stopped (λ f p h. CalledAt g.F.FnMut f p.1 (Ok p.0) h) (λ f tree x h. CalledAt g.F.FnMut f tree (Err x) h)
@@ -59,11 +59,11 @@ returns-in_err-id-clause-error g c =
     (λ qs one. ([], (ok.1, ok.0, one.0, own, ok.2, ap (λ ps. ok.0 ++ ps) (append-nil qs ∙ one.1)))) c.in_err-id.field-0.0
     (c.in_err-id.ensures {u = tt}).error))
 
-pub returns-clause-ok : goal.returns-clause-ok
-returns-clause-ok g c =
-    let ok = (c.in_ok-own.ensures {u = tt}).ok in
+pub returns-clause-written : goal.returns-clause-written
+returns-clause-written g c =
+    let ok = (c.in_ok-own.ensures {u = tt}).emitted in
     let own = c.in_ok-own.own in
-    let emitted = (c.in_ok-id.ensures {u = tt}).ok in
+    let emitted = (c.in_ok-id.ensures {u = tt}).emitted in
     let room = c.push.ensures.succeeds (c.in_ok-id.ensures {u = tt}).has_capacity in
     let node = c.args.node.now in
     let all = leaf_trees (inside_of node) in
@@ -96,7 +96,7 @@ returns-clause-ok g c =
     )
 
 pub emit-requires-clause-callable : goal.emit-requires-clause-callable
-emit-requires-clause-callable g c = let ok = (c.in_ok-own.ensures {u = tt}).ok in
+emit-requires-clause-callable g c = let ok = (c.in_ok-own.ensures {u = tt}).emitted in
     callable_after_folds _ (λ f p h. CalledAt g.F.FnMut f p.1 (Ok p.0) h) c.args.out.now
     ok.0 c.leaves_copied.new.out ok.5 c.requires
 
@@ -115,12 +115,12 @@ returns-clause-bases g c =
 
 pub become_own-requires-clause-filtered : goal.become_own-requires-clause-filtered
 become_own-requires-clause-filtered g c =
-    let ok = (c.in_ok-own.ensures {u = tt}).ok in
+    let ok = (c.in_ok-own.ensures {u = tt}).emitted in
     is_filtered_tree_of_walk (dirs_of c.args.node.now) (bases_of c.args.node.now) ok.0 c.in_ok-own.own ok.1 c.node.inside.tree ok.2
     (dirs_of_nil c.args.node.now c.node.inside.tree (parts c.node.inside.children.items) c.node.view_is)
 
-pub become_own-requires-clause-filled : goal.become_own-requires-clause-filled
-become_own-requires-clause-filled g c = (c.in_ok-own.ensures {u = tt}).storable.no_nulls
+pub become_own-requires-clause-non_null : goal.become_own-requires-clause-non_null
+become_own-requires-clause-non_null g c = (c.in_ok-own.ensures {u = tt}).storable.no_nulls
 
 pub become_own-requires-clause-is_at : goal.become_own-requires-clause-is_at
 become_own-requires-clause-is_at g c = λ placed.
@@ -134,7 +134,7 @@ take_leaf_trees-requires-clause-apart g c = subst (λ (cs : Vec Child Global). E
 
 pub take_leaf_trees-requires-clause-has_capacity : goal.take_leaf_trees-requires-clause-has_capacity
 take_leaf_trees-requires-clause-has_capacity g c =
-    let ok = (c.in_ok-own.ensures {u = tt}).ok in
+    let ok = (c.in_ok-own.ensures {u = tt}).emitted in
     let fewer = leaf_trees_len_le ok.4.0 (leaf_trees (inside_of c.args.node.now)) ok.0 ok.4.2 in
     let pairs = ap length (ok.4.1 ∙ ap (λ ps. ps ++ ok.4.0) c.new-trees.ensures.items) in
     let trees = ap (λ (cs : Vec Child Global). length (leaf_trees (below (parts cs.items)))) c.replace-children.ensures.value

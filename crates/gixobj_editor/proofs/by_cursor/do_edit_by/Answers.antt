@@ -7,8 +7,8 @@ use Rattle.gixobj_editor.specs.Commands.{at_cursor}
 use Rattle.gixobj_editor.proofs.Replied.{leaf_removal_replied, removal_replied, upsert_replied}
 use Rattle.gixobj_editor.proofs.by_cursor.do_edit_by.Goals as goal
 
-pub returns-in-Upsert-clause-replied : goal.returns-in-Upsert-clause-replied
-returns-in-Upsert-clause-replied g c =
+pub returns-in-Upsert-clause-reply : goal.returns-in-Upsert-clause-reply
+returns-in-Upsert-clause-reply g c =
     let means : StoreModel g.row.S.Denot = record { objects = g.S.Store.objects; may_fail = g.S.Store.may_fail } in
     let answers = λ (tree : List EntryView) (answer : Result ObjectId g.row.E.Denot). FnReturnsAt g.F.Fn c.args.out.now tree answer in
     let call = c.try_upsert in
@@ -17,8 +17,8 @@ returns-in-Upsert-clause-replied g c =
     c.deref.result.now c.deref.ensures.value c.in-Upsert.kind c.in-Upsert.id call.result
     call.ensures.upserted call.ensures.after_error call.ensures.error call.ensures.not_looked_up)
 
-pub returns-in-Remove-clause-replied : goal.returns-in-Remove-clause-replied
-returns-in-Remove-clause-replied g c =
+pub returns-in-Remove-clause-reply : goal.returns-in-Remove-clause-reply
+returns-in-Remove-clause-reply g c =
     let means : StoreModel g.row.S.Denot = record { objects = g.S.Store.objects; may_fail = g.S.Store.may_fail } in
     let answers = λ (tree : List EntryView) (answer : Result ObjectId g.row.E.Denot). FnReturnsAt g.F.Fn c.args.out.now tree answer in
     let call = c.try_remove in
@@ -27,8 +27,8 @@ returns-in-Remove-clause-replied g c =
     c.deref-in-Remove.result.now c.deref-in-Remove.ensures.value call.result
     call.ensures.removed call.ensures.after_error call.ensures.error)
 
-pub returns-in-RemoveLeaf-clause-replied : goal.returns-in-RemoveLeaf-clause-replied
-returns-in-RemoveLeaf-clause-replied g c =
+pub returns-in-RemoveLeaf-clause-reply : goal.returns-in-RemoveLeaf-clause-reply
+returns-in-RemoveLeaf-clause-reply g c =
     let means : StoreModel g.row.S.Denot = record { objects = g.S.Store.objects; may_fail = g.S.Store.may_fail } in
     let answers = λ (tree : List EntryView) (answer : Result ObjectId g.row.E.Denot). FnReturnsAt g.F.Fn c.args.out.now tree answer in
     let call = c.try_remove_leaf in

@@ -15,7 +15,7 @@ loop-edit-preserved g c =
     let answers = λ (tree : List EntryView) (answer : Result ObjectId g.row.E.Denot). FnReturnsAt g.F.Fn c.args.out.now tree answer in
     let steps = c.in-Some.ensures.steps in
     let one = subst (λ (p : Path). IsEditReply means answers (at_cursor p) c.loop-edit.cursor.editor.now c.in-Some.edit c.do_edit_by-reply.result
-    c.do_edit_by-reply.new.cursor.editor.now) c.loop-edit.invariant.prefix c.do_edit_by-reply.ensures.replied in
+    c.do_edit_by-reply.new.cursor.editor.now) c.loop-edit.invariant.prefix c.do_edit_by-reply.ensures.reply in
     record {
       so_far = λ replies new h. one_more_edit means answers (at_cursor c.args.cursor.now.editor.now.prefix) c.loop-edit.cursor.editor.now _ _ _ _ _ _ _ _ _ _ _
           one steps.0 c.push_reserved.ensures.items c.loop-edit.invariant.so_far h;
@@ -25,8 +25,8 @@ loop-edit-preserved g c =
       prefix = c.do_edit_by-reply.ensures.prefix ∙ c.loop-edit.invariant.prefix;
     }
 
-pub returns-clause-replied : goal.returns-clause-replied
-returns-clause-replied g c =
+pub returns-clause-replies : goal.returns-clause-replies
+returns-clause-replies g c =
     let means : StoreModel g.row.S.Denot = record { objects = g.S.Store.objects; may_fail = g.S.Store.may_fail } in
     let answers = λ (tree : List EntryView) (answer : Result ObjectId g.row.E.Denot). FnReturnsAt g.F.Fn c.args.out.now tree answer in
     no_more_edits means answers (at_cursor c.args.cursor.now.editor.now.prefix) _ _ _ _ _

@@ -24,8 +24,8 @@ returns-in-Ok g c =
     → IsReplyAt means answers (cursor_path (names_of c.args.prefix.now)) c.args.editor.now c.args.edits.items (reply.At c.do_edits.result) new =
     λ new outside. done_at means answers (cursor_path (names_of c.args.prefix.now)) c.in-Ok.cursor.editor.now.prefix c.args.editor.now c.in-Ok.cursor.editor.now
     pending new c.args.edits.items c.do_edits.result
-    made.prefix made.ensured c.do_edits.ensures.replied outside in
-    record { replied = done _ (search rules) }
+    made.prefix made.ensured c.do_edits.ensures.replies outside in
+    record { reply = done _ (search rules) }
 
 pub returns-in-Err : goal.returns-in-Err
 returns-in-Err g c =
@@ -33,4 +33,4 @@ returns-in-Err g c =
     let rejected : OfTrees (g.S.Store.objects c.args.editor.now.store)
     (λ trees. IsEditFailure trees c.args.editor.now (inside (cursor_path (names_of c.args.prefix.now))) pending)
     × (IsNameError c.in-Err.error → pending ≡ c.args.editor.now) = search rules in
-    record { replied = inr (record { remaining = rejected.0; cause = (c.in-Err.ensures {u = tt}).error }, rejected.1) }
+    record { reply = inr (record { remaining = rejected.0; cause = (c.in-Err.ensures {u = tt}).error }, rejected.1) }

@@ -14,8 +14,8 @@ use Rattle.gixobj_editor.proofs.by_cursor.do_write_by.Goals as goal
 pub write-requires : goal.write-requires
 write-requires g c = callable g.F.Fn _ c.args.out _ c.requires.callable (λ requested tree answer answered it. (it.met.1, it.met.0))
 
-pub returns-in-Err-clause-replied : goal.returns-in-Err-clause-replied
-returns-in-Err-clause-replied g c =
+pub returns-in-Err-clause-reply : goal.returns-in-Err-clause-reply
+returns-in-Err-clause-reply g c =
     let done = c.in-Err.ensures {u = tt} in
     record {
       stopped = stopped g.F.Fn _ c.args.out (EmitsSome (in_path c.args.cursor.now.editor.now.prefix (open_dirs c.args.cursor.now.editor.now))
@@ -24,8 +24,8 @@ returns-in-Err-clause-replied g c =
       unchanged = done.unchanged;
     }
 
-pub returns-in-Ok-keep_all-clause-replied : goal.returns-in-Ok-keep_all-clause-replied
-returns-in-Ok-keep_all-clause-replied g c =
+pub returns-in-Ok-keep_all-clause-reply : goal.returns-in-Ok-keep_all-clause-reply
+returns-in-Ok-keep_all-clause-reply g c =
     let means : StoreModel g.row.S.Denot = record { objects = g.S.Store.objects; may_fail = g.S.Store.may_fail } in
     let answers = λ (tree : List EntryView) (answer : Result ObjectId g.row.E.Denot). FnReturnsAt g.F.Fn c.args.out.now tree answer in
     let wrote = written_below g.F.Fn _ c.args.out c.args.cursor.now.editor.now c.write.new.self.editor.now c.args.cursor.now.editor.now.prefix c.in-Ok.written
@@ -35,8 +35,8 @@ returns-in-Ok-keep_all-clause-replied g c =
     c.keep_all.new.store c.in-Ok.written c.deref.result.now wrote (ap (λ (s : State g.row.S.Denot). s.store) wrote.rest) c.store_mut.ensures.value
     c.deref.ensures.value refl c.keep_all.ensures.fallible kept.stored kept.have_encodings
 
-pub returns-in-Err-keep_all-clause-replied : goal.returns-in-Err-keep_all-clause-replied
-returns-in-Err-keep_all-clause-replied g c =
+pub returns-in-Err-keep_all-clause-reply : goal.returns-in-Err-keep_all-clause-reply
+returns-in-Err-keep_all-clause-reply g c =
     let means : StoreModel g.row.S.Denot = record { objects = g.S.Store.objects; may_fail = g.S.Store.may_fail } in
     let answers = λ (tree : List EntryView) (answer : Result ObjectId g.row.E.Denot). FnReturnsAt g.F.Fn c.args.out.now tree answer in
     let wrote = written_below g.F.Fn _ c.args.out c.args.cursor.now.editor.now c.write.new.self.editor.now c.args.cursor.now.editor.now.prefix c.in-Ok.written

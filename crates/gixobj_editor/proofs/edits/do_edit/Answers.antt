@@ -13,7 +13,7 @@ returns-in-Upsert g c =
     let answers = λ (tree : List EntryView) (answer : Result ObjectId g.row.E.Denot). FnReturnsAt g.F.Fn c.args.out.now tree answer in
     let call = c.try_upsert in
     record {
-      replied = rw (c.in-Upsert.is, c.reply_to_edit.ensures.reply)
+      reply = rw (c.in-Upsert.is, c.reply_to_edit.ensures.reply)
           (upsert_replied means answers at_root c.args.editor.now call.new.self c.in-Upsert.path c.deref.result.now c.deref.ensures.value c.in-Upsert.kind
           c.in-Upsert.id call.result
           call.ensures.upserted call.ensures.after_error call.ensures.error call.ensures.not_looked_up);
@@ -25,7 +25,7 @@ returns-in-Remove g c =
     let answers = λ (tree : List EntryView) (answer : Result ObjectId g.row.E.Denot). FnReturnsAt g.F.Fn c.args.out.now tree answer in
     let call = c.try_remove in
     record {
-      replied = rw (c.in-Remove.is, c.reply_to_edit-in-Remove.ensures.reply)
+      reply = rw (c.in-Remove.is, c.reply_to_edit-in-Remove.ensures.reply)
           (removal_replied means answers at_root c.args.editor.now call.new.self c.in-Remove.path c.deref-in-Remove.result.now c.deref-in-Remove.ensures.value
           call.result
           call.ensures.removed call.ensures.after_error call.ensures.error);
@@ -37,7 +37,7 @@ returns-in-RemoveLeaf g c =
     let answers = λ (tree : List EntryView) (answer : Result ObjectId g.row.E.Denot). FnReturnsAt g.F.Fn c.args.out.now tree answer in
     let call = c.try_remove_leaf in
     record {
-      replied = rw (c.in-RemoveLeaf.is, c.reply_to_edit-in-RemoveLeaf.ensures.reply)
+      reply = rw (c.in-RemoveLeaf.is, c.reply_to_edit-in-RemoveLeaf.ensures.reply)
           (leaf_removal_replied means answers at_root c.args.editor.now call.new.self c.in-RemoveLeaf.path c.deref-in-RemoveLeaf.result.now
           c.deref-in-RemoveLeaf.ensures.value call.result
           call.ensures.removed call.ensures.after_error call.ensures.error);

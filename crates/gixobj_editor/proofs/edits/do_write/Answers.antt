@@ -17,7 +17,7 @@ pub returns-in-Err : goal.returns-in-Err
 returns-in-Err g c =
     let done = c.in-Err.ensures {u = tt} in
     record {
-      replied = record {
+      reply = record {
         stopped = stopped g.F.Fn _ c.args.out (EmitsSome (open_dirs c.args.editor.now) (open_bases c.args.editor.now)) c.in-Err.error done.error
             (λ requested tree answer answered it. (it.met.1, it.met.0));
         unchanged = done.unchanged;
@@ -32,7 +32,7 @@ returns-in-Ok-keep_all g c =
     (λ requested tree answer answered it. (it.met.1, it.met.0)) in
     let kept = c.in-Ok-keep_all.ensures {u = tt} in
     record {
-      replied = kept_all means answers at_root c.args.editor.now c.write.new.self _ c.store_mut.result.now c.keep_all.new.store c.in-Ok.written
+      reply = kept_all means answers at_root c.args.editor.now c.write.new.self _ c.store_mut.result.now c.keep_all.new.store c.in-Ok.written
           c.deref.result.now wrote (ap (λ (s : State g.row.S.Denot). s.store) wrote.rest) c.store_mut.ensures.value c.deref.ensures.value refl
           c.keep_all.ensures.fallible kept.stored kept.have_encodings;
     }
@@ -44,7 +44,7 @@ returns-in-Err-keep_all g c =
     let wrote = written g.F.Fn _ c.args.out c.args.editor.now c.write.new.self c.in-Ok.written (c.in-Ok.ensures {u = tt}).written
     (λ requested tree answer answered it. (it.met.1, it.met.0)) in
     record {
-      replied = not_kept means answers at_root c.args.editor.now c.write.new.self _ c.store_mut.result.now c.keep_all.new.store c.in-Ok.written
+      reply = not_kept means answers at_root c.args.editor.now c.write.new.self _ c.store_mut.result.now c.keep_all.new.store c.in-Ok.written
           c.deref.result.now wrote (ap (λ (s : State g.row.S.Denot). s.store) wrote.rest) c.store_mut.ensures.value c.deref.ensures.value refl
           c.keep_all.ensures.fallible c.in-Err-keep_all.count c.in-Err-keep_all.error (c.in-Err-keep_all.ensures {u = tt}).error;
     }

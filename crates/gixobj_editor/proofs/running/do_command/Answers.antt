@@ -15,15 +15,15 @@ returns-in-At g c =
     let means : StoreModel g.row.S.Denot = record { objects = g.S.Store.objects; may_fail = g.S.Store.may_fail } in
     let answers = λ (tree : List EntryView) (answer : Result ObjectId g.row.E.Denot). FnReturnsAt g.F.Fn c.args.out.now tree answer in
     record {
-      replied = rw c.in-At.is
+      reply = rw c.in-At.is
           (subst (λ (l : List BString). IsReplyAt means answers (cursor_path (names_of l)) c.args.editor.now c.in-At.edits.items c.do_edits_at.result
-          c.do_edits_at.new.editor) c.deref.ensures.value c.do_edits_at.ensures.replied);
+          c.do_edits_at.new.editor) c.deref.ensures.value c.do_edits_at.ensures.reply);
     }
 
 pub returns-then-is_well_formed : goal.returns-then-is_well_formed
 returns-then-is_well_formed g c =
     record {
-      replied = rw c.in-SetRoot.is
+      reply = rw c.in-SetRoot.is
           (is_root_set_of_reply c.args.editor.now _ c.set_root.result.now c.in-SetRoot.root (search rules) (c.is_well_formed.ensures.0 c.if-is_well_formed.true)
           c.set_root.ensures.state c.set_root.ensures.files c.set_root.ensures.has_bases);
     }

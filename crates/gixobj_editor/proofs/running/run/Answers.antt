@@ -14,7 +14,7 @@ loop-command-preserved g c =
     let answers = λ (tree : List EntryView) (answer : Result ObjectId g.row.E.Denot). FnReturnsAt g.F.Fn c.args.out tree answer in
     let steps = c.in-Some.ensures.steps in
     record {
-      so_far = λ replies new h. one_more means answers c.loop-command.editor _ _ _ _ _ _ _ _ _ _ _ c.do_command-reply.ensures.replied steps.0
+      so_far = λ replies new h. one_more means answers c.loop-command.editor _ _ _ _ _ _ _ _ _ _ _ c.do_command-reply.ensures.reply steps.0
           c.push_reserved.ensures.items c.loop-command.invariant.so_far h;
       room = let e = ap length steps.0 in grind (arith, c.loop-command.invariant.room);
       same = refl;

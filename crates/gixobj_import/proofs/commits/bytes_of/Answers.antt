@@ -2,8 +2,8 @@ use Rattle.std.proofs.Common.{refl}
 use Rattle.gixobj_import.proofs.Legal.{actor_rejected, actors_legal}
 use Rattle.gixobj_import.proofs.commits.bytes_of.Goals as goal
 
-pub returns-in-Ok-clause-legal : goal.returns-in-Ok-clause-legal
-returns-in-Ok-clause-legal c = actors_legal c.args.step.now c.in_ok-commit.commit c.in_ok-commit.ensures.author c.in_ok-commit.ensures.committer
+pub returns-in-Ok-clause-encodable : goal.returns-in-Ok-clause-encodable
+returns-in-Ok-clause-encodable c = actors_legal c.args.step.now c.in_ok-commit.commit c.in_ok-commit.ensures.author c.in_ok-commit.ensures.committer
     c.in-Ok.ensures.no_error
 
 pub returns-in-Err-IllegalActor-clause-error : goal.returns-in-Err-IllegalActor-clause-error

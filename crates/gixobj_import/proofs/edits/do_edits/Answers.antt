@@ -16,7 +16,7 @@ pub returns-in-Err : goal.returns-in-Err
 returns-in-Err g c =
     let means = store_model g.S.Store.objects g.S.Store.may_fail in
     record {
-      done = tt;
+      edited = tt;
       after_error = rejected_at means c.args.editor.now c.loop-index.editor c.do_edit.new.editor c.args.edits.now c.loop-index.index c.index-edits-index.result
           c.in-Err.error c.loop-index-test.true c.index-edits-index.is c.loop-index.invariant c.in-Err.ensures;
     }
@@ -25,6 +25,6 @@ pub returns : goal.returns
 returns g c =
     let means = store_model g.S.Store.objects g.S.Store.may_fail in
     record {
-      done = all_done means c.args.editor.now c.loop-index.editor c.args.edits.now c.loop-index.index c.loop-index-test.false c.loop-index.invariant;
+      edited = all_done means c.args.editor.now c.loop-index.editor c.args.edits.now c.loop-index.index c.loop-index-test.false c.loop-index.invariant;
       after_error = tt;
     }

@@ -6,10 +6,10 @@ pub returns-clause-written : goal.returns-clause-written
 returns-clause-written g c =
     write_after (store_model g.S.Store.objects g.S.Store.may_fail) c.args.hash c.args.edits.now c.args.editor.now c.do_edits.new.editor
     c.write_and_keep.new.editor c.write_and_keep.result
-    c.in_default.ensures.done c.write_and_keep.ensures.written
+    c.in_default.ensures.edited c.write_and_keep.ensures.written
 
 pub returns-clause-error : goal.returns-clause-error
 returns-clause-error g c =
     write_failed_after (store_model g.S.Store.objects g.S.Store.may_fail) c.args.hash c.args.edits.now c.args.editor.now c.do_edits.new.editor
     c.write_and_keep.new.editor c.write_and_keep.result
-    c.in_default.ensures.done c.write_and_keep.ensures.error
+    c.in_default.ensures.edited c.write_and_keep.ensures.error

@@ -12,4 +12,4 @@ returns-in_err-listed_lines-clause-error g c =
     let read : ReadsAll (g.S.Source.rest c.args.input.now) (g.S.Source.rest c.read_all.new.source) input =
     (c.in_ok-bytes.ensures.all, c.in_ok-bytes.ensures.end) in
     let rejected : IsListingError c.args.hash input c.in_err-listed_lines.field-0.0 = rw (← c.as_slice.ensures.value) c.in_err-listed_lines.ensures.error in
-    rw (made.1, made.2) (list_error_of_answer _ _ _ _ _ _ c.in_err-listed_lines.field-0.0 c.args.hash input c.requires.requested read rejected)
+    rw (made.1, made.2) (list_error_of_answer _ _ _ _ _ _ c.in_err-listed_lines.field-0.0 c.args.hash input c.requires.command read rejected)

@@ -7,5 +7,5 @@ use Rattle.gixobj_script.proofs.tree.listing.Goals as goal
 pub returns-in-Ok-clause-error : goal.returns-in-Ok-clause-error
 returns-in-Ok-clause-error c =
     let content = c.in_ok-content.content.now in
-    let first = first_entry_exists c.args.hash content (tree_entries c.in-Ok.tree) c.in-Ok.ensures.found c.in-Err.ensures.some in
+    let first = first_entry_exists c.args.hash content (tree_entries c.in-Ok.tree) c.in-Ok.ensures.found c.in-Err.ensures.allocates in
     inr (content, first.0, first.1, c.in_ok-content.ensures.found, first.2)

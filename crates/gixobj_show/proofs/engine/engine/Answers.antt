@@ -2,5 +2,5 @@
 use Rattle.std.proofs.Common.{rules}
 use Rattle.gixobj_show.proofs.engine.engine.Goals as goal
 
-pub returns-clause-answer : goal.returns-clause-answer
-returns-clause-answer g c = search rules
+pub returns-clause-written : goal.returns-clause-written
+returns-clause-written g c = search rules

@@ -42,7 +42,7 @@ fn some_body(body: &[u8]) -> Option<BStr<'_>>
 #[inline(always)]
 #[tactic(auto, using(crate::proofs::Plain::is_from_break_at_place, crate::proofs::Plain::is_from_break_nil))]
 fn from_break(bytes: &[u8]) -> &[u8]
-    ensures is { IsFromBreak bytes.now result.now }
+    ensures value { IsFromBreak bytes.now result.now }
     ensures within { length result.now ≤ length bytes.now }
 {
     match bytes.find_byteset(b"\n\r") {

@@ -34,7 +34,7 @@ loop-state-preserved c = (
       c.loop-state.rest.now c.in_ok-line.after.now (line_view c.in_ok-line.line)
       c.loop-state.invariant.0 c.in_ok-line.ensures.found c.in_ok-add_line.ensures.appended,
   c.in_ok-add_line.ensures.has_capacity,
-  c.in_ok-add_line.ensures.borrowed c.loop-state.invariant.2 c.in_ok-line.ensures.parsed,
+  c.in_ok-add_line.ensures.borrowed c.loop-state.invariant.2 c.in_ok-line.ensures.parts,
 )
 
 pub returns-clause-found : goal.returns-clause-found

@@ -18,8 +18,8 @@ use Rattle.gixobj_directories.proofs.BaseSteps.{editing, base_edited_of_made, wi
 use Rattle.gixobj_directories.proofs.Ordered.{level_names_apart}
 use Rattle.gixobj_directories.proofs.open.Open.+ensure_directory.Goals as goal
 
-pub returns-in_default-clause-ok : goal.returns-in_default-clause-ok
-returns-in_default-clause-ok t c =
+pub returns-in_default-clause-dirs : goal.returns-in_default-clause-dirs
+returns-in_default-clause-dirs t c =
     rw (names_of_nil c.args.path.now c.in_default.ensures.cases)
     (ensured_dirs_nil c.args.self.now c.self.inside.tree (parts c.self.inside.children.items) c.self.view_is c.args.null)
 
@@ -31,13 +31,13 @@ pub invariant_of-self-in_default-child_at : goal.invariant_of-self-in_default-ch
 invariant_of-self-in_default-child_at t c =
     let name = bstring_bytes c.in-Some.name.now in
     let cs = c.self.inside.children.items in
-    rw (c.in_ok-add_directory.ensures.ok.0, c.in_ok-add_directory.ensures.ok.1)
+    rw (c.in_ok-add_directory.ensures.inserted.0, c.in_ok-add_directory.ensures.inserted.1)
     (is_level_with_directory name c.args.null c.ensure_directory.new.self c.self.inside.tree (parts cs)
     (subst (AllByRecursion IsEntryName) (ap names_of c.in-Some.ensures.cases.0) c.requires).0
     (all_names_differ name cs c.deref.result.now c.deref.ensures.value (c.in_default-child_at.ensures {u = tt})) c.self.invariant)
 
-pub returns-in_default-child_at-clause-ok : goal.returns-in_default-child_at-clause-ok
-returns-in_default-child_at-clause-ok t c =
+pub returns-in_default-child_at-clause-dirs : goal.returns-in_default-child_at-clause-dirs
+returns-in_default-child_at-clause-dirs t c =
     let name = bstring_bytes c.in-Some.name.now in
     let cs = c.self.inside.children.items in
     let path : names_of c.args.path.now ≡ name ∷ names_of c.in-Some.rest.now = ap names_of c.in-Some.ensures.cases.0 in
@@ -47,16 +47,16 @@ returns-in_default-child_at-clause-ok t c =
     others c.self.invariant in
     let none : in_part name (parts cs) ≡ (λ _. None) = λ i at. in_part_none name cs c.deref.result.now c.deref.ensures.value
     (c.in_default-child_at.ensures {u = tt}) at i in
-    let inner = c.in_ok-ensure_directory.ensures.ok in
-    rw (path, c.in_ok-add_directory.ensures.ok.0, c.in_ok-add_directory.ensures.ok.1)
+    let inner = c.in_ok-ensure_directory.ensures.dirs in
+    rw (path, c.in_ok-add_directory.ensures.inserted.0, c.in_ok-add_directory.ensures.inserted.1)
     (ensured_deeper c.args.self.now c.self.inside.tree (with_directory name c.args.null c.self.inside.tree) (parts cs)
     (with_part (name, c.ensure_directory.new.self) (parts cs)) c.self.view_is (level_names_apart c.self.invariant) (level_names_apart level) name
     (dirs_of c.ensure_directory.new.self)
     (becomes_of_with_part name c.ensure_directory.new.self (parts cs) others) (names_of c.in-Some.rest.now) c.args.null refl
     (λ at. rw none ((rw (c.new-inner.ensures, c.empty.ensures) at inner) at ∙ ensured_dirs_of_new (names_of c.in-Some.rest.now) c.args.null at)))
 
-pub returns-clause-ok : goal.returns-clause-ok
-returns-clause-ok t c = MatchResult-weaker c.ensure_directory-2.result c.ensure_directory-2.ensures.ok (λ _ ok.
+pub returns-clause-dirs : goal.returns-clause-dirs
+returns-clause-dirs t c = MatchResult-weaker c.ensure_directory-2.result c.ensure_directory-2.ensures.dirs (λ _ ok.
     let name = bstring_bytes c.in-Some.name.now in
     let cs = c.self.inside.children.items in
     let path : names_of c.args.path.now ≡ name ∷ names_of c.in-Some.rest.now = ap names_of c.in-Some.ensures.cases.0 in
@@ -111,7 +111,7 @@ returns-in_default-child_at-clause-bases t c =
     (subst (AllByRecursion IsEntryName) path c.requires).0
     others c.self.invariant in
     let inner = c.in_ok-ensure_directory.ensures.bases in
-    rw (c.in_ok-add_directory.ensures.ok.0, c.in_ok-add_directory.ensures.ok.1)
+    rw (c.in_ok-add_directory.ensures.inserted.0, c.in_ok-add_directory.ensures.inserted.1)
     (with_moved base_edited editing c.args.self.now c.self.inside.tree (with_directory name c.args.null c.self.inside.tree) (parts cs) c.self.view_is
     (level_names_apart c.self.invariant) name c.ensure_directory.new.self (level_names_apart level) others
     (in_part_none name cs c.deref.result.now c.deref.ensures.value (c.in_default-child_at.ensures {u = tt}))

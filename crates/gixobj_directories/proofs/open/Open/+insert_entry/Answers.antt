@@ -21,17 +21,17 @@ pub invariant_of-self-then-is_empty : goal.invariant_of-self-then-is_empty
 invariant_of-self-then-is_empty t c =
     let x : EntryView = record { mode = mode_bits c.args.mode; name = bstring_bytes c.in-Some.name.now; id = c.args.id } in
     let path = names_of_last c.args.path.now c.in-Some.name.now c.in-Some.rest.now c.in-Some.ensures.cases.0 (c.if-is_empty.ensures {u = tt}) in
-    rw (c.in_ok-set_entry.ensures.ok, c.drop_child.ensures)
+    rw (c.in_ok-set_entry.ensures.tree, c.drop_child.ensures)
     (is_level_with_entry x c.self.inside.tree (parts c.self.inside.children.items) (subst (AllByRecursion IsEntryName) path c.requires).0 c.self.invariant)
 
-pub returns-then-is_empty-clause-ok : goal.returns-then-is_empty-clause-ok
-returns-then-is_empty-clause-ok t c =
+pub returns-then-is_empty-clause-dirs : goal.returns-then-is_empty-clause-dirs
+returns-then-is_empty-clause-dirs t c =
     let name = bstring_bytes c.in-Some.name.now in
     let x : EntryView = record { mode = mode_bits c.args.mode; name = name; id = c.args.id } in
     let ps = parts c.self.inside.children.items in
     let path = names_of_last c.args.path.now c.in-Some.name.now c.in-Some.rest.now c.in-Some.ensures.cases.0 (c.if-is_empty.ensures {u = tt}) in
     let level = is_level_with_entry x c.self.inside.tree ps (subst (AllByRecursion IsEntryName) path c.requires).0 c.self.invariant in
-    rw (path, c.in_ok-set_entry.ensures.ok, c.drop_child.ensures)
+    rw (path, c.in_ok-set_entry.ensures.tree, c.drop_child.ensures)
     (inserted_last c.args.self.now c.self.inside.tree (with_entry x c.self.inside.tree) ps (other_parts name ps) c.self.view_is
     (level_names_apart c.self.invariant)
     (level_names_apart level) name (λ _. None) (becomes_of_removal name ps) (mode_bits c.args.mode) c.args.id c.args.null refl (λ _. refl))
@@ -46,12 +46,12 @@ invariant_of-self-in-Err t c =
     let name = bstring_bytes c.in-Some.name.now in
     let cs = c.self.inside.children.items in
     let m = more_names_remain c.args.path.now c.in-Some.name.now c.in-Some.rest.now c.in-Some.ensures.cases.0 (c.if-is_empty.ensures {u = tt}) in
-    rw (c.in_ok-add_directory-in-Err.ensures.ok.0, c.in_ok-add_directory-in-Err.ensures.ok.1)
+    rw (c.in_ok-add_directory-in-Err.ensures.inserted.0, c.in_ok-add_directory-in-Err.ensures.inserted.1)
     (is_level_with_directory name c.args.null c.insert_entry.new.self c.self.inside.tree (parts cs) (subst (AllByRecursion IsEntryName) m.path_is c.requires).0
     (all_names_differ name cs c.deref.result.now c.deref.ensures.value (c.in-Err.ensures {u = tt}).found) c.self.invariant)
 
-pub returns-in-Err-clause-ok : goal.returns-in-Err-clause-ok
-returns-in-Err-clause-ok t c =
+pub returns-in-Err-clause-dirs : goal.returns-in-Err-clause-dirs
+returns-in-Err-clause-dirs t c =
     let name = bstring_bytes c.in-Some.name.now in
     let cs = c.self.inside.children.items in
     let m = more_names_remain c.args.path.now c.in-Some.name.now c.in-Some.rest.now c.in-Some.ensures.cases.0 (c.if-is_empty.ensures {u = tt}) in
@@ -61,8 +61,8 @@ returns-in-Err-clause-ok t c =
     others c.self.invariant in
     let none : in_part name (parts cs) ≡ (λ _. None) = λ i path. in_part_none name cs c.deref.result.now c.deref.ensures.value
     (c.in-Err.ensures {u = tt}).found path i in
-    let inner = c.in_ok-insert_entry-in-Err.ensures.ok in
-    rw (m.path_is, c.in_ok-add_directory-in-Err.ensures.ok.0, c.in_ok-add_directory-in-Err.ensures.ok.1)
+    let inner = c.in_ok-insert_entry-in-Err.ensures.dirs in
+    rw (m.path_is, c.in_ok-add_directory-in-Err.ensures.inserted.0, c.in_ok-add_directory-in-Err.ensures.inserted.1)
     (inserted_deeper c.args.self.now c.self.inside.tree (with_directory name c.args.null c.self.inside.tree) (parts cs)
     (with_part (name, c.insert_entry.new.self) (parts cs)) c.self.view_is (level_names_apart c.self.invariant) (level_names_apart level) name
     (dirs_of c.insert_entry.new.self)
@@ -71,8 +71,8 @@ returns-in-Err-clause-ok t c =
     (mode_bits c.args.mode) c.args.id c.args.null
     path)))
 
-pub returns-clause-ok : goal.returns-clause-ok
-returns-clause-ok t c = MatchResult-weaker c.insert_entry-2.result c.insert_entry-2.ensures.ok (λ _ ok.
+pub returns-clause-dirs : goal.returns-clause-dirs
+returns-clause-dirs t c = MatchResult-weaker c.insert_entry-2.result c.insert_entry-2.ensures.dirs (λ _ ok.
     let name = bstring_bytes c.in-Some.name.now in
     let cs = c.self.inside.children.items in
     let m = more_names_remain c.args.path.now c.in-Some.name.now c.in-Some.rest.now c.in-Some.ensures.cases.0 (c.if-is_empty.ensures {u = tt}) in
@@ -103,7 +103,7 @@ returns-then-is_empty-clause-bases t c =
     let ps = parts c.self.inside.children.items in
     let path = names_of_last c.args.path.now c.in-Some.name.now c.in-Some.rest.now c.in-Some.ensures.cases.0 (c.if-is_empty.ensures {u = tt}) in
     let level = is_level_with_entry x c.self.inside.tree ps (subst (AllByRecursion IsEntryName) path c.requires).0 c.self.invariant in
-    rw (c.in_ok-set_entry.ensures.ok, c.drop_child.ensures)
+    rw (c.in_ok-set_entry.ensures.tree, c.drop_child.ensures)
     (base_edited_of_dropped c.args.self.now c.self.inside.tree (with_entry x c.self.inside.tree) ps c.self.view_is (level_names_apart c.self.invariant) name
     (level_names_apart level))
 
@@ -117,7 +117,7 @@ returns-in-Err-clause-bases t c =
     (subst (AllByRecursion IsEntryName) m.path_is c.requires).0
     others c.self.invariant in
     let inner = c.in_ok-insert_entry-in-Err.ensures.bases in
-    rw (c.in_ok-add_directory-in-Err.ensures.ok.0, c.in_ok-add_directory-in-Err.ensures.ok.1)
+    rw (c.in_ok-add_directory-in-Err.ensures.inserted.0, c.in_ok-add_directory-in-Err.ensures.inserted.1)
     (with_moved base_edited editing c.args.self.now c.self.inside.tree (with_directory name c.args.null c.self.inside.tree) (parts cs) c.self.view_is
     (level_names_apart c.self.invariant) name c.insert_entry.new.self (level_names_apart level) others
     (in_part_none name cs c.deref.result.now c.deref.ensures.value (c.in-Err.ensures {u = tt}).found)

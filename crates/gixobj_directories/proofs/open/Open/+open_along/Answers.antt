@@ -83,7 +83,7 @@ returns-in_err-own_name-clause-stopped_opening g t c = if_err_weaken c.from_resi
     let Ends = EndsBefore c.args.not_looked_up in
     let name = bstring_bytes c.in-Some.name.now in
     let cs = c.self.inside.children.items in
-    let there = (c.in-Some-next_id.ensures {u = tt}).some in (
+    let there = (c.in-Some-next_id.ensures {u = tt}).found in (
       [],
       None,
       stops_opening_here Ends trees (names_of c.args.path.now) name (names_of c.in-Some.rest.now) c.self.inside.tree c.args.self.now cs
@@ -101,8 +101,8 @@ returns-in_err-tree-clause-stopped_opening g t c = if_err_weaken c.from_residual
     let Ends = EndsBefore c.args.not_looked_up in
     let name = bstring_bytes c.in-Some.name.now in
     let cs = c.self.inside.children.items in
-    let there = (c.in-Some-next_id.ensures {u = tt}).some in
-    let queries = (c.in_err-tree.ensures {u = tt}).requested in (
+    let there = (c.in-Some-next_id.ensures {u = tt}).found in
+    let queries = (c.in_err-tree.ensures {u = tt}).lookups in (
       c.in-Some-next_id.id ∷ [],
       Some c.in-Some-next_id.id,
       subst (λ (id : ObjectId). StopsOpening Ends trees (names_of c.args.path.now) (dirs_of c.args.self.now)
@@ -124,9 +124,9 @@ invariant_of-self-2 g t c =
     let cs = c.self.inside.children.items in
     let inner = c.open_along-opened.new.self in
     let same : parts c.store_child.new.children.items ≡ with_part (name, inner) (parts cs) =
-    c.store_child.ensures ∙ ap (λ n. with_part (n, inner) (parts c.room_for.new.children.items)) (c.in_ok-own_name.ensures {u = tt}).ok.0
+    c.store_child.ensures ∙ ap (λ n. with_part (n, inner) (parts c.room_for.new.children.items)) (c.in_ok-own_name.ensures {u = tt}).found.0
     ∙ ap (λ (l : List Child). with_part (name, inner) (parts l)) c.room_for.ensures.items in
-    let there = (c.in-Some-next_id.ensures {u = tt}).some in
+    let there = (c.in-Some-next_id.ensures {u = tt}).found in
     is_level_of_new_child name c.self.inside.tree cs c.self.invariant
     (all_names_differ name cs c.deref.result.now c.deref.ensures.value (c.in_default-child_at.ensures {u = tt}))
     there.0 there.1 there.2 inner c.store_child.new.children.items same
@@ -137,9 +137,9 @@ returns-clause-opened g t c = MatchResult-weaker c.open_along-opened.result c.op
     let cs = c.self.inside.children.items in
     let inner = c.open_along-opened.new.self in
     let same : parts c.store_child.new.children.items ≡ with_part (name, inner) (parts cs) =
-    c.store_child.ensures ∙ ap (λ n. with_part (n, inner) (parts c.room_for.new.children.items)) (c.in_ok-own_name.ensures {u = tt}).ok.0
+    c.store_child.ensures ∙ ap (λ n. with_part (n, inner) (parts c.room_for.new.children.items)) (c.in_ok-own_name.ensures {u = tt}).found.0
     ∙ ap (λ (l : List Child). with_part (name, inner) (parts l)) c.room_for.ensures.items in
-    let there = (c.in-Some-next_id.ensures {u = tt}).some in
+    let there = (c.in-Some-next_id.ensures {u = tt}).found in
     let below = ok trees fits in
     let finds = (c.in_ok-tree.ensures {u = tt}).found trees fits in (
       finds.0 ++ below.0,
@@ -163,9 +163,9 @@ returns-clause-stopped_opening g t c = MatchResult-weaker c.open_along-opened.re
     let cs = c.self.inside.children.items in
     let inner = c.open_along-opened.new.self in
     let same : parts c.store_child.new.children.items ≡ with_part (name, inner) (parts cs) =
-    c.store_child.ensures ∙ ap (λ n. with_part (n, inner) (parts c.room_for.new.children.items)) (c.in_ok-own_name.ensures {u = tt}).ok.0
+    c.store_child.ensures ∙ ap (λ n. with_part (n, inner) (parts c.room_for.new.children.items)) (c.in_ok-own_name.ensures {u = tt}).found.0
     ∙ ap (λ (l : List Child). with_part (name, inner) (parts l)) c.room_for.ensures.items in
-    let there = (c.in-Some-next_id.ensures {u = tt}).some in
+    let there = (c.in-Some-next_id.ensures {u = tt}).found in
     let below = bad trees fits in
     let finds = (c.in_ok-tree.ensures {u = tt}).found trees fits in (
       finds.0 ++ below.0,
@@ -212,9 +212,9 @@ returns-clause-still_opened g t c =
     let cs = c.self.inside.children.items in
     let inner = c.open_along-opened.new.self in
     let same : parts c.store_child.new.children.items ≡ with_part (name, inner) (parts cs) =
-    c.store_child.ensures ∙ ap (λ n. with_part (n, inner) (parts c.room_for.new.children.items)) (c.in_ok-own_name.ensures {u = tt}).ok.0
+    c.store_child.ensures ∙ ap (λ n. with_part (n, inner) (parts c.room_for.new.children.items)) (c.in_ok-own_name.ensures {u = tt}).found.0
     ∙ ap (λ (l : List Child). with_part (name, inner) (parts l)) c.room_for.ensures.items in
-    let there = (c.in-Some-next_id.ensures {u = tt}).some in
+    let there = (c.in-Some-next_id.ensures {u = tt}).found in
     found_in IsFormedList StaysOpened stays_opened_goes_down stays_opened_goes_in c.self.inside.tree c.args.self.now (names_of c.args.path.now) name
     (names_of c.in-Some.rest.now)
     (ap names_of c.in-Some.ensures.cases.0)
@@ -282,12 +282,12 @@ returns-clause-bases g t c =
     let cs = c.self.inside.children.items in
     let inner = c.open_along-opened.new.self in
     let same : parts c.store_child.new.children.items ≡ with_part (name, inner) (parts cs) =
-    c.store_child.ensures ∙ ap (λ n. with_part (n, inner) (parts c.room_for.new.children.items)) (c.in_ok-own_name.ensures {u = tt}).ok.0
+    c.store_child.ensures ∙ ap (λ n. with_part (n, inner) (parts c.room_for.new.children.items)) (c.in_ok-own_name.ensures {u = tt}).found.0
     ∙ ap (λ (l : List Child). with_part (name, inner) (parts l)) c.room_for.ensures.items in
-    let there = (c.in-Some-next_id.ensures {u = tt}).some in
+    let there = (c.in-Some-next_id.ensures {u = tt}).found in
     let tree = c.in_ok-tree.tree in
     let inner_is : _ ≡ opened tree tree [] = c.with_base-inner.ensures ∙ ap (λ (b : List EntryView). opened tree b [])
-    (c.in_ok-tree.ensures {u = tt}).copied in
+    (c.in_ok-tree.ensures {u = tt}).base in
     base_opened_of_moved c.args.self.now c.self.inside.tree cs c.store_child.new.children.items c.self.view_is c.self.invariant name
     (all_names_differ name cs c.deref.result.now c.deref.ensures.value (c.in_default-child_at.ensures {u = tt}))
     (in_part_none name cs c.deref.result.now c.deref.ensures.value (c.in_default-child_at.ensures {u = tt}))

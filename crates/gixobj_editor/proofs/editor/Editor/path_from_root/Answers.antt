@@ -6,6 +6,6 @@ pub returns-clause-is_opened : goal.returns-clause-is_opened
 returns-clause-is_opened g c = is_opened_of_editor c.self.inside.store c.self.inside.object_hash (names_of c.self.inside.prefix.items) c.self.inside.root
     c.self.inside.lookups c.args.self.now c.self.view_is c.self.invariant.opened
 
-pub returns-clause-idle : goal.returns-clause-idle
-returns-clause-idle g c = opened_bases_unchanged c.self.inside.store c.self.inside.object_hash (names_of c.self.inside.prefix.items) c.self.inside.root
+pub returns-clause-bases : goal.returns-clause-bases
+returns-clause-bases g c = opened_bases_unchanged c.self.inside.store c.self.inside.object_hash (names_of c.self.inside.prefix.items) c.self.inside.root
     c.self.inside.lookups c.args.self.now c.self.view_is

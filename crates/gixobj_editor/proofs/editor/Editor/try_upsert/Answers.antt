@@ -114,7 +114,7 @@ invariant_of-self-2 g c =
     (c.in_ok-insert_entry.ensures {u = tt}).bases
     s.object_hash path (names_of c.in-Some.directory.now) (bstring_bytes c.in-Some._last.now) is (c.in_ok-check_names.ensures {u = tt}).accepted
     (mode_of_kind c.args.kind) c.args.id ok.0 ok.1
-    (λ at. (c.in_ok-insert_entry.ensures {u = tt}).ok at
+    (λ at. (c.in_ok-insert_entry.ensures {u = tt}).dirs at
     ∙ ap (λ mode. upserted_dirs (names_of c.args.path.now) mode c.args.id c.null-null.result (dirs_of c.open_along.new.self) at) c.into.ensures
     ∙ ap (λ null. upserted_dirs (names_of c.args.path.now) (mode_of_kind c.args.kind) c.args.id null (dirs_of c.open_along.new.self) at)
     c.null-null.ensures.value)
@@ -129,7 +129,7 @@ returns-clause-upserted g c = λ trees fits.
     c.open_along.new.lookups
     c.args.self.now c.self.view_is (names_of c.args.path.now) (names_of c.in-Some.directory.now) (bstring_bytes c.in-Some._last.now)
     (mode_of_kind c.args.kind) c.args.id ok.0 is (c.in_ok-check_names.ensures {u = tt}).accepted ok.1
-    (λ at. (c.in_ok-insert_entry.ensures {u = tt}).ok at
+    (λ at. (c.in_ok-insert_entry.ensures {u = tt}).dirs at
     ∙ ap (λ mode. upserted_dirs (names_of c.args.path.now) mode c.args.id c.null-null.result (dirs_of c.open_along.new.self) at) c.into.ensures
     ∙ ap (λ null. upserted_dirs (names_of c.args.path.now) (mode_of_kind c.args.kind) c.args.id null (dirs_of c.open_along.new.self) at)
     c.null-null.ensures.value) ok.2 c.self.invariant c.open_along.ensures.bases (c.in_ok-insert_entry.ensures {u = tt}).bases

@@ -17,10 +17,10 @@ use Rattle.gixobj_editor.proofs.editor.Editor.try_write.Goals as goal
 pub invariant_of-self : goal.invariant_of-self
 invariant_of-self g c =
     written_opened_on c.write_all.result c.self.inside.root c.write_all.new.node
-    (IfOk-weaker c.write_all.result _ _ (λ it ok. (ok.1, ok.5, ok.6)) c.write_all.ensures.ok) c.write_all.ensures.unchanged c.self.invariant
+    (IfOk-weaker c.write_all.result _ _ (λ it ok. (ok.1, ok.5, ok.6)) c.write_all.ensures.written) c.write_all.ensures.unchanged c.self.invariant
 
 pub returns-clause-written : goal.returns-clause-written
-returns-clause-written g c = if_ok_and c.write_all.result _ _ _ c.write_all.ensures.ok c.write_all.ensures.bases (λ it ok edited.
+returns-clause-written g c = if_ok_and c.write_all.result _ _ _ c.write_all.ensures.written c.write_all.ensures.bases (λ it ok edited.
     let s = c.self.inside in
     written_at s.store s.object_hash (names_of s.prefix.items) (λ f p h. CalledAt g.F.FnMut f p.1 (Ok p.0) h) s.root c.write_all.new.node s.lookups
     c.args.self.now c.self.view_is c.self.invariant it ok.0 ok.1 ok.6.0 c.args.out.now c.write_all.new.out

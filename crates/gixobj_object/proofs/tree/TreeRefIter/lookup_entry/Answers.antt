@@ -24,7 +24,7 @@ returns-in-Break-clause-found g c =
     c.new-tree.ensures.kind c.new-tree.ensures.object_hash c.in-Break.ensures.step in
     let at = is_at_path_of_reader (g.S.Store.objects c.args.store.now) c.args.self.now (map bstring_bytes c.args.path.now) c.in-Break.found step in
     subst (λ (it : Option EntryView). IsAtPath (g.S.Store.objects c.args.store.now) (Some (remaining_tree c.args.self.now))
-    (map bstring_bytes c.args.path.now) it) (sym c.in_ok-owned-in-Break.ensures.same) at
+    (map bstring_bytes c.args.path.now) it) (sym c.in_ok-owned-in-Break.ensures.found) at
 
 pub loop-tree-init : goal.loop-tree-init
 loop-tree-init g c =
@@ -58,4 +58,4 @@ returns-in-Break-next_entry-clause-found g c =
     (map bstring_bytes c.loop-tree.names.now) c.loop-tree.id c.in-Some.tree c.in-Break-next_entry.found
     c.loop-tree.invariant there (λ other. (c.in-Break-next_entry.ensures.no_tree other).0) c.in-Break-next_entry.ensures.step in
     subst (λ (it : Option EntryView). IsAtPath (g.S.Store.objects c.args.store.now) (Some (remaining_tree c.args.self.now))
-    (map bstring_bytes c.args.path.now) it) (sym c.in_ok-owned-in-Break-next_entry.ensures.same) at
+    (map bstring_bytes c.args.path.now) it) (sym c.in_ok-owned-in-Break-next_entry.ensures.found) at

@@ -34,7 +34,7 @@ returns-in-Break-clause-found g c =
       path_names path,
       are_names_of_path path,
       subst (λ (it : Option EntryView). IsAtPath (g.S.Store.objects c.args.store.now) (Some (remaining_tree c.args.self.now))
-          (path_names path) it) (sym c.in_ok-owned-in-Break.ensures.same) at,
+          (path_names path) it) (sym c.in_ok-owned-in-Break.ensures.found) at,
     )
 
 pub loop-tree-init : goal.loop-tree-init
@@ -94,7 +94,7 @@ returns-in-Break-next_entry_in_bytes-clause-found g c =
       path_names path,
       are_names_of_path path,
       subst (λ (it : Option EntryView). IsAtPath (g.S.Store.objects c.args.store.now) (Some (remaining_tree c.args.self.now))
-          (path_names path) it) (sym c.in_ok-owned-in-Break-next_entry_in_bytes.ensures.same) at,
+          (path_names path) it) (sym c.in_ok-owned-in-Break-next_entry_in_bytes.ensures.found) at,
     )
 
 pub returns-in_err-tree-clause-error : goal.returns-in_err-tree-clause-error

@@ -54,7 +54,7 @@ pub(crate) fn is_blank_line(content: &[u8]) -> bool
 #[inline(always)]
 #[tactic(auto, using(crate::proofs::FirstLines::line_len_of_newline, crate::proofs::FirstLines::line_len_of_second_newline, crate::proofs::FirstLines::line_len_at_newline, crate::proofs::FirstLines::line_len_of_newline_free))]
 fn first_line_len(content: &[u8]) -> usize
-    ensures is { result ≡ line_len content.now }
+    ensures len { result ≡ line_len content.now }
     ensures within { result ≤ length content.now }
 {
     match content {

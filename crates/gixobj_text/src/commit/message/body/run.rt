@@ -30,7 +30,7 @@ fn begins_recognised(bytes: &[u8]) -> bool
 /// Returns what a line adds to the number of other lines.
 #[inline(always)]
 fn other_of(trailing: bool, indented: bool, above: bool) -> usize
-    ensures is { result ≡ cond trailing 0 (cond indented (cond above 0 1) 1) }
+    ensures value { result ≡ cond trailing 0 (cond indented (cond above 0 1) 1) }
     ensures bounded { result ≤ 1 }
 {
     if trailing || indented && above { 0 } else { 1 }
@@ -67,8 +67,8 @@ impl Run {
     pub(crate) fn with_line(self, line: &[u8]) -> Run
         requires trailers { self.trailers + 1 < 2 ^ 64 }
         requires others { self.others + 1 < 2 ^ 64 }
-        ensures few_trailers { result.trailers ≤ self.trailers + 1 }
-        ensures few_others { result.others ≤ self.others + 1 }
+        ensures max_trailers { result.trailers ≤ self.trailers + 1 }
+        ensures max_others { result.others ≤ self.others + 1 }
         ensures trailers { result.trailers ≡ self.trailers + cond (is_trailing_of line.now) 1 0 }
         ensures others { result.others ≡ self.others + other_of_of self.above line.now }
         ensures recognised { result.recognised ≡ (self.recognised || is_recognised_of line.now) }

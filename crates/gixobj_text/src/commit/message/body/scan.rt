@@ -71,7 +71,7 @@ impl Scan {
     #[inline(always)]
     fn with_next(self, line: &[u8], last: usize) -> Scan
         requires last { last ≡ self.place + length (trimmed_line line.now) }
-        requires filled { IsFalse (is_blank line.now) }
+        requires not_blank { IsFalse (is_blank line.now) }
         requires proceeds { self.going ≡ true }
         requires fits { self.place + length line.now < 2 ^ 64 }
         requires trailers { self.run.trailers + 1 < 2 ^ 64 }
@@ -96,7 +96,7 @@ impl Scan {
     #[inline(always)]
     fn with_first(self, line: &[u8], last: usize) -> Scan
         requires last { last ≡ self.place + length (trimmed_line line.now) }
-        requires filled { IsFalse (is_blank line.now) }
+        requires not_blank { IsFalse (is_blank line.now) }
         requires proceeds { self.going ≡ false }
         requires fits { self.place + length line.now < 2 ^ 64 }
         ensures scanned { AddsLine self line.now result }
@@ -118,7 +118,7 @@ impl Scan {
     /// Adds a line.
     #[inline(always)]
     fn with_line(self, line: &[u8]) -> Scan
-        requires some { line.now ≢ [] }
+        requires non_empty { line.now ≢ [] }
         requires fits { self.place + length line.now < 2 ^ 64 }
         requires trailers { self.run.trailers ≤ self.place }
         requires others { self.run.others ≤ self.place }

@@ -21,4 +21,4 @@ pub returns : goal.returns
 returns c =
     c.eight_order.ensures ∙ slice_cmp_next_block 8 (length c.args.left.now - 8) c.args.left.now c.args.right.now
     ∙ slice_cmp_last_block (length c.args.left.now - 8) 8 c.loop-at.at c.args.left.now c.args.right.now
-    (omega (arith, c.requires.long)) (omega (arith, c.requires.long, c.requires.same_length)) (omega (arith, c.loop-at-test.false)) c.loop-at.invariant
+    (omega (arith, c.requires.min_len)) (omega (arith, c.requires.min_len, c.requires.same_length)) (omega (arith, c.loop-at-test.false)) c.loop-at.invariant

@@ -30,5 +30,5 @@ returns-clause-written g c =
     appends_all_of_entry _ _ _ (entry_of (mode_bits c.args.mode) c.args.name.now (borrowed_id c.args.id)) c.in_ok-write_mode.ensures.appended
     c.in_ok-write_name_and_id.ensures.appended
 
-pub returns-clause-free : goal.returns-clause-free
-returns-clause-free g c = search rules
+pub returns-clause-encodable : goal.returns-clause-encodable
+returns-clause-encodable g c = search rules

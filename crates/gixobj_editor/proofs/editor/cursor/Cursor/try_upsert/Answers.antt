@@ -13,7 +13,7 @@ pub returns-in_err-path-clause-after_error : goal.returns-in_err-path-clause-aft
 returns-in_err-path-clause-after_error g c =
     on_err_of c.from_residual.result _
     (λ trees fits. edit_failure_unchanged trees c.args.self.now.editor.now (from_root c.args.self.now.editor.now.prefix (names_of c.args.path.now))
-    c.path_from_root.ensures.is_opened c.path_from_root.ensures.idle)
+    c.path_from_root.ensures.is_opened c.path_from_root.ensures.bases)
 
 pub invariant_of-self-2 : goal.invariant_of-self-2
 invariant_of-self-2 g c =

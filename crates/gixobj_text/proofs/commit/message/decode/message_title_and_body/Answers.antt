@@ -21,4 +21,4 @@ places-preserved c =
     let none : None ≡ after_two_breaks c.places.rest.now = search rules in
     is_unsplit_at_next c.args.message.now c.places.rest.now c.in-Some.field-0-0.now c.in-Some.after.now c.from_break-rest-in-Some.result.now
     c.places.invariant is none
-    c.from_break-rest-in-Some.ensures.is
+    c.from_break-rest-in-Some.ensures.value

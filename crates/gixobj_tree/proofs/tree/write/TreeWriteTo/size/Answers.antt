@@ -10,7 +10,7 @@ loop-entry-preserved c = (
   tree_len_take_succ c.deref-entry-items.result.now c.loop-entry.entry-index c.entry-item.result c.loop-entry.size c.in_ok-size.size c.loop-entry.longer
       c.longer_one-longer.result c.loop-entry-test.true c.entry-item.is c.loop-entry.invariant.0 c.in_ok-size.ensures.1
       (ap (λ (e : EntryView). length (id_bytes e.id)) (sym c.entry.view_is) ∙ c.longer_one-longer.ensures.len),
-  omega (arith, c.longer_one-longer.ensures.one, c.loop-entry.invariant.1),
+  omega (arith, c.longer_one-longer.ensures.bounded, c.loop-entry.invariant.1),
   c.loop-entry.invariant.2,
   rw (c.in_ok-size.ensures.1) c.in_ok-size.ensures.0,
 )

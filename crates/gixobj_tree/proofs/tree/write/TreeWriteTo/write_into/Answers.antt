@@ -16,7 +16,7 @@ loop-entry-preserved g c =
     record {
       write_bytes = rw (encode_tree_take_succ items c.loop-entry.entry-index entry c.loop-entry-test.true here)
           (appends_all_append _ _ _ _ _ before.write_bytes write_bytes.written);
-      free = are_free_take_succ items c.loop-entry.entry-index entry c.loop-entry-test.true here before.free write_bytes.free;
+      free = are_free_take_succ items c.loop-entry.entry-index entry c.loop-entry-test.true here before.free write_bytes.encodable;
       same = before.same;
       same_loan = write_bytes.same_loan ∙ before.same_loan;
     }

@@ -41,7 +41,7 @@ returns-in_err-trusted_header_signature-2-clause-error g c =
     (g.S.Sink.view c.args.sink.now) (g.S.Sink.view c.trusted_header_signature.new.sink) (g.S.Sink.view c.trusted_header_signature-2.new.sink) _ _ _
     (appends_all_append _ _ _ _ _ c.in_ok-write_ids.ensures.appended c.in_ok-trusted_header_signature.ensures.written)
     (λ value parts. owned_commit_error_of_committer c.args.self.now c.as_slice-parents.result.now value parts c.as_slice-parents.ensures
-    c.in_ok-trusted_header_signature.ensures.legal)
+    c.in_ok-trusted_header_signature.ensures.encodable)
     (appends_third_of_four _ _ _ _ _ _ _ _ _ entire c.in_ok-write_ids.ensures.appended c.in_ok-trusted_header_signature.ensures.written)
     c.in_err-trusted_header_signature-2.field-0.0 c.in_err-trusted_header_signature-2.ensures.error)
 
@@ -59,8 +59,8 @@ pub returns-clause-no_error : goal.returns-clause-no_error
 returns-clause-no_error g c =
     IfOk-weaker c.write_rest.result _ _
     (λ _ none. owned_commit_rejects_nothing c.args.self.now c.borrowed-encoding.result c.borrowed-encoding.ensures
-    c.in_ok-trusted_header_signature.ensures.legal
-    c.in_ok-trusted_header_signature-2.ensures.legal none)
+    c.in_ok-trusted_header_signature.ensures.encodable
+    c.in_ok-trusted_header_signature-2.ensures.encodable none)
     c.write_rest.ensures.no_error
 
 pub returns-clause-error : goal.returns-clause-error
@@ -75,7 +75,7 @@ returns-clause-error g c =
     c.in_ok-trusted_header_signature-2.ensures.written)
     (λ value parts. owned_commit_error_of_encoding c.args.self.now c.as_slice-parents.result.now c.borrowed-encoding.result value parts
     c.as_slice-parents.ensures
-    c.borrowed-encoding.ensures c.in_ok-trusted_header_signature.ensures.legal c.in_ok-trusted_header_signature-2.ensures.legal)
+    c.borrowed-encoding.ensures c.in_ok-trusted_header_signature.ensures.encodable c.in_ok-trusted_header_signature-2.ensures.encodable)
     (appends_fourth_of_four _ _ _ _ _ _ _ _ _ _ entire c.in_ok-write_ids.ensures.appended c.in_ok-trusted_header_signature.ensures.written
     c.in_ok-trusted_header_signature-2.ensures.written))
     c.write_rest.ensures.error

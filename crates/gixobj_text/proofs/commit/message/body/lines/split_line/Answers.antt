@@ -7,5 +7,5 @@ pub returns : goal.returns
 returns c =
     let some : 0 < length c.args.content.now = grind (arith, nat_tests) in
     is_first_line_of_len c.args.content.now c.split_at.result.0.now c.split_at.result.1.now some
-    (c.split_at.ensures.front ∙ ap (λ (n : ℕ). take n c.args.content.now) c.first_line_len.ensures.is)
-    (c.split_at.ensures.back ∙ ap (λ (n : ℕ). drop n c.args.content.now) c.first_line_len.ensures.is)
+    (c.split_at.ensures.front ∙ ap (λ (n : ℕ). take n c.args.content.now) c.first_line_len.ensures.len)
+    (c.split_at.ensures.back ∙ ap (λ (n : ℕ). drop n c.args.content.now) c.first_line_len.ensures.len)

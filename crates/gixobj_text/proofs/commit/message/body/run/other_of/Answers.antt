@@ -1,5 +1,5 @@
 use Rattle.std.proofs.Common.{rules}
 use Rattle.gixobj_text.proofs.commit.message.body.run.other_of.Goals as goal
 
-pub returns-then-above-clause-is : goal.returns-then-above-clause-is
-returns-then-above-clause-is c = search rules
+pub returns-then-above-clause-value : goal.returns-then-above-clause-value
+returns-then-above-clause-value c = search rules
