@@ -276,7 +276,7 @@ impl TimeBuf {
 
     /// Returns the encoded time in the buffer, or the empty string if it has none.
     pub fn as_str(&self) -> &str
-        ensures encoded { result.now ≡ self.now }
+        ensures value { result.now ≡ self.now }
         ensures max_len { length result.now ≤ 26 }
     {
         match str::from_utf8(self.buffer.as_bytes()) {

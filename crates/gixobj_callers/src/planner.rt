@@ -54,7 +54,7 @@ pub fn is_tree(content: &[u8], kind: Kind) -> bool
 /// If each entry round-trips, the call fails only for memory.
 pub fn read_back(alloc: Global, tree: &Tree, kind: Kind) -> Result<Tree, CopyError>
     ensures unchanged { IfOk result (λ back. All (RoundTrips kind) tree.now → back ≡ tree.now) }
-    ensures has_capacity { IfErr result (λ error. All (RoundTrips kind) tree.now → FailsForRoom error) }
+    ensures error { IfErr result (λ error. All (RoundTrips kind) tree.now → FailsForRoom error) }
 {
     tree_decodes_uniquely();
     tree_round_trips();

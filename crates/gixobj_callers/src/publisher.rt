@@ -30,7 +30,7 @@ use std::alloc::Global;
 pub fn tag_copy_of(alloc: Global, bytes: &[u8], kind: Kind) -> Result<Vec<u8>, CopyError>
     ensures same_bytes { IfOk result (λ copy. (tag : TagLines) → DecodesToTag kind bytes.now tag
         → PreservesBody tag → copy.items ≡ bytes.now) }
-    ensures has_capacity { IfErr result (λ error. (tag : TagLines) → DecodesToTag kind bytes.now tag
+    ensures error { IfErr result (λ error. (tag : TagLines) → DecodesToTag kind bytes.now tag
         → IsTagName tag.name → FailsForRoom error) }
 {
     tag_decodes_uniquely();

@@ -46,7 +46,7 @@ pub fn copy_of(alloc: Global, bytes: &[u8], kind: Kind) -> Result<Vec<u8>, CopyE
     ensures same_bytes { IfOk result (λ copy. (commit : CommitLines) → DecodesToCommit kind bytes.now commit
         → AllPass is_lower_hex_digit commit.tree
         → All (λ hex. AllPass is_lower_hex_digit hex) commit.parents → copy.items ≡ bytes.now) }
-    ensures has_capacity { IfErr result (λ error. (commit : CommitLines) → DecodesToCommit kind bytes.now commit
+    ensures error { IfErr result (λ error. (commit : CommitLines) → DecodesToCommit kind bytes.now commit
         → commit.encoding ≢ Some [] → FailsForRoom error) }
 {
     commit_decodes_uniquely();
@@ -74,7 +74,7 @@ pub fn copy_of(alloc: Global, bytes: &[u8], kind: Kind) -> Result<Vec<u8>, CopyE
 pub fn tree_copy_of(alloc: Global, bytes: &[u8], kind: Kind) -> Result<Vec<u8>, CopyError>
     ensures same_bytes { IfOk result (λ copy. (entries : List EntryView)
         → HasCanonicalModes kind bytes.now entries → copy.items ≡ bytes.now) }
-    ensures has_capacity { IfErr result (λ error. (entries : List EntryView)
+    ensures error { IfErr result (λ error. (entries : List EntryView)
         → DecodesToTree kind bytes.now entries → FailsForRoom error) }
 {
     tree_decodes_uniquely();

@@ -183,7 +183,7 @@ fn read_piece<S: Source>(source: &mut S, buffer: &mut [u8], most: u64) -> Result
     requires has_capacity { 0 < length buffer.old }
     ensures count { IfOk result (λ count. (0 < count) × (count ≤ most)) }
     ensures bound { ReadsAtMost result buffer.new }
-    ensures allocates { IfOk result (λ count.
+    ensures consumed { IfOk result (λ count.
         Consumes (S.rest source.old) (S.rest source.new) (take count buffer.new)) }
     ensures error { IfErr result (IsStreamError (S.may_fail source.old) (S.rest source.old)
         (S.rest source.new) most) }

@@ -47,7 +47,7 @@ fn position_among_others(entries: &mut Vec<Entry>, entry: &Entry, place: usize) 
     ensures items { entries.new.items ≡ without entry.now.name entries.old.items }
     ensures position { result ≡ prefix_len (λ e. comes_before e entry.now) entries.new.items }
     ensures within { result ≤ vec_len entries.new }
-    ensures has_capacity { vec_capacity entries.new ≡ vec_capacity entries.old }
+    ensures capacity { vec_capacity entries.new ≡ vec_capacity entries.old }
     ensures len { vec_len entries.new ≤ vec_len entries.old }
 {
     match position_of_other(entries, entry, place) {

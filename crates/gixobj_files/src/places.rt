@@ -126,7 +126,7 @@ pub fn first_look(count: usize) -> usize
 pub fn remove_named(entries: &mut Vec<Entry>, name: &[u8])
     requires { IsWellFormed entries.old.items }
     ensures items { entries.new.items ≡ without name.now entries.old.items }
-    ensures has_capacity { vec_capacity entries.new ≡ vec_capacity entries.old }
+    ensures capacity { vec_capacity entries.new ≡ vec_capacity entries.old }
     ensures len { vec_len entries.new ≤ vec_len entries.old }
 {
     if let Some(place) = position_of(entries, name) {

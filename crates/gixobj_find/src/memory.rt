@@ -71,7 +71,7 @@ impl Memory {
         bytes: &[u8],
     ) -> Result<ObjectId, OutOfMemory>
         ensures id { IfOk result (λ id. id ≡ id_of object_hash kind bytes.now) }
-        ensures appended { IfOk result (λ id. memory_objects self.new
+        ensures inserted { IfOk result (λ id. memory_objects self.new
             ≡ map.insert (memory_objects self.old) id
             (record { kind = kind; object_hash = object_hash; bytes = bytes.now })) }
         ensures unchanged { OnErr result (memory_objects self.new ≡ memory_objects self.old) }

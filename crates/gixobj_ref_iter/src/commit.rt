@@ -131,7 +131,7 @@ impl<'a> Token<'a> {
     fn of_line(line: Line<'a>) -> Token<'a>
         requires parts { IsParsedLine line }
         requires ids { HasHex (line_view line) }
-        ensures yields { IsTokenOfLine (line_view line.entry) (commit_token_view result) }
+        ensures token { IsTokenOfLine (line_view line.entry) (commit_token_view result) }
         ensures borrowed { BorrowsValue result }
     {
         match line {

@@ -73,7 +73,7 @@ pub fn edit_on<S: Keep, E: Drop, F: Fn(&Tree) -> Result<ObjectId, E> + Drop>(
     ensures error { IfErr result (IsScriptRunError hash script.now) }
     ensures unchanged { IfErr result (λ error. (number : ℕ) → error ≡ BadLine number
         → editor.new ≡ editor.old) }
-    ensures remaining { OnErr result ((editor.new ≡ editor.old)
+    ensures after_error { OnErr result ((editor.new ≡ editor.old)
         ⊎ WasRun (store_model S.objects S.may_fail) (FnReturnsAt F.Fn out) hash script.now editor.old
         editor.new) }
 {

@@ -36,7 +36,7 @@ fn above(path: &[BString]) -> &[BString]
 /// Counts the names before the first invalid one.
 fn count_names(path: &[BString]) -> usize
     ensures names { AreNames (names_of (take result path.now)) }
-    ensures after_error { StartsInvalid (names_of (drop result path.now)) }
+    ensures rest { StartsInvalid (names_of (drop result path.now)) }
     ensures count { result ≤ length path.now }
 {
     let Some((name, rest)) = path.split_first() else {

@@ -29,7 +29,7 @@ pub fn tag_tokens_decode_uniquely()
         (tokens tokens' : List TagTokenView) (ending ending' : Ending)
         → YieldsTagTokens kind before input tokens ending → YieldsTagTokens kind before input tokens' ending'
         → (tokens ≡ tokens') × (ending ≡ ending') }
-    ensures joined { (kind : Kind) (before : State) (input : List ℕ) (tokens : List TagTokenView)
+    ensures decodes { (kind : Kind) (before : State) (input : List ℕ) (tokens : List TagTokenView)
         → YieldsTagTokens kind before input tokens complete → DecodesToTagTokens kind input tokens }
 {}
 

@@ -24,6 +24,7 @@ pub fn commit_run_iff_tokens()
         (tokens tokens' : List CommitTokenView) (ending ending' : Ending)
         → YieldsCommitTokens kind before input tokens ending
         → YieldsCommitTokens kind before input tokens' ending' → (tokens ≡ tokens') × (ending ≡ ending') }
-    ensures joined { (kind : Kind) (before : State) (input : List ℕ) (tokens : List CommitTokenView)
-        → YieldsCommitTokens kind before input tokens complete → DecodesToCommitTokens kind input tokens }
+    ensures decodes { (kind : Kind) (before : State) (input : List ℕ)
+        (tokens : List CommitTokenView) → YieldsCommitTokens kind before input tokens complete
+        → DecodesToCommitTokens kind input tokens }
 {}

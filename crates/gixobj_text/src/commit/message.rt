@@ -126,7 +126,7 @@ impl<'a> BodyRef<'a> {
     /// Returns an iterator over the messages of the body, in order, each with the trailers that follow it.
     /// The first message extends at least to the trailer block. Allocates nothing.
     pub fn message_blocks(&self) -> MessageBlocks<'a>
-        ensures encoded { remaining_block_bytes result ≡ bytes_of_body self.now }
+        ensures remaining { remaining_block_bytes result ≡ bytes_of_body self.now }
         ensures start { first_start result ≡ trailer_block_start self.now }
     {
         MessageBlocks::new(self.body.as_bytes(), self.trailer_start)

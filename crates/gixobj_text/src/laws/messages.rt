@@ -65,7 +65,7 @@ pub fn readers_yield_all()
     ensures trailers { (before : Trailers) (trailers : List TrailerRef)
         → Drains NextTrailer before (map (λ it. Ok it) trailers)
         → map trailer_view trailers ≡ remaining_trailers before }
-    ensures stored { (before : Filtered) (trailers : List TrailerRef)
+    ensures filtered { (before : Filtered) (trailers : List TrailerRef)
         → Drains NextFiltered before (map (λ it. Ok it) trailers)
         → map trailer_view trailers ≡ remaining_filtered before }
 {}

@@ -6,16 +6,16 @@ use Rattle.gix_object.specs.TreeViews.{tree_entries}
 use Rattle.gixobj_callers.proofs.Errors.{tree_fails_for_room, fails_for_room_of_write}
 use Rattle.gixobj_callers.proofs.planner.read_back.Goals as goal
 
-pub returns-in-Err-clause-has_capacity : goal.returns-in-Err-clause-has_capacity
-returns-in-Err-clause-has_capacity c = λ all.
+pub returns-in-Err-clause-error : goal.returns-in-Err-clause-error
+returns-in-Err-clause-error c = λ all.
     let is = c.tree_round_trips.ensures c.args.kind c.args.tree.now all in
     let nothing = c.tree_reencodes_identically.ensures.no_error c.args.kind (encode_tree c.args.tree.now) c.args.tree.now is in
     let fails = c.write_error_implies_sink_error.ensures (list_view c.new-bytes.result) (list_view c.write_to_vec.new.out) c.in-Err.error nothing
     c.in-Err.ensures.error in
     fails_for_room_of_write (list_view c.new-bytes.result) (list_view c.write_to_vec.new.out) (encode_tree c.args.tree.now) c.in-Err.error fails
 
-pub returns-in-Err-from_bytes-clause-has_capacity : goal.returns-in-Err-from_bytes-clause-has_capacity
-returns-in-Err-from_bytes-clause-has_capacity c = λ all.
+pub returns-in-Err-from_bytes-clause-error : goal.returns-in-Err-from_bytes-clause-error
+returns-in-Err-from_bytes-clause-error c = λ all.
     let is = c.tree_round_trips.ensures c.args.kind c.args.tree.now all in
     let written : c.deref.result.now ≡ encode_tree c.args.tree.now =
     c.deref.ensures.value ∙ c.in_default.ensures.written ∙ ap (λ (it : List ℕ). it ++ encode_tree c.args.tree.now) c.new-bytes.ensures.items in

@@ -13,4 +13,4 @@ returns c =
     (after, (last, yielded, none)) in
     let entire : joined_parts (map block_view items) ≡ remaining_block_bytes reader = c.parts_append_to_body.ensures.blocks (first_start reader)
     (remaining_block_bytes reader) (map block_view items) are in
-    ap (λ (blocks : List MessageBlock). joined_parts (map block_view blocks)) same ∙ entire ∙ c.message_blocks.ensures.encoded
+    ap (λ (blocks : List MessageBlock). joined_parts (map block_view blocks)) same ∙ entire ∙ c.message_blocks.ensures.remaining

@@ -22,7 +22,7 @@ returns c =
     subst (λ (items : List (Result TrailerRef OutOfMemory)). Yields NextFiltered reader items remaining) c.loop-trailer.invariant from_reader in
     let ended : NextFiltered remaining None c.next.new.self =
     subst (λ (item : Option (Result TrailerRef OutOfMemory)). NextFiltered remaining item c.next.new.self) c.in-None.is c.next.ensures.steps in
-    let kept : map trailer_view found ≡ remaining_filtered reader = c.readers_yield_all.ensures.stored reader found
+    let kept : map trailer_view found ≡ remaining_filtered reader = c.readers_yield_all.ensures.filtered reader found
     (c.next.new.self, (remaining, yielded, ended)) in
     let signed = ap (λ (by : Filter). filter (λ (trailer : TrailerView). passes_filter by trailer.token) all)
     c.signed_off_by_trailers-trailer-items.ensures.filter in

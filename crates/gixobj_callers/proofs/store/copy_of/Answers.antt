@@ -7,8 +7,8 @@ use Rattle.gix_object.specs.Writing.{RejectsNothing}
 use Rattle.gixobj_callers.proofs.Errors.{fails_for_room_of_read, fails_for_room_of_write}
 use Rattle.gixobj_callers.proofs.store.copy_of.Goals as goal
 
-pub returns-in-Err-clause-has_capacity : goal.returns-in-Err-clause-has_capacity
-returns-in-Err-clause-has_capacity c = λ commit is some. fails_for_room_of_read c.args.kind c.args.bytes.now commit c.in-Err.error c.in-Err.ensures.error is
+pub returns-in-Err-clause-error : goal.returns-in-Err-clause-error
+returns-in-Err-clause-error c = λ commit is some. fails_for_room_of_read c.args.kind c.args.bytes.now commit c.in-Err.error c.in-Err.ensures.error is
 
 pub returns-in-Ok-write_to_vec-clause-same_bytes : goal.returns-in-Ok-write_to_vec-clause-same_bytes
 returns-in-Ok-write_to_vec-clause-same_bytes c = λ commit is tree parents.
@@ -17,8 +17,8 @@ returns-in-Ok-write_to_vec-clause-same_bytes c = λ commit is tree parents.
     c.in-Ok-write_to_vec.ensures.written ∙ ap (λ (it : List ℕ). it ++ encode_commit (in_lower_case (commit_lines c.in-Ok.commit))) c.new-copy.ensures.items
     ∙ ap (λ (it : CommitLines). encode_commit (in_lower_case it)) (sym same) ∙ bytes
 
-pub returns-clause-has_capacity : goal.returns-clause-has_capacity
-returns-clause-has_capacity c = λ commit is some.
+pub returns-clause-error : goal.returns-clause-error
+returns-clause-error c = λ commit is some.
     let same = c.commit_decodes_uniquely.ensures c.args.kind c.args.bytes.now commit (commit_lines c.in-Ok.commit) is c.in-Ok.ensures.found in
     let nothing = subst (λ (it : CommitLines). RejectsNothing (IsCommitLinesError (in_lower_case it))) same
     (c.commit_reencodes_identically.ensures.no_error c.args.kind c.args.bytes.now commit is some) in

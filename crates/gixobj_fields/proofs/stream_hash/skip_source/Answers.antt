@@ -12,7 +12,7 @@ loop-missing-preserved g c =
     let before = c.loop-missing.invariant in
     let read = c.in_ok-count.ensures in
     record {
-      skipping = skipping_step _ _ _ _ _ c.in_ok-count.count _ before.skipping read.allocates read.bound.1 read.count.1;
+      skipping = skipping_step _ _ _ _ _ c.in_ok-count.count _ before.skipping read.consumed read.bound.1 read.count.1;
       lasting = λ may. before.lasting (read.stays_valid may);
       same_loan = read.same_loan ∙ before.same_loan;
     }

@@ -12,7 +12,7 @@ loop-missing-preserved g c =
     let before = c.loop-missing.invariant in
     let read = c.in_ok-count.ensures in
     record {
-      digesting = digesting_step _ _ _ _ _ _ _ _ c.in_ok-count.count _ before.digesting read.allocates c.update.ensures read.bound.1 read.count.1;
+      digesting = digesting_step _ _ _ _ _ _ _ _ c.in_ok-count.count _ before.digesting read.consumed c.update.ensures read.bound.1 read.count.1;
       lasting = λ may. before.lasting (read.stays_valid may);
       same_loan = read.same_loan ∙ before.same_loan;
     }

@@ -4,5 +4,5 @@ use Rattle.gixobj_ref_iter.proofs.laws.tokens.commit_run_iff_tokens.Goals as goa
 pub returns-clause-one_run : goal.returns-clause-one_run
 returns-clause-one_run c = token_run_unique
 
-pub returns-clause-joined : goal.returns-clause-joined
-returns-clause-joined c = decodes_tokens_of_run
+pub returns-clause-decodes : goal.returns-clause-decodes
+returns-clause-decodes c = decodes_tokens_of_run

@@ -7,5 +7,5 @@ returns-clause-blocks c = are_blocks_from_run
 pub returns-clause-trailers : goal.returns-clause-trailers
 returns-clause-trailers c = remaining_trailers_of_run
 
-pub returns-clause-stored : goal.returns-clause-stored
-returns-clause-stored c = remaining_filtered_of_run
+pub returns-clause-filtered : goal.returns-clause-filtered
+returns-clause-filtered c = remaining_filtered_of_run

@@ -45,7 +45,7 @@ impl<'a> MessageBlocks<'a> {
     /// Returns the blocks of `content`; the first message has at least `trailer_start` bytes.
     pub(crate) fn new(content: &'a [u8], trailer_start: usize) -> MessageBlocks<'a>
         requires { trailer_start ≤ length content.now }
-        ensures encoded { remaining_block_bytes result ≡ content.now }
+        ensures remaining { remaining_block_bytes result ≡ content.now }
         ensures start { first_start result ≡ trailer_start }
     {
         MessageBlocks {

@@ -11,7 +11,7 @@ use bstr::ByteSlice;
 /// Returns a line without its newline, and then without one final carriage return.
 #[inline(always)]
 pub(crate) fn line_content(line: &[u8]) -> &[u8]
-    ensures encoded { result.now ≡ trimmed_line line.now }
+    ensures value { result.now ≡ trimmed_line line.now }
     ensures within { length result.now ≤ length line.now }
 {
     without_last(without_last(line, b'\n'), b'\r')
@@ -21,7 +21,7 @@ pub(crate) fn line_content(line: &[u8]) -> &[u8]
 #[inline(always)]
 #[tactic(auto, using(crate::proofs::LastBytes::without_last_byte_of_last, crate::proofs::LastBytes::without_last_byte_of_other))]
 fn without_last(bytes: &[u8], byte: u8) -> &[u8]
-    ensures encoded { result.now ≡ without_last_byte byte bytes.now }
+    ensures value { result.now ≡ without_last_byte byte bytes.now }
     ensures within { length result.now ≤ length bytes.now }
 {
     match bytes.split_last() {

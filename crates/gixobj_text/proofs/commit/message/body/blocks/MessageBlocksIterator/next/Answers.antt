@@ -12,13 +12,13 @@ returns-clause-steps c =
     c.skip_trailers-rest.result.now
     some c.split_at.ensures.back c.at_trailer-trailers.ensures c.skip_trailers-rest.ensures in (
       subst (λ (rest : List ℕ). IsFirstMessageBlock c.args.self.now.trailer_start c.args.self.now.cursor.now
-          (record { message = bstr_bytes c.new.result; trailers = c.prefix_before-2.result.now }) rest) (sym c.new-2.ensures.encoded)
+          (record { message = bstr_bytes c.new.result; trailers = c.prefix_before-2.result.now }) rest) (sym c.new-2.ensures.remaining)
           (is_first_block_of_steps c.args.self.now.trailer_start c.args.self.now.cursor.now c.split_at.result.1.now c.at_trailer-trailers.result.now
           c.skip_trailers-rest.result.now
           (bstr_bytes c.new.result) c.prefix_before-2.result.now some c.split_at.ensures.back c.at_trailer-trailers.ensures c.skip_trailers-rest.ensures
           (c.new.ensures ∙ c.prefix_before.ensures) c.prefix_before-2.ensures),
       c.new-2.ensures.start,
-      subst (λ (content : List ℕ). length content < length c.args.self.now.cursor.now) (sym c.new-2.ensures.encoded) shorter,
+      subst (λ (content : List ℕ). length content < length c.args.self.now.cursor.now) (sym c.new-2.ensures.remaining) shorter,
     )
 
 pub returns-clause-goes : goal.returns-clause-goes
@@ -29,5 +29,5 @@ returns-clause-goes c =
     c.skip_trailers-rest.result.now
     some c.split_at.ensures.back c.at_trailer-trailers.ensures c.skip_trailers-rest.ensures in
     let less : length c.new-2.result.cursor.now < length c.args.self.now.cursor.now =
-    subst (λ (content : List ℕ). length content < length c.args.self.now.cursor.now) (sym c.new-2.ensures.encoded) shorter in
+    subst (λ (content : List ℕ). length content < length c.args.self.now.cursor.now) (sym c.new-2.ensures.remaining) shorter in
     search rules
