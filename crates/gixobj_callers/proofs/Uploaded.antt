@@ -6,7 +6,7 @@ use Rattle.std.specs.List.{AllByRecursion}
 use Rattle.gix_object.specs.Entries.{Pair, EachLater, EntryView, IsWellFormed}
 use Rattle.gix_object.specs.Edits.{raised}
 use Rattle.gix_object.specs.Files.{Has, Path}
-use Rattle.gix_object.specs.Emission.{Emits, EmitsBelow, Walks, emptied, end, leaves, unopened, unchanged, written}
+use Rattle.gix_object.specs.Emission.{Emits, EmitsBelow, EmitsEntries, emptied, end, of_entries, unopened, unchanged, written}
 use Rattle.gix_object.specs.Opening.{Dirs, HasAt, IsOpened, in_dir}
 use Rattle.gix_object.specs.hash.hash.object_id.ObjectId.{ObjectId}
 use Rattle.gixobj_callers.proofs.Once.{IsOf, IsPerhaps, Starts, once_under_append_append, entry_name_ne, starts_under_append_append, starts_cons, under}
@@ -66,7 +66,7 @@ module _ (dirs bases : Dirs) where
     back = it.back ++ back;
     count = it.count;
     place = is ∙ ap (λ (ps : List Pair). head ++ (ps ++ back)) it.place ∙ simp append_assoc;
-    leaves = it.leaves;
+    emits = it.emits;
   }
 
   changed_among : (pairs head part back : List Pair) → pairs ≡ head ++ (part ++ back) → (it : Sent) → IsChanged dirs bases part it
@@ -153,7 +153,7 @@ module _ (dirs bases : Dirs) (name : List ℕ) where
   own_inside : (part : List Pair) (path : Path) (own : List EntryView) → IsOwnTree (in_dir name dirs) (in_dir name bases) part path own
       → IsOwnTree dirs bases part (name ∷ path) own
   own_inside part path own it =
-      record { prefix = it.prefix; below = it.below; back = it.back; count = it.count; place = it.place; leaves = it.leaves }
+      record { prefix = it.prefix; below = it.below; back = it.back; count = it.count; place = it.place; emits = it.emits }
 
   changed_inside : (part : List Pair) (it : Sent) → IsChanged (in_dir name dirs) (in_dir name bases) part it
       → IsChanged dirs bases part (inside name it)
@@ -286,7 +286,7 @@ module _ (dirs bases : Dirs) (name : List ℕ) where
 
 own_here : (dirs bases : Dirs) (name : List ℕ) (inner back : List Pair) (own : List EntryView) (count : ℕ)
     → EmitsBelow (in_dir name dirs) (in_dir name bases) inner own count → IsOwnTree dirs bases (inner ++ back) (name ∷ []) own
-own_here dirs bases name inner back own count it = record { prefix = []; below = inner; back = back; count = count; place = refl; leaves = it }
+own_here dirs bases name inner back own count it = record { prefix = []; below = inner; back = back; count = count; place = refl; emits = it }
 
 none_changed : (dirs bases : Dirs) (pairs : List Pair) → All (IsChanged dirs bases pairs) []
 none_changed dirs bases pairs = All-nil (IsChanged dirs bases pairs)
@@ -302,9 +302,9 @@ one_unchanged : (dirs bases : Dirs) (pairs : List Pair) (path : Path) → IsUnch
 one_unchanged dirs bases pairs path same = All-cons (IsUnchanged dirs bases pairs) path [] same (none_unchanged dirs bases pairs)
 
 mutual
-  leaves_parted : (dirs bases : Dirs) (pairs : List Pair) (own : List EntryView) (saved : ℕ) → EmitsBelow dirs bases pairs own saved
+  emits_below_parted : (dirs bases : Dirs) (pairs : List Pair) (own : List EntryView) (saved : ℕ) → EmitsBelow dirs bases pairs own saved
       → (parts : Parts dirs bases pairs saved) × AreAllParts dirs bases pairs saved parts × (Formed dirs → Onces dirs bases Any pairs saved parts)
-  leaves_parted dirs bases pairs own saved (leaves d b entries below os n is walk) =
+  emits_below_parted dirs bases pairs own saved (of_entries d b entries below os n is walk) =
       let it = walk_parted d b entries below os n walk in (
         it.0,
         λ closed name path there open_there.
@@ -325,7 +325,7 @@ mutual
       )
 
   walk_parted : (dirs bases : Dirs) (entries : List EntryView) (pairs : List Pair) (own : List EntryView) (saved : ℕ)
-      → Walks dirs bases entries pairs own saved
+      → EmitsEntries dirs bases entries pairs own saved
       → (parts : Parts dirs bases pairs saved) × AreParts dirs bases entries pairs saved parts
       × (Formed dirs → AreNamedApart entries → Onces dirs bases (IsOf entries) pairs saved parts)
   walk_parted dirs bases entries pairs own saved (end d b) = (
@@ -354,7 +354,7 @@ mutual
             },
       )
   walk_parted dirs bases entries pairs own saved (emptied d b e rest inner below os m n found walk) =
-      let low = leaves_parted (in_dir e.name d) (in_dir e.name b) inner [] m found in
+      let low = emits_below_parted (in_dir e.name d) (in_dir e.name b) inner [] m found in
       let it = walk_parted d b rest below os n walk in
       let sum : m + n ≡ m + (length {A = Path} [] + n) = omega arith in (
         joined d b e.name (inner ++ below) inner below m n (m + n) [] [] refl sum (none_changed d b (inner ++ below))
@@ -366,7 +366,7 @@ mutual
             (it.2 formed apart.1),
       )
   walk_parted dirs bases entries pairs own saved (unchanged d b e first rest more inner below os m n found same walk) =
-      let low = leaves_parted (in_dir e.name d) (in_dir e.name b) inner (first ∷ more) m found in
+      let low = emits_below_parted (in_dir e.name d) (in_dir e.name b) inner (first ∷ more) m found in
       let it = walk_parted d b rest below os n walk in
       let tree : List EntryView = first ∷ more in
       let kept : List Path = (e.name ∷ []) ∷ [] in
@@ -385,7 +385,7 @@ mutual
             e rest refl apart.0 (inl refl) (inr refl) (low.2 (λ path. formed (e.name ∷ path))) (it.2 formed apart.1),
       )
   walk_parted dirs bases entries pairs own saved (written d b e first rest more inner below os m n id found other walk) =
-      let low = leaves_parted (in_dir e.name d) (in_dir e.name b) inner (first ∷ more) m found in
+      let low = emits_below_parted (in_dir e.name d) (in_dir e.name b) inner (first ∷ more) m found in
       let it = walk_parted d b rest below os n walk in
       let tree : List EntryView = first ∷ more in
       let all : List Pair = inner ++ (id, tree) ∷ below in
@@ -414,7 +414,7 @@ closed_of dirs is path name entries there = let it = is.above path name entries 
 pub is_divided_of_walk : (dirs bases : Dirs) (pairs below : List Pair) (saved : ℕ) (id : ObjectId) (own : List EntryView) → Emits dirs bases saved pairs
     → pairs ≡ below ++ (id, own) ∷ [] → IsDivided dirs bases pairs id saved
 is_divided_of_walk dirs bases pairs below saved id own (part, its_id, its_own, (count, goes, saves), full) last =
-    let (parts, each, once) = leaves_parted dirs bases part its_own count goes in
+    let (parts, each, once) = emits_below_parted dirs bases part its_own count goes in
     let same = last_same part below (its_id, its_own) (id, own) (sym full ∙ last) in
     let its : List Pair = (its_id, its_own) ∷ [] in
     let among : pairs ≡ [] ++ (part ++ its) = full in

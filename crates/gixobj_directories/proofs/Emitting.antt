@@ -16,9 +16,9 @@ use Rattle.gixobj_directories.specs.Calls.{IsCallableOnTrees, IsStorable}
 use Rattle.gixobj_files.specs.Editing.{same_name}
 use Rattle.gixobj_files.specs.Edits.{max_count, raised}
 use Rattle.gixobj_files.specs.Files.{Path, is_null}
-use Rattle.gixobj_directories.specs.Emitting.{Stopped, Visits, child_side}
+use Rattle.gixobj_directories.specs.Emitting.{Stopped, EmitsEntry, child_side}
 use Rattle.gixobj_hash.specs.declared.hash.object_id.ObjectId.TheVariants.{Sha1}
-use Rattle.gixobj_files.specs.Emission.{EmitsSome, EmitsBelow, Walks, emptied, end, entry_with, leaves, unopened, unchanged, written}
+use Rattle.gixobj_files.specs.Emission.{EmitsSome, EmitsBelow, EmitsEntries, emptied, end, entry_with, of_entries, unopened, unchanged, written}
 use Rattle.gixobj_directories.specs.Nested.{Level, Opened, at_side, bases_of, dirs_of}
 use Rattle.gixobj_directories.specs.declared.open.Child.{Child}
 use Rattle.gixobj_files.specs.Opening.{Dirs, in_dir}
@@ -30,9 +30,9 @@ use Rattle.gixobj_files.proofs.SameTrees.{entries_eq_or_ne}
 
 -- a walk with an equal count
 pub walks_of_count : {dirs bases : Dirs} {entries : List EntryView} {below : List Pair} {own : List EntryView} (m n : ℕ) → m ≡ n
-    → Walks dirs bases entries below own m
-    → Walks dirs bases entries below own n
-walks_of_count {dirs} {bases} {entries} {below} {own} m n is walk = subst (Walks dirs bases entries below own) is walk
+    → EmitsEntries dirs bases entries below own m
+    → EmitsEntries dirs bases entries below own n
+walks_of_count {dirs} {bases} {entries} {below} {own} m n is walk = subst (EmitsEntries dirs bases entries below own) is walk
 
 -- increments add up
 raised_on : (n first then : ℕ) → raised (raised n first) then ≡ raised n (first + then)
@@ -44,8 +44,8 @@ raised_on n (suc first) then =
 pub raised_append : (old between new first then : ℕ) → between ≡ raised old first → new ≡ raised between then → new ≡ raised old (first + then)
 raised_append old between new first then before after = after ∙ ap (λ n. raised n then) before ∙ raised_on old first then
 
-pub visits_unopened : (inside based : Dirs) (e : EntryView) → inside [] ≡ None → Visits inside based e [] (entry_with e e.id) 0
-visits_unopened inside based e none = λ dirs bases is b entries below own more walk. walks_of_count more (0 + more) (omega arith)
+pub emits_entry_unopened : (inside based : Dirs) (e : EntryView) → inside [] ≡ None → EmitsEntry inside based e [] (entry_with e e.id) 0
+emits_entry_unopened inside based e none = λ dirs bases is b entries below own more walk. walks_of_count more (0 + more) (omega arith)
     (unopened dirs bases e entries below own more (ap (λ (d : Dirs). d []) is ∙ none) walk)
 
 -- equal open directories with equal bases emit equal pairs
@@ -61,26 +61,26 @@ in_it : (inside based : Dirs) (dirs bases : Dirs) (name : List ℕ) → in_dir n
 in_it inside based dirs bases name is b inner own saved found = subst (λ (d : Dirs). EmitsBelow d (in_dir name bases) inner own saved) (sym is)
     (subst (λ (d : Dirs). EmitsBelow inside d inner own saved) (sym b) found)
 
-pub visits_emptied : (inside based : Dirs) (e : EntryView) (inner : List Pair) (own : List EntryView) (saved : ℕ) → own ≡ []
-    → EmitsBelow inside based inner own saved → Visits inside based e inner [] saved
-visits_emptied inside based e inner [] saved is found = λ dirs bases same b entries below own more walk. emptied dirs bases e entries inner below own
+pub emits_entry_emptied : (inside based : Dirs) (e : EntryView) (inner : List Pair) (own : List EntryView) (saved : ℕ) → own ≡ []
+    → EmitsBelow inside based inner own saved → EmitsEntry inside based e inner [] saved
+emits_entry_emptied inside based e inner [] saved is found = λ dirs bases same b entries below own more walk. emptied dirs bases e entries inner below own
     saved more
     (in_it inside based dirs bases e.name same b inner [] saved found) walk
-visits_emptied inside based e inner (x ∷ xs) saved is found = absurd (cc is)
+emits_entry_emptied inside based e inner (x ∷ xs) saved is found = absurd (cc is)
 
-pub visits_written : (inside based : Dirs) (e : EntryView) (inner : List Pair) (tree : List EntryView) (saved : ℕ) (id : ObjectId) → tree ≢ []
-    → based [] ≢ Some tree → EmitsBelow inside based inner tree saved → Visits inside based e (inner ++ (id, tree) ∷ []) (entry_with e id) saved
-visits_written inside based e inner [] saved id filled changed found = absurd (filled refl)
-visits_written inside based e inner (first ∷ rest) saved id filled changed found =
+pub emits_entry_written : (inside based : Dirs) (e : EntryView) (inner : List Pair) (tree : List EntryView) (saved : ℕ) (id : ObjectId) → tree ≢ []
+    → based [] ≢ Some tree → EmitsBelow inside based inner tree saved → EmitsEntry inside based e (inner ++ (id, tree) ∷ []) (entry_with e id) saved
+emits_entry_written inside based e inner [] saved id filled changed found = absurd (filled refl)
+emits_entry_written inside based e inner (first ∷ rest) saved id filled changed found =
     λ dirs bases same b entries below own more walk. rw append_assoc
     (written dirs bases e first entries rest inner below own saved more id
     (in_it inside based dirs bases e.name same b inner (first ∷ rest) saved found)
     (λ is. changed (sym (ap (λ (d : Dirs). d []) b) ∙ is)) walk)
 
-pub visits_unchanged : (inside based : Dirs) (e : EntryView) (inner : List Pair) (tree : List EntryView) (saved : ℕ) → tree ≢ [] → based [] ≡ Some tree
-    → EmitsBelow inside based inner tree saved → Visits inside based e inner (entry_with e e.id) (saved + 1)
-visits_unchanged inside based e inner [] saved filled is found = absurd (filled refl)
-visits_unchanged inside based e inner (first ∷ rest) saved filled is found =
+pub emits_entry_unchanged : (inside based : Dirs) (e : EntryView) (inner : List Pair) (tree : List EntryView) (saved : ℕ) → tree ≢ [] → based [] ≡ Some tree
+    → EmitsBelow inside based inner tree saved → EmitsEntry inside based e inner (entry_with e e.id) (saved + 1)
+emits_entry_unchanged inside based e inner [] saved filled is found = absurd (filled refl)
+emits_entry_unchanged inside based e inner (first ∷ rest) saved filled is found =
     λ dirs bases same b entries below own more walk. unchanged dirs bases e first entries rest inner below own saved more
     (in_it inside based dirs bases e.name same b inner (first ∷ rest) saved found) (ap (λ (d : Dirs). d []) b ∙ is) walk
 
@@ -90,23 +90,23 @@ base_is None tree = inr (λ is. cc is)
 base_is (Some base) tree = ⊎_elim (λ same. inl (ap Some same)) (λ other. inr (λ is. other (cc is))) (entries_eq_or_ne base tree)
 
 -- the entry of a directory emits what the directory emits, and then the directory if it is changed
-pub visits_open : (inside based : Dirs) (e : EntryView) (inner : List Pair) (own : List EntryView) (saved : ℕ)
+pub emits_entry_open : (inside based : Dirs) (e : EntryView) (inner : List Pair) (own : List EntryView) (saved : ℕ)
     → EmitsBelow inside based inner own saved
-    → (more : List Pair) × (kept : List EntryView) × (count : ℕ) × Visits inside based e (inner ++ more) kept count
-visits_open inside based e inner [] saved found = ([], [], saved, rw append-nil (visits_emptied inside based e inner [] saved refl found))
-visits_open inside based e inner (first ∷ rest) saved found =
+    → (more : List Pair) × (kept : List EntryView) × (count : ℕ) × EmitsEntry inside based e (inner ++ more) kept count
+emits_entry_open inside based e inner [] saved found = ([], [], saved, rw append-nil (emits_entry_emptied inside based e inner [] saved refl found))
+emits_entry_open inside based e inner (first ∷ rest) saved found =
     ⊎_elim (λ same. (
       [],
       entry_with e e.id,
       saved + 1,
       rw append-nil
-          (visits_unchanged inside based e inner (first ∷ rest) saved (λ q. cc q) same found),
+          (emits_entry_unchanged inside based e inner (first ∷ rest) saved (λ q. cc q) same found),
     ))
     (λ other. (
       (e.id, first ∷ rest) ∷ [],
       entry_with e e.id,
       saved,
-      visits_written inside based e inner (first ∷ rest) saved e.id
+      emits_entry_written inside based e inner (first ∷ rest) saved e.id
           (λ q. cc q) other found,
     ))
     (base_is (based []) (first ∷ rest))
@@ -168,7 +168,7 @@ stopped_at_call {F} {E} gave rejected Q old new ps rest calls goes error is = su
 
 -- directories whose paths are of bounded length emit some list
 pub walk_exists : (n : ℕ) (dirs bases : Dirs) → ((path : Path) → n ≤ length path → dirs path ≡ None) → (entries : List EntryView) → (below : List Pair)
-    × (own : List EntryView) × (saved : ℕ) × Walks dirs bases entries below own saved
+    × (own : List EntryView) × (saved : ℕ) × EmitsEntries dirs bases entries below own saved
 walk_exists n dirs bases bound [] = ([], [], 0, end dirs bases)
 walk_exists zero dirs bases bound (e ∷ entries) =
     let rest = walk_exists zero dirs bases bound entries in
@@ -176,12 +176,12 @@ walk_exists zero dirs bases bound (e ∷ entries) =
 walk_exists (suc n) dirs bases bound (e ∷ entries) =
     let rest = walk_exists (suc n) dirs bases bound entries in
     elim (dirs (e.name ∷ [])) as (λ o. dirs (e.name ∷ []) ≡ o → (below : List Pair) × (own : List EntryView) × (saved : ℕ)
-    × Walks dirs bases (e ∷ entries) below own saved) [
+    × EmitsEntries dirs bases (e ∷ entries) below own saved) [
       | None ↦ λ is. (rest.0, entry_with e e.id ++ rest.1, rest.2, unopened dirs bases e entries rest.0 rest.1 rest.2 is rest.3)
       | Some es ↦ λ is. let inner = walk_exists n (in_dir e.name dirs) (in_dir e.name bases) (λ path long. bound (e.name ∷ path) (omega (arith, long)))
           es in
-          let seen = visits_open (in_dir e.name dirs) (in_dir e.name bases) e inner.0 inner.1 inner.2
-          (leaves (in_dir e.name dirs) (in_dir e.name bases) es inner.0 inner.1 inner.2 is inner.3) in
+          let seen = emits_entry_open (in_dir e.name dirs) (in_dir e.name bases) e inner.0 inner.1 inner.2
+          (of_entries (in_dir e.name dirs) (in_dir e.name bases) es inner.0 inner.1 inner.2 is inner.3) in
           ((inner.0 ++ seen.0) ++ rest.0, seen.1 ++ rest.1, seen.2 + rest.2, seen.3 dirs bases refl refl entries rest.0 rest.1 rest.2 rest.3)
     ] refl
 
@@ -212,7 +212,7 @@ dirs_none_of_long_path (d ∷ ds) path h =
     ] refl
 
 pub walk_exists_of_open : (ds : Opened) (entries : List EntryView) → (below : List Pair) × (own : List EntryView) × (saved : ℕ)
-    × Walks (dirs_of ds) (bases_of ds) entries below own saved
+    × EmitsEntries (dirs_of ds) (bases_of ds) entries below own saved
 walk_exists_of_open ds entries = walk_exists (longest ds) (dirs_of ds) (bases_of ds) (dirs_none_of_long_path ds) entries
 
 -- a property of an entry and of the others holds of the list with the entry, if its id isn't null
@@ -224,7 +224,7 @@ kept_all P e id os h k = elim (is_null id) as (λ b. AllByRecursion P (cond b []
 -- a written tree has names and modes of the entries, in the same order
 walk_all : (P : EntryView → Type 0) → ((e : EntryView) (id : ObjectId) → P e → P (record { mode = e.mode; name = e.name; id = id }))
     → (dirs bases : Dirs) (entries : List EntryView) (below : List Pair) (own : List EntryView) (n : ℕ)
-    → Walks dirs bases entries below own n → AllByRecursion P entries → AllByRecursion P own
+    → EmitsEntries dirs bases entries below own n → AllByRecursion P entries → AllByRecursion P own
 walk_all P same dirs bases entries below own n (end dirs' b') h = tt
 walk_all P same dirs bases entries below own n (unopened dirs' b' e es ps os m none walk) h =
     kept_all P e e.id os (same e e.id h.0) (walk_all P same dirs' b' es ps os m walk h.1)
@@ -243,13 +243,13 @@ module _ (R : EntryView → EntryView → Type 0) (remaining : (e y : EntryView)
     → R (record { mode = e.mode; name = e.name; id = id }) y)
     (right : (x e : EntryView) (id : ObjectId) → R x e → R x (record { mode = e.mode; name = e.name; id = id })) where
   later_kept_as : (dirs bases : Dirs) (e : EntryView) (id : ObjectId) (es : List EntryView) (ps : List Pair) (os : List EntryView) (n : ℕ)
-      → Walks dirs bases es ps os n → AllByRecursion (R e) es → AllByRecursion (R (record { mode = e.mode; name = e.name; id = id })) os
+      → EmitsEntries dirs bases es ps os n → AllByRecursion (R e) es → AllByRecursion (R (record { mode = e.mode; name = e.name; id = id })) os
   later_kept_as dirs bases e id es ps os n walk h = all_weaker (R e) (R (record { mode = e.mode; name = e.name; id = id }))
       (λ y r. remaining e y id r) os
       (walk_all (R e) (λ y other r. right e y other r) dirs bases es ps os n walk h)
 
   walk_later : (dirs bases : Dirs) (entries : List EntryView) (below : List Pair) (own : List EntryView) (n : ℕ)
-      → Walks dirs bases entries below own n
+      → EmitsEntries dirs bases entries below own n
       → EachLater R entries → EachLater R own
   walk_later dirs bases entries below own n (end dirs' b') h = tt
   walk_later dirs bases entries below own n (unopened dirs' b' e es ps os m none walk) h =
@@ -266,7 +266,7 @@ kept_filled e id os k = elim (is_null id) as
     (λ b. is_null id ≡ b → AllByRecursion (λ x. IsFalse (is_null x.id)) (cond b [] ((record { mode = e.mode; name = e.name; id = id }) ∷ []) ++ os))
     [ true ↦ λ is. k | false ↦ λ is. (is, k) ] refl
 
-walk_filled : (dirs bases : Dirs) (entries : List EntryView) (below : List Pair) (own : List EntryView) (n : ℕ) → Walks dirs bases entries below own n
+walk_filled : (dirs bases : Dirs) (entries : List EntryView) (below : List Pair) (own : List EntryView) (n : ℕ) → EmitsEntries dirs bases entries below own n
     → AllByRecursion (λ x. IsFalse (is_null x.id)) own
 walk_filled dirs bases entries below own n (end dirs' b') = tt
 walk_filled dirs bases entries below own n (unopened dirs' b' e es ps os m none walk) = kept_filled e e.id os (walk_filled dirs' b' es ps os m walk)
@@ -277,7 +277,7 @@ walk_filled dirs bases entries below own n (unchanged dirs' b' e first es rest i
     kept_filled e e.id os (walk_filled dirs' b' es ps os m walk)
 
 pub written_is_storable : (dirs bases : Dirs) (entries : List EntryView) (below : List Pair) (own : List EntryView) (n : ℕ)
-    → Walks dirs bases entries below own n
+    → EmitsEntries dirs bases entries below own n
     → IsWellFormed entries → IsStorable own
 written_is_storable dirs bases entries below own n walk formed = record {
   well_formed = record {
@@ -302,30 +302,30 @@ side_of_open_child side passed child is = sym (ap (λ (o : Option (Bor Child)). 
 module _ (dirs bases inside based : Dirs) (items : List EntryView) (i : ℕ) (e : EntryView) (ps inner : List Pair) (acc kept : List EntryView)
     (count saved : ℕ)
     (low : i < length items) (is : e ≡ get_or items i e)
-    (same : in_dir e.name dirs ≡ inside) (base : in_dir e.name bases ≡ based) (seen : Visits inside based e inner kept saved)
-    (so_far : (qs : List Pair) (own : List EntryView) (n : ℕ) → Walks dirs bases (drop i items) qs own n
-    → Walks dirs bases items (ps ++ qs) (acc ++ own)
+    (same : in_dir e.name dirs ≡ inside) (base : in_dir e.name bases ≡ based) (seen : EmitsEntry inside based e inner kept saved)
+    (so_far : (qs : List Pair) (own : List EntryView) (n : ℕ) → EmitsEntries dirs bases (drop i items) qs own n
+    → EmitsEntries dirs bases items (ps ++ qs) (acc ++ own)
     (count + n)) where
-  pub walk_goes : (qs : List Pair) (own : List EntryView) (n : ℕ) → Walks dirs bases (drop (i + 1) items) qs own n
-      → Walks dirs bases items (ps ++ (inner ++ qs)) (acc ++ (kept ++ own)) (count + (saved + n))
+  pub walk_goes : (qs : List Pair) (own : List EntryView) (n : ℕ) → EmitsEntries dirs bases (drop (i + 1) items) qs own n
+      → EmitsEntries dirs bases items (ps ++ (inner ++ qs)) (acc ++ (kept ++ own)) (count + (saved + n))
   walk_goes qs own n walk =
       let here : drop i items ≡ e ∷ drop (i + 1) items = rw add-one (drop-cons items i e low ∙ ap (λ x. x ∷ drop (suc i) items) (sym is)) in
-      so_far (inner ++ qs) (kept ++ own) (saved + n) (subst (λ es. Walks dirs bases es (inner ++ qs) (kept ++ own) (saved + n)) (sym here)
+      so_far (inner ++ qs) (kept ++ own) (saved + n) (subst (λ es. EmitsEntries dirs bases es (inner ++ qs) (kept ++ own) (saved + n)) (sym here)
       (seen dirs bases same base (drop (i + 1) items) qs own n walk))
 
   pub walk_step : (next : List EntryView) → next ≡ acc ++ kept → (qs : List Pair) (own : List EntryView) (n : ℕ)
-      → Walks dirs bases (drop (i + 1) items) qs own n → Walks dirs bases items ((ps ++ inner) ++ qs) (next ++ own) (count + saved + n)
+      → EmitsEntries dirs bases (drop (i + 1) items) qs own n → EmitsEntries dirs bases items ((ps ++ inner) ++ qs) (next ++ own) (count + saved + n)
   walk_step next is_next qs own n walk = walks_of_count (count + (saved + n)) (count + saved + n) (omega arith)
       (rw (is_next, append_assoc, append_assoc) (walk_goes qs own n walk))
 
 -- the end of a walk
 pub walks_at_end : (dirs bases : Dirs) (items : List EntryView) (i : ℕ) (ps : List Pair) (acc : List EntryView) (count : ℕ) → length items ≤ i
-    → ((qs : List Pair) (own : List EntryView) (n : ℕ) → Walks dirs bases (drop i items) qs own n → Walks dirs bases items (ps ++ qs) (acc ++ own)
+    → ((qs : List Pair) (own : List EntryView) (n : ℕ) → EmitsEntries dirs bases (drop i items) qs own n → EmitsEntries dirs bases items (ps ++ qs) (acc ++ own)
     (count + n))
-    → Walks dirs bases items ps acc count
+    → EmitsEntries dirs bases items ps acc count
 walks_at_end dirs bases items i ps acc count high so_far =
     let none : drop i items ≡ [] = drop_all i items high in
-    let walk = so_far [] [] 0 (subst (λ es. Walks dirs bases es [] [] 0) (sym none) (end dirs bases)) in
+    let walk = so_far [] [] 0 (subst (λ es. EmitsEntries dirs bases es [] [] 0) (sym none) (end dirs bases)) in
     walks_of_count (count + 0) count (omega arith) (rw (append-nil, append-nil) at walk)
 
 -- what is emitted below a directory is a prefix of what the directory emits, with itself

@@ -15,7 +15,7 @@ use Rattle.gixobj_tree.specs.Entries.{EachLater, EntryView, Pair}
 use Rattle.gixobj_tree.specs.EntryOrder.{same_tree}
 use Rattle.gixobj_files.specs.Editing.{has_tree, same_name}
 use Rattle.gixobj_files.specs.Files.{Path, is_null}
-use Rattle.gixobj_files.specs.Emission.{EmitsBelow, Walks, end, leaves, unopened}
+use Rattle.gixobj_files.specs.Emission.{EmitsBelow, EmitsEntries, end, of_entries, unopened}
 use Rattle.gixobj_files.proofs.OpenedFiles.{same_name_refl, same_name_false}
 use Rattle.gixobj_files.proofs.Sublists.{all_weaker}
 use Rattle.gixobj_directories.specs.declared.open.Child.{Child}
@@ -164,10 +164,10 @@ all_filled es h = all_weaker (λ (e : EntryView). not (is_null e.id) ≡ true) (
 
 entire_walk : (ds : Opened) (tree base : List EntryView) → ds ≡ opened tree base [] → (es : List EntryView)
     → AllByRecursion (λ e. IsFalse (is_null e.id)) es
-    → Walks (dirs_of ds) (bases_of ds) es [] es 0
+    → EmitsEntries (dirs_of ds) (bases_of ds) es [] es 0
 entire_walk ds tree base is [] filled = end (dirs_of ds) (bases_of ds)
 entire_walk ds tree base is (e ∷ es) filled =
-    subst (λ own. Walks (dirs_of ds) (bases_of ds) (e ∷ es) [] own 0) (ap (λ b. cond b [] (e ∷ []) ++ es) filled.0)
+    subst (λ own. EmitsEntries (dirs_of ds) (bases_of ds) (e ∷ es) [] own 0) (ap (λ b. cond b [] (e ∷ []) ++ es) filled.0)
     (unopened (dirs_of ds) (bases_of ds) e es [] es 0 (ap (λ (d : Opened). dirs_of d (e.name ∷ [])) is) (entire_walk ds tree base is es filled.1))
 
 pub leaf_tree_has_base_or_is_emitted : (ds : Opened) (tree base : List EntryView) → ds ≡ opened tree base [] → is_leaf_tree (tree, base) ≡ true
@@ -182,7 +182,7 @@ leaf_tree_has_base_or_is_emitted ds tree base is entire =
       changed = same_tree_false_ne tree base (not_true (same_tree tree base) parts.1);
       storing = filled;
       based = ap (λ (d : Opened). bases_of d []) is;
-      found = leaves (dirs_of ds) (bases_of ds) tree [] tree 0 (ap (λ (d : Opened). dirs_of d []) is) (entire_walk ds tree base is tree filled);
+      found = of_entries (dirs_of ds) (bases_of ds) tree [] tree 0 (ap (λ (d : Opened). dirs_of d []) is) (entire_walk ds tree base is tree filled);
       adds = ap leaf_trees is ∙ leaf_trees_of_childless tree base true entire;
     }
 

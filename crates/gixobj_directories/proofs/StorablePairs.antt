@@ -2,7 +2,7 @@
 use Rattle.std.proofs.Common.{ℕ, List, [], ◌∷◌}
 use Rattle.std.specs.List.{AllByRecursion}
 use Rattle.gixobj_tree.specs.Entries.{EntryView, Pair}
-use Rattle.gixobj_files.specs.Emission.{EmitsBelow, Walks, emptied, end, leaves, unopened, unchanged, written}
+use Rattle.gixobj_files.specs.Emission.{EmitsBelow, EmitsEntries, emptied, end, of_entries, unopened, unchanged, written}
 use Rattle.gixobj_files.specs.Opening.{Dirs, in_dir}
 use Rattle.gixobj_files.proofs.StillOpened.{AreFormed}
 use Rattle.gixobj_files.proofs.Sublists.{all_append}
@@ -13,21 +13,23 @@ abbrev pub AreStorable : List Pair → Type 0
 AreStorable pairs = AllByRecursion (λ pair. IsStorable pair.1) pairs
 
 mutual
-  pub leaves_storable : (dirs bases : Dirs) (ps : List Pair) (own : List EntryView) (n : ℕ) → EmitsBelow dirs bases ps own n → AreFormed dirs → AreStorable ps
+  pub emits_below_storable : (dirs bases : Dirs) (ps : List Pair) (own : List EntryView) (n : ℕ) → EmitsBelow dirs bases ps own n → AreFormed dirs
+      → AreStorable ps
       × IsStorable own
-  leaves_storable dirs bases ps own n (leaves d b es ps' own' m is walk) formed =
+  emits_below_storable dirs bases ps own n (of_entries d b es ps' own' m is walk) formed =
       (walk_pairs dirs bases es ps own n walk formed, written_is_storable dirs bases es ps own n walk (formed [] es is))
 
-  walk_pairs : (dirs bases : Dirs) (es : List EntryView) (ps : List Pair) (own : List EntryView) (n : ℕ) → Walks dirs bases es ps own n → AreFormed dirs
+  walk_pairs : (dirs bases : Dirs) (es : List EntryView) (ps : List Pair) (own : List EntryView) (n : ℕ) → EmitsEntries dirs bases es ps own n → AreFormed dirs
       → AreStorable ps
   walk_pairs dirs bases es ps own n (end d b) formed = tt
   walk_pairs dirs bases es ps own n (unopened d b e rest below os m none walk) formed = walk_pairs d b rest below os m walk formed
   walk_pairs dirs bases es ps own n (emptied d b e rest inner below os i m found walk) formed =
       all_append (λ pair. IsStorable pair.1) inner below
-      (leaves_storable (in_dir e.name d) (in_dir e.name b) inner [] i found (λ path. formed (e.name ∷ path))).0 (walk_pairs d b rest below os m walk formed)
+      (emits_below_storable (in_dir e.name d) (in_dir e.name b) inner [] i found (λ path. formed (e.name ∷ path))).0
+      (walk_pairs d b rest below os m walk formed)
   walk_pairs dirs bases es ps own n (unchanged d b e first rest more_own inner below os i m found same walk) formed =
-      all_append (λ pair. IsStorable pair.1) inner below (leaves_storable (in_dir e.name d) (in_dir e.name b) inner (first ∷ more_own) i found
+      all_append (λ pair. IsStorable pair.1) inner below (emits_below_storable (in_dir e.name d) (in_dir e.name b) inner (first ∷ more_own) i found
       (λ path. formed (e.name ∷ path))).0 (walk_pairs d b rest below os m walk formed)
   walk_pairs dirs bases es ps own n (written d b e first rest more_own inner below os i m id found changed walk) formed =
-      let lower = leaves_storable (in_dir e.name d) (in_dir e.name b) inner (first ∷ more_own) i found (λ path. formed (e.name ∷ path)) in
+      let lower = emits_below_storable (in_dir e.name d) (in_dir e.name b) inner (first ∷ more_own) i found (λ path. formed (e.name ∷ path)) in
       all_append (λ pair. IsStorable pair.1) inner ((id, first ∷ more_own) ∷ below) lower.0 (lower.1, walk_pairs d b rest below os m walk formed)

@@ -5,7 +5,7 @@ use Rattle.gixobj_tree.specs.Entries.{EntryView, Pair}
 use Rattle.gixobj_hash.specs.declared.hash.object_id.ObjectId.{ObjectId}
 use Rattle.bstr.specs.Owned.{bstring_bytes}
 use Rattle.gixobj_files.specs.Editing.{same_name}
-use Rattle.gixobj_files.specs.Emission.{Walks, entry_with}
+use Rattle.gixobj_files.specs.Emission.{EmitsEntries, entry_with}
 use Rattle.gixobj_files.specs.Opening.{Dirs, in_dir}
 use Rattle.gixobj_directories.specs.declared.open.Child.{Child}
 use Rattle.gixobj_directories.specs.Nested.{Level, at_side}
@@ -14,17 +14,17 @@ use Rattle.gixobj_directories.specs.declared.write.WriteError.TheVariants as wri
 
 -- the entry emits these pairs and leaves these entries, with `saved` unchanged directories at and below it, whatever
 -- entries come after it; the directories and the bases are those in it
-abbrev pub Visits : Dirs → Dirs → EntryView → List Pair → List EntryView → ℕ → Type 0
-Visits inside based e inner kept saved =
+abbrev pub EmitsEntry : Dirs → Dirs → EntryView → List Pair → List EntryView → ℕ → Type 0
+EmitsEntry inside based e inner kept saved =
     (dirs bases : Dirs) → in_dir e.name dirs ≡ inside → in_dir e.name bases ≡ based
     → (entries : List EntryView) (below : List Pair) (own : List EntryView) (more : ℕ)
-    → Walks dirs bases entries below own more
-    → Walks dirs bases (e ∷ entries) (inner ++ below) (kept ++ own) (saved + more)
+    → EmitsEntries dirs bases entries below own more
+    → EmitsEntries dirs bases (e ∷ entries) (inner ++ below) (kept ++ own) (saved + more)
 
 -- the entry with this id, or no entry if there is no id
-abbrev pub kept_with : EntryView → Option ObjectId → List EntryView
-kept_with e None = []
-kept_with e (Some id) = entry_with e id
+abbrev pub entry_if_some : EntryView → Option ObjectId → List EntryView
+entry_if_some e None = []
+entry_if_some e (Some id) = entry_with e id
 
 -- a write stopped with an error; `out` returned ids for a prefix of the emitted pairs, and then an error for the next
 -- tree, or an allocation failed

@@ -10,7 +10,7 @@ ghost use Rattle.gixobj_files.specs.Files.{Path, is_null};
 ghost use Rattle.gixobj_files.specs.Emission.{EmitsSome, EmitsBelow, Saves};
 ghost use Rattle.gixobj_files.specs.Opening.{in_path};
 ghost use Rattle.gixobj_directories.specs.Calls.{IsCallableOnTrees, IsStorable, names_of, answered, denied};
-ghost use Rattle.gixobj_directories.specs.Emitting.{Stopped, Visits, pairs_after_next, child_side, kept_with, next_child};
+ghost use Rattle.gixobj_directories.specs.Emitting.{Stopped, EmitsEntry, pairs_after_next, child_side, entry_if_some, next_child};
 ghost use Rattle.gixobj_directories.specs.Nested.{base_side, bases_of, dirs_of, entries_side, opened};
 ghost use Rattle.gixobj_files.specs.WrittenTrees.{SharesBase, so_far};
 ghost use Rattle.gixobj_files.specs.FilteredTrees.{IsFilteredTree};
@@ -80,7 +80,7 @@ impl<E, T: Drop> From<AllocFailed<T>> for WriteError<E> {
 /// Emits what is open in a directory, and returns its written tree, built next to a base. Leaf trees aren't
 /// moved: the pairs have empty trees for them.
 #[cycle(walk)]
-fn leaves<E, F: FnMut(&Tree) -> Result<ObjectId, E>>(
+fn emit_below<E, F: FnMut(&Tree) -> Result<ObjectId, E>>(
     alloc: Global,
     node: &Open,
     base: &[Entry],
@@ -105,8 +105,8 @@ fn leaves<E, F: FnMut(&Tree) -> Result<ObjectId, E>>(
     for entry in entries_of(&node.tree) {
         let (child, tail) = next_of(remaining, entry);
         remaining = tail;
-        let id = visit(alloc, entry, child, out, pairs, saved)?;
-        keep_entry(alloc, &mut own, base, entry, id, node.tree.entries.len())?;
+        let id = emit_entry(alloc, entry, child, out, pairs, saved)?;
+        append_entry(alloc, &mut own, base, entry, id, node.tree.entries.len())?;
     }
     Ok(own)
 }
@@ -127,7 +127,7 @@ fn next_of<'a>(remaining: &'a [Child], entry: &Entry) -> (Option<&'a Child>, &'a
 /// Emits what is open at and below an entry, and returns the id that the entry gets. There is none if the
 /// written tree of its directory is empty.
 #[cycle(walk)]
-fn visit<E, F: FnMut(&Tree) -> Result<ObjectId, E>>(
+fn emit_entry<E, F: FnMut(&Tree) -> Result<ObjectId, E>>(
     alloc: Global,
     entry: &Entry,
     child: Option<&Child>,
@@ -137,14 +137,14 @@ fn visit<E, F: FnMut(&Tree) -> Result<ObjectId, E>>(
 ) -> Result<Option<ObjectId>, WriteError<E>>
     requires callable { IsCallableOnTrees F.pre (answered F.FnMut) out.old }
     ensures emitted { IfOk result (λ id. (inner : List Pair) × (count : ℕ)
-        × Visits (child_side entries_side (option_copied child.entry))
-        (child_side base_side (option_copied child.entry)) entry.now inner (kept_with entry.now id)
-        count × (saved.new ≡ raised saved.old count)
+        × EmitsEntry (child_side entries_side (option_copied child.entry))
+        (child_side base_side (option_copied child.entry)) entry.now inner
+        (entry_if_some entry.now id) count × (saved.new ≡ raised saved.old count)
         × Adds pairs.old.items pairs.new.items (child_leaf_trees (option_copied child.entry)) inner
         × FoldsTo (answered F.FnMut) out.old inner out.new) }
     ensures error { IfErr result (Stopped (answered F.FnMut) (denied F.FnMut)
         (λ inner. (kept : List EntryView) × (count : ℕ)
-        × Visits (child_side entries_side (option_copied child.entry))
+        × EmitsEntry (child_side entries_side (option_copied child.entry))
         (child_side base_side (option_copied child.entry)) entry.now inner kept count) out.old
         out.new) }
 {
@@ -156,7 +156,7 @@ fn visit<E, F: FnMut(&Tree) -> Result<ObjectId, E>>(
         return Ok(Some(passed));
     }
     let base = base_of(&child.open);
-    let own = leaves(alloc, &child.open, base, out, pairs, saved)?;
+    let own = emit_below(alloc, &child.open, base, out, pairs, saved)?;
     if own.has_no_entries() {
         return Ok(None);
     }
@@ -172,7 +172,7 @@ fn visit<E, F: FnMut(&Tree) -> Result<ObjectId, E>>(
 
 /// Emits what is open in a directory, and returns a copy of its written tree, and whether that is its present
 /// tree. A leaf tree is copied at once.
-fn leaves_copied<E, F: FnMut(&Tree) -> Result<ObjectId, E>>(
+fn emit_below_copied<E, F: FnMut(&Tree) -> Result<ObjectId, E>>(
     alloc: Global,
     node: &Open,
     out: &mut F,
@@ -196,7 +196,7 @@ fn leaves_copied<E, F: FnMut(&Tree) -> Result<ObjectId, E>>(
         return Ok((Tree { entries }, true));
     }
     let base = base_of(node);
-    let own = leaves(alloc, node, base, out, pairs, saved)?;
+    let own = emit_below(alloc, node, base, out, pairs, saved)?;
     let tree = own.into_tree(alloc, base)?;
     Ok((tree, false))
 }
@@ -282,7 +282,7 @@ fn emit<E, F: FnMut(&Tree) -> Result<ObjectId, E>>(
 
 /// Appends the entry with the id that it gets, unless that is missing or null. `room` is the maximum of
 /// entries.
-fn keep_entry(
+fn append_entry(
     alloc: Global,
     own: &mut WrittenTree,
     base: &[Entry],
@@ -292,10 +292,10 @@ fn keep_entry(
 ) -> Result<(), AllocError>
     requires { SharesBase base.now own.old }
     ensures entries { OnOk result (so_far base.now own.new
-        ≡ so_far base.now own.old ++ kept_with entry.now id) }
+        ≡ so_far base.now own.old ++ entry_if_some entry.now id) }
     ensures shares_base { OnOk result (SharesBase base.now own.new) }
     ensures allocates { OnErr result ((rest : List EntryView)
-        → (so_far base.now own.old ++ kept_with entry.now id) ++ rest ≢ base.now) }
+        → (so_far base.now own.old ++ entry_if_some entry.now id) ++ rest ≢ base.now) }
 {
     let Some(id) = id else {
         return Ok(());
@@ -354,7 +354,7 @@ pub fn write_all<E, F: FnMut(&Tree) -> Result<ObjectId, E>>(
 {
     let mut trees = Vec::new(alloc);
     let mut saved = 0;
-    let (own, placed) = leaves_copied(alloc, node, out, &mut trees, &mut saved)?;
+    let (own, placed) = emit_below_copied(alloc, node, out, &mut trees, &mut saved)?;
     let mut complete_trees = Vec::with_capacity(alloc, trees.len())?;
     let id = emit(&own, out, &mut trees)?;
     become_own(&mut node.tree, &own, placed);

@@ -17,13 +17,13 @@ use Rattle.gixobj_files.proofs.EditedFiles.{root_alone_at_root, root_alone_below
 use Rattle.gixobj_files.proofs.LastingProperties.{everywhere_in_path}
 use Rattle.gixobj_files.proofs.Everywhere.{Everywhere, everywhere_ensured, everywhere_opened, everywhere_removed, everywhere_upserted, everywhere_written}
 use Rattle.gixobj_files.proofs.OpeningFiles.{opens_makes_ready}
-use Rattle.gixobj_files.proofs.Plain.{IsEmitted, HasBuilt, Plain, all_joined, all_remaining, all_right, is_built_of_rests_on, is_plain_of_rests_on, leaves_plain, plain_lasts}
+use Rattle.gixobj_files.proofs.Plain.{IsEmitted, HasBuilt, Plain, all_joined, all_remaining, all_right, is_built_of_rests_on, is_plain_of_rests_on, emits_below_plain, plain_lasts}
 use Rattle.gixobj_files.proofs.StillOpenedOpenings.{is_opened_of_only, is_opened_of_opens}
 use Rattle.gixobj_files.proofs.UpsertedFiles.{IsReady}
 use Rattle.gixobj_files.specs.Bases.{edited_bases, opened_bases}
 use Rattle.gixobj_files.specs.Edits.{IsNoTree, Opens, ensured_dirs, only, removed_dirs, upserted_dirs, with_path}
 use Rattle.gixobj_files.specs.Files.{Has, Path, Table, Trees, is_null}
-use Rattle.gixobj_files.specs.Emission.{EmitsBelow, leaves}
+use Rattle.gixobj_files.specs.Emission.{EmitsBelow, of_entries}
 use Rattle.gixobj_files.specs.Opening.{Dirs, IsOpened, in_path}
 use Rattle.gixobj_files.specs.State.{DirMap, State, open_bases, open_dirs, root_alone}
 use Rattle.gixobj_files.specs.Tables.{AgreesWithPairs, AgreesWithStore}
@@ -58,7 +58,8 @@ last_own (a ∷ head) (b ∷ back) x y own other is = last_own head back x y own
 -- a directory that emits is open
 open_there : (prefix : Path) (dirs bases : Dirs) (below : List Pair) (own : List EntryView) (saved : ℕ)
     → EmitsBelow (in_path prefix dirs) (in_path prefix bases) below own saved → dirs prefix ≢ None
-open_there prefix dirs bases below own saved (leaves d b entries ps os n is walk) none = let bad : Some entries ≡ None = sym is ∙ ap dirs (append-nil prefix)
+open_there prefix dirs bases below own saved (of_entries d b entries ps os n is walk) none = let bad : Some entries ≡ None = sym is
+    ∙ ap dirs (append-nil prefix)
     ∙ none in cc bad
 
 alone_at : (es : List EntryView) (at : Path) → map.get (root_alone es) at ≡ only es at
@@ -160,7 +161,7 @@ module _ (T : Table) (pairs : List Pair) (known : AgreesWithPairs T pairs) where
   went old new prefix below id own saved holds going within storable dirs_are bases_are =
       let out = goes_out (below ++ (id, own) ∷ []) within storable in
       let mine = all_right (IsEmitted pairs) below ((id, own) ∷ []) out in
-      let it = leaves_plain pairs (in_path prefix (open_dirs old)) (in_path prefix (open_bases old)) below own saved going
+      let it = emits_below_plain pairs (in_path prefix (open_dirs old)) (in_path prefix (open_bases old)) below own saved going
       (everywhere_in_path (Plain pairs) prefix (open_dirs old) (open_bases old) holds.1) (all_remaining (IsEmitted pairs) below ((id, own) ∷ []) out) in
       let made : Dirs = with_path prefix (only own) (open_dirs old) in (
         carried made (edited_bases (open_dirs old) made (open_bases old)) (open_dirs new) (open_bases new) dirs_are

@@ -6,7 +6,7 @@ use Rattle.std.specs.List.{FoldsTo}
 use Rattle.std.proofs.lemmas.List.Elements.{All-from_recursion}
 use Rattle.gixobj_directories.specs.Calls.{IsStorable}
 use Rattle.gixobj_directories.specs.Nested.{Opened, bases_of, dirs_of}
-use Rattle.gixobj_directories.proofs.StorablePairs.{leaves_storable}
+use Rattle.gixobj_directories.proofs.StorablePairs.{emits_below_storable}
 use Rattle.gixobj_files.specs.Edits.{only, with_path}
 use Rattle.gixobj_files.specs.Files.{Path, SameFiles}
 use Rattle.gixobj_files.specs.Emission.{EmitsBelow, Saves}
@@ -71,7 +71,7 @@ module _ {S F : Type 0} (store : S) (hash : Kind) (prefix : Path) (gave : F → 
         called = subst (λ (ps : List Pair). FoldsTo gave requested ps answered) (sym is) called;
         storable = subst (λ (ps : List Pair). All (λ pair. IsStorable pair.1) ps) (sym is)
             (All-from_recursion (λ (p : Pair). IsStorable p.1) (below ++ (it.id, own) ∷ [])
-            (all_storable_snoc below (it.id, own) (leaves_storable (in_path prefix (map_dirs ds)) (in_path prefix (map_bases ds)) below own going.0 leaving
+            (all_storable_snoc below (it.id, own) (emits_below_storable (in_path prefix (map_dirs ds)) (in_path prefix (map_bases ds)) below own going.0 leaving
             (λ at. on.opened.well_formed (prefix ++ at))).0 storable));
         below = below;
         own = own;

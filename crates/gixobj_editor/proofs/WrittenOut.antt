@@ -11,11 +11,11 @@ use Rattle.gixobj_files.specs.Opening.{Dirs, OpenFiles}
 use Rattle.gixobj_files.specs.State.{State}
 use Rattle.gixobj_files.specs.Tables.{AgreesWithPairs}
 use Rattle.gixobj_files.proofs.EditedFiles.{root_alone_files, same_files_trans}
-use Rattle.gixobj_files.proofs.WrittenFiles.{known_append_left, known_append_right, leaves_files, are_trees_of_opened}
+use Rattle.gixobj_files.proofs.WrittenFiles.{known_append_left, known_append_right, emits_below_files, are_trees_of_opened}
 use Rattle.gixobj_directories.specs.Calls.{IsStorable}
 use Rattle.gixobj_directories.specs.Nested.{Opened, bases_of, dirs_of, opened}
 use Rattle.gixobj_directories.proofs.OpeningSteps.{dirs_of_childless}
-use Rattle.gixobj_directories.proofs.StorablePairs.{leaves_storable}
+use Rattle.gixobj_directories.proofs.StorablePairs.{emits_below_storable}
 use Rattle.gixobj_directories.specs.declared.write.Written.{Written}
 use Rattle.gixobj_editor.specs.Writes.{IsWrittenEditor}
 use Rattle.gixobj_editor.proofs.Edited.{EditedSo, OpenedOn, map_dirs_at, map_bases, map_dirs, map_is_opened_on, only_edited_bases_of_map, map_bases_eq, map_dirs_eq, state_of}
@@ -44,7 +44,7 @@ module _ {S F : Type 0} (store : S) (hash : Kind) (prefix : Path) (gave : F → 
       (subst (λ (ps : List Pair). AgreesWithPairs T ps) is agrees) in
       let files : (T : Table) (k : ℕ) → AgreesWithPairs T it.trees.items → HasBases T (map_dirs ds) (map_bases ds)
       → SameFiles (Files T k own) (OpenFiles T k (map_dirs ds)) =
-      λ T k agrees has. leaves_files T (map_dirs ds) (map_bases ds) below own going.0 there (are_trees_of_opened (map_dirs ds) on.opened)
+      λ T k agrees has. emits_below_files T (map_dirs ds) (map_bases ds) below own going.0 there (are_trees_of_opened (map_dirs ds) on.opened)
       (everywhere_based T (map_dirs ds) (map_bases ds) on.null_based has) (known_append_left T below ((it.id, own) ∷ []) (known T agrees)) k in
       let new_is : (at : Path) → map_dirs (opened own base []) at ≡ only own at = λ at. map_dirs_at (opened own base []) at ∙ ap (λ (d : Dirs). d at)
       (dirs_of_childless own) in
@@ -53,7 +53,8 @@ module _ {S F : Type 0} (store : S) (hash : Kind) (prefix : Path) (gave : F → 
         called = subst (λ (ps : List Pair). FoldsTo gave requested ps answered) (sym is) called;
         storable = subst (λ (ps : List Pair). All (λ pair. IsStorable pair.1) ps) (sym is)
             (All-from_recursion (λ (p : Pair). IsStorable p.1) (below ++ (it.id, own) ∷ [])
-            (all_storable_snoc below (it.id, own) (leaves_storable (map_dirs ds) (map_bases ds) below own going.0 there on.opened.well_formed).0 storable));
+            (all_storable_snoc below (it.id, own) (emits_below_storable (map_dirs ds) (map_bases ds) below own going.0 there on.opened.well_formed).0
+            storable));
         below = below;
         own = own;
         last = is;

@@ -17,7 +17,7 @@ use Rattle.gixobj_files.proofs.BelowPrefix.{files_in_path, is_opened_in_path, fi
 use Rattle.gixobj_files.proofs.EditedFiles.{ensured_congruent, same_files_trans}
 use Rattle.gixobj_files.proofs.OpenedFiles.{open_files_of_root_alone}
 use Rattle.gixobj_files.proofs.OpeningFiles.{opens_keeps_files}
-use Rattle.gixobj_files.proofs.WrittenFiles.{known_append_left, known_append_right, leaves_files, are_trees_of_opened}
+use Rattle.gixobj_files.proofs.WrittenFiles.{known_append_left, known_append_right, emits_below_files, are_trees_of_opened}
 
 -- a directory that is ensured after an opening of its path drops the files at the path, and those at the paths of
 -- parent directories
@@ -34,7 +34,7 @@ own_files : (T : Table) (prefix : Path) (dirs bases : Dirs) (below : List Pair) 
     → AgreesWithPairs T (below ++ (id, own) ∷ [])
     → (n : ℕ) → SameFiles (Files T n own) (OpenFiles T n (in_path prefix dirs))
 own_files T prefix dirs bases below own saved id all based there going agrees =
-    leaves_files T (in_path prefix dirs) (in_path prefix bases) below own saved going
+    emits_below_files T (in_path prefix dirs) (in_path prefix bases) below own saved going
     (are_trees_of_opened (in_path prefix dirs) (is_opened_in_path prefix dirs all there))
     (everywhere_in_path (Based T) prefix dirs bases based)
     (known_append_left T below ((id, own) ∷ []) (recursion_from_All (λ (p : Pair). T.tree_at p.0 ≡ Some p.1) (below ++ (id, own) ∷ []) agrees))

@@ -10,7 +10,7 @@ use Rattle.gixobj_hash.specs.declared.hash.kind.Kind.TheVariants.{Sha1}
 use Rattle.gixobj_hash.specs.declared.hash.object_id.ObjectId.{ObjectId}
 use Rattle.gixobj_files.specs.Editing.{non_null_entries, same_name}
 use Rattle.gixobj_files.specs.Files.{is_null}
-use Rattle.gixobj_files.specs.Emission.{EmitsBelow, Walks, emptied, end, entry_with, leaves, unopened, unchanged, written}
+use Rattle.gixobj_files.specs.Emission.{EmitsBelow, EmitsEntries, emptied, end, entry_with, of_entries, unopened, unchanged, written}
 use Rattle.gixobj_files.specs.Opening.{Dirs}
 use Rattle.gixobj_files.specs.WrittenTrees.{with_id}
 use Rattle.gixobj_files.specs.FilteredTrees.{IsFilteredTree, id_among, filtered_out}
@@ -65,7 +65,8 @@ filtered_with : (e : EntryView) (id : ObjectId) (os es : List EntryView) → IsF
 filtered_with e id os es h = elim (is_null id) as (λ b. IsFilteredTree (cond b [] (with_id e id ∷ []) ++ os) (e ∷ es))
     [ true ↦ inl h | false ↦ inr (id, os, refl, h) ]
 
-walk_filtered : (dirs bases : Dirs) (es : List EntryView) (ps : List Pair) (own : List EntryView) (n : ℕ) → Walks dirs bases es ps own n → IsFilteredTree own es
+walk_filtered : (dirs bases : Dirs) (es : List EntryView) (ps : List Pair) (own : List EntryView) (n : ℕ) → EmitsEntries dirs bases es ps own n
+    → IsFilteredTree own es
 walk_filtered dirs bases es ps own n (end d b) = refl
 walk_filtered dirs bases es ps own n (unopened d b e rest below os m none walk) = filtered_with e e.id os rest (walk_filtered d b rest below os m walk)
 walk_filtered dirs bases es ps own n (emptied d b e rest inner below os i m found walk) = inl (walk_filtered d b rest below os m walk)
@@ -80,5 +81,5 @@ some_is xs ys is = cc is
 -- the written tree of a directory has some of its entries
 pub is_filtered_tree_of_walk : (dirs bases : Dirs) (ps : List Pair) (own : List EntryView) (n : ℕ) (es : List EntryView) → EmitsBelow dirs bases ps own n
     → dirs [] ≡ Some es → IsFilteredTree own es
-is_filtered_tree_of_walk dirs bases ps own n es (leaves d b items below os m is walk) there = subst (IsFilteredTree own) (some_is items es (sym is ∙ there))
+is_filtered_tree_of_walk dirs bases ps own n es (of_entries d b items below os m is walk) there = subst (IsFilteredTree own) (some_is items es (sym is ∙ there))
     (walk_filtered d b items below own m walk)

@@ -14,7 +14,7 @@ use Rattle.gixobj_files.specs.Tables.{AgreesWithPairs, AgreesWithStore}
 use Rattle.gixobj_files.proofs.Canonical.{IsBuilt, IsClean, built}
 use Rattle.gixobj_files.proofs.Everywhere.{Everywhere, Lasts, OfEntry}
 use Rattle.gixobj_files.proofs.WrittenFiles.{has_non_null_cons}
-use Rattle.gixobj_files.specs.Emission.{EmitsBelow, Walks, emptied, end, entry_with, leaves, unopened, unchanged, written}
+use Rattle.gixobj_files.specs.Emission.{EmitsBelow, EmitsEntries, emptied, end, entry_with, of_entries, unopened, unchanged, written}
 use Rattle.gixobj_files.proofs.Based.{some_list_unique}
 
 -- the id of the entry is that of a pair whose tree is built and isn't empty
@@ -117,13 +117,13 @@ module _ (pairs : List Pair) where
       (has_non_null_cons e id os x h)
 
   mutual
-    pub leaves_plain : (dirs bases : Dirs) (ps : List Pair) (own : List EntryView) (saved : ℕ) → EmitsBelow dirs bases ps own saved
+    pub emits_below_plain : (dirs bases : Dirs) (ps : List Pair) (own : List EntryView) (saved : ℕ) → EmitsBelow dirs bases ps own saved
         → Everywhere (Plain pairs) dirs bases → AllByRecursion (IsEmitted pairs) ps
         → RestsOn pairs own × AllByRecursion (HasBuilt pairs) ps
-    leaves_plain dirs bases ps own saved (leaves d b es below os n is walk) all out =
+    emits_below_plain dirs bases ps own saved (of_entries d b es below os n is walk) all out =
         walk_plain d b es below os n walk (λ e h. all [] e (subst (λ o. HasAt o e) (sym is) h)) (λ first q. all (first ∷ q)) out
 
-    walk_plain : (dirs bases : Dirs) (es : List EntryView) (ps : List Pair) (own : List EntryView) (saved : ℕ) → Walks dirs bases es ps own saved
+    walk_plain : (dirs bases : Dirs) (es : List EntryView) (ps : List Pair) (own : List EntryView) (saved : ℕ) → EmitsEntries dirs bases es ps own saved
         → ((e : EntryView) → Has es e → IsPlain pairs e (dirs (e.name ∷ [])) (bases (e.name ∷ [])))
         → ((first : List ℕ) → Everywhere (Plain pairs) (in_dir first dirs) (in_dir first bases)) → AllByRecursion (IsEmitted pairs) ps
         → RestsOn pairs own × AllByRecursion (HasBuilt pairs) ps
@@ -134,11 +134,11 @@ module _ (pairs : List Pair) where
         (rests_more e e.id os (λ t. (mine.mode t, mine.its_pair t none)) w.0, w.1)
     walk_plain dirs bases es ps own saved (emptied d b e rest inner below os m n found walk) here deeper out =
         let w = walk_plain d b rest below os n walk (λ x h. here x (inr h)) deeper (all_right (IsEmitted pairs) inner below out) in
-        let lower = leaves_plain (in_dir e.name d) (in_dir e.name b) inner [] m found (deeper e.name) (all_remaining (IsEmitted pairs) inner below out) in
+        let lower = emits_below_plain (in_dir e.name d) (in_dir e.name b) inner [] m found (deeper e.name) (all_remaining (IsEmitted pairs) inner below out) in
         (w.0, all_joined (HasBuilt pairs) inner below lower.1 w.1)
     walk_plain dirs bases es ps own saved (unchanged d b e first rest more_own inner below os m n found same walk) here deeper out =
         let w = walk_plain d b rest below os n walk (λ x h. here x (inr h)) deeper (all_right (IsEmitted pairs) inner below out) in
-        let lower = leaves_plain (in_dir e.name d) (in_dir e.name b) inner (first ∷ more_own) m found (deeper e.name)
+        let lower = emits_below_plain (in_dir e.name d) (in_dir e.name b) inner (first ∷ more_own) m found (deeper e.name)
         (all_remaining (IsEmitted pairs) inner below out) in
         let mine = here e (inl refl) in
         let some : first ∷ more_own ≢ [] = λ none. cc none in
@@ -150,7 +150,7 @@ module _ (pairs : List Pair) where
     walk_plain dirs bases es ps own saved (written d b e first rest more_own inner below os m n named_id found differ walk) here deeper out =
         let pair = all_right (IsEmitted pairs) inner ((named_id, first ∷ more_own) ∷ below) out in
         let w = walk_plain d b rest below os n walk (λ x h. here x (inr h)) deeper pair.1 in
-        let lower = leaves_plain (in_dir e.name d) (in_dir e.name b) inner (first ∷ more_own) m found (deeper e.name)
+        let lower = emits_below_plain (in_dir e.name d) (in_dir e.name b) inner (first ∷ more_own) m found (deeper e.name)
         (all_remaining (IsEmitted pairs) inner ((named_id, first ∷ more_own) ∷ below) out) in
         let mine = here e (inl refl) in
         let some : first ∷ more_own ≢ [] = λ none. cc none in

@@ -9,7 +9,7 @@ use Rattle.gixobj_hash.specs.declared.hash.object_id.ObjectId.{ObjectId}
 use Rattle.gixobj_files.specs.Files.{Below, Files, Has, Path, SameFiles, Table, is_null, resolves_to}
 use Rattle.gixobj_files.proofs.Based.{Based}
 use Rattle.gixobj_files.proofs.Everywhere.{Everywhere}
-use Rattle.gixobj_files.specs.Emission.{EmitsBelow, Walks, emptied, end, entry_with, leaves, unopened, unchanged, written}
+use Rattle.gixobj_files.specs.Emission.{EmitsBelow, EmitsEntries, emptied, end, entry_with, of_entries, unopened, unchanged, written}
 use Rattle.gixobj_files.specs.Opening.{Dirs, HasAt, IsOpened, OpenFiles, in_dir}
 use Rattle.gixobj_files.proofs.OpenedFiles.{IsAt, no_open_files_of_no_entries}
 use Rattle.gixobj_files.proofs.Canonical.{entry_of_name_unique}
@@ -72,7 +72,7 @@ of_open T k dirs name es e path mode id is h =
 
 root_of : (dirs bases : Dirs) (ps : List Pair) (own : List EntryView) (saved : ℕ) → EmitsBelow dirs bases ps own saved → (es : List EntryView)
     × (dirs [] ≡ Some es)
-root_of dirs bases ps own saved (leaves d b es below os n is walk) = (es, is)
+root_of dirs bases ps own saved (of_entries d b es below os n is walk) = (es, is)
 
 more : (T : Table) (k : ℕ) (dirs : Dirs) (e : EntryView) (es : List EntryView) (name : List ℕ) (path : Path) (mode : ℕ) (id : ObjectId)
     → Part T k dirs es name path mode id → Part T k dirs (e ∷ es) name path mode id
@@ -114,18 +114,20 @@ is_at_known T id first rest (inl none) = absurd (cc none.1)
 is_at_known T id first rest (inr known) = known
 
 mutual
-  pub leaves_files : (T : Table) (dirs bases : Dirs) (ps : List Pair) (own : List EntryView) (saved : ℕ) → EmitsBelow dirs bases ps own saved → AreTrees dirs
+  pub emits_below_files : (T : Table) (dirs bases : Dirs) (ps : List Pair) (own : List EntryView) (saved : ℕ) → EmitsBelow dirs bases ps own saved
+      → AreTrees dirs
       → Everywhere (Based T) dirs bases → Known T ps → (n : ℕ) → SameFiles (Files T n own) (OpenFiles T n dirs)
-  leaves_files T dirs bases ps own saved (leaves d b es below os n is walk) trees based known zero path mode id = ((λ h. absurd h), λ h. absurd h)
-  leaves_files T dirs bases ps own saved (leaves d b es below os n is walk) trees based known (suc k) [] mode id = ((λ h. absurd h), λ h. absurd h)
-  leaves_files T dirs bases ps own saved (leaves d b es below os n is walk) trees based known (suc k) (name ∷ path) mode id =
+  emits_below_files T dirs bases ps own saved (of_entries d b es below os n is walk) trees based known zero path mode id = ((λ h. absurd h), λ h. absurd h)
+  emits_below_files T dirs bases ps own saved (of_entries d b es below os n is walk) trees based known (suc k) [] mode id = ((λ h. absurd h), λ h. absurd h)
+  emits_below_files T dirs bases ps own saved (of_entries d b es below os n is walk) trees based known (suc k) (name ∷ path) mode id =
       let w = walk_files T d b es below os n walk (λ e l h there. trees [] e l (subst (λ o. HasAt o e) (sym is) h) there) (λ first q. trees (first ∷ q))
       (λ e l h there. based [] e (subst (λ o. HasAt o e) (sym is) h) l there) (λ first q. based (first ∷ q)) known k name path mode id in (
         (λ h. let p = w.0 h in (p.0, subst (λ o. HasAt o p.0) (sym is) p.1, p.2, p.3)),
         λ h. w.1 (h.0, subst (λ o. HasAt o h.0) is h.1, h.2, h.3),
       )
 
-  walk_files : (T : Table) (dirs bases : Dirs) (es : List EntryView) (ps : List Pair) (own : List EntryView) (saved : ℕ) → Walks dirs bases es ps own saved
+  walk_files : (T : Table) (dirs bases : Dirs) (es : List EntryView) (ps : List Pair) (own : List EntryView) (saved : ℕ)
+      → EmitsEntries dirs bases es ps own saved
       → ((e : EntryView) (l : List EntryView) → Has es e → dirs (e.name ∷ []) ≡ Some l → is_tree_mode e.mode ≡ true)
       → ((first : List ℕ) → AreTrees (in_dir first dirs))
       → ((e : EntryView) (l : List EntryView) → Has es e → bases (e.name ∷ []) ≡ Some l → IsAt T e.id l)
@@ -157,7 +159,7 @@ mutual
       let w = walk_files T d b rest below os n walk (λ x l h. trees x l (inr h)) deeper (λ x l h. based x l (inr h)) basing
       (known_append_right T inner below known) k name path mode id in
       let root = root_of (in_dir e.name d) (in_dir e.name b) inner [] m found in
-      let lower = leaves_files T (in_dir e.name d) (in_dir e.name b) inner [] m found (deeper e.name) (basing e.name)
+      let lower = emits_below_files T (in_dir e.name d) (in_dir e.name b) inner [] m found (deeper e.name) (basing e.name)
       (known_append_left T inner below known) k path mode id in (
         (λ h. more T k d e rest name path mode id (w.0 h)),
         λ p. ⊎_elim (λ same. let named : e.name ≡ name = ap (λ (x : EntryView). x.name) same ∙ p.2 in
@@ -171,7 +173,7 @@ mutual
       let w = walk_files T d b rest below os n walk (λ x l h. trees x l (inr h)) deeper (λ x l h. based x l (inr h)) basing
       (known_append_right T inner below known) k name path mode id in
       let root = root_of (in_dir e.name d) (in_dir e.name b) inner (first ∷ more_own) m found in
-      let lower = leaves_files T (in_dir e.name d) (in_dir e.name b) inner (first ∷ more_own) m found (deeper e.name) (basing e.name)
+      let lower = emits_below_files T (in_dir e.name d) (in_dir e.name b) inner (first ∷ more_own) m found (deeper e.name) (basing e.name)
       (known_append_left T inner below known) k path mode id in
       emitted_at T k d e rest os (first ∷ more_own) root.0 e.id (is_at_known T e.id first more_own (based e (first ∷ more_own) (inl refl) same))
       (trees e root.0 (inl refl) root.1) root.1 name path mode id lower w
@@ -180,7 +182,7 @@ mutual
       let pair = known_append_right T inner ((named_id, first ∷ more_own) ∷ below) known in
       let w = walk_files T d b rest below os n walk (λ x l h. trees x l (inr h)) deeper (λ x l h. based x l (inr h)) basing pair.1 k name path mode id in
       let root = root_of (in_dir e.name d) (in_dir e.name b) inner (first ∷ more_own) m found in
-      let lower = leaves_files T (in_dir e.name d) (in_dir e.name b) inner (first ∷ more_own) m found (deeper e.name) (basing e.name)
+      let lower = emits_below_files T (in_dir e.name d) (in_dir e.name b) inner (first ∷ more_own) m found (deeper e.name) (basing e.name)
       (known_append_left T inner ((named_id, first ∷ more_own) ∷ below) known) k path mode id in
       emitted_at T k d e rest os (first ∷ more_own) root.0 named_id pair.0 (trees e root.0 (inl refl) root.1) root.1 name path mode id lower w
 

@@ -14,36 +14,36 @@ mutual
   -- the emitted pairs of the directories open below this one, its written tree, and the number of unchanged directories
   -- below it
   pub data EmitsBelow : Dirs → Dirs → List Pair → List EntryView → ℕ → Type 0 where
-    leaves : (dirs bases : Dirs) (entries : List EntryView) (below : List Pair) (own : List EntryView) (saved : ℕ)
+    of_entries : (dirs bases : Dirs) (entries : List EntryView) (below : List Pair) (own : List EntryView) (saved : ℕ)
         → dirs [] ≡ Some entries
-        → Walks dirs bases entries below own saved → EmitsBelow dirs bases below own saved
+        → EmitsEntries dirs bases entries below own saved → EmitsBelow dirs bases below own saved
 
   -- entry by entry; an entry that isn't open is kept, unless its id is null; an open directory is left out if its
   -- written tree is empty, and keeps its id if that tree is its base; any other gets the id of its pair, which comes
   -- after the pairs below it
-  pub data Walks : Dirs → Dirs → List EntryView → List Pair → List EntryView → ℕ → Type 0 where
-    end : (dirs bases : Dirs) → Walks dirs bases [] [] [] 0
+  pub data EmitsEntries : Dirs → Dirs → List EntryView → List Pair → List EntryView → ℕ → Type 0 where
+    end : (dirs bases : Dirs) → EmitsEntries dirs bases [] [] [] 0
     unopened : (dirs bases : Dirs) (e : EntryView) (entries : List EntryView) (below : List Pair) (own : List EntryView)
         (saved : ℕ) → dirs (e.name ∷ []) ≡ None
-        → Walks dirs bases entries below own saved
-        → Walks dirs bases (e ∷ entries) below (entry_with e e.id ++ own) saved
+        → EmitsEntries dirs bases entries below own saved
+        → EmitsEntries dirs bases (e ∷ entries) below (entry_with e e.id ++ own) saved
     emptied : (dirs bases : Dirs) (e : EntryView) (entries : List EntryView) (inner below : List Pair)
         (own : List EntryView) (inside saved : ℕ)
         → EmitsBelow (in_dir e.name dirs) (in_dir e.name bases) inner [] inside
-        → Walks dirs bases entries below own saved → Walks dirs bases (e ∷ entries) (inner ++ below) own
+        → EmitsEntries dirs bases entries below own saved → EmitsEntries dirs bases (e ∷ entries) (inner ++ below) own
         (inside + saved)
     unchanged : (dirs bases : Dirs) (e first : EntryView) (entries rest : List EntryView) (inner below : List Pair)
         (own : List EntryView) (inside saved : ℕ)
         → EmitsBelow (in_dir e.name dirs) (in_dir e.name bases) inner (first ∷ rest) inside
         → bases (e.name ∷ []) ≡ Some (first ∷ rest)
-        → Walks dirs bases entries below own saved → Walks dirs bases (e ∷ entries) (inner ++ below)
+        → EmitsEntries dirs bases entries below own saved → EmitsEntries dirs bases (e ∷ entries) (inner ++ below)
         (entry_with e e.id ++ own) (inside + 1 + saved)
     written : (dirs bases : Dirs) (e first : EntryView) (entries rest : List EntryView) (inner below : List Pair)
         (own : List EntryView) (inside saved : ℕ) (id : ObjectId)
         → EmitsBelow (in_dir e.name dirs) (in_dir e.name bases) inner (first ∷ rest) inside
         → bases (e.name ∷ []) ≢ Some (first ∷ rest)
-        → Walks dirs bases entries below own saved
-        → Walks dirs bases (e ∷ entries) (inner ++ (id, first ∷ rest) ∷ below) (entry_with e id ++ own)
+        → EmitsEntries dirs bases entries below own saved
+        → EmitsEntries dirs bases (e ∷ entries) (inner ++ (id, first ∷ rest) ∷ below) (entry_with e id ++ own)
         (inside + saved)
 
 -- the pairs below a directory, its written tree, and the number of unchanged directories, which saturates at the

@@ -3,7 +3,7 @@ use Rattle.std.specs.Fn.{CalledAt}
 use Rattle.std.specs.List.{FoldsTo}
 use Rattle.gixobj_tree.specs.Entries.{EntryView, Pair}
 use Rattle.gixobj_files.specs.Edits.{raised}
-use Rattle.gixobj_files.specs.Emission.{Walks}
+use Rattle.gixobj_files.specs.Emission.{EmitsEntries}
 use Rattle.gixobj_directories.specs.Calls.{IsCallableOnTrees}
 use Rattle.gixobj_directories.specs.Nested.{bases_of, below, dirs_of, parts}
 use Rattle.gixobj_files.specs.WrittenTrees.{SharesBase, so_far}
@@ -11,21 +11,21 @@ use Rattle.gixobj_directories.specs.LeafTrees.{Adds, inside_of, leaf_trees}
 use Rattle.gixobj_directories.proofs.Alongside.{Ahead, passed_size}
 use Rattle.gixobj_directories.proofs.write.+walk.Given as goal
 
-abbrev pub decreases-leaves : goal.decreases-leaves
-decreases-leaves g l = 2 * length l.node.now
+abbrev pub decreases-emit_below : goal.decreases-emit_below
+decreases-emit_below g l = 2 * length l.node.now
 
-abbrev pub decreases-visit : goal.decreases-visit
-decreases-visit g l = 2 * passed_size l.child + 1
+abbrev pub decreases-emit_entry : goal.decreases-emit_entry
+decreases-emit_entry g l = 2 * passed_size l.child + 1
 
 -- what was emitted so far, followed by whatever the remaining entries emit, is what the directory emits
-abbrev pub invariant-leaves-loop-entry : goal.invariant-leaves-loop-entry
-invariant-leaves-loop-entry g l = record {
+abbrev pub invariant-emit_below-loop-entry : goal.invariant-emit_below-loop-entry
+invariant-emit_below-loop-entry g l = record {
   emits : (ps : List Pair) × (count : ℕ)
       × ((ts : List (List EntryView)) × Adds l.fn.pairs.items l.pairs.items ts ps
       × (ts ++ leaf_trees (below (parts l.remaining)) ≡ leaf_trees (inside_of l.fn.node))) × (l.saved ≡ raised l.fn.saved count)
       × FoldsTo (λ f p h. CalledAt g.F.FnMut f p.1 (Ok p.0) h) l.fn.out ps l.out
-      × ((qs : List Pair) (own : List EntryView) (n : ℕ) → Walks (dirs_of l.fn.node) (bases_of l.fn.node) (drop l.entry-index l.entry-items) qs own n
-      → Walks (dirs_of l.fn.node) (bases_of l.fn.node) l.entry-items (ps ++ qs) (so_far l.base l.own ++ own) (count + n));
+      × ((qs : List Pair) (own : List EntryView) (n : ℕ) → EmitsEntries (dirs_of l.fn.node) (bases_of l.fn.node) (drop l.entry-index l.entry-items) qs own n
+      → EmitsEntries (dirs_of l.fn.node) (bases_of l.fn.node) l.entry-items (ps ++ qs) (so_far l.base l.own ++ own) (count + n));
   callable : IsCallableOnTrees (λ f tree. g.F.FnMut.pre f (tree, tt)) (λ f p h. CalledAt g.F.FnMut f p.1 (Ok p.0) h) l.out;
   shares_base : SharesBase l.base l.own;
   ahead : Ahead l.fn.node (drop l.entry-index l.entry-items) l.remaining;

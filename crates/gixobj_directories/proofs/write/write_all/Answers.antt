@@ -28,10 +28,11 @@ returns-in_err-own-clause-error g c =
     let bases = bases_of c.args.node.now in
     if_err_weaken c.from_residual.result _ _ c.from_residual.ensures.1
     (λ error is. subst (Stopped (λ f p h. CalledAt g.F.FnMut f p.1 (Ok p.0) h) (λ f tree x h. CalledAt g.F.FnMut f tree (Err x) h)
-    (EmitsSome dirs bases) c.args.out.now c.leaves_copied.new.out) (sym is)
+    (EmitsSome dirs bases) c.args.out.now c.emit_below_copied.new.out) (sym is)
     (stopped_after_folds (λ f p h. CalledAt g.F.FnMut f p.1 (Ok p.0) h) (λ f tree x h. CalledAt g.F.FnMut f tree (Err x) h)
     (λ ps. (own : List EntryView) × (n : ℕ) × EmitsBelow dirs bases ps own n) (EmitsSome dirs bases)
-    c.args.out.now c.args.out.now c.leaves_copied.new.out [] refl (λ qs found. emits_some_append dirs bases qs found.0 found.1 found.2) c.in_err-own.field-0.0
+    c.args.out.now c.args.out.now c.emit_below_copied.new.out [] refl (λ qs found. emits_some_append dirs bases qs found.0 found.1 found.2)
+    c.in_err-own.field-0.0
     (c.in_err-own.ensures {u = tt}).error))
 
 pub returns-in_err-complete_trees-clause-error : goal.returns-in_err-complete_trees-clause-error
@@ -42,7 +43,7 @@ returns-in_err-complete_trees-clause-error g c =
     let more = emits_some_append dirs bases ok.0 c.in_ok-own.own ok.1 ok.2 in
     if_err_weaken c.from_residual-in_err-complete_trees.result _ _ c.from_residual-in_err-complete_trees.ensures.1
     (stopped_at_call (λ f p h. CalledAt g.F.FnMut f p.1 (Ok p.0) h) (λ f tree x h. CalledAt g.F.FnMut f tree (Err x) h)
-    (EmitsSome dirs bases) c.args.out.now c.leaves_copied.new.out ok.0 more.0 ok.5 more.1)
+    (EmitsSome dirs bases) c.args.out.now c.emit_below_copied.new.out ok.0 more.0 ok.5 more.1)
 
 pub returns-in_err-id-clause-error : goal.returns-in_err-id-clause-error
 returns-in_err-id-clause-error g c =
@@ -55,7 +56,7 @@ returns-in_err-id-clause-error g c =
     (EmitsSome dirs bases) c.args.out.now c.emit.new.out) (sym is)
     (stopped_after_folds (λ f p h. CalledAt g.F.FnMut f p.1 (Ok p.0) h) (λ f tree x h. CalledAt g.F.FnMut f tree (Err x) h)
     (λ ps. (id : ObjectId) × (ps ≡ (id, own) ∷ [])) (EmitsSome dirs bases)
-    c.args.out.now c.leaves_copied.new.out c.emit.new.out ok.0 ok.5
+    c.args.out.now c.emit_below_copied.new.out c.emit.new.out ok.0 ok.5
     (λ qs one. ([], (ok.1, ok.0, one.0, own, ok.2, ap (λ ps. ok.0 ++ ps) (append-nil qs ∙ one.1)))) c.in_err-id.field-0.0
     (c.in_err-id.ensures {u = tt}).error))
 
@@ -89,8 +90,8 @@ returns-clause-written g c =
       own,
       (ok.1, ok.2, ok.3),
       pushed,
-      folds_to_append gave c.args.out.now ok.0 c.leaves_copied.new.out ((c.in_ok-id.id, own) ∷ []) c.emit.new.out ok.5
-          (folds_to_one gave c.leaves_copied.new.out (c.in_ok-id.id, own) c.emit.new.out emitted),
+      folds_to_append gave c.args.out.now ok.0 c.emit_below_copied.new.out ((c.in_ok-id.id, own) ∷ []) c.emit.new.out ok.5
+          (folds_to_one gave c.emit_below_copied.new.out (c.in_ok-id.id, own) c.emit.new.out emitted),
       (c.in_ok-own.ensures {u = tt}).storable,
       (c.node.inside.base, remaining),
     )
@@ -98,7 +99,7 @@ returns-clause-written g c =
 pub emit-requires-clause-callable : goal.emit-requires-clause-callable
 emit-requires-clause-callable g c = let ok = (c.in_ok-own.ensures {u = tt}).emitted in
     callable_after_folds _ (λ f p h. CalledAt g.F.FnMut f p.1 (Ok p.0) h) c.args.out.now
-    ok.0 c.leaves_copied.new.out ok.5 c.requires
+    ok.0 c.emit_below_copied.new.out ok.5 c.requires
 
 pub returns-clause-bases : goal.returns-clause-bases
 returns-clause-bases g c =
@@ -140,4 +141,4 @@ take_leaf_trees-requires-clause-has_capacity g c =
     let trees = ap (λ (cs : Vec Child Global). length (leaf_trees (below (parts cs.items)))) c.replace-children.ensures.value
     ∙ ap (λ (ds : Opened). length (leaf_trees (inside_of ds))) c.node.view_is in
     let made = c.in_ok-complete_trees.ensures {u = tt} in
-    omega (arith, fewer, pairs, trees, made.exact, made.len, c.len.ensures, c.leaves_copied.new.pairs.ok.0)
+    omega (arith, fewer, pairs, trees, made.exact, made.len, c.len.ensures, c.emit_below_copied.new.pairs.ok.0)

@@ -133,7 +133,8 @@ invariant_of-self-2 g c =
     ensured_on named.0 s.root c.open_along.new.self c.open_along.ensures.bases c.self.invariant c.ensure_directory.new.self
     (c.in_ok-ensure_directory.ensures {u = tt}).bases
     s.object_hash path (c.in_ok-check_names.ensures {u = tt}).accepted ok.0 ok.1
-    (λ at. (c.in_ok-ensure_directory.ensures {u = tt}).dirs at ∙ ap (λ null. ensured_dirs path null (dirs_of c.open_along.new.self) at) c.null-null.ensures.value)
+    (λ at. (c.in_ok-ensure_directory.ensures {u = tt}).dirs at ∙ ap (λ null. ensured_dirs path null (dirs_of c.open_along.new.self) at)
+    c.null-null.ensures.value)
 
 pub returns-clause-is_open : goal.returns-clause-is_open
 returns-clause-is_open g c = ensured_path_is_open (names_of c.args.path.now) c.null-null.result c.open_along.new.self c.ensure_directory.new.self
@@ -147,6 +148,7 @@ returns-clause-ensured g c = λ trees fits.
     let ok = (c.in_ok-open_along.ensures {u = tt}).opened trees (subst (λ o. AreTreesOf (g.S.Store.objects o) trees) (sym stored) fits) in
     ensured_at s.store s.object_hash (names_of s.prefix.items) trees s.root c.open_along.new.self c.ensure_directory.new.self s.lookups c.open_along.new.lookups
     c.args.self.now c.self.view_is path ok.0 (c.in_ok-check_names.ensures {u = tt}).accepted ok.1
-    (λ at. (c.in_ok-ensure_directory.ensures {u = tt}).dirs at ∙ ap (λ null. ensured_dirs path null (dirs_of c.open_along.new.self) at) c.null-null.ensures.value)
+    (λ at. (c.in_ok-ensure_directory.ensures {u = tt}).dirs at ∙ ap (λ null. ensured_dirs path null (dirs_of c.open_along.new.self) at)
+    c.null-null.ensures.value)
     ok.2 c.self.invariant
     c.open_along.ensures.bases (c.in_ok-ensure_directory.ensures {u = tt}).bases (names_of c.in_ok-prefix.prefix.items) (c.in_ok-prefix.ensures {u = tt}).names

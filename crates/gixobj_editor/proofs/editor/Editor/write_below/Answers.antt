@@ -27,7 +27,8 @@ invariant_of-self g c =
     let there : dirs_of s.root (names_of c.deref.result.now) ≢ None = subst (λ (l : List _). dirs_of s.root (names_of l) ≢ None) (sym c.deref.ensures.value)
     (prefix_is_open s.store s.object_hash (names_of s.prefix.items) s.root s.lookups c.args.self.now c.self.view_is c.requires.is_open) in
     written_below_opened_on c.write_at.result (names_of c.deref.result.now) s.root c.write_at.new.node
-    (if_ok_and c.write_at.result _ _ (λ _. IsWrittenSo (names_of c.deref.result.now) s.root c.write_at.new.node) c.write_at.ensures.written c.write_at.ensures.bases
+    (if_ok_and c.write_at.result _ _ (λ _. IsWrittenSo (names_of c.deref.result.now) s.root c.write_at.new.node) c.write_at.ensures.written
+    c.write_at.ensures.bases
     (λ it ok edited. (ok.1, ok.5, ok.6, edited))) c.write_at.ensures.unchanged there c.self.invariant
 
 pub returns-clause-written : goal.returns-clause-written

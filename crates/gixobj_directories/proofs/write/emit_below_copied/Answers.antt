@@ -9,7 +9,7 @@ use Rattle.gixobj_directories.specs.LeafTrees.{Adds, inside_of, leaf_trees}
 use Rattle.gixobj_directories.proofs.Emitting.{if_err_weaken, stopped_at_call}
 use Rattle.gixobj_directories.proofs.Levels.{dirs_of_nil}
 use Rattle.gixobj_directories.proofs.LeafTrees.{adds_nil, leaf_tree_has_base_or_is_emitted}
-use Rattle.gixobj_directories.proofs.write.leaves_copied.Goals as goal
+use Rattle.gixobj_directories.proofs.write.emit_below_copied.Goals as goal
 
 pub returns-in_err-entries-clause-error : goal.returns-in_err-entries-clause-error
 returns-in_err-entries-clause-error g c =
@@ -44,7 +44,7 @@ returns-in_err-tree-clause-error g c =
     let own = so_far c.base_of-base.result.now c.in_ok-own.own in
     if_err_weaken c.from_residual-in_err-tree.result _ _ c.from_residual-in_err-tree.ensures.1
     (stopped_at_call (λ f p h. CalledAt g.F.FnMut f p.1 (Ok p.0) h) (λ f tree x h. CalledAt g.F.FnMut f tree (Err x) h)
-    (λ ps. (own : List EntryView) × (n : ℕ) × EmitsBelow (dirs_of c.args.node.now) (bases_of c.args.node.now) ps own n) c.args.out.now c.leaves.new.out ok.0
+    (λ ps. (own : List EntryView) × (n : ℕ) × EmitsBelow (dirs_of c.args.node.now) (bases_of c.args.node.now) ps own n) c.args.out.now c.emit_below.new.out ok.0
     [] ok.5
     (own, ok.1, rw append-nil ok.2))
 
