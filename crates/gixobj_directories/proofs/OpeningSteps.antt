@@ -22,8 +22,8 @@ use Rattle.gixobj_files.specs.Opening.{Dirs, HasAt, IsOpened, in_dir}
 use Rattle.gixobj_files.specs.Tables.{IsNeverLookedUp}
 use Rattle.gixobj_directories.specs.Openings.{EndsBefore}
 use Rattle.gixobj_directories.specs.declared.open.Child.{Child}
-use Rattle.gixobj_directories.specs.declared.opening.Vacant.{Vacant}
-use Rattle.gixobj_directories.specs.declared.opening.Vacant.TheVariants as vacant
+use Rattle.gixobj_directories.specs.declared.opening.NotLookedUp.{NotLookedUp}
+use Rattle.gixobj_directories.specs.declared.opening.NotLookedUp.TheVariants as not_looked_up
 use Rattle.gixobj_files.proofs.UnopenedCounts.{IsIdle}
 use Rattle.gixobj_files.proofs.StillOpenedOpenings.{is_opened_in_dir, is_opened_of_only, is_opened_with_dir}
 use Rattle.gixobj_files.proofs.HasTrees.{entry_of_has_tree, has_tree_of_entry}
@@ -212,9 +212,9 @@ abbrev pub OpensAs : (EntryView → Type 0) → Trees → EntryView → List Ent
 OpensAs Ends trees e entries first = (Ends e → ⊥) × Finds trees e.id entries first
 
 -- an opening ends at most before entries that aren't looked up
-pub ends_before_is_idle : (it : Vacant) → IsIdle (EndsBefore it)
-ends_before_is_idle vacant.Opened e other = inl other
-ends_before_is_idle vacant.Unopened e idle = idle
+pub ends_before_is_idle : (it : NotLookedUp) → IsIdle (EndsBefore it)
+ends_before_is_idle not_looked_up.Opened e other = inl other
+ends_before_is_idle not_looked_up.Unopened e idle = idle
 
 -- openings, and openings that stop, hold in the directory above
 pub opens_goes_down : (Ends : EntryView → Type 0) (trees : Trees) → GoesDown (Opens Ends trees)

@@ -14,13 +14,13 @@ use Rattle.gixobj_tree.specs.TreeDecoding.{DecodesToTree}
 use Rattle.gixobj_tree.specs.Entries.{EntryView, IsWellFormed}
 use Rattle.gixobj_directories.specs.declared.opening.Error.{Error}
 use Rattle.gixobj_directories.specs.declared.opening.Error.TheVariants as opening
-use Rattle.gixobj_directories.specs.declared.opening.Vacant.{Vacant}
-use Rattle.gixobj_directories.specs.declared.opening.Vacant.TheVariants as vacant
+use Rattle.gixobj_directories.specs.declared.opening.NotLookedUp.{NotLookedUp}
+use Rattle.gixobj_directories.specs.declared.opening.NotLookedUp.TheVariants as not_looked_up
 
 -- an opening ends before this entry, by what it does at directories that are never looked up
-abbrev pub EndsBefore : Vacant → EntryView → Type 0
-EndsBefore vacant.Opened = IsNoTree
-EndsBefore vacant.Unopened = IsNotLookedUp
+abbrev pub EndsBefore : NotLookedUp → EntryView → Type 0
+EndsBefore not_looked_up.Opened = IsNoTree
+EndsBefore not_looked_up.Unopened = IsNotLookedUp
 
 -- the id names a well-formed tree of these entries
 abbrev pub NamesTree : Objects → ObjectId → List EntryView → Type 0

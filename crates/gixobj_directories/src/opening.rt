@@ -13,7 +13,7 @@ ghost use Rattle.gixobj_directories.specs.Calls.{names_of};
 ghost use Rattle.gixobj_files.specs.Bases.{opened_bases};
 ghost use Rattle.gixobj_directories.specs.Nested.{bases_of, dirs_of};
 ghost use Rattle.gixobj_directories.specs.Openings.{EndsBefore, NamesTree, OfTrees, IsOpenErrorAt, IsDirectoryError};
-ghost use Rattle.gixobj_directories.specs.declared.opening.Vacant.TheVariants.{Unopened};
+ghost use Rattle.gixobj_directories.specs.declared.opening.NotLookedUp.TheVariants.{Unopened};
 
 use crate::open::{Open, child_at, copy_tree, room_for, store_child, tree_id};
 use bstr::BString;
@@ -80,21 +80,21 @@ impl From<existing_object::Error> for Error {
 
 /// What an opening does at a directory with the null id or the empty tree's id, which is never looked up.
 #[derive(Clone, Copy, Debug, PartialEq, Eq)]
-pub enum Vacant {
+pub enum NotLookedUp {
     /// The directory is opened as empty.
     Opened,
     /// The opening ends above the directory.
     Unopened,
 }
 
-impl Vacant {
+impl NotLookedUp {
     /// Returns `true` if an opening ends above a directory of this id.
-    fn leaves(self, id: ObjectId) -> bool
+    fn ends_above(self, id: ObjectId) -> bool
         ensures { IsTrue result ↔ ((self ≡ Unopened) × IsNeverLookedUp id) }
     {
         match self {
-            Vacant::Opened => false,
-            Vacant::Unopened => is_not_looked_up(id),
+            NotLookedUp::Opened => false,
+            NotLookedUp::Unopened => is_not_looked_up(id),
         }
     }
 }
@@ -107,7 +107,7 @@ fn is_not_looked_up(id: ObjectId) -> bool
 }
 
 /// Returns the id of the directory of a name, if there is one that an opening enters.
-fn next_id(tree: &Tree, name: &BString, not_looked_up: Vacant) -> Option<ObjectId>
+fn next_id(tree: &Tree, name: &BString, not_looked_up: NotLookedUp) -> Option<ObjectId>
     requires { IsWellFormed tree.now }
     ensures found { IfSome result (λ id. (e : EntryView)
         × IsEntryOf (bstring_bytes name.now) (Some tree.now) e × (is_tree_mode e.mode ≡ true)
@@ -116,7 +116,7 @@ fn next_id(tree: &Tree, name: &BString, not_looked_up: Vacant) -> Option<ObjectI
         → EndsBefore not_looked_up e) }
 {
     let id = tree_id(tree, name)?;
-    if not_looked_up.leaves(id) {
+    if not_looked_up.ends_above(id) {
         return None;
     }
     Some(id)
@@ -200,7 +200,7 @@ impl Open {
         &mut self,
         alloc: Global,
         path: &[BString],
-        not_looked_up: Vacant,
+        not_looked_up: NotLookedUp,
         store: &S,
         lookups: &mut u64,
     ) -> Result<(), Error>

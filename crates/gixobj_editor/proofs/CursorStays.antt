@@ -18,7 +18,7 @@ use Rattle.gixobj_tree.specs.Entries.{EntryView}
 use Rattle.gixobj_editor.specs.Cursors.{from_root}
 use Rattle.gixobj_editor.specs.Removals.{IsRemoved}
 use Rattle.gixobj_files.specs.Bases.{opened_bases}
-use Rattle.gixobj_directories.specs.declared.opening.Vacant.TheVariants as vacant
+use Rattle.gixobj_directories.specs.declared.opening.NotLookedUp.TheVariants as not_looked_up
 use Rattle.gixobj_editor.specs.Upserts.{IsEditFailure, IsUpserted, directory_of}
 
 -- if each open directory is still open, this one is
@@ -85,7 +85,7 @@ known_of_either (Err error) objects Known Accepted Refused ok err accepted rejec
 pub edit_failure_unchanged : {S : Type 0} (trees : Trees) (old : State S) (path : Path) → IsOpened (open_dirs old)
     → ((at : Path) → open_bases old at ≡ opened_bases (open_dirs old) (open_dirs old) (open_bases old) at) → IsEditFailure trees old path old
 edit_failure_unchanged trees old path all idle = record {
-  not_looked_up = vacant.Opened;
+  not_looked_up = not_looked_up.Opened;
   prefix = [];
   more = path;
   on_the_way = refl;

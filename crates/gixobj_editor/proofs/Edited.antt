@@ -27,8 +27,8 @@ use Rattle.gixobj_directories.specs.Calls.{AreNames}
 use Rattle.gixobj_directories.specs.Nested.{Opened, base_side, bases_of, dirs_of, entries_side, side_list}
 use Rattle.gixobj_directories.specs.Openings.{EndsBefore, IsOpenErrorAt}
 use Rattle.gixobj_directories.proofs.BaseSteps.{editing as when_edited, base_none_where_unopened, opening as when_opened, unmoved}
-use Rattle.gixobj_directories.specs.declared.opening.Vacant.{Vacant}
-use Rattle.gixobj_directories.specs.declared.opening.Vacant.TheVariants as vacant
+use Rattle.gixobj_directories.specs.declared.opening.NotLookedUp.{NotLookedUp}
+use Rattle.gixobj_directories.specs.declared.opening.NotLookedUp.TheVariants as not_looked_up
 use Rattle.gixobj_files.specs.Bases.{AreOpenedOn, base_edited, base_opened, edited_bases, opened_bases}
 use Rattle.gixobj_files.proofs.Calls.{opened_based, upserted_based}
 use Rattle.gixobj_directories.specs.declared.opening.Error as directory
@@ -272,7 +272,7 @@ module _ {S : Type 0} (store : S) (hash : Kind) (prefix : Path) (trees : Trees) 
       (inserted_in ds mid ds' n m path head last mode id queries is names opens insert_entry count was first then)
 
   -- directories are opened, and nothing else changes
-  pub stay : (it : Vacant) (ds ds' : Opened) (n m : ℕ) (path : Path) → IsOpenedInPart (EndsBefore it) trees path (dirs_of ds) (dirs_of ds') n m
+  pub stay : (it : NotLookedUp) (ds ds' : Opened) (n m : ℕ) (path : Path) → IsOpenedInPart (EndsBefore it) trees path (dirs_of ds) (dirs_of ds') n m
       → OpenedOn ds
       → OpenedSo ds ds' → IsEditFailure trees (made ds n) path (made ds' m)
   stay it ds ds' n m path so was first =
@@ -300,7 +300,7 @@ module _ {S : Type 0} (store : S) (hash : Kind) (prefix : Path) (trees : Trees) 
             (map_is_opened_on ds was) agrees has so.prefix so.requested opened (only_opened_bases_of_map ds ds' first);
       }
 
-  pub stay_at : (it : Vacant) (ds ds' : Opened) (n m : ℕ) (old : State S) → made ds n ≡ old → (path : Path)
+  pub stay_at : (it : NotLookedUp) (ds ds' : Opened) (n m : ℕ) (old : State S) → made ds n ≡ old → (path : Path)
       → IsOpenedInPart (EndsBefore it) trees path (dirs_of ds) (dirs_of ds') n m → OpenedOn ds → OpenedSo ds ds'
       → IsEditFailure trees old path (made ds' m)
   stay_at it ds ds' n m old view path so was first = subst (λ (o : State S). IsEditFailure trees o path (made ds' m)) view
@@ -308,17 +308,17 @@ module _ {S : Type 0} (store : S) (hash : Kind) (prefix : Path) (trees : Trees) 
 
   pub unchanged_at : (ds : Opened) (n : ℕ) (old : State S) → made ds n ≡ old → (path : Path) → OpenedOn ds → IsEditFailure trees old path old
   unchanged_at ds n old view path was = subst (λ (o : State S). IsEditFailure trees o path o) view
-      (stay vacant.Opened ds ds n n path (none_in_part trees path (dirs_of ds) n) was (opened_so_refl ds))
+      (stay not_looked_up.Opened ds ds n n path (none_in_part trees path (dirs_of ds) n) was (opened_so_refl ds))
 
   pub halted_so : (ds ds' : Opened) (n m : ℕ) (old : State S) → made ds n ≡ old → (path head : Path) (last : List ℕ) → path ≡ head ++ last ∷ []
       → (queries : List ObjectId) (failed_lookup : Option ObjectId) → StopsOpening IsNoTree trees head (dirs_of ds) (dirs_of ds') queries failed_lookup
       → m ≡ counted n queries
       → OpenedOn ds → OpenedSo ds ds' → IsEditFailure trees old path (made ds' m)
   halted_so ds ds' n m old view path head last is queries failed_lookup halts count =
-      stay_at vacant.Opened ds ds' n m old view path
+      stay_at not_looked_up.Opened ds ds' n m old view path
       (halted_in_part trees path head last [] is (dirs_of ds) (dirs_of ds') queries failed_lookup halts n m count)
 
-  pub opened_so : (it : Vacant) (ds ds' : Opened) (n m : ℕ) (old : State S) → made ds n ≡ old → (path head : Path) (last : List ℕ)
+  pub opened_so : (it : NotLookedUp) (ds ds' : Opened) (n m : ℕ) (old : State S) → made ds n ≡ old → (path head : Path) (last : List ℕ)
       → path ≡ head ++ last ∷ []
       → (queries : List ObjectId) → Opens (EndsBefore it) trees head (dirs_of ds) (dirs_of ds') queries → m ≡ counted n queries
       → OpenedOn ds → OpenedSo ds ds' → IsEditFailure trees old path (made ds' m)

@@ -23,7 +23,7 @@ use Rattle.gixobj_editor.specs.Removals.{IsRemoved}
 use Rattle.gixobj_editor.proofs.Edited.{EditedSo, OpenedOn, OpenedSo, map_is_opened, edited_bases_of_map, tree_known_above, map_bases, map_dirs, no_error_above, map_is_opened_on, map_dirs_eq, state_of, stay_at}
 use Rattle.gixobj_directories.proofs.OpeningSteps.{ends_before_is_idle}
 use Rattle.gixobj_directories.specs.Openings.{EndsBefore}
-use Rattle.gixobj_directories.specs.declared.opening.Vacant.{Vacant}
+use Rattle.gixobj_directories.specs.declared.opening.NotLookedUp.{NotLookedUp}
 use Rattle.gixobj_files.proofs.Calls.{removed_based}
 use Rattle.gixobj_editor.proofs.InPart.{prefix_in_part}
 use Rattle.gixobj_editor.proofs.Paths.{directory_is_prefix, directory_of_snoc}
@@ -75,7 +75,7 @@ module _ {Ends : EntryView → Type 0} (idle : IsIdle Ends) (trees : Trees) (pat
         (known_after idle trees ends.0 ends.1 old new queries (along ends.0 ends.1 ends.2))
   ]
 
-module _ {S : Type 0} (store : S) (hash : Kind) (prefix : Path) (trees : Trees) (it : Vacant) where
+module _ {S : Type 0} (store : S) (hash : Kind) (prefix : Path) (trees : Trees) (it : NotLookedUp) where
   abbrev made : Opened → ℕ → State S
   made ds n = state_of store hash prefix ds n
 

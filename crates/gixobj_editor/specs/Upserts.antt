@@ -3,7 +3,7 @@ use Rattle.std.specs.Prelude.{◌≡◌, ◌≢◌, ◌≤◌, ◌⊎◌, ◌++�
 use Rattle.gixobj_object.specs.Stores.{StoreModel, Objects}
 use Rattle.gixobj_directories.specs.Calls.{AreNames}
 use Rattle.gixobj_directories.specs.Openings.{EndsBefore, OfTrees, IsDirectoryError}
-use Rattle.gixobj_directories.specs.declared.opening.Vacant.{Vacant}
+use Rattle.gixobj_directories.specs.declared.opening.NotLookedUp.{NotLookedUp}
 use Rattle.gixobj_files.specs.Bases.{HasBases, edited_bases, opened_bases}
 use Rattle.gixobj_directories.specs.declared.opening.Error as directory
 use Rattle.gixobj_directories.specs.declared.opening.Error.TheVariants as opening
@@ -139,7 +139,7 @@ pub record IsOpenedInPart (Ends : EntryView → Type 0) (trees : Trees) (path : 
 -- was looked up without success. An open directory is still open, with its entries. Each lookup is counted; there are
 -- at most as many as unopened directories above the path. The files and the rest are unchanged
 pub record IsEditFailure {S : Type 0} (trees : Trees) (old : State S) (path : Path) (new : State S) : Type 0 where
-  pub not_looked_up : Vacant
+  pub not_looked_up : NotLookedUp
   pub prefix : Path
   pub more : Path
   pub on_the_way : path ≡ prefix ++ more

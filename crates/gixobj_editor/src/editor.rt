@@ -30,7 +30,7 @@ use bstr::BString;
 pub use cursor::Cursor;
 pub use error::Error;
 use gixobj_directories::open::Open;
-use gixobj_directories::opening::Vacant;
+use gixobj_directories::opening::NotLookedUp;
 use gixobj_directories::write::write_all;
 pub use gixobj_directories::write::{WriteError, Written};
 use gixobj_hash::OutOfMemory;
@@ -290,7 +290,7 @@ impl<S: Find> Editor<S> {
         self.root.open_along(
             alloc,
             directory,
-            Vacant::Opened,
+            NotLookedUp::Opened,
             &self.store,
             &mut self.lookups,
         )?;
@@ -337,7 +337,7 @@ impl<S: Find> Editor<S> {
             alloc,
             &mut self.root,
             path,
-            Vacant::Opened,
+            NotLookedUp::Opened,
             &self.store,
             &mut self.lookups,
         )?;
@@ -369,7 +369,7 @@ impl<S: Find> Editor<S> {
             alloc,
             &mut self.root,
             path,
-            Vacant::Unopened,
+            NotLookedUp::Unopened,
             &self.store,
             &mut self.lookups,
         )?;

@@ -22,7 +22,7 @@ ghost use Rattle.gixobj_mode.specs.Mode.{mode_of_kind};
 use super::names::{check_names, copy_names, join_paths};
 use super::{Editor, Error, WriteError, Written};
 use bstr::BString;
-use gixobj_directories::opening::Vacant;
+use gixobj_directories::opening::NotLookedUp;
 use gixobj_directories::write::write_at;
 use gixobj_hash::OutOfMemory;
 use gixobj_hash::hash::ObjectId;
@@ -163,7 +163,13 @@ impl<S: Find> Editor<S> {
         let alloc = *self.prefix.allocator();
         check_names(path)?;
         let null = ObjectId::null(self.object_hash);
-        self.root.open_along(alloc, path, Vacant::Opened, &self.store, &mut self.lookups)?;
+        self.root.open_along(
+            alloc,
+            path,
+            NotLookedUp::Opened,
+            &self.store,
+            &mut self.lookups,
+        )?;
         let prefix = copy_names(alloc, path)?;
         self.root.ensure_directory(alloc, path, null)?;
         self.prefix = prefix;

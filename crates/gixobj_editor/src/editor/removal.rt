@@ -19,7 +19,7 @@ use crate::editor::error::Error;
 use crate::editor::names::{check_names, validated};
 use bstr::BString;
 use gixobj_directories::open::Open;
-use gixobj_directories::opening::Vacant;
+use gixobj_directories::opening::NotLookedUp;
 use gixobj_object::Find;
 use std::alloc::{AllocError, Global};
 
@@ -28,7 +28,7 @@ pub(crate) fn open_for_removal<S: Find>(
     alloc: Global,
     root: &mut Open,
     path: &[BString],
-    not_looked_up: Vacant,
+    not_looked_up: NotLookedUp,
     store: &S,
     lookups: &mut u64,
 ) -> Result<(), Error>

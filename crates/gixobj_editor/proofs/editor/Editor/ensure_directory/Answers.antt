@@ -15,7 +15,7 @@ use Rattle.gixobj_editor.specs.Cursors.{IsCursorError}
 use Rattle.gixobj_editor.proofs.EnsuredAt.{ensured_at, ensured_path_is_open, cursor_error_of_name, rejects_at, path_not_nil}
 use Rattle.gixobj_editor.proofs.Edited.{OpenedOn, OpenedSo, halted_so, opened_so, unchanged_at}
 use Rattle.gixobj_directories.proofs.NamedTrees.{trees_of_objects_exist}
-use Rattle.gixobj_directories.specs.declared.opening.Vacant.TheVariants as vacant
+use Rattle.gixobj_directories.specs.declared.opening.NotLookedUp.TheVariants as not_looked_up
 use Rattle.gixobj_editor.proofs.OpenedOn.{ensured_on, halted_on, opened_on}
 use Rattle.gixobj_editor.proofs.editor.Editor.ensure_directory.Goals as goal
 
@@ -65,7 +65,7 @@ returns-in_err-prefix-clause-after_error g c =
     let path = names_of c.args.path.now in
     let stored = ap (λ (o : State _). o.store) c.self.view_is in
     let ok = (c.in_ok-open_along.ensures {u = tt}).opened trees (subst (λ o. AreTreesOf (g.S.Store.objects o) trees) (sym stored) fits) in
-    opened_so s.store s.object_hash (names_of s.prefix.items) trees vacant.Opened s.root c.open_along.new.self s.lookups c.open_along.new.lookups
+    opened_so s.store s.object_hash (names_of s.prefix.items) trees not_looked_up.Opened s.root c.open_along.new.self s.lookups c.open_along.new.lookups
     c.args.self.now c.self.view_is (inside path) path [] refl ok.0 ok.1 ok.2 c.self.invariant c.open_along.ensures.bases)
 
 pub returns-in_err-prefix-clause-error : goal.returns-in_err-prefix-clause-error
@@ -86,7 +86,7 @@ returns-in_err-ensure_directory-clause-after_error g c =
     let stored = ap (λ (o : State _). o.store) c.self.view_is in
     let ok = (c.in_ok-open_along.ensures {u = tt}).opened trees (subst (λ o. AreTreesOf (g.S.Store.objects o) trees) (sym stored) fits) in
     let same : c.ensure_directory.new.self ≡ c.open_along.new.self = (c.in_err-ensure_directory.ensures {u = tt}).unchanged in
-    opened_so s.store s.object_hash (names_of s.prefix.items) trees vacant.Opened s.root c.ensure_directory.new.self s.lookups c.open_along.new.lookups
+    opened_so s.store s.object_hash (names_of s.prefix.items) trees not_looked_up.Opened s.root c.ensure_directory.new.self s.lookups c.open_along.new.lookups
     c.args.self.now c.self.view_is (inside path) path [] refl ok.0
     (subst (λ (ds : Opened). Opens IsNoTree trees path (dirs_of s.root) (dirs_of ds) ok.0) (sym same) ok.1) ok.2 c.self.invariant
     (subst (λ (ds : Opened). OpenedSo s.root ds) (sym same) c.open_along.ensures.bases))

@@ -10,7 +10,7 @@ use Rattle.gixobj_directories.proofs.NamedTrees.{trees_of_objects_exist}
 use Rattle.gixobj_files.proofs.WrittenTrees.{on_err_of}
 use Rattle.gixobj_editor.specs.Removals.{IsRemovalError}
 use Rattle.gixobj_editor.proofs.Edited.{map_dirs_eq, stay_at}
-use Rattle.gixobj_directories.specs.declared.opening.Vacant.TheVariants as vacant
+use Rattle.gixobj_directories.specs.declared.opening.NotLookedUp.TheVariants as not_looked_up
 use Rattle.gixobj_editor.proofs.RemovedAt.{removed_at}
 use Rattle.gixobj_editor.proofs.OpenedOn.{in_part_on, taken_on}
 use Rattle.gixobj_editor.specs.Upserts.{directory_of}
@@ -22,7 +22,8 @@ returns-in_err-open_for_removal-clause-after_error g c =
     let s = c.self.inside in
     let stored = ap (λ (o : State _). o.store) c.self.view_is in
     let bad = (c.in_err-open_for_removal.ensures {u = tt}).after_error trees (subst (λ o. AreTreesOf (g.S.Store.objects o) trees) (sym stored) fits) in
-    stay_at s.store s.object_hash (names_of s.prefix.items) trees vacant.Opened s.root c.open_for_removal.new.root s.lookups c.open_for_removal.new.lookups
+    stay_at s.store s.object_hash (names_of s.prefix.items) trees not_looked_up.Opened s.root c.open_for_removal.new.root s.lookups
+    c.open_for_removal.new.lookups
     c.args.self.now c.self.view_is (names_of c.args.path.now) bad.0 c.self.invariant c.open_for_removal.ensures.bases)
 
 pub returns-in_err-open_for_removal-clause-error : goal.returns-in_err-open_for_removal-clause-error
@@ -61,6 +62,6 @@ returns-clause-removed g c = λ trees fits.
     let s = c.self.inside in
     let stored = ap (λ (o : State _). o.store) c.self.view_is in
     let ok = (c.in_ok-open_for_removal.ensures {u = tt}).opened trees (subst (λ o. AreTreesOf (g.S.Store.objects o) trees) (sym stored) fits) in
-    removed_at s.store s.object_hash (names_of s.prefix.items) trees vacant.Opened s.root c.open_for_removal.new.root c.take.new.self s.lookups
+    removed_at s.store s.object_hash (names_of s.prefix.items) trees not_looked_up.Opened s.root c.open_for_removal.new.root c.take.new.self s.lookups
     c.open_for_removal.new.lookups c.args.self.now c.self.view_is (names_of c.args.path.now) ok.0 (ok.1, ok.3) ok.2 c.take.ensures.dirs c.self.invariant
     c.open_for_removal.ensures.bases c.take.ensures.bases

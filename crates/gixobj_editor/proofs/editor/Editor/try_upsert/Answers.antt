@@ -14,7 +14,7 @@ use Rattle.gixobj_directories.proofs.OpeningSteps.{names_of_nil}
 use Rattle.gixobj_files.proofs.WrittenTrees.{on_err_of}
 use Rattle.gixobj_editor.specs.Upserts.{IsUpsertError}
 use Rattle.gixobj_editor.proofs.Edited.{OpenedOn, OpenedSo, edited_bases_idle, halted_so, upsert_error_of_name, is_upserted_unchanged, is_opened_of_editor, opened_so, fails, unchanged_at, upserted_at}
-use Rattle.gixobj_directories.specs.declared.opening.Vacant.TheVariants as vacant
+use Rattle.gixobj_directories.specs.declared.opening.NotLookedUp.TheVariants as not_looked_up
 use Rattle.gixobj_directories.proofs.NamedTrees.{trees_of_objects_exist}
 use Rattle.gixobj_editor.proofs.Paths.{names_of_snoc}
 use Rattle.gixobj_editor.proofs.OpenedOn.{halted_on, opened_on, inserted_on}
@@ -81,7 +81,7 @@ returns-in_err-insert_entry-clause-after_error g c =
     let stored = ap (λ (o : State _). o.store) c.self.view_is in
     let ok = (c.in_ok-open_along.ensures {u = tt}).opened trees (subst (λ o. AreTreesOf (g.S.Store.objects o) trees) (sym stored) fits) in
     let same : c.insert_entry.new.self ≡ c.open_along.new.self = (c.in_err-insert_entry.ensures {u = tt}).unchanged in
-    opened_so s.store s.object_hash (names_of s.prefix.items) trees vacant.Opened s.root c.insert_entry.new.self s.lookups c.open_along.new.lookups
+    opened_so s.store s.object_hash (names_of s.prefix.items) trees not_looked_up.Opened s.root c.insert_entry.new.self s.lookups c.open_along.new.lookups
     c.args.self.now c.self.view_is (names_of c.args.path.now) (names_of c.in-Some.directory.now) (bstring_bytes c.in-Some._last.now) is ok.0
     (subst (λ (ds : Opened). Opens IsNoTree trees (names_of c.in-Some.directory.now) (dirs_of s.root) (dirs_of ds) ok.0) (sym same) ok.1) ok.2
     c.self.invariant
