@@ -19,7 +19,7 @@ use Rattle.gixobj_editor.specs.Cursors.{from_root}
 use Rattle.gixobj_editor.specs.Removals.{IsRemoved}
 use Rattle.gixobj_files.specs.Bases.{opened_bases}
 use Rattle.gixobj_directories.specs.declared.opening.NotLookedUp.TheVariants as not_looked_up
-use Rattle.gixobj_editor.specs.Upserts.{IsEditFailure, IsUpserted, directory_of}
+use Rattle.gixobj_editor.specs.Upserts.{IsAfterFailedEdit, IsUpserted, directory_of}
 
 -- if each open directory is still open, this one is
 kept_open : (old new : Dirs) (at : Path) → ((entries : List EntryView) → old at ≡ Some entries → new at ≡ Some entries) → old at ≢ None → new at ≢ None
@@ -67,7 +67,7 @@ pub stays_removed : {S : Type 0} {Ends : EntryView → Type 0} (trees : Trees) (
     → IsRemoved Ends trees old (from_root old.prefix path) new → Stays old new
 stays_removed {S} trees old new path h = stays old new (ap (λ (o : State S). o.prefix) h.rest) (removed_open trees old new old.prefix path h)
 
-pub stays_failed : {S : Type 0} (trees : Trees) (old new : State S) (path : Path) → IsEditFailure trees old path new → Stays old new
+pub stays_failed : {S : Type 0} (trees : Trees) (old new : State S) (path : Path) → IsAfterFailedEdit trees old path new → Stays old new
 stays_failed {S} trees old new path h = stays old new (ap (λ (o : State S). o.prefix) h.rest)
     (kept_open (open_dirs old) (open_dirs new) old.prefix (h.stays old.prefix))
 
@@ -83,7 +83,7 @@ known_of_either (Err error) objects Known Accepted Refused ok err accepted rejec
 
 -- an edit that does nothing
 pub edit_failure_unchanged : {S : Type 0} (trees : Trees) (old : State S) (path : Path) → IsOpened (open_dirs old)
-    → ((at : Path) → open_bases old at ≡ opened_bases (open_dirs old) (open_dirs old) (open_bases old) at) → IsEditFailure trees old path old
+    → ((at : Path) → open_bases old at ≡ opened_bases (open_dirs old) (open_dirs old) (open_bases old) at) → IsAfterFailedEdit trees old path old
 edit_failure_unchanged trees old path all idle = record {
   not_looked_up = not_looked_up.Opened;
   prefix = [];

@@ -33,7 +33,7 @@ use Rattle.gixobj_files.specs.Bases.{AreOpenedOn, base_edited, base_opened, edit
 use Rattle.gixobj_files.proofs.Calls.{opened_based, upserted_based}
 use Rattle.gixobj_directories.specs.declared.opening.Error as directory
 use Rattle.gixobj_directories.specs.declared.opening.Error.TheVariants as opening
-use Rattle.gixobj_editor.specs.Upserts.{IsOpenedInPart, IsEditFailure, IsUpserted, IsEntryNameError, IsFirstNameError, IsUpsertError, directory_of, edit_error}
+use Rattle.gixobj_editor.specs.Upserts.{OpensInPart, IsAfterFailedEdit, IsUpserted, IsEntryNameError, IsFirstNameError, IsUpsertError, directory_of, edit_error}
 use Rattle.gixobj_editor.specs.declared.editor.error.Error.{Error}
 use Rattle.gixobj_editor.specs.declared.editor.error.Error.TheVariants as error
 use Rattle.gixobj_editor.proofs.InPart.{halted_in_part, none_in_part, opened_in_part}
@@ -272,9 +272,9 @@ module _ {S : Type 0} (store : S) (hash : Kind) (prefix : Path) (trees : Trees) 
       (inserted_in ds mid ds' n m path head last mode id queries is names opens insert_entry count was first then)
 
   -- directories are opened, and nothing else changes
-  pub stay : (it : NotLookedUp) (ds ds' : Opened) (n m : ℕ) (path : Path) → IsOpenedInPart (EndsBefore it) trees path (dirs_of ds) (dirs_of ds') n m
+  pub stay : (it : NotLookedUp) (ds ds' : Opened) (n m : ℕ) (path : Path) → OpensInPart (EndsBefore it) trees path (dirs_of ds) (dirs_of ds') n m
       → OpenedOn ds
-      → OpenedSo ds ds' → IsEditFailure trees (made ds n) path (made ds' m)
+      → OpenedSo ds ds' → IsAfterFailedEdit trees (made ds n) path (made ds' m)
   stay it ds ds' n m path so was first =
       let opened : Opens (EndsBefore it) trees so.prefix (map_dirs ds) (map_dirs ds') so.requested =
       subst (λ (d : Dirs). Opens (EndsBefore it) trees so.prefix d (map_dirs ds') so.requested) (sym (map_dirs_eq ds))
@@ -301,19 +301,19 @@ module _ {S : Type 0} (store : S) (hash : Kind) (prefix : Path) (trees : Trees) 
       }
 
   pub stay_at : (it : NotLookedUp) (ds ds' : Opened) (n m : ℕ) (old : State S) → made ds n ≡ old → (path : Path)
-      → IsOpenedInPart (EndsBefore it) trees path (dirs_of ds) (dirs_of ds') n m → OpenedOn ds → OpenedSo ds ds'
-      → IsEditFailure trees old path (made ds' m)
-  stay_at it ds ds' n m old view path so was first = subst (λ (o : State S). IsEditFailure trees o path (made ds' m)) view
+      → OpensInPart (EndsBefore it) trees path (dirs_of ds) (dirs_of ds') n m → OpenedOn ds → OpenedSo ds ds'
+      → IsAfterFailedEdit trees old path (made ds' m)
+  stay_at it ds ds' n m old view path so was first = subst (λ (o : State S). IsAfterFailedEdit trees o path (made ds' m)) view
       (stay it ds ds' n m path so was first)
 
-  pub unchanged_at : (ds : Opened) (n : ℕ) (old : State S) → made ds n ≡ old → (path : Path) → OpenedOn ds → IsEditFailure trees old path old
-  unchanged_at ds n old view path was = subst (λ (o : State S). IsEditFailure trees o path o) view
+  pub unchanged_at : (ds : Opened) (n : ℕ) (old : State S) → made ds n ≡ old → (path : Path) → OpenedOn ds → IsAfterFailedEdit trees old path old
+  unchanged_at ds n old view path was = subst (λ (o : State S). IsAfterFailedEdit trees o path o) view
       (stay not_looked_up.Opened ds ds n n path (none_in_part trees path (dirs_of ds) n) was (opened_so_refl ds))
 
   pub halted_so : (ds ds' : Opened) (n m : ℕ) (old : State S) → made ds n ≡ old → (path head : Path) (last : List ℕ) → path ≡ head ++ last ∷ []
       → (queries : List ObjectId) (failed_lookup : Option ObjectId) → StopsOpening IsNoTree trees head (dirs_of ds) (dirs_of ds') queries failed_lookup
       → m ≡ counted n queries
-      → OpenedOn ds → OpenedSo ds ds' → IsEditFailure trees old path (made ds' m)
+      → OpenedOn ds → OpenedSo ds ds' → IsAfterFailedEdit trees old path (made ds' m)
   halted_so ds ds' n m old view path head last is queries failed_lookup halts count =
       stay_at not_looked_up.Opened ds ds' n m old view path
       (halted_in_part trees path head last [] is (dirs_of ds) (dirs_of ds') queries failed_lookup halts n m count)
@@ -321,7 +321,7 @@ module _ {S : Type 0} (store : S) (hash : Kind) (prefix : Path) (trees : Trees) 
   pub opened_so : (it : NotLookedUp) (ds ds' : Opened) (n m : ℕ) (old : State S) → made ds n ≡ old → (path head : Path) (last : List ℕ)
       → path ≡ head ++ last ∷ []
       → (queries : List ObjectId) → Opens (EndsBefore it) trees head (dirs_of ds) (dirs_of ds') queries → m ≡ counted n queries
-      → OpenedOn ds → OpenedSo ds ds' → IsEditFailure trees old path (made ds' m)
+      → OpenedOn ds → OpenedSo ds ds' → IsAfterFailedEdit trees old path (made ds' m)
   opened_so it ds ds' n m old view path head last is queries opens count =
       stay_at it ds ds' n m old view path (opened_in_part trees path head last [] is (dirs_of ds) (dirs_of ds') queries opens n m count)
 

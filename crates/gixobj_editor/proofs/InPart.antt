@@ -9,7 +9,7 @@ use Rattle.gixobj_files.specs.Opening.{Dirs}
 use Rattle.gixobj_files.specs.Unopened.{unopened_count}
 use Rattle.gixobj_files.proofs.StoppedOpenings.{halted_count, halts_opens}
 use Rattle.gixobj_files.proofs.UnopenedCounts.{opens_at_most}
-use Rattle.gixobj_editor.specs.Upserts.{IsOpenedInPart}
+use Rattle.gixobj_editor.specs.Upserts.{OpensInPart}
 
 -- the next directory on a path is the next on each longer path
 next_after : (trees : Trees) (dirs : Dirs) (head more after : Path) (it : ObjectId) → IsNextUnopened trees dirs head more it
@@ -18,7 +18,7 @@ next_after trees dirs head more after it (name, rest, e, is, unopened, seen, nam
 
 module _ {Ends : EntryView → Type 0} (trees : Trees) where
   -- nothing was opened
-  pub none_in_part : (path : Path) (dirs : Dirs) (n : ℕ) → IsOpenedInPart Ends trees path dirs dirs n n
+  pub none_in_part : (path : Path) (dirs : Dirs) (n : ℕ) → OpensInPart Ends trees path dirs dirs n n
   none_in_part path dirs n = record {
     prefix = [];
     more = path;
@@ -34,7 +34,7 @@ module _ {Ends : EntryView → Type 0} (trees : Trees) where
 
   -- the directories on a prefix were opened, and each lookup succeeded
   pub prefix_in_part : (path head more : Path) → path ≡ head ++ more → (old new : Dirs) (queries : List ObjectId) → Opens Ends trees head old new queries
-      → length queries ≤ unopened_count trees old path → (n m : ℕ) → m ≡ counted n queries → IsOpenedInPart Ends trees path old new n m
+      → length queries ≤ unopened_count trees old path → (n m : ℕ) → m ≡ counted n queries → OpensInPart Ends trees path old new n m
   prefix_in_part path head more is old new queries opens few n m count = record {
     prefix = head;
     more = more;
@@ -49,7 +49,7 @@ module _ {Ends : EntryView → Type 0} (trees : Trees) where
   }
 
   pub opened_in_part : (path head : Path) (last : List ℕ) (after : Path) → path ≡ head ++ last ∷ after → (old new : Dirs) (queries : List ObjectId)
-      → Opens Ends trees head old new queries → (n m : ℕ) → m ≡ counted n queries → IsOpenedInPart Ends trees path old new n m
+      → Opens Ends trees head old new queries → (n m : ℕ) → m ≡ counted n queries → OpensInPart Ends trees path old new n m
   opened_in_part path head last after is old new queries opens n m count =
       prefix_in_part path head (last ∷ after) is old new queries opens
       (subst (λ p. length queries ≤ unopened_count trees old p) (sym is) (opens_at_most trees head last after old new queries opens)) n m count
@@ -57,7 +57,7 @@ module _ {Ends : EntryView → Type 0} (trees : Trees) where
   -- the opening halted
   pub halted_in_part : (path head : Path) (last : List ℕ) (after : Path) → path ≡ head ++ last ∷ after
       → (old new : Dirs) (queries : List ObjectId) (failed_lookup : Option ObjectId)
-      → StopsOpening Ends trees head old new queries failed_lookup → (n m : ℕ) → m ≡ counted n queries → IsOpenedInPart Ends trees path old new n m
+      → StopsOpening Ends trees head old new queries failed_lookup → (n m : ℕ) → m ≡ counted n queries → OpensInPart Ends trees path old new n m
   halted_in_part path head last after is old new queries failed_lookup halts n m count =
       let came = halts_opens trees head old new queries failed_lookup halts in
       record {

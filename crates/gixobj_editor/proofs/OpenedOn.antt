@@ -19,7 +19,7 @@ use Rattle.gixobj_files.specs.Opening.{Dirs}
 use Rattle.gixobj_files.proofs.Calls.{ensured_null_based, are_null_based_of_none, opened_null_based, removed_null_based, upserted_null_based, written_null_based}
 use Rattle.gixobj_files.proofs.StoppedOpenings.{halts_opens}
 use Rattle.gixobj_files.proofs.StillOpenedOpenings.{is_opened_of_opens}
-use Rattle.gixobj_editor.specs.Upserts.{IsOpenedInPart}
+use Rattle.gixobj_editor.specs.Upserts.{OpensInPart}
 use Rattle.gixobj_editor.proofs.EnsuredAt.{is_opened_after_ensured}
 use Rattle.gixobj_editor.proofs.Edited.{EditedSo, OpenedOn, OpenedSo, is_opened_after_upsert}
 use Rattle.gixobj_editor.proofs.RemovedAt.{is_opened_after_removal}
@@ -50,7 +50,7 @@ module _ (trees : Trees) (ds mid : Opened) (first : OpenedSo ds mid) (was : Open
     null_based = opened_null_based trees hash.Sha1 (dirs_of ds) (bases_of ds) (dirs_of mid) (bases_of mid) was path queries opens first;
   }
 
-  pub in_part_on : {Ends : EntryView → Type 0} (path : Path) (n m : ℕ) → IsOpenedInPart Ends trees path (dirs_of ds) (dirs_of mid) n m → OpenedOn mid
+  pub in_part_on : {Ends : EntryView → Type 0} (path : Path) (n m : ℕ) → OpensInPart Ends trees path (dirs_of ds) (dirs_of mid) n m → OpenedOn mid
   in_part_on path n m so = opened_on so.prefix so.requested so.opens
 
   pub halted_on : {Ends : EntryView → Type 0} (path : Path) (queries : List ObjectId) (failed_lookup : Option ObjectId)

@@ -9,7 +9,7 @@ use Rattle.gixobj_directories.specs.Calls.{IsStorable}
 use Rattle.gixobj_directories.specs.declared.write.Written.{Written}
 use Rattle.gixobj_editor.specs.Cursors.{IsEnsured, IsWrittenBelow}
 use Rattle.gixobj_editor.specs.Removals.{IsRemoved}
-use Rattle.gixobj_editor.specs.Upserts.{IsEditFailure, IsUpserted, directory_of}
+use Rattle.gixobj_editor.specs.Upserts.{IsAfterFailedEdit, IsUpserted, directory_of}
 use Rattle.gixobj_editor.specs.Writes.{IsWrittenEditor}
 use Rattle.gixobj_files.proofs.EnsuredFiles.{is_open_along_of_opens}
 use Rattle.gixobj_files.proofs.Canonical.{IsClean}
@@ -133,7 +133,7 @@ module _ (T : Table) (pairs : List Pair) (known : AgreesWithPairs T pairs) where
           (open_dirs old) h.opened h.requested h.opens (open_bases old) holds.1)),
     )
 
-    pub plain_failed : (path : Path) → IsEditFailure trees old path new → IsPlainState new
+    pub plain_failed : (path : Path) → IsAfterFailedEdit trees old path new → IsPlainState new
     plain_failed path h = (
       h.is_opened,
       carried (open_dirs new) (opened_bases (open_dirs old) (open_dirs new) (open_bases old)) (open_dirs new) (open_bases new) (λ at. refl) h.bases

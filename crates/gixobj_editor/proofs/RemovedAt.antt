@@ -18,7 +18,7 @@ use Rattle.gixobj_files.proofs.RemovedFiles.{IsReached, removed_dirs_files}
 use Rattle.gixobj_files.proofs.StillOpenedOpenings.{is_opened_of_opens}
 use Rattle.gixobj_files.proofs.StillOpenedRemovals.{is_opened_removed}
 use Rattle.gixobj_files.proofs.UnopenedCounts.{IsIdle, requested_count}
-use Rattle.gixobj_editor.specs.Upserts.{IsEditFailure, directory_of}
+use Rattle.gixobj_editor.specs.Upserts.{IsAfterFailedEdit, directory_of}
 use Rattle.gixobj_editor.specs.Removals.{IsRemoved}
 use Rattle.gixobj_editor.proofs.Edited.{EditedSo, OpenedOn, OpenedSo, map_is_opened, edited_bases_of_map, tree_known_above, map_bases, map_dirs, no_error_above, map_is_opened_on, map_dirs_eq, state_of, stay_at}
 use Rattle.gixobj_directories.proofs.OpeningSteps.{ends_before_is_idle}
@@ -135,7 +135,7 @@ module _ {S : Type 0} (store : S) (hash : Kind) (prefix : Path) (trees : Trees) 
   -- directories are opened, and then the removal fails
   pub rejected_at : (ds mid : Opened) (n m : ℕ) (old : State S) → made ds n ≡ old → (path : Path) (queries : List ObjectId)
       → IsOpenedFor Ends trees path (dirs_of ds) (dirs_of mid) queries → m ≡ counted n queries
-      → OpenedOn ds → OpenedSo ds mid → IsEditFailure trees old path (made mid m)
+      → OpenedOn ds → OpenedSo ds mid → IsAfterFailedEdit trees old path (made mid m)
   rejected_at ds mid n m old view path queries opened count =
       let same = count_above idle trees path (dirs_of ds) (dirs_of mid) queries opened.0 in
       let begins = directory_is_prefix path in

@@ -16,7 +16,7 @@ use Rattle.gixobj_files.specs.Opening.{Dirs}
 use Rattle.gixobj_files.proofs.ReachedDirectories.{comes_open, open_comes, opens_of_longer_path}
 use Rattle.gixobj_files.proofs.StoppedOpenings.{halted_at, halted_unopened}
 use Rattle.gixobj_files.proofs.UnopenedCounts.{IsIdle}
-use Rattle.gixobj_editor.specs.Upserts.{IsValidated, IsOpenedInPart, IsEntryNameError, IsFirstNameError, directory_of, edit_error}
+use Rattle.gixobj_editor.specs.Upserts.{IsValidated, OpensInPart, IsEntryNameError, IsFirstNameError, directory_of, edit_error}
 use Rattle.gixobj_editor.specs.Removals.{ValidatesUpTo, IsRemovalError}
 use Rattle.gixobj_editor.specs.declared.editor.error.Error.{Error}
 use Rattle.gixobj_editor.specs.declared.editor.error.Error.TheVariants as error
@@ -72,7 +72,7 @@ no_halt trees path is old new requested failed_lookup (halting.found name rest d
 -- the effect of a failed removal: the opened directories, the lookups and the error
 abbrev pub IsRejectedSo : (EntryView → Type 0) → Objects → (ObjectId → Bool) → Trees → Path → Dirs → Dirs → ℕ → ℕ → Error → Type 0
 IsRejectedSo Ends objects may_fail trees path old new before after failure =
-    IsOpenedInPart Ends trees path old new before after × IsRemovalError Ends objects may_fail trees old path failure
+    OpensInPart Ends trees path old new before after × IsRemovalError Ends objects may_fail trees old path failure
 
 module _ {Ends : EntryView → Type 0} (idle : IsIdle Ends) (objects : Objects) (may_fail : ObjectId → Bool) (trees : Trees) where
   -- a directory isn't opened

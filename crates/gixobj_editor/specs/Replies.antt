@@ -13,7 +13,7 @@ use Rattle.gixobj_directories.specs.declared.write.WriteError.{WriteError}
 use Rattle.gixobj_directories.specs.declared.write.Written.{Written}
 use Rattle.gixobj_editor.specs.Cursors.{IsEnsured, IsWrittenBelow, IsCursorError, IsCursorEditError, cursor_path}
 use Rattle.gixobj_editor.specs.Removals.{IsLeafRemoved, IsRemoved, IsLeafRemovalError, IsRemovalError}
-use Rattle.gixobj_editor.specs.Upserts.{IsNameError, IsEditFailure, IsUpserted, IsUpsertError}
+use Rattle.gixobj_editor.specs.Upserts.{IsNameError, IsAfterFailedEdit, IsUpserted, IsUpsertError}
 use Rattle.gixobj_editor.specs.Writes.{IsWrittenEditor}
 use Rattle.gixobj_editor.specs.declared.editor.error.Error.{Error}
 use Rattle.gixobj_editor.specs.declared.editor.error.Error.TheVariants as editing
@@ -69,7 +69,7 @@ reply_to (Err error) = edit_reply.Refused error
 -- the effect of a failed edit, and its cause
 pub record IsFailedEdit {S : Type 0} (means : StoreModel S) (Rejects : Trees → Type 0) (old : State S) (path : Path)
     (new : State S) : Type 0 where
-  pub remaining : OfTrees (means.objects old.store) (λ trees. IsEditFailure trees old path new)
+  pub remaining : OfTrees (means.objects old.store) (λ trees. IsAfterFailedEdit trees old path new)
   pub cause : OfTrees (means.objects old.store) Rejects
 
 -- the effect of a successful write

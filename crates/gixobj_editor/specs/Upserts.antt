@@ -122,7 +122,7 @@ pub record IsUpserted {S : Type 0} (trees : Trees) (old : State S) (path : Path)
 
 -- the directories on a path are opened in part: those on a prefix of it, and no other. At most the next one was looked
 -- up without success
-pub record IsOpenedInPart (Ends : EntryView → Type 0) (trees : Trees) (path : Path) (old new : Dirs)
+pub record OpensInPart (Ends : EntryView → Type 0) (trees : Trees) (path : Path) (old new : Dirs)
     (before after : ℕ) : Type 0 where
   pub prefix : Path
   pub more : Path
@@ -138,7 +138,7 @@ pub record IsOpenedInPart (Ends : EntryView → Type 0) (trees : Trees) (path : 
 -- the effect of a failed edit: the directories on a prefix of the path are opened, and no other. At most the next one
 -- was looked up without success. An open directory is still open, with its entries. Each lookup is counted; there are
 -- at most as many as unopened directories above the path. The files and the rest are unchanged
-pub record IsEditFailure {S : Type 0} (trees : Trees) (old : State S) (path : Path) (new : State S) : Type 0 where
+pub record IsAfterFailedEdit {S : Type 0} (trees : Trees) (old : State S) (path : Path) (new : State S) : Type 0 where
   pub not_looked_up : NotLookedUp
   pub prefix : Path
   pub more : Path

@@ -17,7 +17,7 @@ ghost use Rattle.gixobj_directories.specs.Calls.{IsCallableOnTrees, answered, de
 ghost use Rattle.gixobj_directories.specs.Emitting.{Stopped};
 ghost use Rattle.gixobj_editor.specs.Writes.{IsWrittenEditor};
 ghost use Rattle.gixobj_directories.specs.Openings.{OfTrees};
-ghost use Rattle.gixobj_editor.specs.Upserts.{IsNameError, IsEditFailure, IsUpserted, IsErrorIn, IsUpsertError};
+ghost use Rattle.gixobj_editor.specs.Upserts.{IsNameError, IsAfterFailedEdit, IsUpserted, IsErrorIn, IsUpsertError};
 ghost use Rattle.gixobj_editor.specs.Removals.{IsLeafRemoved, IsRemoved, IsLeafRemovalError, IsRemovalError};
 ghost use Rattle.gixobj_editor.specs.contracts.editor.Editor.{the_row};
 
@@ -276,7 +276,7 @@ impl<S: Find> Editor<S> {
             (λ trees. IsUpserted trees self.old (names_of path.now) (mode_of_kind kind) id
             self.new)) }
         ensures after_error { OnErr result (OfTrees (S.objects self.old.store)
-            (λ trees. IsEditFailure trees self.old (names_of path.now) self.new)) }
+            (λ trees. IsAfterFailedEdit trees self.old (names_of path.now) self.new)) }
         ensures error { IfErr result (IsErrorIn (store_model S.objects S.may_fail) self.old
             IsUpsertError (names_of path.now)) }
         ensures not_looked_up { IfErr result (λ error. IsNameError error → self.new ≡ self.old) }
@@ -328,7 +328,7 @@ impl<S: Find> Editor<S> {
         ensures removed { OnOk result (OfTrees (S.objects self.old.store)
             (λ trees. IsRemoved IsNoTree trees self.old (names_of path.now) self.new)) }
         ensures after_error { OnErr result (OfTrees (S.objects self.old.store)
-            (λ trees. IsEditFailure trees self.old (names_of path.now) self.new)) }
+            (λ trees. IsAfterFailedEdit trees self.old (names_of path.now) self.new)) }
         ensures error { IfErr result (IsErrorIn (store_model S.objects S.may_fail) self.old
             (IsRemovalError IsNoTree) (names_of path.now)) }
     {
@@ -360,7 +360,7 @@ impl<S: Find> Editor<S> {
         ensures removed { OnOk result (OfTrees (S.objects self.old.store)
             (λ trees. IsLeafRemoved trees self.old (names_of path.now) self.new)) }
         ensures after_error { OnErr result (OfTrees (S.objects self.old.store)
-            (λ trees. IsEditFailure trees self.old (names_of path.now) self.new)) }
+            (λ trees. IsAfterFailedEdit trees self.old (names_of path.now) self.new)) }
         ensures error { IfErr result (IsErrorIn (store_model S.objects S.may_fail) self.old
             IsLeafRemovalError (names_of path.now)) }
     {

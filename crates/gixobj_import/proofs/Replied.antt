@@ -8,7 +8,7 @@ use Rattle.gixobj_directories.specs.Openings.{OfTrees}
 use Rattle.gixobj_editor.specs.declared.command.Edit.TheVariants as edit
 use Rattle.gixobj_directories.specs.Calls.{names_of}
 use Rattle.gixobj_editor.specs.Removals.{IsLeafRemoved, IsRemoved, IsLeafRemovalError, IsRemovalError}
-use Rattle.gixobj_editor.specs.Upserts.{IsNameError, IsEditFailure, IsUpserted, IsUpsertError}
+use Rattle.gixobj_editor.specs.Upserts.{IsNameError, IsAfterFailedEdit, IsUpserted, IsUpsertError}
 use Rattle.gixobj_editor.specs.declared.editor.error.Error.{Error}
 use Rattle.gixobj_files.specs.Edits.{IsNoTree}
 use Rattle.gixobj_files.specs.Files.{Trees}
@@ -25,7 +25,7 @@ module _ {S : Type 0} (means : StoreModel S) (old new : State S) (path : Vec BSt
   abbrev Of : (Trees → Type 0) → Type 0
   Of = OfTrees (means.objects old.store)
 
-  failed_reply : (Rejects : List BString → Trees → Type 0) → Of (λ trees. IsEditFailure trees old (names_of lent) new) → Of (Rejects lent)
+  failed_reply : (Rejects : List BString → Trees → Type 0) → Of (λ trees. IsAfterFailedEdit trees old (names_of lent) new) → Of (Rejects lent)
       → IsFailedEdit means (Rejects path.items) old (names_of path.items) new
   failed_reply Rejects pending failure = subst (λ (l : List BString). IsFailedEdit means (Rejects l) old (names_of l) new) is
       (record { remaining = pending; cause = failure })
@@ -41,7 +41,7 @@ module _ {S : Type 0} (means : StoreModel S) (old new : State S) (path : Vec BSt
 
   pub upsert_replied : (kind : EntryKind) (id : ObjectId) (done : Result (Unit {0}) Error)
       → OnOk done (Of (λ trees. IsUpserted trees old (names_of lent) (mode_of_kind kind) id new))
-      → OnErr done (Of (λ trees. IsEditFailure trees old (names_of lent) new))
+      → OnErr done (Of (λ trees. IsAfterFailedEdit trees old (names_of lent) new))
       → IfErr done (λ error. Of (Upserts lent error)) → IfErr done (λ error. IsNameError error → new ≡ old)
       → IsReplied means old (edit.Upsert path kind id) (reply_to done) new
   upsert_replied kind id (Ok it) upserted pending failure not_looked_up =
@@ -49,13 +49,13 @@ module _ {S : Type 0} (means : StoreModel S) (old new : State S) (path : Vec BSt
   upsert_replied kind id (Err error) upserted pending failure not_looked_up = (failed_reply (λ l trees. Upserts l error trees) pending failure, not_looked_up)
 
   pub removal_replied : (done : Result (Unit {0}) Error) → OnOk done (Of (λ trees. IsRemoved IsNoTree trees old (names_of lent) new))
-      → OnErr done (Of (λ trees. IsEditFailure trees old (names_of lent) new)) → IfErr done (λ error. Of (Removes lent error))
+      → OnErr done (Of (λ trees. IsAfterFailedEdit trees old (names_of lent) new)) → IfErr done (λ error. Of (Removes lent error))
       → IsReplied means old (edit.Remove path) (reply_to done) new
   removal_replied (Ok it) removed pending failure = subst (λ (l : List BString). Of (λ trees. IsRemoved IsNoTree trees old (names_of l) new)) is removed
   removal_replied (Err error) removed pending failure = failed_reply (λ l trees. Removes l error trees) pending failure
 
   pub leaf_removal_replied : (done : Result (Unit {0}) Error) → OnOk done (Of (λ trees. IsLeafRemoved trees old (names_of lent) new))
-      → OnErr done (Of (λ trees. IsEditFailure trees old (names_of lent) new)) → IfErr done (λ error. Of (RemovesLeaf lent error))
+      → OnErr done (Of (λ trees. IsAfterFailedEdit trees old (names_of lent) new)) → IfErr done (λ error. Of (RemovesLeaf lent error))
       → IsReplied means old (edit.RemoveLeaf path) (reply_to done) new
   leaf_removal_replied (Ok it) removed pending failure = subst (λ (l : List BString). Of (λ trees. IsLeafRemoved trees old (names_of l) new)) is removed
   leaf_removal_replied (Err error) removed pending failure = failed_reply (λ l trees. RemovesLeaf l error trees) pending failure

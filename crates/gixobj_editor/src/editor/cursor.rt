@@ -7,7 +7,7 @@ ghost use Rattle.gixobj_directories.specs.Emitting.{Stopped};
 ghost use Rattle.gixobj_directories.specs.Openings.{OfTrees};
 ghost use Rattle.gixobj_editor.specs.Cursors.{IsEnsured, IsWrittenBelow, IsErrorBelow, IsCursorError, from_root, cursor_path};
 ghost use Rattle.gixobj_editor.specs.Removals.{IsLeafRemoved, IsRemoved, IsLeafRemovalError, IsRemovalError};
-ghost use Rattle.gixobj_editor.specs.Upserts.{IsNameError, IsEditFailure, IsUpserted, IsErrorIn, IsUpsertError};
+ghost use Rattle.gixobj_editor.specs.Upserts.{IsNameError, IsAfterFailedEdit, IsUpserted, IsErrorIn, IsUpsertError};
 ghost use Rattle.gixobj_editor.specs.contracts.editor.Editor.{the_row};
 ghost use Rattle.gixobj_files.specs.Edits.{IsNoTree, entry_at};
 ghost use Rattle.gixobj_files.specs.Files.{Path};
@@ -116,7 +116,7 @@ impl<S: Find> Editor<S> {
     pub fn cursor_at(&mut self, path: &[BString]) -> Result<Cursor<'_, S>, Error>
         ensures* rejected { sem 𝓛 (RestsIfErr (the_row S.row) self.entry (λ c. c.editor.ghost_name)
             result (λ remaining. OfTrees (S.objects self.old.store)
-            (λ trees. IsEditFailure trees self.old (inside (cursor_path (names_of path.now))) remaining)
+            (λ trees. IsAfterFailedEdit trees self.old (inside (cursor_path (names_of path.now))) remaining)
             × IfErr result (λ error. IsNameError error → remaining ≡ self.old))) }
         ensures same_reference { IfOk result (λ c. c.editor.ghost_name ≡ self.entry.ghost_name) }
         ensures prefix { IfOk result (λ c. c.editor.now.prefix ≡ cursor_path (names_of path.now)) }
@@ -140,7 +140,7 @@ impl<S: Find> Editor<S> {
         ensures ensured { OnOk result (OfTrees (S.objects self.old.store)
             (λ trees. IsEnsured trees self.old (cursor_path (names_of path.now)) self.new)) }
         ensures after_error { OnErr result (OfTrees (S.objects self.old.store)
-            (λ trees. IsEditFailure trees self.old (inside (cursor_path (names_of path.now))) self.new)) }
+            (λ trees. IsAfterFailedEdit trees self.old (inside (cursor_path (names_of path.now))) self.new)) }
         ensures error { IfErr result (IsErrorIn (store_model S.objects S.may_fail) self.old
             IsCursorError (cursor_path (names_of path.now))) }
         ensures not_looked_up { IfErr result (λ error. IsNameError error → self.new ≡ self.old) }
@@ -155,7 +155,7 @@ impl<S: Find> Editor<S> {
         ensures prefix { OnOk result (self.new.prefix ≡ names_of path.now) }
         ensures is_open { OnOk result (open_dirs self.new self.new.prefix ≢ None) }
         ensures after_error { OnErr result (OfTrees (S.objects self.old.store)
-            (λ trees. IsEditFailure trees self.old (inside (names_of path.now)) self.new)) }
+            (λ trees. IsAfterFailedEdit trees self.old (inside (names_of path.now)) self.new)) }
         ensures error { IfErr result (IsErrorIn (store_model S.objects S.may_fail) self.old
             IsCursorError (names_of path.now)) }
         ensures not_looked_up { IfErr result (λ error. IsNameError error → self.new ≡ self.old) }
@@ -284,7 +284,7 @@ impl<S: Find> Cursor<'_, S> {
             (from_root self.old.editor.now.prefix (names_of path.now)) (mode_of_kind kind) id
             self.new.editor.now)) }
         ensures after_error { OnErr result (OfTrees (S.objects self.old.editor.now.store)
-            (λ trees. IsEditFailure trees self.old.editor.now
+            (λ trees. IsAfterFailedEdit trees self.old.editor.now
             (from_root self.old.editor.now.prefix (names_of path.now)) self.new.editor.now)) }
         ensures error { IfErr result (IsErrorBelow (store_model S.objects S.may_fail)
             self.old.editor.now IsUpsertError (names_of path.now)) }
@@ -334,7 +334,7 @@ impl<S: Find> Cursor<'_, S> {
             (λ trees. IsRemoved IsNoTree trees self.old.editor.now
             (from_root self.old.editor.now.prefix (names_of path.now)) self.new.editor.now)) }
         ensures after_error { OnErr result (OfTrees (S.objects self.old.editor.now.store)
-            (λ trees. IsEditFailure trees self.old.editor.now
+            (λ trees. IsAfterFailedEdit trees self.old.editor.now
             (from_root self.old.editor.now.prefix (names_of path.now)) self.new.editor.now)) }
         ensures error { IfErr result (IsErrorBelow (store_model S.objects S.may_fail)
             self.old.editor.now (IsRemovalError IsNoTree) (names_of path.now)) }
@@ -383,7 +383,7 @@ impl<S: Find> Cursor<'_, S> {
             (λ trees. IsLeafRemoved trees self.old.editor.now
             (from_root self.old.editor.now.prefix (names_of path.now)) self.new.editor.now)) }
         ensures after_error { OnErr result (OfTrees (S.objects self.old.editor.now.store)
-            (λ trees. IsEditFailure trees self.old.editor.now
+            (λ trees. IsAfterFailedEdit trees self.old.editor.now
             (from_root self.old.editor.now.prefix (names_of path.now)) self.new.editor.now)) }
         ensures error { IfErr result (IsErrorBelow (store_model S.objects S.may_fail)
             self.old.editor.now IsLeafRemovalError (names_of path.now)) }

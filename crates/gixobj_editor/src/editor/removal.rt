@@ -12,7 +12,7 @@ ghost use Rattle.gixobj_hash.specs.declared.hash.object_id.ObjectId.{ObjectId};
 ghost use Rattle.gixobj_hash.specs.Bytes.{slash};
 ghost use Rattle.gixobj_tree.specs.Entries.{EntryView, IsEntryName};
 ghost use Rattle.gixobj_mode.specs.Mode.{is_tree_mode};
-ghost use Rattle.gixobj_editor.specs.Upserts.{IsOpenedInPart, IsFirstNameError, directory_of};
+ghost use Rattle.gixobj_editor.specs.Upserts.{OpensInPart, IsFirstNameError, directory_of};
 ghost use Rattle.gixobj_editor.specs.Removals.{ValidatesUpTo, IsLeafDirectoryError, IsRemovalError};
 
 use crate::editor::error::Error;
@@ -40,7 +40,7 @@ pub(crate) fn open_for_removal<S: Find>(
         (names_of path.now) name → IsEntryName name))) }
     ensures after_error { IfErr result (λ error.
         OfTrees (S.objects store.now) (λ trees.
-        IsOpenedInPart (EndsBefore not_looked_up) trees (names_of path.now) (dirs_of root.old)
+        OpensInPart (EndsBefore not_looked_up) trees (names_of path.now) (dirs_of root.old)
         (dirs_of root.new) lookups.old lookups.new
         × IsRemovalError (EndsBefore not_looked_up) (S.objects store.now) (S.may_fail store.now) trees
         (dirs_of root.old) (names_of path.now) error)) }

@@ -3,7 +3,7 @@ use Rattle.std.specs.Fn.{FnReturnsAt}
 use Rattle.gixobj_directories.specs.Calls.{names_of}
 use Rattle.gixobj_directories.specs.Openings.{OfTrees}
 use Rattle.gixobj_editor.specs.Cursors.{cursor_path}
-use Rattle.gixobj_editor.specs.Upserts.{IsNameError, IsEditFailure}
+use Rattle.gixobj_editor.specs.Upserts.{IsNameError, IsAfterFailedEdit}
 use Rattle.gixobj_files.specs.State.{State}
 use Rattle.gixobj_files.specs.Unopened.{inside}
 use Rattle.gixobj_hash.specs.declared.hash.object_id.ObjectId.{ObjectId}
@@ -31,6 +31,6 @@ pub returns-in-Err : goal.returns-in-Err
 returns-in-Err g c =
     let pending = c.cursor_at.follows.lender-at-none in
     let rejected : OfTrees (g.S.Store.objects c.args.editor.now.store)
-    (λ trees. IsEditFailure trees c.args.editor.now (inside (cursor_path (names_of c.args.prefix.now))) pending)
+    (λ trees. IsAfterFailedEdit trees c.args.editor.now (inside (cursor_path (names_of c.args.prefix.now))) pending)
     × (IsNameError c.in-Err.error → pending ≡ c.args.editor.now) = search rules in
     record { reply = inr (record { remaining = rejected.0; cause = (c.in-Err.ensures {u = tt}).error }, rejected.1) }

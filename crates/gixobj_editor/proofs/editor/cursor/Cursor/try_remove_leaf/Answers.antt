@@ -6,7 +6,7 @@ use Rattle.gixobj_directories.specs.Calls.{names_of}
 use Rattle.gixobj_files.proofs.WrittenTrees.{on_err_of}
 use Rattle.gixobj_editor.specs.Cursors.{from_root}
 use Rattle.gixobj_editor.specs.Removals.{IsLeafRemoved}
-use Rattle.gixobj_editor.specs.Upserts.{IsEditFailure}
+use Rattle.gixobj_editor.specs.Upserts.{IsAfterFailedEdit}
 use Rattle.gixobj_editor.proofs.CursorStays.{Stays, known_of_either, edit_failure_unchanged, stays_failed, stays_removed}
 use Rattle.gixobj_editor.proofs.editor.cursor.Cursor.try_remove_leaf.Goals as goal
 
@@ -25,7 +25,7 @@ invariant_of-self-2 g c =
     let is = ap names_of c.deref.ensures.value ∙ (c.in_ok-path.ensures {u = tt}).joined in
     let kept : Stays old new = known_of_either c.try_remove_leaf.result (g.S.Store.objects old.store) (Stays old new)
     (λ trees. IsLeafRemoved trees old entire new)
-    (λ trees. IsEditFailure trees old entire new) c.try_remove_leaf.ensures.removed c.try_remove_leaf.ensures.after_error
+    (λ trees. IsAfterFailedEdit trees old entire new) c.try_remove_leaf.ensures.removed c.try_remove_leaf.ensures.after_error
     (λ trees h. stays_removed trees old new path (subst (λ (p : Path). IsLeafRemoved trees old p new) is h).removed)
     (λ trees h. stays_failed trees old new entire h) in
     record { is_open = kept.1 c.args.self.now.is_open }
@@ -39,7 +39,7 @@ returns-clause-prefix g c =
     let is = ap names_of c.deref.ensures.value ∙ (c.in_ok-path.ensures {u = tt}).joined in
     let kept : Stays old new = known_of_either c.try_remove_leaf.result (g.S.Store.objects old.store) (Stays old new)
     (λ trees. IsLeafRemoved trees old entire new)
-    (λ trees. IsEditFailure trees old entire new) c.try_remove_leaf.ensures.removed c.try_remove_leaf.ensures.after_error
+    (λ trees. IsAfterFailedEdit trees old entire new) c.try_remove_leaf.ensures.removed c.try_remove_leaf.ensures.after_error
     (λ trees h. stays_removed trees old new path (subst (λ (p : Path). IsLeafRemoved trees old p new) is h).removed)
     (λ trees h. stays_failed trees old new entire h) in
     kept.0

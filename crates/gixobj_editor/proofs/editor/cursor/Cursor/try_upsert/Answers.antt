@@ -5,7 +5,7 @@ use Rattle.gixobj_files.specs.Files.{Path}
 use Rattle.gixobj_directories.specs.Calls.{names_of}
 use Rattle.gixobj_files.proofs.WrittenTrees.{on_err_of}
 use Rattle.gixobj_editor.specs.Cursors.{from_root}
-use Rattle.gixobj_editor.specs.Upserts.{IsEditFailure, IsUpserted}
+use Rattle.gixobj_editor.specs.Upserts.{IsAfterFailedEdit, IsUpserted}
 use Rattle.gixobj_editor.proofs.CursorStays.{Stays, known_of_either, edit_failure_unchanged, stays_failed, stays_upserted}
 use Rattle.gixobj_editor.proofs.editor.cursor.Cursor.try_upsert.Goals as goal
 
@@ -23,7 +23,7 @@ invariant_of-self-2 g c =
     let entire = names_of c.deref.result.now in
     let is = ap names_of c.deref.ensures.value ∙ (c.in_ok-path.ensures {u = tt}).joined in
     let kept : Stays old new = known_of_either c.try_upsert.result (g.S.Store.objects old.store) (Stays old new)
-    (λ trees. IsUpserted trees old entire (mode_of_kind c.args.kind) c.args.id new) (λ trees. IsEditFailure trees old entire new)
+    (λ trees. IsUpserted trees old entire (mode_of_kind c.args.kind) c.args.id new) (λ trees. IsAfterFailedEdit trees old entire new)
     c.try_upsert.ensures.upserted c.try_upsert.ensures.after_error
     (λ trees h. stays_upserted trees old new path (mode_of_kind c.args.kind) c.args.id
     (subst (λ (p : Path). IsUpserted trees old p (mode_of_kind c.args.kind) c.args.id new) is h)) (λ trees h. stays_failed trees old new entire h) in
@@ -37,7 +37,7 @@ returns-clause-prefix g c =
     let entire = names_of c.deref.result.now in
     let is = ap names_of c.deref.ensures.value ∙ (c.in_ok-path.ensures {u = tt}).joined in
     let kept : Stays old new = known_of_either c.try_upsert.result (g.S.Store.objects old.store) (Stays old new)
-    (λ trees. IsUpserted trees old entire (mode_of_kind c.args.kind) c.args.id new) (λ trees. IsEditFailure trees old entire new)
+    (λ trees. IsUpserted trees old entire (mode_of_kind c.args.kind) c.args.id new) (λ trees. IsAfterFailedEdit trees old entire new)
     c.try_upsert.ensures.upserted c.try_upsert.ensures.after_error
     (λ trees h. stays_upserted trees old new path (mode_of_kind c.args.kind) c.args.id
     (subst (λ (p : Path). IsUpserted trees old p (mode_of_kind c.args.kind) c.args.id new) is h)) (λ trees h. stays_failed trees old new entire h) in
