@@ -4,7 +4,7 @@ use Rattle.std.proofs.lemmas.List.Sums.{take_while-cons}
 use Rattle.std.specs.Iterator.{Yields}
 use Rattle.std.specs.List.{last_or, take_while}
 use Rattle.bstr.specs.Text.{lines_of}
-use Rattle.gix_object.specs.BodyLines.{is_folded, is_trailer_line}
+use Rattle.gix_object.specs.BodyLines.{is_continuation_line, is_trailer_line}
 use Rattle.gix_object.specs.FirstLines.{HasLastLines}
 use Rattle.gix_object.specs.MessageTrailers.{HasTrailerBlock}
 use Rattle.gix_object.specs.TrailerSteps.{NextTrailer, is_folded_next, remaining_bytes}
@@ -37,23 +37,24 @@ on_err_of (Err e) P holds = holds
 -- ---- a line that continues another
 
 abbrev HasFolded : Lines → Type 0
-HasFolded lines = (before : Lines) × (line : List ℕ) × (after : Lines) × (lines ≡ before ++ line ∷ after) × (is_folded line ≡ true)
+HasFolded lines = (before : Lines) × (line : List ℕ) × (after : Lines) × (lines ≡ before ++ line ∷ after) × (is_continuation_line line ≡ true)
 
 has_folded_cons : (line : List ℕ) (lines : Lines) → HasFolded lines → HasFolded (line ∷ lines)
 has_folded_cons line lines (before, one, after, is, folds) = (line ∷ before, one, after, ap (λ (rest : Lines). line ∷ rest) is, folds)
 
-has_folded_by : (b : Bool) (line : List ℕ) (lines : Lines) → is_folded line ≡ b → has_lines (cond b (line ∷ take_while is_folded lines) []) ≡ true
+has_folded_by : (b : Bool) (line : List ℕ) (lines : Lines) → is_continuation_line line ≡ b
+    → has_lines (cond b (line ∷ take_while is_continuation_line lines) []) ≡ true
     → HasFolded (line ∷ lines)
 has_folded_by true line lines is some = ([], line, lines, refl, is)
 has_folded_by false line lines is some = absurd (cc some)
 
-has_folded_first : (lines : Lines) → has_lines (take_while is_folded lines) ≡ true → HasFolded lines
+has_folded_first : (lines : Lines) → has_lines (take_while is_continuation_line lines) ≡ true → HasFolded lines
 has_folded_first [] some = absurd (cc some)
 has_folded_first (line ∷ lines) some =
-    has_folded_by (is_folded line) line lines refl (sym (ap has_lines (take_while-cons is_folded line lines)) ∙ some)
+    has_folded_by (is_continuation_line line) line lines refl (sym (ap has_lines (take_while-cons is_continuation_line line lines)) ∙ some)
 
 has_folded_after : (b : Bool) (line : List ℕ) (lines : Lines) → (first_is_folded lines ≡ true → HasFolded lines)
-    → cond b (has_lines (take_while is_folded lines)) (first_is_folded lines) ≡ true → HasFolded (line ∷ lines)
+    → cond b (has_lines (take_while is_continuation_line lines)) (first_is_folded lines) ≡ true → HasFolded (line ∷ lines)
 has_folded_after true line lines later is = has_folded_cons line lines (has_folded_first lines is)
 has_folded_after false line lines later is = has_folded_cons line lines (later is)
 

@@ -2,7 +2,7 @@
 use Rattle.std.specs.Prelude.{◌≡◌, ◌++◌, ◌∷◌, ℕ, List, None, Option, codes, filter, true}
 use Rattle.std.specs.List.{last_or}
 use Rattle.bstr.specs.Text.{lines_of}
-use Rattle.gix_object.specs.BodyLines.{is_folded}
+use Rattle.gix_object.specs.BodyLines.{is_continuation_line}
 use Rattle.gix_object.specs.MessageTrailers.{HasTrailerBlock, HasTrailers}
 use Rattle.gix_object.specs.TrailerNames.{is_named}
 use Rattle.gix_object.specs.Trailers.{TrailerView}
@@ -25,4 +25,4 @@ pub record HasContinuedLine (message : List ℕ) : Type 0 where
   pub after : List (List ℕ)
   pub is_block : HasTrailerBlock message block
   pub lines : lines_of block ≡ before ++ line ∷ after
-  pub continues : is_folded line ≡ true
+  pub continues : is_continuation_line line ≡ true

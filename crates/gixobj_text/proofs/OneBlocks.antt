@@ -7,14 +7,14 @@ use Rattle.bstr.specs.Text.{lines_of}
 use Rattle.bstr.proofs.lemmas.RestLemmas.{concat-lines_of}
 use Rattle.gixobj_text.specs.Blocks.{AreBlocksFrom, AreTrailers, BlockView, EndsTrailers, IsBlockOfLines, IsFirstMessageBlock}
 use Rattle.gixobj_text.specs.Blocks.AreBlocksFrom.{block, none}
-use Rattle.gixobj_text.specs.BodyLines.{is_folded, is_trailer_line}
+use Rattle.gixobj_text.specs.BodyLines.{is_continuation_line, is_trailer_line}
 use Rattle.gixobj_text.specs.Steps.{BeginsTrailer, ContinuesTrailer, NoTrailer}
 
 abbrev Lines : Type 0
 Lines = List (List ℕ)
 
 abbrev continues_trailer : List ℕ → Bool
-continues_trailer line = is_trailer_line line || is_folded line
+continues_trailer line = is_trailer_line line || is_continuation_line line
 
 -- ---- the parts of lines, by recursion
 
@@ -67,7 +67,7 @@ either false b is = cc is
 
 all_go_on : (taken : Lines) → AreTrailers taken → All ContinuesTrailer taken
 all_go_on [] trailers = All-nil ContinuesTrailer
-all_go_on (line ∷ taken) trailers = All-cons ContinuesTrailer line taken (either (is_trailer_line line) (is_folded line) trailers.0) trailers.1
+all_go_on (line ∷ taken) trailers = All-cons ContinuesTrailer line taken (either (is_trailer_line line) (is_continuation_line line) trailers.0) trailers.1
 
 begins : (taken rest : Lines) → AreTrailers taken → (taken ≡ [] → rest ≡ []) → BeginsTrailer (taken ++ rest)
 begins [] rest trailers last = subst BeginsTrailer (sym (last refl)) tt

@@ -10,7 +10,7 @@ use Rattle.bstr.specs.Owned.{joined}
 use Rattle.bstr.specs.Text.{lines_of}
 use Rattle.bstr.proofs.lemmas.LineLemmas.{lines-nil}
 use Rattle.gixobj_text.specs.FirstLines.{HasLastLines, IsFirstLine}
-use Rattle.gixobj_text.specs.BodyLines.{TrailerParts, begins_indented, after_gap, is_blank, is_folded, is_indented, is_token_byte, token_byte_step, parts_of_line, rest_of_token, trimmed_line, trailer_parts, with_value}
+use Rattle.gixobj_text.specs.BodyLines.{TrailerParts, begins_indented, after_gap, is_blank, is_continuation_line, is_indented, is_token_byte, token_byte_step, parts_of_line, rest_of_token, trimmed_line, trailer_parts, with_value}
 use Rattle.gixobj_text.specs.Scanning.{after_token}
 use Rattle.gixobj_text.specs.Trailers.{trailers_of, trailers_of_bytes, unfolded, with_trailer}
 use Rattle.gixobj_hash.specs.ByteStrings.{is_filled, trimmed}
@@ -84,8 +84,8 @@ second : (a b : Bool) → (not a && b) ≡ true → b ≡ true
 second true b is = cc is
 second false b is = is
 
-pub parts_of_folded_line : (line : List ℕ) → is_folded line ≡ true → parts_of_line line ≡ None
-parts_of_folded_line line is = indented_none (trimmed_line line) (second (is_blank line) (is_indented line) is)
+pub parts_of_continuation_line : (line : List ℕ) → is_continuation_line line ≡ true → parts_of_line line ≡ None
+parts_of_continuation_line line is = indented_none (trimmed_line line) (second (is_blank line) (is_indented line) is)
 
 -- ---- skipping a line that isn't a trailer line
 
@@ -93,13 +93,13 @@ pub trailers_of_bytes_skip : (bytes line rest : List ℕ) → IsFirstLine bytes 
     → trailers_of_bytes bytes ≡ trailers_of_bytes rest
 trailers_of_bytes_skip bytes line rest first none =
     ap trailers_of first.lines
-    ∙ ap (λ (parts : Option TrailerParts). with_trailer parts (take_while is_folded (lines_of rest)) (trailers_of_bytes rest)) none
+    ∙ ap (λ (parts : Option TrailerParts). with_trailer parts (take_while is_continuation_line (lines_of rest)) (trailers_of_bytes rest)) none
 
 pub first_is_folded_skip : (bytes line rest : List ℕ) → IsFirstLine bytes line rest → parts_of_line line ≡ None
     → first_is_folded (lines_of bytes) ≡ first_is_folded
     (lines_of rest)
 first_is_folded_skip bytes line rest first none =
-    ap first_is_folded first.lines ∙ ap (λ (parts : Option TrailerParts). cond (is_some parts) (has_lines (take_while is_folded (lines_of rest)))
+    ap first_is_folded first.lines ∙ ap (λ (parts : Option TrailerParts). cond (is_some parts) (has_lines (take_while is_continuation_line (lines_of rest)))
     (first_is_folded (lines_of rest))) none
 
 pub rest_len_lt : (bytes line rest : List ℕ) → IsFirstLine bytes line rest → length rest < length bytes
@@ -117,9 +117,9 @@ is_next_trailer_at_line entire bytes line rest token first trailers folded few l
     let less : length rest < length bytes = rest_len_lt bytes line rest one in
     record {
       trailers = sym trailers ∙ ap trailers_of one.lines
-          ∙ ap (λ (parts : Option TrailerParts). with_trailer parts (take_while is_folded (lines_of rest)) (trailers_of_bytes rest)) (sym is);
+          ∙ ap (λ (parts : Option TrailerParts). with_trailer parts (take_while is_continuation_line (lines_of rest)) (trailers_of_bytes rest)) (sym is);
       folded = sym folded ∙ ap first_is_folded one.lines
-          ∙ ap (λ (parts : Option TrailerParts). cond (is_some parts) (has_lines (take_while is_folded (lines_of rest)))
+          ∙ ap (λ (parts : Option TrailerParts). cond (is_some parts) (has_lines (take_while is_continuation_line (lines_of rest)))
           (first_is_folded (lines_of rest)))
           (sym is);
       shorter = omega arith;
@@ -131,28 +131,30 @@ trailers_of_bytes_nil bytes none = ap trailers_of (ap lines_of none ∙ lines-ni
 
 -- ---- the lines of a value
 
-pub no_folded_lines_at_end : (bytes : List ℕ) → bytes ≡ [] → take_while is_folded (lines_of bytes) ≡ []
-no_folded_lines_at_end bytes none = ap (take_while is_folded) (ap lines_of none ∙ lines-nil)
+pub no_continuation_lines_at_end : (bytes : List ℕ) → bytes ≡ [] → take_while is_continuation_line (lines_of bytes) ≡ []
+no_continuation_lines_at_end bytes none = ap (take_while is_continuation_line) (ap lines_of none ∙ lines-nil)
 
-pub take_while_folded_cons : (b : Bool) (line : List ℕ) (lines : Lines) → is_folded line ≡ b → take_while is_folded (line ∷ lines) ≡ cond b
-    (line ∷ take_while is_folded lines) []
-take_while_folded_cons b line lines is = take_while-cons is_folded line lines ∙ ap (λ (c : Bool). cond c (line ∷ take_while is_folded lines) []) is
+pub take_while_folded_cons : (b : Bool) (line : List ℕ) (lines : Lines) → is_continuation_line line ≡ b
+    → take_while is_continuation_line (line ∷ lines) ≡ cond b
+    (line ∷ take_while is_continuation_line lines) []
+take_while_folded_cons b line lines is = take_while-cons is_continuation_line line lines
+    ∙ ap (λ (c : Bool). cond c (line ∷ take_while is_continuation_line lines) []) is
 
-pub with_folded_cons : (items bytes line rest : List ℕ) → IsFirstLine bytes line rest → is_folded line ≡ true
+pub with_folded_cons : (items bytes line rest : List ℕ) → IsFirstLine bytes line rest → is_continuation_line line ≡ true
     → with_folded items (lines_of bytes) ≡ with_folded
     (with_piece items (trimmed (trimmed_line line))) (lines_of rest)
 with_folded_cons items bytes line rest first is =
     ap (λ (ls : Lines). with_pieces items (map trimmed (map trimmed_line ls)))
-    (ap (take_while is_folded) first.lines ∙ take_while_folded_cons true line (lines_of rest) is)
+    (ap (take_while is_continuation_line) first.lines ∙ take_while_folded_cons true line (lines_of rest) is)
 
-pub with_folded_at_unfolded : (items bytes line rest : List ℕ) → IsFirstLine bytes line rest → is_folded line ≡ false
+pub with_folded_at_unfolded : (items bytes line rest : List ℕ) → IsFirstLine bytes line rest → is_continuation_line line ≡ false
     → with_folded items (lines_of bytes) ≡ items
 with_folded_at_unfolded items bytes line rest first is =
     ap (λ (ls : Lines). with_pieces items (map trimmed (map trimmed_line ls)))
-    (ap (take_while is_folded) first.lines ∙ take_while_folded_cons false line (lines_of rest) is)
+    (ap (take_while is_continuation_line) first.lines ∙ take_while_folded_cons false line (lines_of rest) is)
 
 pub with_folded_at_end : (items bytes : List ℕ) → bytes ≡ [] → with_folded items (lines_of bytes) ≡ items
-with_folded_at_end items bytes none = ap (λ (ls : Lines). with_pieces items (map trimmed (map trimmed_line ls))) (no_folded_lines_at_end bytes none)
+with_folded_at_end items bytes none = ap (λ (ls : Lines). with_pieces items (map trimmed (map trimmed_line ls))) (no_continuation_lines_at_end bytes none)
 
 -- ---- the unfolded value
 
@@ -176,15 +178,15 @@ unfolded_by : (first : List ℕ) (lines : Lines) → has_lines lines ≡ true �
 unfolded_by first [] some = cc some
 unfolded_by first (line ∷ lines) some = from_nothing (map trimmed (first ∷ map trimmed_line (line ∷ lines)))
 
-pub with_folded_eq_unfolded : (first : List ℕ) (lines : Lines) → has_lines (take_while is_folded lines) ≡ true
-    → with_folded (with_piece [] (trimmed first)) lines ≡ unfolded first (map trimmed_line (take_while is_folded lines))
-with_folded_eq_unfolded first lines some = unfolded_by first (take_while is_folded lines) some
+pub with_folded_eq_unfolded : (first : List ℕ) (lines : Lines) → has_lines (take_while is_continuation_line lines) ≡ true
+    → with_folded (with_piece [] (trimmed first)) lines ≡ unfolded first (map trimmed_line (take_while is_continuation_line lines))
+with_folded_eq_unfolded first lines some = unfolded_by first (take_while is_continuation_line lines) some
 
 -- the value of one line
 trimmed_by : (first : List ℕ) (lines : Lines) → has_lines lines ≡ false → unfolded first (map trimmed_line lines) ≡ trimmed first
 trimmed_by first [] none = refl
 trimmed_by first (line ∷ lines) none = cc none
 
-pub unfolded_eq_trimmed : (first : List ℕ) (lines : Lines) → has_lines (take_while is_folded lines) ≡ false
-    → unfolded first (map trimmed_line (take_while is_folded lines)) ≡ trimmed first
-unfolded_eq_trimmed first lines none = trimmed_by first (take_while is_folded lines) none
+pub unfolded_eq_trimmed : (first : List ℕ) (lines : Lines) → has_lines (take_while is_continuation_line lines) ≡ false
+    → unfolded first (map trimmed_line (take_while is_continuation_line lines)) ≡ trimmed first
+unfolded_eq_trimmed first lines none = trimmed_by first (take_while is_continuation_line lines) none

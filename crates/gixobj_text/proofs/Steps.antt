@@ -11,7 +11,7 @@ use Rattle.bstr.proofs.lemmas.RestLemmas.{concat-lines_of}
 use Rattle.gixobj_text.proofs.SplitTitles.{title_is_prefix}
 use Rattle.gixobj_text.specs.FirstLines.{IsFirstLine}
 use Rattle.gixobj_text.specs.Blocks.{AreTrailers, EndsTrailers, IsBlockOfLines, IsFirstMessageBlock}
-use Rattle.gixobj_text.specs.BodyLines.{is_folded, is_trailer_line}
+use Rattle.gixobj_text.specs.BodyLines.{is_continuation_line, is_trailer_line}
 use Rattle.gixobj_text.specs.Steps.{BeginsTrailer, ContinuesTrailer, IsAtTrailer, IsAfterTrailers, IsPast, NoTrailer}
 use Rattle.gixobj_text.proofs.OneLine.{all_snoc}
 
@@ -38,7 +38,7 @@ pub is_past_non_trailer_step : (entire content line rest : List ℕ) → IsPast 
 is_past_non_trailer_step entire content line rest it first is = past_more NoTrailer entire content line rest it first is
 
 pub is_past_trailer_step : (entire content line rest : List ℕ) → IsPast ContinuesTrailer entire content → IsFirstLine content line rest
-    → (is_trailer_line line || is_folded line) ≡ true → IsPast ContinuesTrailer entire rest
+    → (is_trailer_line line || is_continuation_line line) ≡ true → IsPast ContinuesTrailer entire rest
 is_past_trailer_step entire content line rest it first is = past_more ContinuesTrailer entire content line rest it first is
 
 lines_none : (content : List ℕ) → content ≡ [] → lines_of content ≡ []
@@ -55,7 +55,7 @@ pub is_after_trailers_at_end : (entire content : List ℕ) → IsPast ContinuesT
 is_after_trailers_at_end entire content it nothing = record { past = it; ends = subst EndsTrailers (sym (lines_none content nothing)) tt }
 
 pub is_after_trailers_at_line : (entire content line rest : List ℕ) → IsPast ContinuesTrailer entire content → IsFirstLine content line rest
-    → (is_trailer_line line || is_folded line) ≡ false → IsAfterTrailers entire content
+    → (is_trailer_line line || is_continuation_line line) ≡ false → IsAfterTrailers entire content
 is_after_trailers_at_line entire content line rest it first is = record { past = it; ends = subst EndsTrailers (sym first.lines) is }
 
 -- ---- a block
@@ -66,7 +66,7 @@ are_trailers (line ∷ taken) rest begins all = (begins, All-tail ContinuesTrail
 
 none_after_none : (rest : Lines) → BeginsTrailer rest → EndsTrailers rest → rest ≡ []
 none_after_none [] begins ends = refl
-none_after_none (line ∷ rest) begins ends = by_tests (is_trailer_line line) (is_folded line) begins ends
+none_after_none (line ∷ rest) begins ends = by_tests (is_trailer_line line) (is_continuation_line line) begins ends
   where
     by_tests : (a b : Bool) → a ≡ true → (a || b) ≡ false → line ∷ rest ≡ []
     by_tests true b is not = cc not

@@ -2,7 +2,7 @@
 use Rattle.std.specs.Prelude.{◌≡◌, ◌≢◌, ◌||◌, ℕ, List, [], ◌∷◌, ◌++◌, All, IsFalse, IsTrue, drop, take, ⊤}
 use Rattle.std.specs.List.{concat}
 use Rattle.bstr.specs.Text.{lines_of}
-use Rattle.gixobj_text.specs.BodyLines.{is_folded, is_trailer_line}
+use Rattle.gixobj_text.specs.BodyLines.{is_continuation_line, is_trailer_line}
 
 -- a message, and the bytes of its trailers
 pub record BlockView : Type 0 where
@@ -13,12 +13,12 @@ pub record BlockView : Type 0 where
 abbrev pub AreTrailers : List (List ℕ) → Type 0
 AreTrailers [] = ⊤
 AreTrailers (line ∷ lines) = IsTrue (is_trailer_line line)
-    × All (λ it. IsTrue (is_trailer_line it || is_folded it)) lines
+    × All (λ it. IsTrue (is_trailer_line it || is_continuation_line it)) lines
 
 -- trailers end before these lines: there is none, or the first is neither a trailer line nor a continuation line
 abbrev pub EndsTrailers : List (List ℕ) → Type 0
 EndsTrailers [] = ⊤
-EndsTrailers (line ∷ lines) = IsFalse (is_trailer_line line || is_folded line)
+EndsTrailers (line ∷ lines) = IsFalse (is_trailer_line line || is_continuation_line line)
 
 -- the lines of a block: those before the first trailer line, then consecutive trailers, then the rest; without trailers
 -- the block has all lines

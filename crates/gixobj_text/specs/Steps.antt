@@ -3,7 +3,7 @@ use Rattle.std.specs.Prelude.{◌≡◌, ◌||◌, ℕ, List, [], ◌∷◌, ◌
 use Rattle.std.specs.List.{concat}
 use Rattle.bstr.specs.Text.{lines_of}
 use Rattle.gixobj_text.specs.Blocks.{EndsTrailers}
-use Rattle.gixobj_text.specs.BodyLines.{is_folded, is_trailer_line}
+use Rattle.gixobj_text.specs.BodyLines.{is_continuation_line, is_trailer_line}
 
 -- the bytes are lines that all satisfy `P`, and then `rest` with its own lines
 pub record IsPast (P : List ℕ → Type 0) (bytes rest : List ℕ) : Type 0 where
@@ -18,7 +18,7 @@ NoTrailer line = IsFalse (is_trailer_line line)
 
 -- a trailer line or a continuation line
 abbrev pub ContinuesTrailer : List ℕ → Type 0
-ContinuesTrailer line = IsTrue (is_trailer_line line || is_folded line)
+ContinuesTrailer line = IsTrue (is_trailer_line line || is_continuation_line line)
 
 -- there is no line, or the first is a trailer line
 abbrev pub BeginsTrailer : List (List ℕ) → Type 0

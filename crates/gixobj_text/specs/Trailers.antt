@@ -4,7 +4,7 @@ use Rattle.std.specs.List.{take_while}
 use Rattle.bstr.specs.Owned.{joined}
 use Rattle.bstr.specs.Text.{lines_of}
 use Rattle.gixobj_hash.specs.Bytes.{space}
-use Rattle.gixobj_text.specs.BodyLines.{TrailerParts, is_folded, parts_of_line, trimmed_line}
+use Rattle.gixobj_text.specs.BodyLines.{TrailerParts, is_continuation_line, parts_of_line, trimmed_line}
 use Rattle.gixobj_hash.specs.ByteStrings.{is_filled, trimmed}
 
 -- a trailer as contracts see it
@@ -26,7 +26,8 @@ with_trailer (Some parts) following trailers =
 -- the trailers of lines: continuation lines add none themselves, and other lines are skipped
 abbrev pub trailers_of : List (List ℕ) → List TrailerView
 trailers_of [] = []
-trailers_of (line ∷ lines) = with_trailer (parts_of_line line) (take_while is_folded lines) (trailers_of lines)
+trailers_of (line ∷ lines) = with_trailer (parts_of_line line) (take_while is_continuation_line lines)
+    (trailers_of lines)
 
 -- the trailers of bytes
 abbrev pub trailers_of_bytes : List ℕ → List TrailerView

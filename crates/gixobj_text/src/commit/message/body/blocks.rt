@@ -1,11 +1,11 @@
 //! The messages of a body, each with the trailers that follow it.
 ghost use Rattle.std.specs.Prelude.{◌≡◌, ◌≤◌, ◌-◌, ◌||◌, length, take};
-ghost use Rattle.gixobj_text.specs.BodyLines.{is_folded as is_folded_of, is_trailer_line as is_trailer_line_of};
+ghost use Rattle.gixobj_text.specs.BodyLines.{is_continuation_line as is_continuation_line_of, is_trailer_line as is_trailer_line_of};
 ghost use Rattle.gixobj_text.specs.Steps.{IsAtTrailer, IsAfterTrailers};
 
 use crate::commit::message::body::lines::{line_content, split_line};
 use crate::commit::message::body::trailer_lines::is_line_of_trailer;
-use crate::commit::message::body::trailers::{Trailers, is_folded_line};
+use crate::commit::message::body::trailers::{Trailers, is_continuation};
 use bstr::BStr;
 use std::alloc::Global;
 
@@ -106,9 +106,9 @@ fn at_trailer(content: &[u8]) -> &[u8]
 
 /// Returns whether a line is a trailer line or continues a trailer.
 fn continues_trailer(line: &[u8]) -> bool
-    ensures { result ≡ (is_trailer_line_of line.now || is_folded_of line.now) }
+    ensures { result ≡ (is_trailer_line_of line.now || is_continuation_line_of line.now) }
 {
-    is_line_of_trailer(line_content(line)) || is_folded_line(line)
+    is_line_of_trailer(line_content(line)) || is_continuation(line)
 }
 
 /// Skips the consecutive trailers at the start of the bytes.

@@ -4,12 +4,12 @@ ghost use Rattle.std.specs.Cow.{cow_slice_items};
 ghost use Rattle.bstr.specs.BStr.{bstr_bytes};
 ghost use Rattle.bstr.specs.Text.{lines_of};
 ghost use Rattle.gixobj_text.specs.TrailerSteps.{NextTrailer, remaining_trailer_count, is_owned, remaining_bytes};
-ghost use Rattle.gixobj_text.specs.BodyLines.{is_folded, trimmed_line};
+ghost use Rattle.gixobj_text.specs.BodyLines.{is_continuation_line, trimmed_line};
 ghost use Rattle.gixobj_text.specs.FirstLines.{HasLastLines};
 ghost use Rattle.gixobj_text.specs.TrailerNames.{is_named, names_part};
 ghost use Rattle.gixobj_text.specs.Trailers.{trailers_of_bytes, unfolded as unfolded_of};
 ghost use Rattle.gixobj_hash.specs.ByteStrings.{trimmed};
-ghost use Rattle.gixobj_text.specs.Unfolding.{IsNextTrailer, has_lines, folded_prefix, with_folded, with_piece};
+ghost use Rattle.gixobj_text.specs.Unfolding.{IsNextTrailer, has_lines, continuation_lines, with_folded, with_piece};
 
 use crate::commit::message::body::lines::{
     begins_indented, is_blank_line, line_content, split_line,
@@ -132,7 +132,7 @@ impl<'a> Iterator for Trailers<'a> {
         };
         match parse_trailer(self.alloc, token, first, rest) {
             Ok(trailer) => {
-                self.cursor = after_folded(rest);
+                self.cursor = after_continuation_lines(rest);
                 Some(Ok(trailer))
             }
             Err(_) => {
@@ -161,8 +161,8 @@ fn next_trailer(bytes: &[u8]) -> Option<(&[u8], &[u8], &[u8])>
 
 /// Returns whether a line continues the trailer before it.
 #[inline(always)]
-pub(crate) fn is_folded_line(line: &[u8]) -> bool
-    ensures { result ≡ is_folded line.now }
+pub(crate) fn is_continuation(line: &[u8]) -> bool
+    ensures { result ≡ is_continuation_line line.now }
 {
     let bytes = line_content(line);
     begins_indented(bytes) && !is_blank_line(bytes)
@@ -170,8 +170,8 @@ pub(crate) fn is_folded_line(line: &[u8]) -> bool
 
 /// Skips the lines that continue a trailer.
 #[inline(always)]
-#[tactic(auto, using(crate::proofs::Reading::parts_of_folded_line, crate::proofs::Reading::trailers_of_bytes_skip, crate::proofs::Reading::rest_len_lt, crate::proofs::LastLines::last_lines_refl, crate::proofs::LastLines::last_lines_step))]
-fn after_folded(bytes: &[u8]) -> &[u8]
+#[tactic(auto, using(crate::proofs::Reading::parts_of_continuation_line, crate::proofs::Reading::trailers_of_bytes_skip, crate::proofs::Reading::rest_len_lt, crate::proofs::LastLines::last_lines_refl, crate::proofs::LastLines::last_lines_step))]
+fn after_continuation_lines(bytes: &[u8]) -> &[u8]
     ensures trailers { trailers_of_bytes result.now ≡ trailers_of_bytes bytes.now }
     ensures within { length result.now ≤ length bytes.now }
     ensures last_lines { HasLastLines bytes.now result.now }
@@ -181,7 +181,7 @@ fn after_folded(bytes: &[u8]) -> &[u8]
     }
     let mut rest = bytes;
     'lines: while let Some((line, following)) = split_line(rest) {
-        if !is_folded_line(line) {
+        if !is_continuation(line) {
             return rest;
         }
         rest = following;
@@ -191,15 +191,15 @@ fn after_folded(bytes: &[u8]) -> &[u8]
 
 /// Returns whether the bytes begin with a line that continues a trailer.
 #[inline(always)]
-#[tactic(auto, using(crate::proofs::Reading::no_folded_lines_at_end, crate::proofs::Folding::first_line_not_folded))]
-fn begins_folded(bytes: &[u8]) -> bool
-    ensures { result ≡ has_lines (folded_prefix bytes.now) }
+#[tactic(auto, using(crate::proofs::Reading::no_continuation_lines_at_end, crate::proofs::Folding::first_line_not_folded))]
+fn has_continuation_lines(bytes: &[u8]) -> bool
+    ensures { result ≡ has_lines (continuation_lines bytes.now) }
 {
     if !begins_indented(bytes) {
         return false;
     }
     match split_line(bytes) {
-        Some((line, _)) => is_folded_line(line),
+        Some((line, _)) => is_continuation(line),
         None => false,
     }
 }
@@ -214,11 +214,12 @@ fn parse_trailer<'a>(
 ) -> Result<TrailerRef<'a>, AllocError>
     ensures token { IfOk result (λ it. bstr_bytes it.token ≡ token.now) }
     ensures value { IfOk result (λ it. cow_slice_items it.value
-        ≡ unfolded_of first.now (map trimmed_line (folded_prefix rest.now))) }
-    ensures owned { IfOk result (λ it. is_owned it.value ≡ has_lines (folded_prefix rest.now)) }
-    ensures error { IfErr result (λ _. has_lines (folded_prefix rest.now) ≡ true) }
+        ≡ unfolded_of first.now (map trimmed_line (continuation_lines rest.now))) }
+    ensures owned { IfOk result (λ it. is_owned it.value
+        ≡ has_lines (continuation_lines rest.now)) }
+    ensures error { IfErr result (λ _. has_lines (continuation_lines rest.now) ≡ true) }
 {
-    if begins_folded(rest) {
+    if has_continuation_lines(rest) {
         let value = unfolded(alloc, first, rest)?;
         return Ok(TrailerRef {
             token: BStr::new(token),
@@ -241,7 +242,7 @@ fn unfolded(alloc: Global, first: &[u8], rest: &[u8]) -> Result<Vec<u8>, AllocEr
     push_piece(&mut value, first.trim())?;
     let mut pending = rest;
     'lines: while let Some((line, following)) = split_line(pending) {
-        if !is_folded_line(line) {
+        if !is_continuation(line) {
             return Ok(value);
         }
         push_piece(&mut value, line_content(line).trim())?;

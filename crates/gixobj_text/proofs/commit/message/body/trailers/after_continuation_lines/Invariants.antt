@@ -1,7 +1,7 @@
 use Rattle.std.proofs.Common.{◌≡◌, ◌≤◌, length}
 use Rattle.gixobj_text.specs.FirstLines.{HasLastLines}
 use Rattle.gixobj_text.specs.Trailers.{trailers_of_bytes}
-use Rattle.gixobj_text.proofs.commit.message.body.trailers.after_folded.Given as goal
+use Rattle.gixobj_text.proofs.commit.message.body.trailers.after_continuation_lines.Given as goal
 
 -- the rest has all trailers of the bytes
 abbrev pub invariant-lines : goal.invariant-lines
