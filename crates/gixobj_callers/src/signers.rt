@@ -1,6 +1,6 @@
 //! A reader of messages, who lists the sign-offs of a commit, finds its last trailer, and splits a body.
 ghost use Rattle.std.specs.Prelude.{◌≡◌, IfErr, IfOk, OnErr, map, option_map};
-ghost use Rattle.gix_object.specs.Blocks.{joined_parts};
+ghost use Rattle.gix_object.specs.MessageBlocks.{joined_parts};
 ghost use Rattle.gix_object.specs.Bodies.{bytes_of_body};
 ghost use Rattle.gix_object.specs.Commit.{CommitLines, DecodesToCommit, IsMalformedCommit};
 ghost use Rattle.gix_object.specs.CommitViews.{commit_lines};

@@ -67,7 +67,7 @@ pub use Rattle.gixobj_tag.specs.TagFormat
 pub use Rattle.gixobj_tag.specs.TagViews
 pub use Rattle.gixobj_tag.specs.TagWriting
 pub use Rattle.gixobj_tag.specs.declared as tag
-pub use Rattle.gixobj_text.specs.Blocks
+pub use Rattle.gixobj_text.specs.MessageBlocks
 pub use Rattle.gixobj_text.specs.Bodies
 pub use Rattle.gixobj_text.specs.BodyLines
 pub use Rattle.gixobj_text.specs.FirstLines

@@ -23,7 +23,7 @@ use Rattle.gixobj_editor.specs.Upserts.{IsFirstNameError, IsUnopenedError, EditE
 use Rattle.gixobj_editor.specs.declared.editor.error.Error.{Error}
 use Rattle.gixobj_editor.specs.declared.editor.error.Error.TheVariants as error
 
--- the path of a cursor's directory: a single empty name means the root
+-- the path of a cursor's directory: the root's if there are no names, or a single empty name; else the path itself
 abbrev pub cursor_path : Path → Path
 cursor_path ([] ∷ []) = []
 cursor_path path = path

@@ -2,8 +2,8 @@
 use Rattle.std.proofs.Common.{◌∷◌, refl, List, [], ℕ, codes}
 use Rattle.std.proofs.lemmas.List.Elements.{All-cons, All-nil}
 use Rattle.bstr.proofs.Computing.{computing}
-use Rattle.gixobj_text.specs.Blocks.{AreBlocksFrom, BlockView}
-use Rattle.gixobj_text.specs.Blocks.AreBlocksFrom.{block, none}
+use Rattle.gixobj_text.specs.MessageBlocks.{AreBlocksFrom, BlockView}
+use Rattle.gixobj_text.specs.MessageBlocks.AreBlocksFrom.{block, none}
 use Rattle.gixobj_text.specs.Steps.{ContinuesTrailer, NoTrailer}
 
 abbrev of : List ℕ → List ℕ → BlockView

@@ -5,8 +5,8 @@ use Rattle.std.specs.Prelude.{◌||◌}
 use Rattle.std.specs.List.{concat}
 use Rattle.bstr.specs.Text.{lines_of}
 use Rattle.bstr.proofs.lemmas.RestLemmas.{concat-lines_of}
-use Rattle.gixobj_text.specs.Blocks.{AreBlocksFrom, AreTrailers, BlockView, EndsTrailers, IsBlockOfLines, IsFirstMessageBlock}
-use Rattle.gixobj_text.specs.Blocks.AreBlocksFrom.{block, none}
+use Rattle.gixobj_text.specs.MessageBlocks.{AreBlocksFrom, AreTrailers, BlockView, EndsTrailers, IsBlockOfLines, IsFirstMessageBlock}
+use Rattle.gixobj_text.specs.MessageBlocks.AreBlocksFrom.{block, none}
 use Rattle.gixobj_text.specs.BodyLines.{is_continuation_line, is_trailer_line}
 use Rattle.gixobj_text.specs.Steps.{BeginsTrailer, ContinuesTrailer, NoTrailer}
 

@@ -4,8 +4,8 @@ use lib.ListN.{take-append-drop}
 use Rattle.std.specs.List.{concat}
 use Rattle.bstr.specs.Text.{lines_of}
 use Rattle.bstr.proofs.lemmas.RestLemmas.{concat-lines_of}
-use Rattle.gixobj_text.specs.Blocks.{AreBlocksFrom, BlockView, joined_parts}
-use Rattle.gixobj_text.specs.Blocks.AreBlocksFrom.{block, none}
+use Rattle.gixobj_text.specs.MessageBlocks.{AreBlocksFrom, BlockView, joined_parts}
+use Rattle.gixobj_text.specs.MessageBlocks.AreBlocksFrom.{block, none}
 
 concat_two : (a b : List (List ℕ)) → concat (a ++ b) ≡ concat a ++ concat b
 concat_two [] b = refl

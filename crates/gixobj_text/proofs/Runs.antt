@@ -1,8 +1,8 @@
 -- A drained iterator has yielded all blocks, all trailers or all filtered trailers.
 use Rattle.std.proofs.Common.{◌≡◌, ◌∷◌, ◌∙◌, ap, sym, subst, ℕ, List, [], Ok, Some, None, map}
 use Rattle.std.specs.Iterator.{Drains, Yields}
-use Rattle.gixobj_text.specs.Blocks.{AreBlocksFrom}
-use Rattle.gixobj_text.specs.Blocks.AreBlocksFrom.{block, none}
+use Rattle.gixobj_text.specs.MessageBlocks.{AreBlocksFrom}
+use Rattle.gixobj_text.specs.MessageBlocks.AreBlocksFrom.{block, none}
 use Rattle.gixobj_text.specs.Filters.{NextFiltered, all_of, filter_of, remaining_filtered}
 use Rattle.gixobj_text.specs.BlockSteps.{NextBlock, block_view, remaining_block_bytes, first_start}
 use Rattle.gixobj_text.specs.TrailerSteps.{NextTrailer, trailer_view, remaining_trailers}

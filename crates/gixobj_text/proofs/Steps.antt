@@ -10,7 +10,7 @@ use Rattle.bstr.proofs.lemmas.LineLemmas.{lines-nil}
 use Rattle.bstr.proofs.lemmas.RestLemmas.{concat-lines_of}
 use Rattle.gixobj_text.proofs.SplitTitles.{title_is_prefix}
 use Rattle.gixobj_text.specs.FirstLines.{IsFirstLine}
-use Rattle.gixobj_text.specs.Blocks.{AreTrailers, EndsTrailers, IsBlockOfLines, IsFirstMessageBlock}
+use Rattle.gixobj_text.specs.MessageBlocks.{AreTrailers, EndsTrailers, IsBlockOfLines, IsFirstMessageBlock}
 use Rattle.gixobj_text.specs.BodyLines.{is_continuation_line, is_trailer_line}
 use Rattle.gixobj_text.specs.Steps.{BeginsTrailer, ContinuesTrailer, IsAtTrailer, IsAfterTrailers, IsPast, NoTrailer}
 use Rattle.gixobj_text.proofs.OneLine.{all_snoc}

@@ -2,7 +2,7 @@
 use Rattle.std.specs.Prelude.{◌≡◌, ◌<◌, ℕ, List, [], Option, Some, None, length}
 use Rattle.std.specs.Iterator.{Count, at_most}
 use Rattle.bstr.specs.BStr.{bstr_bytes}
-use Rattle.gixobj_text.specs.Blocks.{BlockView, IsFirstMessageBlock}
+use Rattle.gixobj_text.specs.MessageBlocks.{BlockView, IsFirstMessageBlock}
 use Rattle.gixobj_text.specs.declared.commit.message.body.blocks.MessageBlock.{MessageBlock}
 use Rattle.gixobj_text.specs.declared.commit.message.body.blocks.MessageBlocks.{MessageBlocks}
 

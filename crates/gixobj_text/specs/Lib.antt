@@ -1,4 +1,4 @@
-pub mod Blocks
+pub mod MessageBlocks
 pub mod Bodies
 pub mod BodyLines
 pub mod Breaks

@@ -2,7 +2,7 @@
 use Rattle.std.specs.Prelude.{◌≡◌, ◌||◌, ℕ, List, [], ◌∷◌, ◌++◌, All, IsFalse, IsTrue, ⊤}
 use Rattle.std.specs.List.{concat}
 use Rattle.bstr.specs.Text.{lines_of}
-use Rattle.gixobj_text.specs.Blocks.{EndsTrailers}
+use Rattle.gixobj_text.specs.MessageBlocks.{EndsTrailers}
 use Rattle.gixobj_text.specs.BodyLines.{is_continuation_line, is_trailer_line}
 
 -- the bytes are lines that all satisfy `P`, and then `rest` with its own lines

@@ -1,7 +1,7 @@
 //! Laws of messages. Each function is empty; its contract is the law.
 ghost use Rattle.std.specs.Prelude.{◌≡◌, ◌↔◌, ◌++◌, ℕ, List, Ok, Option, Some, drop, map, take};
 ghost use Rattle.std.specs.Iterator.{Drains};
-ghost use Rattle.gixobj_text.specs.Blocks.{AreBlocksFrom, BlockView, joined_parts};
+ghost use Rattle.gixobj_text.specs.MessageBlocks.{AreBlocksFrom, BlockView, joined_parts};
 ghost use Rattle.gixobj_text.specs.BodyLines.{DecodesToTrailer, trailer_parts};
 ghost use Rattle.gixobj_text.specs.Filters.{NextFiltered, remaining_filtered};
 ghost use Rattle.gixobj_text.specs.BlockSteps.{NextBlock, block_view, remaining_block_bytes, first_start};

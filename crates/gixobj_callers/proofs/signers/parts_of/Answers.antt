@@ -1,5 +1,5 @@
 use Rattle.std.proofs.Common.{◌≡◌, ◌∙◌, List, ap, map}
-use Rattle.gix_object.specs.Blocks.{AreBlocksFrom, joined_parts}
+use Rattle.gix_object.specs.MessageBlocks.{AreBlocksFrom, joined_parts}
 use Rattle.gix_object.specs.BlockSteps.{block_view, remaining_block_bytes, first_start}
 use Rattle.gix_object.specs.message.commit.message.body.blocks.MessageBlock.{MessageBlock}
 use Rattle.gixobj_callers.proofs.signers.parts_of.Goals as goal

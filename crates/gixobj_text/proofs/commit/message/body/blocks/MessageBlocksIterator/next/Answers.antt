@@ -1,6 +1,6 @@
 use Rattle.std.proofs.Common.{◌≢◌, ◌<◌, ◌∙◌, [], List, ℕ, subst, sym, rules, length}
 use Rattle.bstr.specs.BStr.{bstr_bytes}
-use Rattle.gixobj_text.specs.Blocks.{IsFirstMessageBlock}
+use Rattle.gixobj_text.specs.MessageBlocks.{IsFirstMessageBlock}
 use Rattle.gixobj_text.proofs.Steps.{block_rest_len_lt, is_first_block_of_steps, not_nil_of_some}
 use Rattle.gixobj_text.proofs.commit.message.body.blocks.MessageBlocksIterator.next.Goals as goal
 
