@@ -67,7 +67,7 @@ module _ {S E : Type 0} (means : StoreModel S) (answers : Answers E) where
     number = ap suc is.number;
     reached = is.reached;
     done = (between, first, is.done);
-    remaining = is.remaining;
+    after = is.after;
     cause = is.cause;
     replies = is.replies;
     rest = is.rest;
@@ -135,7 +135,7 @@ module _ {S E : Type 0} (means : StoreModel S) (answers : Answers E) where
         number = refl;
         reached = old;
         done = refl;
-        remaining = between;
+        after = between;
         cause = first;
         replies = replies;
         rest = run;

@@ -52,10 +52,10 @@ module _ {S E : Type 0} (means : StoreModel S) (answers : Answers E) where
     pub number : length before ≡ index
     pub reached : State S
     pub done : AreEditsDone old before reached
-    pub remaining : State S
-    pub cause : IsEditReply means answers at_root reached failed_edit (edit_reply.Refused error) remaining
+    pub after : State S
+    pub cause : IsEditReply means answers at_root reached failed_edit (edit_reply.Refused error) after
     pub replies : List (Reply E)
-    pub rest : IsRun means answers remaining (edits_and_write following) replies new
+    pub rest : IsRun means answers after (edits_and_write following) replies new
 
   -- the result of an import by its first reply, with its index, other than that to an accepted edit
   abbrev pub Decides : State S → List Edit → ℕ → EditReply E → State S → Type 0

@@ -75,14 +75,14 @@ module _ {S E : Type 0} (means : StoreModel S) (answers : Answers E) where
   edit_keeps place old new (edit.Upsert path kind id) edit_reply.Done h = let it =
       of_some _ _ h in ap (λ (s : State S). means.objects s.store) it.2.rest
   edit_keeps place old new (edit.Upsert path kind id) (edit_reply.Refused error) h = let it =
-      of_some _ _ h.0.remaining in ap (λ (s : State S). means.objects s.store) it.2.rest
+      of_some _ _ h.0.effect in ap (λ (s : State S). means.objects s.store) it.2.rest
   edit_keeps place old new (edit.Remove path) edit_reply.Done h = let it = of_some _ _ h in ap (λ (s : State S). means.objects s.store) it.2.rest
   edit_keeps place old new (edit.Remove path) (edit_reply.Refused error) h = let it =
-      of_some _ _ h.remaining in ap (λ (s : State S). means.objects s.store) it.2.rest
+      of_some _ _ h.effect in ap (λ (s : State S). means.objects s.store) it.2.rest
   edit_keeps place old new (edit.RemoveLeaf path) edit_reply.Done h = let it =
       of_some _ _ h in ap (λ (s : State S). means.objects s.store) it.2.removed.rest
   edit_keeps place old new (edit.RemoveLeaf path) (edit_reply.Refused error) h = let it =
-      of_some _ _ h.remaining in ap (λ (s : State S). means.objects s.store) it.2.rest
+      of_some _ _ h.effect in ap (λ (s : State S). means.objects s.store) it.2.rest
   edit_keeps place old new edit.Write (edit_reply.Written written) h = h.stored.0
   edit_keeps place old new edit.Write (edit_reply.NotKept written count error) h = h.stored.stored
   edit_keeps place old new edit.Write (edit_reply.WriteRefused error) h = ap (λ (s : State S). means.objects s.store) h.unchanged
@@ -111,7 +111,7 @@ module _ {S E : Type 0} (means : StoreModel S) (answers : Answers E) where
       (ensured_keeps prefix old between ensured)
       (edits_keep (at_cursor prefix) between new edits replies.items rest)
   at_keeps prefix old new edits (reply.AtRefused error) h = ⊎_elim (λ wanting. ap (λ (s : State S). means.objects s.store) wanting.1)
-      (λ rejected. let it = of_some _ _ rejected.0.remaining in ap (λ (s : State S). means.objects s.store) it.2.rest) h
+      (λ rejected. let it = of_some _ _ rejected.0.effect in ap (λ (s : State S). means.objects s.store) it.2.rest) h
   at_keeps prefix old new edits its_reply h = absurd h
 
   -- the store changes by the trees that the reply reports as kept
@@ -176,13 +176,13 @@ module _ {S E : Type 0} (means : StoreModel S) (answers : Answers E) where
         → AgreesWithObjects T (means.objects old.store) → HasBases T (open_dirs old) (open_bases old) → HasBases T (open_dirs new) (open_bases new)
     edit_based place old new (edit.Upsert path kind id) edit_reply.Done h agrees has = let it = agreed old _ agrees h in it.2.has_bases T it.1 has
     edit_based place old new (edit.Upsert path kind id) (edit_reply.Refused error) h agrees has = let it =
-        agreed old _ agrees h.0.remaining in it.2.has_bases T it.1 has
+        agreed old _ agrees h.0.effect in it.2.has_bases T it.1 has
     edit_based place old new (edit.Remove path) edit_reply.Done h agrees has = let it = agreed old _ agrees h in it.2.has_bases T it.1 has
     edit_based place old new (edit.Remove path) (edit_reply.Refused error) h agrees has = let it =
-        agreed old _ agrees h.remaining in it.2.has_bases T it.1 has
+        agreed old _ agrees h.effect in it.2.has_bases T it.1 has
     edit_based place old new (edit.RemoveLeaf path) edit_reply.Done h agrees has = let it = agreed old _ agrees h in it.2.removed.has_bases T it.1 has
     edit_based place old new (edit.RemoveLeaf path) (edit_reply.Refused error) h agrees has = let it =
-        agreed old _ agrees h.remaining in it.2.has_bases T it.1 has
+        agreed old _ agrees h.effect in it.2.has_bases T it.1 has
     edit_based place old new edit.Write (edit_reply.Written written) h agrees has = write_based place old new written _ h has
     edit_based place old new edit.Write (edit_reply.NotKept written count error) h agrees has = write_based place old new written _ h has
     edit_based place old new edit.Write (edit_reply.WriteRefused error) h agrees has = unmoved old new h.unchanged has
@@ -210,7 +210,7 @@ module _ {S E : Type 0} (means : StoreModel S) (answers : Answers E) where
         (ensured_keeps prefix old between ensured) agrees) (it.2.has_bases T it.1 has)
     at_based prefix old new edits (reply.AtRefused error) h agrees has =
         ⊎_elim (λ wanting. unmoved old new wanting.1 has)
-        (λ rejected. let it = agreed old _ (agrees zero) rejected.0.remaining in it.2.has_bases T it.1 has) h
+        (λ rejected. let it = agreed old _ (agrees zero) rejected.0.effect in it.2.has_bases T it.1 has) h
     at_based prefix old new edits its_reply h agrees has = absurd h
 
     command_based : (old new : State S) (it : Command) (its_reply : Reply E) → IsReply means answers old it its_reply new
@@ -228,13 +228,13 @@ module _ {S E : Type 0} (means : StoreModel S) (answers : Answers E) where
         → SameFiles (EditorFiles T n new) (History T n (steps_of_edit place it its_reply) (EditorFiles T n old))
     edit_files place old new (edit.Upsert path kind id) edit_reply.Done h agrees pairs has = let it = agreed old _ agrees h in it.2.files T n it.1
     edit_files place old new (edit.Upsert path kind id) (edit_reply.Refused error) h agrees pairs has = let it =
-        agreed old _ agrees h.0.remaining in it.2.files T n it.1
+        agreed old _ agrees h.0.effect in it.2.files T n it.1
     edit_files place old new (edit.Remove path) edit_reply.Done h agrees pairs has = let it = agreed old _ agrees h in it.2.files T n it.1
     edit_files place old new (edit.Remove path) (edit_reply.Refused error) h agrees pairs has = let it =
-        agreed old _ agrees h.remaining in it.2.files T n it.1
+        agreed old _ agrees h.effect in it.2.files T n it.1
     edit_files place old new (edit.RemoveLeaf path) edit_reply.Done h agrees pairs has = let it = agreed old _ agrees h in it.2.removed.files T n it.1
     edit_files place old new (edit.RemoveLeaf path) (edit_reply.Refused error) h agrees pairs has = let it =
-        agreed old _ agrees h.remaining in it.2.files T n it.1
+        agreed old _ agrees h.effect in it.2.files T n it.1
     edit_files place old new edit.Write (edit_reply.Written written) h agrees pairs has = write_files place old new written _ h pairs has
     edit_files place old new edit.Write (edit_reply.NotKept written count error) h agrees pairs has = write_files place old new written _ h pairs has
     edit_files place old new edit.Write (edit_reply.WriteRefused error) h agrees pairs has = unchanged old new h.unchanged
@@ -272,7 +272,7 @@ module _ {S E : Type 0} (means : StoreModel S) (answers : Answers E) where
         (agrees_throughout_suffix T [] (flat_map kept_of_edit replies.items) (means.objects old.store) (means.objects between.store)
         (ensured_keeps prefix old between ensured) agrees) pairs (it.2.has_bases T it.1 has))
     at_files prefix old new edits (reply.AtRefused error) h agrees pairs has =
-        ⊎_elim (λ wanting. unchanged old new wanting.1) (λ rejected. let it = agreed old _ (agrees zero) rejected.0.remaining in it.2.files T n it.1)
+        ⊎_elim (λ wanting. unchanged old new wanting.1) (λ rejected. let it = agreed old _ (agrees zero) rejected.0.effect in it.2.files T n it.1)
         h
     at_files prefix old new edits its_reply h agrees pairs has = absurd h
 

@@ -36,7 +36,7 @@ module _ {S E : Type 0} (means : StoreModel S) (answers : Answers E) (place : Pl
   failed_reply : (Rejects : List BString → Trees → Type 0) → Of (λ trees. IsAfterFailedEdit trees old (path_at place (names_of lent)) new) → Of (Rejects lent)
       → IsFailedEdit means (Rejects path.items) old (path_at place (names_of path.items)) new
   failed_reply Rejects pending failure = subst (λ (l : List BString). IsFailedEdit means (Rejects l) old (path_at place (names_of l)) new) is
-      (record { remaining = pending; cause = failure })
+      (record { effect = pending; cause = failure })
 
   abbrev Upserts : List BString → Error → Trees → Type 0
   Upserts l error trees = IsEditErrorAt place (names_of l) (IsUpsertError (means.objects old.store) (means.may_fail old.store) trees (open_dirs old)

@@ -80,11 +80,11 @@ module _ {S : Type 0} (means : StoreModel S) where
 
     pub failed_stays : (old new : State S) (it : Edit) (error : Error) → IsReplied means old it (reply.Refused error) new → new.store ≡ old.store
     failed_stays old new (edit.Upsert path kind id) error is = let trees = trees_of (means.objects old.store) in ap (λ (s : State S). s.store)
-        (is.0.remaining trees.0 trees.1).rest
+        (is.0.effect trees.0 trees.1).rest
     failed_stays old new (edit.Remove path) error is = let trees = trees_of (means.objects old.store) in ap (λ (s : State S). s.store)
-        (is.remaining trees.0 trees.1).rest
+        (is.effect trees.0 trees.1).rest
     failed_stays old new (edit.RemoveLeaf path) error is = let trees = trees_of (means.objects old.store) in ap (λ (s : State S). s.store)
-        (is.remaining trees.0 trees.1).rest
+        (is.effect trees.0 trees.1).rest
     failed_stays old new edit.Write error is = absurd is
 
     module _ (T : Table) where

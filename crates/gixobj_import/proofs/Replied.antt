@@ -28,7 +28,7 @@ module _ {S : Type 0} (means : StoreModel S) (old new : State S) (path : Vec BSt
   failed_reply : (Rejects : List BString → Trees → Type 0) → Of (λ trees. IsAfterFailedEdit trees old (names_of lent) new) → Of (Rejects lent)
       → IsFailedEdit means (Rejects path.items) old (names_of path.items) new
   failed_reply Rejects pending failure = subst (λ (l : List BString). IsFailedEdit means (Rejects l) old (names_of l) new) is
-      (record { remaining = pending; cause = failure })
+      (record { effect = pending; cause = failure })
 
   abbrev Upserts : List BString → Error → Trees → Type 0
   Upserts l error trees = IsUpsertError (means.objects old.store) (means.may_fail old.store) trees (open_dirs old) (names_of l) error

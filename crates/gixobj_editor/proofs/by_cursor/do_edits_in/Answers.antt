@@ -33,4 +33,4 @@ returns-in-Err g c =
     let rejected : OfTrees (g.S.Store.objects c.args.editor.now.store)
     (λ trees. IsAfterFailedEdit trees c.args.editor.now (inside (cursor_path (names_of c.args.prefix.now))) pending)
     × (IsNameError c.in-Err.error → pending ≡ c.args.editor.now) = search rules in
-    record { reply = inr (record { remaining = rejected.0; cause = (c.in-Err.ensures {u = tt}).error }, rejected.1) }
+    record { reply = inr (record { effect = rejected.0; cause = (c.in-Err.ensures {u = tt}).error }, rejected.1) }
