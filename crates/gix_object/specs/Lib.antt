@@ -6,7 +6,6 @@ pub use Rattle.gixobj_codec.specs.Agreeing
 pub use Rattle.gixobj_codec.specs.LineFields
 pub use Rattle.gixobj_codec.specs.OneMarker
 pub use Rattle.gixobj_codec.specs.SignedEncodings
-pub use Rattle.gixobj_commit.specs.Commit
 pub use Rattle.gixobj_commit.specs.CommitOwned
 pub use Rattle.gixobj_commit.specs.CommitSigning
 pub use Rattle.gixobj_commit.specs.CommitViews
@@ -72,7 +71,10 @@ pub use Rattle.gixobj_import.specs.Edited
 pub use Rattle.gixobj_import.specs.Imports
 pub use Rattle.gixobj_import.specs.Steps
 pub use Rattle.gixobj_import.specs.declared as import
+pub use Rattle.gixobj_line.specs.Commit
 pub use Rattle.gixobj_line.specs.Lines
+pub use Rattle.gixobj_line.specs.TagLines
+pub use Rattle.gixobj_line.specs.TagPrefix
 pub use Rattle.gixobj_line.specs.declared as line
 pub use Rattle.gixobj_mode.specs.Mode
 pub use Rattle.gixobj_mode.specs.ModeNumber
@@ -114,7 +116,6 @@ pub use Rattle.gixobj_signature.specs.Verifiers
 pub use Rattle.gixobj_signature.specs.Verifying
 pub use Rattle.gixobj_signature.specs.VerifyingCalls
 pub use Rattle.gixobj_signature.specs.declared as signature
-pub use Rattle.gixobj_tag.specs.LineReading
 pub use Rattle.gixobj_tag.specs.NameRule
 pub use Rattle.gixobj_tag.specs.Rewriting as TagRewriting
 pub use Rattle.gixobj_tag.specs.Signed

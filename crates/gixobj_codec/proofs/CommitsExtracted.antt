@@ -19,7 +19,7 @@ use Rattle.gixobj_fields.specs.HeaderFormat.{EndsHeader, HasField, HasHeader, He
 use Rattle.gixobj_fields.specs.Runs.{Passes}
 use Rattle.gixobj_hash.specs.declared.hash.kind.Kind.{Kind}
 use Rattle.gixobj_hash.specs.declared.hash.kind.Kind.TheVariants as hash
-use Rattle.gixobj_commit.specs.Commit.{DecodesToHeaders, CommitLines, before_encoding, encode_encoding, encode_ids, encode_parent}
+use Rattle.gixobj_line.specs.Commit.{DecodesToHeaders, CommitLines, before_encoding, encode_encoding, encode_ids, encode_parent}
 use Rattle.gixobj_line.specs.Lines.{HasLine, LineView, author_comes, committer_comes, encoding_comes, first_header_comes, first_message_comes, header_comes, header_line, message_comes, parent_comes, tree_comes}
 use Rattle.gixobj_line.specs.declared.lines.State.{State}
 use Rattle.gixobj_line.specs.declared.lines.State.TheVariants as state

@@ -10,9 +10,9 @@ use Rattle.gixobj_fields.specs.HeaderFormat.{EndsHeader, HasHeader, HasNoHeader,
 use Rattle.gixobj_fields.specs.Runs.{Yields, broken, complete, yields_end, yields_error, yields_piece}
 use Rattle.gixobj_hash.specs.declared.decode.Error.TheVariants.{Malformed}
 use Rattle.gixobj_hash.specs.declared.hash.kind.Kind.{Kind}
-use Rattle.gixobj_commit.proofs.LinesYielded.{yields_lines_of_commit}
+use Rattle.gixobj_line.proofs.LinesYielded.{yields_lines_of_commit}
 use Rattle.gixobj_line.proofs.OneLine.{header_len_lt, no_header_of_newline, no_line_of_nil, line_unique}
-use Rattle.gixobj_commit.specs.Commit.{DecodesToHeaders, CommitLines, DecodesToCommit, lines_of_commit}
+use Rattle.gixobj_line.specs.Commit.{DecodesToHeaders, CommitLines, DecodesToCommit, lines_of_commit}
 use Rattle.gixobj_line.specs.Lines.{HasLine, LineView}
 use Rattle.gixobj_line.specs.declared.lines.State.{State}
 use Rattle.gixobj_line.specs.declared.lines.State.TheVariants as state

@@ -6,7 +6,7 @@ use Rattle.gixobj_commit.specs.CommitWriting.{IsOwnedCommitError, encode_commit}
 use Rattle.gixobj_commit.specs.declared.commit.Commit.{Commit}
 use Rattle.gixobj_fields.specs.Writing.{RejectsNothing}
 use Rattle.gixobj_hash.specs.Hash.{id_kind}
-use Rattle.gixobj_commit.specs.Commit.{CommitLines}
+use Rattle.gixobj_line.specs.Commit.{CommitLines}
 use Rattle.gixobj_signature.specs.Calls.{Answer, CallView}
 use Rattle.gixobj_signature.specs.Plans.{Carries}
 use Rattle.gixobj_signature.specs.Signing.{options_view, sign_plan, signature}

@@ -14,7 +14,7 @@ use Rattle.gixobj_text.specs.declared.signature.Format.{Format}
 use Rattle.gixobj_text.specs.declared.signature.SignatureRef.{SignatureRef}
 use Rattle.gixobj_ref_iter.specs.TagExtracting.{FindsSignatureOfTag, HasTagSignature}
 use Rattle.gixobj_tag.proofs.EntireTags.{Reads, parts_of_decoded_tag}
-use Rattle.gixobj_tag.specs.LineReading.{HasTagger}
+use Rattle.gixobj_line.specs.TagLines.{HasTagger}
 use Rattle.gixobj_tag.specs.Signed.{IsSignature}
 use Rattle.gixobj_tag.specs.TagFormat.{IsBody, IsParted, DecodesToTag, TagLines, are_newlines, after_a_newline, encode_tag_lines, newlines_alone, signed, signed_at_once, encode_tagger, unsigned}
 use Rattle.gixobj_hash.proofs.Splits.{byte_free_of_all_pass}

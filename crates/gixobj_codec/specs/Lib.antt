@@ -6,7 +6,6 @@ pub use Rattle.gixobj_actor.specs.Actor
 pub use Rattle.gixobj_actor.specs.ActorWriting
 pub use Rattle.gixobj_actor.specs.Date
 pub use Rattle.gixobj_actor.specs.declared as actor
-pub use Rattle.gixobj_commit.specs.Commit
 pub use Rattle.gixobj_commit.specs.CommitOwned
 pub use Rattle.gixobj_commit.specs.CommitSigning
 pub use Rattle.gixobj_commit.specs.CommitViews
@@ -32,7 +31,10 @@ pub use Rattle.gixobj_hash.specs.Kind
 pub use Rattle.gixobj_hash.specs.Optional
 pub use Rattle.gixobj_hash.specs.ByteStrings
 pub use Rattle.gixobj_hash.specs.declared as hash
+pub use Rattle.gixobj_line.specs.Commit
 pub use Rattle.gixobj_line.specs.Lines
+pub use Rattle.gixobj_line.specs.TagLines
+pub use Rattle.gixobj_line.specs.TagPrefix
 pub use Rattle.gixobj_line.specs.declared as line
 pub use Rattle.gixobj_object.specs.BorrowedObjects
 pub use Rattle.gixobj_object.specs.Checksums
@@ -57,7 +59,6 @@ pub use Rattle.gixobj_ref_iter.specs.TokenFilters
 pub use Rattle.gixobj_ref_iter.specs.CommitTokenSteps
 pub use Rattle.gixobj_ref_iter.specs.TokenSearch
 pub use Rattle.gixobj_ref_iter.specs.declared as ref_iter
-pub use Rattle.gixobj_tag.specs.LineReading
 pub use Rattle.gixobj_tag.specs.NameRule
 pub use Rattle.gixobj_tag.specs.Rewriting as TagRewriting
 pub use Rattle.gixobj_tag.specs.Signed

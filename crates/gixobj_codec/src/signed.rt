@@ -8,7 +8,7 @@ ghost use Rattle.gixobj_fields.specs.Writing.{RejectsNothing};
 ghost use Rattle.gixobj_hash.specs.Hash.{id_kind};
 ghost use Rattle.gixobj_hash.specs.declared.decode.Error.TheVariants.{Malformed};
 ghost use Rattle.gixobj_hash.specs.declared.hash.kind.Kind.{Kind};
-ghost use Rattle.gixobj_commit.specs.Commit.{CommitLines, DecodesToCommit};
+ghost use Rattle.gixobj_line.specs.Commit.{CommitLines, DecodesToCommit};
 ghost use Rattle.gixobj_codec.specs.Agreeing.{AreTheSame};
 ghost use Rattle.gixobj_codec.specs.LineFields.{HasHeaderNames, HasLineFields};
 ghost use Rattle.gixobj_codec.specs.OneMarker.{HasOneMarker};

@@ -11,7 +11,7 @@ use Rattle.gixobj_commit.specs.ExtraHeaders.{signature_field}
 use Rattle.gixobj_fields.specs.Writing.{IsEncodingError, RejectedValue, RejectsNothing}
 use Rattle.gixobj_fields.specs.declared.encode.Error as encode
 use Rattle.gixobj_hash.specs.Hash.{id_kind}
-use Rattle.gixobj_commit.specs.Commit.{CommitLines}
+use Rattle.gixobj_line.specs.Commit.{CommitLines}
 use Rattle.gixobj_signature.specs.Calls.{Answer, CallView}
 use Rattle.gixobj_signature.specs.Plans.{BeginsPlan, Carries, IsCarriedOut, Plan, run_then, done, no_more}
 use Rattle.gixobj_signature.specs.Signing.{options_view, sign_plan, signature, signer_error}

@@ -20,7 +20,7 @@ use Rattle.gixobj_fields.specs.Writing.{RejectedValue, RejectsNothing}
 use Rattle.gixobj_hash.specs.declared.hash.object_id.ObjectId.{ObjectId}
 use Rattle.gixobj_hash.proofs.HexCase.{encode_id_hex_lower_case}
 use Rattle.gixobj_fields.proofs.Steps.{IsInParts, in_parts}
-use Rattle.gixobj_commit.specs.Commit.{before_encoding, encode_encoding, encode_ids, encode_parent}
+use Rattle.gixobj_line.specs.Commit.{before_encoding, encode_encoding, encode_ids, encode_parent}
 use Rattle.gixobj_commit.specs.CommitViews.{commit_lines, owned_commit_lines}
 use Rattle.gixobj_hash.specs.Optional.{bytes_if_some, owned_bytes_if_some}
 use Rattle.gixobj_commit.specs.CommitWriting.{IsEncodingError, IsCommitLinesError, IsOwnedCommitError, encode_commit, hex_parent, in_lower_case, IsEncodingLineError}

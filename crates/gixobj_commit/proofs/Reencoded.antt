@@ -10,7 +10,7 @@ use Rattle.gixobj_hash.specs.declared.hash.kind.Kind.{Kind}
 use Rattle.gixobj_fields.proofs.FieldWrites.{no_byte_of_byte_free}
 use Rattle.gixobj_fields.proofs.HeadersRoundTrip.{header_round_trips}
 use Rattle.gixobj_hash.proofs.HexCase.{lower_case_of_lower_hex}
-use Rattle.gixobj_commit.specs.Commit.{DecodesToHeaders, CommitLines, DecodesToCommit, IsEncoding, encode_encoding, encode_parent}
+use Rattle.gixobj_line.specs.Commit.{DecodesToHeaders, CommitLines, DecodesToCommit, IsEncoding, encode_encoding, encode_parent}
 use Rattle.gixobj_commit.specs.CommitWriting.{IsEncodingError, IsCommitLinesError, encode_commit, in_lower_case}
 use Rattle.gixobj_fields.specs.FieldWriting.{encode_header}
 

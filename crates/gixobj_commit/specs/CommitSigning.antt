@@ -12,7 +12,7 @@ use Rattle.gixobj_fields.specs.declared.encode.Error as encode
 use Rattle.gixobj_hash.specs.Hash.{id_kind}
 use Rattle.gixobj_hash.specs.declared.decode.Error as decode
 use Rattle.gixobj_hash.specs.declared.hash.kind.Kind.{Kind}
-use Rattle.gixobj_commit.specs.Commit.{CommitLines}
+use Rattle.gixobj_line.specs.Commit.{CommitLines}
 use Rattle.gixobj_signature.specs.Calls.{Answer, CallView}
 use Rattle.gixobj_signature.specs.Plans.{Carries, IsCarriedOut}
 use Rattle.gixobj_signature.specs.Signing.{options_view, sign_plan, signature, signer_error}

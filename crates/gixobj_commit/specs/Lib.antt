@@ -1,10 +1,8 @@
-pub mod Commit
 pub mod CommitOwned
 pub mod CommitSigning
 pub mod CommitViews
 pub mod CommitWriting
 pub mod ExtraHeaders
-pub mod Gathering
 pub mod RemainingHeaders
 pub mod Mergetags
 pub mod RemainingParents
@@ -22,4 +20,5 @@ pub use Rattle.gixobj_hash.specs.Encode
 pub use Rattle.gixobj_hash.specs.Hash
 pub use Rattle.gixobj_hash.specs.Kind
 pub use Rattle.gixobj_hash.specs.ByteStrings
+pub use Rattle.gixobj_line.specs.Commit
 pub use Rattle.gixobj_line.specs.Lines

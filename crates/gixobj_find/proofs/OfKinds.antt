@@ -7,7 +7,7 @@ use Rattle.gixobj_hash.specs.declared.hash.kind.Kind as hash
 use Rattle.gixobj_hash.specs.declared.hash.object_id.ObjectId.{ObjectId}
 use Rattle.gixobj_hash.specs.declared.kind.Kind.{Kind}
 use Rattle.gixobj_hash.specs.declared.kind.Kind.TheVariants as kind
-use Rattle.gixobj_commit.specs.Commit.{DecodesToCommit}
+use Rattle.gixobj_line.specs.Commit.{DecodesToCommit}
 use Rattle.gixobj_object.specs.ObjectReading.{DecodesToObject}
 use Rattle.gixobj_object.specs.declared.object.borrowed.ObjectRef.TheVariants as ref
 use Rattle.gixobj_tag.specs.TagFormat.{DecodesToTag}

@@ -15,7 +15,7 @@ use Rattle.gixobj_hash.specs.Hash.{encode_id_hex}
 use Rattle.gixobj_hash.specs.Hash.Hex.{IsIdHexOfKind}
 use Rattle.gixobj_hash.specs.declared.hash.kind.Kind as hash
 use Rattle.gixobj_hash.specs.declared.hash.object_id.ObjectId.{ObjectId}
-use Rattle.gixobj_commit.specs.Commit.{CommitLines, DecodesToCommit}
+use Rattle.gixobj_line.specs.Commit.{CommitLines, DecodesToCommit}
 use Rattle.gixobj_hash.specs.ByteStrings.{IsByteFree}
 use Rattle.gixobj_import.specs.Commits.{NamesSignature, SameActor, only_parent, step_commit, encode_step}
 use Rattle.gixobj_import.specs.Steps.{HaveHex}

@@ -8,7 +8,7 @@ use Rattle.gixobj_actor.specs.declared.actor.Signature.{Signature}
 use Rattle.gixobj_commit.specs.CommitWriting.{encode_commit}
 use Rattle.gixobj_hash.specs.Hash.{encode_id_hex}
 use Rattle.gixobj_hash.specs.declared.hash.object_id.ObjectId.{ObjectId}
-use Rattle.gixobj_commit.specs.Commit.{CommitLines}
+use Rattle.gixobj_line.specs.Commit.{CommitLines}
 use Rattle.gixobj_import.specs.declared.import.Step.{Step}
 
 -- the commit before it as the only parent, or no parent

@@ -14,7 +14,7 @@ use Rattle.gixobj_hash.specs.declared.hash.kind.Kind as hash
 use Rattle.gixobj_hash.specs.declared.hash.object_id.ObjectId.{ObjectId}
 use Rattle.gixobj_hash.specs.declared.kind.Kind.TheVariants.{Commit}
 use Rattle.gixobj_find.specs.Keeping.{with_commit, with_trees}
-use Rattle.gixobj_commit.specs.Commit.{DecodesToCommit}
+use Rattle.gixobj_line.specs.Commit.{DecodesToCommit}
 use Rattle.gixobj_editor.specs.RunTables.{AgreesWithObjects}
 use Rattle.gixobj_import.specs.ByDigest.{NamesCommit}
 use Rattle.gixobj_import.specs.Commits.{NamesSignature, step_commit, encode_step}

@@ -13,7 +13,7 @@ use Rattle.gixobj_hash.specs.declared.hash.object_id.ObjectId.{ObjectId}
 use Rattle.gixobj_hash.specs.declared.kind.Kind.TheVariants.{Commit}
 use Rattle.gixobj_find.specs.Keeping.{IsKeepCommitError, with_commit}
 use Rattle.gixobj_find.specs.declared.keeping.KeepError.{KeepError}
-use Rattle.gixobj_commit.specs.Commit.{DecodesToCommit}
+use Rattle.gixobj_line.specs.Commit.{DecodesToCommit}
 use Rattle.gixobj_editor.specs.declared.reply.EditReply.TheVariants as reply
 use Rattle.gixobj_import.specs.Commits.{NamesSignature, only_parent, step_commit, encode_step}
 use Rattle.gixobj_import.specs.Edited.{AreDone, IsFailedAt, IsWriteAfter, IsWriteReplied}

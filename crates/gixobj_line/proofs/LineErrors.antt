@@ -46,7 +46,7 @@ has_line_at_encoding kind input piece following rest lacks (header_comes _ heade
     (λ same. let tail = header_name_prefix input header rest has in lacks tail.0 (tail.1 ∙ ap (λ (name : List ℕ). name ++ 32 ∷ tail.0) same))
 has_line_at_encoding kind input piece following rest lacks (message_comes _ message is) = first_message_comes input message is
 
-no_first : (kind : Kind) (input : List ℕ) → ((after : List ℕ) → input ≢ codes "encoding" ++ 32 ∷ after)
+pub no_first : (kind : Kind) (input : List ℕ) → ((after : List ℕ) → input ≢ codes "encoding" ++ 32 ∷ after)
     → HasNoPiece (HasLine kind) state.ExtraHeaders input
     → HasNoPiece (HasLine kind) state.Encoding input
 no_first kind input lacks none piece following rest (encoding_comes _ encoding _ has) = lacks _ (input_of_flat_field (codes "encoding") input encoding rest has)

@@ -77,6 +77,10 @@ pub data HasLine (kind : Kind) : State → List ℕ → LineView → State → L
   message_comes : (input message : List ℕ) → input ≡ newline ∷ message
       → HasLine kind state.ExtraHeaders input (message_line message) state.End []
 
+-- in this state the input begins with some line, and the rest follows in the next state
+abbrev pub HasSomeLine : Kind → State → List ℕ → State → List ℕ → Type 0
+HasSomeLine kind before input after rest = (line : LineView) × HasLine kind before input line after rest
+
 -- a header of several lines may come in this state; directly after the committer its name is not `encoding`, since
 -- the encoding has one line
 abbrev pub MayFold : State → List ℕ → Type 0

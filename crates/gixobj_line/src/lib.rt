@@ -1,5 +1,7 @@
-//! The next line of a commit, by the state of its decoder (gitdatamodel, "commits"). The decoders of entire
-//! commits and of commit tokens, in crates above, use it.
+//! The lines of commits and of tags (gitdatamodel, "commits", "tag objects"), for the decoders in crates above.
+//! Also whether bytes are the encoding of a commit or of a tag at all, which allocates nothing.
 #![tactic(auto)]
 
+pub mod commits;
 pub mod lines;
+pub mod tags;

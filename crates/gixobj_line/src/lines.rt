@@ -1,18 +1,25 @@
-//! Decodes the line at the beginning of a commit's remaining bytes, by the state of the decoder.
-ghost use Rattle.std.specs.Prelude.{◌≡◌, ◌≢◌, ◌∷◌, ℕ, List, IfErr, IfNone, IfOk, IfSome, MatchOption};
+//! Decodes or skips the line at the beginning of a commit's remaining bytes, by the state of the decoder.
+ghost use Rattle.std.specs.Prelude.{◌≡◌, ◌≢◌, ◌∷◌, [], ℕ, List, IfErr, IfNone, IfOk, IfSome, MatchBool, MatchOption};
 ghost use Rattle.bstr.specs.BStr.{bstr_bytes};
 ghost use Rattle.gixobj_actor.specs.Actor.{IsActorOf, actor_view};
+ghost use Rattle.gixobj_fields.specs.HeaderFormat.{HasHeader, HasNoHeader, Header, IsHeaderName};
+ghost use Rattle.gixobj_fields.specs.HeaderReading.{HasLines, HasNoLines};
+ghost use Rattle.gixobj_fields.specs.Runs.{HasNoPiece};
+ghost use Rattle.gixobj_hash.specs.ByteStrings.{IsByteFree};
 ghost use Rattle.gixobj_hash.specs.declared.hash.kind.Kind.{Kind};
-ghost use Rattle.gixobj_line.specs.Lines.{HasActor, HasLine, HasNoActor, IsParsedLine, IsLineError, line_view};
+ghost use Rattle.gixobj_line.specs.Lines.{HasActor, HasLine, HasNoActor, HasSomeLine, IsLineError, IsParsedLine, line_view};
 ghost use Rattle.gixobj_line.specs.declared.lines.State.TheVariants as state;
 ghost use Rattle.gixobj_hash.specs.Bytes.{newline};
 
 use bstr::BStr;
 use gixobj_actor::actor::SignatureRef;
 use gixobj_actor::parse::signature_of_line;
-use gixobj_fields::parse::{after_name, after_newline, any_header_field, header_field, header_id};
+use gixobj_fields::parse::{
+    after_name, after_newline, after_space, any_header_field, header_field, header_id,
+};
 use gixobj_hash::decode::Error;
 use gixobj_hash::hash::Kind;
+use gixobj_hash::split::{has_byte, split_at_byte};
 use std::alloc::Global;
 use std::borrow::CowSlice;
 
@@ -186,4 +193,146 @@ fn actor_line<'a>(input: &'a [u8], name: &[u8]) -> Option<(BStr<'a>, SignatureRe
         return None;
     };
     Some((BStr::new(line), actor, rest))
+}
+
+/// Skips the line of a commit at the beginning of the input, in the state `before`.
+///
+/// Returns the state after it and the rest of the input. Returns `None` if the input begins with no line that
+/// may come in this state. Ids are hex of the hash function `kind`. Allocates nothing.
+pub fn after_line(before: State, kind: Kind, input: &[u8]) -> Option<(State, &[u8])>
+    ensures found { IfSome result (λ it. HasSomeLine kind before input.now it.0 it.1.now) }
+    ensures none { IfNone result (HasNoPiece (HasLine kind) before input.now) }
+{
+    match before {
+        State::Tree => after_tree(kind, input),
+        State::Parents => after_parent_or_author(kind, input),
+        State::Committer => after_committer(input),
+        State::Encoding => after_encoding_or_header(input),
+        State::ExtraHeaders => after_header_or_message(input),
+        State::End => None,
+    }
+}
+
+/// Skips the tree.
+#[tactic(auto, using(crate::proofs::SkippedLines::no_tree))]
+fn after_tree(kind: Kind, input: &[u8]) -> Option<(State, &[u8])>
+    ensures found { IfSome result (λ it. HasSomeLine kind state.Tree input.now it.0 it.1.now) }
+    ensures none { IfNone result (HasNoPiece (HasLine kind) state.Tree input.now) }
+{
+    let Some((_, rest)) = header_id(input, b"tree", kind) else {
+        return None;
+    };
+    Some((State::Parents, rest))
+}
+
+/// Skips a parent, or else the author.
+#[tactic(auto, using(crate::proofs::SkippedLines::no_parent_or_author))]
+fn after_parent_or_author(kind: Kind, input: &[u8]) -> Option<(State, &[u8])>
+    ensures found { IfSome result (λ it. HasSomeLine kind state.Parents input.now it.0 it.1.now) }
+    ensures none { IfNone result (HasNoPiece (HasLine kind) state.Parents input.now) }
+{
+    if let Some((_, rest)) = header_id(input, b"parent", kind) {
+        return Some((State::Parents, rest));
+    }
+    let Some((_, _, rest)) = actor_line(input, b"author") else {
+        return None;
+    };
+    Some((State::Committer, rest))
+}
+
+/// Skips the committer.
+#[tactic(auto, using(crate::proofs::SkippedLines::no_committer))]
+fn after_committer(input: &[u8]) -> Option<(State, &[u8])>
+    ensures found { (kind : Kind) → IfSome result
+        (λ it. HasSomeLine kind state.Committer input.now it.0 it.1.now) }
+    ensures none { (kind : Kind) → IfNone result
+        (HasNoPiece (HasLine kind) state.Committer input.now) }
+{
+    let Some((_, _, rest)) = actor_line(input, b"committer") else {
+        return None;
+    };
+    Some((State::Encoding, rest))
+}
+
+/// Skips the encoding if its name comes, and else a header or the message.
+fn after_encoding_or_header(input: &[u8]) -> Option<(State, &[u8])>
+    ensures found { (kind : Kind) → IfSome result
+        (λ it. HasSomeLine kind state.Encoding input.now it.0 it.1.now) }
+    ensures none { (kind : Kind) → IfNone result
+        (HasNoPiece (HasLine kind) state.Encoding input.now) }
+{
+    let Some(_) = after_name(input, b"encoding") else {
+        return after_header_or_message(input);
+    };
+    let Some((_, rest)) = header_field(input, b"encoding") else {
+        return None;
+    };
+    Some((State::ExtraHeaders, rest))
+}
+
+/// Skips the message after an empty line, or else a header.
+#[tactic(auto, using(crate::proofs::LineErrors::no_line_at_headers))]
+fn after_header_or_message(input: &[u8]) -> Option<(State, &[u8])>
+    ensures found { (kind : Kind) → IfSome result
+        (λ it. HasSomeLine kind state.ExtraHeaders input.now it.0 it.1.now) }
+    ensures none { (kind : Kind) → IfNone result
+        (HasNoPiece (HasLine kind) state.ExtraHeaders input.now) }
+{
+    if let Some(_) = after_newline(input) {
+        return Some((State::End, b""));
+    }
+    let Some(rest) = after_header(input) else {
+        return None;
+    };
+    Some((State::ExtraHeaders, rest))
+}
+
+/// Skips the header at the beginning of the input, with its continuation lines, and returns the rest.
+///
+/// Returns `None` if the input begins with no header.
+fn after_header(input: &[u8]) -> Option<&[u8]>
+    ensures found { IfSome result
+        (λ rest. (header : Header) × HasHeader input.now header rest.now) }
+    ensures none { IfNone result (HasNoHeader input.now) }
+{
+    let Some((name, following)) = split_at_byte(input, b' ') else {
+        return None;
+    };
+    if !is_header_name(name) {
+        return None;
+    }
+    let Some((_, after)) = split_at_byte(following, b'\n') else {
+        return None;
+    };
+    let Some(rest) = after_continuations(after) else {
+        return None;
+    };
+    Some(rest)
+}
+
+/// Whether bytes without a space are the name of a header: not empty, and without newline.
+fn is_header_name(name: &[u8]) -> bool
+    ensures { MatchBool result ((name.now ≢ []) × IsByteFree newline name.now)
+        (¬ IsHeaderName name.now) }
+{
+    !name.is_empty() && !has_byte(name, b'\n')
+}
+
+/// Skips the continuation lines at the beginning of the input, and returns the rest.
+///
+/// Returns `None` if one of them doesn't end in a newline.
+#[tactic(auto, using(crate::proofs::SkippedLines::consumed_start, crate::proofs::SkippedLines::consumed_end, gixobj_fields::proofs::HeaderFields::unfolding_len_lt))]
+fn after_continuations(input: &[u8]) -> Option<&[u8]>
+    ensures found { IfSome result
+        (λ rest. (more : List (List ℕ)) × HasLines input.now more rest.now) }
+    ensures none { IfNone result (HasNoLines input.now) }
+{
+    let mut rest = input;
+    while let Some(following) = after_space(rest) {
+        let Some((_, after)) = split_at_byte(following, b'\n') else {
+            return None;
+        };
+        rest = after;
+    }
+    Some(rest)
 }

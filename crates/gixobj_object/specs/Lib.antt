@@ -8,7 +8,7 @@ pub mod Objects
 pub mod Parts
 pub mod Stores
 pub mod TreeReaders
-pub use Rattle.gixobj_commit.specs.Commit
+pub use Rattle.gixobj_line.specs.Commit
 pub use Rattle.gixobj_commit.specs.CommitOwned
 pub use Rattle.gixobj_commit.specs.CommitViews
 pub use Rattle.gixobj_commit.specs.CommitWriting

@@ -6,7 +6,7 @@ use Rattle.gixobj_hash.specs.declared.decode.Error.TheVariants.{Malformed}
 use Rattle.gixobj_hash.specs.declared.hash.kind.Kind as hash
 use Rattle.gixobj_hash.specs.declared.kind.Kind.{Kind}
 use Rattle.gixobj_hash.specs.declared.kind.Kind.TheVariants as kind
-use Rattle.gixobj_commit.specs.Commit.{DecodesToCommit, IsCommitDecodeError}
+use Rattle.gixobj_line.specs.Commit.{DecodesToCommit, IsCommitDecodeError}
 use Rattle.gixobj_tag.specs.TagFormat.{IsMalformedTag, DecodesToTag}
 use Rattle.gixobj_tag.specs.TagViews.{tag_lines}
 use Rattle.gixobj_tree.specs.TreeDecoding.{DecodesToTree, IsTreeDecodeError}

@@ -4,10 +4,10 @@ use Rattle.std.specs.List.{AllZip}
 use Rattle.gixobj_fields.specs.Runs as runs
 use Rattle.gixobj_fields.specs.Runs.{Passes, complete, yields_end, yields_piece}
 use Rattle.gixobj_hash.specs.declared.hash.kind.Kind.{Kind}
-use Rattle.gixobj_commit.proofs.LinesYielded.{yields_lines_of_commit}
-use Rattle.gixobj_commit.proofs.EntireCommits.{end_state_of_message, lines_end_with_message, decodes_commit_of_gathered}
-use Rattle.gixobj_commit.specs.Commit.{CommitLines, DecodesToCommit}
-use Rattle.gixobj_commit.specs.Gathering.{gathered, empty_commit}
+use Rattle.gixobj_line.proofs.LinesYielded.{yields_lines_of_commit}
+use Rattle.gixobj_line.proofs.EntireCommits.{end_state_of_message, lines_end_with_message, decodes_commit_of_gathered}
+use Rattle.gixobj_line.specs.Commit.{CommitLines, DecodesToCommit}
+use Rattle.gixobj_line.specs.Gathering.{gathered, empty_commit}
 use Rattle.gixobj_line.specs.Lines.{HasLine, LineView, message_line}
 use Rattle.gixobj_line.specs.declared.lines.State.{State}
 use Rattle.gixobj_line.specs.declared.lines.State.TheVariants as state

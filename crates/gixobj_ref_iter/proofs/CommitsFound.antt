@@ -13,8 +13,8 @@ use Rattle.gixobj_hash.specs.declared.decode.Error.{Error}
 use Rattle.gixobj_hash.specs.declared.decode.Error.TheVariants.{Malformed, OutOfMemory}
 use Rattle.gixobj_hash.specs.declared.hash.kind.Kind.{Kind}
 use Rattle.gixobj_hash.specs.declared.hash.object_id.ObjectId.{ObjectId}
-use Rattle.gixobj_commit.proofs.EntireCommits.{lines_end_with_message}
-use Rattle.gixobj_commit.specs.Commit.{CommitLines, DecodesToCommit, encoding_lines, lines_of_commit}
+use Rattle.gixobj_line.proofs.EntireCommits.{lines_end_with_message}
+use Rattle.gixobj_line.specs.Commit.{CommitLines, DecodesToCommit, encoding_lines, lines_of_commit}
 use Rattle.gixobj_line.specs.Lines.{LineView, MayFold, author_line, committer_line, encoding_line, header_line, message_line, parent_line, tree_line}
 use Rattle.gixobj_line.specs.declared.lines.State.{State}
 use Rattle.gixobj_line.specs.declared.lines.State.TheVariants as state

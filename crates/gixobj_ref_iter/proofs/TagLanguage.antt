@@ -16,7 +16,7 @@ use Rattle.gixobj_hash.specs.declared.hash.object_id.ObjectId.{ObjectId}
 use Rattle.gixobj_hash.specs.declared.kind.Kind.{Kind}
 use Rattle.gixobj_tag.proofs.Bodies.{body_unique}
 use Rattle.gixobj_tag.proofs.EntireTags.{Reads, decodes_tag_of_parts, parts_of_decoded_tag}
-use Rattle.gixobj_tag.specs.LineReading.{HasName, HasTagger}
+use Rattle.gixobj_line.specs.TagLines.{HasName, HasTagger}
 use Rattle.gixobj_ref_iter.specs.TagReaders.{AreTokensOfTag, IsOptionalToken, IsAfterName, IsTokenOfTagger, misses_body, misses_nothing, misses_tagger_and_body, yields_no_tagger, yields_tagger}
 use Rattle.gixobj_tag.specs.TagFormat.{IsBody, DecodesToTag, TagLines, newlines_alone}
 use Rattle.gixobj_ref_iter.specs.TagTokens.{TagTokenView, body_comes, body_token, kind_comes, kind_token, name_comes, name_token, no_tagger_comes, no_tagger_token, tagger_comes, tagger_token, target_comes, target_token}

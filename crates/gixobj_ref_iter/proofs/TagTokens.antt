@@ -19,9 +19,9 @@ use Rattle.gixobj_hash.specs.Kind.{kind_name}
 use Rattle.gixobj_hash.specs.declared.hash.kind.Kind as hash
 use Rattle.gixobj_hash.specs.declared.hash.object_id.ObjectId.{ObjectId}
 use Rattle.gixobj_tag.proofs.Bodies.{body_unique}
-use Rattle.gixobj_tag.proofs.Lines.{no_tagger_and_begins_field}
-use Rattle.gixobj_tag.specs.LineReading.{HasNoTagger, HasTagger}
-use Rattle.gixobj_tag.specs.LineViews.{IsParsedTagger, line_if_some}
+use Rattle.gixobj_line.proofs.TagLines.{no_tagger_and_begins_field}
+use Rattle.gixobj_line.specs.TagLines.{HasNoTagger, HasTagger}
+use Rattle.gixobj_line.specs.TagLineViews.{IsParsedTagger, line_if_some}
 use Rattle.gixobj_ref_iter.specs.TagReaders.{IsTokenOfTagger, yields_no_tagger, yields_tagger}
 use Rattle.gixobj_ref_iter.specs.TagTokens.{HasTagToken, DecodesToTagToken, TagTokenView, body_comes, kind_comes, kind_token, name_comes, name_token, no_tagger_comes, tagger_comes, tagger_token, target_comes, target_token}
 use Rattle.gixobj_ref_iter.specs.TagTokenSteps.{remaining_states}

@@ -1,7 +1,7 @@
 -- A commit and its tokens (gitdatamodel, "commits").
 use Rattle.std.specs.Prelude.{◌≡◌, ℕ, List, [], ◌∷◌, ◌++◌}
 use Rattle.std.specs.List.{AllZip}
-use Rattle.gixobj_commit.specs.Commit.{CommitLines, lines_of_commit}
+use Rattle.gixobj_line.specs.Commit.{CommitLines, lines_of_commit}
 use Rattle.gixobj_ref_iter.specs.CommitTokens.{IsTokenOfLine, CommitTokenView, message_token}
 
 -- the last token is a message

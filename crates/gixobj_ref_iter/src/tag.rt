@@ -3,7 +3,7 @@ ghost use Rattle.std.specs.Prelude.{◌≡◌, ◌≢◌, [], IfErr, IfNone, IfO
 ghost use Rattle.gixobj_fields.specs.Runs.{Ending, HasNoPiece};
 ghost use Rattle.gixobj_hash.specs.Hash.Borrowed.{borrowed_id};
 ghost use Rattle.gixobj_hash.specs.declared.decode.Error.TheVariants.{Malformed};
-ghost use Rattle.gixobj_tag.specs.LineViews.{IsParsedTagger, line_if_some};
+ghost use Rattle.gixobj_line.specs.TagLineViews.{IsParsedTagger, line_if_some};
 ghost use Rattle.gixobj_ref_iter.specs.TagReaders.{IsTokenOfTagger};
 ghost use Rattle.gixobj_ref_iter.specs.TagTokens.{HasTagToken, tag_token_view};
 ghost use Rattle.gixobj_ref_iter.specs.TagTokenSteps.{FindsTagger, NextIdOfTag, NextTagToken, IsAtStartOfTag, YieldsNoTagger, tag_token_id, remaining_tag_tokens};
@@ -17,8 +17,8 @@ use gixobj_hash::decode::Error;
 use gixobj_hash::hash::{ObjectId, oid};
 use gixobj_hash::parse::id_of_hex;
 use gixobj_hash::{Kind, hash};
+use gixobj_line::tags::{self, TaggerLine};
 use gixobj_tag::tag::decode;
-use gixobj_tag::tag::decode::TaggerLine;
 
 /// The position of a token iterator in a tag.
 #[derive(Clone, Copy, Debug)]
@@ -164,11 +164,11 @@ fn decode_token(
             Some((Token::TargetKind(kind), State::Name, rest))
         }
         State::Name => {
-            let (name, rest) = decode::name(input)?;
+            let (name, rest) = tags::name(input)?;
             Some((Token::Name(name), State::Tagger, rest))
         }
         State::Tagger => {
-            let (tagger, rest) = decode::tagger(input)?;
+            let (tagger, rest) = tags::tagger(input)?;
             Some((tagger_token(tagger), State::Body, rest))
         }
         State::Body => {

@@ -12,8 +12,8 @@ use Rattle.gixobj_hash.specs.declared.hash.kind.Kind as hash
 use Rattle.gixobj_hash.specs.declared.kind.Kind.{Kind}
 use Rattle.gixobj_hash.specs.declared.kind.Kind.TheVariants as object
 use Rattle.gixobj_tag.proofs.Bodies.{body_unique}
-use Rattle.gixobj_tag.proofs.Lines.{tagger_unique}
-use Rattle.gixobj_tag.specs.LineReading.{HasName, HasNoName, HasNoTagger, HasTagger}
+use Rattle.gixobj_line.proofs.TagLines.{tagger_unique}
+use Rattle.gixobj_line.specs.TagLines.{HasName, HasNoName, HasNoTagger, HasTagger}
 use Rattle.gixobj_tag.specs.TagFormat.{HasNoBody, IsBody, IsMalformedTag, DecodesToTag, IsTaggerLine, TagLines, are_newlines, after_a_newline, newlines_alone, encode_tagger}
 use Rattle.gixobj_hash.proofs.Splits.{byte_free_of_all_pass}
 use Rattle.gixobj_hash.specs.ByteStrings.{IsByteFree}

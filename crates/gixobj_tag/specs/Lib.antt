@@ -1,5 +1,3 @@
-pub mod LineReading
-pub mod LineViews
 pub mod NameRule
 pub mod PlainNames
 pub mod Rewriting
@@ -15,3 +13,4 @@ pub use Rattle.gixobj_fields.specs.HeaderFormat
 pub use Rattle.gixobj_fields.specs.Runs
 pub use Rattle.gixobj_hash.specs.Hash
 pub use Rattle.gixobj_hash.specs.Kind
+pub use Rattle.gixobj_line.specs.TagPrefix

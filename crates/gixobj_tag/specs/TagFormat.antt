@@ -1,16 +1,14 @@
 -- The encoding of tags (gitdatamodel, "tag objects"; gitformat-signature, "Tag signatures").
-use Rattle.std.specs.Prelude.{◌≡◌, ◌≢◌, ◌+◌, ◌==◌, ℕ, Bool, List, [], ◌∷◌, ◌++◌, IsFalse, IsTrue, Option, Some, None, codes, length, ⊤}
+use Rattle.std.specs.Prelude.{◌≡◌, ◌+◌, ◌==◌, ℕ, Bool, List, [], ◌∷◌, ◌++◌, IsFalse, IsTrue, Option, Some, None, codes, length}
 use Rattle.std.specs.List.{list_all}
-use Rattle.gixobj_actor.specs.Actor.{BeginsWithActor}
 use Rattle.gixobj_fields.specs.HeaderFormat.{encode_field}
 use Rattle.gixobj_hash.specs.Hash.Hex.{IsIdHexOfKind}
-use Rattle.gixobj_hash.specs.Kind.{kind_name}
 use Rattle.gixobj_hash.specs.declared.hash.kind.Kind as hash
 use Rattle.gixobj_hash.specs.declared.kind.Kind.{Kind}
+pub use Rattle.gixobj_line.specs.TagPrefix.{IsLineName, IsTaggerLine, encode_tagger, encode_target_lines}
 use Rattle.gixobj_text.specs.Markers.{HasNoMarker, IsMarkerPlace}
 use Rattle.gixobj_text.specs.declared.signature.Format.{Format}
 use Rattle.gixobj_hash.specs.Bytes.{newline}
-use Rattle.gixobj_hash.specs.ByteStrings.{IsByteFree}
 
 -- the fields of an encoded tag: an id in hex, a kind, a name, the value of a tagger line, a message, a signature
 pub record TagLines : Type 0 where
@@ -23,31 +21,13 @@ pub record TagLines : Type 0 where
 
 -- ---- lines
 
--- the line of a target, and then that of its kind
-abbrev pub encode_target_lines : List ℕ → Kind → List ℕ
-encode_target_lines target_line kind = target_line ++ encode_field (codes "type") (kind_name kind)
-
 -- the lines of the target and of its kind
 abbrev pub encode_target : TagLines → List ℕ
 encode_target tag = encode_target_lines (encode_field (codes "object") tag.target) tag.target_kind
 
--- the line of a tagger, or nothing
-abbrev pub encode_tagger : Option (List ℕ) → List ℕ
-encode_tagger None = []
-encode_tagger (Some line) = encode_field (codes "tagger") line
-
 -- the lines before the body
 abbrev pub encode_tag_lines : TagLines → List ℕ
 encode_tag_lines tag = encode_target tag ++ encode_field (codes "tag") tag.name ++ encode_tagger tag.tagger
-
--- the name of a name line: not empty, without newline
-abbrev pub IsLineName : List ℕ → Type 0
-IsLineName name = (name ≢ []) × IsByteFree newline name
-
--- the value of a tagger line begins with an actor; bytes may follow its time
-abbrev pub IsTaggerLine : Option (List ℕ) → Type 0
-IsTaggerLine None = ⊤
-IsTaggerLine (Some line) = BeginsWithActor line
 
 -- ---- body
 

@@ -4,5 +4,5 @@ mod tags;
 
 pub use tags::{
     owned_tag_has_same_parts, tag_decode_encode_agree, tag_decodes_uniquely,
-    tag_reencodes_identically,
+    tag_recognition_agrees, tag_reencodes_identically,
 };

@@ -3,8 +3,8 @@ ghost use Rattle.std.specs.Prelude.{◌≡◌, ◌≤◌, [], IfErr, IfOk, OnOk}
 ghost use Rattle.gixobj_commit.specs.CommitViews.{BorrowsLines, commit_lines};
 ghost use Rattle.gixobj_commit.specs.CommitWriting.{HasIds};
 ghost use Rattle.gixobj_hash.specs.declared.decode.Error.TheVariants.{OutOfMemory};
-ghost use Rattle.gixobj_commit.specs.Commit.{DecodesToCommit, IsCommitDecodeError};
-ghost use Rattle.gixobj_commit.specs.Gathering.{Allocates, gather, empty_commit};
+ghost use Rattle.gixobj_line.specs.Commit.{DecodesToCommit, IsCommitDecodeError};
+ghost use Rattle.gixobj_line.specs.Gathering.{Allocates, gather, empty_commit};
 ghost use Rattle.gixobj_line.specs.Lines.{IsParsedLine, line_view};
 
 use super::CommitRef;

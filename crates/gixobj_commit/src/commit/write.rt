@@ -7,7 +7,7 @@ ghost use Rattle.gixobj_hash.specs.Hash.{IsIdHex, encode_id_hex};
 ghost use Rattle.gixobj_fields.specs.HeaderFormat.{encode_field};
 ghost use Rattle.gixobj_fields.specs.Streams.{AppendsAll, AppendsOrFails};
 ghost use Rattle.gixobj_fields.specs.Writing.{AddsSize, IsSize, RejectsNothing, IsWritingError};
-ghost use Rattle.gixobj_commit.specs.Commit.{encode_encoding};
+ghost use Rattle.gixobj_line.specs.Commit.{encode_encoding};
 ghost use Rattle.gixobj_hash.specs.Optional.{bytes_if_some};
 ghost use Rattle.gixobj_commit.specs.CommitWriting.{IsEncodingLineError, hex_lines, hex_tree};
 ghost use Rattle.gixobj_hash.specs.Bytes.{newline};
@@ -182,7 +182,7 @@ impl Field for BStr<'_> {
 /// A parent, by its id.
 impl Field for ObjectId {
     ghost use Rattle.gixobj_hash.specs.Hash.{encode_id_hex};
-    ghost use Rattle.gixobj_commit.specs.Commit.{encode_parent};
+    ghost use Rattle.gixobj_line.specs.Commit.{encode_parent};
 
     ghost written = { λ id. encode_parent (encode_id_hex id) };
 

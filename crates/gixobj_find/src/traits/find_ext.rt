@@ -8,7 +8,7 @@ ghost use Rattle.gixobj_hash.specs.Hash.{IsIdHex};
 ghost use Rattle.gixobj_hash.specs.Hash.Borrowed.{borrowed_id};
 ghost use Rattle.gixobj_hash.specs.declared.kind.Kind.TheVariants as object;
 ghost use Rattle.gixobj_find.specs.Existing.{IsEmptyId, IsMissing, FailsToRead, NamesSuch, NamesEncoding, IsExistingError, IsFindObjectError, IsReaderError};
-ghost use Rattle.gixobj_commit.specs.Commit.{DecodesToCommit};
+ghost use Rattle.gixobj_line.specs.Commit.{DecodesToCommit};
 ghost use Rattle.gixobj_find.specs.declared.find.existing_iter.Error.TheVariants as iter_error;
 ghost use Rattle.gixobj_find.specs.declared.find.existing_object.Error.TheVariants as decoded;
 ghost use Rattle.gixobj_object.specs.BorrowedObjects.{HasObjectIds};

@@ -5,6 +5,7 @@ ghost use Rattle.gixobj_fields.specs.Streams.{SinkView, list_view};
 ghost use Rattle.gixobj_fields.specs.Writing.{FailsAsSink, RejectsNothing, IsWritingError};
 ghost use Rattle.gixobj_fields.specs.declared.encode.Error as encode;
 ghost use Rattle.gixobj_hash.specs.declared.hash.kind.Kind.{Kind};
+ghost use Rattle.gixobj_line.specs.TagPrefix.{IsTag};
 ghost use Rattle.gixobj_tag.specs.NameRule.{IsTagName};
 ghost use Rattle.gixobj_tag.specs.Rewriting.{AreNormalizedPartsOfTag, PreservesBody, IsNormalizedTagError};
 ghost use Rattle.gixobj_tag.specs.TagOwned.{IsOwnedFormOfTag};
@@ -22,6 +23,15 @@ use std::alloc::Global;
 pub fn tag_decodes_uniquely()
     ensures { (kind : Kind) (content : List ℕ) (tag tag' : TagLines) → DecodesToTag kind content tag
         → DecodesToTag kind content tag' → tag ≡ tag' }
+{}
+
+/// Bytes are the encoding of a tag by their lines and the first byte of their body if and only if they decode
+/// to some tag: each body has a message, and a signature or none.
+pub fn tag_recognition_agrees()
+    ensures decodes { (kind : Kind) (content : List ℕ) → IsTag kind content
+        → (tag : TagLines) × DecodesToTag kind content tag }
+    ensures recognized { (kind : Kind) (content : List ℕ) (tag : TagLines)
+        → DecodesToTag kind content tag → IsTag kind content }
 {}
 
 /// A decoded tag is encoded identically if it is unsigned, or if its message isn't newlines alone.

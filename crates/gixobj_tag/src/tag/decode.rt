@@ -1,10 +1,9 @@
-//! Decoding of tags, and of their lines and body for other decoders (gitdatamodel, "tag objects").
+//! Decoding of tags, and of their body for other decoders (gitdatamodel, "tag objects").
 ghost use Rattle.std.specs.Prelude.{◌≡◌, ◌∷◌, IfErr, IfNone, IfOk, IfSome, IsFalse, MatchOption};
 ghost use Rattle.bstr.specs.BStr.{bstr_bytes};
 ghost use Rattle.gixobj_hash.specs.Hash.{IsIdHex};
 ghost use Rattle.gixobj_hash.specs.declared.decode.Error.TheVariants.{Malformed};
-ghost use Rattle.gixobj_tag.specs.LineReading.{HasName, HasNoName, HasNoTagger, HasTagger};
-ghost use Rattle.gixobj_tag.specs.LineViews.{IsParsedTagger, line_if_some};
+ghost use Rattle.gixobj_line.specs.TagLineViews.{line_if_some};
 ghost use Rattle.gixobj_tag.specs.TagFormat.{HasNoBody, IsBody, IsMalformedTag, IsParted, DecodesToTag, are_newlines as are_newlines_of};
 ghost use Rattle.gixobj_tag.specs.TagViews.{tag_lines};
 ghost use Rattle.gixobj_hash.specs.Bytes.{newline};
@@ -12,11 +11,10 @@ ghost use Rattle.gixobj_hash.specs.Optional.{bytes_if_some};
 
 use super::TagRef;
 use bstr::BStr;
-use gixobj_actor::actor::SignatureRef;
-use gixobj_actor::parse::split_signature;
-use gixobj_fields::parse::{after_name, after_newline, header_field, header_id, header_kind};
+use gixobj_fields::parse::{after_newline, header_id, header_kind};
 use gixobj_hash::decode::Error;
 use gixobj_hash::hash::Kind;
+use gixobj_line::tags::{TaggerLine, name, tagger};
 use gixobj_text::signature;
 
 impl<'a> TagRef<'a> {
@@ -69,48 +67,6 @@ fn read_tag(bytes: &[u8], hash_kind: Kind) -> Option<TagRef<'_>>
         message,
         signature,
     })
-}
-
-/// Decodes the name line at the beginning of the input, and returns the name and the rest.
-///
-/// Returns `None` if there is no such line, or if the name is empty. Allocates nothing.
-#[tactic(auto, using(crate::proofs::Lines::no_name_of_empty, crate::proofs::Lines::no_name_of_missing_field))]
-pub fn name(input: &[u8]) -> Option<(BStr<'_>, &[u8])>
-    ensures found { IfSome result (λ it. HasName input.now (bstr_bytes it.0) it.1.now) }
-    ensures none { IfNone result (HasNoName input.now) }
-{
-    let Some((name, rest)) = header_field(input, b"tag") else {
-        return None;
-    };
-    if name.is_empty() {
-        return None;
-    }
-    Some((BStr::new(name), rest))
-}
-
-/// The value of a tagger line, and the untrimmed actor with which it begins.
-pub type TaggerLine<'a> = (BStr<'a>, SignatureRef<'a>);
-
-/// Decodes the tagger line at the beginning of the input, and returns it and the rest.
-///
-/// The line is `None` if the input doesn't begin with `tagger` and a space. The result is `None` if it does,
-/// but the line lacks its newline, or its value doesn't begin with an actor. Allocates nothing.
-#[tactic(auto, using(crate::proofs::Lines::no_tagger_of_missing_newline))]
-pub fn tagger(input: &[u8]) -> Option<(Option<TaggerLine<'_>>, &[u8])>
-    ensures found { IfSome result (λ it. HasTagger input.now (line_if_some it.0) it.1.now) }
-    ensures parts { IfSome result (λ it. IsParsedTagger it.0) }
-    ensures none { IfNone result (HasNoTagger input.now) }
-{
-    let Some(_) = after_name(input, b"tagger") else {
-        return Some((None, input));
-    };
-    let Some((line, rest)) = header_field(input, b"tagger") else {
-        return None;
-    };
-    let Some((actor, _)) = split_signature(line) else {
-        return None;
-    };
-    Some((Some((BStr::new(line), actor)), rest))
 }
 
 /// Returns the value of the tagger line, if there is one.

@@ -1,6 +1,6 @@
 -- States that bytes decode as at most one commit, and why decoding fails, for `CommitRef::from_bytes`, its law and the
 -- tokens.
-use Rattle.std.proofs.Common.{◌≡◌, ◌≢◌, ◌⊎◌, ℕ, List, [], ◌∷◌, ◌++◌, All, Option, Some, None, inl, inr, refl, sym, ap, subst, ◌∙◌, append_assoc}
+use Rattle.std.proofs.Common.{◌≡◌, ◌≢◌, ◌<◌, ◌⊎◌, length, ℕ, List, [], ◌∷◌, ◌++◌, All, Option, Some, None, inl, inr, refl, sym, ap, subst, ◌∙◌, append_assoc}
 use Rattle.std.proofs.lemmas.List.{append-nil}
 use Rattle.std.proofs.lemmas.List.Elements.{All-cons, All-head, All-nil, All-tail}
 use Rattle.std.specs.List.{flat_map}
@@ -14,12 +14,12 @@ use Rattle.gixobj_hash.specs.Hash.Hex.{IsIdHexOfKind}
 use Rattle.gixobj_hash.specs.declared.decode.Error.{Error}
 use Rattle.gixobj_hash.specs.declared.decode.Error.TheVariants.{Malformed, OutOfMemory}
 use Rattle.gixobj_hash.specs.declared.hash.kind.Kind.{Kind}
-use Rattle.gixobj_commit.proofs.CommitsRead.{Reads, is_encoding_snoc, is_encoding_snoc_first, begins_commit_gather_header, reads_gathered_of_empty, reads_gather, headers_snoc_not_nil}
-use Rattle.gixobj_commit.proofs.LinesYielded.{yields_lines_of_commit}
-use Rattle.gixobj_line.proofs.OneLine.{no_line_of_nil, line_unique}
-use Rattle.gixobj_commit.specs.Commit.{CommitLines, DecodesToCommit, IsMalformedCommit, ReachesHeader, ReachesSecondParent, IsCommitDecodeError, encoding_lines, lines_of_commit, encode_parent}
-use Rattle.gixobj_commit.specs.Gathering.{Gathers, Allocates, gather, gathered, empty_commit}
-use Rattle.gixobj_line.specs.Lines.{HasLine, LineView, MayFold, IsLineError, author_comes, author_line, committer_comes, committer_line, encoding_comes, first_header_comes, first_message_comes, header_comes, header_line, message_comes, message_line, parent_comes, parent_line, tree_comes, tree_line}
+use Rattle.gixobj_line.proofs.CommitsRead.{Reads, is_encoding_snoc, is_encoding_snoc_first, begins_commit_gather_header, reads_gathered_of_empty, reads_gather, headers_snoc_not_nil}
+use Rattle.gixobj_line.proofs.LinesYielded.{yields_lines_of_commit}
+use Rattle.gixobj_line.proofs.OneLine.{line_len_lt, no_line_of_nil, line_unique}
+use Rattle.gixobj_line.specs.Commit.{CommitLines, DecodesToCommit, IsCommit, IsMalformedCommit, ReachesHeader, ReachesSecondParent, IsCommitDecodeError, encoding_lines, lines_of_commit, encode_parent}
+use Rattle.gixobj_line.specs.Gathering.{Gathers, Allocates, gather, gathered, empty_commit}
+use Rattle.gixobj_line.specs.Lines.{HasLine, HasSomeLine, LineView, MayFold, IsLineError, author_comes, author_line, committer_comes, committer_line, encoding_comes, first_header_comes, first_message_comes, header_comes, header_line, message_comes, message_line, parent_comes, parent_line, tree_comes, tree_line}
 use Rattle.gixobj_hash.specs.ByteStrings.{IsByteFree}
 use Rattle.gixobj_line.specs.declared.lines.State.{State}
 use Rattle.gixobj_line.specs.declared.lines.State.TheVariants as state
@@ -256,3 +256,32 @@ pub parents_are_id_hex : (kind : Kind) (hexes : List (List ℕ)) → All (IsIdHe
 parents_are_id_hex kind [] are = All-nil IsIdHex
 parents_are_id_hex kind (hex ∷ hexes) are = All-cons IsIdHex hex hexes (is_id_hex_of_decoded kind hex (All-head (IsIdHexOfKind kind) hex hexes are))
     (parents_are_id_hex kind hexes (All-tail (IsIdHexOfKind kind) hex hexes are))
+
+-- ---- whether bytes are a commit
+
+-- the bytes begin with some lines of a commit, and the rest follows in this state
+abbrev pub Reaches : Kind → List ℕ → State → List ℕ → Type 0
+Reaches kind bytes after rest = (lines : List LineView) × Passes (HasLine kind) state.Tree bytes lines after rest
+
+pub reaches_start : (kind : Kind) (bytes : List ℕ) → Reaches kind bytes state.Tree bytes
+reaches_start kind bytes = ([], (refl, refl))
+
+pub reaches_more : (kind : Kind) (bytes : List ℕ) (before following : State) (input rest : List ℕ) → Reaches kind bytes before input
+    → HasSomeLine kind before input following rest → Reaches kind bytes following rest
+reaches_more kind bytes before following input rest (lines, passes) (line, has) =
+    (lines ++ line ∷ [], passes_one (HasLine kind) state.Tree before following bytes input rest lines line passes has)
+
+pub reaches_end : (kind : Kind) (bytes : List ℕ) (following : State) (rest : List ℕ) → Reaches kind bytes following rest → following ≡ state.End
+    → IsCommit kind bytes
+reaches_end kind bytes following rest (lines, passes) at_end = (
+  gathered empty_commit lines,
+  subst (λ (it : State). Reads kind bytes it rest (gathered empty_commit lines)) at_end (reads_gathered_of_empty kind bytes lines following rest passes),
+)
+
+pub reaches_none : (kind : Kind) (bytes : List ℕ) (before : State) (input : List ℕ) → Reaches kind bytes before input
+    → HasNoPiece (HasLine kind) before input → before ≢ state.End → IsMalformedCommit kind bytes
+reaches_none kind bytes before input (lines, passes) none going = no_commit kind bytes lines before input passes none going
+
+pub some_line_shortens : (kind : Kind) (before : State) (input : List ℕ) (following : State) (rest : List ℕ)
+    → HasSomeLine kind before input following rest → length rest < length input
+some_line_shortens kind before input following rest (line, has) = line_len_lt kind before input line following rest has

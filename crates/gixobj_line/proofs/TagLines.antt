@@ -4,7 +4,7 @@ use Rattle.std.specs.Prelude.{codes}
 use Rattle.gixobj_actor.specs.Actor.{IsActorLine, IsMalformedActorLine}
 use Rattle.gixobj_fields.proofs.HeaderFields.{field_unique}
 use Rattle.gixobj_fields.specs.HeaderFormat.{HasField, HasNoField, HasOtherName}
-use Rattle.gixobj_tag.specs.LineReading.{HasNoName, HasNoTagger, HasTagger}
+use Rattle.gixobj_line.specs.TagLines.{HasNoName, HasNoTagger, HasTagger}
 
 -- ---- names
 

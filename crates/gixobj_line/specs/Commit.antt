@@ -68,6 +68,10 @@ pub record BeginsCommit (kind : Kind) (bytes : List ℕ) (commit : CommitLines) 
 abbrev pub DecodesToCommit : Kind → List ℕ → CommitLines → Type 0
 DecodesToCommit kind bytes commit = BeginsCommit kind bytes commit (newline ∷ commit.message)
 
+-- the bytes are the encoding of some commit
+abbrev pub IsCommit : Kind → List ℕ → Type 0
+IsCommit kind bytes = (commit : CommitLines) × DecodesToCommit kind bytes commit
+
 -- the bytes are the encoding of no commit
 abbrev pub IsMalformedCommit : Kind → List ℕ → Type 0
 IsMalformedCommit kind bytes = (commit : CommitLines) → ¬ DecodesToCommit kind bytes commit

@@ -1,5 +1,5 @@
-use Rattle.gixobj_tag.proofs.Lines.{no_tagger_of_malformed_actor}
-use Rattle.gixobj_tag.proofs.tag.decode.tagger.Goals as goal
+use Rattle.gixobj_line.proofs.TagLines.{no_tagger_of_malformed_actor}
+use Rattle.gixobj_line.proofs.tags.tagger.Goals as goal
 
 pub returns-in_default-split_signature-clause-none : goal.returns-in_default-split_signature-clause-none
 returns-in_default-split_signature-clause-none c =

@@ -8,7 +8,7 @@ use Rattle.gixobj_fields.specs.HeaderFormat.{EndsHeader, HasField, HasHeader, He
 use Rattle.gixobj_fields.specs.Runs.{Yields, complete, yields_end, yields_piece}
 use Rattle.gixobj_hash.specs.Hash.Hex.{IsIdHexOfKind}
 use Rattle.gixobj_hash.specs.declared.hash.kind.Kind.{Kind}
-use Rattle.gixobj_commit.specs.Commit.{DecodesToHeaders, CommitLines, DecodesToCommit, IsEncoding, encoding_lines, encode_encoding, lines_of_commit, encode_parent}
+use Rattle.gixobj_line.specs.Commit.{DecodesToHeaders, CommitLines, DecodesToCommit, IsEncoding, encoding_lines, encode_encoding, lines_of_commit, encode_parent}
 use Rattle.gixobj_line.specs.Lines.{HasLine, LineView, author_comes, author_line, committer_comes, committer_line, encoding_comes, encoding_line, first_header_comes, first_message_comes, header_comes, header_line, message_comes, message_line, parent_comes, parent_line, tree_comes, tree_line}
 use Rattle.gixobj_actor.specs.Actor.{NamesActor}
 use Rattle.gixobj_line.specs.declared.lines.State.TheVariants as state
