@@ -52,8 +52,6 @@ pub use Rattle.gixobj_files.specs.State
 pub use Rattle.gixobj_files.specs.Tables
 pub use Rattle.gixobj_files.specs.Unopened
 pub use Rattle.gixobj_find.specs.Existing
-pub use Rattle.gixobj_find.specs.Keeping
-pub use Rattle.gixobj_find.specs.Memory
 pub use Rattle.gixobj_find.specs.Nothing
 pub use Rattle.gixobj_find.specs.Writers
 pub use Rattle.gixobj_find.specs.declared as find
@@ -71,6 +69,10 @@ pub use Rattle.gixobj_import.specs.Edited
 pub use Rattle.gixobj_import.specs.Imports
 pub use Rattle.gixobj_import.specs.Steps
 pub use Rattle.gixobj_import.specs.declared as import
+pub use Rattle.gixobj_keep.specs.ExistingTrees
+pub use Rattle.gixobj_keep.specs.Keeping
+pub use Rattle.gixobj_keep.specs.Memory
+pub use Rattle.gixobj_keep.specs.declared as keep
 pub use Rattle.gixobj_line.specs.Commit
 pub use Rattle.gixobj_line.specs.Lines
 pub use Rattle.gixobj_line.specs.TagLines
@@ -80,15 +82,10 @@ pub use Rattle.gixobj_mode.specs.Mode
 pub use Rattle.gixobj_mode.specs.ModeNumber
 pub use Rattle.gixobj_mode.specs.declared as mode
 pub use Rattle.gixobj_object.specs.BorrowedObjects
-pub use Rattle.gixobj_object.specs.Checksums
-pub use Rattle.gixobj_object.specs.EntrySteps
-pub use Rattle.gixobj_object.specs.Lookups
 pub use Rattle.gixobj_object.specs.LooseObjects
 pub use Rattle.gixobj_object.specs.ObjectReading
 pub use Rattle.gixobj_object.specs.Objects
 pub use Rattle.gixobj_object.specs.Parts
-pub use Rattle.gixobj_object.specs.Stores
-pub use Rattle.gixobj_object.specs.TreeReaders
 pub use Rattle.gixobj_object.specs.declared as object
 pub use Rattle.gixobj_ref_iter.specs.CommitRuns
 pub use Rattle.gixobj_ref_iter.specs.CommitTokens
@@ -116,6 +113,12 @@ pub use Rattle.gixobj_signature.specs.Verifiers
 pub use Rattle.gixobj_signature.specs.Verifying
 pub use Rattle.gixobj_signature.specs.VerifyingCalls
 pub use Rattle.gixobj_signature.specs.declared as signature
+pub use Rattle.gixobj_store.specs.Checksums
+pub use Rattle.gixobj_store.specs.EntrySteps
+pub use Rattle.gixobj_store.specs.Lookups
+pub use Rattle.gixobj_store.specs.Stores
+pub use Rattle.gixobj_store.specs.TreeReaders
+pub use Rattle.gixobj_store.specs.declared as store
 pub use Rattle.gixobj_tag.specs.NameRule
 pub use Rattle.gixobj_tag.specs.Rewriting as TagRewriting
 pub use Rattle.gixobj_tag.specs.Signed

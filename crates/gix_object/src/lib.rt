@@ -19,11 +19,10 @@ pub use gixobj_base::{
     compute_stream_hash, date, decode, encode, hash, kind, stream_hash, streams,
 };
 pub use gixobj_codec::{
-    Commit, CommitRef, CommitRefIter, Data, Exists, Find, FindHeader, FindObjectOrHeader,
+    Commit, CommitRef, CommitRefIter, Data, DataExt, Exists, Find, FindHeader, FindObjectOrHeader,
     LooseDecodeError, Object, ObjectRef, Store, Tag, TagRef, TagRefIter, TreeRef, TreeRefIter,
     commit, data, tag,
 };
-pub use gixobj_find::{
-    FindExt, HeaderExt, Keep, KeepCommit, KeepError, Memory, Write, find, write,
-};
+pub use gixobj_find::{FindExt, HeaderExt, Write, find, write};
 pub use gixobj_import::import;
+pub use gixobj_keep::{Keep, KeepCommit, KeepError, Memory};

@@ -2,12 +2,12 @@
 
 mod root {
     pub use gix_object::{
-        Blob, BlobRef, Commit, CommitRef, CommitRefIter, Data, Exists, Find, FindExt, FindHeader,
-        FindObjectOrHeader, Header, HeaderExt, Keep, KeepCommit, KeepError, Kind, LooseDecodeError,
-        Memory, Object, ObjectRef, OutOfMemory, Store, Tag, TagRef, TagRefIter, Tree, TreeRef,
-        TreeRefIter, Write, WriteTo, actor, commit, compute_hash, compute_stream_hash, data, date,
-        decode, encode, find, hash, import, kind, laws, signature, stream_hash, streams, tag, tree,
-        write,
+        Blob, BlobRef, Commit, CommitRef, CommitRefIter, Data, DataExt, Exists, Find, FindExt,
+        FindHeader, FindObjectOrHeader, Header, HeaderExt, Keep, KeepCommit, KeepError, Kind,
+        LooseDecodeError, Memory, Object, ObjectRef, OutOfMemory, Store, Tag, TagRef, TagRefIter,
+        Tree, TreeRef, TreeRefIter, Write, WriteTo, actor, commit, compute_hash,
+        compute_stream_hash, data, date, decode, encode, find, hash, import, kind, laws, signature,
+        stream_hash, streams, tag, tree, write,
     };
 }
 

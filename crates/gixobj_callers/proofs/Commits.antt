@@ -8,7 +8,7 @@ use Rattle.gix_object.specs.Lookups.{remaining_tree}
 use Rattle.gix_object.specs.Stores.{Objects, StoredObject}
 use Rattle.gix_object.specs.hash.hash.object_id.ObjectId.{ObjectId}
 use Rattle.gix_object.specs.hash.kind.Kind.TheVariants.{Tree}
-use Rattle.gix_object.specs.object.tree.TreeRefIter.{TreeRefIter}
+use Rattle.gix_object.specs.store.tree.TreeRefIter.{TreeRefIter}
 use Rattle.gixobj_callers.specs.Ancestors.{IsAncestor, IsFirstParent}
 
 pub first_hex_of_id : (hexes : List (List ℕ)) (ids : List ObjectId) (id : ObjectId) (more : List ObjectId) → AllZip DecodesToId hexes ids → ids ≡ id ∷ more

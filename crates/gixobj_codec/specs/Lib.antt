@@ -37,15 +37,10 @@ pub use Rattle.gixobj_line.specs.TagLines
 pub use Rattle.gixobj_line.specs.TagPrefix
 pub use Rattle.gixobj_line.specs.declared as line
 pub use Rattle.gixobj_object.specs.BorrowedObjects
-pub use Rattle.gixobj_object.specs.Checksums
-pub use Rattle.gixobj_object.specs.EntrySteps
-pub use Rattle.gixobj_object.specs.Lookups
 pub use Rattle.gixobj_object.specs.LooseObjects
 pub use Rattle.gixobj_object.specs.ObjectReading
 pub use Rattle.gixobj_object.specs.Objects
 pub use Rattle.gixobj_object.specs.Parts
-pub use Rattle.gixobj_object.specs.Stores
-pub use Rattle.gixobj_object.specs.TreeReaders
 pub use Rattle.gixobj_object.specs.declared as object
 pub use Rattle.gixobj_ref_iter.specs.CommitRuns
 pub use Rattle.gixobj_ref_iter.specs.CommitTokens
@@ -59,6 +54,12 @@ pub use Rattle.gixobj_ref_iter.specs.TokenFilters
 pub use Rattle.gixobj_ref_iter.specs.CommitTokenSteps
 pub use Rattle.gixobj_ref_iter.specs.TokenSearch
 pub use Rattle.gixobj_ref_iter.specs.declared as ref_iter
+pub use Rattle.gixobj_store.specs.Checksums
+pub use Rattle.gixobj_store.specs.EntrySteps
+pub use Rattle.gixobj_store.specs.Lookups
+pub use Rattle.gixobj_store.specs.Stores
+pub use Rattle.gixobj_store.specs.TreeReaders
+pub use Rattle.gixobj_store.specs.declared as store
 pub use Rattle.gixobj_tag.specs.NameRule
 pub use Rattle.gixobj_tag.specs.Rewriting as TagRewriting
 pub use Rattle.gixobj_tag.specs.Signed

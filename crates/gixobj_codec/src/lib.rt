@@ -14,10 +14,10 @@ pub mod tag;
 pub mod tree;
 
 pub use gixobj_commit::{Commit, CommitRef};
-pub use gixobj_object::{
-    Data, Exists, Find, FindHeader, FindObjectOrHeader, LooseDecodeError, Object, ObjectRef, Store,
-    TreeRefIter, data, find,
-};
+pub use gixobj_object::{DataExt, LooseDecodeError, Object, ObjectRef};
 pub use gixobj_ref_iter::{CommitRefIter, TagRefIter};
+pub use gixobj_store::{
+    Data, Exists, Find, FindHeader, FindObjectOrHeader, Store, TreeRefIter, data, find,
+};
 pub use gixobj_tag::{Tag, TagRef};
 pub use gixobj_tree::TreeRef;

@@ -7,9 +7,9 @@ use crate::trees::ENTRY;
 use gixobj_base::Kind::{self, Blob, Commit, Tag, Tree};
 use gixobj_base::hash;
 use gixobj_base::hash::Kind::{Sha1, Sha256};
-use gixobj_codec::Data;
 use gixobj_codec::commit::ref_iter::Token as CommitToken;
 use gixobj_codec::tag::ref_iter::Token as TagToken;
+use gixobj_codec::{Data, DataExt};
 use std::alloc::Global;
 
 /// Returns whether the first token of the commit is a tree; `None` if `kind` is not a commit's.

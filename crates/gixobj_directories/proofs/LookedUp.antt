@@ -2,8 +2,8 @@
 use Rattle.std.proofs.Common.{◌≡◌, ◌++◌, ◌∷◌, ◌∙◌, ℕ, List, [], ap, arith, inl, inr, length, length-append, refl, subst, sym, true, false, None, Some}
 use Rattle.std.specs.Prelude.{All, Bool, IsFalse, MatchOption, Option, if◌then◌else◌}
 use Rattle.std.proofs.lemmas.List.Elements.{All-head, All-tail}
-use Rattle.gixobj_object.specs.Lookups.{HasFirstNamed, IsPath, Name}
-use Rattle.gixobj_object.specs.Stores.{Objects, StoredObject}
+use Rattle.gixobj_store.specs.Lookups.{HasFirstNamed, IsPath, Name}
+use Rattle.gixobj_store.specs.Stores.{Objects, StoredObject}
 use Rattle.gixobj_fields.specs.Runs as runs
 use Rattle.gixobj_fields.specs.Runs.{complete, yields_end, yields_piece}
 use Rattle.gixobj_files.specs.Files.{Below, Files, Has, Table, Trees, is_null, resolves_to}

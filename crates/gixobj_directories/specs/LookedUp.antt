@@ -1,7 +1,7 @@
 -- Lookups by a path in a store, and the files of a tree.
 use Rattle.std.specs.Prelude.{◌≡◌, ◌++◌, ◌∷◌, ℕ, All, IsFalse, List, [], None, Some, true}
-use Rattle.gixobj_object.specs.Lookups.{IsPath, Name}
-use Rattle.gixobj_object.specs.Stores.{Objects}
+use Rattle.gixobj_store.specs.Lookups.{IsPath, Name}
+use Rattle.gixobj_store.specs.Stores.{Objects}
 use Rattle.gixobj_files.specs.Files.{Table, is_null, resolves_to}
 use Rattle.gixobj_files.specs.Tables.{IsNeverLookedUp}
 use Rattle.gixobj_hash.specs.declared.hash.kind.Kind.{Kind}

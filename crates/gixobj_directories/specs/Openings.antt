@@ -1,15 +1,15 @@
 -- Directories that are looked up in a store, and the errors of an opening.
 use Rattle.std.specs.Prelude.{◌≡◌, Bool, List, Option, Some, None, ⊤}
-use Rattle.gixobj_object.specs.Stores.{Objects}
-use Rattle.gixobj_object.specs.declared.find.Error.TheVariants as find
+use Rattle.gixobj_store.specs.Stores.{Objects}
+use Rattle.gixobj_store.specs.declared.find.Error.TheVariants as find
 use Rattle.gixobj_files.specs.Edits.{IsNoTree, IsNotLookedUp}
 use Rattle.gixobj_files.specs.Files.{Trees}
 use Rattle.gixobj_hash.specs.declared.decode.Error.TheVariants as decode
 use Rattle.gixobj_hash.specs.declared.hash.object_id.ObjectId.{ObjectId}
 use Rattle.gixobj_hash.specs.declared.kind.Kind.TheVariants.{Tree}
-use Rattle.gixobj_find.specs.Existing.{NamesSuch, IsFindObjectError}
-use Rattle.gixobj_find.specs.declared.find.existing_object.Error as found
-use Rattle.gixobj_find.specs.declared.find.existing_object.Error.TheVariants as object
+use Rattle.gixobj_keep.specs.ExistingTrees.{IsExistingTreeError, NamesSuch}
+use Rattle.gixobj_keep.specs.declared.find.existing_object.Error as found
+use Rattle.gixobj_keep.specs.declared.find.existing_object.Error.TheVariants as object
 use Rattle.gixobj_tree.specs.TreeDecoding.{DecodesToTree}
 use Rattle.gixobj_tree.specs.Entries.{EntryView, IsWellFormed}
 use Rattle.gixobj_directories.specs.declared.opening.Error.{Error}
@@ -54,7 +54,7 @@ open_error_of (object.ObjectKind id actual expected) = opening.FindExistingObjec
 -- the error of a directory that isn't opened: its lookup failed, its tree isn't well-formed, or an allocation failed
 abbrev pub IsDirectoryError : Objects → (ObjectId → Bool) → ObjectId → Error → Type 0
 IsDirectoryError objects may_fail id (opening.FindExistingObject cause) =
-    IsFindObjectError objects may_fail Tree id cause × (open_error_of cause ≡ opening.FindExistingObject cause)
+    IsExistingTreeError objects may_fail id cause × (open_error_of cause ≡ opening.FindExistingObject cause)
 IsDirectoryError objects may_fail id opening.MalformedTree = NamesMalformed objects id
 IsDirectoryError objects may_fail id opening.OutOfMemory = ⊤
 

@@ -1,7 +1,7 @@
 //! Laws of stores and lookups by a path. The contract of each function is a law.
 ghost use Rattle.std.specs.Prelude.{ℕ, List, length};
-ghost use Rattle.gixobj_object.specs.Lookups.{Name};
-ghost use Rattle.gixobj_object.specs.Stores.{Objects};
+ghost use Rattle.gixobj_store.specs.Lookups.{Name};
+ghost use Rattle.gixobj_store.specs.Stores.{Objects};
 ghost use Rattle.gixobj_directories.specs.LookedUp.{IsFileIn, IsLookedUp};
 ghost use Rattle.gixobj_directories.specs.Openings.{AreTreesOf};
 ghost use Rattle.gixobj_files.specs.Files.{Files, Table, Trees};

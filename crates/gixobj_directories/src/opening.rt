@@ -17,11 +17,10 @@ ghost use Rattle.gixobj_directories.specs.declared.opening.NotLookedUp.TheVarian
 
 use crate::open::{Open, child_at, copy_tree, room_for, store_child, tree_id};
 use bstr::BString;
-use gixobj_find::FindExt;
-use gixobj_find::find::existing_object;
 use gixobj_hash::hash::ObjectId;
 use gixobj_hash::{OutOfMemory, decode};
-use gixobj_object::{Find, find};
+use gixobj_keep::find::{existing_object, existing_tree};
+use gixobj_store::{Find, find};
 use gixobj_tree::Tree;
 use std::alloc::{AllocError, Global};
 
@@ -130,7 +129,7 @@ fn find_directory<S: Find>(alloc: Global, store: &S, id: ObjectId) -> Result<Tre
         id) }
 {
     let mut buffer = Vec::new(alloc);
-    let tree = store.find_tree(alloc, id.as_oid(), &mut buffer)?;
+    let tree = existing_tree(alloc, store, id.as_oid(), &mut buffer)?;
     let tree = tree.into_owned(alloc)?;
     if !tree.is_well_formed() {
         return Err(Error::MalformedTree);

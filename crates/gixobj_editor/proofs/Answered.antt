@@ -18,7 +18,7 @@ use Rattle.gixobj_editor.specs.declared.reply.EditReply.{EditReply}
 use Rattle.gixobj_editor.specs.declared.reply.EditReply.TheVariants as edit_reply
 use Rattle.gixobj_editor.specs.declared.reply.Reply.{Reply}
 use Rattle.gixobj_editor.specs.declared.reply.Reply.TheVariants as reply
-use Rattle.gixobj_object.specs.Stores.{StoreModel}
+use Rattle.gixobj_store.specs.Stores.{StoreModel}
 
 module _ {S E : Type 0} (means : StoreModel S) (answers : Answers E) where
   -- the id is the closure's result for the tree

@@ -2,7 +2,7 @@
 -- it.
 use Rattle.std.proofs.Common.{◌≡◌, ◌≢◌, ◌∙◌, ℕ, List, [], ◌∷◌, ◌++◌, Some, None, Result, Ok, Err, ap, arith, refl, subst, sym}
 use Rattle.std.specs.Prelude.{OnErr, OnOk}
-use Rattle.gixobj_object.specs.Stores.{Objects}
+use Rattle.gixobj_store.specs.Stores.{Objects}
 use Rattle.gixobj_directories.specs.Openings.{AreTreesOf}
 use Rattle.gixobj_directories.proofs.NamedTrees.{trees_of_objects_exist}
 use Rattle.gixobj_files.specs.Edits.{arrived, Opens}

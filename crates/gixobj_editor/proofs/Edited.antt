@@ -9,7 +9,7 @@ use Rattle.gixobj_tree.specs.Entries.{EntryView, IsEntryName}
 use Rattle.gixobj_hash.specs.Hash.{null_id}
 use Rattle.gixobj_hash.specs.declared.hash.kind.Kind.{Kind}
 use Rattle.gixobj_hash.specs.declared.hash.object_id.ObjectId.{ObjectId}
-use Rattle.gixobj_object.specs.Stores.{Objects}
+use Rattle.gixobj_store.specs.Stores.{Objects}
 use Rattle.gixobj_files.specs.Edits.{IsNoTree, Opens, arrived, counted, upserted_dirs, raised}
 use Rattle.gixobj_files.specs.Files.{Path, SameFiles, Trees, Upserted}
 use Rattle.gixobj_files.specs.OpeningStops.{StopsOpening, IsNextUnopened, IsUnopenedAbove}

@@ -6,7 +6,7 @@ use Rattle.gixobj_editor.specs.declared.command.Command.{Command}
 use Rattle.gixobj_editor.specs.declared.command.Command.TheVariants as command
 use Rattle.gixobj_editor.specs.declared.command.Edit.{Edit}
 use Rattle.gixobj_editor.specs.declared.command.Edit.TheVariants as edit
-use Rattle.gixobj_object.specs.Stores.{StoreModel, Objects}
+use Rattle.gixobj_store.specs.Stores.{StoreModel, Objects}
 use Rattle.gixobj_directories.proofs.NamedTrees.{trees_of_objects_exist}
 use Rattle.gixobj_directories.specs.Calls.{names_of}
 use Rattle.gixobj_directories.specs.Openings.{AreTreesOf, OfTrees}
@@ -19,7 +19,7 @@ use Rattle.gixobj_files.specs.History.{History, ensure}
 use Rattle.gixobj_files.specs.State.{EditorFiles, State, open_bases, open_dirs}
 use Rattle.gixobj_tree.specs.Entries.{Pair}
 use Rattle.gixobj_files.specs.Tables.{AgreesWithPairs, AgreesWithStore}
-use Rattle.gixobj_find.specs.Keeping.{with_trees}
+use Rattle.gixobj_keep.specs.Keeping.{with_trees}
 use Rattle.gixobj_editor.specs.Commands.{Place, accepted_steps, at_cursor, at_root, kept_of, kept_of_edit, emitted_pairs, pairs_kept, pairs_of, pairs_of_edit, pairs_of_write, steps_at, steps_of, steps_of_edit, steps_of_edits, written_at, written_by}
 use Rattle.gixobj_editor.specs.Replies.{Answers, AreEditReplies, IsEditReply, IsReply, IsReplyAt, IsRun, IsWriteKept, IsWrittenAt}
 use Rattle.gixobj_editor.specs.RunTables.{AgreesWithObjects, AgreesWithRun}

@@ -7,7 +7,7 @@ use Rattle.gixobj_editor.specs.Commands.{Place}
 use Rattle.gixobj_editor.specs.Replies.{Answers, AreEditReplies, IsEditReply, IsReply, IsRun}
 use Rattle.gixobj_editor.specs.declared.reply.EditReply.{EditReply}
 use Rattle.gixobj_editor.specs.declared.reply.Reply.{Reply}
-use Rattle.gixobj_object.specs.Stores.{StoreModel}
+use Rattle.gixobj_store.specs.Stores.{StoreModel}
 
 none_remaining : {X : Type 0} (xs : List X) → length xs ≡ 0 → xs ≡ []
 none_remaining [] e = refl

@@ -3,7 +3,7 @@ use Rattle.std.proofs.Common.{◌≡◌, ◌≢◌, ◌∙◌, ◌⊎◌, inl, i
 use Rattle.std.proofs.lemmas.List.Elements.{All-cons, All-head, All-nil, All-tail}
 use Rattle.gixobj_tree.specs.Entries.{EntryView, IsEntryName}
 use Rattle.gixobj_hash.specs.declared.hash.object_id.ObjectId.{ObjectId}
-use Rattle.gixobj_object.specs.Stores.{Objects}
+use Rattle.gixobj_store.specs.Stores.{Objects}
 use Rattle.gixobj_directories.specs.Calls.{AreNames}
 use Rattle.gixobj_directories.specs.Openings.{IsOpenErrorAt}
 use Rattle.gixobj_directories.specs.declared.opening.Error as directory

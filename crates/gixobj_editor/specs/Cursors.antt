@@ -3,7 +3,7 @@ pub mod Stores
 use Rattle.std.specs.Prelude.{◌≡◌, ◌≢◌, ◌⊎◌, ◌++◌, ℕ, Bool, List, [], ◌∷◌, All, None, Some}
 use Rattle.std.specs.List.{FoldsTo}
 use Rattle.gixobj_directories.specs.Openings.{OfTrees}
-use Rattle.gixobj_object.specs.Stores.{StoreModel, Objects}
+use Rattle.gixobj_store.specs.Stores.{StoreModel, Objects}
 use Rattle.gixobj_directories.specs.Calls.{AreNames, IsStorable}
 use Rattle.gixobj_directories.specs.declared.opening.Error.TheVariants as opening
 use Rattle.gixobj_directories.specs.declared.write.Written.{Written}

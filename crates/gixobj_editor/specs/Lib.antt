@@ -15,4 +15,4 @@ pub use Rattle.gixobj_files.specs.Opening
 pub use Rattle.gixobj_files.specs.State
 pub use Rattle.gixobj_files.specs.Tables
 pub use Rattle.gixobj_files.specs.Unopened
-pub use Rattle.gixobj_find.specs.Keeping
+pub use Rattle.gixobj_keep.specs.Keeping

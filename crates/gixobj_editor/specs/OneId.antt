@@ -4,7 +4,7 @@ use Rattle.gixobj_editor.specs.declared.command.Command.{Command}
 use Rattle.gixobj_editor.specs.declared.command.Command.TheVariants as command
 use Rattle.gixobj_editor.specs.declared.command.Edit.{Edit}
 use Rattle.gixobj_editor.specs.declared.command.Edit.TheVariants as edit
-use Rattle.gixobj_object.specs.Stores.{Objects}
+use Rattle.gixobj_store.specs.Stores.{Objects}
 use Rattle.gixobj_directories.specs.declared.write.Written.{Written}
 use Rattle.gixobj_files.specs.Files.{FileSet, SameFiles, Table}
 use Rattle.gixobj_files.specs.PlainHistory.{NoFiles, PlainHistory}

@@ -1,7 +1,7 @@
 -- Effects and errors of removals by an editor (git-update-index, `--force-remove`).
 use Rattle.std.specs.Prelude.{◌≡◌, ◌⊎◌, ◌++◌, ℕ, Bool, true, false, List, [], ◌∷◌, Some, ⊤}
 use Rattle.bstr.specs.Owned.{bstring_bytes, joined}
-use Rattle.gixobj_object.specs.Stores.{Objects}
+use Rattle.gixobj_store.specs.Stores.{Objects}
 use Rattle.gixobj_directories.specs.Calls.{AreNames}
 use Rattle.gixobj_directories.specs.Openings.{IsDirectoryError}
 use Rattle.gixobj_directories.specs.declared.opening.Error as directory

@@ -6,7 +6,7 @@ use Rattle.gixobj_editor.specs.declared.command.Command.{Command}
 use Rattle.gixobj_editor.specs.declared.command.Command.TheVariants as command
 use Rattle.gixobj_editor.specs.declared.command.Edit.{Edit}
 use Rattle.gixobj_editor.specs.declared.command.Edit.TheVariants as edit
-use Rattle.gixobj_object.specs.Stores.{StoreModel, Objects}
+use Rattle.gixobj_store.specs.Stores.{StoreModel, Objects}
 use Rattle.gixobj_directories.specs.Calls.{IsStorable, names_of}
 use Rattle.gixobj_directories.specs.Emitting.{Stopped}
 use Rattle.gixobj_directories.specs.declared.write.WriteError.{WriteError}
@@ -25,7 +25,7 @@ use Rattle.gixobj_files.specs.Opening.{Dirs, in_path}
 use Rattle.gixobj_files.specs.State.{EditorFiles, State, open_bases, open_dirs, root_alone, with_store}
 use Rattle.gixobj_files.specs.Unopened.{inside}
 use Rattle.gixobj_hash.specs.declared.hash.object_id.ObjectId.{ObjectId}
-use Rattle.gixobj_find.specs.Keeping.{StopsKeepingAt, with_trees}
+use Rattle.gixobj_keep.specs.Keeping.{StopsKeepingAt, with_trees}
 use Rattle.gixobj_tree.specs.Entries.{EntryView, IsWellFormed, Pair}
 use Rattle.gixobj_tree.specs.TreeEncoding.{IsEncodableTree}
 use Rattle.gixobj_mode.specs.Mode.{mode_of_kind}

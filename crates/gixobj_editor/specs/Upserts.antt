@@ -1,6 +1,6 @@
 -- Effects and errors of upserts by an editor (git-update-index, `--cacheinfo`), and the effect of a failed edit.
 use Rattle.std.specs.Prelude.{◌≡◌, ◌≢◌, ◌≤◌, ◌⊎◌, ◌++◌, ℕ, Bool, List, [], ◌∷◌, Contains, Some, length, ⊤}
-use Rattle.gixobj_object.specs.Stores.{StoreModel, Objects}
+use Rattle.gixobj_store.specs.Stores.{StoreModel, Objects}
 use Rattle.gixobj_directories.specs.Calls.{AreNames}
 use Rattle.gixobj_directories.specs.Openings.{EndsBefore, OfTrees, IsDirectoryError}
 use Rattle.gixobj_directories.specs.declared.opening.NotLookedUp.{NotLookedUp}

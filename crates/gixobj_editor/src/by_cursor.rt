@@ -5,15 +5,15 @@ ghost use Rattle.gixobj_directories.specs.Calls.{names_of};
 ghost use Rattle.gixobj_editor.specs.Cursors.{cursor_path};
 ghost use Rattle.gixobj_editor.specs.Commands.{at_cursor};
 ghost use Rattle.gixobj_editor.specs.Replies.{AreEditReplies, IsCallable, IsEditReply, IsReplyAt};
-ghost use Rattle.gixobj_object.specs.Stores.{store_model};
+ghost use Rattle.gixobj_store.specs.Stores.{store_model};
 
 use crate::Edit;
 use crate::editor::{Cursor, Editor, Error};
 use crate::edits::{push_reserved, reply_to_edit};
 use crate::reply::{EditReply, Reply};
 use bstr::BString;
-use gixobj_find::{Keep, keep_all};
 use gixobj_hash::hash::ObjectId;
+use gixobj_keep::{Keep, keep_all};
 use gixobj_tree::Tree;
 use std::alloc::Global;
 

@@ -4,7 +4,7 @@
 ghost use Rattle.std.specs.Prelude.{◌≡◌, [], IfErr, IfOk, IsOk, OnErr, OnOk, ℕ};
 ghost use Rattle.std.specs.Borrow.{Lends, sem};
 ghost use Rattle.std.specs.Option.{option_copied};
-ghost use Rattle.gixobj_object.specs.Stores.{store_model};
+ghost use Rattle.gixobj_store.specs.Stores.{store_model};
 ghost use Rattle.gixobj_tree.specs.Entries.{IsWellFormed};
 ghost use Rattle.gixobj_mode.specs.Mode.{mode_of_kind};
 ghost use Rattle.gixobj_files.specs.Edits.{IsNoTree, entry_at};
@@ -35,7 +35,7 @@ use gixobj_directories::write::write_all;
 pub use gixobj_directories::write::{WriteError, Written};
 use gixobj_hash::OutOfMemory;
 use gixobj_hash::hash::{self, ObjectId};
-use gixobj_object::Find;
+use gixobj_store::Find;
 use gixobj_tree::Tree;
 use gixobj_tree::tree::{Entry, EntryKind};
 use names::{check_names, copy_names};

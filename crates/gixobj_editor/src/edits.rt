@@ -3,13 +3,13 @@ ghost use Rattle.std.specs.Prelude.{◌≡◌, ◌+◌, ◌≤◌, ◌<◌, ◌+
 ghost use Rattle.std.specs.Fn.{FnReturnsAt};
 ghost use Rattle.gixobj_editor.specs.Commands.{at_root};
 ghost use Rattle.gixobj_editor.specs.Replies.{IsCallable, IsEditReply, reply_to};
-ghost use Rattle.gixobj_object.specs.Stores.{store_model};
+ghost use Rattle.gixobj_store.specs.Stores.{store_model};
 
 use crate::Edit;
 use crate::editor::{Editor, Error};
 use crate::reply::EditReply;
-use gixobj_find::{Keep, keep_all};
 use gixobj_hash::hash::ObjectId;
+use gixobj_keep::{Keep, keep_all};
 use gixobj_tree::Tree;
 
 /// Does one edit, or a write, at paths from the root.

@@ -1,7 +1,7 @@
 //! Laws of the definitions, on tables that agree with runs and trees that decode to themselves. The contract
 //! of each function is a law.
 ghost use Rattle.std.specs.Prelude.{All};
-ghost use Rattle.gixobj_object.specs.Stores.{Objects};
+ghost use Rattle.gixobj_store.specs.Stores.{Objects};
 ghost use Rattle.gixobj_directories.specs.Openings.{AreTreesOf};
 ghost use Rattle.gixobj_files.specs.Files.{Table, Trees};
 ghost use Rattle.gixobj_tree.specs.Entries.{Pair};

@@ -1,6 +1,6 @@
 //! Replies to the commands of a run.
 use crate::editor::{Error, WriteError, Written};
-use gixobj_find::KeepError;
+use gixobj_keep::KeepError;
 
 /// The reply to an [`Edit`](crate::Edit): to an edit, or to a write.
 #[derive(Debug, Drop)]

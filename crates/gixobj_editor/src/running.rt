@@ -10,17 +10,17 @@ ghost use Rattle.gixobj_editor.specs.Commands.{accepted_steps, pairs_kept, writt
 ghost use Rattle.gixobj_editor.specs.OneId.{IdsDetermineFiles, IsPlainRun};
 ghost use Rattle.gixobj_editor.specs.Replies.{IsCallable, IsReply, IsRun};
 ghost use Rattle.gixobj_editor.specs.RunTables.{AgreesWithRun};
-ghost use Rattle.gixobj_find.specs.Keeping.{with_trees};
-ghost use Rattle.gixobj_object.specs.Stores.{store_model};
+ghost use Rattle.gixobj_keep.specs.Keeping.{with_trees};
+ghost use Rattle.gixobj_store.specs.Stores.{store_model};
 
 use crate::Command;
 use crate::by_cursor::do_edits_at;
 use crate::editor::{Editor, Written};
 use crate::edits::{do_edit, push_reserved};
 use crate::reply::Reply;
-use gixobj_find::Keep;
 use gixobj_hash::OutOfMemory;
 use gixobj_hash::hash::ObjectId;
+use gixobj_keep::Keep;
 use gixobj_tree::Tree;
 use std::alloc::Global;
 

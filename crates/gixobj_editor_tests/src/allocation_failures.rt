@@ -7,7 +7,7 @@ use crate::samples::{
 use crate::writes::stops_at_the_second;
 use bstr::BString;
 use gixobj_editor::editor::{Cursor, Editor, Error, Written};
-use gixobj_find::Memory;
+use gixobj_keep::Memory;
 use std::alloc::{AllocError, Global};
 
 /// Builds a path, again if the first allocation fails.

@@ -7,7 +7,7 @@ use bstr::BString;
 use gixobj_base::hash::ObjectId;
 use gixobj_base::tree::EntryKind;
 use gixobj_editor::editor::{Cursor, Editor, Error};
-use gixobj_find::Memory;
+use gixobj_keep::Memory;
 use std::alloc::Global;
 
 /// Inserts the file at two paths, one after the other.

@@ -4,7 +4,7 @@ use crate::samples::{are_upserted, cursor_of, emits, empty_editor, upserted, ups
 use gixobj_base::Tree;
 use gixobj_base::hash::Kind as HashKind;
 use gixobj_editor::editor::{Cursor, Editor, WriteError};
-use gixobj_find::Memory;
+use gixobj_keep::Memory;
 use std::alloc::Global;
 
 /// Returns whether a write by a cursor fails with the closure's error in the call of this number.

@@ -8,8 +8,8 @@ use gixobj_base::hash::{Kind as HashKind, ObjectId};
 use gixobj_base::tree::{Entry, EntryKind};
 use gixobj_base::{OutOfMemory, Tree};
 use gixobj_editor::editor::{Cursor, Editor};
-use gixobj_find::Memory;
 use gixobj_find_tests::failing::Failing;
+use gixobj_keep::Memory;
 use std::alloc::{AllocError, Global};
 
 const OTHER: ObjectId = ObjectId::Sha1([2; 20]);

@@ -10,7 +10,7 @@ use gixobj_base::Tree;
 use gixobj_base::hash::ObjectId;
 use gixobj_base::tree::EntryKind;
 use gixobj_editor::editor::{Cursor, Editor};
-use gixobj_find::Memory;
+use gixobj_keep::Memory;
 use std::alloc::{AllocError, Global};
 
 /// An id that the store lacks.

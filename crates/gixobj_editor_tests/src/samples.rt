@@ -5,9 +5,9 @@ use gixobj_base::hash::{Kind as HashKind, ObjectId};
 use gixobj_base::tree::{Entry, EntryKind};
 use gixobj_base::{Kind, Tree, WriteTo, encode};
 use gixobj_editor::editor::{Cursor, Editor, Error, WriteError, Written};
-use gixobj_find::{Keep, Memory};
-use gixobj_object::Find;
+use gixobj_keep::{Keep, Memory};
 use gixobj_script::edit_on;
+use gixobj_store::Find;
 use std::alloc::{AllocError, Global};
 
 pub(crate) const FILE: ObjectId = ObjectId::Sha1([1; 20]);

@@ -9,7 +9,7 @@ use gixobj_base::Tree;
 use gixobj_base::hash::{Kind as HashKind, ObjectId};
 use gixobj_base::tree::EntryKind;
 use gixobj_editor::editor::{Cursor, Editor, Written};
-use gixobj_find::{Keep, Memory};
+use gixobj_keep::{Keep, Memory};
 use std::alloc::{AllocError, Global};
 
 /// Returns whether a write emitted trees of these ids, and counted `saved` unchanged directories.

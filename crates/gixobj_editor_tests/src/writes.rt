@@ -9,7 +9,7 @@ use crate::unchanged::saves;
 use gixobj_base::Tree;
 use gixobj_base::hash::{Kind as HashKind, ObjectId};
 use gixobj_editor::editor::{Editor, WriteError, Written};
-use gixobj_find::Memory;
+use gixobj_keep::Memory;
 use std::alloc::Global;
 
 /// Returns whether a write stops at its second tree with the closure's error.

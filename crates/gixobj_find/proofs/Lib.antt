@@ -1,4 +1,2 @@
 mod Nothing
-mod Objects
 mod OfKinds
-pub mod Trees

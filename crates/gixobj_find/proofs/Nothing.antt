@@ -4,7 +4,7 @@ use Rattle.std.proofs.lemmas.List.{append-nil}
 use Rattle.std.specs.FinMap as finite
 use Rattle.std.specs.Option.{option_map}
 use Rattle.std.specs.Prelude.{Option, is_some}
-use Rattle.gixobj_object.specs.Stores.{IsFound, IsHeaderFound, StoredObject, header, named}
+use Rattle.gixobj_store.specs.Stores.{IsFound, IsHeaderFound, StoredObject, header, named}
 use Rattle.gixobj_hash.specs.Hash.{id_of}
 use Rattle.gixobj_hash.specs.Hash.Order.{id_cmp}
 use Rattle.gixobj_hash.specs.declared.hash.kind.Kind.TheVariants.{Sha1}

@@ -1,15 +1,23 @@
--- An object that decodes as a kind is of this kind.
-use Rattle.std.proofs.Common.{◌≡◌, ℕ, List, refl}
+-- An object that decodes as a kind is of this kind, and its content is the encoding of one. The lookups of `FindExt` use
+-- it.
+use Rattle.std.proofs.Common.{◌≡◌, ◌≢◌, ℕ, Bool, List, inl, inr, refl}
 use Rattle.gixobj_commit.specs.CommitViews.{commit_lines}
 use Rattle.gixobj_commit.specs.declared.commit.CommitRef.{CommitRef}
-use Rattle.gixobj_object.specs.Stores.{Objects}
+use Rattle.gixobj_store.specs.Stores.{Objects}
+use Rattle.gixobj_hash.specs.declared.decode.Error.{Error}
 use Rattle.gixobj_hash.specs.declared.hash.kind.Kind as hash
 use Rattle.gixobj_hash.specs.declared.hash.object_id.ObjectId.{ObjectId}
 use Rattle.gixobj_hash.specs.declared.kind.Kind.{Kind}
 use Rattle.gixobj_hash.specs.declared.kind.Kind.TheVariants as kind
 use Rattle.gixobj_line.specs.Commit.{DecodesToCommit}
-use Rattle.gixobj_object.specs.ObjectReading.{DecodesToObject}
+use Rattle.gixobj_keep.specs.ExistingTrees.{IsStoredContentError, IsEncodingOf, IsExistingTreeError, NamesSuch}
+use Rattle.gixobj_keep.specs.declared.find.existing_object.Error as decoded
+use Rattle.gixobj_keep.specs.declared.find.existing_object.Error.TheVariants as object
+use Rattle.gixobj_object.specs.BorrowedObjects.{borrowed_kind}
+use Rattle.gixobj_object.specs.ObjectReading.{DecodesToObject, IsObjectDecodeError}
+use Rattle.gixobj_object.specs.declared.object.borrowed.ObjectRef.{ObjectRef}
 use Rattle.gixobj_object.specs.declared.object.borrowed.ObjectRef.TheVariants as ref
+use Rattle.gixobj_tag.proofs.Recognized as recognized
 use Rattle.gixobj_tag.specs.TagFormat.{DecodesToTag}
 use Rattle.gixobj_tag.specs.TagViews.{tag_lines}
 use Rattle.gixobj_tag.specs.declared.tag.TagRef.{TagRef}
@@ -17,7 +25,7 @@ use Rattle.gixobj_tree.specs.TreeDecoding.{DecodesToTree}
 use Rattle.gixobj_tree.specs.TreeViews.{tree_entries}
 use Rattle.gixobj_tree.specs.declared.tree.borrowed.TreeRef.{TreeRef}
 use Rattle.gixobj_tree.specs.declared.blob.BlobRef.{BlobRef}
-use Rattle.gixobj_find.specs.Existing.{NamesSuch, NamesEncoding}
+use Rattle.gixobj_find.specs.Existing.{IsFindObjectError, NamesEncoding}
 
 is_blob : (hash : hash.Kind) (of : Kind) (content : List ℕ) (blob : BlobRef) → DecodesToObject hash of content (ref.Blob blob) → (of ≡ kind.Blob)
     × (blob.bytes.now ≡ content)
@@ -36,10 +44,6 @@ is_tree hash kind.Tree content tree is = (refl, is)
 is_tree hash kind.Blob content tree is = absurd is
 is_tree hash kind.Commit content tree is = absurd is
 is_tree hash kind.Tag content tree is = absurd is
-
-pub names_tree : (objects : Objects) (id : ObjectId) (tree : TreeRef) → NamesEncoding objects id (ref.Tree tree)
-    → NamesSuch objects id kind.Tree (λ hash content. DecodesToTree hash content (tree_entries tree))
-names_tree objects id tree (kept, names, is) = let of_kind = is_tree kept.object_hash kept.kind kept.bytes tree is in (kept, names, of_kind.0, of_kind.1)
 
 is_commit : (hash : hash.Kind) (of : Kind) (content : List ℕ) (commit : CommitRef) → DecodesToObject hash of content (ref.Commit commit) → (of ≡ kind.Commit)
     × (DecodesToCommit hash content (commit_lines commit))
@@ -63,3 +67,35 @@ is_tag hash kind.Tag content tag is = (refl, is)
 pub names_tag : (objects : Objects) (id : ObjectId) (tag : TagRef) → NamesEncoding objects id (ref.Tag tag)
     → NamesSuch objects id kind.Tag (λ hash content. DecodesToTag hash content (tag_lines tag))
 names_tag objects id tag (kept, names, is) = let of_kind = is_tag kept.object_hash kept.kind kept.bytes tag is in (kept, names, of_kind.0, of_kind.1)
+
+-- ---- objects of other kinds
+
+encoding_of : (hash : hash.Kind) (of : Kind) (content : List ℕ) (it : ObjectRef) → DecodesToObject hash of content it → (of ≡ borrowed_kind it)
+    × IsEncodingOf hash (borrowed_kind it) content
+encoding_of hash of content (ref.Tree tree) is = let it = is_tree hash of content tree is in (it.0, (tree_entries tree, it.1))
+encoding_of hash of content (ref.Blob blob) is = ((is_blob hash of content blob is).0, tt)
+encoding_of hash of content (ref.Commit commit) is = let it = is_commit hash of content commit is in (it.0, (commit_lines commit, it.1))
+encoding_of hash of content (ref.Tag tag) is = let it = is_tag hash of content tag is in (it.0, recognized.is_tag hash content (tag_lines tag) it.1)
+
+pub is_of_another_kind : (objects : Objects) (may_fail : ObjectId → Bool) (kind : Kind) (id : ObjectId) (it : ObjectRef) (error : decoded.Error)
+    → NamesEncoding objects id it → error ≡ object.ObjectKind id (borrowed_kind it) kind → borrowed_kind it ≢ kind
+    → IsFindObjectError objects may_fail kind id error
+is_of_another_kind objects may_fail kind id it error (kept, names, is) same other =
+    let encoding = encoding_of kept.object_hash kept.kind kept.bytes it is in inr (borrowed_kind it, same, other, (kept, names, encoding.0, encoding.1))
+
+-- ---- trees, whose lookup decodes no other object
+
+content_error : (hash : hash.Kind) (of : Kind) (content : List ℕ) (cause : Error) → IsStoredContentError hash of content cause
+    → IsObjectDecodeError hash of content cause
+content_error hash kind.Tree content cause is = is
+content_error hash kind.Blob content cause is = is
+content_error hash kind.Commit content cause (same, malformed) = rw same malformed
+content_error hash kind.Tag content cause (same, none) = (same, λ tag is. none (recognized.is_tag hash content tag is))
+
+pub is_tree_error : (objects : Objects) (may_fail : ObjectId → Bool) (id : ObjectId) (error : decoded.Error)
+    → IsExistingTreeError objects may_fail id error → IsFindObjectError objects may_fail kind.Tree id error
+is_tree_error objects may_fail id (object.Find cause) is = inl is
+is_tree_error objects may_fail id (object.NotFound said) is = inl is
+is_tree_error objects may_fail id (object.Decode said cause) (same, (kept, names, is)) = inl
+    (same, (kept, names, content_error kept.object_hash kept.kind kept.bytes cause is))
+is_tree_error objects may_fail id (object.ObjectKind said actual expected) (same, tree, other, such) = inr (actual, rw (same, tree) refl, other, such)

@@ -1,19 +1,18 @@
 -- Lookups of objects by id and kind in a store (git-cat-file).
 use Rattle.std.specs.Prelude.{◌≡◌, ◌≢◌, ◌⊎◌, ℕ, Bool, List, [], None}
-use Rattle.gixobj_object.specs.Stores.{Names, Objects, IsFindError, StoredObject, named}
+use Rattle.gixobj_store.specs.Stores.{Names, Objects, IsFindError, StoredObject, named}
 use Rattle.gixobj_hash.specs.Hash.{id_kind, id_of}
-use Rattle.gixobj_hash.specs.declared.hash.kind.Kind as hash
 use Rattle.gixobj_hash.specs.declared.hash.object_id.ObjectId.{ObjectId}
 use Rattle.gixobj_hash.specs.declared.kind.Kind.{Kind}
-use Rattle.gixobj_object.specs.BorrowedObjects.{borrowed_kind}
 use Rattle.gixobj_object.specs.ObjectReading.{DecodesToObject, IsObjectDecodeError}
 use Rattle.gixobj_object.specs.declared.object.borrowed.ObjectRef.{ObjectRef}
 use Rattle.gixobj_find.specs.declared.find.existing.Error as plain
 use Rattle.gixobj_find.specs.declared.find.existing.Error.TheVariants as existing
 use Rattle.gixobj_find.specs.declared.find.existing_iter.Error as iter_error
 use Rattle.gixobj_find.specs.declared.find.existing_iter.Error.TheVariants as iter
-use Rattle.gixobj_find.specs.declared.find.existing_object.Error as decoded
-use Rattle.gixobj_find.specs.declared.find.existing_object.Error.TheVariants as object
+pub use Rattle.gixobj_keep.specs.ExistingTrees.{IsEncodingOf, NamesSuch}
+use Rattle.gixobj_keep.specs.declared.find.existing_object.Error as decoded
+use Rattle.gixobj_keep.specs.declared.find.existing_object.Error.TheVariants as object
 
 -- the id names no object
 abbrev pub NamesNone : Objects → ObjectId → Type 0
@@ -27,11 +26,6 @@ IsEmptyId kind id = id ≡ id_of (id_kind id) kind []
 abbrev pub NamesEncoding : Objects → ObjectId → ObjectRef → Type 0
 NamesEncoding objects id it = (kept : StoredObject) × Names objects id kept
     × DecodesToObject kept.object_hash kept.kind kept.bytes it
-
--- the id names an object of this kind, for whose hash kind and content the predicate holds
-abbrev pub NamesSuch : Objects → ObjectId → Kind → (hash.Kind → List ℕ → Type 0) → Type 0
-NamesSuch objects id kind Is = (kept : StoredObject) × Names objects id kept × (kept.kind ≡ kind)
-    × Is kept.object_hash kept.bytes
 
 -- the id names an object of this kind, which differs from the expected kind
 abbrev pub NamesOther : Objects → ObjectId → Kind → Kind → Type 0
@@ -66,9 +60,10 @@ FailsToRead objects may_fail id (object.Decode said cause) =
     × IsObjectDecodeError kept.object_hash kept.kind kept.bytes cause)
 FailsToRead objects may_fail id (object.ObjectKind said actual expected) = ⊥
 
--- the error of a lookup of an object of this kind: that of a decoding lookup, or the object is of another kind
+-- the error of a lookup of an object of this kind: that of a decoding lookup, or the object is of another kind, and its
+-- content is the encoding of one
 abbrev pub IsFindObjectError : Objects → (ObjectId → Bool) → Kind → ObjectId → decoded.Error → Type 0
 IsFindObjectError objects may_fail kind id error =
     FailsToRead objects may_fail id error
-    ⊎ ((it : ObjectRef) × (error ≡ object.ObjectKind id (borrowed_kind it) kind) × NamesEncoding objects id it
-    × (borrowed_kind it ≢ kind))
+    ⊎ ((actual : Kind) × (error ≡ object.ObjectKind id actual kind) × (actual ≢ kind)
+    × NamesSuch objects id actual (λ hash content. IsEncodingOf hash actual content))

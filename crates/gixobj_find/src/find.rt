@@ -2,8 +2,8 @@
 
 pub mod existing;
 pub mod existing_iter;
-pub mod existing_object;
 mod never;
 
-pub use gixobj_object::find::Error;
+pub use gixobj_keep::find::existing_object;
+pub use gixobj_store::find::Error;
 pub use never::Never;

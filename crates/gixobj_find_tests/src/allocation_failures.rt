@@ -4,9 +4,10 @@
 use crate::existing::{Answer, found, found_reader, store_of};
 use crate::paths::entry_from;
 use crate::samples::{KINDS, ROOT_BYTES, VERSION_1, bytes_of, id, two_trees};
-use gixobj_find::{Memory, find};
+use gixobj_find::find;
 use gixobj_hash::Kind;
 use gixobj_hash::hash::{Kind as HashKind, ObjectId};
+use gixobj_keep::Memory;
 use std::alloc::Global;
 use std::test::Fail;
 

@@ -4,10 +4,11 @@
 use crate::failing::Failing;
 use crate::samples::{KINDS, bytes_of, id_of_bytes};
 use gixobj_find::find::{existing, existing_iter, existing_object};
-use gixobj_find::{FindExt, HeaderExt, Memory, find};
+use gixobj_find::{FindExt, HeaderExt, find};
 use gixobj_hash::hash::{Kind as HashKind, ObjectId};
 use gixobj_hash::{Kind, OutOfMemory, decode};
-use gixobj_object::Store;
+use gixobj_keep::Memory;
+use gixobj_store::Store;
 use std::alloc::Global;
 use std::test::Fail;
 

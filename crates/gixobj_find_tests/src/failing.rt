@@ -1,12 +1,13 @@
 //! A store in memory that counts its calls, and fails in some of them.
 ghost use Rattle.std.specs.Prelude.{◌≡◌};
-ghost use Rattle.gixobj_find.specs.Memory.{memory_objects};
+ghost use Rattle.gixobj_keep.specs.Memory.{memory_objects};
 
 use bstr::BString;
-use gixobj_find::{Keep, KeepCommit, KeepError, Memory, find};
+use gixobj_find::find;
 use gixobj_hash::Header;
 use gixobj_hash::hash::{ObjectId, oid};
-use gixobj_object::{Data, Exists, Find, FindHeader, Store};
+use gixobj_keep::{Keep, KeepCommit, KeepError, Memory};
+use gixobj_store::{Data, Exists, Find, FindHeader, Store};
 use gixobj_tree::Tree;
 use std::alloc::Global;
 use std::cell::Cell;

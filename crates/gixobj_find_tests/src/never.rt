@@ -7,7 +7,8 @@ use gixobj_find::find::Never;
 use gixobj_find::{Write, write};
 use gixobj_hash::Kind;
 use gixobj_hash::hash::{Kind as HashKind, ObjectId};
-use gixobj_object::{Exists, Find, FindHeader, ObjectRef};
+use gixobj_object::ObjectRef;
+use gixobj_store::{Exists, Find, FindHeader};
 use std::alloc::Global;
 use std::test::Fail;
 

@@ -3,9 +3,10 @@
 use crate::existing::{Answer, finds_the_empty_tree, found, found_reader};
 use crate::failing::Failing;
 use crate::samples::two_trees;
-use gixobj_find::{FindExt, Memory};
+use gixobj_find::FindExt;
 use gixobj_hash::hash::{Kind as HashKind, ObjectId};
 use gixobj_hash::{Kind, OutOfMemory, decode};
+use gixobj_keep::Memory;
 use std::alloc::Global;
 use std::test::Fail;
 

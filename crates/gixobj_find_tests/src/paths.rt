@@ -2,11 +2,12 @@
 
 use crate::failing::Failing;
 use crate::samples::{BAK, ROOT, ROOT_BYTES, VERSION_1, id, id_of_bytes, names, two_trees};
-use gixobj_find::{FindExt, Memory, find};
+use gixobj_find::{FindExt, find};
 use gixobj_hash::Kind;
 use gixobj_hash::hash::{Kind as HashKind, ObjectId};
+use gixobj_keep::Memory;
 use gixobj_mode::EntryKind;
-use gixobj_object::{Find, TreeRefIter};
+use gixobj_store::{Find, TreeRefIter};
 use gixobj_tree::tree::Entry;
 use std::alloc::Global;
 use std::test::Fail;

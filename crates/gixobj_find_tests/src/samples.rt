@@ -1,9 +1,10 @@
 //! Objects that several tests look up.
 
 use bstr::BString;
-use gixobj_find::{Memory, write};
+use gixobj_find::write;
 use gixobj_hash::hash::{Kind as HashKind, ObjectId};
 use gixobj_hash::{Kind, OutOfMemory};
+use gixobj_keep::Memory;
 use std::alloc::{AllocError, Global};
 
 /// The kinds of objects.

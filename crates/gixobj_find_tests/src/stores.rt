@@ -2,10 +2,11 @@
 
 use crate::failing::Failing;
 use crate::samples::{BAK, ROOT, bytes_of, id, id_of_bytes, two_trees};
-use gixobj_find::{Memory, find};
+use gixobj_find::find;
 use gixobj_hash::Kind;
 use gixobj_hash::hash::{Kind as HashKind, ObjectId};
-use gixobj_object::{Exists, Find, FindHeader, FindObjectOrHeader};
+use gixobj_keep::Memory;
+use gixobj_store::{Exists, Find, FindHeader, FindObjectOrHeader};
 use std::alloc::Global;
 use std::rc::Rc;
 use std::test::Fail;

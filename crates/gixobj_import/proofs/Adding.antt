@@ -3,12 +3,12 @@
 use Rattle.std.proofs.Common.{◌≡◌, ◌∙◌, ⊎_elim, List, [], ◌∷◌, Option, ap, subst, sym, take}
 use Rattle.std.proofs.lemmas.List.Elements.{All-take}
 use Rattle.gixobj_editor.specs.declared.command.Edit.{Edit}
-use Rattle.gixobj_object.specs.Stores.{StoreModel, Objects}
+use Rattle.gixobj_store.specs.Stores.{StoreModel, Objects}
 use Rattle.gixobj_directories.specs.declared.write.Written.{Written}
 use Rattle.gixobj_files.specs.State.{State}
 use Rattle.gixobj_hash.specs.declared.hash.kind.Kind as hash
 use Rattle.gixobj_hash.specs.declared.hash.object_id.ObjectId.{ObjectId}
-use Rattle.gixobj_find.specs.Keeping.{with_commit, with_trees}
+use Rattle.gixobj_keep.specs.Keeping.{with_commit, with_trees}
 use Rattle.gixobj_editor.specs.declared.reply.EditReply.TheVariants as reply
 use Rattle.gixobj_import.specs.ByDigest.{AddsByDigest}
 use Rattle.gixobj_import.specs.Commits.{encode_step}

@@ -1,7 +1,7 @@
 -- The commits of steps that are imported one after the other.
 use Rattle.std.proofs.Common.{◌≡◌, inr, List, [], ◌∷◌, Option, None, Some, ap, subst, sym}
 use Rattle.std.proofs.lemmas.List.Elements.{All-cons, All-head, All-nil}
-use Rattle.gixobj_object.specs.Stores.{StoreModel, Objects}
+use Rattle.gixobj_store.specs.Stores.{StoreModel, Objects}
 use Rattle.gixobj_hash.specs.Hash.{encode_id_hex}
 use Rattle.gixobj_hash.specs.Hash.Hex.{IsIdHexOfKind}
 use Rattle.gixobj_hash.specs.declared.hash.kind.Kind as hash

@@ -4,7 +4,7 @@ use Rattle.std.proofs.Common.{◌≡◌, ◌∙◌, ◌*◌, inl, inr, ⊎_elim,
 use Rattle.std.proofs.lemmas.List.Elements.{All-cons, All-head, All-nil, All-tail}
 use Rattle.std.specs.FinMap as finite
 use Rattle.std.specs.List.{FoldsTo}
-use Rattle.gixobj_object.specs.Stores.{Objects, StoredObject, named}
+use Rattle.gixobj_store.specs.Stores.{Objects, StoredObject, named}
 use Rattle.gixobj_directories.specs.declared.write.Written.{Written}
 use Rattle.gixobj_editor.specs.Writes.{IsWrittenEditor}
 use Rattle.gixobj_files.specs.State.{State}
@@ -16,7 +16,7 @@ use Rattle.gixobj_hash.specs.declared.hash.kind.Kind.TheVariants as hash_kind
 use Rattle.gixobj_hash.specs.declared.hash.object_id.ObjectId.{ObjectId}
 use Rattle.gixobj_hash.specs.declared.kind.Kind as kind
 use Rattle.gixobj_hash.specs.declared.kind.Kind.TheVariants.{Commit, Tree}
-use Rattle.gixobj_find.specs.Keeping.{commit_object, tree_object, with_commit, with_tree, with_trees}
+use Rattle.gixobj_keep.specs.Keeping.{commit_object, tree_object, with_commit, with_tree, with_trees}
 use Rattle.gixobj_tree.specs.TreeEncoding.{IsAnsweredDigest, encode_tree}
 use Rattle.gixobj_editor.specs.Replies.{ReturnsTreeId}
 use Rattle.gixobj_import.specs.ByDigest.{AddsByDigest, NamesByDigest, digest_id}

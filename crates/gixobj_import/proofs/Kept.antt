@@ -1,15 +1,15 @@
 -- A write whose trees the store then keeps, all of them or a prefix.
 use Rattle.std.proofs.Common.{◌≡◌, ◌∙◌, ℕ, All, List, ap, subst, sym}
-use Rattle.gixobj_object.specs.Stores.{StoreModel, Objects}
+use Rattle.gixobj_store.specs.Stores.{StoreModel, Objects}
 use Rattle.gixobj_directories.specs.declared.write.Written.{Written}
 use Rattle.gixobj_editor.specs.Writes.{IsWrittenEditor}
 use Rattle.gixobj_files.specs.State.{State, with_store}
 use Rattle.gixobj_tree.specs.Entries.{Pair}
 use Rattle.gixobj_hash.specs.declared.hash.kind.Kind as hash
 use Rattle.gixobj_hash.specs.declared.hash.object_id.ObjectId.{ObjectId}
-use Rattle.gixobj_find.specs.Keeping.{StopsKeepingAt, with_trees}
+use Rattle.gixobj_keep.specs.Keeping.{StopsKeepingAt, with_trees}
 use Rattle.gixobj_tree.specs.TreeEncoding.{IsEncodableTree, IsAnsweredDigest}
-use Rattle.gixobj_find.specs.declared.keeping.KeepError.{KeepError}
+use Rattle.gixobj_keep.specs.declared.keeping.KeepError.{KeepError}
 use Rattle.gixobj_editor.specs.Commands.{at_root}
 use Rattle.gixobj_editor.specs.Replies.{ReturnsTreeId, IsWriteKept, IsWrittenAt, KeepsAll}
 use Rattle.gixobj_editor.specs.declared.reply.EditReply.TheVariants as reply

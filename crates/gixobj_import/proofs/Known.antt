@@ -1,7 +1,7 @@
 -- Facts about stores from the laws that a body calls.
 use Rattle.std.proofs.Common.{◌≡◌, ◌≢◌, ◌⊎◌, Some}
 use Rattle.std.specs.FinMap as finite
-use Rattle.gixobj_object.specs.Stores.{Objects, StoredObject, named}
+use Rattle.gixobj_store.specs.Stores.{Objects, StoredObject, named}
 use Rattle.gixobj_directories.specs.Openings.{AreTreesOf}
 use Rattle.gixobj_files.specs.Files.{Trees}
 use Rattle.gixobj_hash.specs.declared.hash.object_id.ObjectId.{ObjectId}

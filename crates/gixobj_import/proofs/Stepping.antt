@@ -18,7 +18,7 @@ use Rattle.gixobj_import.specs.declared.import.ImportError.TheVariants as import
 use Rattle.gixobj_import.specs.declared.import.Imported.{Imported}
 use Rattle.gixobj_import.specs.declared.import.Importer.{Importer}
 use Rattle.gixobj_import.specs.declared.import.Step.{Step}
-use Rattle.gixobj_object.specs.Stores.{StoreModel}
+use Rattle.gixobj_store.specs.Stores.{StoreModel}
 
 found : (steps : List Step) (index : ℕ) (it : Step) → index < length steps → it ≡ get_or steps index it → slice_get steps index ≡ Some it
 found [] zero it within is = absurd (omega arith)

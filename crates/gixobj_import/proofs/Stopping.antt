@@ -12,7 +12,7 @@ use Rattle.gixobj_import.proofs.Committing.{commits_of_new}
 use Rattle.gixobj_import.proofs.Digests.{adds_by_digest_nil, adds_by_digest_append}
 use Rattle.gixobj_import.proofs.Filing.{files_of_new}
 use Rattle.gixobj_import.proofs.Known.{OfStores}
-use Rattle.gixobj_object.specs.Stores.{StoreModel}
+use Rattle.gixobj_store.specs.Stores.{StoreModel}
 
 module _ {S : Type 0} (means : StoreModel S) (laws : OfStores) where
   pub stopped_adds : (old new : Importer S) (steps : List Step) (imported : List Imported) (error : ImportError) → Stops means old steps imported error new

@@ -1,13 +1,13 @@
 -- Tables that agree with imports: for the law `consistent_import_has_table`.
 use Rattle.std.proofs.Common.{◌≡◌, ◌≢◌, ◌∙◌, ⊎_elim, All, ℕ, zero, suc, List, [], ◌∷◌, ◌++◌, Option, None, Some, ap, subst, sym, take}
 use Rattle.std.proofs.lemmas.List.Elements.{All-head, All-nil, All-cons, All-tail}
-use Rattle.gixobj_object.specs.Stores.{Objects, StoredObject, named}
+use Rattle.gixobj_store.specs.Stores.{Objects, StoredObject, named}
 use Rattle.gixobj_directories.specs.Openings.{AreTreesOf, NamesTree}
 use Rattle.gixobj_files.specs.Files.{Table, Trees}
 use Rattle.gixobj_files.specs.Tables.{AgreesWithPairs, AgreesWithStore, IsConsistentWith}
 use Rattle.gixobj_hash.specs.declared.hash.object_id.ObjectId.{ObjectId}
 use Rattle.gixobj_hash.specs.declared.kind.Kind.TheVariants.{Tree}
-use Rattle.gixobj_find.specs.Keeping.{commit_object, tree_object, with_commit, with_tree, with_trees}
+use Rattle.gixobj_keep.specs.Keeping.{commit_object, tree_object, with_commit, with_tree, with_trees}
 use Rattle.gixobj_editor.specs.RunTables.{AgreesWithObjects, DecodesToItself}
 use Rattle.gixobj_tree.specs.TreeDecoding.{DecodesToTree}
 use Rattle.gixobj_tree.specs.Entries.{EntryView, Pair}

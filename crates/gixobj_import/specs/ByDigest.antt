@@ -1,9 +1,9 @@
 -- Objects that a store names by their digests.
 use Rattle.std.specs.Prelude.{◌≡◌, ◌⊎◌, ℕ, List}
-use Rattle.gixobj_object.specs.Stores.{Names, Objects, StoredObject, named}
+use Rattle.gixobj_store.specs.Stores.{Names, Objects, StoredObject, named}
 use Rattle.gixobj_hash.specs.Hash.{id_of}
 use Rattle.gixobj_hash.specs.declared.hash.object_id.ObjectId.{ObjectId}
-use Rattle.gixobj_find.specs.Keeping.{commit_object}
+use Rattle.gixobj_keep.specs.Keeping.{commit_object}
 
 -- the digest of an object
 abbrev pub digest_id : StoredObject → ObjectId

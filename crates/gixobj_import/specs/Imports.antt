@@ -2,7 +2,7 @@
 use Rattle.std.specs.Prelude.{◌≡◌, ℕ, suc, false, List, [], ◌∷◌, Option, Some, None, length, slice_get, take}
 use Rattle.std.specs.List.{flat_map}
 use Rattle.gixobj_actor.specs.ActorWriting.{encode_owned_actor}
-use Rattle.gixobj_object.specs.Stores.{Objects}
+use Rattle.gixobj_store.specs.Stores.{Objects}
 use Rattle.gixobj_files.specs.Bases.{HasBases}
 use Rattle.gixobj_files.specs.Files.{FileSet, NamedFiles, SameFiles, Table}
 use Rattle.gixobj_files.specs.History as history
@@ -13,7 +13,7 @@ use Rattle.gixobj_hash.specs.Hash.{id_of}
 use Rattle.gixobj_hash.specs.declared.hash.kind.Kind as hash
 use Rattle.gixobj_hash.specs.declared.hash.object_id.ObjectId.{ObjectId}
 use Rattle.gixobj_hash.specs.declared.kind.Kind.TheVariants.{Commit}
-use Rattle.gixobj_find.specs.Keeping.{with_commit, with_trees}
+use Rattle.gixobj_keep.specs.Keeping.{with_commit, with_trees}
 use Rattle.gixobj_line.specs.Commit.{DecodesToCommit}
 use Rattle.gixobj_editor.specs.RunTables.{AgreesWithObjects}
 use Rattle.gixobj_import.specs.ByDigest.{NamesCommit}

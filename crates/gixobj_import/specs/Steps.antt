@@ -11,8 +11,8 @@ use Rattle.gixobj_hash.specs.Hash.Hex.{IsIdHexOfKind}
 use Rattle.gixobj_hash.specs.declared.hash.kind.Kind as hash
 use Rattle.gixobj_hash.specs.declared.hash.object_id.ObjectId.{ObjectId}
 use Rattle.gixobj_hash.specs.declared.kind.Kind.TheVariants.{Commit}
-use Rattle.gixobj_find.specs.Keeping.{IsKeepCommitError, with_commit}
-use Rattle.gixobj_find.specs.declared.keeping.KeepError.{KeepError}
+use Rattle.gixobj_keep.specs.Keeping.{IsKeepCommitError, with_commit}
+use Rattle.gixobj_keep.specs.declared.keeping.KeepError.{KeepError}
 use Rattle.gixobj_line.specs.Commit.{DecodesToCommit}
 use Rattle.gixobj_editor.specs.declared.reply.EditReply.TheVariants as reply
 use Rattle.gixobj_import.specs.Commits.{NamesSignature, only_parent, step_commit, encode_step}
@@ -22,7 +22,7 @@ use Rattle.gixobj_import.specs.declared.import.ImportError.TheVariants as import
 use Rattle.gixobj_import.specs.declared.import.Imported.{Imported}
 use Rattle.gixobj_import.specs.declared.import.Importer.{Importer}
 use Rattle.gixobj_import.specs.declared.import.Step.{Step}
-use Rattle.gixobj_object.specs.Stores.{StoreModel}
+use Rattle.gixobj_store.specs.Stores.{StoreModel}
 
 -- the importer with another store
 abbrev pub over_store : {S : Type 0} → Importer S → S → Importer S

@@ -4,7 +4,7 @@ ghost use Rattle.gixobj_actor.specs.ActorWriting.{IsLegal, encode_owned_actor};
 ghost use Rattle.gixobj_commit.specs.CommitViews.{owned_commit_lines};
 ghost use Rattle.gixobj_import.specs.Commits.{NamesSignature, SameActor, only_parent, step_commit, encode_step};
 ghost use Rattle.gixobj_import.specs.Steps.{IsCommitKept, IsStepCommitError, IsStepEncodeError};
-ghost use Rattle.gixobj_object.specs.Stores.{store_model};
+ghost use Rattle.gixobj_store.specs.Stores.{store_model};
 
 use crate::import::{ImportError, Step};
 use crate::written::is_an_id;
@@ -14,10 +14,10 @@ use gixobj_actor::laws::actor_round_trips;
 use gixobj_commit::Commit;
 use gixobj_editor::editor::Editor;
 use gixobj_fields::{WriteTo, encode};
-use gixobj_find::KeepCommit;
 use gixobj_hash::hash::{self, ObjectId};
 use gixobj_hash::laws::hex_round_trips;
 use gixobj_hash::{Kind, OutOfMemory, compute_hash};
+use gixobj_keep::KeepCommit;
 use smallvec::SmallVec;
 use std::alloc::Global;
 

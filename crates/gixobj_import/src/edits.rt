@@ -2,11 +2,11 @@
 ghost use Rattle.std.specs.Prelude.{◌≢◌, ◌↔◌, Contains, IfErr, IsTrue, OnOk};
 ghost use Rattle.gixobj_import.specs.Edited.{AreDone, IsFailedAt, IsReplied};
 ghost use Rattle.gixobj_editor.specs.Replies.{reply_to};
-ghost use Rattle.gixobj_object.specs.Stores.{store_model};
+ghost use Rattle.gixobj_store.specs.Stores.{store_model};
 
 use gixobj_editor::Edit;
 use gixobj_editor::editor::{Editor, Error};
-use gixobj_object::Find;
+use gixobj_store::Find;
 
 /// Returns `true` if one of the edits is a write.
 pub(crate) fn hold_a_write(edits: &[Edit]) -> bool

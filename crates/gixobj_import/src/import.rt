@@ -8,7 +8,7 @@ ghost use Rattle.gixobj_import.specs.ByDigest.{AddsByDigest};
 ghost use Rattle.gixobj_import.specs.Imports.{AgreesWithStep, AreCommitsOf, HasFilesOf, HaveFilesOfNothing, IsNewImporter, before};
 ghost use Rattle.gixobj_import.specs.Steps.{AreImported, IsImported, IsStepError, Stops, over_store};
 ghost use Rattle.gixobj_import.specs.contracts.import.Importer.{the_row};
-ghost use Rattle.gixobj_object.specs.Stores.{store_model};
+ghost use Rattle.gixobj_store.specs.Stores.{store_model};
 
 use crate::commits::keep_commit_of;
 use crate::edits::hold_a_write;
@@ -20,11 +20,11 @@ use gixobj_editor::Edit;
 use gixobj_editor::editor::{Editor, Error, WriteError, Written};
 use gixobj_editor::edits::push_reserved;
 use gixobj_fields::encode;
-pub use gixobj_find::KeepCommit;
-use gixobj_find::{Keep, KeepError};
 use gixobj_hash::OutOfMemory;
 use gixobj_hash::hash::{self, ObjectId};
-use gixobj_object::laws::{id_equality_is_decidable, object_map_insert};
+pub use gixobj_keep::KeepCommit;
+use gixobj_keep::{Keep, KeepError};
+use gixobj_store::laws::{id_equality_is_decidable, object_map_insert};
 use gixobj_tree::Tree;
 use std::alloc::Global;
 

@@ -1,6 +1,6 @@
 //! Laws of imports. The contract of each function is a law.
 ghost use Rattle.std.specs.Prelude.{All, None};
-ghost use Rattle.gixobj_object.specs.Stores.{Objects};
+ghost use Rattle.gixobj_store.specs.Stores.{Objects};
 ghost use Rattle.gixobj_directories.specs.Openings.{AreTreesOf};
 ghost use Rattle.gixobj_files.specs.Files.{Table, Trees};
 ghost use Rattle.gixobj_files.specs.Tables.{IsConsistentWith};
@@ -9,7 +9,7 @@ ghost use Rattle.gixobj_editor.specs.RunTables.{DecodesToItself};
 
 use crate::import::{Imported, Step};
 use gixobj_files::laws::consistent_pairs_have_table;
-use gixobj_object::laws::{id_equality_is_decidable, object_map_insert};
+use gixobj_store::laws::{id_equality_is_decidable, object_map_insert};
 
 /// Some table agrees with an import by a new importer, if the emitted trees are consistent.
 ///

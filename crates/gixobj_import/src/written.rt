@@ -10,16 +10,16 @@ ghost use Rattle.gixobj_tree.specs.TreeEncoding.{IsAnsweredDigest};
 ghost use Rattle.gixobj_import.specs.Steps.{HaveHex, IsStepEditsError, IsStepWriteError};
 ghost use Rattle.gixobj_editor.specs.Replies.{Denies, ReturnsTreeId};
 ghost use Rattle.hex.specs.Hex.{IsBytes};
-ghost use Rattle.gixobj_object.specs.Stores.{store_model};
+ghost use Rattle.gixobj_store.specs.Stores.{store_model};
 
 use crate::edits::do_edits;
 use crate::import::ImportError;
 use gixobj_editor::editor::{Editor, WriteError, Written};
 use gixobj_editor::{Edit, EditReply};
 use gixobj_fields::encode;
-use gixobj_find::{Keep, keep_all};
 use gixobj_hash::hash::{self, ObjectId};
 use gixobj_hash::laws::hex_round_trips;
+use gixobj_keep::{Keep, keep_all};
 use gixobj_tree::Tree;
 use std::alloc::Global;
 

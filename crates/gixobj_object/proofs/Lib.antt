@@ -1,8 +1,1 @@
-mod BrokenTrees
 mod Contents
-pub mod Keeping
-mod PathBytes
-mod Paths
-mod Searching
-mod Steps
-mod Walks

@@ -1,13 +1,8 @@
 pub mod BorrowedObjects
-pub mod Checksums
-pub mod EntrySteps
-pub mod Lookups
 pub mod LooseObjects
 pub mod ObjectReading
 pub mod Objects
 pub mod Parts
-pub mod Stores
-pub mod TreeReaders
 pub use Rattle.gixobj_line.specs.Commit
 pub use Rattle.gixobj_commit.specs.CommitOwned
 pub use Rattle.gixobj_commit.specs.CommitViews

@@ -6,7 +6,7 @@ use crate::loose_objects::case_of;
 use crate::recorded::answers::Answer;
 use crate::recorded::fields::fault;
 use gixobj_base::{WriteTo, compute_hash, decode, hash};
-use gixobj_codec::{Data, Object, ObjectRef};
+use gixobj_codec::{Data, DataExt, Object, ObjectRef};
 
 /// Answers with a loose object.
 pub(crate) fn loose_answer(question: &[u8], answer: &mut Answer) {

@@ -5,8 +5,8 @@ use crate::recorded::fields::{bytes_of, cut, kind_of_ids};
 use gixobj_base::{Kind, OutOfMemory, Tree, encode, hash};
 use gixobj_editor::editor::{Editor, Error};
 use gixobj_editor::{Command, EditReply, Reply, run};
-use gixobj_find::Memory;
-use gixobj_find::find::existing_object;
+use gixobj_keep::Memory;
+use gixobj_keep::find::existing_object;
 use gixobj_script::{parse_script, report_lines};
 use std::alloc::Global;
 

@@ -3,7 +3,7 @@ use Rattle.std.proofs.Common.{◌≡◌, ◌∙◌, All, ℕ, List, [], ◌∷�
 use Rattle.std.proofs.lemmas.List.Elements.{All-head, All-tail, All-weaker}
 use Rattle.std.specs.FinMap as finite
 use Rattle.gixobj_editor.specs.declared.command.Command.{Command}
-use Rattle.gixobj_object.specs.Stores.{Objects, StoredObject, named}
+use Rattle.gixobj_store.specs.Stores.{Objects, StoredObject, named}
 use Rattle.gixobj_directories.specs.Openings.{AreTreesOf}
 use Rattle.gixobj_fields.specs.declared.encode.Error.{Error}
 use Rattle.gixobj_files.specs.Files.{Trees}
@@ -21,7 +21,7 @@ use Rattle.gixobj_editor.specs.Commands.{emitted_pairs, pairs_kept}
 use Rattle.gixobj_editor.specs.Replies.{IsRun}
 use Rattle.gixobj_editor.specs.RunTables.{DecodesToItself}
 use Rattle.gixobj_editor.specs.declared.reply.Reply.{Reply}
-use Rattle.gixobj_find.specs.declared.memory.Memory.{Memory}
+use Rattle.gixobj_keep.specs.declared.memory.Memory.{Memory}
 use Rattle.gixobj_tree.specs.Rewriting.{RoundTrips}
 use Rattle.gixobj_tree.specs.Entries.{EntryView, Pair}
 use Rattle.gixobj_tree.specs.TreeEncoding.{encode_tree, IsAnsweredDigest}

@@ -3,7 +3,7 @@ use Rattle.std.specs.Prelude.{◌≡◌, ◌⊎◌, ℕ, false, List, [], map}
 use Rattle.std.specs.FinMap as finite
 use Rattle.gixobj_editor.specs.Views.{CommandView, command_view}
 use Rattle.gixobj_editor.specs.declared.command.Command.{Command}
-use Rattle.gixobj_object.specs.Stores.{StoreModel}
+use Rattle.gixobj_store.specs.Stores.{StoreModel}
 use Rattle.gixobj_tree.specs.TreeEncoding.{IsAnsweredDigest}
 use Rattle.gixobj_script.specs.Reporting.{report_lines_of}
 use Rattle.gixobj_files.specs.State.{State, root_alone}
@@ -13,8 +13,8 @@ use Rattle.gixobj_editor.specs.declared.reply.Reply.{Reply}
 use Rattle.gixobj_script.specs.Scripts.{IsFirstBad, IsScript, IsScriptParseError}
 use Rattle.gixobj_script.specs.declared.script.ScriptError.{ScriptError}
 use Rattle.gixobj_script.specs.declared.script.ScriptError.TheVariants as script
-use Rattle.gixobj_find.specs.Memory.{memory_objects}
-use Rattle.gixobj_find.specs.declared.memory.Memory.{Memory}
+use Rattle.gixobj_keep.specs.Memory.{memory_objects}
+use Rattle.gixobj_keep.specs.declared.memory.Memory.{Memory}
 
 -- the script decodes to commands, which run from the old state to the new one; the bytes report the replies to them and
 -- then the lookups

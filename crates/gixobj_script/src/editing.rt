@@ -1,7 +1,7 @@
 //! Runs of scripts on an editor, with a report of the replies.
 ghost use Rattle.std.specs.Prelude.{◌≡◌, ◌⊎◌, ℕ, IfErr, IfOk, OnErr};
 ghost use Rattle.std.specs.Fn.{FnReturnsAt};
-ghost use Rattle.gixobj_object.specs.Stores.{store_model};
+ghost use Rattle.gixobj_store.specs.Stores.{store_model};
 ghost use Rattle.gixobj_tree.specs.TreeEncoding.{IsAnsweredDigest};
 ghost use Rattle.gixobj_script.specs.Edits.{IsEdit, IsReported, IsScriptRunError, WasRun};
 ghost use Rattle.gixobj_script.specs.declared.script.ScriptError.TheVariants.{BadLine};
@@ -10,8 +10,8 @@ ghost use Rattle.gixobj_editor.specs.Replies.{IsCallable};
 use crate::{ScriptError, parse_script, report_lines};
 use gixobj_editor::editor::Editor;
 use gixobj_editor::run;
-use gixobj_find::{Keep, Memory};
 use gixobj_hash::hash::{Kind, ObjectId};
+use gixobj_keep::{Keep, Memory};
 use gixobj_tree::Tree;
 use std::alloc::Global;
 

@@ -16,7 +16,7 @@ ghost use Rattle.gixobj_files.specs.Bases.{opened_bases};
 ghost use Rattle.gixobj_files.specs.Opening.{IsOpened, in_path};
 ghost use Rattle.gixobj_files.specs.State.{open_bases, open_dirs};
 ghost use Rattle.gixobj_files.specs.Unopened.{inside};
-ghost use Rattle.gixobj_object.specs.Stores.{store_model};
+ghost use Rattle.gixobj_store.specs.Stores.{store_model};
 ghost use Rattle.gixobj_mode.specs.Mode.{mode_of_kind};
 
 use super::names::{check_names, copy_names, join_paths};
@@ -26,7 +26,7 @@ use gixobj_directories::opening::NotLookedUp;
 use gixobj_directories::write::write_at;
 use gixobj_hash::OutOfMemory;
 use gixobj_hash::hash::ObjectId;
-use gixobj_object::Find;
+use gixobj_store::Find;
 use gixobj_tree::Tree;
 use gixobj_tree::tree::{Entry, EntryKind};
 use std::alloc::AllocError;

@@ -1,7 +1,7 @@
 //! Errors of edits by an editor or a cursor.
 use bstr::BString;
 use gixobj_directories::opening;
-use gixobj_find::find::existing_object;
+use gixobj_keep::find::existing_object;
 use std::alloc::AllocError;
 
 /// The error of an edit by an [`Editor`](super::Editor) or a [`Cursor`](super::Cursor). The editor's files

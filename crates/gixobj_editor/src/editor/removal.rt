@@ -20,7 +20,7 @@ use crate::editor::names::{check_names, validated};
 use bstr::BString;
 use gixobj_directories::open::Open;
 use gixobj_directories::opening::NotLookedUp;
-use gixobj_object::Find;
+use gixobj_store::Find;
 use std::alloc::{AllocError, Global};
 
 /// Opens the directories above a path, as far as they exist, and validates each name that it reaches.

@@ -1,6 +1,6 @@
 //! The error of lookups of objects that have to exist.
 use gixobj_hash::hash::ObjectId;
-use gixobj_object::find;
+use gixobj_store::find;
 
 /// The error of [`FindExt::find`](crate::FindExt::find) and [`HeaderExt::header`](crate::HeaderExt::header).
 #[derive(Debug, Drop, thiserror::Error)]

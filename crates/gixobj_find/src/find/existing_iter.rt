@@ -1,7 +1,7 @@
 //! The error of lookups that return an iterator over an object.
 use gixobj_hash::Kind;
 use gixobj_hash::hash::ObjectId;
-use gixobj_object::find;
+use gixobj_store::find;
 
 /// The error of the lookups of [`FindExt`](crate::FindExt) that return an iterator.
 #[derive(Debug, Drop, thiserror::Error)]

@@ -1,14 +1,14 @@
 //! A store that keeps nothing and finds nothing.
 ghost use Rattle.std.specs.Prelude.{◌≡◌, IfErr, IfOk, IsFalse, None, Ok, false, is_some};
 ghost use Rattle.std.specs.FinMap as map;
-ghost use Rattle.gixobj_object.specs.Stores.{IsFound, IsFindError, named};
+ghost use Rattle.gixobj_store.specs.Stores.{IsFound, IsFindError, named};
 ghost use Rattle.gixobj_hash.specs.Hash.Borrowed.{borrowed_id};
 
 mod header;
 mod write;
 
 use gixobj_hash::hash::oid;
-use gixobj_object::{Data, Exists, Find, Store, find};
+use gixobj_store::{Data, Exists, Find, Store, find};
 
 /// A store that keeps nothing and finds nothing. An object that is written to it gets its SHA-1 id.
 #[derive(Clone, Copy, Debug)]

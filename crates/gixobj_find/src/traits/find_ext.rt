@@ -2,15 +2,16 @@
 ghost use Rattle.std.specs.Prelude.{◌≡◌, [], IfErr, IfOk, IsOk};
 ghost use Rattle.gixobj_commit.specs.CommitViews.{commit_lines};
 ghost use Rattle.gixobj_commit.specs.CommitWriting.{HasIds};
-ghost use Rattle.gixobj_object.specs.EntrySteps.{IsAtEntry};
-ghost use Rattle.gixobj_object.specs.Stores.{Names, stored};
+ghost use Rattle.gixobj_store.specs.EntrySteps.{IsAtEntry};
+ghost use Rattle.gixobj_store.specs.Stores.{Names, stored};
 ghost use Rattle.gixobj_hash.specs.Hash.{IsIdHex};
 ghost use Rattle.gixobj_hash.specs.Hash.Borrowed.{borrowed_id};
 ghost use Rattle.gixobj_hash.specs.declared.kind.Kind.TheVariants as object;
-ghost use Rattle.gixobj_find.specs.Existing.{IsEmptyId, IsMissing, FailsToRead, NamesSuch, NamesEncoding, IsExistingError, IsFindObjectError, IsReaderError};
+ghost use Rattle.gixobj_find.specs.Existing.{IsEmptyId, IsMissing, FailsToRead, NamesEncoding, IsExistingError, IsFindObjectError, IsReaderError};
 ghost use Rattle.gixobj_line.specs.Commit.{DecodesToCommit};
 ghost use Rattle.gixobj_find.specs.declared.find.existing_iter.Error.TheVariants as iter_error;
-ghost use Rattle.gixobj_find.specs.declared.find.existing_object.Error.TheVariants as decoded;
+ghost use Rattle.gixobj_keep.specs.ExistingTrees.{NamesSuch};
+ghost use Rattle.gixobj_keep.specs.declared.find.existing_object.Error.TheVariants as decoded;
 ghost use Rattle.gixobj_object.specs.BorrowedObjects.{HasObjectIds};
 ghost use Rattle.gixobj_ref_iter.specs.TagTokenSteps.{IsAtStartOfTag};
 ghost use Rattle.gixobj_tag.specs.TagFormat.{DecodesToTag};
@@ -23,8 +24,10 @@ use crate::find::{existing, existing_iter, existing_object};
 use gixobj_commit::CommitRef;
 use gixobj_hash::Kind;
 use gixobj_hash::hash::{ObjectId, oid};
-use gixobj_object::{Data, Find, ObjectRef, TreeRefIter};
+use gixobj_keep::find::existing_tree;
+use gixobj_object::{DataExt, ObjectRef};
 use gixobj_ref_iter::{CommitRefIter, TagRefIter};
+use gixobj_store::{Data, Find, TreeRefIter};
 use gixobj_tag::TagRef;
 use gixobj_tree::{BlobRef, TreeRef};
 use std::alloc::Global;
@@ -118,7 +121,6 @@ pub trait FindExt: Find {
     ///     Err(error) => return Err(Error::FindExistingObject(error)),
     /// };
     /// ```
-    #[tactic(auto, using(crate::proofs::OfKinds::names_tree))]
     final fn find_tree<'a>(
         &self,
         alloc: Global,
@@ -138,10 +140,7 @@ pub trait FindExt: Find {
         if id.is_empty_tree() {
             return Ok(TreeRef::empty(alloc));
         }
-        match decoded(self, alloc, id, buffer)? {
-            ObjectRef::Tree(tree) => Ok(tree),
-            other => Err(of_another_kind(id, other.kind(), Kind::Tree)),
-        }
+        existing_tree(alloc, self, id, buffer)
     }
 
     /// Looks up and decodes the commit that `id` names. Allocates its parents from the second one on, and its

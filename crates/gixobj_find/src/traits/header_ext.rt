@@ -1,13 +1,13 @@
 //! Lookups of headers of objects that have to exist.
 ghost use Rattle.std.specs.Prelude.{◌≡◌, IfErr, IfOk};
-ghost use Rattle.gixobj_object.specs.Stores.{Names, StoredObject, header};
+ghost use Rattle.gixobj_store.specs.Stores.{Names, StoredObject, header};
 ghost use Rattle.gixobj_hash.specs.Hash.Borrowed.{borrowed_id};
 ghost use Rattle.gixobj_find.specs.Existing.{IsExistingError};
 
 use crate::find::existing;
 use gixobj_hash::Header;
 use gixobj_hash::hash::oid;
-use gixobj_object::FindHeader;
+use gixobj_store::FindHeader;
 
 /// Lookups of headers of objects that have to exist (git-cat-file, `-t` and `-s`). Implemented for every
 /// [`FindHeader`].

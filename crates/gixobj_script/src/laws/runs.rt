@@ -11,8 +11,8 @@ ghost use Rattle.gixobj_hash.specs.declared.hash.kind.Kind.{Kind};
 ghost use Rattle.gixobj_editor.specs.Commands.{emitted_pairs, pairs_kept};
 ghost use Rattle.gixobj_editor.specs.Replies.{IsRun};
 ghost use Rattle.gixobj_editor.specs.RunTables.{AgreesWithRun};
-ghost use Rattle.gixobj_find.specs.Memory.{memory_objects};
-ghost use Rattle.gixobj_find.specs.declared.memory.Memory.{Memory};
+ghost use Rattle.gixobj_keep.specs.Memory.{memory_objects};
+ghost use Rattle.gixobj_keep.specs.declared.memory.Memory.{Memory};
 ghost use Rattle.gixobj_tree.specs.Rewriting.{RoundTrips};
 
 use gixobj_editor::Reply;

@@ -6,8 +6,8 @@ use crate::runs::samples::{TEN_LINES, editor_over, has_id_and_count, replies_to}
 use gixobj_base::encode;
 use gixobj_editor::editor::{Editor, Error, WriteError, Written};
 use gixobj_editor::{EditReply, Reply};
-use gixobj_find::{Keep, KeepError};
 use gixobj_find_tests::failing::Failing;
+use gixobj_keep::{Keep, KeepError};
 use std::alloc::Global;
 
 /// The reply to a command with ample memory.

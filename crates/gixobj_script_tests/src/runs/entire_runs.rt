@@ -7,8 +7,8 @@ use gixobj_base::encode;
 use gixobj_base::hash::ObjectId;
 use gixobj_editor::editor::{Editor, Error};
 use gixobj_editor::{EditReply, Reply};
-use gixobj_find::KeepError;
 use gixobj_find_tests::failing::Failing;
+use gixobj_keep::KeepError;
 use std::alloc::{AllocError, Global};
 
 /// The numbers of the calls of `keep` in a run of the script.

@@ -5,11 +5,11 @@ use gixobj_base::hash::{Kind as HashKind, ObjectId};
 use gixobj_base::{Tree, encode};
 use gixobj_editor::editor::{Editor, Error};
 use gixobj_editor::{EditReply, Reply};
-use gixobj_find::KeepError;
-use gixobj_find::find::existing_object;
 use gixobj_find_tests::failing::{Failing, OFFLINE};
-use gixobj_object::{Find, find};
+use gixobj_keep::KeepError;
+use gixobj_keep::find::existing_object;
 use gixobj_script::edit_on;
+use gixobj_store::{Find, find};
 use std::alloc::Global;
 
 const BAK: &str = "d8329fc1cc938780ffdd9f94e0d364e0ea74f579";

@@ -6,8 +6,8 @@ use gixobj_base::hash::ObjectId;
 use gixobj_base::{Tree, encode};
 use gixobj_editor::editor::{Error, WriteError, Written};
 use gixobj_editor::{EditReply, Reply};
-use gixobj_find::KeepError;
-use gixobj_find::find::existing_object;
+use gixobj_keep::KeepError;
+use gixobj_keep::find::existing_object;
 use std::alloc::{AllocError, Global};
 
 const ID: &[u8] = b"0155eb4229851634a0f03eb265b69f5a2d56f341";

@@ -6,8 +6,8 @@ use gixobj_base::tree::EntryKind;
 use gixobj_base::{OutOfMemory, Tree, encode};
 use gixobj_editor::editor::{Editor, Error, Written};
 use gixobj_editor::{Command, Edit, Reply, run};
-use gixobj_find::Memory;
 use gixobj_find_tests::failing::Failing;
+use gixobj_keep::Memory;
 use gixobj_script::{parse_script, report_lines};
 use std::alloc::{AllocError, Global};
 

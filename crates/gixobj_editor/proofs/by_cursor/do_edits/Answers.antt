@@ -2,7 +2,7 @@ use Rattle.std.proofs.Common.{length, List, arith, ap, refl, Result, subst, â—Œâ
 use Rattle.std.specs.Fn.{FnReturnsAt}
 use Rattle.gixobj_files.specs.Files.{Path}
 use Rattle.gixobj_hash.specs.declared.hash.object_id.ObjectId.{ObjectId}
-use Rattle.gixobj_object.specs.Stores.{StoreModel}
+use Rattle.gixobj_store.specs.Stores.{StoreModel}
 use Rattle.gixobj_tree.specs.Entries.{EntryView}
 use Rattle.gixobj_editor.specs.Commands.{at_cursor}
 use Rattle.gixobj_editor.specs.Replies.{IsEditReply}

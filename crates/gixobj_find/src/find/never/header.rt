@@ -1,13 +1,13 @@
 //! Lookups of headers in the store that finds nothing.
 ghost use Rattle.std.specs.Prelude.{◌≡◌, IfErr, IfOk, None, Ok, false};
 ghost use Rattle.std.specs.FinMap as map;
-ghost use Rattle.gixobj_object.specs.Stores.{IsHeaderFound, IsFindError};
+ghost use Rattle.gixobj_store.specs.Stores.{IsHeaderFound, IsFindError};
 ghost use Rattle.gixobj_hash.specs.Hash.Borrowed.{borrowed_id};
 
 use super::Never;
 use gixobj_hash::Header;
 use gixobj_hash::hash::oid;
-use gixobj_object::{FindHeader, find};
+use gixobj_store::{FindHeader, find};
 
 /// Finds no header and never fails. Allocates nothing.
 impl FindHeader for Never {

@@ -2,13 +2,13 @@ use Rattle.std.proofs.Common.{ap, refl, subst, ◌∙◌, ℕ, List}
 use Rattle.gixobj_hash.specs.Hash.{id_of}
 use Rattle.gixobj_hash.specs.declared.kind.Kind.TheVariants.{Commit}
 use Rattle.gixobj_hash.specs.declared.hash.object_id.ObjectId.{ObjectId}
-use Rattle.gixobj_find.specs.Keeping.{IsKeepCommitError, with_commit}
+use Rattle.gixobj_keep.specs.Keeping.{IsKeepCommitError, with_commit}
 use Rattle.gixobj_import.specs.Commits.{encode_step}
 use Rattle.gixobj_import.proofs.Digests.{have_hex_of_id, digest_id_kind}
 use Rattle.gixobj_import.proofs.Legal.{encode_step_decodes}
 use Rattle.gixobj_import.proofs.Stepping.{encoding_failed}
 use Rattle.gixobj_import.proofs.commits.keep_commit_of.Goals as goal
-use Rattle.gixobj_object.specs.Stores.{store_model}
+use Rattle.gixobj_store.specs.Stores.{store_model}
 
 pub returns-in-Ok-keep_commit-clause-stored : goal.returns-in-Ok-keep_commit-clause-stored
 returns-in-Ok-keep_commit-clause-stored g c =

@@ -1,6 +1,6 @@
 use Rattle.gixobj_import.proofs.Replied.{leaf_removal_replied, removal_replied, upsert_replied}
 use Rattle.gixobj_import.proofs.edits.do_edit.Goals as goal
-use Rattle.gixobj_object.specs.Stores.{store_model}
+use Rattle.gixobj_store.specs.Stores.{store_model}
 
 pub returns-in-Upsert : goal.returns-in-Upsert
 returns-in-Upsert g c =

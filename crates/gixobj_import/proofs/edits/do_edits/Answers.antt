@@ -1,6 +1,6 @@
 use Rattle.gixobj_import.proofs.Doing.{all_done, no_write_in_edits, one_more_done, rejected_at}
 use Rattle.gixobj_import.proofs.edits.do_edits.Goals as goal
-use Rattle.gixobj_object.specs.Stores.{store_model}
+use Rattle.gixobj_store.specs.Stores.{store_model}
 
 pub do_edit-requires : goal.do_edit-requires
 do_edit-requires g c = no_write_in_edits c.args.edits.now c.loop-index.index c.index-edits-index.result c.loop-index-test.true c.index-edits-index.is

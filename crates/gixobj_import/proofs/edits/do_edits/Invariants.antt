@@ -1,7 +1,7 @@
 use Rattle.std.proofs.Common.{take}
 use Rattle.gixobj_import.specs.Edited.{AreDone}
 use Rattle.gixobj_import.proofs.edits.do_edits.Given as goal
-use Rattle.gixobj_object.specs.Stores.{store_model}
+use Rattle.gixobj_store.specs.Stores.{store_model}
 
 -- the edits before this number are done
 abbrev pub invariant-loop-index : goal.invariant-loop-index

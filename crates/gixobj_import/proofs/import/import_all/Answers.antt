@@ -11,7 +11,7 @@ use Rattle.gixobj_import.proofs.Known.{OfStores}
 use Rattle.gixobj_import.proofs.Stepping.{all_imported, one_more_imported, stopped_at}
 use Rattle.gixobj_import.proofs.Stopping.{commits_of_stopped, files_of_stopped, stopped_adds}
 use Rattle.gixobj_import.proofs.import.import_all.Goals as goal
-use Rattle.gixobj_object.specs.Stores.{store_model}
+use Rattle.gixobj_store.specs.Stores.{store_model}
 
 pub loop-step-preserved : goal.loop-step-preserved
 loop-step-preserved g c =

@@ -1,7 +1,7 @@
 use Rattle.std.proofs.Common.{◌≡◌, ◌≤◌, length, take, vec_capacity, vec_len}
 use Rattle.gixobj_import.specs.Steps.{AreImported}
 use Rattle.gixobj_import.proofs.import.import_all.Given as goal
-use Rattle.gixobj_object.specs.Stores.{store_model}
+use Rattle.gixobj_store.specs.Stores.{store_model}
 
 -- the steps before this number are imported, and the list has capacity for the others
 abbrev pub invariant-loop-step : goal.invariant-loop-step

@@ -2,7 +2,7 @@ use Rattle.std.proofs.Common.{refl}
 use Rattle.gixobj_import.proofs.Digests.{have_hex_of_id, written_root_id_kind}
 use Rattle.gixobj_import.proofs.Kept.{kept_all, not_kept}
 use Rattle.gixobj_import.proofs.written.write_and_keep.Goals as goal
-use Rattle.gixobj_object.specs.Stores.{store_model}
+use Rattle.gixobj_store.specs.Stores.{store_model}
 
 pub returns-in-Ok-keep_all-clause-written : goal.returns-in-Ok-keep_all-clause-written
 returns-in-Ok-keep_all-clause-written g c =

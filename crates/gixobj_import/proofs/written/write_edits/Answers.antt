@@ -1,6 +1,6 @@
 use Rattle.gixobj_import.proofs.Stepping.{write_after, write_failed_after}
 use Rattle.gixobj_import.proofs.written.write_edits.Goals as goal
-use Rattle.gixobj_object.specs.Stores.{store_model}
+use Rattle.gixobj_store.specs.Stores.{store_model}
 
 pub returns-clause-written : goal.returns-clause-written
 returns-clause-written g c =

@@ -1,6 +1,6 @@
 use Rattle.std.proofs.Common.{List, ap, subst, ◌∙◌}
 use Rattle.gixobj_files.specs.State.{root_alone}
-use Rattle.gixobj_find.specs.Memory.{memory_objects}
+use Rattle.gixobj_keep.specs.Memory.{memory_objects}
 use Rattle.gixobj_tree.specs.Entries.{EntryView}
 use Rattle.gixobj_tree.specs.TreeEncoding.{IsAnsweredDigest}
 use Rattle.gixobj_script.specs.Edits.{IsNewEditor}

@@ -15,7 +15,7 @@ use Rattle.gixobj_import.proofs.Filing.{step_bases, step_files}
 use Rattle.gixobj_import.proofs.Known.{OfStores}
 use Rattle.gixobj_import.proofs.Stepping.{no_write_of_step, contains_write_of_reply, rejects_step}
 use Rattle.gixobj_import.proofs.import.Importer.step.Goals as goal
-use Rattle.gixobj_object.specs.Stores.{store_model}
+use Rattle.gixobj_store.specs.Stores.{store_model}
 
 pub write_edits-requires : goal.write_edits-requires
 write_edits-requires g c = record {

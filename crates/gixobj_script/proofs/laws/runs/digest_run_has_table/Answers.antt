@@ -1,6 +1,6 @@
 use Rattle.gixobj_directories.proofs.NamedTrees.{trees_of_objects_exist}
 use Rattle.gixobj_editor.specs.Commands.{emitted_pairs}
-use Rattle.gixobj_find.specs.Memory.{memory_objects}
+use Rattle.gixobj_keep.specs.Memory.{memory_objects}
 use Rattle.gixobj_script.proofs.Fitting.{fits, emitted_kinds, kept_as_themselves}
 use Rattle.gixobj_script.proofs.laws.runs.digest_run_has_table.Goals as goal
 

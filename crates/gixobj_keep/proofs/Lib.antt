@@ -1,0 +1,3 @@
+mod Contents
+mod Objects
+pub mod Trees

@@ -1,0 +1,9 @@
+pub mod ExistingTrees
+pub mod Keeping
+pub mod Memory
+pub use Rattle.gixobj_line.specs.Commit
+pub use Rattle.gixobj_line.specs.TagPrefix
+pub use Rattle.gixobj_store.specs.Stores
+pub use Rattle.gixobj_tree.specs.TreeDecoding
+pub use Rattle.gixobj_tree.specs.TreeEncoding
+pub use Rattle.gixobj_tree.specs.TreeViews

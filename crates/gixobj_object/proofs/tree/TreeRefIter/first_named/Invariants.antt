@@ -1,5 +1,0 @@
-use Rattle.gixobj_object.proofs.Searching.{Searches}
-use Rattle.gixobj_object.proofs.tree.TreeRefIter.first_named.Given as goal
-
-abbrev pub invariant-loop-item : goal.invariant-loop-item
-invariant-loop-item l = Searches l.fn.name l.fn.self l.item-iterator

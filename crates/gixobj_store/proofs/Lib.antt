@@ -1,0 +1,7 @@
+mod BrokenTrees
+pub mod Keeping
+mod PathBytes
+mod Paths
+mod Searching
+mod Steps
+mod Walks

@@ -1,0 +1,5 @@
+pub mod Checksums
+pub mod EntrySteps
+pub mod Lookups
+pub mod Stores
+pub mod TreeReaders
