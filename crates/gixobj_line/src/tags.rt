@@ -64,11 +64,11 @@ pub type TaggerLine<'a> = (BStr<'a>, SignatureRef<'a>);
 /// Decodes the tagger line at the beginning of the input, and returns it and the rest.
 ///
 /// The line is `None` if the input doesn't begin with `tagger` and a space. The result is `None` if it does,
-/// but no line with an actor follows. Allocates nothing.
+/// but the line lacks its newline, or its value doesn't begin with an actor. Allocates nothing.
 #[tactic(auto, using(crate::proofs::TagLines::no_tagger_of_missing_newline))]
 pub fn tagger(input: &[u8]) -> Option<(Option<TaggerLine<'_>>, &[u8])>
     ensures found { IfSome result (λ it. HasTagger input.now (line_if_some it.0) it.1.now) }
-    ensures parsed { IfSome result (λ it. IsParsedTagger it.0) }
+    ensures parts { IfSome result (λ it. IsParsedTagger it.0) }
     ensures none { IfNone result (HasNoTagger input.now) }
 {
     let Some(_) = after_name(input, b"tagger") else {
