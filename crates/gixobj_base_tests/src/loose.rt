@@ -27,7 +27,7 @@ fn rejects_short_content_and_invalid_header(rt: HostRuntime) -> Result<(), Fail>
         .ok_or("short")?;
     assert!(rt; matches!(&short, LooseContentError::Short { size: 7 }));
     let message = short.to_string(alloc)?;
-    assert!(rt; message.as_str() == "fewer than 7 bytes behind the header of an object");
+    assert!(rt; message.as_str() == "the content is shorter than the 7 bytes of its header");
     let largest = loose_content(alloc, b"blob 18446744073709551615\0")
         .err()
         .ok_or("short")?;

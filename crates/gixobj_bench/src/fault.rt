@@ -13,7 +13,7 @@ pub(crate) enum Fault {
     #[error("gixobj_bench: not a file of objects")]
     NotObjects,
     /// A call rejected its input, or an allocation failed in it.
-    #[error("gixobj_bench: a call was refused")]
+    #[error("gixobj_bench: a call failed")]
     CallFailed,
     /// An allocation failed.
     #[error("gixobj_bench: out of memory")]

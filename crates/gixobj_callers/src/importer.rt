@@ -34,7 +34,7 @@ pub enum ImportError<E> {
     #[error("a write among the edits")]
     HoldsWrite,
     /// An edit failed. The edits after it and the write were still tried.
-    #[error("edit {index} was refused: {error}")]
+    #[error("edit {index} failed: {error}")]
     Edit {
         /// The index of the first edit that failed, from 0.
         index: usize,

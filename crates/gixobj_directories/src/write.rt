@@ -50,7 +50,7 @@ pub struct Written {
 #[error_bound(E: Display)]
 pub enum WriteError<E> {
     /// `out` returned this error for a tree.
-    #[error("a tree was refused: {0}")]
+    #[error("a tree could not be written: {0}")]
     Out(E),
     /// An allocation failed.
     #[error("out of memory")]

@@ -120,7 +120,7 @@ pub enum LooseContentError {
     #[error("{0}")]
     Header(LooseHeaderDecodeError),
     /// Fewer bytes follow the header than it states.
-    #[error("fewer than {size} bytes behind the header of an object")]
+    #[error("the content is shorter than the {size} bytes of its header")]
     Short {
         /// The size that the header states, in bytes.
         size: u64,

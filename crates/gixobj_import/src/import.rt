@@ -57,7 +57,7 @@ pub enum ImportError {
     #[error("a write among the edits")]
     WriteInStep,
     /// An edit failed.
-    #[error("edit {index} was refused: {error}")]
+    #[error("edit {index} failed: {error}")]
     Edit {
         /// The index of the edit, from 0.
         index: usize,
@@ -78,7 +78,7 @@ pub enum ImportError {
     #[error("out of memory")]
     OutOfMemory,
     /// An earlier step failed with another error than [`ImportError::WriteInStep`]. Nothing was done.
-    #[error("an earlier step was refused")]
+    #[error("an earlier step failed")]
     Failed,
 }
 

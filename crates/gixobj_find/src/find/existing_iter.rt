@@ -16,7 +16,7 @@ pub enum Error {
         oid: ObjectId,
     },
     /// The object is of another kind.
-    #[error("the object {oid} is a {actual}, where a {expected} was asked for")]
+    #[error("expected the object {oid} to be a {expected}, but it is a {actual}")]
     ObjectKind {
         /// The id that was looked up.
         oid: ObjectId,
