@@ -7,7 +7,7 @@ use Rattle.gix_object.specs.Outcomes.{OutcomeView, is_good_status, is_trusted, e
 use Rattle.gix_object.specs.Plans.{Carries, done}
 use Rattle.gix_object.specs.ProgramCalls.{Answer, CallView, OutputView, failed, no_memory, ran}
 use Rattle.gix_object.specs.SshReports.{ssh_report, ssh_status}
-use Rattle.gix_object.specs.Verifiers.{OptionsView, ProgramView, SshView, by_open_pgp, by_ssh, by_x509}
+use Rattle.gix_object.specs.Verifiers.{VerifyOptionsView, ProgramView, SshView, by_open_pgp, by_ssh, by_x509}
 use Rattle.gix_object.specs.Verifying.{IsOutcomeOf, Verified, accepts, gpg_verify_plan, human, mismatch, not_run, principals_in, reported, ssh_verified, ssh_verify_plan, tries, unsupported, verify_plan}
 use Rattle.gix_object.specs.VerifyingCalls.{open_pgp_call, principal_call, x509_call}
 use Rattle.gix_object.specs.report.report.Outcome.{Outcome}
@@ -253,7 +253,7 @@ module _ {S : Type 0} (runs : S → CallView → Answer → S → Type 0) (by : 
 -- ---- all formats
 
 -- an accepted outcome of the plan for a signature's format has calls and answers that accept it
-pub vouches_of_acceptance : {S : Type 0} (runs : S → CallView → Answer → S → Type 0) (it : OptionsView) (signature signed : List ℕ) (format : Option Format)
+pub vouches_of_acceptance : {S : Type 0} (runs : S → CallView → Answer → S → Type 0) (it : VerifyOptionsView) (signature signed : List ℕ) (format : Option Format)
     (s t : S)
     (outcome : OutcomeView)
     → Carries runs (verify_plan it signature signed format) s (reported outcome) t → outcome.valid ≡ true
@@ -283,7 +283,7 @@ vouches_of_acceptance runs (by_ssh by ssh) signature signed (Some format.X509) s
     absurd (let never : reported outcome ≡ mismatch format.Ssh format.X509 = same in cc)
 
 -- an accepted result has calls and answers that accept it
-pub vouches_of_valid_outcome : {S : Type 0} (runs : S → CallView → Answer → S → Type 0) (it : OptionsView) (signature signed : List ℕ)
+pub vouches_of_valid_outcome : {S : Type 0} (runs : S → CallView → Answer → S → Type 0) (it : VerifyOptionsView) (signature signed : List ℕ)
     (format : Option Format)
     (s t : S) (result : Result Outcome Error)
     → IsOutcomeOf runs (verify_plan it signature signed format) s result t

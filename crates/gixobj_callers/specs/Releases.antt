@@ -20,7 +20,7 @@ use Rattle.gix_object.specs.Signing as signing
 use Rattle.gix_object.specs.Signing.{sign_plan}
 use Rattle.gix_object.specs.SshReports.{ssh_report}
 use Rattle.gix_object.specs.TagExtracting as tags
-use Rattle.gix_object.specs.Verifiers.{OptionsView, ProgramView, SshView, by_open_pgp, by_ssh, by_x509}
+use Rattle.gix_object.specs.Verifiers.{VerifyOptionsView, ProgramView, SshView, by_open_pgp, by_ssh, by_x509}
 use Rattle.gix_object.specs.Verifying.{IsOutcomeOf, IsFormatOf, accepts, human, principals_in, verify_plan}
 use Rattle.gix_object.specs.VerifyingCalls.{open_pgp_call, principal_call, principals_call, x509_call}
 use Rattle.gix_object.specs.commit.commit.Commit.{Commit}
@@ -45,7 +45,7 @@ use Rattle.gixobj_callers.specs.declared.releases.AuditError.TheVariants as audi
 -- ---- signed commits
 
 -- a signer returned a signature for the encoding of the commit without signatures, and this is the encoding with it
-abbrev pub IsSignedEncoding : {S : Type 0} → (S → CallView → Answer → S → Type 0) → signing.OptionsView → Commit → S
+abbrev pub IsSignedEncoding : {S : Type 0} → (S → CallView → Answer → S → Type 0) → signing.VerifyOptionsView → Commit → S
     → List ℕ → S → Type 0
 IsSignedEncoding runs it commit old content new =
     let kind = id_kind commit.tree in
@@ -102,7 +102,7 @@ IsSignatureError kind ids bytes (audit.Verify cause) = ⊥
 -- ---- calls and answers
 
 -- the result of verifying a signature of these bytes, by the format of its marker
-abbrev pub IsOutcomeOfVerifying : {S : Type 0} → (S → CallView → Answer → S → Type 0) → OptionsView → List ℕ → List ℕ
+abbrev pub IsOutcomeOfVerifying : {S : Type 0} → (S → CallView → Answer → S → Type 0) → VerifyOptionsView → List ℕ → List ℕ
     → S → Result Outcome Error → S → Type 0
 IsOutcomeOfVerifying runs it signature signed old result new =
     (format : Option Format) × IsFormatOf signature format
@@ -153,7 +153,7 @@ pub record AcceptsPrincipal {S : Type 0} (runs : S → CallView → Answer → S
   pub last : accepts yielded ≡ false → following ≡ []
 
 -- an accepted signature of these bytes: the calls, and their answers
-abbrev pub Vouches : {S : Type 0} → (S → CallView → Answer → S → Type 0) → OptionsView → List ℕ → List ℕ → S
+abbrev pub Vouches : {S : Type 0} → (S → CallView → Answer → S → Type 0) → VerifyOptionsView → List ℕ → List ℕ → S
     → OutcomeView → S → Type 0
 Vouches runs (by_open_pgp by) signature signed old outcome new =
     ReportsGood runs format.OpenPgp by (open_pgp_call by signature signed) old outcome new
@@ -165,7 +165,7 @@ Vouches runs (by_ssh by ssh) signature signed old outcome new =
 -- ---- signatures of an object
 
 -- the result of an audit: the outcome for the object's signature; or it has none, and no call was made
-abbrev pub IsAudit : {S : Type 0} → (S → CallView → Answer → S → Type 0) → OptionsView → Kind → hash.Kind → List ℕ → S
+abbrev pub IsAudit : {S : Type 0} → (S → CallView → Answer → S → Type 0) → VerifyOptionsView → Kind → hash.Kind → List ℕ → S
     → S → Option Outcome → Type 0
 IsAudit runs it kind ids bytes old new (Some outcome) =
     (signature signed : List ℕ) × IsObjectSignature kind ids bytes signature signed
@@ -173,14 +173,14 @@ IsAudit runs it kind ids bytes old new (Some outcome) =
 IsAudit runs it kind ids bytes old new None = IsUnsigned kind ids bytes × (new ≡ old)
 
 -- the object's signature is accepted
-abbrev pub IsAccepted : {S : Type 0} → (S → CallView → Answer → S → Type 0) → OptionsView → Kind → hash.Kind → List ℕ
+abbrev pub IsAccepted : {S : Type 0} → (S → CallView → Answer → S → Type 0) → VerifyOptionsView → Kind → hash.Kind → List ℕ
     → S → OutcomeView → S → Type 0
 IsAccepted runs it kind ids bytes old outcome new =
     (signature signed : List ℕ) × IsObjectSignature kind ids bytes signature signed
     × Vouches runs it signature signed old outcome new
 
 -- the errors of an audit: no signature is found, and no call was made; or the signature isn't verified
-abbrev pub IsAuditError : {S : Type 0} → (S → CallView → Answer → S → Type 0) → OptionsView → Kind → hash.Kind → List ℕ
+abbrev pub IsAuditError : {S : Type 0} → (S → CallView → Answer → S → Type 0) → VerifyOptionsView → Kind → hash.Kind → List ℕ
     → S → S → AuditError → Type 0
 IsAuditError runs it kind ids bytes old new (audit.Verify cause) =
     (signature signed : List ℕ) × IsObjectSignature kind ids bytes signature signed

@@ -8,7 +8,7 @@ ghost use Rattle.gix_object.specs.CommitWriting.{encode_commit};
 ghost use Rattle.gix_object.specs.Outcomes.{outcome_view};
 ghost use Rattle.gix_object.specs.SignedBytes.{signed_bytes};
 ghost use Rattle.gix_object.specs.Signing as signing;
-ghost use Rattle.gix_object.specs.Verifiers.{options_view};
+ghost use Rattle.gix_object.specs.Verifiers.{verify_options_view};
 ghost use Rattle.gixobj_callers.specs.Releases.{IsOutcomeOfVerifying, FindsSignature, IsAccepted, IsAudit, IsSignedEncoding, IsAuditError, IsSignatureError, IsSignedEncodingError, Vouches};
 
 use bstr::BStr;
@@ -32,7 +32,7 @@ pub fn signed_payload<R: Runner>(
     runner: &mut R,
 ) -> Result<Vec<u8>, sign::Error>
     ensures signed { IfOk result (λ content.
-        IsSignedEncoding R.runs (signing.options_view options) commit runner.old content.items
+        IsSignedEncoding R.runs (signing.verify_options_view options) commit runner.old content.items
         runner.new) }
     ensures error { IfErr result (IsSignedEncodingError R.runs options commit runner.old runner.new) }
 {
@@ -92,13 +92,13 @@ pub fn audit<R: Runner>(
     options: Options,
     runner: &mut R,
 ) -> Result<Option<Outcome>, AuditError>
-    ensures audited { IfOk result (IsAudit R.runs (options_view options) kind hash_kind bytes.now
+    ensures audited { IfOk result (IsAudit R.runs (verify_options_view options) kind hash_kind bytes.now
         runner.old runner.new) }
     ensures accepted { IfOk result (λ it.
         IfSome it (λ outcome. (outcome_view outcome).valid ≡ true
-        → IsAccepted R.runs (options_view options) kind hash_kind bytes.now runner.old
+        → IsAccepted R.runs (verify_options_view options) kind hash_kind bytes.now runner.old
         (outcome_view outcome) runner.new)) }
-    ensures error { IfErr result (IsAuditError R.runs (options_view options) kind hash_kind
+    ensures error { IfErr result (IsAuditError R.runs (verify_options_view options) kind hash_kind
         bytes.now runner.old runner.new) }
 {
     match signature_of(alloc, kind, hash_kind, bytes) {
@@ -147,10 +147,10 @@ fn verified<R: Runner>(
     options: Options,
     runner: &mut R,
 ) -> Result<Outcome, verify::Error>
-    ensures outcome { IsOutcomeOfVerifying R.runs (options_view options) signature.now
+    ensures outcome { IsOutcomeOfVerifying R.runs (verify_options_view options) signature.now
         (signed_bytes signed.now) runner.old result runner.new }
     ensures accepted { IfOk result (λ outcome. (outcome_view outcome).valid ≡ true
-        → Vouches R.runs (options_view options) signature.now (signed_bytes signed.now) runner.old
+        → Vouches R.runs (verify_options_view options) signature.now (signed_bytes signed.now) runner.old
         (outcome_view outcome) runner.new) }
 {
     signed.verify(alloc, BStr::new(signature), options, runner)

@@ -7,7 +7,7 @@ use Rattle.std.specs.List.{AllPass}
 use Rattle.gixobj_actor.specs.ActorWriting.{IsLegal, encode_owned_actor}
 use Rattle.gixobj_actor.specs.declared.actor.Signature.{Signature}
 use Rattle.gixobj_commit.specs.CommitViews.{owned_commit_lines}
-use Rattle.gixobj_commit.specs.CommitWriting.{IsEncodingError, IsOwnedCommitError, before_author, before_committer}
+use Rattle.gixobj_commit.specs.CommitWriting.{IsMessageEncodingError, IsOwnedCommitError, before_author, before_committer}
 use Rattle.gixobj_commit.specs.declared.commit.Commit.{Commit}
 use Rattle.gixobj_fields.specs.Writing.{RejectedValue, RejectsNothing, header_with_newline, illegal_actor}
 use Rattle.gixobj_hash.specs.Hash.{encode_id_hex, is_lower_hex_digit}
@@ -56,7 +56,7 @@ legal_undenied actor denied = (
 free_without : (byte : ℕ) (bytes : List ℕ) → ¬ Contains bytes byte → IsByteFree byte bytes
 free_without byte bytes none = λ k other within same. none (subst (λ (it : ℕ). Contains bytes it) same (Contains-get_or bytes k other within))
 
-encoding_has_one_line : (encoding : Option (List ℕ)) → ((value : RejectedValue) → ¬ IsEncodingError encoding value) → IsOneLine encoding
+encoding_has_one_line : (encoding : Option (List ℕ)) → ((value : RejectedValue) → ¬ IsMessageEncodingError encoding value) → IsOneLine encoding
 encoding_has_one_line None written = tt
 encoding_has_one_line (Some encoding) written = free_without newline encoding (λ has. written (header_with_newline encoding) (inr (has, refl)))
 

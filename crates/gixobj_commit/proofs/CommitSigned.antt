@@ -14,7 +14,7 @@ use Rattle.gixobj_hash.specs.Hash.{id_kind}
 use Rattle.gixobj_line.specs.Commit.{CommitLines}
 use Rattle.gixobj_signature.specs.Calls.{Answer, CallView}
 use Rattle.gixobj_signature.specs.Plans.{BeginsPlan, Carries, IsCarriedOut, Plan, run_then, done, no_more}
-use Rattle.gixobj_signature.specs.Signing.{options_view, sign_plan, signature, signer_error}
+use Rattle.gixobj_signature.specs.Signing.{sign_options_view, sign_plan, signature, signer_error}
 use Rattle.gixobj_signature.specs.declared.signature.sign.Error.{Error}
 use Rattle.gixobj_signature.specs.declared.signature.sign.Error.TheVariants as sign
 use Rattle.gixobj_signature.specs.declared.signature.sign.Options.{Options}
@@ -56,7 +56,7 @@ module _ (commit other : Commit) (others : other ≡ record commit { extra_heade
       → IfOk result (IsSignedCommit runs options commit old new)
   signed runs options payload content writable old new (Ok it) (bytes, went, lines) = record {
     bytes = bytes;
-    called = subst (λ (signs : List ℕ). Carries runs (sign_plan (options_view options) signs) old (signature bytes) new)
+    called = subst (λ (signs : List ℕ). Carries runs (sign_plan (sign_options_view options) signs) old (signature bytes) new)
         (content ∙ ap encode_commit kept_lines) went;
     lines = lines ∙ ap (λ (of : CommitLines). with_last_header name bytes of) kept_lines
         ∙ ap (λ (it : List ℕ). with_last_header it bytes (without_headers (signature_field (id_kind commit.tree)) (owned_commit_lines commit))) named;
@@ -68,14 +68,14 @@ module _ (commit other : Commit) (others : other ≡ record commit { extra_heade
   pub failed_signing : {S : Type 0} (runs : S → CallView → Answer → S → Type 0) (options : Options) (payload : List ℕ)
       → payload ≡ encode_commit (owned_commit_lines other) → RejectsNothing (IsOwnedCommitError other) → (old new : S)
       → (result : Result Commit Error)
-      → IfErr result (λ error. IsCarriedOut runs (sign_plan (options_view options) payload) old (signer_error error) new)
+      → IfErr result (λ error. IsCarriedOut runs (sign_plan (sign_options_view options) payload) old (signer_error error) new)
       → IfErr result (IsCommitSigningError runs options commit old new)
   failed_signing runs options payload content writable old new (Ok it) why = tt
   failed_signing runs options payload content writable old new (Err error) why =
       inl (
         subst RejectsNothing rejects_same writable,
         subst
-            (λ (signs : List ℕ). IsCarriedOut runs (sign_plan (options_view options) signs) old (signer_error error) new)
+            (λ (signs : List ℕ). IsCarriedOut runs (sign_plan (sign_options_view options) signs) old (signer_error error) new)
             (content ∙ ap encode_commit kept_lines) why,
       )
 

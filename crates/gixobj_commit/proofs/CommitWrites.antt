@@ -23,7 +23,7 @@ use Rattle.gixobj_fields.proofs.Steps.{IsInParts, in_parts}
 use Rattle.gixobj_line.specs.Commit.{before_encoding, encode_encoding, encode_ids, encode_parent}
 use Rattle.gixobj_commit.specs.CommitViews.{commit_lines, owned_commit_lines}
 use Rattle.gixobj_hash.specs.Optional.{bytes_if_some, owned_bytes_if_some}
-use Rattle.gixobj_commit.specs.CommitWriting.{IsEncodingError, IsCommitLinesError, IsOwnedCommitError, encode_commit, hex_parent, in_lower_case, IsEncodingLineError}
+use Rattle.gixobj_commit.specs.CommitWriting.{IsMessageEncodingError, IsCommitLinesError, IsOwnedCommitError, encode_commit, hex_parent, in_lower_case, IsEncodingLineError}
 use Rattle.gixobj_fields.specs.FieldWriting.{encode_header}
 use Rattle.gixobj_commit.specs.declared.commit.Commit.{Commit}
 use Rattle.gixobj_commit.specs.declared.commit.CommitRef.{CommitRef}
@@ -209,7 +209,7 @@ owned_commit_error_of_encoding commit parents encoding value parts one two autho
       author,
       committer,
       (
-        subst (λ (it : Option (List ℕ)). IsEncodingError it value) two rejected,
+        subst (λ (it : Option (List ℕ)). IsMessageEncodingError it value) two rejected,
         rw (nothing, one) (append-nil (prefix (ids_written commit.tree owned_parent commit.parents.items)) ∙ ap prefix (sym (owned_ids commit))),
       ),
     )
@@ -222,4 +222,4 @@ pub owned_commit_rejects_nothing : (commit : Commit) (encoding : Option BStr) �
 owned_commit_rejects_nothing commit encoding two author committer none value parts (inl it) = absurd (it.0 author)
 owned_commit_rejects_nothing commit encoding two author committer none value parts (inr (inl it)) = absurd (it.1 committer)
 owned_commit_rejects_nothing commit encoding two author committer none value parts (inr (inr it)) =
-    none value [] (subst (λ (it : Option (List ℕ)). IsEncodingError it value) (sym two) it.2.0, refl)
+    none value [] (subst (λ (it : Option (List ℕ)). IsMessageEncodingError it value) (sym two) it.2.0, refl)

@@ -11,7 +11,7 @@ use Rattle.gixobj_fields.proofs.FieldWrites.{no_byte_of_byte_free}
 use Rattle.gixobj_fields.proofs.HeadersRoundTrip.{header_round_trips}
 use Rattle.gixobj_hash.proofs.HexCase.{lower_case_of_lower_hex}
 use Rattle.gixobj_line.specs.Commit.{DecodesToHeaders, CommitLines, DecodesToCommit, IsEncoding, encode_encoding, encode_parent}
-use Rattle.gixobj_commit.specs.CommitWriting.{IsEncodingError, IsCommitLinesError, encode_commit, in_lower_case}
+use Rattle.gixobj_commit.specs.CommitWriting.{IsMessageEncodingError, IsCommitLinesError, encode_commit, in_lower_case}
 use Rattle.gixobj_fields.specs.FieldWriting.{encode_header}
 
 headers_read_back : (bytes : List ℕ) (headers : List Header) → DecodesToHeaders bytes headers → flat_map encode_header headers ≡ bytes
@@ -49,7 +49,7 @@ commit_reencodes_identically kind bytes commit it tree parents =
     ∙ sym it.joined
 
 encoding_not_rejected : (encoding : Option (List ℕ)) (headers : List Header) → IsEncoding encoding headers → encoding ≢ Some [] → (value : RejectedValue)
-    → IsEncodingError encoding value → ⊥
+    → IsMessageEncodingError encoding value → ⊥
 encoding_not_rejected None headers is some value rejected = rejected
 encoding_not_rejected (Some encoding) headers is some value (inl (none, same)) = some (ap Some none)
 encoding_not_rejected (Some encoding) headers is some value (inr (has, same)) = no_byte_of_byte_free 10 encoding is has

@@ -20,7 +20,7 @@ use Rattle.gixobj_hash.proofs.HexCase.{encode_id_hex_lower_case}
 use Rattle.gixobj_line.specs.Commit.{CommitLines, DecodesToCommit, IsEncoding}
 use Rattle.gixobj_commit.specs.CommitOwned.{IsOwnedFormOfCommit, IsIntoOwnedCommitError}
 use Rattle.gixobj_commit.specs.CommitViews.{owned_commit_lines}
-use Rattle.gixobj_commit.specs.CommitWriting.{IsEncodingError, IsOwnedCommitError, encode_commit}
+use Rattle.gixobj_commit.specs.CommitWriting.{IsMessageEncodingError, IsOwnedCommitError, encode_commit}
 use Rattle.gixobj_commit.specs.Rewriting.{AreNormalizedPartsOfCommit, HasEmptyEncoding, IsNormalizedCommitError}
 use Rattle.gixobj_commit.specs.declared.commit.Commit.{Commit}
 
@@ -51,7 +51,7 @@ owned_parts_are_normalized lines commit is =
 
 -- what is rejected of the message encoding of a decoded commit
 encoding_rejected : (encoding : Option (List ℕ)) (headers : List Header) (value : RejectedValue) → IsEncoding encoding headers
-    → IsEncodingError encoding value
+    → IsMessageEncodingError encoding value
     → (value ≡ empty_header) × (encoding ≡ Some [])
 encoding_rejected None headers value is rejected = absurd rejected
 encoding_rejected (Some encoding) headers value is (inl (none, is_empty)) = (is_empty, ap (λ (it : List ℕ). Some it) none)
@@ -70,7 +70,7 @@ what_is_rejected kind bytes lines commit value parts read own (inr (inl (legal, 
     inl (is, inr (is_unwritable_of_error lines.committer commit.committer own.committer illegal))
 what_is_rejected kind bytes lines commit value parts read own (inr (inr (legal, other, rejected))) =
     inr (encoding_rejected lines.encoding lines.extra_headers value read.encoding
-    (subst (λ (it : Option (List ℕ)). IsEncodingError it value) own.encoding rejected.0))
+    (subst (λ (it : Option (List ℕ)). IsMessageEncodingError it value) own.encoding rejected.0))
 
 no_other : (lines : CommitLines) (value : RejectedValue) → WhatIsRejected lines value → (value ≡ illegal_actor → ⊥) → (value ≡ empty_header → ⊥) → ⊥
 no_other lines value (inl (is, actor)) no_actor no_encoding = no_actor is

@@ -54,17 +54,17 @@ encode_commit commit = before_encoding commit ++ encode_encoding commit.encoding
     commit.extra_headers ++ newline ∷ commit.message
 
 -- a message encoding is rejected if it is empty or has a newline
-abbrev pub IsEncodingError : Option (List ℕ) → RejectedValue → Type 0
-IsEncodingError None value = ⊥
-IsEncodingError (Some encoding) value = IsValueError encoding value
+abbrev pub IsMessageEncodingError : Option (List ℕ) → RejectedValue → Type 0
+IsMessageEncodingError None value = ⊥
+IsMessageEncodingError (Some encoding) value = IsValueError encoding value
 
 -- a message encoding is rejected before any byte of its line
 abbrev pub IsEncodingLineError : Option (List ℕ) → RejectedValue → List ℕ → Type 0
-IsEncodingLineError encoding value parts = IsEncodingError encoding value × (parts ≡ [])
+IsEncodingLineError encoding value parts = IsMessageEncodingError encoding value × (parts ≡ [])
 
 -- a borrowed commit is rejected only for its message encoding, after all lines before it
 abbrev pub IsCommitLinesError : CommitLines → RejectedValue → List ℕ → Type 0
-IsCommitLinesError commit value parts = IsEncodingError commit.encoding value × (parts ≡ before_encoding commit)
+IsCommitLinesError commit value parts = IsMessageEncodingError commit.encoding value × (parts ≡ before_encoding commit)
 
 -- an owned commit is rejected for its author, else for its committer, else for its message encoding
 abbrev pub IsOwnedCommitError : Commit → RejectedValue → List ℕ → Type 0

@@ -8,7 +8,7 @@ use Rattle.gixobj_actor.specs.Actor.{IsWritable}
 use Rattle.gixobj_actor.specs.ActorWriting.{IsLegal, encode_owned_actor}
 use Rattle.gixobj_actor.specs.declared.actor.Signature.{Signature}
 use Rattle.gixobj_commit.specs.CommitViews.{owned_commit_lines}
-use Rattle.gixobj_commit.specs.CommitWriting.{IsEncodingError, IsOwnedCommitError, before_author, before_committer}
+use Rattle.gixobj_commit.specs.CommitWriting.{IsMessageEncodingError, IsOwnedCommitError, before_author, before_committer}
 use Rattle.gixobj_commit.specs.declared.commit.Commit.{Commit}
 use Rattle.gixobj_fields.specs.Writing.{RejectsNothing, illegal_actor}
 use Rattle.gixobj_hash.specs.Hash.{encode_id_hex}
@@ -79,7 +79,7 @@ module _ (step : Step) (commit : Commit) (author : SameActor step.author commit.
   actor_rejected tree parent parts lines (inl (other, is, before)) = inl (λ legal. other (legal_copied step.author commit.author author legal))
   actor_rejected tree parent parts lines (inr (inl (legal, other, is, before))) = inr (λ it. other (legal_copied step.committer commit.committer committer it))
   actor_rejected tree parent parts lines (inr (inr (legal, other, rejected))) =
-      absurd (subst (λ (it : CommitLines). IsEncodingError it.encoding illegal_actor) lines rejected.0)
+      absurd (subst (λ (it : CommitLines). IsMessageEncodingError it.encoding illegal_actor) lines rejected.0)
 
 parents_hex : (k : hash.Kind) (parent : Option ObjectId) → HaveHex k (only_parent parent) → All (IsIdHexOfKind k) (map encode_id_hex (only_parent parent))
 parents_hex k None all = All-nil (IsIdHexOfKind k)

@@ -10,7 +10,7 @@ use Rattle.gixobj_hash.specs.declared.hash.kind.Kind as hash
 use Rattle.gixobj_hash.specs.declared.hash.object_id.ObjectId.{ObjectId}
 use Rattle.gixobj_hash.proofs.SplitsAtEach.{split_at_each_unique, split_at_each_exists}
 use Rattle.gixobj_script.specs.Lines.{HasCommand, HasEdit, HasNoCommand, HasNoEdit, DecodesToCommand, IsEditAt, DecodesToEdit, IsEntryAt, IsHexOfId, keyword_and}
-use Rattle.gixobj_script.specs.Paths.{ArePathNames, dot}
+use Rattle.gixobj_script.specs.Paths.{ArePathNames, root_path}
 use Rattle.gixobj_hash.proofs.Splits.{byte_free_of_all_pass, no_split_of_byte_free, split_parts_unique}
 use Rattle.gixobj_hash.specs.Bytes.{slash}
 use Rattle.gixobj_hash.specs.ByteStrings.{IsByteFree, SplitsAt}
@@ -21,7 +21,7 @@ use Rattle.gixobj_mode.specs.declared.entry_kind.EntryKind.TheVariants.{Blob, Bl
 -- ---- the names of a path
 
 -- a path other than `.` has names
-pub path_names_unless_dot_exist : (path : List ℕ) → path ≢ dot → (names : List (List ℕ)) × ArePathNames path names
+pub path_names_unless_dot_exist : (path : List ℕ) → path ≢ root_path → (names : List (List ℕ)) × ArePathNames path names
 path_names_unless_dot_exist path other = (let (names, cut) = split_at_each_exists slash path in (names, inr (other, cut)))
 
 -- each path has a list of names

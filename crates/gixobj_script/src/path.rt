@@ -2,7 +2,7 @@
 ghost use Rattle.std.specs.Prelude.{◌≢◌, IfOk, OnErr};
 ghost use Rattle.gixobj_editor.specs.Views.{path_names};
 ghost use Rattle.gixobj_hash.specs.Splits.{IsSplitAtEach};
-ghost use Rattle.gixobj_script.specs.Paths.{ArePathNames, dot};
+ghost use Rattle.gixobj_script.specs.Paths.{ArePathNames, root_path};
 
 use bstr::BString;
 use gixobj_hash::OutOfMemory;
@@ -13,7 +13,7 @@ use std::alloc::Global;
 /// nothing.
 pub fn names_of_path(alloc: Global, path: &[u8]) -> Result<Vec<BString>, OutOfMemory>
     ensures names { IfOk result (λ names. ArePathNames path.now (path_names names.items)) }
-    ensures error { OnErr result (path.now ≢ dot) }
+    ensures error { OnErr result (path.now ≢ root_path) }
 {
     match path {
         b"." => Ok(Vec::new(alloc)),

@@ -16,7 +16,7 @@ use Rattle.gixobj_signature.specs.declared.signature.sign.Error.{Error}
 use Rattle.gixobj_signature.specs.declared.signature.sign.Error.TheVariants as sign
 
 -- the format, program, arguments, key and environment with which an object is signed
-pub record OptionsView : Type 0 where
+pub record SignOptionsView : Type 0 where
   pub format : Format
   pub program : List ℕ
   pub arguments : List (List ℕ)
@@ -24,8 +24,8 @@ pub record OptionsView : Type 0 where
   pub environment : List (List ℕ × List ℕ)
 
 -- the view of the options of signing
-abbrev pub options_view : Options → OptionsView
-options_view it = record {
+abbrev pub sign_options_view : Options → SignOptionsView
+sign_options_view it = record {
   format = it.format;
   program = bstring_bytes it.program;
   arguments = map bstring_bytes it.program_arguments.items;
@@ -42,7 +42,7 @@ literal_key key =
 -- ---- the calls
 
 -- OpenPGP and X.509: the payload is the input
-abbrev pub gpg_call : OptionsView → List ℕ → CallView
+abbrev pub gpg_call : SignOptionsView → List ℕ → CallView
 gpg_call it payload = record {
   program = it.program;
   words = map plain it.arguments ++ plain (codes "--status-fd=2") ∷ plain (codes "-bsau") ∷ plain it.key ∷ [];
@@ -53,7 +53,7 @@ gpg_call it payload = record {
 }
 
 -- SSH: a call with these arguments and files and no input, which may write the signature next to the file of this index
-abbrev pub leaving_call : OptionsView → List WordView → List (List ℕ) → ℕ → CallView
+abbrev pub leaving_call : SignOptionsView → List WordView → List (List ℕ) → ℕ → CallView
 leaving_call it words files result = record {
   program = it.program;
   words = words;
@@ -64,25 +64,25 @@ leaving_call it words files result = record {
 }
 
 -- SSH: the key is in a file of the caller, and the payload is file 0
-abbrev pub path_call : OptionsView → List ℕ → CallView
+abbrev pub path_call : SignOptionsView → List ℕ → CallView
 path_call it payload =
     leaving_call it (git_words it.arguments (codes "sign") ++ plain (codes "-f") ∷ plain it.key ∷ file 0 ∷ [])
     (payload ∷ []) 0
 
 -- SSH: the key is file 0, and the payload is file 1
-abbrev pub literal_call : OptionsView → List ℕ → List ℕ → CallView
+abbrev pub literal_call : SignOptionsView → List ℕ → List ℕ → CallView
 literal_call it key payload =
     leaving_call it (git_words it.arguments (codes "sign") ++ plain (codes "-f") ∷ file 0 ∷ plain
     (codes "-U") ∷ file 1 ∷ [])
     (key ∷ payload ∷ []) 1
 
 -- the call of an SSH program by its literal key, if there is one
-abbrev pub ssh_call_by : Option (List ℕ) → OptionsView → List ℕ → CallView
+abbrev pub ssh_call_by : Option (List ℕ) → SignOptionsView → List ℕ → CallView
 ssh_call_by None it payload = path_call it payload
 ssh_call_by (Some key) it payload = literal_call it key payload
 
 -- the call of an SSH program for the key of the options
-abbrev pub ssh_call : OptionsView → List ℕ → CallView
+abbrev pub ssh_call : SignOptionsView → List ℕ → CallView
 ssh_call it payload = ssh_call_by (literal_key it.key) it payload
 
 -- ---- outcomes of the answers
@@ -144,26 +144,26 @@ on_signer signed (failed why) = done (not_run (sign_fails why))
 on_signer signed no_memory = no_more
 
 -- the plan of an OpenPGP or X.509 program: one call
-abbrev pub gpg_plan : OptionsView → List ℕ → Plan Signed
+abbrev pub gpg_plan : SignOptionsView → List ℕ → Plan Signed
 gpg_plan it payload = run_then (gpg_call it payload) (on_signer (gpg_signed it.program))
 
 -- the plan of an SSH program: one call
-abbrev pub ssh_plan : OptionsView → List ℕ → Plan Signed
+abbrev pub ssh_plan : SignOptionsView → List ℕ → Plan Signed
 ssh_plan it payload = run_then (ssh_call it payload) (on_signer (ssh_signed it.program))
 
 -- the plan by the format of the signature
-abbrev pub by_format : Format → OptionsView → List ℕ → Plan Signed
+abbrev pub by_format : Format → SignOptionsView → List ℕ → Plan Signed
 by_format format.OpenPgp it payload = gpg_plan it payload
 by_format format.X509 it payload = gpg_plan it payload
 by_format format.Ssh it payload = ssh_plan it payload
 
 -- the plan by the key: without a byte in it, no call
-abbrev pub with_key : List ℕ → OptionsView → List ℕ → Plan Signed
+abbrev pub with_key : List ℕ → SignOptionsView → List ℕ → Plan Signed
 with_key [] it payload = done without_key
 with_key (byte ∷ rest) it payload = by_format it.format it payload
 
 -- the plan of signing: no call for an empty key, else one call by the format
-abbrev pub sign_plan : OptionsView → List ℕ → Plan Signed
+abbrev pub sign_plan : SignOptionsView → List ℕ → Plan Signed
 sign_plan it payload = with_key it.key it payload
 
 -- ---- results of calls

@@ -27,28 +27,28 @@ pub record SshView : Type 0 where
   pub offset : ℤ
 
 -- the options by the format of the program
-pub data OptionsView : Type 0 where
-  by_open_pgp : ProgramView → OptionsView
-  by_x509 : ProgramView → OptionsView
-  by_ssh : ProgramView → SshView → OptionsView
+pub data VerifyOptionsView : Type 0 where
+  by_open_pgp : ProgramView → VerifyOptionsView
+  by_x509 : ProgramView → VerifyOptionsView
+  by_ssh : ProgramView → SshView → VerifyOptionsView
 
 -- the view of the options of verification
-abbrev pub options_view : Options → OptionsView
-options_view (options.OpenPgp program arguments environment minimum) =
+abbrev pub verify_options_view : Options → VerifyOptionsView
+verify_options_view (options.OpenPgp program arguments environment minimum) =
     by_open_pgp (record {
       program = bstring_bytes program;
       arguments = map bstring_bytes arguments.items;
       environment = map pair_view environment.items;
       minimum = minimum;
     })
-options_view (options.X509 program arguments environment minimum) =
+verify_options_view (options.X509 program arguments environment minimum) =
     by_x509 (record {
       program = bstring_bytes program;
       arguments = map bstring_bytes arguments.items;
       environment = map pair_view environment.items;
       minimum = minimum;
     })
-options_view (options.Ssh program arguments environment allowed revoked time minimum) =
+verify_options_view (options.Ssh program arguments environment allowed revoked time minimum) =
     by_ssh (record {
       program = bstring_bytes program;
       arguments = map bstring_bytes arguments.items;
@@ -90,7 +90,7 @@ ssh_of it = record {
 }
 
 -- the view of a verifier, which is that of its options
-abbrev pub verifier_view : Verifier → OptionsView
+abbrev pub verifier_view : Verifier → VerifyOptionsView
 verifier_view (verifier.OpenPgp it) = by_open_pgp (program_of it)
 verifier_view (verifier.X509 it) = by_x509 (program_of it)
 verifier_view (verifier.Ssh it) = by_ssh (ssh_program_of it) (ssh_of it)

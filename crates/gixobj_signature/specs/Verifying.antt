@@ -22,7 +22,7 @@ use Rattle.gixobj_text.specs.Markers.{BeginsWithMarker, BeginsWithNoMarker}
 use Rattle.gixobj_text.specs.declared.signature.Format.{Format}
 use Rattle.gixobj_text.specs.declared.signature.Format.TheVariants as format
 use Rattle.gixobj_signature.specs.SignedBytes.{signed_bytes}
-use Rattle.gixobj_signature.specs.Verifiers.{OptionsView, ProgramView, SshView, by_open_pgp, by_ssh, by_x509, options_view}
+use Rattle.gixobj_signature.specs.Verifiers.{VerifyOptionsView, ProgramView, SshView, by_open_pgp, by_ssh, by_x509, verify_options_view}
 use Rattle.gixobj_signature.specs.VerifyingCalls.{novalidate_call, open_pgp_call, principal_call, principals_call, x509_call}
 use Rattle.gixobj_signature.specs.declared.signature.signed_data.SignedData.{SignedData}
 use Rattle.gixobj_signature.specs.declared.signature.verify.Error.{Error}
@@ -107,7 +107,7 @@ ssh_verify_plan by ssh signature signed =
 -- ---- all formats
 
 -- the plan of verification: no call without a marker, and none if the marker isn't of the program's format
-abbrev pub verify_plan : OptionsView → List ℕ → List ℕ → Option Format → Plan Verified
+abbrev pub verify_plan : VerifyOptionsView → List ℕ → List ℕ → Option Format → Plan Verified
 verify_plan it signature signed None = done unsupported
 verify_plan (by_open_pgp by) signature signed (Some format.OpenPgp) =
     gpg_verify_plan format.OpenPgp by (open_pgp_call by signature signed)
@@ -142,10 +142,10 @@ pub record Verifies {S : Type 0} (runs : S → CallView → Answer → S → Typ
     (signed : SignedData) (old : S) (result : Result Outcome Error) (new : S) : Type 0 where
   pub format : Option Format
   pub is_format : IsFormatOf (bstr_bytes signature) format
-  pub called : IsOutcomeOf runs (verify_plan (options_view options) (bstr_bytes signature) (signed_bytes signed) format)
+  pub called : IsOutcomeOf runs (verify_plan (verify_options_view options) (bstr_bytes signature) (signed_bytes signed) format)
       old result new
   pub consumed : AllocatesForCalls
-      (verify_plan (options_view options) (bstr_bytes signature) (signed_bytes signed) format) (verify_view result)
+      (verify_plan (verify_options_view options) (bstr_bytes signature) (signed_bytes signed) format) (verify_view result)
 
 -- the error of verifying for an error of the runner
 abbrev pub failed_run : RunError → Error

@@ -198,8 +198,12 @@ body_by_newlines : (body : List ℕ) (all : Bool) → are_newlines body ≡ all 
 body_by_newlines body true are is = (body, None, newlines_alone body are)
 body_by_newlines [] false more is = cc more
 body_by_newlines (byte ∷ bytes) false more is =
-    let parts = any_parted bytes in (parts.0, parts.1, is_body_after_newline (byte ∷ bytes) bytes parts.0 parts.1 more (ap (λ (it : ℕ). it ∷ bytes) is)
-        parts.2)
+    let parts = any_parted bytes in (
+      parts.0,
+      parts.1,
+      is_body_after_newline (byte ∷ bytes) bytes parts.0 parts.1 more (ap (λ (it : ℕ). it ∷ bytes) is)
+          parts.2,
+    )
 
 first_newline : (byte : ℕ) (rest : List ℕ) → IsTrue (are_newlines (byte ∷ rest)) → byte ≡ 10
 first_newline byte rest are = elim (eqb_tells byte 10) [ inl it ↦ it.1 | inr it ↦ cc (sym are ∙ ap (λ (b : Bool). b && are_newlines rest) it.0) ]

@@ -17,7 +17,7 @@ use Rattle.gixobj_tag.specs.Rewriting.{AreNormalizedPartsOfTag, HasUnwritableTag
 use Rattle.gixobj_tag.specs.TagOwned.{IsOwnedFormOfTag, IsOwnedTagger}
 use Rattle.gixobj_tag.specs.TagFormat.{IsBody, IsParted, DecodesToTag, TagLines, are_newlines, after_a_newline, encode_tag_lines, newlines_alone, signed, signed_at_once, unsigned}
 use Rattle.gixobj_tag.specs.TagViews.{owned_tag_lines, owned_tagger}
-use Rattle.gixobj_tag.specs.TagWriting.{IsTagLinesError, IsOwnedTagError, IsTagNameError, IsTaggerError, encode_body, encode_message, encode_tag}
+use Rattle.gixobj_tag.specs.TagWriting.{IsTagLinesError, IsOwnedTagError, IsNameValueError, IsTaggerError, encode_body, encode_message, encode_tag}
 use Rattle.gixobj_tag.specs.declared.tag.Tag.{Tag}
 
 -- ---- bodies
@@ -52,7 +52,7 @@ tag_reencodes_identically kind bytes tag is keeps = ap (λ (it : List ℕ). enco
 
 -- ---- errors
 
-name_not_rejected : (name : List ℕ) (value : RejectedValue) → IsTagName name → IsTagNameError name value → ⊥
+name_not_rejected : (name : List ℕ) (value : RejectedValue) → IsTagName name → IsNameValueError name value → ⊥
 name_not_rejected name value (faultless, undashed) (inl (fault, first, is)) = faultless fault first.here
 name_not_rejected name value (faultless, undashed) (inr (none, dash, is)) = undashed dash
 

@@ -3,7 +3,7 @@ use Rattle.std.proofs.Common.{◌≡◌, ◌∙◌, ap, inl, inr, subst, sym, re
 use Rattle.gixobj_fields.specs.Writing.{RejectsNothing}
 use Rattle.gixobj_signature.specs.Calls.{Answer, CallView}
 use Rattle.gixobj_signature.specs.Plans.{Carries, IsCarriedOut}
-use Rattle.gixobj_signature.specs.Signing.{options_view, sign_plan, signature, signer_error}
+use Rattle.gixobj_signature.specs.Signing.{sign_options_view, sign_plan, signature, signer_error}
 use Rattle.gixobj_signature.specs.declared.signature.sign.Error.{Error}
 use Rattle.gixobj_signature.specs.declared.signature.sign.Options.{Options}
 use Rattle.gixobj_tag.specs.TagOwned.{IsOwnedFormOfTag}
@@ -22,9 +22,9 @@ pub signing_error_of_write : {S : Type 0} (runs : S → CallView → Answer → 
 signing_error_of_write runs options tag without same old error (inl (writable, wants)) =
     inl (
       subst (λ (of : Tag). RejectsNothing (IsOwnedTagError of)) same writable,
-      subst (λ (it : Error). IsCarriedOut runs (sign_plan (options_view options) (payload_of_tag (owned_tag_lines tag))) old (signer_error it) old)
+      subst (λ (it : Error). IsCarriedOut runs (sign_plan (sign_options_view options) (payload_of_tag (owned_tag_lines tag))) old (signer_error it) old)
           (sym wants)
-          (begins_plan_refl runs (sign_plan (options_view options) (payload_of_tag (owned_tag_lines tag))) old),
+          (begins_plan_refl runs (sign_plan (sign_options_view options) (payload_of_tag (owned_tag_lines tag))) old),
     )
 signing_error_of_write runs options tag without same old error (inr (cause, is, why)) =
     inr (cause, is, subst (λ (it : Tag). IsTagEncodingError it cause) same why, refl)
@@ -37,7 +37,7 @@ pub is_signed_tag_of_signature : {S : Type 0} (runs : S → CallView → Answer 
     → IfOk result (GetsTagSignature runs options payload without old new) → IfOk result (IsSignedTag runs options tag old new)
 is_signed_tag_of_signature runs options tag without same payload content writable old new (Ok it) (bytes, went, lines) = record {
   bytes = bytes;
-  called = subst (λ (signs : List ℕ). Carries runs (sign_plan (options_view options) signs) old (signature bytes) new)
+  called = subst (λ (signs : List ℕ). Carries runs (sign_plan (sign_options_view options) signs) old (signature bytes) new)
       (content ∙ ap (λ (of : Tag). encode_tag (owned_tag_lines of) ++ newline ∷ []) same) went;
   lines = lines ∙ ap (λ (of : Tag). signed_as (Some bytes) (owned_tag_lines of)) same;
   writable = subst (λ (of : Tag). RejectsNothing (IsOwnedTagError of)) same writable;
@@ -49,13 +49,13 @@ pub signing_error_of_runner : {S : Type 0} (runs : S → CallView → Answer →
     → (payload : List ℕ)
     → payload ≡ encode_tag (owned_tag_lines without) ++ newline ∷ [] → RejectsNothing (IsOwnedTagError without)
     → (old new : S) (result : Result Tag Error)
-    → IfErr result (λ error. IsCarriedOut runs (sign_plan (options_view options) payload) old (signer_error error) new)
+    → IfErr result (λ error. IsCarriedOut runs (sign_plan (sign_options_view options) payload) old (signer_error error) new)
     → IfErr result (IsTagSigningError runs options tag old new)
 signing_error_of_runner runs options tag without same payload content writable old new (Ok it) why = tt
 signing_error_of_runner runs options tag without same payload content writable old new (Err error) why =
     inl (
       subst (λ (of : Tag). RejectsNothing (IsOwnedTagError of)) same writable,
-      subst (λ (signs : List ℕ). IsCarriedOut runs (sign_plan (options_view options) signs) old (signer_error error) new)
+      subst (λ (signs : List ℕ). IsCarriedOut runs (sign_plan (sign_options_view options) signs) old (signer_error error) new)
           (content ∙ ap (λ (of : Tag). encode_tag (owned_tag_lines of) ++ newline ∷ []) same) why,
     )
 

@@ -10,7 +10,7 @@ use Rattle.gixobj_fields.specs.Writing.{RejectedValue, RejectsNothing, IsWriting
 use Rattle.gixobj_fields.specs.declared.encode.Error.{Error}
 use Rattle.gixobj_tag.specs.NameRule.{IsTagName}
 use Rattle.gixobj_tag.specs.TagFormat.{TagLines, encode_target}
-use Rattle.gixobj_tag.specs.TagWriting.{IsTagLinesError, IsTagNameError, IsNameLineError, IsTagPartsError}
+use Rattle.gixobj_tag.specs.TagWriting.{IsTagLinesError, IsNameValueError, IsNameLineError, IsTagPartsError}
 
 -- a byte is written, and then the rest
 pub appends_prefix_cons : (a b : SinkView) (byte : ℕ) (rest : List ℕ) → AppendsPrefix a b (byte ∷ []) → AppendsPrefix a b (byte ∷ rest)
@@ -29,7 +29,7 @@ pub parts_error_of_tagger : (prefix name : List ℕ) (Rejects : RejectedValue �
     → Rejects value parts → IsTagPartsError prefix name Rejects value ((prefix ++ encode_field (codes "tag") name) ++ parts)
 parts_error_of_tagger prefix name Rejects value parts valid rejected = inr (valid, (parts, rejected, refl))
 
-name_not_rejected : (name : List ℕ) (value : RejectedValue) → IsTagName name → IsTagNameError name value → ⊥
+name_not_rejected : (name : List ℕ) (value : RejectedValue) → IsTagName name → IsNameValueError name value → ⊥
 name_not_rejected name value valid (inl (fault, first, is)) = valid.0 fault first.here
 name_not_rejected name value valid (inr (clean, dash, is)) = valid.1 dash
 

@@ -42,17 +42,17 @@ encode_tag tag = encode_tag_lines tag ++ encode_body tag.message tag.signature
 -- ---- errors
 
 -- a name is rejected for its first fault or, without one, for the dash with which it begins
-abbrev pub IsTagNameError : List ℕ → RejectedValue → Type 0
-IsTagNameError name value = ((fault : RefNameFault) × IsFirstFault name fault × (value ≡ bad_name fault))
+abbrev pub IsNameValueError : List ℕ → RejectedValue → Type 0
+IsNameValueError name value = ((fault : RefNameFault) × IsFirstFault name fault × (value ≡ bad_name fault))
     ⊎ (HasNoFault name × BeginsWithDash name × (value ≡ name_with_dash))
 
 -- a name is rejected before any byte of its line
 abbrev pub IsNameLineError : List ℕ → RejectedValue → List ℕ → Type 0
-IsNameLineError name value parts = IsTagNameError name value × (parts ≡ [])
+IsNameLineError name value parts = IsNameValueError name value × (parts ≡ [])
 
 -- a borrowed tag is rejected for its name alone, after the lines of its target and of its kind
 abbrev pub IsTagLinesError : TagLines → RejectedValue → List ℕ → Type 0
-IsTagLinesError tag value parts = IsTagNameError tag.name value × (parts ≡ encode_target tag)
+IsTagLinesError tag value parts = IsNameValueError tag.name value × (parts ≡ encode_target tag)
 
 -- a tagger is rejected after the name of its field and a space
 abbrev pub IsTaggerError : Option Signature → RejectedValue → List ℕ → Type 0
@@ -63,7 +63,7 @@ IsTaggerError (Some actor) value parts = IsActorFieldError (codes "tagger") acto
 -- line
 abbrev pub IsTagPartsError : List ℕ → List ℕ → (RejectedValue → List ℕ → Type 0) → RejectedValue → List ℕ → Type 0
 IsTagPartsError prefix name Rejects value parts =
-    (IsTagNameError name value × (parts ≡ prefix))
+    (IsNameValueError name value × (parts ≡ prefix))
     ⊎ (IsTagName name
     × ((line : List ℕ) × Rejects value line × (parts ≡ prefix ++ encode_field (codes "tag") name ++ line)))
 

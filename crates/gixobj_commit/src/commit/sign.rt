@@ -7,7 +7,7 @@ ghost use Rattle.gixobj_commit.specs.CommitWriting.{HasIds, IsOwnedCommitError, 
 ghost use Rattle.gixobj_fields.specs.HeaderReading.{owned_header_of};
 ghost use Rattle.gixobj_fields.specs.Writing.{RejectsNothing};
 ghost use Rattle.gixobj_signature.specs.Plans.{IsCarriedOut};
-ghost use Rattle.gixobj_signature.specs.Signing.{options_view, sign_plan, signer_error};
+ghost use Rattle.gixobj_signature.specs.Signing.{sign_options_view, sign_plan, signer_error};
 
 use super::{Commit, CommitRef, signature_field_name};
 use bstr::BString;
@@ -123,7 +123,7 @@ fn sign_written<R: Runner>(
     ensures signed { IfOk result (GetsCommitSignature R.runs options payload.now field.now unsigned
         runner.old runner.new) }
     ensures error { IfErr result (λ error.
-        IsCarriedOut R.runs (sign_plan (options_view options) payload.now) runner.old (signer_error error)
+        IsCarriedOut R.runs (sign_plan (sign_options_view options) payload.now) runner.old (signer_error error)
         runner.new) }
 {
     match sign_payload(alloc, payload, options, runner) {

@@ -4,7 +4,7 @@ ghost use Rattle.std.specs.Option.{option_map};
 ghost use Rattle.bstr.specs.Owned.{bstring_bytes};
 ghost use Rattle.gixobj_signature.specs.Calls.{answer_view};
 ghost use Rattle.gixobj_signature.specs.Plans.{AllocatesForCalls};
-ghost use Rattle.gixobj_signature.specs.Signing.{IsFailed, Signs, confirms, gpg_plan, is_return_before, written_signature, literal_key, not_run_view, options_view, sign_plan, sign_view, signer_error, ssh_plan, without_returns};
+ghost use Rattle.gixobj_signature.specs.Signing.{IsFailed, Signs, confirms, gpg_plan, is_return_before, written_signature, literal_key, not_run_view, sign_options_view, sign_plan, sign_view, signer_error, ssh_plan, without_returns};
 
 mod calls;
 
@@ -117,9 +117,9 @@ pub fn sign_payload<R: Runner>(
     options: Options,
     runner: &mut R,
 ) -> Result<BString, Error>
-    ensures signed { Signs R.runs (sign_plan (options_view options) payload.now) runner.old result
+    ensures signed { Signs R.runs (sign_plan (sign_options_view options) payload.now) runner.old result
         runner.new }
-    ensures allocates { AllocatesForCalls (sign_plan (options_view options) payload.now)
+    ensures allocates { AllocatesForCalls (sign_plan (sign_options_view options) payload.now)
         (sign_view result) }
 {
     if options.signing_key.is_empty() {
@@ -138,7 +138,7 @@ fn sign_gpg<R: Runner>(
     options: Options,
     runner: &mut R,
 ) -> Result<BString, Error>
-    ensures { Signs R.runs (gpg_plan (options_view options) payload.now) runner.old result
+    ensures { Signs R.runs (gpg_plan (sign_options_view options) payload.now) runner.old result
         runner.new }
 {
     let call = gpg_call_of(alloc, payload, &options)?;
@@ -162,7 +162,7 @@ fn sign_ssh<R: Runner>(
     options: Options,
     runner: &mut R,
 ) -> Result<BString, Error>
-    ensures { Signs R.runs (ssh_plan (options_view options) payload.now) runner.old result
+    ensures { Signs R.runs (ssh_plan (sign_options_view options) payload.now) runner.old result
         runner.new }
 {
     let call = ssh_call_of(alloc, payload, &options)?;

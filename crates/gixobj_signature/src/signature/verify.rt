@@ -1,7 +1,7 @@
 //! Verification of signatures by external programs.
 ghost use Rattle.std.specs.Prelude.{◌≡◌, Some};
 ghost use Rattle.gixobj_signature.specs.SignedBytes.{signed_bytes};
-ghost use Rattle.gixobj_signature.specs.Verifiers.{by_open_pgp, by_ssh, by_x509, options_view, program_of, ssh_of, ssh_program_of, verifier_view};
+ghost use Rattle.gixobj_signature.specs.Verifiers.{by_open_pgp, by_ssh, by_x509, verify_options_view, program_of, ssh_of, ssh_program_of, verifier_view};
 ghost use Rattle.gixobj_signature.specs.Plans.{AllocatesForCalls};
 ghost use Rattle.gixobj_signature.specs.Verifying.{WasCalled, IsOutcomeOf, Verifies, verify_plan, verify_view};
 ghost use Rattle.gixobj_signature.specs.Calls.{call_view};
@@ -207,9 +207,9 @@ fn verify_as<R: Runner>(
     options: Options,
     runner: &mut R,
 ) -> Result<Outcome, Error>
-    ensures outcome { IsOutcomeOf R.runs (verify_plan (options_view options) signature.now
+    ensures outcome { IsOutcomeOf R.runs (verify_plan (verify_options_view options) signature.now
         (signed_bytes signed.now) (Some format)) runner.old result runner.new }
-    ensures allocates { AllocatesForCalls (verify_plan (options_view options) signature.now
+    ensures allocates { AllocatesForCalls (verify_plan (verify_options_view options) signature.now
         (signed_bytes signed.now) (Some format)) (verify_view result) }
 {
     match verifier_of(options) {
@@ -221,7 +221,7 @@ fn verify_as<R: Runner>(
 
 /// Converts the options to a verifier.
 fn verifier_of(options: Options) -> Verifier
-    ensures { verifier_view result ≡ options_view options }
+    ensures { verifier_view result ≡ verify_options_view options }
 {
     match options {
         Options::OpenPgp {

@@ -3,7 +3,7 @@ ghost use Rattle.std.specs.Prelude.{◌≡◌, ◌++◌, ◌∷◌, [], IfErr, I
 ghost use Rattle.bstr.specs.Owned.{bstring_bytes};
 ghost use Rattle.gixobj_fields.specs.Writing.{RejectsNothing};
 ghost use Rattle.gixobj_hash.specs.Hash.{IsIdHex};
-ghost use Rattle.gixobj_signature.specs.Signing.{options_view, sign_plan, signer_error};
+ghost use Rattle.gixobj_signature.specs.Signing.{sign_options_view, sign_plan, signer_error};
 ghost use Rattle.gixobj_signature.specs.Plans.{IsCarriedOut};
 ghost use Rattle.gixobj_tag.specs.TagSigning.{GetsTagSignature, HasNoPayload, IsSignedTag, IsSignedTagCopy, IsTagSigningError, IsTagCopySigningError, IsTagEncodingError, signed_as, unsigned};
 ghost use Rattle.gixobj_tag.specs.TagViews.{owned_tag_lines, tag_lines};
@@ -145,7 +145,7 @@ fn sign_written<R: Runner>(
     ensures signed { IfOk result (GetsTagSignature R.runs options payload.now unsigned runner.old
         runner.new) }
     ensures error { IfErr result (λ error.
-        IsCarriedOut R.runs (sign_plan (options_view options) payload.now) runner.old (signer_error error)
+        IsCarriedOut R.runs (sign_plan (sign_options_view options) payload.now) runner.old (signer_error error)
         runner.new) }
 {
     match sign_payload(alloc, payload, options, runner) {

@@ -2,7 +2,7 @@
 ghost use Rattle.std.specs.Prelude.{◌≡◌, IfOk, map};
 ghost use Rattle.bstr.specs.Owned.{bstring_bytes};
 ghost use Rattle.gixobj_signature.specs.Calls.{call_view, word_view};
-ghost use Rattle.gixobj_signature.specs.Signing.{gpg_call, leaving_call, literal_call, options_view, path_call, ssh_call};
+ghost use Rattle.gixobj_signature.specs.Signing.{gpg_call, leaving_call, literal_call, sign_options_view, path_call, ssh_call};
 
 use super::{Options, is_literal_ssh_key};
 use crate::signature::words::Piece::{File, Text};
@@ -14,7 +14,7 @@ use std::alloc::Global;
 
 /// Makes the call of an OpenPGP or X.509 program, whose input is the payload.
 pub fn gpg_call_of(alloc: Global, payload: &[u8], options: &Options) -> Result<Call, OutOfMemory>
-    ensures { IfOk result (λ it. call_view it ≡ gpg_call (options_view options.now) payload.now) }
+    ensures { IfOk result (λ it. call_view it ≡ gpg_call (sign_options_view options.now) payload.now) }
 {
     let key = options.signing_key.as_bytes();
     let pieces = [Text(b"--status-fd=2"), Text(b"-bsau"), Text(key)];
@@ -31,7 +31,7 @@ pub fn gpg_call_of(alloc: Global, payload: &[u8], options: &Options) -> Result<C
 
 /// Makes the call of an SSH program, which signs a file with the payload.
 pub fn ssh_call_of(alloc: Global, payload: &[u8], options: &Options) -> Result<Call, OutOfMemory>
-    ensures { IfOk result (λ it. call_view it ≡ ssh_call (options_view options.now) payload.now) }
+    ensures { IfOk result (λ it. call_view it ≡ ssh_call (sign_options_view options.now) payload.now) }
 {
     match is_literal_ssh_key(options.signing_key.as_bytes()) {
         Some(key) => literal_call_of(alloc, key, payload, options),
@@ -41,7 +41,7 @@ pub fn ssh_call_of(alloc: Global, payload: &[u8], options: &Options) -> Result<C
 
 /// Makes the SSH call for a key in a file of the caller.
 fn path_call_of(alloc: Global, payload: &[u8], options: &Options) -> Result<Call, OutOfMemory>
-    ensures { IfOk result (λ it. call_view it ≡ path_call (options_view options.now) payload.now) }
+    ensures { IfOk result (λ it. call_view it ≡ path_call (sign_options_view options.now) payload.now) }
 {
     let mut words = git_words_of(alloc, &options.program_arguments, b"sign")?;
     let key = options.signing_key.as_bytes();
@@ -58,7 +58,7 @@ fn literal_call_of(
     options: &Options,
 ) -> Result<Call, OutOfMemory>
     ensures { IfOk result (λ it. call_view it
-        ≡ literal_call (options_view options.now) key.now payload.now) }
+        ≡ literal_call (sign_options_view options.now) key.now payload.now) }
 {
     let mut words = git_words_of(alloc, &options.program_arguments, b"sign")?;
     let pieces = [Text(b"-f"), File(0), Text(b"-U"), File(1)];
@@ -79,7 +79,7 @@ fn call_of(
     number: usize,
 ) -> Result<Call, OutOfMemory>
     ensures { IfOk result (λ it. call_view it
-        ≡ leaving_call (options_view options.now) (map word_view words.items)
+        ≡ leaving_call (sign_options_view options.now) (map word_view words.items)
         (map bstring_bytes files.items) number) }
 {
     let environment = environment_of(alloc, &options.environment)?;
