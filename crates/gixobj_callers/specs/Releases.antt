@@ -45,7 +45,7 @@ use Rattle.gixobj_callers.specs.declared.releases.AuditError.TheVariants as audi
 -- ---- signed commits
 
 -- a signer returned a signature for the encoding of the commit without signatures, and this is the encoding with it
-abbrev pub IsSignedEncoding : {S : Type 0} → (S → CallView → Answer → S → Type 0) → signing.VerifyOptionsView → Commit → S
+abbrev pub IsSignedEncoding : {S : Type 0} → (S → CallView → Answer → S → Type 0) → signing.SignOptionsView → Commit → S
     → List ℕ → S → Type 0
 IsSignedEncoding runs it commit old content new =
     let kind = id_kind commit.tree in

@@ -32,7 +32,7 @@ pub fn signed_payload<R: Runner>(
     runner: &mut R,
 ) -> Result<Vec<u8>, sign::Error>
     ensures signed { IfOk result (λ content.
-        IsSignedEncoding R.runs (signing.verify_options_view options) commit runner.old content.items
+        IsSignedEncoding R.runs (signing.sign_options_view options) commit runner.old content.items
         runner.new) }
     ensures error { IfErr result (IsSignedEncodingError R.runs options commit runner.old runner.new) }
 {

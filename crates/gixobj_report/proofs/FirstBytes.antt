@@ -4,8 +4,7 @@ use Rattle.std.proofs.lemmas.Bool.{eqb-true}
 use Rattle.std.specs.Cmp.Lexicographic.{pointwise}
 use Rattle.std.specs.Option.{option_map}
 use Rattle.gixobj_report.specs.Fields.{after_prefix, either}
-use Rattle.gixobj_report.specs.GpgReports.{status_of, with_status}
-use Rattle.gixobj_report.specs.StatusLines.{error_of}
+use Rattle.gixobj_report.specs.GpgReports.{error_status_of, status_of, with_status}
 use Rattle.gixobj_report.specs.declared.report.Status.{Status}
 use Rattle.gixobj_report.specs.declared.report.Status.TheVariants as status
 
@@ -30,10 +29,20 @@ status_of_badsig line rest first found is same says =
     says ∙ ap (λ it. either (option_map (with_status status.Bad) (after_prefix (codes "BADSIG ") it)) None) at ∙ sym (ap status_of at)
 
 pub status_of_errsig : (line rest : List ℕ) (first : ℕ) (found : Option (Status × List ℕ)) → line ≡ first ∷ rest → first ≡ 69
-    → found ≡ error_of line → found ≡ status_of line
+    → found ≡ error_status_of line → found ≡ status_of line
 status_of_errsig line rest first found is same says =
     let at = moved 69 first line rest is same in
-    says ∙ ap error_of at ∙ sym (ap status_of at)
+    says ∙ ap error_status_of at ∙ sym (either_none (error_status_of (69 ∷ rest))) ∙ sym (ap status_of at)
+
+pub error_status_of_keywords : (line : List ℕ) (found : Option (Status × List ℕ))
+    → found ≡ either (option_map (with_status status.Error) (after_prefix (codes "ERRSIG ") line))
+    (either (option_map (with_status status.Expired) (after_prefix (codes "EXPSIG ") line))
+    (either (option_map (with_status status.ExpiredKey) (after_prefix (codes "EXPKEYSIG ") line)) None))
+    → found ≡ error_status_of line
+error_status_of_keywords line found says =
+    says ∙ ap (λ it. either (option_map (with_status status.Error) (after_prefix (codes "ERRSIG ") line))
+    (either (option_map (with_status status.Expired) (after_prefix (codes "EXPSIG ") line)) it))
+    (either_none (option_map (with_status status.ExpiredKey) (after_prefix (codes "EXPKEYSIG ") line)))
 
 pub status_of_revoked : (line rest : List ℕ) (first : ℕ) (found : Option (Status × List ℕ)) → line ≡ first ∷ rest → first ≡ 82
     → found ≡ either (option_map (with_status status.RevokedKey) (after_prefix (codes "REVKEYSIG ") line)) None → found ≡ status_of line
@@ -54,8 +63,8 @@ not_begun byte first token rest other =
 
 none_of_six : (a b c d e f : Option (List ℕ)) → a ≡ None → b ≡ None → c ≡ None → d ≡ None → e ≡ None → f ≡ None
     → None ≡ either (option_map (with_status status.Good) a) (either (option_map (with_status status.Bad) b)
-    (either (option_map (with_status status.Error) c) (either (option_map (with_status status.Expired) d)
-    (either (option_map (with_status status.ExpiredKey) e) (option_map (with_status status.RevokedKey) f)))))
+    (either (either (option_map (with_status status.Error) c) (either (option_map (with_status status.Expired) d)
+    (option_map (with_status status.ExpiredKey) e))) (option_map (with_status status.RevokedKey) f)))
 none_of_six None None None None None None p q r s t u = refl
 none_of_six (Some a) b c d e f p q r s t u = absurd (cc p)
 none_of_six None (Some b) c d e f p q r s t u = absurd (cc q)

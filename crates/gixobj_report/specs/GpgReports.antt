@@ -20,20 +20,20 @@ status_lines raw = filter_map (λ line. after_prefix (codes "[GNUPG:] ") line) (
 abbrev pub with_status : Status → List ℕ → Status × List ℕ
 with_status status rest = (status, rest)
 
--- the status of a line with the keyword `EXPSIG`, `EXPKEYSIG` or `REVKEYSIG`, or none
-abbrev pub late_status_of : List ℕ → Option (Status × List ℕ)
-late_status_of line =
-    either (option_map (with_status status.Expired) (after_prefix (codes "EXPSIG ") line))
-    (either (option_map (with_status status.ExpiredKey) (after_prefix (codes "EXPKEYSIG ") line))
-    (option_map (with_status status.RevokedKey) (after_prefix (codes "REVKEYSIG ") line)))
+-- the status of a line with the keyword `ERRSIG`, `EXPSIG` or `EXPKEYSIG`, or none
+abbrev pub error_status_of : List ℕ → Option (Status × List ℕ)
+error_status_of line =
+    either (option_map (with_status status.Error) (after_prefix (codes "ERRSIG ") line))
+    (either (option_map (with_status status.Expired) (after_prefix (codes "EXPSIG ") line))
+    (option_map (with_status status.ExpiredKey) (after_prefix (codes "EXPKEYSIG ") line)))
 
 -- the status that a line reports by its keyword, and the bytes after it, or none
 abbrev pub status_of : List ℕ → Option (Status × List ℕ)
 status_of line =
     either (option_map (with_status status.Good) (after_prefix (codes "GOODSIG ") line))
     (either (option_map (with_status status.Bad) (after_prefix (codes "BADSIG ") line))
-    (either (option_map (with_status status.Error) (after_prefix (codes "ERRSIG ") line))
-    (late_status_of line)))
+    (either (error_status_of line)
+    (option_map (with_status status.RevokedKey) (after_prefix (codes "REVKEYSIG ") line))))
 
 -- the status, the key and the signer that status lines report
 pub record Verdict : Type 0 where

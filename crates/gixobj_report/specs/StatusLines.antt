@@ -25,13 +25,6 @@ reported_view it = record {
   signer = option_map bstring_bytes it.signer;
 }
 
--- the status of a line whose keyword begins with `E`, or none
-abbrev pub error_of : List ℕ → Option (Status × List ℕ)
-error_of line =
-    either (option_map (with_status status.Error) (after_prefix (codes "ERRSIG ") line))
-    (either (option_map (with_status status.Expired) (after_prefix (codes "EXPSIG ") line))
-    (either (option_map (with_status status.ExpiredKey) (after_prefix (codes "EXPKEYSIG ") line)) None))
-
 -- the status of a status line, or none without one
 abbrev pub status_from : Option (List ℕ) → Option (Status × List ℕ)
 status_from (Some seen) = status_of seen

@@ -4,9 +4,9 @@ ghost use Rattle.std.specs.List.{filter_map};
 ghost use Rattle.std.specs.Option.{option_map};
 ghost use Rattle.bstr.specs.Owned.{bstring_bytes};
 ghost use Rattle.gixobj_report.specs.Fields.{after_prefix, after_space, either, field_at, fields_of, first_token, unless_empty};
-ghost use Rattle.gixobj_report.specs.GpgReports.{reported_fields, gpg_report, reported_names, status_of, status_lines, trust_in, reported_trust, valid_fields, verdict, with_status};
+ghost use Rattle.gixobj_report.specs.GpgReports.{error_status_of, reported_fields, gpg_report, reported_names, status_of, status_lines, trust_in, reported_trust, valid_fields, verdict, with_status};
 ghost use Rattle.gixobj_report.specs.Outcomes.{copied_strings, no_strings, outcome_view};
-ghost use Rattle.gixobj_report.specs.StatusLines.{HasOneMore, after_spaces, error_of, reported_view, status_view, status_after, line_status, verdict_of};
+ghost use Rattle.gixobj_report.specs.StatusLines.{HasOneMore, after_spaces, reported_view, status_view, status_after, line_status, verdict_of};
 ghost use Rattle.gixobj_report.specs.Trust.{or_undefined, trust_of};
 
 use super::{Outcome, Status, TrustLevel};
@@ -222,8 +222,9 @@ fn status_of_line<'a>(line: &'a [u8]) -> Option<(Status, &'a [u8])>
 
 /// Returns the status of a line whose keyword begins with `E`.
 #[inline(always)]
+#[tactic(auto, using(crate::proofs::FirstBytes::error_status_of_keywords))]
 fn error_or_expired<'a>(line: &'a [u8]) -> Option<(Status, &'a [u8])>
-    ensures { option_map status_view result ≡ error_of line.now }
+    ensures { option_map status_view result ≡ error_status_of line.now }
 {
     let expired_key = status_or(line, b"EXPKEYSIG ", Status::ExpiredKey, None);
     let expired = status_or(line, b"EXPSIG ", Status::Expired, expired_key);
