@@ -96,7 +96,7 @@ mod of_laws_of_commits {
         actor_search_complete, commit_readers_agree, consumed_commit_tokens_are_prefix,
         id_search_complete, message_search_complete,
     };
-    pub use gix_object::laws::tokens::{commit_run_iff_tokens, commit_tokens_decode_uniquely};
+    pub use gix_object::laws::tokens::{commit_runs_decode_uniquely, commit_tokens_decode_uniquely};
     pub use gix_object::laws::{
         borrowed_header_search_complete, borrowed_mergetag_search_complete,
         commit_decode_encode_agree, commit_decodes_uniquely, commit_reencodes_identically,

@@ -2,7 +2,7 @@
 -- "objects").
 use Rattle.std.specs.Prelude.{◌≡◌, ◌≢◌, ℕ, List, [], ⊤}
 use Rattle.gixobj_commit.specs.CommitOwned.{IsOwnedFormOfCommit as IsOwnedCommit, IsIntoOwnedCommitError}
-use Rattle.gixobj_commit.specs.CommitViews.{commit_lines}
+use Rattle.gixobj_commit.specs.CommitViews.{BorrowsLines, commit_lines}
 use Rattle.gixobj_commit.specs.CommitWriting.{HasIds, IsCommitLinesError, encode_commit, in_lower_case}
 use Rattle.gixobj_fields.specs.Writing.{RejectedValue}
 use Rattle.gixobj_hash.specs.Hash.{IsIdHex}
@@ -42,6 +42,15 @@ IsReadyToWrite (object.Tree tree) = ⊤
 IsReadyToWrite (object.Blob blob) = ⊤
 IsReadyToWrite (object.Commit commit) = HasIds (commit_lines commit)
 IsReadyToWrite (object.Tag tag) = ⊤
+
+-- ---- borrowed values
+
+-- header values of one line of a commit are borrowed; the other objects own no bytes
+abbrev pub BorrowsHeaderLines : ObjectRef → Type 0
+BorrowsHeaderLines (object.Tree tree) = ⊤
+BorrowsHeaderLines (object.Blob blob) = ⊤
+BorrowsHeaderLines (object.Commit commit) = BorrowsLines commit
+BorrowsHeaderLines (object.Tag tag) = ⊤
 
 -- ---- encoding
 

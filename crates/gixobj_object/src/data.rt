@@ -1,7 +1,7 @@
 //! Decoding of objects by their kinds, and iterators over the tokens of commits and tags.
 ghost use Rattle.std.specs.Prelude.{◌≡◌, ◌↔◌, IfErr, IfOk, IfSome, IsSome};
 ghost use Rattle.gixobj_hash.specs.declared.kind.Kind.TheVariants as object;
-ghost use Rattle.gixobj_object.specs.BorrowedObjects.{HasObjectIds, IsReadyToWrite};
+ghost use Rattle.gixobj_object.specs.BorrowedObjects.{BorrowsHeaderLines, HasObjectIds, IsReadyToWrite};
 ghost use Rattle.gixobj_object.specs.ObjectReading.{DecodesToObject, IsObjectDecodeError};
 ghost use Rattle.gixobj_ref_iter.specs.TagTokenSteps.{IsAtStartOfTag};
 ghost use Rattle.gixobj_ref_iter.specs.CommitTokenSteps.{IsAtStartOfCommit};
@@ -39,6 +39,7 @@ impl<'a> DataExt<'a> for Data<'a> {
     fn decode(&self, alloc: Global) -> Result<ObjectRef<'a>, Error>
         ensures found { IfOk result (DecodesToObject self.now.object_hash self.now.kind
             self.now.bytes.now) }
+        ensures borrowed { IfOk result BorrowsHeaderLines }
         ensures has_ids { IfOk result HasObjectIds }
         ensures encodable { IfOk result IsReadyToWrite }
         ensures error { IfErr result (IsObjectDecodeError self.now.object_hash self.now.kind

@@ -1,6 +1,6 @@
 //! Lookups of objects that have to exist and to be of a kind.
 ghost use Rattle.std.specs.Prelude.{◌≡◌, [], IfErr, IfOk, IsOk};
-ghost use Rattle.gixobj_commit.specs.CommitViews.{commit_lines};
+ghost use Rattle.gixobj_commit.specs.CommitViews.{BorrowsLines, commit_lines};
 ghost use Rattle.gixobj_commit.specs.CommitWriting.{HasIds};
 ghost use Rattle.gixobj_store.specs.EntrySteps.{IsAtEntry};
 ghost use Rattle.gixobj_store.specs.Stores.{Names, stored};
@@ -12,7 +12,7 @@ ghost use Rattle.gixobj_line.specs.Commit.{DecodesToCommit};
 ghost use Rattle.gixobj_find.specs.declared.find.existing_iter.Error.TheVariants as iter_error;
 ghost use Rattle.gixobj_keep.specs.ExistingTrees.{NamesSuch};
 ghost use Rattle.gixobj_keep.specs.declared.find.existing_object.Error.TheVariants as decoded;
-ghost use Rattle.gixobj_object.specs.BorrowedObjects.{HasObjectIds};
+ghost use Rattle.gixobj_object.specs.BorrowedObjects.{BorrowsHeaderLines, HasObjectIds};
 ghost use Rattle.gixobj_ref_iter.specs.TagTokenSteps.{IsAtStartOfTag};
 ghost use Rattle.gixobj_tag.specs.TagFormat.{DecodesToTag};
 ghost use Rattle.gixobj_tag.specs.TagViews.{tag_lines};
@@ -178,6 +178,7 @@ pub trait FindExt: Find {
         ensures found { IfOk result (λ commit.
             NamesSuch (Self.objects self.now) (borrowed_id id.entry) object.Commit
             (λ hash content. DecodesToCommit hash content (commit_lines commit))) }
+        ensures borrowed { IfOk result BorrowsLines }
         ensures has_ids { IfOk result (λ commit. HasIds (commit_lines commit)) }
         ensures error { IfErr result (IsFindObjectError (Self.objects self.now)
             (Self.may_fail self.now) object.Commit (borrowed_id id.entry)) }
@@ -320,6 +321,7 @@ fn decoded<'a, S: Find>(
     buffer: &'a mut Vec<u8>,
 ) -> Result<ObjectRef<'a>, existing_object::Error>
     ensures found { IfOk result (NamesEncoding (S.objects store.now) (borrowed_id id.entry)) }
+    ensures borrowed { IfOk result BorrowsHeaderLines }
     ensures has_ids { IfOk result HasObjectIds }
     ensures error { IfErr result (FailsToRead (S.objects store.now) (S.may_fail store.now)
         (borrowed_id id.entry)) }

@@ -19,7 +19,7 @@ pub fn commit_tokens_decode_uniquely()
 /// From each state bytes have at most one run of tokens, with one ending.
 ///
 /// If the run is complete, the bytes are the concatenated encodings of its tokens.
-pub fn commit_run_iff_tokens()
+pub fn commit_runs_decode_uniquely()
     ensures one_run { (kind : Kind) (before : State) (input : List ℕ)
         (tokens tokens' : List CommitTokenView) (ending ending' : Ending)
         → YieldsCommitTokens kind before input tokens ending

@@ -1,7 +1,7 @@
 //! Decoding of objects by their kind, or as loose objects (gitformat-loose, "Loose object format").
 ghost use Rattle.std.specs.Prelude.{◌≡◌, IfErr, IfOk};
 ghost use Rattle.gixobj_hash.specs.declared.decode.LooseContentError.TheVariants.{Short};
-ghost use Rattle.gixobj_object.specs.BorrowedObjects.{HasObjectIds, IsReadyToWrite};
+ghost use Rattle.gixobj_object.specs.BorrowedObjects.{BorrowsHeaderLines, HasObjectIds, IsReadyToWrite};
 ghost use Rattle.gixobj_object.specs.LooseObjects.{ConvertsContentError, IsLooseObject, IsLooseObjectError};
 ghost use Rattle.gixobj_object.specs.ObjectReading.{DecodesToObject, IsObjectDecodeError};
 ghost use Rattle.gixobj_object.specs.declared.object.borrowed.decode.LooseDecodeError.TheVariants as loose_error;
@@ -92,6 +92,7 @@ impl<'a> ObjectRef<'a> {
         hash_kind: hash::Kind,
     ) -> Result<ObjectRef<'a>, LooseDecodeError>
         ensures found { IfOk result (IsLooseObject hash_kind input.now) }
+        ensures borrowed { IfOk result BorrowsHeaderLines }
         ensures has_ids { IfOk result HasObjectIds }
         ensures encodable { IfOk result IsReadyToWrite }
         ensures error { IfErr result (IsLooseObjectError hash_kind input.now) }
@@ -118,6 +119,7 @@ impl<'a> ObjectRef<'a> {
         hash_kind: hash::Kind,
     ) -> Result<ObjectRef<'a>, Error>
         ensures found { IfOk result (DecodesToObject hash_kind kind bytes.now) }
+        ensures borrowed { IfOk result BorrowsHeaderLines }
         ensures has_ids { IfOk result HasObjectIds }
         ensures encodable { IfOk result IsReadyToWrite }
         ensures error { IfErr result (IsObjectDecodeError hash_kind kind bytes.now) }
@@ -139,6 +141,7 @@ fn parsed<'a>(
     hash_kind: hash::Kind,
 ) -> Result<ObjectRef<'a>, Error>
     ensures found { IfOk result (DecodesToObject hash_kind kind bytes.now) }
+    ensures borrowed { IfOk result BorrowsHeaderLines }
     ensures has_ids { IfOk result HasObjectIds }
     ensures encodable { IfOk result IsReadyToWrite }
     ensures error { IfErr result (IsObjectDecodeError hash_kind kind bytes.now) }
@@ -157,7 +160,7 @@ fn short(size: u64) -> LooseDecodeError
 {
     match usize::try_from(size) {
         Ok(_) => {
-            let message = "fewer bytes than the header of an object says";
+            let message = "the content is shorter than the size in its header";
             LooseDecodeError::InvalidHeader(LooseHeaderDecodeError::InvalidHeader { message })
         }
         Err(_) => LooseDecodeError::OutOfMemory { size },

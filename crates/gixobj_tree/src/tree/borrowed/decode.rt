@@ -54,8 +54,7 @@ impl<'a> TreeRef<'a> {
 
 /// The number of entries if their names had 8 bytes, at most 128. Most names are longer, so most trees
 /// have no more entries.
-fn likely_entries(bytes: &[u8], hash_kind: Kind) -> usize
-{
+fn likely_entries(bytes: &[u8], hash_kind: Kind) -> usize {
     (bytes.len() / (16 + hash_kind.len_in_bytes())).min(128)
 }
 

@@ -1,5 +1,5 @@
 use Rattle.gixobj_ref_iter.proofs.CommitRuns.{token_run_unique, decodes_tokens_of_run}
-use Rattle.gixobj_ref_iter.proofs.laws.tokens.commit_run_iff_tokens.Goals as goal
+use Rattle.gixobj_ref_iter.proofs.laws.tokens.commit_runs_decode_uniquely.Goals as goal
 
 pub returns-clause-one_run : goal.returns-clause-one_run
 returns-clause-one_run c = token_run_unique
