@@ -80,7 +80,10 @@ pub fn commit_decode_encode_agree(
         → AllPass is_lower_hex_digit (commit_lines commit.now).tree
         → All (λ hex. AllPass is_lower_hex_digit hex) (commit_lines commit.now).parents
         → out.new.items ≡ out.old.items ++ content) }
-    ensures error { IfErr result (λ error. (kind : Kind) (content : List ℕ)
+    ensures error { IfErr result (IsWritingError
+        (IsCommitLinesError (in_lower_case (commit_lines commit.now))) (list_view out.old)
+        (list_view out.new) (encode_commit (in_lower_case (commit_lines commit.now)))) }
+    ensures fails_as_sink { IfErr result (λ error. (kind : Kind) (content : List ℕ)
         → DecodesToCommit kind content (commit_lines commit.now)
         → (commit_lines commit.now).encoding ≢ Some []
         → FailsAsSink (list_view out.old) (list_view out.new)

@@ -76,7 +76,9 @@ pub fn tag_decode_encode_agree(
     ensures same_bytes { OnOk result ((kind : Kind) (content : List ℕ)
         → DecodesToTag kind content (tag_lines tag.now) → PreservesBody (tag_lines tag.now)
         → out.new.items ≡ out.old.items ++ content) }
-    ensures error { IfErr result (λ error. IsTagName (tag_lines tag.now).name
+    ensures error { IfErr result (IsWritingError (IsTagLinesError (tag_lines tag.now))
+        (list_view out.old) (list_view out.new) (encode_tag (tag_lines tag.now))) }
+    ensures fails_as_sink { IfErr result (λ error. IsTagName (tag_lines tag.now).name
         → FailsAsSink (list_view out.old) (list_view out.new) (encode_tag (tag_lines tag.now))
         error) }
 {

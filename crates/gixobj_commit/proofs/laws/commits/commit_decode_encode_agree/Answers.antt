@@ -10,8 +10,8 @@ returns-in-Ok-clause-same_bytes c = λ kind content it tree parents.
     c.in-Ok.ensures.written ∙ ap (λ (bytes : List ℕ). c.args.out.now.items ++ bytes)
     (commit_reencodes_identically kind content (commit_lines c.args.commit.now) it tree parents)
 
-pub returns-in-Err-clause-error : goal.returns-in-Err-clause-error
-returns-in-Err-clause-error c = λ kind content it some.
+pub returns-in-Err-clause-fails_as_sink : goal.returns-in-Err-clause-fails_as_sink
+returns-in-Err-clause-fails_as_sink c = λ kind content it some.
     fails_as_sink_of_error (IsCommitLinesError (in_lower_case (commit_lines c.args.commit.now))) _ _
     (encode_commit (in_lower_case (commit_lines c.args.commit.now)))
     c.in-Err.error

@@ -9,7 +9,7 @@ pub returns-in-Ok-clause-same_bytes : goal.returns-in-Ok-clause-same_bytes
 returns-in-Ok-clause-same_bytes c = λ kind content is keeps. c.in-Ok.ensures.written ∙ ap (λ (bytes : List ℕ). c.args.out.now.items ++ bytes)
     (tag_reencodes_identically kind content (tag_lines c.args.tag.now) is keeps)
 
-pub returns-in-Err-clause-error : goal.returns-in-Err-clause-error
-returns-in-Err-clause-error c = λ valid.
+pub returns-in-Err-clause-fails_as_sink : goal.returns-in-Err-clause-fails_as_sink
+returns-in-Err-clause-fails_as_sink c = λ valid.
     fails_as_sink_of_error (IsTagLinesError (tag_lines c.args.tag.now)) _ _ (encode_tag (tag_lines c.args.tag.now)) c.in-Err.error
     (decoded_tag_rejects_nothing (tag_lines c.args.tag.now) valid) c.in-Err.ensures.error
