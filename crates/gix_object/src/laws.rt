@@ -21,7 +21,9 @@ pub use gixobj_codec::laws::{
     tree_decodes_uniquely, tree_readers_agree, tree_reencodes_identically, tree_round_trips,
 };
 pub use gixobj_directories::laws::{looked_up_file_exists, store_has_tree_map};
-pub use gixobj_editor::laws::{consistent_run_has_table, encodable_tree_decodes_to_itself};
+pub use gixobj_editor::laws::{
+    consistent_run_has_table, encodable_tree_decodes_to_itself, run_table_agrees_with_writes,
+};
 pub use gixobj_files::laws::{
     consistent_pairs_have_table, list_has_table, plain_history_is_table_independent,
     single_root_is_opened, store_has_table,

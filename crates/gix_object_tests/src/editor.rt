@@ -36,7 +36,13 @@ fn is_reported(alloc: Global, error: &WriteError<u8>, wanted: &[u8]) -> bool {
 
 #[test]
 fn failed_out(rt: HostRuntime) {
-    assert!(rt; is_reported(rt.alloc(), &WriteError::Out(7), b"a tree could not be written: 7"));
+    assert!(rt;
+        is_reported(
+            rt.alloc(),
+            &WriteError::Out(7),
+            b"a tree could not be written: 7"
+        )
+    );
 }
 
 /// Upserts a file, removes a path and writes. The written tree has the files of that history.

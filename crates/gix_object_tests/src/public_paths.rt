@@ -86,8 +86,8 @@ mod of_laws {
     pub use gix_object::laws::{
         consistent_import_has_table, consistent_pairs_have_table, consistent_run_has_table,
         encodable_tree_decodes_to_itself, list_has_table, looked_up_file_exists, object_map_insert,
-        plain_history_is_table_independent, single_root_is_opened, store_has_table,
-        store_has_tree_map,
+        plain_history_is_table_independent, run_table_agrees_with_writes, single_root_is_opened,
+        store_has_table, store_has_tree_map,
     };
 }
 
@@ -96,7 +96,9 @@ mod of_laws_of_commits {
         actor_search_complete, commit_readers_agree, consumed_commit_tokens_are_prefix,
         id_search_complete, message_search_complete,
     };
-    pub use gix_object::laws::tokens::{commit_runs_decode_uniquely, commit_tokens_decode_uniquely};
+    pub use gix_object::laws::tokens::{
+        commit_runs_decode_uniquely, commit_tokens_decode_uniquely,
+    };
     pub use gix_object::laws::{
         borrowed_header_search_complete, borrowed_mergetag_search_complete,
         commit_decode_encode_agree, commit_decodes_uniquely, commit_reencodes_identically,

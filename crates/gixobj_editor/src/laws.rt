@@ -1,16 +1,17 @@
 //! Laws of the definitions, on tables that agree with runs and trees that decode to themselves. The contract
 //! of each function is a law.
-ghost use Rattle.std.specs.Prelude.{All};
+ghost use Rattle.std.specs.Prelude.{◌≡◌, ℕ, All, Some, take};
 ghost use Rattle.gixobj_store.specs.Stores.{Objects};
 ghost use Rattle.gixobj_directories.specs.Openings.{AreTreesOf};
 ghost use Rattle.gixobj_files.specs.Files.{Table, Trees};
 ghost use Rattle.gixobj_tree.specs.Entries.{Pair};
-ghost use Rattle.gixobj_files.specs.Tables.{IsConsistentWith};
+ghost use Rattle.gixobj_files.specs.Tables.{AgreesWithPairs, IsConsistentWith};
 ghost use Rattle.gixobj_hash.specs.Hash.{id_kind};
-ghost use Rattle.gixobj_editor.specs.Commands.{emitted_pairs, pairs_kept};
+ghost use Rattle.gixobj_editor.specs.Commands.{emitted_pairs, pairs_kept, written_at};
 ghost use Rattle.gixobj_editor.specs.RunTables.{AgreesWithRun, DecodesToItself};
 ghost use Rattle.gixobj_tree.specs.Rewriting.{RoundTrips};
 
+use crate::editor::Written;
 use crate::reply::Reply;
 use gixobj_tree::laws::{tree_decodes_uniquely, tree_round_trips};
 
@@ -25,6 +26,16 @@ pub fn consistent_run_has_table<E>(replies: &[Reply<E>])
         → IsConsistentWith (emitted_pairs replies.now) trees
         → All DecodesToItself (pairs_kept replies.now) → (T : Table)
         × AgreesWithRun T objects replies.now }
+{}
+
+/// A table that agrees with a run agrees with the part of the run before each write of the root, and with the
+/// trees of that write.
+///
+/// These are the assumptions on tables of the theorem of files in [`run`](crate::run).
+pub fn run_table_agrees_with_writes<E>(replies: &[Reply<E>])
+    ensures { (T : Table) (objects : Objects) (k : ℕ) (written : Written)
+        → AgreesWithRun T objects replies.now → written_at replies.now k ≡ Some written
+        → AgreesWithRun T objects (take k replies.now) × AgreesWithPairs T written.trees.items }
 {}
 
 /// The encoding of a tree decodes to no other well-formed tree if each entry round-trips.
