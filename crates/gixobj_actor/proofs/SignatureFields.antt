@@ -5,7 +5,7 @@ use Rattle.bstr.specs.Owned.{bstring_bytes}
 use Rattle.gixobj_fields.proofs.Appends.{appends_prefix_after_byte}
 use Rattle.gixobj_fields.specs.HeaderFormat.{encode_field}
 use Rattle.gixobj_fields.specs.Streams.{AppendsAll, AppendsPrefix, SinkView}
-use Rattle.gixobj_fields.specs.Writing.{IsWritingError}
+use Rattle.gixobj_fields.specs.Writing.{IsWritingError, LacksRoom}
 use Rattle.gixobj_fields.specs.declared.encode.Error.{Error}
 use Rattle.gixobj_fields.specs.declared.encode.Error.TheVariants as error
 use Rattle.gixobj_actor.specs.ActorWriting.{IsActorError, IsActorFieldError, encode_owned_actor}
@@ -32,3 +32,21 @@ pub field_error_of_actor_error : {T : Type 0} (result : Result T Error) (a b c :
     → IfErr result (IsWritingError (IsActorFieldError name actor) a c (encode_field name (encode_owned_actor actor)))
 field_error_of_actor_error (Ok value) a b c U name actor write_bytes same failure = tt
 field_error_of_actor_error (Err why) a b c U name actor write_bytes same failure = signature_rejected a b c U name actor why write_bytes same failure
+
+-- a sink fails only for a legal actor, which is not rejected
+room_of_legal : (a : SinkView) (Unchanged Written : Type 0) (name : List ℕ) (actor : Signature) (e : Error)
+    → IsActorError (bstring_bytes actor.name) (bstring_bytes actor.email) Unchanged Written e → LacksRoom (IsActorFieldError name actor) a e
+room_of_legal a U W name actor (error.Writer cause) failure = λ value parts rejected. absurd (rejected.0 failure.0)
+room_of_legal a U W name actor error.IllegalActor failure = tt
+room_of_legal a U W name actor (error.NewlineInHeaderValue value) failure = tt
+room_of_legal a U W name actor error.EmptyValue failure = tt
+room_of_legal a U W name actor error.StartsWithDash failure = tt
+room_of_legal a U W name actor (error.InvalidRefName fault) failure = tt
+room_of_legal a U W name actor (error.NullbyteInFilename value) failure = tt
+room_of_legal a U W name actor error.OutOfMemory failure = tt
+
+pub field_room_of_actor_error : {T : Type 0} (result : Result T Error) (a : SinkView) (Unchanged Written : Type 0) (name : List ℕ) (actor : Signature)
+    → IfErr result (IsActorError (bstring_bytes actor.name) (bstring_bytes actor.email) Unchanged Written)
+    → IfErr result (LacksRoom (IsActorFieldError name actor) a)
+field_room_of_actor_error (Ok value) a U W name actor failure = tt
+field_room_of_actor_error (Err why) a U W name actor failure = room_of_legal a U W name actor why failure

@@ -3,7 +3,7 @@ ghost use Rattle.std.specs.Prelude.{◌<◌, ◌+◌, ◌^◌, ◌≡◌, length
 ghost use Rattle.std.specs.Option.{SomeIff};
 ghost use Rattle.gixobj_fields.specs.HeaderFormat.{encode_field};
 ghost use Rattle.gixobj_fields.specs.Streams.{AppendsAll};
-ghost use Rattle.gixobj_fields.specs.Writing.{AddsSize, IsWritingError};
+ghost use Rattle.gixobj_fields.specs.Writing.{AddsSize, IsWritingError, LacksRoom};
 ghost use Rattle.gixobj_actor.specs.ActorWriting.{IsLegal, IsActorFieldError, encode_owned_actor};
 
 use crate::actor::Signature;
@@ -31,6 +31,7 @@ pub fn trusted_header_signature<S: Sink>(
     ensures encodable { OnOk result (IsLegal actor.now) }
     ensures error { IfErr result (IsWritingError (IsActorFieldError name.now actor.now)
         (S.view sink.old) (S.view sink.new) (encode_field name.now (encode_owned_actor actor.now))) }
+    ensures room { IfErr result (LacksRoom (IsActorFieldError name.now actor.now) (S.view sink.old)) }
     ensures same_loan { S.loan sink.new ≡ S.loan sink.old }
 {
     write_parts(&[name, b" "], sink)?;

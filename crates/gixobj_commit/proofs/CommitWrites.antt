@@ -1,6 +1,6 @@
 -- States that the encoding of a commit is the concatenation of its written parts, for `write_into` and `size` of both
 -- commit types.
-use Rattle.std.proofs.Common.{◌≡◌, ℕ, List, [], ◌∷◌, ◌++◌, All, Option, map, refl, ap, sym, subst, ◌∙◌, append_assoc, codes, inl, inr}
+use Rattle.std.proofs.Common.{◌≡◌, ℕ, List, [], ◌∷◌, ◌++◌, ◌+◌, ◌≤◌, ◌⊎◌, All, Option, map, refl, ap, arith, sym, subst, ◌∙◌, append_assoc, codes, inl, inr, ⊎_elim, length, length-append}
 use Rattle.std.specs.List.{flat_map}
 use Rattle.std.specs.Str.{str_to_ascii_lowercase}
 use Rattle.std.specs.declared.alloc.Global.{Global}
@@ -223,3 +223,97 @@ owned_commit_rejects_nothing commit encoding two author committer none value par
 owned_commit_rejects_nothing commit encoding two author committer none value parts (inr (inl it)) = absurd (it.1 committer)
 owned_commit_rejects_nothing commit encoding two author committer none value parts (inr (inr it)) =
     none value [] (subst (λ (it : Option (List ℕ)). IsMessageEncodingError it value) (sym two) it.2.0, refl)
+
+-- ---- room for the parts before a rejected value
+
+-- the message encoding of a borrowed commit is rejected right after the committer
+pub borrowed_commit_error_after : (commit : CommitRef) (id : ObjectId) (parents : List BStr) (author committer : List ℕ) (value : RejectedValue)
+    (parts : List ℕ)
+    → DecodesToId (bstr_bytes commit.tree) id → parents ≡ commit.parents.items → author ≡ bstr_bytes commit.author
+    → committer ≡ bstr_bytes commit.committer → IsCommitLinesError (in_lower_case (commit_lines commit)) value parts
+    → parts ≡ (ids_written id hex_parent parents ++ encode_field (codes "author") author) ++ encode_field (codes "committer") committer
+borrowed_commit_error_after commit id parents author committer value parts spells one two three (rejected, after) =
+    rw (one, two, three) (after ∙ borrowed_prefix commit id spells)
+
+-- the value that an owned commit rejects: its author after the ids, its committer after the author's line, or its message
+-- encoding after the committer's line
+pub owned_commit_error_cases : (commit : Commit) (parents : List ObjectId) (encoding : Option BStr) (value : RejectedValue) (parts : List ℕ)
+    → parents ≡ commit.parents.items → bytes_if_some encoding ≡ owned_bytes_if_some commit.encoding → IsOwnedCommitError commit value parts
+    → ((begun : List ℕ) × IsActorFieldError (codes "author") commit.author value begun
+    × (parts ≡ ids_written commit.tree owned_parent parents ++ begun))
+    ⊎ (((begun : List ℕ) × IsLegal commit.author × IsActorFieldError (codes "committer") commit.committer value begun
+    × (parts ≡ (ids_written commit.tree owned_parent parents ++ encode_field (codes "author") (encode_owned_actor commit.author)) ++ begun))
+    ⊎ (IsLegal commit.author × IsLegal commit.committer × IsEncodingLineError (bytes_if_some encoding) value []
+    × (parts ≡ (ids_written commit.tree owned_parent parents ++ encode_field (codes "author") (encode_owned_actor commit.author))
+    ++ encode_field (codes "committer") (encode_owned_actor commit.committer))))
+owned_commit_error_cases commit parents encoding value parts one two (inl (illegal, is, after)) =
+    inl (codes "author" ++ 32 ∷ [], (illegal, is, refl),
+    rw one (after ∙ ap (λ (it : List ℕ). (it ++ codes "author") ++ 32 ∷ []) (owned_ids commit)
+    ∙ append_assoc (ids_written commit.tree owned_parent commit.parents.items) (codes "author") (32 ∷ [])))
+owned_commit_error_cases commit parents encoding value parts one two (inr (inl (legal, illegal, is, after))) =
+    let author = encode_field (codes "author") (encode_owned_actor commit.author) in
+    inr (inl (codes "committer" ++ 32 ∷ [], legal, (illegal, is, refl),
+    rw one (after ∙ ap (λ (it : List ℕ). ((it ++ author) ++ codes "committer") ++ 32 ∷ []) (owned_ids commit)
+    ∙ append_assoc (ids_written commit.tree owned_parent commit.parents.items ++ author) (codes "committer") (32 ∷ []))))
+owned_commit_error_cases commit parents encoding value parts one two (inr (inr (author, committer, (rejected, after)))) =
+    inr (inr (author, committer, (subst (λ (it : Option (List ℕ)). IsMessageEncodingError it value) (sym two) rejected, refl),
+    rw one (after ∙ ap (λ (it : List ℕ). (it ++ encode_field (codes "author") (encode_owned_actor commit.author)) ++ encode_field (codes "committer")
+    (encode_owned_actor commit.committer)) (owned_ids commit))))
+
+-- nothing is rejected in the ids
+pub owned_commit_error_after_ids : (commit : Commit) (parents : List ObjectId) (encoding : Option BStr) → parents ≡ commit.parents.items
+    → bytes_if_some encoding ≡ owned_bytes_if_some commit.encoding → (value : RejectedValue) (parts : List ℕ) → IsOwnedCommitError commit value parts
+    → length (ids_written commit.tree owned_parent parents) ≤ length parts
+owned_commit_error_after_ids commit parents encoding one two value parts rejected =
+    let ids = ids_written commit.tree owned_parent parents in
+    let author = encode_field (codes "author") (encode_owned_actor commit.author) in
+    let committer = encode_field (codes "committer") (encode_owned_actor commit.committer) in
+    ⊎_elim (λ it. omega (arith, ap length it.2, length-append ids it.0))
+    (⊎_elim (λ it. omega (arith, ap length it.3, length-append (ids ++ author) it.0, length-append ids author))
+    (λ it. omega (arith, ap length it.3, length-append (ids ++ author) committer, length-append ids author)))
+    (owned_commit_error_cases commit parents encoding value parts one two rejected)
+
+-- after the ids, the rejected value is the author, or comes after the author's line
+pub author_or_later : (commit : Commit) (parents : List ObjectId) (encoding : Option BStr) → parents ≡ commit.parents.items
+    → bytes_if_some encoding ≡ owned_bytes_if_some commit.encoding → (value : RejectedValue) (parts : List ℕ) → IsOwnedCommitError commit value parts
+    → ((begun : List ℕ) × IsActorFieldError (codes "author") commit.author value begun
+    × (parts ≡ ids_written commit.tree owned_parent parents ++ begun))
+    ⊎ (length (ids_written commit.tree owned_parent parents) + length (encode_field (codes "author") (encode_owned_actor commit.author)) ≤ length parts)
+author_or_later commit parents encoding one two value parts rejected =
+    let ids = ids_written commit.tree owned_parent parents in
+    let author = encode_field (codes "author") (encode_owned_actor commit.author) in
+    let committer = encode_field (codes "committer") (encode_owned_actor commit.committer) in
+    ⊎_elim (λ it. inl it)
+    (λ later. inr (⊎_elim (λ it. omega (arith, ap length it.3, length-append (ids ++ author) it.0, length-append ids author))
+    (λ it. omega (arith, ap length it.3, length-append (ids ++ author) committer, length-append ids author)) later))
+    (owned_commit_error_cases commit parents encoding value parts one two rejected)
+
+-- after a legal author, the rejected value is the committer, or comes after the committer's line
+pub committer_or_later : (commit : Commit) (parents : List ObjectId) (encoding : Option BStr) → parents ≡ commit.parents.items
+    → bytes_if_some encoding ≡ owned_bytes_if_some commit.encoding → IsLegal commit.author → (value : RejectedValue) (parts : List ℕ)
+    → IsOwnedCommitError commit value parts
+    → ((begun : List ℕ) × IsActorFieldError (codes "committer") commit.committer value begun
+    × (parts ≡ (ids_written commit.tree owned_parent parents ++ encode_field (codes "author") (encode_owned_actor commit.author)) ++ begun))
+    ⊎ (length (ids_written commit.tree owned_parent parents ++ encode_field (codes "author") (encode_owned_actor commit.author))
+    + length (encode_field (codes "committer") (encode_owned_actor commit.committer)) ≤ length parts)
+committer_or_later commit parents encoding one two legal value parts rejected =
+    let ids = ids_written commit.tree owned_parent parents in
+    let author = encode_field (codes "author") (encode_owned_actor commit.author) in
+    let committer = encode_field (codes "committer") (encode_owned_actor commit.committer) in
+    ⊎_elim (λ it. absurd (it.1.0 legal))
+    (⊎_elim (λ it. inl (it.0, it.2, it.3)) (λ it. inr (omega (arith, ap length it.3, length-append (ids ++ author) committer))))
+    (owned_commit_error_cases commit parents encoding value parts one two rejected)
+
+-- after legal actors, the rejected value is the message encoding
+pub encoding_or_later : (commit : Commit) (parents : List ObjectId) (encoding : Option BStr) (rest : List ℕ) → parents ≡ commit.parents.items
+    → bytes_if_some encoding ≡ owned_bytes_if_some commit.encoding → IsLegal commit.author → IsLegal commit.committer
+    → (value : RejectedValue) (parts : List ℕ) → IsOwnedCommitError commit value parts
+    → ((begun : List ℕ) × IsEncodingLineError (bytes_if_some encoding) value begun
+    × (parts ≡ ((ids_written commit.tree owned_parent parents ++ encode_field (codes "author") (encode_owned_actor commit.author))
+    ++ encode_field (codes "committer") (encode_owned_actor commit.committer)) ++ begun))
+    ⊎ (length ((ids_written commit.tree owned_parent parents ++ encode_field (codes "author") (encode_owned_actor commit.author))
+    ++ encode_field (codes "committer") (encode_owned_actor commit.committer)) + length rest ≤ length parts)
+encoding_or_later commit parents encoding rest one two author committer value parts rejected =
+    ⊎_elim (λ it. absurd (it.1.0 author))
+    (⊎_elim (λ it. absurd (it.2.0 committer)) (λ it. inl ([], it.2, it.3 ∙ sym (append-nil _))))
+    (owned_commit_error_cases commit parents encoding value parts one two rejected)

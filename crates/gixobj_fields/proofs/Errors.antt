@@ -1,10 +1,11 @@
 -- The error of a write of a part is an error of the write of all parts; used by the proofs of commits, tags and
 -- trees.
-use Rattle.std.proofs.Common.{◌≡◌, ◌≤◌, ℕ, List, [], ◌++◌, Some, inl, inr, subst}
+use Rattle.std.proofs.Common.{◌≡◌, ◌≤◌, ◌<◌, ◌+◌, ◌⊎◌, ⊎_elim, ℕ, List, [], ◌++◌, Result, Ok, Err, Some, ap, arith, inl, inr, length, length-append, subst}
+use Rattle.std.specs.Prelude.{IfErr}
 use Rattle.gixobj_fields.specs.Streams.{AppendsAll, AppendsPrefix, SinkView}
 use Rattle.gixobj_fields.specs.declared.encode.Error.{Error}
 use Rattle.gixobj_fields.specs.declared.encode.Error.TheVariants as error
-use Rattle.gixobj_fields.specs.Writing.{FailsAsSink, IsEncodingError, IsWritingError, RejectedValue, RejectsNothing, StopsAt}
+use Rattle.gixobj_fields.specs.Writing.{FailsAsSink, IsEncodingError, IsWritingError, LacksRoom, RejectedValue, RejectsNothing, StopsAt}
 use Rattle.gixobj_fields.proofs.Appends.{prefix_with_more_room, appends_prefix_middle, appends_all_append, appends_with_more_room}
 
 stops_after : (R Q : RejectedValue → List ℕ → Type 0) (a b c : SinkView) (prefix : List ℕ) → AppendsAll a b prefix
@@ -61,6 +62,63 @@ rejects_with_more_room R a b c bytes same less (error.NullbyteInFilename name) s
 rejects_with_more_room R a b c bytes same less error.IllegalActor s = stops_with_more_room R a b c same less _ s
 rejects_with_more_room R a b c bytes same less error.OutOfMemory (value, inl s) = (value, inl (stops_with_more_room R a b c same less _ s))
 rejects_with_more_room R a b c bytes same less error.OutOfMemory (value, inr s) = (value, inr (stops_with_more_room R a b c same less _ s))
+
+-- a sink that lacks room also lacked it before it had more
+pub lacks_room_with_more_room : (R : RejectedValue → List ℕ → Type 0) (a b : SinkView) → a.room ≤ b.room → (e : Error) → LacksRoom R b e → LacksRoom R a e
+lacks_room_with_more_room R a b less (error.Writer cause) short = λ value parts rejected. omega (arith, less, short value parts rejected)
+lacks_room_with_more_room R a b less (error.NewlineInHeaderValue value) short = tt
+lacks_room_with_more_room R a b less error.EmptyValue short = tt
+lacks_room_with_more_room R a b less error.StartsWithDash short = tt
+lacks_room_with_more_room R a b less (error.InvalidRefName fault) short = tt
+lacks_room_with_more_room R a b less (error.NullbyteInFilename name) short = tt
+lacks_room_with_more_room R a b less error.IllegalActor short = tt
+lacks_room_with_more_room R a b less error.OutOfMemory short = tt
+
+-- a sink that failed in a piece after a written prefix lacks room, if nothing is rejected before the end of the piece
+pub lacks_room_in_piece : (Q : RejectedValue → List ℕ → Type 0) (a b c : SinkView) (prefix piece : List ℕ) → AppendsAll a b prefix
+    → AppendsPrefix b c piece
+    → ((value : RejectedValue) (parts : List ℕ) → Q value parts → length prefix + length piece ≤ length parts)
+    → (value : RejectedValue) (parts : List ℕ) → Q value parts → a.room < length parts
+lacks_room_in_piece Q a b c prefix piece first part later =
+    λ value parts rejected. omega (arith, first.room, part.short, later value parts rejected)
+
+-- the error of a piece after a written prefix is one for lack of room, if each rejected value of the whole is one of the
+-- piece or comes after it
+pub lacks_room_after : (R Q : RejectedValue → List ℕ → Type 0) (a b c : SinkView) (prefix piece : List ℕ) → AppendsAll a b prefix
+    → ((value : RejectedValue) (parts : List ℕ) → Q value parts
+    → ((begun : List ℕ) × R value begun × (parts ≡ prefix ++ begun)) ⊎ (length prefix + length piece ≤ length parts))
+    → (e : Error) → IsWritingError R b c piece e → LacksRoom R b e → LacksRoom Q a e
+lacks_room_after R Q a b c prefix piece first back (error.Writer cause) part short = λ value parts rejected.
+    ⊎_elim (λ within. omega (arith, first.room, short value within.0 within.1, length-append prefix within.0, ap length within.2))
+    (λ later. omega (arith, first.room, part.short, later)) (back value parts rejected)
+lacks_room_after R Q a b c prefix piece first back (error.NewlineInHeaderValue value) part short = tt
+lacks_room_after R Q a b c prefix piece first back error.EmptyValue part short = tt
+lacks_room_after R Q a b c prefix piece first back error.StartsWithDash part short = tt
+lacks_room_after R Q a b c prefix piece first back (error.InvalidRefName fault) part short = tt
+lacks_room_after R Q a b c prefix piece first back (error.NullbyteInFilename name) part short = tt
+lacks_room_after R Q a b c prefix piece first back error.IllegalActor part short = tt
+lacks_room_after R Q a b c prefix piece first back error.OutOfMemory part short = tt
+
+-- the same of a result
+pub lacks_room_of_result : {T : Type 0} (result : Result T Error) (R Q : RejectedValue → List ℕ → Type 0) (a b c : SinkView) (prefix piece : List ℕ)
+    → AppendsAll a b prefix
+    → ((value : RejectedValue) (parts : List ℕ) → Q value parts
+    → ((begun : List ℕ) × R value begun × (parts ≡ prefix ++ begun)) ⊎ (length prefix + length piece ≤ length parts))
+    → IfErr result (IsWritingError R b c piece) → IfErr result (LacksRoom R b) → IfErr result (LacksRoom Q a)
+lacks_room_of_result (Ok value) R Q a b c prefix piece first back says short = tt
+lacks_room_of_result (Err e) R Q a b c prefix piece first back says short = lacks_room_after R Q a b c prefix piece first back e says short
+
+-- fewer rejected values ask for no more room
+pub lacks_room_of_fewer : (R Q : RejectedValue → List ℕ → Type 0) (a : SinkView) → ((value : RejectedValue) (parts : List ℕ) → Q value parts → R value parts)
+    → (e : Error) → LacksRoom R a e → LacksRoom Q a e
+lacks_room_of_fewer R Q a fewer (error.Writer cause) short = λ value parts rejected. short value parts (fewer value parts rejected)
+lacks_room_of_fewer R Q a fewer (error.NewlineInHeaderValue value) short = tt
+lacks_room_of_fewer R Q a fewer error.EmptyValue short = tt
+lacks_room_of_fewer R Q a fewer error.StartsWithDash short = tt
+lacks_room_of_fewer R Q a fewer (error.InvalidRefName fault) short = tt
+lacks_room_of_fewer R Q a fewer (error.NullbyteInFilename name) short = tt
+lacks_room_of_fewer R Q a fewer error.IllegalActor short = tt
+lacks_room_of_fewer R Q a fewer error.OutOfMemory short = tt
 
 none_stops : (R : RejectedValue → List ℕ → Type 0) (a b : SinkView) (value : RejectedValue) → RejectsNothing R → StopsAt R a b value → ⊥
 none_stops R a b value nothing s = nothing value s.0 s.1

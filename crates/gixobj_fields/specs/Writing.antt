@@ -1,6 +1,6 @@
 -- Sizes, rejected values and errors of the writers of objects.
 use Rattle.std.specs.Option.{SomeIff}
-use Rattle.std.specs.Prelude.{◌⊎◌, ◌<◌, ◌+◌, ◌^◌, ℕ, List, Option, length}
+use Rattle.std.specs.Prelude.{◌⊎◌, ◌<◌, ◌+◌, ◌^◌, ℕ, List, Option, length, ⊤}
 use Rattle.bstr.specs.Owned.{bstring_bytes}
 use Rattle.gixobj_fields.specs.Streams.{AppendsAll, AppendsPrefix, SinkView, empty_sink}
 use Rattle.gixobj_fields.specs.declared.encode.Error.{Error}
@@ -47,6 +47,12 @@ IsWritingError Rejects before after bytes error.IllegalActor = StopsAt Rejects b
 IsWritingError Rejects before after bytes error.OutOfMemory =
     (value : List ℕ) × (StopsAt Rejects before after (header_with_newline value)
     ⊎ StopsAt Rejects before after (name_with_zero_byte value))
+
+-- Writer: the room of the sink was also less than the parts before each rejected value; any other error: nothing
+abbrev pub LacksRoom : (RejectedValue → List ℕ → Type 0) → SinkView → Error → Type 0
+LacksRoom Rejects before (error.Writer cause) =
+    (value : RejectedValue) (parts : List ℕ) → Rejects value parts → before.room < length parts
+LacksRoom Rejects before other = ⊤
 
 -- the error of a writer of these bytes to an empty list, which has no room yet
 abbrev pub IsEncodingError : (RejectedValue → List ℕ → Type 0) → List ℕ → Error → Type 0

@@ -7,7 +7,7 @@ ghost use Rattle.gixobj_hash.specs.Hash.{encode_id_hex};
 ghost use Rattle.gixobj_fields.specs.FieldWriting.{IsLastLine, IsFieldError, folded, newlines};
 ghost use Rattle.gixobj_fields.specs.HeaderFormat.{encode_field};
 ghost use Rattle.gixobj_fields.specs.Streams.{AppendsAll, AppendsOrFails};
-ghost use Rattle.gixobj_fields.specs.Writing.{AddsSize, RejectsNothing, IsWritingError};
+ghost use Rattle.gixobj_fields.specs.Writing.{AddsSize, IsWritingError, LacksRoom, RejectsNothing};
 ghost use Rattle.gixobj_hash.specs.Bytes.{newline, space};
 
 use crate::streams::{Sink, write_both};
@@ -204,6 +204,7 @@ pub fn header_field<S: Sink>(
     ensures no_error { OnOk result (RejectsNothing (IsFieldError value.now)) }
     ensures error { IfErr result (IsWritingError (IsFieldError value.now) (S.view sink.old)
         (S.view sink.new) (encode_field name.now value.now)) }
+    ensures room { IfErr result (LacksRoom (IsFieldError value.now) (S.view sink.old)) }
     ensures same_loan { S.loan sink.new ≡ S.loan sink.old }
 {
     if value.is_empty() {

@@ -4,7 +4,7 @@ ghost use Rattle.std.specs.Io.KnownBytes.{Appends};
 ghost use Rattle.std.specs.Option.{SomeIff};
 ghost use Rattle.gixobj_hash.specs.Encode.{encode_loose_header};
 ghost use Rattle.gixobj_fields.specs.Streams.{AppendsAll, list_view, writer_view};
-ghost use Rattle.gixobj_fields.specs.Writing.{IsSize, RejectsNothing, IsWritingError};
+ghost use Rattle.gixobj_fields.specs.Writing.{IsSize, IsWritingError, LacksRoom, RejectsNothing};
 
 use crate::encode;
 use crate::streams::{Sink, ToWrite};
@@ -52,6 +52,7 @@ pub trait WriteTo {
         ensures no_error { OnOk result (RejectsNothing (rejects self.now)) }
         ensures error { IfErr result (IsWritingError (rejects self.now) (S.view sink.old)
             (S.view sink.new) (encoding self.now)) }
+        ensures room { IfErr result (LacksRoom (rejects self.now) (S.view sink.old)) }
         ensures same_loan { S.loan sink.new ≡ S.loan sink.old };
 
     /// Returns the kind of the object.
@@ -93,6 +94,7 @@ pub trait WriteTo {
         ensures no_error { OnOk result (RejectsNothing (rejects self.now)) }
         ensures error { IfErr result (IsWritingError (rejects self.now)
             (writer_view (W.contents out.old)) (writer_view (W.contents out.new)) (encoding self.now)) }
+        ensures room { IfErr result (LacksRoom (rejects self.now) (writer_view (W.contents out.old))) }
     {
         self.write_into(alloc, &mut ToWrite(out))
     }
@@ -118,13 +120,14 @@ pub trait WriteTo {
     ///     Ok((compute_hash(HashKind::Sha1, Kind::Commit, &bytes), bytes))
     /// }
     /// ```
-    #[tactic(auto, using(crate::proofs::Errors::rejects_with_more_room))]
+    #[tactic(auto, using(crate::proofs::Errors::rejects_with_more_room, crate::proofs::Errors::lacks_room_with_more_room))]
     final fn write_to_vec(&self, alloc: Global, out: &mut Vec<u8>) -> Result<(), encode::Error>
         requires { can_write self.now }
         ensures written { OnOk result (out.new.items ≡ out.old.items ++ encoding self.now) }
         ensures no_error { OnOk result (RejectsNothing (rejects self.now)) }
         ensures error { IfErr result (IsWritingError (rejects self.now) (list_view out.old)
             (list_view out.new) (encoding self.now)) }
+        ensures room { IfErr result (LacksRoom (rejects self.now) (list_view out.old)) }
     {
         make_room(self, out);
         self.write_into(alloc, out)

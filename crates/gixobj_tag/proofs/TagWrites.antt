@@ -1,12 +1,12 @@
 -- Tags are written step by step, and the error of a step is that of all.
-use Rattle.std.proofs.Common.{ℕ, List, [], ◌∷◌, ◌++◌, Result, ap, inl, inr, refl, ◌∙◌}
+use Rattle.std.proofs.Common.{◌≡◌, ◌+◌, ◌≤◌, ◌⊎◌, ℕ, List, [], ◌∷◌, ◌++◌, Result, ap, arith, inl, inr, length, length-append, refl, sym, ◌∙◌}
 use Rattle.std.proofs.lemmas.List.{append-nil}
 use Rattle.std.specs.Prelude.{codes}
 use Rattle.gixobj_fields.proofs.Appends.{appends_prefix_first, appends_all_nil, appends_or_fails_append}
-use Rattle.gixobj_fields.proofs.Errors.{writing_error_append}
+use Rattle.gixobj_fields.proofs.Errors.{lacks_room_of_fewer, writing_error_append}
 use Rattle.gixobj_fields.specs.HeaderFormat.{encode_field}
 use Rattle.gixobj_fields.specs.Streams.{AppendsAll, AppendsPrefix, AppendsOrFails, SinkView}
-use Rattle.gixobj_fields.specs.Writing.{RejectedValue, RejectsNothing, IsWritingError}
+use Rattle.gixobj_fields.specs.Writing.{IsWritingError, LacksRoom, RejectedValue, RejectsNothing}
 use Rattle.gixobj_fields.specs.declared.encode.Error.{Error}
 use Rattle.gixobj_tag.specs.NameRule.{IsTagName}
 use Rattle.gixobj_tag.specs.TagFormat.{TagLines, encode_target}
@@ -51,3 +51,36 @@ pub writing_error_of_lines : (tag : TagLines) (before after : SinkView) (bytes :
 writing_error_of_lines tag before after bytes error says =
     writing_error_append (IsTagPartsError (encode_target tag) tag.name (λ value line. ⊥)) (IsTagLinesError tag) before before after [] bytes bytes
     (appends_all_nil before) (lines_rejected tag) (λ prefix. prefix) error says
+
+-- ---- room for the parts before a rejected value
+
+-- the parts begin with the lines of the target
+pub parts_after_target : (prefix name : List ℕ) (Rejects : RejectedValue → List ℕ → Type 0) (value : RejectedValue) (parts : List ℕ)
+    → IsTagPartsError prefix name Rejects value parts → length prefix ≤ length parts
+parts_after_target prefix name Rejects value parts (inl it) = omega (arith, ap length it.1)
+parts_after_target prefix name Rejects value parts (inr (valid, (line, rejected, is))) =
+    omega (arith, ap length is, length-append (prefix ++ encode_field (codes "tag") name) line, length-append prefix (encode_field (codes "tag") name))
+
+-- the rejected value is the name, or comes after its line
+pub name_or_later : (prefix name : List ℕ) (Rejects : RejectedValue → List ℕ → Type 0) (value : RejectedValue) (parts : List ℕ)
+    → IsTagPartsError prefix name Rejects value parts
+    → ((begun : List ℕ) × IsNameLineError name value begun × (parts ≡ prefix ++ begun))
+    ⊎ (length prefix + length (encode_field (codes "tag") name) ≤ length parts)
+name_or_later prefix name Rejects value parts (inl it) = inl ([], (it.0, refl), it.1 ∙ sym (append-nil prefix))
+name_or_later prefix name Rejects value parts (inr (valid, (line, rejected, is))) =
+    inr (omega (arith, ap length is, length-append (prefix ++ encode_field (codes "tag") name) line, length-append prefix (encode_field (codes "tag") name)))
+
+-- with a valid name the rejected value is of the tagger
+pub tagger_or_later : (prefix name : List ℕ) (Rejects : RejectedValue → List ℕ → Type 0) (tagger : List ℕ) → IsTagName name
+    → (value : RejectedValue) (parts : List ℕ) → IsTagPartsError prefix name Rejects value parts
+    → ((begun : List ℕ) × Rejects value begun × (parts ≡ (prefix ++ encode_field (codes "tag") name) ++ begun))
+    ⊎ (length (prefix ++ encode_field (codes "tag") name) + length tagger ≤ length parts)
+tagger_or_later prefix name Rejects tagger valid value parts (inl it) = absurd (name_not_rejected name value valid it.0)
+tagger_or_later prefix name Rejects tagger valid value parts (inr (named, (line, rejected, is))) = inl (line, rejected, is)
+
+-- a borrowed tag rejects its name alone
+pub lacks_room_of_lines : (tag : TagLines) (before : SinkView) (error : Error)
+    → LacksRoom (IsTagPartsError (encode_target tag) tag.name (λ value line. ⊥)) before error → LacksRoom (IsTagLinesError tag) before error
+lacks_room_of_lines tag before error short =
+    lacks_room_of_fewer (IsTagPartsError (encode_target tag) tag.name (λ value line. ⊥)) (IsTagLinesError tag) before
+    (λ value parts rejected. inl rejected) error short

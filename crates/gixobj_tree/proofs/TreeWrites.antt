@@ -1,20 +1,20 @@
 -- The writes and the sizes of entries are those of the tree; used by the proofs of the writers of trees.
-use Rattle.std.proofs.Common.{◌≡◌, ℕ, ◌+◌, ◌*◌, ◌<◌, ◌≤◌, ◌^◌, List, [], ◌∷◌, ◌++◌, length, get_or, take, drop, All, inr, refl, ap, arith, sym, ◌∙◌, append_assoc, length-append}
+use Rattle.std.proofs.Common.{◌≡◌, ℕ, ◌+◌, ◌*◌, ◌<◌, ◌≤◌, ◌^◌, List, [], ◌∷◌, ◌++◌, length, get_or, take, drop, All, ◌⊎◌, ⊎_elim, inl, inr, refl, ap, arith, subst, sym, ◌∙◌, append_assoc, length-append}
 use Rattle.std.specs.Prelude.{Contains}
 use Rattle.std.proofs.lemmas.List.{append-nil, take_all, take_more, take-append-drop, drop_more}
-use Rattle.std.proofs.lemmas.List.Elements.{All-contains, All-push, Contains-append_right, Contains-get_or}
+use Rattle.std.proofs.lemmas.List.Elements.{All-contains, All-head, All-push, All-tail, Contains-append_right, Contains-get_or}
 use Rattle.std.proofs.lemmas.List.Concat.{flat_map-append}
 use Rattle.gixobj_tree.specs.Entries.{EntryView}
 use Rattle.gixobj_hash.specs.ByteStrings.{IsByteFree}
 use Rattle.gixobj_tree.specs.TreeEncoding.{IsEntryEncodeError, IsTreeEncodeError, before_name, encode_entry, encode_mode_and_name, encode_tree, with_ids}
 use Rattle.gixobj_fields.specs.Streams.{AppendsAll, AppendsPrefix, SinkView}
-use Rattle.gixobj_fields.specs.Writing.{RejectedValue, IsWritingError}
+use Rattle.gixobj_fields.specs.Writing.{IsWritingError, LacksRoom, RejectedValue}
 use Rattle.gixobj_fields.specs.declared.encode.Error.{Error}
 use Rattle.gixobj_fields.specs.declared.encode.Error.TheVariants.{OutOfMemory}
 use Rattle.gixobj_hash.specs.Hash.{id_bytes}
 use Rattle.gixobj_mode.specs.Mode.{encode_mode}
 use Rattle.gixobj_fields.proofs.Appends.{appends_prefix_first, appends_prefix_append, appends_all_append}
-use Rattle.gixobj_fields.proofs.Errors.{writing_error_within}
+use Rattle.gixobj_fields.proofs.Errors.{lacks_room_after, writing_error_within}
 
 -- no name has a zero byte
 abbrev pub AreFree : List EntryView → Type 0
@@ -75,6 +75,46 @@ writing_error_at_entry a b c items i e h is write_bytes free why says =
       written = refl;
     })
     why says)
+
+-- a list that splits after free entries, and at a name with a zero byte: the splits are the same, or the second is later
+splits_at_or_after : (first rest prefix back : List EntryView) (e entry : EntryView) → first ++ e ∷ rest ≡ prefix ++ entry ∷ back → AreFree first
+    → Contains entry.name 0
+    → ((prefix ≡ first) × (entry ≡ e)) ⊎ (length (encode_tree first) + length (encode_entry e) ≤ length (encode_tree prefix))
+splits_at_or_after [] rest [] back e entry same free has = inl (refl, cc same)
+splits_at_or_after [] rest (p ∷ prefix) back e entry same free has =
+    let here : e ≡ p = cc same in
+    inr (omega (arith, ap (λ (x : EntryView). length (encode_entry x)) here, length-append (encode_entry p) (encode_tree prefix)))
+splits_at_or_after (f ∷ first) rest [] back e entry same free has =
+    let here : f ≡ entry = cc same in
+    let its_free = All-head (λ (x : EntryView). IsByteFree 0 x.name) f first free in
+    absurd (All-contains (λ (it : ℕ). it ≡ 0 → ⊥) entry.name 0 (subst (λ (x : EntryView). IsByteFree 0 x.name) here its_free) has refl)
+splits_at_or_after (f ∷ first) rest (p ∷ prefix) back e entry same free has =
+    let here : f ≡ p = cc same in
+    let following : first ++ e ∷ rest ≡ prefix ++ entry ∷ back = cc same in
+    ⊎_elim (λ it. inl (ap (λ (xs : List EntryView). p ∷ xs) it.0 ∙ ap (λ (x : EntryView). x ∷ first) (sym here), it.1))
+    (λ later. inr (omega (arith, later, ap (λ (x : EntryView). length (encode_entry x)) here, length-append (encode_entry f) (encode_tree first),
+    length-append (encode_entry p) (encode_tree prefix))))
+    (splits_at_or_after first rest prefix back e entry following (All-tail (λ (x : EntryView). IsByteFree 0 x.name) f first free) has)
+
+-- the value that is rejected is of the entry after free entries, or comes after that entry
+rejected_at_or_after : (items : List EntryView) (i : ℕ) (e : EntryView) → i < length items → e ≡ get_or items i e → AreFree (take i items)
+    → (value : RejectedValue) (parts : List ℕ) → IsTreeEncodeError items value parts
+    → ((begun : List ℕ) × IsEntryEncodeError e value begun × (parts ≡ encode_tree (take i items) ++ begun))
+    ⊎ (length (encode_tree (take i items)) + length (encode_entry e) ≤ length parts)
+rejected_at_or_after items i e h is free value parts r =
+    ⊎_elim (λ it. inl (r.begun, subst (λ (x : EntryView). IsEntryEncodeError x value r.begun) it.1 r.rejected,
+    r.written ∙ ap (λ (xs : List EntryView). encode_tree xs ++ r.begun) it.0))
+    (λ later. inr (omega (arith, later, ap length r.written, length-append (encode_tree r.prefix) r.begun)))
+    (splits_at_or_after (take i items) (drop (i + 1) items) r.prefix r.back e r.entry (sym (take_cons_drop items i e h is) ∙ r.joined) free r.rejected.0)
+
+-- an entry for which a sink lacks room, after accepted entries, is one of a tree for which it lacks room
+pub lacks_room_at_entry : (a b c : SinkView) (items : List EntryView) (i : ℕ) (e : EntryView) → i < length items → e ≡ get_or items i e
+    → AppendsAll a b (encode_tree (take i items)) → AreFree (take i items) → (why : Error)
+    → IsWritingError (IsEntryEncodeError e) b c (encode_entry e) why → LacksRoom (IsEntryEncodeError e) b why
+    → LacksRoom (IsTreeEncodeError items) a why
+lacks_room_at_entry a b c items i e h is write_bytes free why says short =
+    lacks_room_after (IsEntryEncodeError e) (IsTreeEncodeError items) a b c (encode_tree (take i items)) (encode_entry e) write_bytes
+    (rejected_at_or_after items i e h is free) why says short
 
 prefix_shorter : (items : List EntryView) (n : ℕ) → length (encode_tree (take n items)) ≤ length (encode_tree items)
 prefix_shorter items n =

@@ -6,7 +6,7 @@ ghost use Rattle.bstr.specs.BStr.{bstr_bytes};
 ghost use Rattle.gixobj_hash.specs.Hash.{IsIdHex, encode_id_hex};
 ghost use Rattle.gixobj_fields.specs.HeaderFormat.{encode_field};
 ghost use Rattle.gixobj_fields.specs.Streams.{AppendsAll, AppendsOrFails};
-ghost use Rattle.gixobj_fields.specs.Writing.{AddsSize, IsSize, RejectsNothing, IsWritingError};
+ghost use Rattle.gixobj_fields.specs.Writing.{AddsSize, IsSize, IsWritingError, LacksRoom, RejectsNothing};
 ghost use Rattle.gixobj_line.specs.Commit.{encode_encoding};
 ghost use Rattle.gixobj_hash.specs.Optional.{bytes_if_some};
 ghost use Rattle.gixobj_commit.specs.CommitWriting.{IsEncodingLineError, hex_lines, hex_tree};
@@ -269,6 +269,8 @@ fn write_rest<T: Field, S: Sink>(
         (IsEncodingLineError (bytes_if_some encoding.entry)) (S.view sink.old) (S.view sink.new)
         (encode_encoding (bytes_if_some encoding.entry) ++ flat_map T.written
         headers.now ++ newline ∷ message.now)) }
+    ensures room { IfErr result (LacksRoom (IsEncodingLineError (bytes_if_some encoding.entry))
+        (S.view sink.old)) }
     ensures same_loan { S.loan sink.new ≡ S.loan sink.old }
 {
     write_encoding(alloc, encoding, sink)?;
@@ -290,6 +292,8 @@ fn write_encoding<S: Sink>(
     ensures error { IfErr result (IsWritingError
         (IsEncodingLineError (bytes_if_some encoding.entry)) (S.view sink.old) (S.view sink.new)
         (encode_encoding (bytes_if_some encoding.entry))) }
+    ensures room { IfErr result (LacksRoom (IsEncodingLineError (bytes_if_some encoding.entry))
+        (S.view sink.old)) }
     ensures same_loan { S.loan sink.new ≡ S.loan sink.old }
 {
     match encoding {

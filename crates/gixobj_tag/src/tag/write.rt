@@ -4,7 +4,7 @@ ghost use Rattle.std.specs.Option.{SomeIff};
 ghost use Rattle.bstr.specs.BStr.{bstr_bytes};
 ghost use Rattle.gixobj_fields.specs.HeaderFormat.{encode_field, encode_line};
 ghost use Rattle.gixobj_fields.specs.Streams.{AppendsAll, AppendsOrFails};
-ghost use Rattle.gixobj_fields.specs.Writing.{AddsSize, IsSize, RejectsNothing, IsWritingError};
+ghost use Rattle.gixobj_fields.specs.Writing.{AddsSize, IsSize, IsWritingError, LacksRoom, RejectsNothing};
 ghost use Rattle.gixobj_tag.specs.NameRule.{IsTagName, IsTagNameError};
 ghost use Rattle.gixobj_tag.specs.TagFormat.{encode_target_lines};
 ghost use Rattle.gixobj_tag.specs.TagWriting.{IsNameLineError, IsTagPartsError, encode_body, encode_message, encode_tag_parts, encode_signature};
@@ -103,6 +103,9 @@ fn write_tag<'a, T: Target, A: Tagger, S: Sink>(
         (encode_tag_parts (T.target_line target.now) target_kind (bstr_bytes name.entry)
         (A.tagger_line tagger.now) (encode_body (bstr_bytes message.entry)
         (bytes_if_some signature.entry)))) }
+    ensures room { IfErr result (LacksRoom
+        (IsTagPartsError (encode_target_lines (T.target_line target.now) target_kind) (bstr_bytes name.entry)
+        (A.rejects tagger.now)) (S.view sink.old)) }
     ensures same_loan { S.loan sink.new ≡ S.loan sink.old }
 {
     write_lines(target, target_kind, name, tagger, sink)?;
@@ -130,6 +133,9 @@ fn write_lines<T: Target, A: Tagger, S: Sink>(
         (A.rejects tagger.now)) (S.view sink.old) (S.view sink.new)
         (encode_target_lines (T.target_line target.now) target_kind ++ encode_field (codes "tag")
         (bstr_bytes name.entry) ++ A.tagger_line tagger.now)) }
+    ensures room { IfErr result (LacksRoom
+        (IsTagPartsError (encode_target_lines (T.target_line target.now) target_kind) (bstr_bytes name.entry)
+        (A.rejects tagger.now)) (S.view sink.old)) }
     ensures same_loan { S.loan sink.new ≡ S.loan sink.old }
 {
     write_target(target, target_kind, sink)?;
@@ -231,6 +237,7 @@ trait Tagger {
         ensures no_error { OnOk result (RejectsNothing (rejects self.now)) }
         ensures error { IfErr result (IsWritingError (rejects self.now) (S.view sink.old)
             (S.view sink.new) (tagger_line self.now)) }
+        ensures room { IfErr result (LacksRoom (rejects self.now) (S.view sink.old)) }
         ensures same_loan { S.loan sink.new ≡ S.loan sink.old };
 
     /// Adds the size of its line, or returns `None` over 64 bits.
@@ -320,6 +327,7 @@ fn write_name<S: Sink>(name: BStr<'_>, sink: &mut S) -> Result<(), encode::Error
     ensures valid { OnOk result (IsTagName (bstr_bytes name.entry)) }
     ensures error { IfErr result (IsWritingError (IsNameLineError (bstr_bytes name.entry))
         (S.view sink.old) (S.view sink.new) (encode_field (codes "tag") (bstr_bytes name.entry))) }
+    ensures room { IfErr result (LacksRoom (IsNameLineError (bstr_bytes name.entry)) (S.view sink.old)) }
     ensures same_loan { S.loan sink.new ≡ S.loan sink.old }
 {
     let name = validated_name(name)?;

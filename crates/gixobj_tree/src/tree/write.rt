@@ -10,7 +10,7 @@ ghost use Rattle.gixobj_mode.specs.Mode.{mode_bits, encode_mode};
 ghost use Rattle.gixobj_tree.specs.TreeViews.{entry_view};
 ghost use Rattle.gixobj_tree.specs.TreeEncoding.{IsAnsweredDigest, IsEntryEncodeError, encode_entry, encode_mode_and_name, with_ids};
 ghost use Rattle.gixobj_fields.specs.Streams.{AppendsAll, AppendsOrFails};
-ghost use Rattle.gixobj_fields.specs.Writing.{AddsSize, IsWritingError};
+ghost use Rattle.gixobj_fields.specs.Writing.{AddsSize, IsWritingError, LacksRoom};
 
 use super::{Entry, EntryMode, EntryRef, Tree};
 use bstr::BString;
@@ -135,6 +135,8 @@ pub(super) fn write_entry_ref<S: Sink>(
     ensures encodable { OnOk result (IsByteFree 0 (entry_view entry.now).name) }
     ensures error { IfErr result (IsWritingError (IsEntryEncodeError (entry_view entry.now))
         (S.view sink.old) (S.view sink.new) (encode_entry (entry_view entry.now))) }
+    ensures room { IfErr result (LacksRoom (IsEntryEncodeError (entry_view entry.now))
+        (S.view sink.old)) }
     ensures same_loan { S.loan sink.new ≡ S.loan sink.old }
 {
     let name = entry.filename.as_bytes();
@@ -165,6 +167,9 @@ pub fn write_entry<S: Sink>(
         (IsEntryEncodeError (entry_of (mode_bits mode) name.now (borrowed_id id.entry))) (S.view sink.old)
         (S.view sink.new) (encode_entry (entry_of (mode_bits mode) name.now
         (borrowed_id id.entry)))) }
+    ensures room { IfErr result (LacksRoom
+        (IsEntryEncodeError (entry_of (mode_bits mode) name.now (borrowed_id id.entry)))
+        (S.view sink.old)) }
     ensures same_loan { S.loan sink.new ≡ S.loan sink.old }
 {
     write_mode(mode, sink)?;

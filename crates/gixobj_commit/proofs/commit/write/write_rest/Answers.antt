@@ -47,3 +47,18 @@ returns-clause-written g c =
 
 pub returns-clause-no_error : goal.returns-clause-no_error
 returns-clause-no_error g c = c.in_ok-write_encoding.ensures.no_error
+
+pub returns-in_err-write_encoding-clause-room : goal.returns-in_err-write_encoding-clause-room
+returns-in_err-write_encoding-clause-room g c =
+    let from = err_from_is_err_and c.from_residual.result c.from_residual.ensures.1 in
+    rw (from.1, from.2) c.in_err-write_encoding.ensures.room
+
+pub returns-in_err-write_each-clause-room : goal.returns-in_err-write_each-clause-room
+returns-in_err-write_each-clause-room g c =
+    let from = err_from_is_err_and c.from_residual-in_err-write_each.result c.from_residual-in_err-write_each.ensures.1 in
+    rw (from.1, from.2) (λ value parts rejected. absurd (c.in_ok-write_encoding.ensures.no_error value parts rejected))
+
+pub returns-in_err-write_parts-clause-room : goal.returns-in_err-write_parts-clause-room
+returns-in_err-write_parts-clause-room g c =
+    let from = err_from_is_err_and c.from_residual-in_err-write_parts.result c.from_residual-in_err-write_parts.ensures.1 in
+    rw (from.1, from.2) (λ value parts rejected. absurd (c.in_ok-write_encoding.ensures.no_error value parts rejected))

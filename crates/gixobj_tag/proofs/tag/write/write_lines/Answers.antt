@@ -1,12 +1,12 @@
 -- The lines are written in turn.
-use Rattle.std.proofs.Common.{List, ℕ, ◌++◌}
+use Rattle.std.proofs.Common.{◌<◌, List, ℕ, ◌++◌, arith, length}
 use Rattle.std.proofs.lemmas.Result.{IfErr-weaker, IfOk-weaker, err_from_is_err_and}
 use Rattle.std.specs.Prelude.{codes}
 use Rattle.bstr.specs.BStr.{bstr_bytes}
 use Rattle.gixobj_fields.proofs.Appends.{appends_prefix_first, appends_prefix_append, appends_all_append}
-use Rattle.gixobj_fields.proofs.Errors.{writing_error_append}
+use Rattle.gixobj_fields.proofs.Errors.{lacks_room_after, lacks_room_of_result, writing_error_append}
 use Rattle.gixobj_fields.specs.HeaderFormat.{encode_field}
-use Rattle.gixobj_tag.proofs.TagWrites.{parts_error_of_name, parts_rejects_nothing, parts_error_of_tagger}
+use Rattle.gixobj_tag.proofs.TagWrites.{name_or_later, parts_after_target, parts_error_of_name, parts_error_of_tagger, parts_rejects_nothing, tagger_or_later}
 use Rattle.gixobj_tag.specs.TagFormat.{encode_target_lines}
 use Rattle.gixobj_tag.specs.TagWriting.{IsNameLineError, IsTagPartsError}
 use Rattle.gixobj_tag.proofs.tag.write.write_lines.Goals as goal
@@ -60,3 +60,31 @@ returns-clause-error g c =
     before (λ value parts. parts_error_of_tagger prefix (bstr_bytes c.args.name)
     (g.A.Tagger.rejects c.args.tagger.now) value parts c.in_ok-write_name.ensures.valid)
     (appends_prefix_append _ _ _ (prefix ++ name) tagger before)) c.write_tagger.ensures.error
+
+pub returns-in_err-write_target-clause-room : goal.returns-in_err-write_target-clause-room
+returns-in_err-write_target-clause-room g c =
+    let from = err_from_is_err_and c.from_residual.result c.from_residual.ensures.1 in
+    let prefix : List ℕ = encode_target_lines (g.T.Target.target_line c.args.target.now) c.args.target_kind in
+    rw (from.1, from.2) (λ value parts rejected. omega (arith, c.in_err-write_target.ensures.appended.short,
+    parts_after_target prefix (bstr_bytes c.args.name) (g.A.Tagger.rejects c.args.tagger.now) value parts rejected))
+
+pub returns-in_err-write_name-clause-room : goal.returns-in_err-write_name-clause-room
+returns-in_err-write_name-clause-room g c =
+    let from = err_from_is_err_and c.from_residual-in_err-write_name.result c.from_residual-in_err-write_name.ensures.1 in
+    let prefix : List ℕ = encode_target_lines (g.T.Target.target_line c.args.target.now) c.args.target_kind in
+    let name = encode_field (codes "tag") (bstr_bytes c.args.name) in
+    rw (from.1, from.2) (lacks_room_after (IsNameLineError (bstr_bytes c.args.name))
+    (IsTagPartsError prefix (bstr_bytes c.args.name) (g.A.Tagger.rejects c.args.tagger.now)) _ _ _ prefix name c.in_ok-write_target.ensures.appended
+    (name_or_later prefix (bstr_bytes c.args.name) (g.A.Tagger.rejects c.args.tagger.now)) c.in_err-write_name.field-0.0
+    c.in_err-write_name.ensures.error c.in_err-write_name.ensures.room)
+
+pub returns-clause-room : goal.returns-clause-room
+returns-clause-room g c =
+    let prefix : List ℕ = encode_target_lines (g.T.Target.target_line c.args.target.now) c.args.target_kind in
+    let name = encode_field (codes "tag") (bstr_bytes c.args.name) in
+    let tagger : List ℕ = g.A.Tagger.tagger_line c.args.tagger.now in
+    let before = appends_all_append _ _ _ prefix name c.in_ok-write_target.ensures.appended c.in_ok-write_name.ensures.written in
+    lacks_room_of_result c.write_tagger.result (g.A.Tagger.rejects c.args.tagger.now)
+    (IsTagPartsError prefix (bstr_bytes c.args.name) (g.A.Tagger.rejects c.args.tagger.now)) _ _ _ (prefix ++ name) tagger before
+    (tagger_or_later prefix (bstr_bytes c.args.name) (g.A.Tagger.rejects c.args.tagger.now) tagger c.in_ok-write_name.ensures.valid)
+    c.write_tagger.ensures.error c.write_tagger.ensures.room

@@ -37,3 +37,13 @@ returns-clause-written g c =
 
 pub returns-clause-no_error : goal.returns-clause-no_error
 returns-clause-no_error g c = c.in_ok-write_lines.ensures.no_error
+
+pub returns-in_err-write_lines-clause-room : goal.returns-in_err-write_lines-clause-room
+returns-in_err-write_lines-clause-room g c =
+    let from = err_from_is_err_and c.from_residual.result c.from_residual.ensures.1 in
+    rw (from.1, from.2) c.in_err-write_lines.ensures.room
+
+pub returns-in_err-write_body-clause-room : goal.returns-in_err-write_body-clause-room
+returns-in_err-write_body-clause-room g c =
+    let from = err_from_is_err_and c.from_residual-in_err-write_body.result c.from_residual-in_err-write_body.ensures.1 in
+    rw (from.1, from.2) (λ value parts rejected. absurd (c.in_ok-write_lines.ensures.no_error value parts rejected))

@@ -1,9 +1,9 @@
 -- The parts of the encoding are written one after the other.
-use Rattle.std.proofs.Common.{codes}
+use Rattle.std.proofs.Common.{◌<◌, arith, codes, length}
 use Rattle.std.proofs.lemmas.Result.{IfErr-weaker, IfOk-weaker, err_from_is_err_and}
 use Rattle.gixobj_fields.proofs.Appends.{appends_all_append}
-use Rattle.gixobj_fields.proofs.Errors.{writing_error_append}
-use Rattle.gixobj_commit.proofs.CommitWrites.{owned_commit_in_parts, owned_commit_error_of_author, owned_commit_error_of_committer, owned_commit_error_of_encoding, owned_commit_rejects_nothing}
+use Rattle.gixobj_fields.proofs.Errors.{lacks_room_after, lacks_room_of_result, writing_error_append}
+use Rattle.gixobj_commit.proofs.CommitWrites.{author_or_later, committer_or_later, encoding_or_later, owned_commit_error_after_ids, owned_commit_in_parts, owned_commit_error_of_author, owned_commit_error_of_committer, owned_commit_error_of_encoding, owned_commit_rejects_nothing}
 use Rattle.gixobj_fields.proofs.Steps.{appends_all_four, appends_first_of_four, appends_fourth_of_four, appends_second_of_four, appends_third_of_four, appends_all_three}
 use Rattle.gixobj_hash.specs.Optional.{bytes_if_some}
 use Rattle.gixobj_commit.specs.CommitWriting.{IsOwnedCommitError, IsEncodingLineError}
@@ -79,3 +79,36 @@ returns-clause-error g c =
     (appends_fourth_of_four _ _ _ _ _ _ _ _ _ _ entire c.in_ok-write_ids.ensures.appended c.in_ok-trusted_header_signature.ensures.written
     c.in_ok-trusted_header_signature-2.ensures.written))
     c.write_rest.ensures.error
+
+pub returns-in_err-write_ids-clause-room : goal.returns-in_err-write_ids-clause-room
+returns-in_err-write_ids-clause-room g c =
+    let from = err_from_is_err_and c.from_residual.result c.from_residual.ensures.1 in
+    rw (from.1, from.2) (λ value parts rejected. omega (arith, c.in_err-write_ids.ensures.appended.short,
+    owned_commit_error_after_ids c.args.self.now c.as_slice-parents.result.now c.borrowed-encoding.result c.as_slice-parents.ensures c.borrowed-encoding.ensures
+    value parts rejected))
+
+pub returns-in_err-trusted_header_signature-clause-room : goal.returns-in_err-trusted_header_signature-clause-room
+returns-in_err-trusted_header_signature-clause-room g c =
+    let from = err_from_is_err_and c.from_residual-in_err-trusted_header_signature.result c.from_residual-in_err-trusted_header_signature.ensures.1 in
+    rw (from.1, from.2) (lacks_room_after (IsActorFieldError (codes "author") c.args.self.now.author) (IsOwnedCommitError c.args.self.now) _ _ _ _ _
+    c.in_ok-write_ids.ensures.appended
+    (author_or_later c.args.self.now c.as_slice-parents.result.now c.borrowed-encoding.result c.as_slice-parents.ensures c.borrowed-encoding.ensures)
+    c.in_err-trusted_header_signature.field-0.0 c.in_err-trusted_header_signature.ensures.error c.in_err-trusted_header_signature.ensures.room)
+
+pub returns-in_err-trusted_header_signature-2-clause-room : goal.returns-in_err-trusted_header_signature-2-clause-room
+returns-in_err-trusted_header_signature-2-clause-room g c =
+    let from = err_from_is_err_and c.from_residual-in_err-trusted_header_signature-2.result c.from_residual-in_err-trusted_header_signature-2.ensures.1 in
+    rw (from.1, from.2) (lacks_room_after (IsActorFieldError (codes "committer") c.args.self.now.committer) (IsOwnedCommitError c.args.self.now) _ _ _ _ _
+    (appends_all_append _ _ _ _ _ c.in_ok-write_ids.ensures.appended c.in_ok-trusted_header_signature.ensures.written)
+    (committer_or_later c.args.self.now c.as_slice-parents.result.now c.borrowed-encoding.result c.as_slice-parents.ensures c.borrowed-encoding.ensures
+    c.in_ok-trusted_header_signature.ensures.encodable)
+    c.in_err-trusted_header_signature-2.field-0.0 c.in_err-trusted_header_signature-2.ensures.error c.in_err-trusted_header_signature-2.ensures.room)
+
+pub returns-clause-room : goal.returns-clause-room
+returns-clause-room g c =
+    lacks_room_of_result c.write_rest.result (IsEncodingLineError (bytes_if_some c.borrowed-encoding.result)) (IsOwnedCommitError c.args.self.now) _ _ _ _ _
+    (appends_all_three _ _ _ _ _ _ _ c.in_ok-write_ids.ensures.appended c.in_ok-trusted_header_signature.ensures.written
+    c.in_ok-trusted_header_signature-2.ensures.written)
+    (encoding_or_later c.args.self.now c.as_slice-parents.result.now c.borrowed-encoding.result _ c.as_slice-parents.ensures c.borrowed-encoding.ensures
+    c.in_ok-trusted_header_signature.ensures.encodable c.in_ok-trusted_header_signature-2.ensures.encodable)
+    c.write_rest.ensures.error c.write_rest.ensures.room

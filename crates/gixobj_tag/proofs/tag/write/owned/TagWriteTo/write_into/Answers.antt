@@ -3,7 +3,7 @@ use Rattle.std.proofs.Common.{List, ℕ, ◌++◌, Option, subst}
 use Rattle.std.specs.Prelude.{IfErr, OnOk, codes}
 use Rattle.bstr.specs.BStr.{bstr_bytes}
 use Rattle.gixobj_fields.specs.HeaderFormat.{encode_field}
-use Rattle.gixobj_fields.specs.Writing.{RejectsNothing, IsWritingError}
+use Rattle.gixobj_fields.specs.Writing.{IsWritingError, LacksRoom, RejectsNothing}
 use Rattle.gixobj_tag.specs.TagFormat.{encode_tagger, encode_target}
 use Rattle.gixobj_tag.specs.TagViews.{owned_tag_lines}
 use Rattle.gixobj_tag.specs.TagWriting.{IsTagPartsError, IsTaggerError, encode_body}
@@ -28,3 +28,9 @@ returns-clause-error g c =
     c.write_tag.ensures.error in
     let with_message = subst (λ (it : List ℕ). Says lines.name it (bytes_if_some c.borrowed.result)) c.as_bstr-2.ensures named in
     subst (λ (it : Option (List ℕ)). Says lines.name lines.message it) c.borrowed.ensures with_message
+
+pub returns-clause-room : goal.returns-clause-room
+returns-clause-room g c =
+    subst (λ (it : List ℕ). IfErr c.write_tag.result
+    (LacksRoom (IsTagPartsError (encode_target (owned_tag_lines c.args.self.now)) it (IsTaggerError c.args.self.now.tagger)) (g.S.Sink.view c.args.sink.now)))
+    c.as_bstr.ensures c.write_tag.ensures.room

@@ -2,7 +2,7 @@
 use Rattle.std.proofs.Common.{ap, map, sym, ◌∙◌}
 use Rattle.std.proofs.lemmas.Result.{err_from_is_err_and}
 use Rattle.gixobj_fields.proofs.Appends.{appends_all_append}
-use Rattle.gixobj_tree.proofs.TreeWrites.{are_free_take_succ, no_error_of_free_tree, writing_error_at_entry, encode_tree_take_succ}
+use Rattle.gixobj_tree.proofs.TreeWrites.{are_free_take_succ, lacks_room_at_entry, no_error_of_free_tree, writing_error_at_entry, encode_tree_take_succ}
 use Rattle.gixobj_tree.proofs.Viewed.{map_view_len_le, map_view_at, map_view_index_lt}
 use Rattle.gixobj_tree.proofs.tree.borrowed.write.TreeRefWriteTo.write_into.Goals as goal
 use Rattle.gixobj_tree.specs.TreeViews.{entry_view}
@@ -31,6 +31,17 @@ returns-in_err-write_entry_ref-clause-error g c =
     let here = map_view_at entry_view items c.loop-entry.entry-index c.entry-item.result c.loop-entry-test.true c.entry-item.is in
     rw (p.1, p.2, sym before.same) (writing_error_at_entry _ _ _ (map entry_view items) c.loop-entry.entry-index (entry_view c.entry-item.result) low here
     before.write_bytes before.free c.in_err-write_entry_ref.field-0.0 c.in_err-write_entry_ref.ensures.error)
+
+pub returns-in_err-write_entry_ref-clause-room : goal.returns-in_err-write_entry_ref-clause-room
+returns-in_err-write_entry_ref-clause-room g c =
+    let p = err_from_is_err_and c.from_residual.result c.from_residual.ensures.1 in
+    let before = c.loop-entry.invariant in
+    let items = c.deref-entry-items.result.now in
+    let low = map_view_index_lt entry_view items c.loop-entry.entry-index c.loop-entry-test.true in
+    let here = map_view_at entry_view items c.loop-entry.entry-index c.entry-item.result c.loop-entry-test.true c.entry-item.is in
+    rw (p.1, p.2, sym before.same) (lacks_room_at_entry _ _ _ (map entry_view items) c.loop-entry.entry-index (entry_view c.entry-item.result) low here
+    before.write_bytes before.free c.in_err-write_entry_ref.field-0.0 c.in_err-write_entry_ref.ensures.error
+    c.in_err-write_entry_ref.ensures.room)
 
 pub returns-clause-no_error : goal.returns-clause-no_error
 returns-clause-no_error g c =
