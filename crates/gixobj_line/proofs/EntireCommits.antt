@@ -280,7 +280,7 @@ reaches_end kind bytes following rest (lines, passes) at_end = (
 
 pub reaches_none : (kind : Kind) (bytes : List ℕ) (before : State) (input : List ℕ) → Reaches kind bytes before input
     → HasNoPiece (HasLine kind) before input → before ≢ state.End → IsMalformedCommit kind bytes
-reaches_none kind bytes before input (lines, passes) none going = no_commit kind bytes lines before input passes none going
+reaches_none kind bytes before input (lines, passes) none going = malformed_commit_of_no_line kind bytes lines before input passes none going
 
 pub some_line_shortens : (kind : Kind) (before : State) (input : List ℕ) (following : State) (rest : List ℕ)
     → HasSomeLine kind before input following rest → length rest < length input

@@ -5,8 +5,8 @@ use Rattle.std.specs.List.{cons_option, filter_map}
 use Rattle.std.specs.Option.{option_map}
 use Rattle.bstr.specs.Owned.{bstring_bytes}
 use Rattle.gixobj_hash.specs.Bytes.{space}
-use Rattle.gixobj_report.specs.Fields.{after_prefix, either}
-use Rattle.gixobj_report.specs.GpgReports.{Verdict, status_of, verdict, with_status}
+use Rattle.gixobj_report.specs.Fields.{after_prefix}
+use Rattle.gixobj_report.specs.GpgReports.{Verdict, status_of, verdict}
 use Rattle.gixobj_report.specs.declared.report.Status.{Status}
 use Rattle.gixobj_report.specs.declared.report.Status.TheVariants as status
 use Rattle.gixobj_report.specs.declared.report.gpg.LineReport.{LineReport}

@@ -222,7 +222,6 @@ fn status_of_line<'a>(line: &'a [u8]) -> Option<(Status, &'a [u8])>
 
 /// Returns the status of a line whose keyword begins with `E`.
 #[inline(always)]
-#[tactic(auto, using(crate::proofs::FirstBytes::error_status_of_keywords))]
 fn error_or_expired<'a>(line: &'a [u8]) -> Option<(Status, &'a [u8])>
     ensures { option_map status_view result ≡ error_status_of line.now }
 {
