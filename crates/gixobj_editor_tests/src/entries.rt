@@ -14,11 +14,11 @@ use std::alloc::{AllocError, Global};
 
 const OTHER: ObjectId = ObjectId::Sha1([2; 20]);
 
-const NULL: ObjectId = ObjectId::Sha1([0; 20]);
+pub(crate) const NULL: ObjectId = ObjectId::Sha1([0; 20]);
 
 /// The expected result of `get` at a path.
 #[derive(Clone, Copy)]
-enum Got {
+pub(crate) enum Got {
     Nothing,
     /// A directory of any id.
     Directory,
@@ -156,7 +156,7 @@ fn is_got(found: Result<Option<&Entry>, OutOfMemory>, wanted: Got) -> bool {
 }
 
 /// Returns whether [`Editor::get`] returns the expected entry for a path.
-fn gets(alloc: Global, editor: &Editor<Failing>, path: &[u8], wanted: Got) -> bool {
+pub(crate) fn gets<S>(alloc: Global, editor: &Editor<S>, path: &[u8], wanted: Got) -> bool {
     match path_of(alloc, path) {
         Ok(path) => is_got(editor.get(&path), wanted),
         Err(_) => false,
@@ -164,7 +164,7 @@ fn gets(alloc: Global, editor: &Editor<Failing>, path: &[u8], wanted: Got) -> bo
 }
 
 /// Returns whether [`Cursor::get`] returns the expected entry for a path.
-fn gets_by(alloc: Global, cursor: &Cursor<'_, Failing>, path: &[u8], wanted: Got) -> bool {
+pub(crate) fn gets_by<S>(alloc: Global, cursor: &Cursor<'_, S>, path: &[u8], wanted: Got) -> bool {
     match path_of(alloc, path) {
         Ok(path) => is_got(cursor.get(&path), wanted),
         Err(_) => false,

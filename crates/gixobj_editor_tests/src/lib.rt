@@ -10,6 +10,8 @@ mod cursor_writes;
 #[cfg(test)]
 mod entries;
 #[cfg(test)]
+mod faulty;
+#[cfg(test)]
 mod references;
 #[cfg(test)]
 mod samples;
