@@ -1,13 +1,15 @@
 //! Writes after a failed one, and writes in which a tree gets the null id; copies of an editor. Ids are those
 //! that `git mktree --missing` prints.
 
+use crate::entries::{Got, NULL, gets};
 use crate::samples::{
-    are_upserted, cursor_of, empty_editor, has_emitted, over_a_directory, path_of, stored_b,
-    upserted,
+    FILE, are_upserted, cursor_of, empty_editor, has_emitted, over_a_directory, path_of, stored_b,
+    upserted, writes,
 };
 use crate::unchanged::saves;
 use gixobj_base::Tree;
 use gixobj_base::hash::{Kind as HashKind, ObjectId};
+use gixobj_base::tree::EntryKind;
 use gixobj_editor::editor::{Editor, WriteError, Written};
 use gixobj_keep::Memory;
 use std::alloc::Global;
@@ -50,6 +52,93 @@ fn failed_out(rt: HostRuntime) {
     assert!(rt; are_upserted(alloc, &mut editor, &[b"a x", b"b y"]));
     assert!(rt; stops_at_the_second(alloc, &mut editor));
     assert!(rt; writes_by_borrowed_closure(alloc, &mut editor, ALL_THREE));
+}
+
+/// The ids of the trees of the directories `a` with the file `x`, `b` with `y`, `c/d` with `z` and `c`, and of
+/// the root.
+const ALL_FIVE: &[&[u8]] = &[
+    b"0d4cdcf5c3ac13df9449741710134272e11df12e",
+    b"aa7e47cc94511f4ca50a7faa60726b87e790837c",
+    b"454696ff9405b4937895f817649e1c760a885202",
+    b"3906cb5db1f32691b79896648a123b2f66f57291",
+    b"dee52efe74bd45860056702d892862bedc390b1b",
+];
+
+/// Appends the id of a tree to those of earlier calls. Fails with the number of the call if it is `last`, and
+/// with 0 after an error.
+fn answer(
+    alloc: Global,
+    ids: &mut Vec<ObjectId>,
+    last: usize,
+    tree: &Tree,
+) -> Result<ObjectId, usize> {
+    let Ok(id) = tree.compute_id(alloc, HashKind::Sha1) else {
+        return Err(0);
+    };
+    if ids.push(id).is_err() {
+        return Err(0);
+    }
+    if ids.len() == last { Err(last) } else { Ok(id) }
+}
+
+/// Returns whether the ids of calls are those of the first `count` of the five trees.
+fn are_first(ids: &[ObjectId], count: usize) -> bool {
+    for (id, hex) in ids.iter().zip(ALL_FIVE) {
+        if ObjectId::from_hex(hex) != Some(*id) {
+            return false;
+        }
+    }
+    ids.len() == count
+}
+
+/// Returns whether a write fails with the closure's error in the call of this number, after only the calls
+/// for the trees before it.
+fn stops_at(alloc: Global, editor: &mut Editor<Memory>, number: usize) -> bool {
+    let mut ids = Vec::new(alloc);
+    let out = |tree: &Tree| answer(alloc, &mut ids, number, tree);
+    let stopped = match editor.write(out) {
+        Err(WriteError::Out(call)) => call == number,
+        _ => false,
+    };
+    stopped && are_first(&ids, number)
+}
+
+/// The open directories and the files before the write.
+const UNWRITTEN: &[(&[u8], Got)] = &[
+    (b"a", Got::Entry(EntryKind::Tree, NULL)),
+    (b"a x", Got::Entry(EntryKind::Blob, FILE)),
+    (b"b", Got::Entry(EntryKind::Tree, NULL)),
+    (b"b y", Got::Entry(EntryKind::Blob, FILE)),
+    (b"c", Got::Entry(EntryKind::Tree, NULL)),
+    (b"c d", Got::Entry(EntryKind::Tree, NULL)),
+    (b"c d z", Got::Entry(EntryKind::Blob, FILE)),
+];
+
+/// Returns whether the editor has the entries from before the write, and made no lookup.
+fn is_unwritten(alloc: Global, editor: &Editor<Memory>) -> bool {
+    for &(path, wanted) in UNWRITTEN {
+        if !gets(alloc, editor, path, wanted) {
+            return false;
+        }
+    }
+    editor.lookups() == 0
+}
+
+/// Returns whether a write that fails in the call of this number leaves the editor unchanged, and the next
+/// write emits all five trees.
+fn loses_nothing(alloc: Global, number: usize) -> bool {
+    let mut editor = empty_editor(alloc);
+    are_upserted(alloc, &mut editor, &[b"a x", b"b y", b"c d z"])
+        && stops_at(alloc, &mut editor, number)
+        && is_unwritten(alloc, &editor)
+        && writes(alloc, &mut editor, ALL_FIVE)
+}
+
+#[test]
+fn failed_out_at_each_of_five_trees(rt: HostRuntime) {
+    for number in 1..=5usize {
+        assert!(rt; loses_nothing(rt.alloc(), number), "{number}");
+    }
 }
 
 /// Returns whether a write emitted two trees, and the second is empty.
