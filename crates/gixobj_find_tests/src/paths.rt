@@ -1,6 +1,6 @@
 //! Lookups of entries along paths through the trees of a store.
 
-use crate::failing::Failing;
+use crate::failing::{Failing, OFFLINE};
 use crate::samples::{BAK, ROOT, ROOT_BYTES, VERSION_1, id, id_of_bytes, names, two_trees};
 use gixobj_find::{FindExt, find};
 use gixobj_hash::Kind;
@@ -164,6 +164,71 @@ fn fails_if_store_fails(rt: HostRuntime) -> Result<(), Fail> {
     assert!(rt; is_there_from(alloc, &store, ROOT_BYTES, b"bak/test.txt") == Some(true));
     assert!(rt; store.lookups() == 2);
     Ok(())
+}
+
+/// A tree of one entry, the tree [`ROOT`] as `top`.
+const TOP: &[u8] = b"40000 top\0\
+    \x3c\x4e\x9c\xd7\x89\xd8\x8d\x8d\x89\xc1\x07\x37\x07\xc3\x58\x5e\x41\xb0\xe6\x14";
+
+/// Looks up the entry of the names `top`, `bak` and `test.txt` from the tree [`TOP`].
+fn entry_by_names<S: Find>(alloc: Global, store: &S) -> Result<Option<Entry>, find::Error> {
+    let path = names(alloc, &["top", "bak", "test.txt"])?;
+    let mut buffer = Vec::new(alloc);
+    let reader = TreeRefIter::from_bytes(TOP, HashKind::Sha1);
+    reader.lookup_entry(alloc, store, &mut buffer, &path)
+}
+
+/// Looks up the entry at the path `top/bak/test.txt` from the tree [`TOP`].
+fn entry_by_path<S: Find>(alloc: Global, store: &S) -> Result<Option<Entry>, find::Error> {
+    entry_from(alloc, store, TOP, HashKind::Sha1, b"top/bak/test.txt")
+}
+
+/// Returns whether a lookup failed with the message of the store.
+fn is_offline(answer: &Result<Option<Entry>, find::Error>) -> bool {
+    match answer {
+        Err(find::Error::Store(message)) => message.as_bytes() == OFFLINE,
+        _ => false,
+    }
+}
+
+/// Returns whether a lookup by names and then one by a path fail with the message of the store, each after
+/// `count` lookups in it.
+fn fail_with_message(alloc: Global, store: &Failing, count: u64) -> bool {
+    is_offline(&entry_by_names(alloc, store))
+        && store.lookups() == count
+        && is_offline(&entry_by_path(alloc, store))
+        && store.lookups() == count.saturating_add(count)
+}
+
+/// The lookups that fail if the store fails for the first entry on the path, or for the second, both times.
+/// With each, the number of lookups along the path.
+const FAILURES: &[(&'static [u64], u64)] = &[(&[1, 2], 1), (&[2, 4], 2)];
+
+/// Returns whether a lookup found the file `test.txt`.
+fn is_found(answer: &Result<Option<Entry>, find::Error>) -> bool {
+    match answer {
+        Ok(found) => is_file(found, id(VERSION_1), b"test.txt"),
+        Err(_) => false,
+    }
+}
+
+/// Returns whether lookups in a store of two trees that fails in these lookups fail as [`fail_with_message`]
+/// says, and the next ones find the file.
+fn fail_and_find(alloc: Global, lookups: &'static [u64], count: u64) -> bool {
+    let Ok(objects) = two_trees(alloc) else {
+        return false;
+    };
+    let store = Failing::new(alloc, objects, lookups, &[]);
+    fail_with_message(alloc, &store, count)
+        && is_found(&entry_by_names(alloc, &store))
+        && is_found(&entry_by_path(alloc, &store))
+}
+
+#[test]
+fn returns_message_of_store_that_fails_on_path(rt: HostRuntime) {
+    for &(lookups, count) in FAILURES {
+        assert!(rt; fail_and_find(rt.alloc(), lookups, count), "{count}");
+    }
 }
 
 /// Two entries of one name, and a third after a malformed one.
