@@ -7,6 +7,8 @@ mod calls;
 mod commits;
 #[cfg(test)]
 mod objects;
+#[cfg(test)]
+mod reports;
 pub mod scripted;
 #[cfg(test)]
 mod signature;
