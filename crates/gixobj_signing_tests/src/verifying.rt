@@ -486,8 +486,9 @@ fn rejects_non_signatures(alloc: Global, program: Format) -> bool {
     has_outcome(alloc, b"not a signature", how, &[], "UnsupportedFormat")
 }
 
+/// No call is made for a signature of another format, or for bytes that are no signature.
 #[test]
-fn other_formats_fail_without_a_call(rt: HostRuntime) {
+fn format_mismatch(rt: HostRuntime) {
     for program in [Format::OpenPgp, Format::X509, Format::Ssh] {
         let is_so = rejects_non_signatures(rt.alloc(), program)
             && rejects_other_formats(rt.alloc(), program);
