@@ -28,7 +28,6 @@ const ONE_LINE: &[u8] = b"100644 blob 83baae61804e65cc73a7201a7252750c76066a30 t
 
 /// Arguments, trees and their listings.
 const TREES: &[(&str, &[u8], &[u8])] = &[
-    ("tree", ONE_ENTRY, ONE_LINE),
     (
         "tree",
         b"tree 36\x00100644 test.txt\x00\x83\xba\xaea\x80Ne\xccs\xa7 \x1arRu\x0cv\x06j0and more",
@@ -77,6 +76,15 @@ fn lists_trees(rt: HostRuntime) {
     for &(line, tree, listing) in TREES {
         assert!(rt; lists(rt.alloc(), line, tree, listing), "{line} {tree:?}");
     }
+}
+
+/// The line that `show` prints for the tree of one entry.
+const SHOWN: &[u8] = b"tree 36 d8329fc1cc938780ffdd9f94e0d364e0ea74f579\n";
+
+#[test]
+fn tree_listing(rt: HostRuntime) {
+    assert!(rt; lists(rt.alloc(), "tree", ONE_ENTRY, ONE_LINE));
+    assert!(rt; answers(rt.alloc(), &("show", ONE_ENTRY, (0, SHOWN, b""))));
 }
 
 const BAD_HEADER: &[u8] = b"gixobj: bad header\n";

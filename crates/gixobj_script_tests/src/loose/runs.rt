@@ -61,8 +61,13 @@ const SHORT_DATA: &[u8] = b"gixobj: short data\n";
 
 const OUTPUT_FAILED: &[u8] = b"gixobj: output failed\n";
 
+#[test]
+fn show_hello(rt: HostRuntime) {
+    let row: Row = ("show", b"blob 6\0hello\n", (0, HELLO, b""));
+    assert!(rt; answers(rt.alloc(), &row));
+}
+
 const SHOWN: &[Row] = &[
-    ("show", b"blob 6\0hello\n", (0, HELLO, b"")),
     ("show", b"blob 6\0hello\nand more", (0, HELLO, b"")),
     ("show sha256", b"blob 6\0hello\n", (0, HELLO_SHA256, b"")),
     (
