@@ -18,3 +18,12 @@ returns-in-Tag-clause-no_error g c = rw c.in-Tag.is c.write_into-in-Tag.ensures.
 
 pub returns-in-Tag-clause-error : goal.returns-in-Tag-clause-error
 returns-in-Tag-clause-error g c = rw c.in-Tag.is c.write_into-in-Tag.ensures.error
+
+pub returns-in-Tree-clause-room : goal.returns-in-Tree-clause-room
+returns-in-Tree-clause-room g c = rw c.in-Tree.is c.write_into.ensures.room
+
+pub returns-in-Commit-clause-room : goal.returns-in-Commit-clause-room
+returns-in-Commit-clause-room g c = rw c.in-Commit.is c.write_into-in-Commit.ensures.room
+
+pub returns-in-Tag-clause-room : goal.returns-in-Tag-clause-room
+returns-in-Tag-clause-room g c = rw c.in-Tag.is c.write_into-in-Tag.ensures.room
