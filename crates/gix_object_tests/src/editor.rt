@@ -3,7 +3,7 @@ ghost use Rattle.std.specs.Prelude.{ℕ, ◌∷◌, [], IfOk, IfSome};
 ghost use Rattle.gix_object.specs.Bases.{HasBases};
 ghost use Rattle.gix_object.specs.Calls.{IsCallableOnTrees, answered, names_of};
 ghost use Rattle.gix_object.specs.Files.{NamedFiles, SameFiles, Table};
-ghost use Rattle.gix_object.specs.History.{History, remove, upsert};
+ghost use Rattle.gix_object.specs.History.{FilesAfter, remove, upsert};
 ghost use Rattle.gix_object.specs.Mode.{mode_of_kind};
 ghost use Rattle.gix_object.specs.Openings.{OfTrees};
 ghost use Rattle.gix_object.specs.State.{EditorFiles, open_bases, open_dirs};
@@ -60,7 +60,7 @@ fn edited_and_written<S: Find, E: Drop, F: FnMut(&Tree) -> Result<ObjectId, E> +
         → AgreesWithPairs T written.trees.items
         → HasBases T (open_dirs editor.old) (open_bases editor.old)
         → SameFiles (NamedFiles T n written.id)
-        (History T n (upsert (names_of first.now) (mode_of_kind Blob) id ∷ remove
+        (FilesAfter T n (upsert (names_of first.now) (mode_of_kind Blob) id ∷ remove
         (names_of second.now) ∷ []) (EditorFiles T n editor.old))))) }
 {
     editor.try_upsert(first, EntryKind::Blob, id)?;

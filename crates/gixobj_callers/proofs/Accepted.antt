@@ -4,7 +4,7 @@ use Rattle.std.specs.List.{filter_map, starts_with}
 use Rattle.std.specs.Prelude.{codes}
 use Rattle.gix_object.specs.GpgReports.{gpg_report, status_of, status_lines, verdict}
 use Rattle.gix_object.specs.Outcomes.{OutcomeView, is_good_status, is_trusted, evaluated, outcome_view}
-use Rattle.gix_object.specs.Plans.{Carries, done}
+use Rattle.gix_object.specs.Plans.{CarriesOut, done}
 use Rattle.gix_object.specs.ProgramCalls.{Answer, CallView, OutputView, failed, no_memory, ran}
 use Rattle.gix_object.specs.SshReports.{ssh_report, ssh_status}
 use Rattle.gix_object.specs.Verifiers.{VerifyOptionsView, ProgramView, SshView, by_open_pgp, by_ssh, by_x509}
@@ -74,7 +74,7 @@ good_said success format by output raw valid =
 
 gpg_accepted : {S : Type 0} (runs : S → CallView → Answer → S → Type 0) (format : Format) (by : ProgramView) (call : CallView) (s t : S)
     (outcome : OutcomeView)
-    → Carries runs (gpg_verify_plan format by call) s (reported outcome) t → outcome.valid ≡ true → ReportsGood runs format by call s outcome t
+    → CarriesOut runs (gpg_verify_plan format by call) s (reported outcome) t → outcome.valid ≡ true → ReportsGood runs format by call s outcome t
 gpg_accepted runs format by call s t outcome (ran seen, m, run, (same, end)) valid =
     let is = same_outcome outcome (evaluated seen.success by.minimum (gpg_report format seen.stderr seen.stdout)) same in
     let (succeeded, good, trusted) = good_said seen.success format by seen.stderr seen.stdout
@@ -138,11 +138,11 @@ module _ {S : Type 0} (runs : S → CallView → Answer → S → Type 0) (by : 
   -- a call for a principal: the outcome is that of its output, or of a later call's
   one_tried : (principal : List ℕ) (principals : List (List ℕ)) (seen : OutputView) (s m t : S) (outcome : OutcomeView)
       → runs s (principal_call by ssh signature signed principal) (ran seen) m
-      → (Carries runs (tries by ssh signature signed principals (Some seen)) m (reported outcome) t
+      → (CarriesOut runs (tries by ssh signature signed principals (Some seen)) m (reported outcome) t
       → Tries runs by ssh signature signed principals m outcome t
       ⊎ EndsWith by (Some seen) principals m outcome t)
       → (b : Bool) → accepts seen ≡ b
-      → Carries runs (cond b (done (ssh_verified by seen.success trust.Fully (Some principal) seen))
+      → CarriesOut runs (cond b (done (ssh_verified by seen.success trust.Fully (Some principal) seen))
       (tries by ssh signature signed principals (Some seen))) m
       (reported outcome) t
       → Tries runs by ssh signature signed (principal ∷ principals) s outcome t
@@ -191,7 +191,7 @@ module _ {S : Type 0} (runs : S → CallView → Answer → S → Type 0) (by : 
       ]
 
   all_tried : (principals : List (List ℕ)) (last : Option OutputView) (s t : S) (outcome : OutcomeView)
-      → Carries runs (tries by ssh signature signed principals last) s (reported outcome) t → outcome.valid ≡ true
+      → CarriesOut runs (tries by ssh signature signed principals last) s (reported outcome) t → outcome.valid ≡ true
       → Tries runs by ssh signature signed principals s outcome t ⊎ EndsWith by last principals s outcome t
   unfolding tries
   all_tried [] (Some seen) s t outcome (same, end) valid =
@@ -210,7 +210,7 @@ module _ {S : Type 0} (runs : S → CallView → Answer → S → Type 0) (by : 
 
   -- if the call for principals fails, no principal is accepted
   named_some : (named : OutputView) (first t : S) (outcome : OutcomeView)
-      → (b : Bool) → named.success ≡ b → Carries runs (tries by ssh signature signed (cond b (principals_in named.stdout) []) None) first
+      → (b : Bool) → named.success ≡ b → CarriesOut runs (tries by ssh signature signed (cond b (principals_in named.stdout) []) None) first
       (reported outcome) t
       → outcome.valid ≡ true
       → (named.success ≡ true) × Tries runs by ssh signature signed (principals_in named.stdout) first outcome t
@@ -221,7 +221,7 @@ module _ {S : Type 0} (runs : S → CallView → Answer → S → Type 0) (by : 
       [ inl it ↦ absurd (none_of_none it.before it.principal it.following it.all) | inr never ↦ absurd never ]
 
   ssh_accepted : (s t : S) (outcome : OutcomeView)
-      → Carries runs (ssh_verify_plan by ssh signature signed) s (reported outcome) t → outcome.valid ≡ true
+      → CarriesOut runs (ssh_verify_plan by ssh signature signed) s (reported outcome) t → outcome.valid ≡ true
       → AcceptsPrincipal runs by ssh signature signed s outcome t
   ssh_accepted s t outcome (ran named, first, run, went) valid =
       let (is_named, it) = named_some named first t outcome named.success refl went valid in
@@ -256,7 +256,7 @@ module _ {S : Type 0} (runs : S → CallView → Answer → S → Type 0) (by : 
 pub vouches_of_acceptance : {S : Type 0} (runs : S → CallView → Answer → S → Type 0) (it : VerifyOptionsView) (signature signed : List ℕ) (format : Option Format)
     (s t : S)
     (outcome : OutcomeView)
-    → Carries runs (verify_plan it signature signed format) s (reported outcome) t → outcome.valid ≡ true
+    → CarriesOut runs (verify_plan it signature signed format) s (reported outcome) t → outcome.valid ≡ true
     → Vouches runs it signature signed s outcome t
 vouches_of_acceptance runs (by_open_pgp by) signature signed (Some format.OpenPgp) s t outcome went valid =
     gpg_accepted runs format.OpenPgp by (open_pgp_call by signature signed) s t outcome went valid

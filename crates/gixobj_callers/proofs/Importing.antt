@@ -40,10 +40,10 @@ IsOfAnEdit edit_reply.Done = Unit {0}
 IsOfAnEdit (edit_reply.Refused error) = Unit {0}
 IsOfAnEdit its_reply = ⊥
 
-module _ {S E : Type 0} (means : StoreModel S) (answers : Answers E) where
+module _ {S E : Type 0} (model : StoreModel S) (answers : Answers E) where
   -- a reply decides; only one to an edit or a write does
   abbrev pub Settles : State S → List Edit → ℕ → Reply E → State S → Type 0
-  Settles old edits index (reply.Edit its_reply) new = Decides means answers old edits index its_reply new
+  Settles old edits index (reply.Edit its_reply) new = Decides model answers old edits index its_reply new
   Settles old edits index its_reply new = ⊥
 
   by_an_edit : (old new : State S) (edits : List Edit) (k : ℕ) (r : Reply E) → ((x : EditReply E) → r ≡ reply.Edit x → ⊥) → Settles old edits k r new → ⊥
@@ -51,12 +51,12 @@ module _ {S E : Type 0} (means : StoreModel S) (answers : Answers E) where
   by_an_edit old new edits k r other it = it
 
   one_after : (old between new : State S) (it : Edit) (edits : List Edit) (its_reply : EditReply E)
-      → IsEditReply means answers at_root old it edit_reply.Done between
-      → HasWriteReply means answers between edits its_reply new → HasWriteReply means answers old (it ∷ edits) its_reply new
+      → IsEditReply model answers at_root old it edit_reply.Done between
+      → HasWriteReply model answers between edits its_reply new → HasWriteReply model answers old (it ∷ edits) its_reply new
   one_after old between new it edits its_reply first after = record { edited = after.edited; done = (between, first, after.done); write = after.write }
 
   one_more : (old between new : State S) (it : Edit) (edits : List Edit) (k : ℕ) (r : Reply E)
-      → IsEditReply means answers at_root old it edit_reply.Done between
+      → IsEditReply model answers at_root old it edit_reply.Done between
       → Settles between edits k r new → Settles old (it ∷ edits) (suc k) r new
   one_more old between new it edits k (reply.Edit edit_reply.Done) first is = is
   one_more old between new it edits k (reply.Edit (edit_reply.Refused error)) first is = record {
@@ -80,22 +80,22 @@ module _ {S E : Type 0} (means : StoreModel S) (answers : Answers E) where
       one_after old between new it edits (edit_reply.NotKept written count error) first is
   one_more old between new it edits k r first is = absurd is
 
-  last : (between new : State S) (replies : List (Reply E)) → IsRun means answers between [] replies new → new ≡ between
+  last : (between new : State S) (replies : List (Reply E)) → IsRun model answers between [] replies new → new ≡ between
   last between new [] run = run
   last between new (r ∷ replies) run = absurd run
 
   write_alone : (old between new : State S) (its_reply : EditReply E) (replies : List (Reply E))
-      → IsEditReply means answers at_root old edit.Write its_reply between
-      → IsRun means answers between [] replies new → HasWriteReply means answers old [] its_reply new
+      → IsEditReply model answers at_root old edit.Write its_reply between
+      → IsRun model answers between [] replies new → HasWriteReply model answers old [] its_reply new
   write_alone old between new its_reply replies first run =
       record {
         edited = old;
         done = refl;
-        write = subst (λ (s : State S). IsEditReply means answers at_root old edit.Write its_reply s)
+        write = subst (λ (s : State S). IsEditReply model answers at_root old edit.Write its_reply s)
             (sym (last between new replies run)) first;
       }
 
-  of_an_edit : (old new : State S) (it : Edit) (its_reply : EditReply E) → it ≢ edit.Write → IsEditReply means answers at_root old it its_reply new
+  of_an_edit : (old new : State S) (it : Edit) (its_reply : EditReply E) → it ≢ edit.Write → IsEditReply model answers at_root old it its_reply new
       → IsOfAnEdit its_reply
   of_an_edit old new edit.Write its_reply other is = absurd (other refl)
   of_an_edit old new it edit_reply.Done other is = tt
@@ -112,7 +112,7 @@ module _ {S E : Type 0} (means : StoreModel S) (answers : Answers E) where
   at_once old new edits first replies r other it = (0, rw other refl, omega arith, λ is. subst (λ (x : Reply E). Settles old edits 0 x new) is it)
 
   pub decided : (old new : State S) (edits : List Edit) (replies : List (Reply E)) (r : Reply E) → (Contains edits edit.Write → ⊥)
-      → IsRun means answers old (edits_and_write edits) replies new
+      → IsRun model answers old (edits_and_write edits) replies new
       → IsDecided old edits replies new r
   decided old new [] [] r none run = absurd run
   decided old new (it ∷ edits) [] r none run = absurd run
@@ -151,26 +151,26 @@ module _ {S E : Type 0} (means : StoreModel S) (answers : Answers E) where
   -- the reply at the found position decides
   pub decides : (old new : State S) (edits : List Edit) (commands : List Command) (replies shown : List (Reply E)) (index : ℕ) (r : EditReply E)
       → (Contains edits edit.Write → ⊥) → commands ≡ edits_and_write edits
-      → IsRun means answers old commands replies new → shown ≡ replies → Some index ≡ position is_other shown
-      → reply.Edit r ≡ get_or replies index (reply.Edit r) → Decides means answers old edits index r new
+      → IsRun model answers old commands replies new → shown ≡ replies → Some index ≡ position is_other shown
+      → reply.Edit r ≡ get_or replies index (reply.Edit r) → Decides model answers old edits index r new
   decides old new edits commands replies shown index r none is run same found at =
-      let it = decided old new edits replies (reply.Edit r) none (subst (λ (cs : List Command). IsRun means answers old cs replies new) is run) in
+      let it = decided old new edits replies (reply.Edit r) none (subst (λ (cs : List Command). IsRun model answers old cs replies new) is run) in
       let place : it.0 ≡ index = same_place replies shown index it.0 same found it.1 it.2 in
-      subst (λ (k : ℕ). Decides means answers old edits k r new) place
+      subst (λ (k : ℕ). Decides model answers old edits k r new) place
       (it.3 (subst (λ (k : ℕ). get_or replies k (reply.Edit r) ≡ reply.Edit r) (sym place) (sym at)))
 
   pub is_found : (old new : State S) (edits : List Edit) (commands : List Command) (replies shown : List (Reply E)) → (Contains edits edit.Write → ⊥)
       → commands ≡ edits_and_write edits
-      → IsRun means answers old commands replies new → shown ≡ replies → None ≡ position is_other shown → ⊥
+      → IsRun model answers old commands replies new → shown ≡ replies → None ≡ position is_other shown → ⊥
   is_found old new edits commands replies shown none is run same found =
-      let it = decided old new edits replies reply.RootSet none (subst (λ (cs : List Command). IsRun means answers old cs replies new) is run) in
+      let it = decided old new edits replies reply.RootSet none (subst (λ (cs : List Command). IsRun model answers old cs replies new) is run) in
       not_missing replies shown it.0 same found it.1 it.2
 
   pub is_by_an_edit : (old new : State S) (edits : List Edit) (commands : List Command) (replies shown : List (Reply E)) (index : ℕ) (r : Reply E)
       → (Contains edits edit.Write → ⊥) → commands ≡ edits_and_write edits
-      → IsRun means answers old commands replies new → shown ≡ replies → Some index ≡ position is_other shown → r ≡ get_or replies index r
+      → IsRun model answers old commands replies new → shown ≡ replies → Some index ≡ position is_other shown → r ≡ get_or replies index r
       → ((x : EditReply E) → r ≡ reply.Edit x → ⊥) → ⊥
   is_by_an_edit old new edits commands replies shown index r none is run same found at other =
-      let it = decided old new edits replies r none (subst (λ (cs : List Command). IsRun means answers old cs replies new) is run) in
+      let it = decided old new edits replies r none (subst (λ (cs : List Command). IsRun model answers old cs replies new) is run) in
       let place : it.0 ≡ index = same_place replies shown index it.0 same found it.1 it.2 in
       by_an_edit old new edits it.0 r other (it.3 (subst (λ (k : ℕ). get_or replies k r ≡ r) (sym place) (sym at)))

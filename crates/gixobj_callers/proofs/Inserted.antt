@@ -8,7 +8,7 @@ use Rattle.gix_object.specs.Bases.{HasBases}
 use Rattle.gix_object.specs.Calls.{names_of}
 use Rattle.gix_object.specs.Cursors.{IsCursorEditError, from_root}
 use Rattle.gix_object.specs.Files.{Ensured, Files, NamedFiles, Path, SameFiles, Table, Trees, Upserted}
-use Rattle.gix_object.specs.History.{History}
+use Rattle.gix_object.specs.History.{FilesAfter}
 use Rattle.gix_object.specs.Mode.{mode_of_kind}
 use Rattle.gix_object.specs.Openings.{AreTreesOf, OfTrees}
 use Rattle.gix_object.specs.State.{EditorFiles, State, open_bases, open_dirs}
@@ -23,114 +23,114 @@ use Rattle.gixobj_callers.specs.declared.checkout.Planned.{Planned}
 use Rattle.gixobj_callers.proofs.Histories.{history_congruent, same_files_refl, same_files_trans}
 use Rattle.gix_object.specs.Stores.{StoreModel}
 
-module _ {S : Type 0} (means : StoreModel S) (prefix : Path) where
-  one_more : (old mid new : State S) (entries : List Planned) (entry : Planned) → AreInserted means prefix old entries mid
-      → IsInsertedAt means prefix mid entry new → AreInserted means prefix old (entries ++ entry ∷ []) new
-  one_more old mid new [] entry none inserted = (new, subst (λ (state : State S). IsInsertedAt means prefix state entry new) none inserted, refl)
+module _ {S : Type 0} (model : StoreModel S) (prefix : Path) where
+  one_more : (old mid new : State S) (entries : List Planned) (entry : Planned) → AreInserted model prefix old entries mid
+      → IsInsertedAt model prefix mid entry new → AreInserted model prefix old (entries ++ entry ∷ []) new
+  one_more old mid new [] entry none inserted = (new, subst (λ (state : State S). IsInsertedAt model prefix state entry new) none inserted, refl)
   one_more old mid new (first ∷ entries) entry (between, before, rest) inserted =
       (between, before, one_more between mid new entries entry rest inserted)
 
   rejected_after : (old mid : State S) (head : List Planned) (entry : Planned) (following : List Planned) (error : Error)
-      → AreInserted means prefix old head mid → IsNotInsertedAt means prefix mid entry error
-      → AreNotInserted means prefix old (head ++ entry ∷ following) error
+      → AreInserted model prefix old head mid → IsNotInsertedAt model prefix mid entry error
+      → AreNotInserted model prefix old (head ++ entry ∷ following) error
   rejected_after old mid [] entry following error none rejected =
-      inl (subst (λ (state : State S). IsNotInsertedAt means prefix state entry error) none rejected)
+      inl (subst (λ (state : State S). IsNotInsertedAt model prefix state entry error) none rejected)
   rejected_after old mid (first ∷ head) entry following error (between, inserted, rest) rejected =
       inr (between, inserted, rejected_after between mid head entry following error rest rejected)
 
   -- the next entry of a list is inserted, by a cursor with the same prefix
   pub next_inserted : (old new last : State S) (here path : Path) (entries : List Planned) (i : ℕ) (entry : Planned) → i < length entries
       → entry ≡ get_or entries i entry → here ≡ prefix → path ≡ names_of entry.path.items
-      → AreInserted means prefix old (take i entries) new
-      → OfTrees (means.objects new.store) (λ trees. IsUpserted trees new (from_root here path) (mode_of_kind entry.kind) entry.id last)
-      → AreInserted means prefix old (take (i + 1) entries) last
+      → AreInserted model prefix old (take i entries) new
+      → OfTrees (model.objects new.store) (λ trees. IsUpserted trees new (from_root here path) (mode_of_kind entry.kind) entry.id last)
+      → AreInserted model prefix old (take (i + 1) entries) last
   next_inserted old new last here path entries i entry low is same_prefix same_path before inserted =
-      let at_path = subst (λ (p : Path). OfTrees (means.objects new.store)
+      let at_path = subst (λ (p : Path). OfTrees (model.objects new.store)
       (λ trees. IsUpserted trees new (from_root here p) (mode_of_kind entry.kind) entry.id last)) same_path inserted in
-      let at = subst (λ (p : Path). OfTrees (means.objects new.store)
+      let at = subst (λ (p : Path). OfTrees (model.objects new.store)
       (λ trees. IsUpserted trees new (from_root p (names_of entry.path.items)) (mode_of_kind entry.kind) entry.id last)) same_prefix at_path in
       let more : take (i + 1) entries ≡ take i entries ++ entry ∷ [] = take_more entries i entry low ∙ ap (λ (x : Planned). take i entries ++ x ∷ [])
       (sym is) in
-      subst (λ (xs : List Planned). AreInserted means prefix old xs last) (sym more) (one_more old new last (take i entries) entry before at)
+      subst (λ (xs : List Planned). AreInserted model prefix old xs last) (sym more) (one_more old new last (take i entries) entry before at)
 
   -- the next entry of a list isn't inserted
   pub next_rejected : (old new : State S) (here path : Path) (entries : List Planned) (i : ℕ) (entry : Planned) (error : Error) → i < length entries
       → entry ≡ get_or entries i entry → here ≡ prefix → path ≡ names_of entry.path.items
-      → AreInserted means prefix old (take i entries) new
-      → OfTrees (means.objects new.store)
-      (λ trees. IsCursorEditError path (IsUpsertError (means.objects new.store) (means.may_fail new.store) trees (open_dirs new)
+      → AreInserted model prefix old (take i entries) new
+      → OfTrees (model.objects new.store)
+      (λ trees. IsCursorEditError path (IsUpsertError (model.objects new.store) (model.may_fail new.store) trees (open_dirs new)
       (from_root here path))
       error)
-      → AreNotInserted means prefix old entries error
+      → AreNotInserted model prefix old entries error
   next_rejected old new here path entries i entry error low is same_prefix same_path before rejected =
-      let at_path = subst (λ (p : Path). OfTrees (means.objects new.store)
-      (λ trees. IsCursorEditError p (IsUpsertError (means.objects new.store) (means.may_fail new.store) trees (open_dirs new) (from_root here p))
+      let at_path = subst (λ (p : Path). OfTrees (model.objects new.store)
+      (λ trees. IsCursorEditError p (IsUpsertError (model.objects new.store) (model.may_fail new.store) trees (open_dirs new) (from_root here p))
       error))
       same_path rejected in
-      let at = subst (λ (p : Path). OfTrees (means.objects new.store) (λ trees. IsCursorEditError (names_of entry.path.items)
-      (IsUpsertError (means.objects new.store) (means.may_fail new.store) trees (open_dirs new) (from_root p (names_of entry.path.items))) error))
+      let at = subst (λ (p : Path). OfTrees (model.objects new.store) (λ trees. IsCursorEditError (names_of entry.path.items)
+      (IsUpsertError (model.objects new.store) (model.may_fail new.store) trees (open_dirs new) (from_root p (names_of entry.path.items))) error))
       same_prefix
       at_path in
       let entire : take i entries ++ entry ∷ drop (i + 1) entries ≡ entries =
       ap (λ (x : Planned). take i entries ++ x ∷ drop (i + 1) entries) is ∙ ap (λ (xs : List Planned). take i entries ++ xs)
       (sym (drop_more entries i entry low)) ∙ take-append-drop i entries in
-      subst (λ (xs : List Planned). AreNotInserted means prefix old xs error) entire
+      subst (λ (xs : List Planned). AreNotInserted model prefix old xs error) entire
       (rejected_after old new (take i entries) entry (drop (i + 1) entries) error before at)
 
-  pub all_inserted : (old new : State S) (entries : List Planned) (i : ℕ) → length entries ≤ i → AreInserted means prefix old (take i entries) new
-      → AreInserted means prefix old entries new
-  all_inserted old new entries i past before = subst (λ (xs : List Planned). AreInserted means prefix old xs new) (take_all i entries past) before
+  pub all_inserted : (old new : State S) (entries : List Planned) (i : ℕ) → length entries ≤ i → AreInserted model prefix old (take i entries) new
+      → AreInserted model prefix old entries new
+  all_inserted old new entries i past before = subst (λ (xs : List Planned). AreInserted model prefix old xs new) (take_all i entries past) before
 
   -- after a cursor was made at a path, with the editor as the cursor left it
   pub filled_after : (r : Result Unit Error) (old made last remaining : State S) (path : Path) (entries : List Planned) → remaining ≡ last
       → prefix ≡ path
-      → IsMade means old path made
-      → OnOk r (AreInserted means prefix made entries last) → OnOk r (IsFilled means old path entries remaining)
+      → IsMade model old path made
+      → OnOk r (AreInserted model prefix made entries last) → OnOk r (IsFilled model old path entries remaining)
   filled_after (Ok it) old made last remaining path entries is_remaining same_prefix is_made inserted =
-      let here = subst (λ (state : State S). AreInserted means prefix made entries state) (sym is_remaining) inserted in
-      (made, is_made, subst (λ (p : Path). AreInserted means p made entries remaining) same_prefix here)
+      let here = subst (λ (state : State S). AreInserted model prefix made entries state) (sym is_remaining) inserted in
+      (made, is_made, subst (λ (p : Path). AreInserted model p made entries remaining) same_prefix here)
   filled_after (Err error) old made last remaining path entries is_remaining same_prefix is_made inserted = tt
 
-  pub rejected_in : (r : Result Unit Error) (old made : State S) (path : Path) (entries : List Planned) → prefix ≡ path → IsMade means old path made
-      → IfErr r (AreNotInserted means prefix made entries) → IfErr r (IsNotFilled means old path entries)
+  pub rejected_in : (r : Result Unit Error) (old made : State S) (path : Path) (entries : List Planned) → prefix ≡ path → IsMade model old path made
+      → IfErr r (AreNotInserted model prefix made entries) → IfErr r (IsNotFilled model old path entries)
   rejected_in (Ok it) old made path entries same_prefix is_made rejected = tt
   rejected_in (Err error) old made path entries same_prefix is_made rejected =
-      inr (made, is_made, subst (λ (p : Path). AreNotInserted means p made entries error) same_prefix rejected)
+      inr (made, is_made, subst (λ (p : Path). AreNotInserted model p made entries error) same_prefix rejected)
 
   module _ (trees : Trees) (T : Table) (n : ℕ) (agrees : AgreesWithStore T trees) where
-    inserted_files : (old new : State S) (entries : List Planned) → AreInserted means prefix old entries new
-        → AreTreesOf (means.objects old.store) trees
-        → SameFiles (EditorFiles T n new) (History T n (map (insert_at prefix) entries) (EditorFiles T n old))
+    inserted_files : (old new : State S) (entries : List Planned) → AreInserted model prefix old entries new
+        → AreTreesOf (model.objects old.store) trees
+        → SameFiles (EditorFiles T n new) (FilesAfter T n (map (insert_at prefix) entries) (EditorFiles T n old))
     inserted_files old new [] none fits = subst (λ (state : State S). SameFiles (EditorFiles T n new) (EditorFiles T n state)) none (same_files_refl _)
     inserted_files old new (entry ∷ entries) (between, inserted, rest) fits =
         let done = inserted trees fits in
-        let still = subst (λ (store : S). AreTreesOf (means.objects store) trees) (sym (ap (λ (state : State S). state.store) done.rest)) fits in
+        let still = subst (λ (store : S). AreTreesOf (model.objects store) trees) (sym (ap (λ (state : State S). state.store) done.rest)) fits in
         same_files_trans _ _ _ (inserted_files between new entries rest still)
         (history_congruent T n (map (insert_at prefix) entries) (EditorFiles T n between)
         (Upserted T n (from_root prefix (names_of entry.path.items)) (mode_of_kind entry.kind) entry.id (EditorFiles T n old))
         (done.files T n agrees))
 
-    inserted_based : (old new : State S) (entries : List Planned) → AreInserted means prefix old entries new
-        → AreTreesOf (means.objects old.store) trees
+    inserted_based : (old new : State S) (entries : List Planned) → AreInserted model prefix old entries new
+        → AreTreesOf (model.objects old.store) trees
         → HasBases T (open_dirs old) (open_bases old) → HasBases T (open_dirs new) (open_bases new)
     inserted_based old new [] none fits has = subst (λ (state : State S). HasBases T (open_dirs state) (open_bases state)) (sym none) has
     inserted_based old new (entry ∷ entries) (between, inserted, rest) fits has =
         let done = inserted trees fits in
-        let still = subst (λ (store : S). AreTreesOf (means.objects store) trees) (sym (ap (λ (state : State S). state.store) done.rest)) fits in
+        let still = subst (λ (store : S). AreTreesOf (model.objects store) trees) (sym (ap (λ (state : State S). state.store) done.rest)) fits in
         inserted_based between new entries rest still (done.has_bases T agrees has)
 
-    filled_based : (old new : State S) (entries : List Planned) → IsFilled means old prefix entries new → AreTreesOf (means.objects old.store) trees
+    filled_based : (old new : State S) (entries : List Planned) → IsFilled model old prefix entries new → AreTreesOf (model.objects old.store) trees
         → HasBases T (open_dirs old) (open_bases old) → HasBases T (open_dirs new) (open_bases new)
     filled_based old new entries (made, is_made, inserted) fits has =
         let done = is_made trees fits in
-        let still = subst (λ (store : S). AreTreesOf (means.objects store) trees) (sym (ap (λ (state : State S). state.store) done.rest)) fits in
+        let still = subst (λ (store : S). AreTreesOf (model.objects store) trees) (sym (ap (λ (state : State S). state.store) done.rest)) fits in
         inserted_based made new entries inserted still (done.has_bases T agrees has)
 
-    filled_files : (old new : State S) (entries : List Planned) → IsFilled means old prefix entries new → AreTreesOf (means.objects old.store) trees
-        → SameFiles (EditorFiles T n new) (History T n (steps_of_checkout prefix entries) (EditorFiles T n old))
+    filled_files : (old new : State S) (entries : List Planned) → IsFilled model old prefix entries new → AreTreesOf (model.objects old.store) trees
+        → SameFiles (EditorFiles T n new) (FilesAfter T n (steps_of_checkout prefix entries) (EditorFiles T n old))
     filled_files old new entries (made, is_made, inserted) fits =
         let done = is_made trees fits in
-        let still = subst (λ (store : S). AreTreesOf (means.objects store) trees) (sym (ap (λ (state : State S). state.store) done.rest)) fits in
+        let still = subst (λ (store : S). AreTreesOf (model.objects store) trees) (sym (ap (λ (state : State S). state.store) done.rest)) fits in
         same_files_trans _ _ _ (inserted_files made new entries inserted still)
         (history_congruent T n (map (insert_at prefix) entries) (EditorFiles T n made) (Ensured prefix (EditorFiles T n old)) (done.files T n agrees))
 
@@ -139,9 +139,9 @@ module _ {S : Type 0} (means : StoreModel S) (prefix : Path) where
         (entries : List Planned) (written : Written)
         → HasBases T (open_dirs (started store object_hash root)) (open_bases (started store object_hash root))
         → SameFiles (EditorFiles T n (started store object_hash root)) (Files T n root)
-        → IsCheckedOut means (started store object_hash root) prefix entries gave out written → AreTreesOf (means.objects store) trees
+        → IsCheckedOut model (started store object_hash root) prefix entries gave out written → AreTreesOf (model.objects store) trees
         → AgreesWithPairs T written.trees.items
-        → SameFiles (NamedFiles T n written.id) (History T n (steps_of_checkout prefix entries) (Files T n root))
+        → SameFiles (NamedFiles T n written.id) (FilesAfter T n (steps_of_checkout prefix entries) (Files T n root))
     checked_out_files gave out store object_hash root entries written bases begun (filled, remaining, last, is_filled, wrote) fits pairs =
         let has = filled_based (started store object_hash root) filled entries is_filled fits bases in
         same_files_trans _ _ _ (wrote.files T n pairs has)

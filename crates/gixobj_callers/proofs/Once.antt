@@ -2,7 +2,7 @@
 use Rattle.std.proofs.Common.{◌≡◌, ◌≢◌, ◌∙◌, ◌⊎◌, ℕ, List, [], ◌∷◌, ◌++◌, ⊎_elim, ap, inl, inr, map, refl, subst, sym}
 use Rattle.std.specs.List.{AllByRecursion}
 use Rattle.gix_object.specs.Entries.{EntryView}
-use Rattle.gix_object.specs.Files.{Has, Path}
+use Rattle.gix_object.specs.Files.{ContainsEntry, Path}
 use Rattle.gixobj_callers.specs.Uploads.{Once}
 
 -- each path begins with a name of these
@@ -11,7 +11,7 @@ Starts P paths = AllByRecursion (λ (path : Path). (name : List ℕ) × (rest : 
 
 -- the name of one of the entries
 abbrev pub IsOf : List EntryView → List ℕ → Type 0
-IsOf entries name = (e : EntryView) × Has entries e × (e.name ≡ name)
+IsOf entries name = (e : EntryView) × ContainsEntry entries e × (e.name ≡ name)
 
 abbrev pub under : List ℕ → Path → Path
 under name path = name ∷ path

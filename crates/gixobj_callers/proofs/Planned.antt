@@ -44,45 +44,45 @@ module _ (same_or_not : (x y : ObjectId) → (x ≡ y) ⊎ (x ≢ y)) (T : Table
       let at : Option (List EntryView) → Type 0 = λ found. MatchOption found ⊥ (λ es. Files T n es path mode id) in
       (subst at (sym root_there), subst at root_there)
 
-module _ {S : Type 0} (means : StoreModel S) (store : S) (root_id : ObjectId) (path : Path) (mode : ℕ) (id : ObjectId) where
+module _ {S : Type 0} (model : StoreModel S) (store : S) (root_id : ObjectId) (path : Path) (mode : ℕ) (id : ObjectId) where
   -- the errors and the effect of an edit by an editor of the stored root
-  pub inserted_in_root : (editor edited : State S) (entries : List EntryView) → IsRoot (means.objects store) root_id entries
+  pub inserted_in_root : (editor edited : State S) (entries : List EntryView) → IsRoot (model.objects store) root_id entries
       → editor ≡ started store (id_kind root_id) entries
-      → ((trees : Trees) → AreTreesOf (means.objects editor.store) trees → IsUpserted trees editor path mode id edited)
-      → IsInserted means store root_id path mode id edited
+      → ((trees : Trees) → AreTreesOf (model.objects editor.store) trees → IsUpserted trees editor path mode id edited)
+      → IsInserted model store root_id path mode id edited
   inserted_in_root editor edited entries is same appended = record {
     entries = entries;
     is_root = is;
-    inserted = subst (λ (state : State S). (trees : Trees) → AreTreesOf (means.objects state.store) trees → IsUpserted trees state path mode id edited) same
+    inserted = subst (λ (state : State S). (trees : Trees) → AreTreesOf (model.objects state.store) trees → IsUpserted trees state path mode id edited) same
         appended;
   }
 
-  pub not_inserted_in_root : (editor : State S) (entries : List EntryView) (error : Error) → IsRoot (means.objects store) root_id entries
+  pub not_inserted_in_root : (editor : State S) (entries : List EntryView) (error : Error) → IsRoot (model.objects store) root_id entries
       → editor ≡ started store (id_kind root_id) entries
-      → ((trees : Trees) → AreTreesOf (means.objects editor.store) trees → IsUpsertError (means.objects editor.store) (means.may_fail editor.store) trees
+      → ((trees : Trees) → AreTreesOf (model.objects editor.store) trees → IsUpsertError (model.objects editor.store) (model.may_fail editor.store) trees
       (open_dirs editor) path error)
-      → IsNotInserted means store root_id path mode id error
+      → IsNotInserted model store root_id path mode id error
   not_inserted_in_root editor entries error is same rejects = (
     entries,
     is,
-    subst (λ (state : State S). (trees : Trees) → AreTreesOf (means.objects state.store) trees
-        → IsUpsertError (means.objects state.store) (means.may_fail state.store) trees (open_dirs state) path error) same rejects,
+    subst (λ (state : State S). (trees : Trees) → AreTreesOf (model.objects state.store) trees
+        → IsUpsertError (model.objects state.store) (model.may_fail state.store) trees (open_dirs state) path error) same rejects,
   )
 
   -- the named tree has the files that the edit makes of the root's
-  module _ (editor : State S) (entries : List EntryView) (is_root : IsRoot (means.objects store) root_id entries)
+  module _ (editor : State S) (entries : List EntryView) (is_root : IsRoot (model.objects store) root_id entries)
       (new : editor ≡ started store (id_kind root_id) entries)
       (bases : (T : Table) → HasBases T (open_dirs editor) (open_bases editor))
       (begun : (T : Table) (n : ℕ) → SameFiles (EditorFiles T n editor) (Files T n entries)) where
     pub planned_files : ((x y : ObjectId) → (x ≡ y) ⊎ (x ≢ y)) → {F : Type 0} (gave : F → Pair → F → Type 0) (out last : F) (edited remaining : State S)
-        (written : Written) → OfTrees (means.objects editor.store) (λ trees. IsUpserted trees editor path mode id edited)
+        (written : Written) → OfTrees (model.objects editor.store) (λ trees. IsUpserted trees editor path mode id edited)
         → IsWrittenEditor gave out edited written remaining last
-        → IsFalse (is_null root_id) → (trees : Trees) → AreTreesOf (means.objects store) trees → (T : Table) (n : ℕ) → AgreesWithStore T trees
+        → IsFalse (is_null root_id) → (trees : Trees) → AreTreesOf (model.objects store) trees → (T : Table) (n : ℕ) → AgreesWithStore T trees
         → AgreesWithPairs T written.trees.items
         → SameFiles (NamedFiles T n written.id) (Upserted T n path mode id (NamedFiles T n root_id))
     planned_files same_or_not gave out last edited remaining written appended wrote filled trees fits T n agrees pairs =
-        let done = appended trees (subst (λ (it : S). AreTreesOf (means.objects it) trees) (sym (ap (λ (state : State S). state.store) new)) fits) in
+        let done = appended trees (subst (λ (it : S). AreTreesOf (model.objects it) trees) (sym (ap (λ (state : State S). state.store) new)) fits) in
         let root : SameFiles (EditorFiles T n editor) (NamedFiles T n root_id) =
-        same_files_trans _ _ _ (begun T n) (root_named same_or_not T (means.objects store) trees root_id entries filled fits agrees is_root n) in
+        same_files_trans _ _ _ (begun T n) (root_named same_or_not T (model.objects store) trees root_id entries filled fits agrees is_root n) in
         same_files_trans _ _ _ (wrote.files T n pairs (done.has_bases T agrees (bases T)))
         (same_files_trans _ _ _ (done.files T n agrees) (upserted_congruent T n path mode id (EditorFiles T n editor) (NamedFiles T n root_id) root))

@@ -4,7 +4,7 @@ use Rattle.gix_object.specs.Commands.{accepted_steps, written_at, written_by}
 use Rattle.gix_object.specs.Files.{SameFiles, Table}
 use Rattle.gix_object.specs.History.{Step}
 use Rattle.gix_object.specs.OneId.{IdsDetermineFiles, IsPlainRun, files_before}
-use Rattle.gix_object.specs.PlainHistory.{NoFiles, PlainHistory}
+use Rattle.gix_object.specs.PlainHistory.{NoFiles, PlainFilesAfter}
 use Rattle.gix_object.specs.Replies.{Answers, IsRun}
 use Rattle.gix_object.specs.State.{State}
 use Rattle.gix_object.specs.directories.write.Written.{Written}
@@ -61,10 +61,10 @@ first_of_first (suc k) zero xs low = absurd (omega (arith, low))
 first_of_first (suc k) (suc m) [] low = refl
 first_of_first {A} (suc k) (suc m) (x ∷ xs) low = ap (λ (l : List A). x ∷ l) (first_of_first k m xs (omega (arith, low)))
 
-module _ {S E : Type 0} (means : StoreModel S) (commands : List Command) (start : State S) (replies : List (Reply E)) where
+module _ {S E : Type 0} (model : StoreModel S) (commands : List Command) (start : State S) (replies : List (Reply E)) where
   -- in each prefix of the run ids determine files
   abbrev OneId : Type 0
-  OneId = (T : Table) (m : ℕ) → IsPlainRun T (means.objects start.store) start (take m commands) (take m replies)
+  OneId = (T : Table) (m : ℕ) → IsPlainRun T (model.objects start.store) start (take m commands) (take m replies)
       → IdsDetermineFiles (take m commands) (take m replies)
 
   steps_prefix : (m k : ℕ) → k < m → accepted_steps (take k (take m commands)) (take k (take m replies)) ≡ accepted_steps (take k commands)
@@ -73,30 +73,30 @@ module _ {S E : Type 0} (means : StoreModel S) (commands : List Command) (start 
       ∙ ap (λ (rs : List (Reply E)). accepted_steps (take k commands) rs) (first_of_first k m replies low)
 
   -- ids determine files for the writes at two indices
-  known_at : OneId → (T : Table) (k l : ℕ) → IsPlainRun T (means.objects start.store) start (take (up_to k l) commands) (take (up_to k l) replies)
+  known_at : OneId → (T : Table) (k l : ℕ) → IsPlainRun T (model.objects start.store) start (take (up_to k l) commands) (take (up_to k l) replies)
       → (first second : Written) → written_at replies k ≡ Some first → written_at replies l ≡ Some second
       → (first.id ≡ second.id) ↔ SameFiles (files_before k commands replies) (files_before l commands replies)
   known_at one_id T k l plain first second at_first at_second =
       let m = up_to k l in
       let of_prefix = one_id T m plain k l first second (written_prefix m k replies (omega arith) ∙ at_first)
       (written_prefix m l replies (omega arith) ∙ at_second) in
-      subst (λ (steps : List Step). (first.id ≡ second.id) ↔ SameFiles (files_before k commands replies) (PlainHistory steps NoFiles))
+      subst (λ (steps : List Step). (first.id ≡ second.id) ↔ SameFiles (files_before k commands replies) (PlainFilesAfter steps NoFiles))
       (steps_prefix m l (omega arith))
-      (subst (λ (steps : List Step). (first.id ≡ second.id) ↔ SameFiles (PlainHistory steps NoFiles)
+      (subst (λ (steps : List Step). (first.id ≡ second.id) ↔ SameFiles (PlainFilesAfter steps NoFiles)
       (files_before l (take m commands) (take m replies)))
       (steps_prefix m k (omega arith)) of_prefix)
 
-module _ {S E : Type 0} (means : StoreModel S) (answers : Answers E) (store : S) (object_hash : Kind) (commands : List Command) where
+module _ {S E : Type 0} (model : StoreModel S) (answers : Answers E) (store : S) (object_hash : Kind) (commands : List Command) where
   -- the replies of a new editor
   pub replied : (start remaining : State S) (replies : List (Reply E)) → start ≡ started store object_hash []
-      → IsRun means answers start commands replies remaining → AreReplies means answers store object_hash commands replies
-  replied start remaining replies new run = (remaining, subst (λ (state : State S). IsRun means answers state commands replies remaining) new run)
+      → IsRun model answers start commands replies remaining → AreReplies model answers store object_hash commands replies
+  replied start remaining replies new run = (remaining, subst (λ (state : State S). IsRun model answers state commands replies remaining) new run)
 
   pub compared : (start remaining : State S) (replies : List (Reply E)) (place other : ℕ) (same : Bool) (first second : Written)
-      → start ≡ started store object_hash [] → IsRun means answers start commands replies remaining
-      → OneId means commands start replies
+      → start ≡ started store object_hash [] → IsRun model answers start commands replies remaining
+      → OneId model commands start replies
       → written_at replies place ≡ Some first → written_at replies other ≡ Some second → IsTrue same ↔ (first.id ≡ second.id)
-      → IsCompared means answers store object_hash commands place other same
+      → IsCompared model answers store object_hash commands place other same
   compared start remaining replies place other same first second new run one_id at_first at_second ids = record {
     replies = replies;
     run = replied start remaining replies new run;
@@ -106,18 +106,18 @@ module _ {S E : Type 0} (means : StoreModel S) (answers : Answers E) (store : S)
     second_at = at_second;
     ids = ids;
     files = λ T plain.
-        let its_own = subst (λ (state : State S). IsPlainRun T (means.objects state.store) state (take (up_to place other) commands)
+        let its_own = subst (λ (state : State S). IsPlainRun T (model.objects state.store) state (take (up_to place other) commands)
         (take (up_to place other) replies)) (sym new) plain in
-        let seen = known_at means commands start replies one_id T place other its_own first second at_first at_second in
+        let seen = known_at model commands start replies one_id T place other its_own first second at_first at_second in
         ((λ yes. seen.0 (ids.0 yes)), λ equal. ids.1 (seen.1 equal));
   }
 
   -- the result by ids that were found in equal lists of replies
   pub is_reported : (start remaining : State S) (replies shown again : List (Reply E)) (place other : ℕ) (same : Bool) (id its_id : ObjectId)
-      → start ≡ started store object_hash [] → IsRun means answers start commands replies remaining
-      → OneId means commands start replies
+      → start ≡ started store object_hash [] → IsRun model answers start commands replies remaining
+      → OneId model commands start replies
       → shown ≡ replies → again ≡ replies → NamesWritten shown place id → NamesWritten again other its_id → IsTrue same ↔ (id ≡ its_id)
-      → IsCompared means answers store object_hash commands place other same
+      → IsCompared model answers store object_hash commands place other same
   is_reported start remaining replies shown again place other same id its_id new run one_id is_shown is_again (first, first_at, first_is)
       (second, second_at, second_is) ids =
       let at_first : written_at replies place ≡ Some first = subst (λ (rs : List (Reply E)). written_at rs place ≡ Some first) is_shown first_at in
@@ -128,21 +128,21 @@ module _ {S E : Type 0} (means : StoreModel S) (answers : Answers E) (store : S)
 
   -- the first index has no write
   pub none_at_first : (start remaining : State S) (replies shown : List (Reply E)) (place other : ℕ) (error : CompareError)
-      → start ≡ started store object_hash [] → IsRun means answers start commands replies remaining
+      → start ≡ started store object_hash [] → IsRun model answers start commands replies remaining
       → shown ≡ replies → error ≡ compare.NoWrite place → written_at shown place ≡ None
-      → IsComparisonError means answers store object_hash commands place other error
+      → IsComparisonError model answers store object_hash commands place other error
   none_at_first start remaining replies shown place other error new run is_shown is none =
       let here : written_at replies place ≡ None = subst (λ (rs : List (Reply E)). written_at rs place ≡ None) is_shown none in
-      subst (λ (e : CompareError). IsComparisonError means answers store object_hash commands place other e) (sym is)
+      subst (λ (e : CompareError). IsComparisonError model answers store object_hash commands place other e) (sym is)
       (replies, replied start remaining replies new run, (here, inl refl))
 
   -- the first index has a write, the second has none
   pub none_at_second : (start remaining : State S) (replies shown again : List (Reply E)) (place other : ℕ) (id : ObjectId) (error : CompareError)
-      → start ≡ started store object_hash [] → IsRun means answers start commands replies remaining
+      → start ≡ started store object_hash [] → IsRun model answers start commands replies remaining
       → shown ≡ replies → again ≡ replies → NamesWritten shown place id → error ≡ compare.NoWrite other → written_at again other ≡ None
-      → IsComparisonError means answers store object_hash commands place other error
+      → IsComparisonError model answers store object_hash commands place other error
   none_at_second start remaining replies shown again place other id error new run is_shown is_again (first, first_at, first_is) is none =
       let here : written_at replies other ≡ None = subst (λ (rs : List (Reply E)). written_at rs other ≡ None) is_again none in
       let there : written_at replies place ≡ Some first = subst (λ (rs : List (Reply E)). written_at rs place ≡ Some first) is_shown first_at in
-      subst (λ (e : CompareError). IsComparisonError means answers store object_hash commands place other e) (sym is)
+      subst (λ (e : CompareError). IsComparisonError model answers store object_hash commands place other e) (sym is)
       (replies, replied start remaining replies new run, (here, inr (refl, λ missing. let both : Some first ≡ None = sym there ∙ missing in cc both)))

@@ -5,7 +5,7 @@ use Rattle.std.proofs.lemmas.List.{length-append, take_all}
 use Rattle.std.specs.Option.{option_to_list}
 use Rattle.std.specs.Prelude.{◌<◌, ◌↔◌, IfSome, IsNone, IsSome, slice_get}
 use Rattle.gix_object.specs.Files.{NamedFiles, SameFiles}
-use Rattle.gix_object.specs.History.{History}
+use Rattle.gix_object.specs.History.{FilesAfter}
 use Rattle.gix_object.specs.Imports.{AreCommitsOf, HaveFilesOfNothing, edits_of}
 use Rattle.gix_object.specs.PlainHistory.{NoFiles}
 use Rattle.gix_object.specs.Stores.{Objects}
@@ -66,7 +66,7 @@ is_tip_of_last_import objects final hash steps imported earlier tip is commits f
       one_each = last.one_each;
       commit = last.commit;
       files = λ T n agrees.
-          subst (λ (ss : List Step). SameFiles (NamedFiles T n tip.written.id) (History T n (edits_of ss) NoFiles))
+          subst (λ (ss : List Step). SameFiles (NamedFiles T n tip.written.id) (FilesAfter T n (edits_of ss) NoFiles))
           (take_all (suc (length earlier)) steps (omega (arith, count)))
           (subst (λ (all : List Imported). HaveFilesOfNothing objects steps all) is files T n agrees (length earlier) tip (found_last earlier tip));
     }

@@ -5,8 +5,8 @@ use Rattle.std.proofs.lemmas.List.Elements.{All-append, All-cons, All-map, All-n
 use Rattle.std.specs.List.{AllByRecursion}
 use Rattle.gix_object.specs.Entries.{Pair, EachLater, EntryView, IsWellFormed}
 use Rattle.gix_object.specs.Edits.{raised}
-use Rattle.gix_object.specs.Files.{Has, Path}
-use Rattle.gix_object.specs.Emission.{Emits, EmitsBelow, EmitsEntries, emptied, end, of_entries, unopened, unchanged, written}
+use Rattle.gix_object.specs.Files.{ContainsEntry, Path}
+use Rattle.gix_object.specs.Emission.{Emits, EmitsBelow, EmitsEntries, left_out_if_empty, end, of_entries, unopened, unchanged, written}
 use Rattle.gix_object.specs.Opening.{Dirs, HasAt, IsOpened, in_dir}
 use Rattle.gix_object.specs.hash.hash.object_id.ObjectId.{ObjectId}
 use Rattle.gixobj_callers.proofs.Once.{IsOf, IsPerhaps, Starts, once_under_append_append, entry_name_ne, starts_under_append_append, starts_cons, under}
@@ -111,7 +111,7 @@ module _ (dirs bases : Dirs) where
   -- each open directory below these entries is one of them
   abbrev AreParts : List EntryView → (pairs : List Pair) (saved : ℕ) → Parts pairs saved → Type 0
   AreParts entries pairs saved parts =
-      Closed dirs → (e : EntryView) → Has entries e → (path : Path) (there : List EntryView) → dirs (e.name ∷ path) ≡ Some there
+      Closed dirs → (e : EntryView) → ContainsEntry entries e → (path : Path) (there : List EntryView) → dirs (e.name ∷ path) ≡ Some there
       → IsIn pairs saved parts (e.name ∷ path)
 
   -- each open directory below this one is one of them
@@ -310,7 +310,7 @@ mutual
         λ closed name path there open_there.
             let first = root_open path (in_dir name d) there (λ at. closed (name ∷ at)) open_there in
             let (e, has, named) = closed [] name first.0 first.1 in
-            let one : Has entries e = subst (λ (found : Option (List EntryView)). HasAt found e) is has in
+            let one : ContainsEntry entries e = subst (λ (found : Option (List EntryView)). HasAt found e) is has in
             subst (λ (n : List ℕ). IsSorted d b below it.0.sent it.0.spared (n ∷ path)) named
             (it.1 closed e one path there (subst (λ (n : List ℕ). d (n ∷ path) ≡ Some there) (sym named) open_there)),
         λ formed.
@@ -353,7 +353,7 @@ mutual
               spared_start = starts_cons (IsOf rest) (IsOf (e ∷ rest)) more it.0.spared once.spared_start;
             },
       )
-  walk_parted dirs bases entries pairs own saved (emptied d b e rest inner below os m n found walk) =
+  walk_parted dirs bases entries pairs own saved (left_out_if_empty d b e rest inner below os m n found walk) =
       let low = emits_below_parted (in_dir e.name d) (in_dir e.name b) inner [] m found in
       let it = walk_parted d b rest below os n walk in
       let sum : m + n ≡ m + (length {A = Path} [] + n) = omega arith in (

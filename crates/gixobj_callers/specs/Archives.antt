@@ -4,7 +4,7 @@ use Rattle.gix_object.specs.Commit.{DecodesToCommit}
 use Rattle.gix_object.specs.Commits.{step_commit, encode_step}
 use Rattle.gix_object.specs.Files.{NamedFiles, SameFiles, Table}
 use Rattle.gix_object.specs.Hash.{id_of}
-use Rattle.gix_object.specs.History.{History}
+use Rattle.gix_object.specs.History.{FilesAfter}
 use Rattle.gix_object.specs.Imports.{AgreesWithImports, IsNewImporter, edits_of}
 use Rattle.gix_object.specs.PlainHistory.{NoFiles}
 use Rattle.gix_object.specs.Steps.{Stops}
@@ -35,10 +35,10 @@ pub record IsTip (objects : Objects) (hash : hash.Kind) (steps : List Step) (tip
   pub one_each : length earlier ≡ length before
   pub commit : IsOfStep hash last tip
   pub files : (T : Table) (n : ℕ) → AgreesWithImports T objects None steps (earlier ++ tip ∷ [])
-      → SameFiles (NamedFiles T n tip.written.id) (History T n (edits_of steps) NoFiles)
+      → SameFiles (NamedFiles T n tip.written.id) (FilesAfter T n (edits_of steps) NoFiles)
 
 -- why an archive fails: on a new importer over this store, the import of the steps stops with this error
-pub record IsArchiveError {S : Type 0} (means : StoreModel S) (store : S) (hash : hash.Kind) (steps : List Step)
+pub record IsArchiveError {S : Type 0} (model : StoreModel S) (store : S) (hash : hash.Kind) (steps : List Step)
     (error : ImportError) : Type 0 where
   pub start : Importer S
   pub after : Importer S
@@ -46,4 +46,4 @@ pub record IsArchiveError {S : Type 0} (means : StoreModel S) (store : S) (hash 
   pub is_new : IsNewImporter start
   pub over : start.editor.store ≡ store
   pub ids : start.hash ≡ hash
-  pub stops : Stops means start steps done error after
+  pub stops : Stops model start steps done error after

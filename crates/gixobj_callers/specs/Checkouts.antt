@@ -31,19 +31,19 @@ insert_at prefix entry = upsert (path_from prefix entry) (mode_of_kind entry.kin
 abbrev pub steps_of_checkout : Path → List Planned → List Step
 steps_of_checkout prefix entries = ensure prefix ∷ map (insert_at prefix) entries
 
-module _ {S : Type 0} (means : StoreModel S) where
+module _ {S : Type 0} (model : StoreModel S) where
   -- a cursor at the prefix inserts the entry
   abbrev pub IsInsertedAt : Path → State S → Planned → State S → Type 0
   IsInsertedAt prefix old entry new =
-      OfTrees (means.objects old.store)
+      OfTrees (model.objects old.store)
       (λ trees. IsUpserted trees old (path_from prefix entry) (mode_of_kind entry.kind) entry.id new)
 
   -- a cursor at the prefix fails to insert the entry
   abbrev pub IsNotInsertedAt : Path → State S → Planned → Error → Type 0
   IsNotInsertedAt prefix old entry error =
-      OfTrees (means.objects old.store)
+      OfTrees (model.objects old.store)
       (λ trees. IsCursorEditError (names_of entry.path.items)
-      (IsUpsertError (means.objects old.store) (means.may_fail old.store) trees (open_dirs old)
+      (IsUpsertError (model.objects old.store) (model.may_fail old.store) trees (open_dirs old)
       (path_from prefix entry)) error)
 
   -- a cursor at the prefix inserts all entries, one after the other
@@ -60,7 +60,7 @@ module _ {S : Type 0} (means : StoreModel S) where
 
   -- the directory at the prefix is made if it is missing
   abbrev pub IsMade : State S → Path → State S → Type 0
-  IsMade old prefix new = OfTrees (means.objects old.store) (λ trees. IsEnsured trees old prefix new)
+  IsMade old prefix new = OfTrees (model.objects old.store) (λ trees. IsEnsured trees old prefix new)
 
   -- the directory at the prefix is made, and then the entries are inserted
   abbrev pub IsFilled : State S → Path → List Planned → State S → Type 0
@@ -69,8 +69,8 @@ module _ {S : Type 0} (means : StoreModel S) where
   -- the errors of filling a directory: it isn't made, or an entry isn't inserted
   abbrev pub IsNotFilled : State S → Path → List Planned → Error → Type 0
   IsNotFilled old prefix entries error =
-      OfTrees (means.objects old.store)
-      (λ trees. IsCursorError (means.objects old.store) (means.may_fail old.store) trees
+      OfTrees (model.objects old.store)
+      (λ trees. IsCursorError (model.objects old.store) (model.may_fail old.store) trees
       (open_dirs old) prefix error)
       ⊎ ((made : State S) × IsMade old prefix made × AreNotInserted prefix made entries error)
 

@@ -31,16 +31,16 @@ abbrev pub is_done : {E : Type 0} → Reply E → Bool
 is_done (reply.Edit edit_reply.Done) = true
 is_done its_reply = false
 
-module _ {S E : Type 0} (means : StoreModel S) (answers : Answers E) where
+module _ {S E : Type 0} (model : StoreModel S) (answers : Answers E) where
   -- the edits are accepted, one after the other
   abbrev pub AreEditsDone : State S → List Edit → State S → Type 0
-  AreEditsDone old edits new = AreEditReplies means answers at_root old edits (map (λ _. edit_reply.Done) edits) new
+  AreEditsDone old edits new = AreEditReplies model answers at_root old edits (map (λ _. edit_reply.Done) edits) new
 
   -- the edits are accepted, and then the write gets this reply
   pub record HasWriteReply (old : State S) (edits : List Edit) (its_reply : EditReply E) (new : State S) : Type 0 where
     pub edited : State S
     pub done : AreEditsDone old edits edited
-    pub write : IsEditReply means answers at_root edited edit.Write its_reply new
+    pub write : IsEditReply model answers at_root edited edit.Write its_reply new
 
   -- the edit with this index fails, those before it are accepted, and those after it and the write are still tried
   pub record IsEditFailedAt (old : State S) (edits : List Edit) (index : ℕ) (error : Error)
@@ -53,9 +53,9 @@ module _ {S E : Type 0} (means : StoreModel S) (answers : Answers E) where
     pub reached : State S
     pub done : AreEditsDone old before reached
     pub after : State S
-    pub cause : IsEditReply means answers at_root reached failed_edit (edit_reply.Refused error) after
+    pub cause : IsEditReply model answers at_root reached failed_edit (edit_reply.Refused error) after
     pub replies : List (Reply E)
-    pub rest : IsRun means answers after (edits_and_write following) replies new
+    pub rest : IsRun model answers after (edits_and_write following) replies new
 
   -- the result of an import by its first reply, with its index, other than that to an accepted edit
   abbrev pub Decides : State S → List Edit → ℕ → EditReply E → State S → Type 0

@@ -56,21 +56,21 @@ started store object_hash entries =
     }
 
 -- a plan: an entry of this mode and id at this path of the tree with this id in a store
-module _ {S : Type 0} (means : StoreModel S) (store : S) (root_id : ObjectId) (path : Path) (mode : ℕ)
+module _ {S : Type 0} (model : StoreModel S) (store : S) (root_id : ObjectId) (path : Path) (mode : ℕ)
     (id : ObjectId) where
   -- a new editor of the stored root inserts the entry
   pub record IsInserted (edited : State S) : Type 0 where
     pub entries : List EntryView
-    pub is_root : IsRoot (means.objects store) root_id entries
-    pub inserted : OfTrees (means.objects store)
+    pub is_root : IsRoot (model.objects store) root_id entries
+    pub inserted : OfTrees (model.objects store)
         (λ trees. IsUpserted trees (started store (id_kind root_id) entries) path mode id edited)
 
   -- a new editor of the stored root fails to insert the entry
   abbrev pub IsNotInserted : Error → Type 0
   IsNotInserted error =
-      (entries : List EntryView) × IsRoot (means.objects store) root_id entries
-      × OfTrees (means.objects store)
-      (λ trees. IsUpsertError (means.objects store) (means.may_fail store) trees
+      (entries : List EntryView) × IsRoot (model.objects store) root_id entries
+      × OfTrees (model.objects store)
+      (λ trees. IsUpsertError (model.objects store) (model.may_fail store) trees
       (open_dirs (started store (id_kind root_id) entries)) path error)
 
   -- the entry is inserted, and then the write succeeds
@@ -81,7 +81,7 @@ module _ {S : Type 0} (means : StoreModel S) (store : S) (root_id : ObjectId) (p
   -- the errors of a plan: there is no root, or the entry isn't inserted, or the write fails
   abbrev pub IsPlanError : {F E : Type 0} → (F → Pair → F → Type 0) → (F → List EntryView → E → F → Type 0) → F
       → PlanError E → Type 0
-  IsPlanError gave denied out (plan.Root error) = IsRootError (means.objects store) (means.may_fail store) root_id error
+  IsPlanError gave denied out (plan.Root error) = IsRootError (model.objects store) (model.may_fail store) root_id error
   IsPlanError gave denied out (plan.Edit error) = IsNotInserted error
   IsPlanError {F} gave denied out (plan.Write error) = (edited : State S) × (last : F) × IsInserted edited
       × Stopped gave denied (EmitsSome (open_dirs edited) (open_bases edited)) out last error

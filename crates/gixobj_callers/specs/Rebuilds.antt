@@ -28,12 +28,12 @@ NamesWritten replies place id = (written : Written) × (written_at replies place
 abbrev pub up_to : ℕ → ℕ → ℕ
 up_to place other = suc (max place other)
 
-module _ {S E : Type 0} (means : StoreModel S) (answers : Answers E) (store : S) (object_hash : hash.Kind)
+module _ {S E : Type 0} (model : StoreModel S) (answers : Answers E) (store : S) (object_hash : hash.Kind)
     (commands : List Command) where
   -- a new editor of the empty root may get these replies
   abbrev pub AreReplies : List (Reply E) → Type 0
   AreReplies replies = (remaining : State S)
-      × IsRun means answers (started store object_hash []) commands replies remaining
+      × IsRun model answers (started store object_hash []) commands replies remaining
 
   -- both indices are those of a successful write of the root, and the result is whether they name one id; if the run is
   -- plain up to the later index, it is whether their files are equal
@@ -45,7 +45,7 @@ module _ {S E : Type 0} (means : StoreModel S) (answers : Answers E) (store : S)
     pub first_at : written_at replies place ≡ Some first
     pub second_at : written_at replies other ≡ Some second
     pub ids : IsTrue same ↔ (first.id ≡ second.id)
-    pub files : (T : Table) → IsPlainRun T (means.objects store) (started store object_hash [])
+    pub files : (T : Table) → IsPlainRun T (model.objects store) (started store object_hash [])
         (take (up_to place other) commands) (take (up_to place other) replies)
         → IsTrue same ↔ SameFiles (files_before place commands replies) (files_before other commands replies)
 

@@ -13,7 +13,7 @@ use Rattle.gix_object.specs.GpgReports.{gpg_report, status_of, status_lines, tru
 use Rattle.gix_object.specs.Hash.{id_kind}
 use Rattle.gix_object.specs.Markers.{HasNoMarker}
 use Rattle.gix_object.specs.Outcomes.{OutcomeView, is_trusted, evaluated}
-use Rattle.gix_object.specs.Plans.{Carries}
+use Rattle.gix_object.specs.Plans.{CarriesOut}
 use Rattle.gix_object.specs.ProgramCalls.{Answer, CallView, OutputView, ran}
 use Rattle.gix_object.specs.SignedBytes.{signed_bytes}
 use Rattle.gix_object.specs.Signing as signing
@@ -50,7 +50,7 @@ abbrev pub IsSignedEncoding : {S : Type 0} → (S → CallView → Answer → S 
 IsSignedEncoding runs it commit old content new =
     let kind = id_kind commit.tree in
     let lines = owned_commit_lines commit in
-    (bytes : List ℕ) × Carries runs (sign_plan it (payload_of_commit kind lines)) old (signing.signature bytes) new
+    (bytes : List ℕ) × CarriesOut runs (sign_plan it (payload_of_commit kind lines)) old (signing.signature bytes) new
     × (content ≡ encode_commit (with_signature kind bytes lines))
 
 -- the errors of a signed encoding: the commit isn't signed, or the signed commit isn't encoded
@@ -123,10 +123,11 @@ pub record ReportsGood {S : Type 0} (runs : S → CallView → Answer → S → 
 -- a call for each of these principals was made, in order, and accepted none of them
 abbrev pub TriesInVain : {S : Type 0} → (S → CallView → Answer → S → Type 0) → ProgramView → SshView → List ℕ → List ℕ
     → List (List ℕ) → S → S → Type 0
-TriesInVain runs by ssh signature signed [] s t = t ≡ s
-TriesInVain {S} runs by ssh signature signed (principal ∷ principals) s t =
-    (seen : OutputView) × (m : S) × runs s (principal_call by ssh signature signed principal) (ran seen) m
-    × (accepts seen ≡ false) × TriesInVain runs by ssh signature signed principals m t
+TriesInVain runs by ssh signature signed [] before after = after ≡ before
+TriesInVain {S} runs by ssh signature signed (principal ∷ principals) before after =
+    (seen : OutputView) × (state : S)
+    × runs before (principal_call by ssh signature signed principal) (ran seen) state
+    × (accepts seen ≡ false) × TriesInVain runs by ssh signature signed principals state after
 
 -- the first call named principals. A call for each was made, in order, and the last of them was for this one: it
 -- succeeded, and its output begins with the report of a good signature. The principal is the signer if that report is

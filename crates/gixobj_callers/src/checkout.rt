@@ -5,7 +5,7 @@ ghost use Rattle.gix_object.specs.Openings.{OfTrees, AreTreesOf};
 ghost use Rattle.gix_object.specs.Cursors.{cursor_path};
 ghost use Rattle.gix_object.specs.Entries.{IsWellFormed};
 ghost use Rattle.gix_object.specs.Files.{Files, NamedFiles, SameFiles, Table, Trees};
-ghost use Rattle.gix_object.specs.History.{History};
+ghost use Rattle.gix_object.specs.History.{FilesAfter};
 ghost use Rattle.gix_object.specs.Tables.{AgreesWithPairs, AgreesWithStore};
 ghost use Rattle.gixobj_callers.specs.Checkouts.{AreNotInserted, AreInserted, IsCheckedOut, IsFilled, IsNotFilled, IsCheckoutError, steps_of_checkout};
 ghost use Rattle.gixobj_callers.specs.Plans.{started};
@@ -69,7 +69,7 @@ pub fn with_entries_at<S: Find + Drop, E: Drop, F: FnMut(&Tree) -> Result<Object
         OfTrees (S.objects store) (λ trees. (T : Table) (n : ℕ) → AgreesWithStore T trees
         → AgreesWithPairs T written.trees.items
         → SameFiles (NamedFiles T n written.id)
-        (History T n (steps_of_checkout (cursor_path (names_of prefix.now)) entries.now)
+        (FilesAfter T n (steps_of_checkout (cursor_path (names_of prefix.now)) entries.now)
         (Files T n root)))) }
     // The directory is filled, and then the write succeeds; or the error reports which of them failed, and
     // why.

@@ -5,7 +5,7 @@ ghost use Rattle.gix_object.specs.Bases.{HasBases};
 ghost use Rattle.gix_object.specs.Commit.{CommitLines, DecodesToCommit};
 ghost use Rattle.gix_object.specs.CommitWriting.{encode_commit};
 ghost use Rattle.gix_object.specs.Files.{NamedFiles, SameFiles, Table};
-ghost use Rattle.gix_object.specs.History.{History};
+ghost use Rattle.gix_object.specs.History.{FilesAfter};
 ghost use Rattle.gix_object.specs.Keeping.{with_trees};
 ghost use Rattle.gix_object.specs.Replies.{IsCallable};
 ghost use Rattle.gix_object.specs.Rewriting.{AreNormalizedPartsOfCommit};
@@ -101,7 +101,7 @@ pub fn import_files<S: Keep, E: Drop, F: Fn(&Tree) -> Result<ObjectId, E> + Drop
         → AgreesWithObjects T (S.objects editor.old.store) → AgreesWithPairs T written.trees.items
         → HasBases T (open_dirs editor.old) (open_bases editor.old)
         → SameFiles (NamedFiles T n written.id)
-        (History T n (import_steps edits.items) (EditorFiles T n editor.old))) }
+        (FilesAfter T n (import_steps edits.items) (EditorFiles T n editor.old))) }
     ensures continues { IfOk result (λ written. (T : Table) (n : ℕ)
         → AgreesWithPairs T written.trees.items
         → SameFiles (EditorFiles T n editor.new) (NamedFiles T n written.id)) }

@@ -8,7 +8,7 @@ use Rattle.gixobj_fields.specs.Writing.{RejectsNothing}
 use Rattle.gixobj_hash.specs.Hash.{id_kind}
 use Rattle.gixobj_line.specs.Commit.{CommitLines}
 use Rattle.gixobj_signature.specs.Calls.{Answer, CallView}
-use Rattle.gixobj_signature.specs.Plans.{Carries}
+use Rattle.gixobj_signature.specs.Plans.{CarriesOut}
 use Rattle.gixobj_signature.specs.Signing.{sign_options_view, sign_plan, signature}
 use Rattle.gixobj_signature.specs.declared.signature.sign.Error.{Error}
 use Rattle.gixobj_signature.specs.declared.signature.sign.Options.{Options}
@@ -45,7 +45,7 @@ module _ {S : Type 0} (runs : S → CallView → Answer → S → Type 0) (optio
         subst (λ (lines : CommitLines). commits.HasCommitSignature (id_kind it.tree) (encode_commit lines) value payload) is.lines has in
         let same : payload ≡ commit.payload_of_commit (id_kind it.tree) (commit_views.owned_commit_lines it) =
         payload_extracted (id_kind it.tree) (commit_views.owned_commit_lines it) is.bytes named (fields is.writable) value payload again in
-        (is.bytes, subst (λ (signs : List ℕ). Carries runs (sign_plan (sign_options_view options) signs) old (signature is.bytes) new) (sym same) is.called)
+        (is.bytes, subst (λ (signs : List ℕ). CarriesOut runs (sign_plan (sign_options_view options) signs) old (signature is.bytes) new) (sym same) is.called)
 
   pub tag_payload : (it : Tag) (result : Result Tag Error) → IfOk result (tag.IsSignedTag runs options it old new)
       → IfOk result (λ signed. TagPayloadIsSigned runs options (encode_tag (tag_views.owned_tag_lines signed)) old new)

@@ -2,7 +2,7 @@
 use Rattle.std.specs.Prelude.{◌≡◌, ℕ, List}
 use Rattle.gixobj_hash.specs.declared.hash.kind.Kind.{Kind}
 use Rattle.gixobj_signature.specs.Calls.{Answer, CallView}
-use Rattle.gixobj_signature.specs.Plans.{Carries}
+use Rattle.gixobj_signature.specs.Plans.{CarriesOut}
 use Rattle.gixobj_signature.specs.Signing.{sign_options_view, sign_plan, signature}
 use Rattle.gixobj_signature.specs.declared.signature.sign.Options.{Options}
 use Rattle.gixobj_codec.specs.OneMarker.{HasOneMarker}
@@ -12,8 +12,8 @@ use Rattle.gixobj_ref_iter.specs.Extracting as commits
 
 -- the calls that were made carried out the plan for this payload, and led to a signature
 abbrev pub WasSigned : {S : Type 0} → (S → CallView → Answer → S → Type 0) → Options → List ℕ → S → S → Type 0
-WasSigned runs options payload old new = (bytes : List ℕ) × Carries runs (sign_plan (sign_options_view options) payload) old
-    (signature bytes) new
+WasSigned runs options payload old new =
+    (bytes : List ℕ) × CarriesOut runs (sign_plan (sign_options_view options) payload) old (signature bytes) new
 
 -- each payload that is found in the encoding of a commit was signed by the calls that were made
 abbrev pub CommitPayloadIsSigned : {S : Type 0} → (S → CallView → Answer → S → Type 0) → Options → Kind → List ℕ → S → S
@@ -27,6 +27,6 @@ pub record TagPayloadIsSigned {S : Type 0} (runs : S → CallView → Answer →
     (content : List ℕ) (old new : S) : Type 0 where
   pub payload : List ℕ
   pub bytes : List ℕ
-  pub called : Carries runs (sign_plan (sign_options_view options) payload) old (signature bytes) new
+  pub called : CarriesOut runs (sign_plan (sign_options_view options) payload) old (signature bytes) new
   pub found : HasOneMarker bytes → (passed signed : List ℕ) (format : Format)
       → tags.HasTagSignature content passed signed format → (signed ≡ payload) × (passed ≡ bytes)

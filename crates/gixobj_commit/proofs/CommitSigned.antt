@@ -13,14 +13,14 @@ use Rattle.gixobj_fields.specs.declared.encode.Error as encode
 use Rattle.gixobj_hash.specs.Hash.{id_kind}
 use Rattle.gixobj_line.specs.Commit.{CommitLines}
 use Rattle.gixobj_signature.specs.Calls.{Answer, CallView}
-use Rattle.gixobj_signature.specs.Plans.{BeginsPlan, Carries, IsCarriedOut, Plan, run_then, done, no_more}
+use Rattle.gixobj_signature.specs.Plans.{BeginsPlan, CarriesOut, IsCarriedOut, Plan, run_then, done, no_more}
 use Rattle.gixobj_signature.specs.Signing.{sign_options_view, sign_plan, signature, signer_error}
 use Rattle.gixobj_signature.specs.declared.signature.sign.Error.{Error}
 use Rattle.gixobj_signature.specs.declared.signature.sign.Error.TheVariants as sign
 use Rattle.gixobj_signature.specs.declared.signature.sign.Options.{Options}
 
 -- a plan that is carried out is begun
-pub begins_plan_of_call : {S R : Type 0} (runs : S → CallView → Answer → S → Type 0) (plan : Plan R) (s t : S) (outcome : R) → Carries runs plan s outcome t
+pub begins_plan_of_call : {S R : Type 0} (runs : S → CallView → Answer → S → Type 0) (plan : Plan R) (s t : S) (outcome : R) → CarriesOut runs plan s outcome t
     → BeginsPlan runs plan s t
 begins_plan_of_call runs (done it) s t outcome carried = carried.1
 begins_plan_of_call runs (run_then call next) s t outcome (answer, m, ran, rest) = inr (answer, m, ran, begins_plan_of_call runs (next answer) m t outcome rest)
@@ -56,7 +56,7 @@ module _ (commit other : Commit) (others : other ≡ record commit { extra_heade
       → IfOk result (IsSignedCommit runs options commit old new)
   signed runs options payload content writable old new (Ok it) (bytes, went, lines) = record {
     bytes = bytes;
-    called = subst (λ (signs : List ℕ). Carries runs (sign_plan (sign_options_view options) signs) old (signature bytes) new)
+    called = subst (λ (signs : List ℕ). CarriesOut runs (sign_plan (sign_options_view options) signs) old (signature bytes) new)
         (content ∙ ap encode_commit kept_lines) went;
     lines = lines ∙ ap (λ (of : CommitLines). with_last_header name bytes of) kept_lines
         ∙ ap (λ (it : List ℕ). with_last_header it bytes (without_headers (signature_field (id_kind commit.tree)) (owned_commit_lines commit))) named;

@@ -247,18 +247,29 @@ pub owned_commit_error_cases : (commit : Commit) (parents : List ObjectId) (enco
     × (parts ≡ (ids_written commit.tree owned_parent parents ++ encode_field (codes "author") (encode_owned_actor commit.author))
     ++ encode_field (codes "committer") (encode_owned_actor commit.committer))))
 owned_commit_error_cases commit parents encoding value parts one two (inl (illegal, is, after)) =
-    inl (codes "author" ++ 32 ∷ [], (illegal, is, refl),
-    rw one (after ∙ ap (λ (it : List ℕ). (it ++ codes "author") ++ 32 ∷ []) (owned_ids commit)
-    ∙ append_assoc (ids_written commit.tree owned_parent commit.parents.items) (codes "author") (32 ∷ [])))
+    inl (
+      codes "author" ++ 32 ∷ [],
+      (illegal, is, refl),
+      rw one (after ∙ ap (λ (it : List ℕ). (it ++ codes "author") ++ 32 ∷ []) (owned_ids commit)
+          ∙ append_assoc (ids_written commit.tree owned_parent commit.parents.items) (codes "author") (32 ∷ [])),
+    )
 owned_commit_error_cases commit parents encoding value parts one two (inr (inl (legal, illegal, is, after))) =
     let author = encode_field (codes "author") (encode_owned_actor commit.author) in
-    inr (inl (codes "committer" ++ 32 ∷ [], legal, (illegal, is, refl),
-    rw one (after ∙ ap (λ (it : List ℕ). ((it ++ author) ++ codes "committer") ++ 32 ∷ []) (owned_ids commit)
-    ∙ append_assoc (ids_written commit.tree owned_parent commit.parents.items ++ author) (codes "committer") (32 ∷ []))))
+    inr (inl (
+      codes "committer" ++ 32 ∷ [],
+      legal,
+      (illegal, is, refl),
+      rw one (after ∙ ap (λ (it : List ℕ). ((it ++ author) ++ codes "committer") ++ 32 ∷ []) (owned_ids commit)
+          ∙ append_assoc (ids_written commit.tree owned_parent commit.parents.items ++ author) (codes "committer") (32 ∷ [])),
+    ))
 owned_commit_error_cases commit parents encoding value parts one two (inr (inr (author, committer, (rejected, after)))) =
-    inr (inr (author, committer, (subst (λ (it : Option (List ℕ)). IsMessageEncodingError it value) (sym two) rejected, refl),
-    rw one (after ∙ ap (λ (it : List ℕ). (it ++ encode_field (codes "author") (encode_owned_actor commit.author)) ++ encode_field (codes "committer")
-    (encode_owned_actor commit.committer)) (owned_ids commit))))
+    inr (inr (
+      author,
+      committer,
+      (subst (λ (it : Option (List ℕ)). IsMessageEncodingError it value) (sym two) rejected, refl),
+      rw one (after ∙ ap (λ (it : List ℕ). (it ++ encode_field (codes "author") (encode_owned_actor commit.author)) ++ encode_field (codes "committer")
+          (encode_owned_actor commit.committer)) (owned_ids commit)),
+    ))
 
 -- nothing is rejected in the ids
 pub owned_commit_error_after_ids : (commit : Commit) (parents : List ObjectId) (encoding : Option BStr) → parents ≡ commit.parents.items

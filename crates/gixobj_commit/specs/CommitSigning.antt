@@ -14,7 +14,7 @@ use Rattle.gixobj_hash.specs.declared.decode.Error as decode
 use Rattle.gixobj_hash.specs.declared.hash.kind.Kind.{Kind}
 use Rattle.gixobj_line.specs.Commit.{CommitLines}
 use Rattle.gixobj_signature.specs.Calls.{Answer, CallView}
-use Rattle.gixobj_signature.specs.Plans.{Carries, IsCarriedOut}
+use Rattle.gixobj_signature.specs.Plans.{CarriesOut, IsCarriedOut}
 use Rattle.gixobj_signature.specs.Signing.{sign_options_view, sign_plan, signature, signer_error}
 use Rattle.gixobj_signature.specs.declared.signature.sign.Error.{Error}
 use Rattle.gixobj_signature.specs.declared.signature.sign.Error.TheVariants as sign
@@ -47,7 +47,7 @@ with_signature kind bytes commit = with_last_header (signature_field kind) bytes
 abbrev pub GetsCommitSignature : {S : Type 0} → (S → CallView → Answer → S → Type 0) → Options → List ℕ → List ℕ
     → Commit → S → S → Commit → Type 0
 GetsCommitSignature runs options payload field commit old new signed =
-    (bytes : List ℕ) × Carries runs (sign_plan (sign_options_view options) payload) old (signature bytes) new
+    (bytes : List ℕ) × CarriesOut runs (sign_plan (sign_options_view options) payload) old (signature bytes) new
     × (owned_commit_lines signed ≡ with_last_header field bytes (owned_commit_lines commit))
 
 -- the encoder rejects nothing of the commit, the signer returned a signature of its payload, and the signed commit has
@@ -55,7 +55,7 @@ GetsCommitSignature runs options payload field commit old new signed =
 pub record IsSignedCommit {S : Type 0} (runs : S → CallView → Answer → S → Type 0) (options : Options) (commit : Commit)
     (old new : S) (signed : Commit) : Type 0 where
   pub bytes : List ℕ
-  pub called : Carries runs
+  pub called : CarriesOut runs
       (sign_plan (sign_options_view options) (payload_of_commit (id_kind commit.tree) (owned_commit_lines commit))) old
       (signature bytes) new
   pub lines : owned_commit_lines signed ≡ with_signature (id_kind commit.tree) bytes (owned_commit_lines commit)

@@ -10,7 +10,7 @@ use denote.Ref.{Bor}
 use Rattle.std.proofs.lemmas.Cmp.{nat_list_cmp_total, tied_itself}
 use Rattle.bstr.specs.Owned.{bstring_bytes}
 use Rattle.gixobj_files.specs.Editing.{has_tree, same_name}
-use Rattle.gixobj_files.specs.Files.{Has, Path}
+use Rattle.gixobj_files.specs.Files.{ContainsEntry, Path}
 use Rattle.gixobj_files.proofs.HasTrees.{entry_of_has_tree}
 use Rattle.gixobj_files.proofs.OpenedFiles.{same_name_false}
 use Rattle.gixobj_files.proofs.Sublists.{all_both, all_weaker}
@@ -42,7 +42,7 @@ every : {X : Type 0} (P : X → Type 0) → ((x : X) → P x) → (xs : List X) 
 every P all [] = tt
 every P all (x ∷ xs) = (all x, every P all xs)
 
-at_has : (P : EntryView → Type 0) (es : List EntryView) (x : EntryView) → Has es x → AllByRecursion P es → P x
+at_has : (P : EntryView → Type 0) (es : List EntryView) (x : EntryView) → ContainsEntry es x → AllByRecursion P es → P x
 at_has P [] x h all = absurd h
 at_has P (e ∷ es) x (inl same) all = subst P same all.0
 at_has P (e ∷ es) x (inr h) all = at_has P es x h all.1
@@ -63,7 +63,7 @@ module _ (e : EntryView) (rest : List EntryView) (apart : AllByRecursion (λ y. 
   all_after (p ∷ ps) others h = (tree_after p.0 e rest others.0 h.0, all_after ps others.1 h.1)
 
   -- an entry of tree mode with this name is the first entry
-  own_tree : (y : EntryView) → Has (e ∷ rest) y → y.name ≡ e.name → is_tree_mode y.mode ≡ true → is_tree_mode e.mode ≡ true
+  own_tree : (y : EntryView) → ContainsEntry (e ∷ rest) y → y.name ≡ e.name → is_tree_mode y.mode ≡ true → is_tree_mode e.mode ≡ true
   own_tree y (inl same) named tree = ap (λ (x : EntryView). is_tree_mode x.mode) same ∙ tree
   own_tree y (inr h) named tree = absurd (at_has (λ z. e.name ≢ z.name) rest y h apart (sym named))
 

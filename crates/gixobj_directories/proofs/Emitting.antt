@@ -18,7 +18,7 @@ use Rattle.gixobj_files.specs.Edits.{max_count, raised}
 use Rattle.gixobj_files.specs.Files.{Path, is_null}
 use Rattle.gixobj_directories.specs.Emitting.{Stopped, EmitsEntry, child_side}
 use Rattle.gixobj_hash.specs.declared.hash.object_id.ObjectId.TheVariants.{Sha1}
-use Rattle.gixobj_files.specs.Emission.{EmitsSome, EmitsBelow, EmitsEntries, emptied, end, entry_with, of_entries, unopened, unchanged, written}
+use Rattle.gixobj_files.specs.Emission.{EmitsSome, EmitsBelow, EmitsEntries, left_out_if_empty, end, entry_unless_null, of_entries, unopened, unchanged, written}
 use Rattle.gixobj_directories.specs.Nested.{Level, Opened, at_side, bases_of, dirs_of}
 use Rattle.gixobj_directories.specs.declared.open.Child.{Child}
 use Rattle.gixobj_files.specs.Opening.{Dirs, in_dir}
@@ -44,7 +44,7 @@ raised_on n (suc first) then =
 pub raised_append : (old between new first then : ℕ) → between ≡ raised old first → new ≡ raised between then → new ≡ raised old (first + then)
 raised_append old between new first then before after = after ∙ ap (λ n. raised n then) before ∙ raised_on old first then
 
-pub emits_entry_unopened : (inside based : Dirs) (e : EntryView) → inside [] ≡ None → EmitsEntry inside based e [] (entry_with e e.id) 0
+pub emits_entry_unopened : (inside based : Dirs) (e : EntryView) → inside [] ≡ None → EmitsEntry inside based e [] (entry_unless_null e e.id) 0
 emits_entry_unopened inside based e none = λ dirs bases is b entries below own more walk. walks_of_count more (0 + more) (omega arith)
     (unopened dirs bases e entries below own more (ap (λ (d : Dirs). d []) is ∙ none) walk)
 
@@ -63,13 +63,13 @@ in_it inside based dirs bases name is b inner own saved found = subst (λ (d : D
 
 pub emits_entry_emptied : (inside based : Dirs) (e : EntryView) (inner : List Pair) (own : List EntryView) (saved : ℕ) → own ≡ []
     → EmitsBelow inside based inner own saved → EmitsEntry inside based e inner [] saved
-emits_entry_emptied inside based e inner [] saved is found = λ dirs bases same b entries below own more walk. emptied dirs bases e entries inner below own
+emits_entry_emptied inside based e inner [] saved is found = λ dirs bases same b entries below own more walk. left_out_if_empty dirs bases e entries inner below own
     saved more
     (in_it inside based dirs bases e.name same b inner [] saved found) walk
 emits_entry_emptied inside based e inner (x ∷ xs) saved is found = absurd (cc is)
 
 pub emits_entry_written : (inside based : Dirs) (e : EntryView) (inner : List Pair) (tree : List EntryView) (saved : ℕ) (id : ObjectId) → tree ≢ []
-    → based [] ≢ Some tree → EmitsBelow inside based inner tree saved → EmitsEntry inside based e (inner ++ (id, tree) ∷ []) (entry_with e id) saved
+    → based [] ≢ Some tree → EmitsBelow inside based inner tree saved → EmitsEntry inside based e (inner ++ (id, tree) ∷ []) (entry_unless_null e id) saved
 emits_entry_written inside based e inner [] saved id filled changed found = absurd (filled refl)
 emits_entry_written inside based e inner (first ∷ rest) saved id filled changed found =
     λ dirs bases same b entries below own more walk. rw append_assoc
@@ -78,7 +78,7 @@ emits_entry_written inside based e inner (first ∷ rest) saved id filled change
     (λ is. changed (sym (ap (λ (d : Dirs). d []) b) ∙ is)) walk)
 
 pub emits_entry_unchanged : (inside based : Dirs) (e : EntryView) (inner : List Pair) (tree : List EntryView) (saved : ℕ) → tree ≢ [] → based [] ≡ Some tree
-    → EmitsBelow inside based inner tree saved → EmitsEntry inside based e inner (entry_with e e.id) (saved + 1)
+    → EmitsBelow inside based inner tree saved → EmitsEntry inside based e inner (entry_unless_null e e.id) (saved + 1)
 emits_entry_unchanged inside based e inner [] saved filled is found = absurd (filled refl)
 emits_entry_unchanged inside based e inner (first ∷ rest) saved filled is found =
     λ dirs bases same b entries below own more walk. unchanged dirs bases e first entries rest inner below own saved more
@@ -97,14 +97,14 @@ emits_entry_open inside based e inner [] saved found = ([], [], saved, rw append
 emits_entry_open inside based e inner (first ∷ rest) saved found =
     ⊎_elim (λ same. (
       [],
-      entry_with e e.id,
+      entry_unless_null e e.id,
       saved + 1,
       rw append-nil
           (emits_entry_unchanged inside based e inner (first ∷ rest) saved (λ q. cc q) same found),
     ))
     (λ other. (
       (e.id, first ∷ rest) ∷ [],
-      entry_with e e.id,
+      entry_unless_null e e.id,
       saved,
       emits_entry_written inside based e inner (first ∷ rest) saved e.id
           (λ q. cc q) other found,
@@ -172,12 +172,12 @@ pub walk_exists : (n : ℕ) (dirs bases : Dirs) → ((path : Path) → n ≤ len
 walk_exists n dirs bases bound [] = ([], [], 0, end dirs bases)
 walk_exists zero dirs bases bound (e ∷ entries) =
     let rest = walk_exists zero dirs bases bound entries in
-    (rest.0, entry_with e e.id ++ rest.1, rest.2, unopened dirs bases e entries rest.0 rest.1 rest.2 (bound (e.name ∷ []) (omega arith)) rest.3)
+    (rest.0, entry_unless_null e e.id ++ rest.1, rest.2, unopened dirs bases e entries rest.0 rest.1 rest.2 (bound (e.name ∷ []) (omega arith)) rest.3)
 walk_exists (suc n) dirs bases bound (e ∷ entries) =
     let rest = walk_exists (suc n) dirs bases bound entries in
     elim (dirs (e.name ∷ [])) as (λ o. dirs (e.name ∷ []) ≡ o → (below : List Pair) × (own : List EntryView) × (saved : ℕ)
     × EmitsEntries dirs bases (e ∷ entries) below own saved) [
-      | None ↦ λ is. (rest.0, entry_with e e.id ++ rest.1, rest.2, unopened dirs bases e entries rest.0 rest.1 rest.2 is rest.3)
+      | None ↦ λ is. (rest.0, entry_unless_null e e.id ++ rest.1, rest.2, unopened dirs bases e entries rest.0 rest.1 rest.2 is rest.3)
       | Some es ↦ λ is. let inner = walk_exists n (in_dir e.name dirs) (in_dir e.name bases) (λ path long. bound (e.name ∷ path) (omega (arith, long)))
           es in
           let seen = emits_entry_open (in_dir e.name dirs) (in_dir e.name bases) e inner.0 inner.1 inner.2
@@ -217,7 +217,7 @@ walk_exists_of_open ds entries = walk_exists (longest ds) (dirs_of ds) (bases_of
 
 -- a property of an entry and of the others holds of the list with the entry, if its id isn't null
 kept_all : (P : EntryView → Type 0) (e : EntryView) (id : ObjectId) (os : List EntryView) → P (record { mode = e.mode; name = e.name; id = id })
-    → AllByRecursion P os → AllByRecursion P (entry_with e id ++ os)
+    → AllByRecursion P os → AllByRecursion P (entry_unless_null e id ++ os)
 kept_all P e id os h k = elim (is_null id) as (λ b. AllByRecursion P (cond b [] ((record { mode = e.mode; name = e.name; id = id }) ∷ []) ++ os))
     [ true ↦ k | false ↦ (h, k) ]
 
@@ -228,14 +228,14 @@ walk_all : (P : EntryView → Type 0) → ((e : EntryView) (id : ObjectId) → P
 walk_all P same dirs bases entries below own n (end dirs' b') h = tt
 walk_all P same dirs bases entries below own n (unopened dirs' b' e es ps os m none walk) h =
     kept_all P e e.id os (same e e.id h.0) (walk_all P same dirs' b' es ps os m walk h.1)
-walk_all P same dirs bases entries below own n (emptied dirs' b' e es inner ps os i m found walk) h = walk_all P same dirs' b' es ps os m walk h.1
+walk_all P same dirs bases entries below own n (left_out_if_empty dirs' b' e es inner ps os i m found walk) h = walk_all P same dirs' b' es ps os m walk h.1
 walk_all P same dirs bases entries below own n (written dirs' b' e first es rest inner ps os i m id found changed walk) h =
     kept_all P e id os (same e id h.0) (walk_all P same dirs' b' es ps os m walk h.1)
 walk_all P same dirs bases entries below own n (unchanged dirs' b' e first es rest inner ps os i m found same_base walk) h =
     kept_all P e e.id os (same e e.id h.0) (walk_all P same dirs' b' es ps os m walk h.1)
 
 kept_later : (R : EntryView → EntryView → Type 0) (e : EntryView) (id : ObjectId) (os : List EntryView)
-    → AllByRecursion (R (record { mode = e.mode; name = e.name; id = id })) os → EachLater R os → EachLater R (entry_with e id ++ os)
+    → AllByRecursion (R (record { mode = e.mode; name = e.name; id = id })) os → EachLater R os → EachLater R (entry_unless_null e id ++ os)
 kept_later R e id os h k = elim (is_null id) as (λ b. EachLater R (cond b [] ((record { mode = e.mode; name = e.name; id = id }) ∷ []) ++ os))
     [ true ↦ k | false ↦ (h, k) ]
 
@@ -254,14 +254,14 @@ module _ (R : EntryView → EntryView → Type 0) (remaining : (e y : EntryView)
   walk_later dirs bases entries below own n (end dirs' b') h = tt
   walk_later dirs bases entries below own n (unopened dirs' b' e es ps os m none walk) h =
       kept_later R e e.id os (later_kept_as dirs' b' e e.id es ps os m walk h.0) (walk_later dirs' b' es ps os m walk h.1)
-  walk_later dirs bases entries below own n (emptied dirs' b' e es inner ps os i m found walk) h = walk_later dirs' b' es ps os m walk h.1
+  walk_later dirs bases entries below own n (left_out_if_empty dirs' b' e es inner ps os i m found walk) h = walk_later dirs' b' es ps os m walk h.1
   walk_later dirs bases entries below own n (written dirs' b' e first es rest inner ps os i m id found changed walk) h =
       kept_later R e id os (later_kept_as dirs' b' e id es ps os m walk h.0) (walk_later dirs' b' es ps os m walk h.1)
   walk_later dirs bases entries below own n (unchanged dirs' b' e first es rest inner ps os i m found same_base walk) h =
       kept_later R e e.id os (later_kept_as dirs' b' e e.id es ps os m walk h.0) (walk_later dirs' b' es ps os m walk h.1)
 
 kept_filled : (e : EntryView) (id : ObjectId) (os : List EntryView) → AllByRecursion (λ x. IsFalse (is_null x.id)) os
-    → AllByRecursion (λ x. IsFalse (is_null x.id)) (entry_with e id ++ os)
+    → AllByRecursion (λ x. IsFalse (is_null x.id)) (entry_unless_null e id ++ os)
 kept_filled e id os k = elim (is_null id) as
     (λ b. is_null id ≡ b → AllByRecursion (λ x. IsFalse (is_null x.id)) (cond b [] ((record { mode = e.mode; name = e.name; id = id }) ∷ []) ++ os))
     [ true ↦ λ is. k | false ↦ λ is. (is, k) ] refl
@@ -270,7 +270,7 @@ walk_filled : (dirs bases : Dirs) (entries : List EntryView) (below : List Pair)
     → AllByRecursion (λ x. IsFalse (is_null x.id)) own
 walk_filled dirs bases entries below own n (end dirs' b') = tt
 walk_filled dirs bases entries below own n (unopened dirs' b' e es ps os m none walk) = kept_filled e e.id os (walk_filled dirs' b' es ps os m walk)
-walk_filled dirs bases entries below own n (emptied dirs' b' e es inner ps os i m found walk) = walk_filled dirs' b' es ps os m walk
+walk_filled dirs bases entries below own n (left_out_if_empty dirs' b' e es inner ps os i m found walk) = walk_filled dirs' b' es ps os m walk
 walk_filled dirs bases entries below own n (written dirs' b' e first es rest inner ps os i m id found changed walk) =
     kept_filled e id os (walk_filled dirs' b' es ps os m walk)
 walk_filled dirs bases entries below own n (unchanged dirs' b' e first es rest inner ps os i m found same_base walk) =

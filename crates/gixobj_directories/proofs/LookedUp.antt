@@ -6,7 +6,7 @@ use Rattle.gixobj_store.specs.Lookups.{HasFirstNamed, IsPath, Name}
 use Rattle.gixobj_store.specs.Stores.{Objects, StoredObject}
 use Rattle.gixobj_fields.specs.Runs as runs
 use Rattle.gixobj_fields.specs.Runs.{complete, yields_end, yields_piece}
-use Rattle.gixobj_files.specs.Files.{Below, Files, Has, Table, Trees, is_null, resolves_to}
+use Rattle.gixobj_files.specs.Files.{Below, Files, ContainsEntry, Table, Trees, is_null, resolves_to}
 use Rattle.gixobj_files.specs.Tables.{AgreesWithStore}
 use Rattle.gixobj_hash.specs.Hash.{id_bytes}
 use Rattle.gixobj_hash.specs.declared.hash.kind.Kind.{Kind}
@@ -33,7 +33,7 @@ nothing kind e rest (content, joined, is) =
 
 -- an entry that comes after others is one of those that the iterator yields
 passed_has : (kind : Kind) (content here rest : List ℕ) (entries passed : List EntryView) (e : EntryView) → YieldsEntries kind content entries complete
-    → runs.Passes (HasEntry kind) tt content passed tt here → BeginsWithEntry kind here e rest → Has entries e
+    → runs.Passes (HasEntry kind) tt content passed tt here → BeginsWithEntry kind here e rest → ContainsEntry entries e
 passed_has kind content here rest entries [] e (yields_end _) (_, same) has =
     absurd (nothing kind e rest (subst (λ (at : List ℕ). BeginsWithEntry kind at e rest) (sym same) has))
 passed_has kind content here rest entries [] e (yields_piece _ _ _ following x more _ first on) (_, same) has =
@@ -44,7 +44,7 @@ passed_has kind content here rest entries (p ∷ passed) e (yields_piece _ _ _ f
     inr (passed_has kind following here rest more passed e on (subst (λ (at : List ℕ). runs.Passes (HasEntry kind) tt at passed tt here) same way) has)
 
 first_has : (kind : Kind) (content : List ℕ) (entries : List EntryView) (name : Name) (e : EntryView) → DecodesToTree kind content entries
-    → HasFirstNamed kind content name e → Has entries e × (e.name ≡ name)
+    → HasFirstNamed kind content name e → ContainsEntry entries e × (e.name ≡ name)
 first_has kind content entries name e is ((_, _, here, rest, (passed, on, none), has), said) =
     (passed_has kind content here rest entries passed e (yields_entries_iff kind content entries is) on has, said)
 

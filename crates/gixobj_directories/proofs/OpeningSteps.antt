@@ -13,8 +13,8 @@ use Rattle.gixobj_hash.specs.declared.hash.object_id.ObjectId.{ObjectId}
 use Rattle.bstr.specs.declared.bstring.BString.{BString}
 use Rattle.gixobj_directories.specs.Calls.{names_of}
 use Rattle.gixobj_files.specs.Editing.{same_name}
-use Rattle.gixobj_files.specs.Edits.{Finds, IsEntryOf, Opens, counted, down, found, max_count, only, stops, with_dir}
-use Rattle.gixobj_files.specs.Files.{Has, Path, Trees}
+use Rattle.gixobj_files.specs.Edits.{Finds, IsEntryOf, Opens, counted, down, found, max_count, only_open, stops, with_dir}
+use Rattle.gixobj_files.specs.Files.{ContainsEntry, Path, Trees}
 use Rattle.gixobj_directories.specs.Nested.{IsLevel, Opened, Part, dirs_of, in_part, opened, parts, with_part}
 use Rattle.gixobj_files.specs.OpeningStops.{StopsOpening, at_once, without_answer}
 use Rattle.gixobj_files.specs.OpeningStops as halting
@@ -46,22 +46,22 @@ is_entry_of_first name (x ∷ xs) e is apart =
           (inr rest.0, rest.1, λ other h n. later other h n other_name rest)
     ] refl is
   where
-    differs : (ys : List EntryView) (other : EntryView) → AllByRecursion (λ y. x.name ≢ y.name) ys → Has ys other → x.name ≢ other.name
+    differs : (ys : List EntryView) (other : EntryView) → AllByRecursion (λ y. x.name ≢ y.name) ys → ContainsEntry ys other → x.name ≢ other.name
     differs [] other h k = absurd k
     differs (y ∷ ys) other h (inl same) = λ q. h.0 (q ∙ ap (λ (z : EntryView). z.name) (sym same))
     differs (y ∷ ys) other h (inr k) = differs ys other h.1 k
 
-    only_first : (other : EntryView) → Has (x ∷ xs) other → other.name ≡ name → x ≡ e → x.name ≡ name → other ≡ e
+    only_first : (other : EntryView) → ContainsEntry (x ∷ xs) other → other.name ≡ name → x ≡ e → x.name ≡ name → other ≡ e
     only_first other (inl same) n is_e named = sym same ∙ is_e
     only_first other (inr k) n is_e named = absurd (differs xs other apart.0 k (named ∙ sym n))
 
-    later : (other : EntryView) → Has (x ∷ xs) other → other.name ≡ name → same_name x.name name ≡ false → IsEntryOf name (Some xs) e → other ≡ e
+    later : (other : EntryView) → ContainsEntry (x ∷ xs) other → other.name ≡ name → same_name x.name name ≡ false → IsEntryOf name (Some xs) e → other ≡ e
     later other (inl same) n apart_so rest =
         absurd (let yes : same_name x.name name ≡ true = (bytes_decides x.name name).1 (ap (λ (z : EntryView). z.name) same ∙ n) in let bad : true
         ≡ false = sym yes ∙ apart_so in cc bad)
     later other (inr k) n apart_so rest = rest.2 other k n
 
-pub entry_name_ne : (name : List ℕ) (es : List EntryView) → find (λ x. same_name x.name name) es ≡ None → (e : EntryView) → Has es e → e.name ≢ name
+pub entry_name_ne : (name : List ℕ) (es : List EntryView) → find (λ x. same_name x.name name) es ≡ None → (e : EntryView) → ContainsEntry es e → e.name ≢ name
 entry_name_ne name [] is e h = absurd h
 entry_name_ne name (x ∷ xs) is e h =
     elim (same_name x.name name) as (λ b. same_name x.name name ≡ b → cond b (Some x) (find (λ y. same_name y.name name) xs) ≡ None → e.name ≢ name) [
@@ -69,47 +69,47 @@ entry_name_ne name (x ∷ xs) is e h =
       | false ↦ λ other_name k. here h other_name (λ l. entry_name_ne name xs k e l)
     ] refl is
   where
-    here : Has (x ∷ xs) e → same_name x.name name ≡ false → (Has xs e → e.name ≢ name) → e.name ≢ name
+    here : ContainsEntry (x ∷ xs) e → same_name x.name name ≡ false → (ContainsEntry xs e → e.name ≢ name) → e.name ≢ name
     here (inl same) apart_so k = λ q. let yes : same_name x.name name ≡ true =
         (bytes_decides x.name name).1 (ap (λ (z : EntryView). z.name) same ∙ q) in let bad : true ≡ false = sym yes ∙ apart_so in cc bad
     here (inr l) apart_so k = k l
 
-pub counted_append : (n : ℕ) (first requested : List ObjectId) → counted (counted n first) requested ≡ counted n (first ++ requested)
-counted_append n [] requested = refl
-counted_append n (id ∷ first) requested = counted_append (min (n + 1) max_count) first requested
+pub counted_append : (n : ℕ) (first looked_up : List ObjectId) → counted (counted n first) looked_up ≡ counted n (first ++ looked_up)
+counted_append n [] looked_up = refl
+counted_append n (id ∷ first) looked_up = counted_append (min (n + 1) max_count) first looked_up
 
-pub requested_len_le_one : (trees : Trees) (id : ObjectId) (entries : List EntryView) (requested : List ObjectId) → Finds trees id entries requested
-    → length requested ≤ 1
-requested_len_le_one trees id entries requested (formed, inl h) = subst (λ (l : List ObjectId). length l ≤ 1) (sym h.2) (omega arith)
-requested_len_le_one trees id entries requested (formed, inr h) = subst (λ (l : List ObjectId). length l ≤ 1) (sym h.2) (omega arith)
+pub requested_len_le_one : (trees : Trees) (id : ObjectId) (entries : List EntryView) (looked_up : List ObjectId) → Finds trees id entries looked_up
+    → length looked_up ≤ 1
+requested_len_le_one trees id entries looked_up (formed, inl h) = subst (λ (l : List ObjectId). length l ≤ 1) (sym h.2) (omega arith)
+requested_len_le_one trees id entries looked_up (formed, inr h) = subst (λ (l : List ObjectId). length l ≤ 1) (sym h.2) (omega arith)
 
 -- in a directory without open ones its own list alone is open
-pub dirs_of_childless : (es : List EntryView) → dirs_of (opened es [] []) ≡ only es
+pub dirs_of_childless : (es : List EntryView) → dirs_of (opened es [] []) ≡ only_open es
 dirs_of_childless es = λ i at. here at i
   where
-    here : (at : Path) → dirs_of (opened es [] []) at ≡ only es at
+    here : (at : Path) → dirs_of (opened es [] []) at ≡ only_open es at
     here [] = refl
     here (name ∷ path) = refl
 
 -- a relation in the directory of a name holds in the directory above it
 abbrev pub GoesDown : (Path → Dirs → Dirs → List ObjectId → Type 0) → Type 0
 GoesDown R =
-    (name : List ℕ) (rest : Path) (dirs inner : Dirs) (e : EntryView) (entries : List EntryView) (requested : List ObjectId) → HasAt (dirs []) e
+    (name : List ℕ) (rest : Path) (dirs inner : Dirs) (e : EntryView) (entries : List EntryView) (looked_up : List ObjectId) → HasAt (dirs []) e
     → e.name ≡ name
     → dirs (name ∷ []) ≡ Some entries
-    → R rest (in_dir name dirs) inner requested → R (name ∷ rest) dirs (with_dir name inner dirs) requested
+    → R rest (in_dir name dirs) inner looked_up → R (name ∷ rest) dirs (with_dir name inner dirs) looked_up
 
 -- a relation in a directory that is opened with a fitting list holds in the directory above it
 abbrev pub GoesIn : (EntryView → List EntryView → List ObjectId → Type 0) → (Path → Dirs → Dirs → List ObjectId → Type 0) → Type 0
 GoesIn Fits R =
-    (name : List ℕ) (rest : Path) (dirs inner : Dirs) (e : EntryView) (entries : List EntryView) (first requested : List ObjectId)
+    (name : List ℕ) (rest : Path) (dirs inner : Dirs) (e : EntryView) (entries : List EntryView) (first looked_up : List ObjectId)
     → IsEntryOf name (dirs []) e
     → is_tree_mode e.mode ≡ true → ((path : Path) → dirs (name ∷ path) ≡ None)
-    → Fits e entries first → R rest (only entries) inner requested → R (name ∷ rest) dirs (with_dir name inner dirs) (first ++ requested)
+    → Fits e entries first → R rest (only_open entries) inner looked_up → R (name ∷ rest) dirs (with_dir name inner dirs) (first ++ looked_up)
 
-pub opens_stopped_at_child : {Ends : EntryView → Type 0} (trees : Trees) (es : List EntryView) (ps : List Part) → IsLevel es ps → (name : List ℕ) (rest : Path)
-    → ((path : Path) → in_part name ps path ≡ None) → ((e : EntryView) → Has es e → e.name ≡ name → Ends e)
-    → Opens Ends trees (name ∷ rest) (dirs_of (opened es [] ps)) (dirs_of (opened es [] ps)) []
+pub opens_stopped_at_child : {StopsBefore : EntryView → Type 0} (trees : Trees) (es : List EntryView) (ps : List Part) → IsLevel es ps → (name : List ℕ) (rest : Path)
+    → ((path : Path) → in_part name ps path ≡ None) → ((e : EntryView) → ContainsEntry es e → e.name ≡ name → StopsBefore e)
+    → Opens StopsBefore trees (name ∷ rest) (dirs_of (opened es [] ps)) (dirs_of (opened es [] ps)) []
 opens_stopped_at_child trees es ps level name rest none other = stops name rest (dirs_of (opened es [] ps)) other
     (λ path. dirs_of_opened_cons es [] ps name path (level_names_apart level) ∙ none path)
 
@@ -117,10 +117,10 @@ module _ (Fits : EntryView → List EntryView → List ObjectId → Type 0) (R :
     (goes_in : GoesIn Fits R) (es : List EntryView) where
   pub down_step : (cs l : List Child) → IsLevel es (parts cs) → (name : List ℕ) (rest : Path) (i : ℕ) (child next : Child) → l ≡ cs
       → Some i ≡ position (called name) l → child ≡ get_or cs i child → bstring_bytes next.name ≡ bstring_bytes child.name
-      → (entries : List EntryView) → dirs_of child.open [] ≡ Some entries → (requested : List ObjectId)
-      → R rest (dirs_of child.open) (dirs_of next.open) requested
-      → R (name ∷ rest) (dirs_of (opened es [] (parts cs))) (dirs_of (opened es [] (parts (set cs i next)))) requested
-  down_step cs l level name rest i child next same at is named entries root requested opens =
+      → (entries : List EntryView) → dirs_of child.open [] ≡ Some entries → (looked_up : List ObjectId)
+      → R rest (dirs_of child.open) (dirs_of next.open) looked_up
+      → R (name ∷ rest) (dirs_of (opened es [] (parts cs))) (dirs_of (opened es [] (parts (set cs i next)))) looked_up
+  down_step cs l level name rest i child next same at is named entries root looked_up opens =
       let old : Dirs = dirs_of (opened es [] (parts cs)) in
       let e = entry_of_has_tree name es (child_has_tree es name cs l i same at level.above) in
       let inside : in_dir name old ≡ dirs_of child.open =
@@ -130,27 +130,27 @@ module _ (Fits : EntryView → List EntryView → List ObjectId → Type 0) (R :
       (parts cs) (parts (set cs i next)) refl (level_names_apart level) (level_names_apart (is_level_set es cs i child next is named level)) name
       (dirs_of next.open)
       (becomes_of_set name cs l i child next same at is named) refl path j in
-      subst (λ (d : Dirs). R (name ∷ rest) old d requested) (sym new_is)
-      (goes_down name rest old (dirs_of next.open) e.0 entries requested e.1 e.2 (ap (λ (d : Dirs). d []) inside ∙ root)
-      (subst (λ (d : Dirs). R rest d (dirs_of next.open) requested) (sym inside) opens))
+      subst (λ (d : Dirs). R (name ∷ rest) old d looked_up) (sym new_is)
+      (goes_down name rest old (dirs_of next.open) e.0 entries looked_up e.1 e.2 (ap (λ (d : Dirs). d []) inside ∙ root)
+      (subst (λ (d : Dirs). R rest d (dirs_of next.open) looked_up) (sym inside) opens))
 
   pub found_step : (ps : List Part) → IsLevel es ps → (name : List ℕ) (rest : Path) → AllByRecursion (λ p. p.0 ≢ name) ps
       → ((path : Path) → in_part name ps path ≡ None) → (e : EntryView) → IsEntryOf name (Some es) e → is_tree_mode e.mode ≡ true
-      → (entries : List EntryView) (first requested : List ObjectId) → Fits e entries first → (inner : Opened)
-      → R rest (dirs_of (opened entries [] [])) (dirs_of inner) requested
-      → R (name ∷ rest) (dirs_of (opened es [] ps)) (dirs_of (opened es [] (with_part (name, inner) ps))) (first ++ requested)
-  found_step ps level name rest others none e entry tree entries first requested finds inner opens =
+      → (entries : List EntryView) (first looked_up : List ObjectId) → Fits e entries first → (inner : Opened)
+      → R rest (dirs_of (opened entries [] [])) (dirs_of inner) looked_up
+      → R (name ∷ rest) (dirs_of (opened es [] ps)) (dirs_of (opened es [] (with_part (name, inner) ps))) (first ++ looked_up)
+  found_step ps level name rest others none e entry tree entries first looked_up finds inner opens =
       let old : Dirs = dirs_of (opened es [] ps) in
       let more = is_level_with_part name inner es ps (has_tree_of_entry name es e entry.0 entry.1 tree) others level in
       let new_is : dirs_of (opened es [] (with_part (name, inner) ps)) ≡ with_dir name (dirs_of inner) old =
       λ j path. replaced (opened es [] ps) es es ps
       (with_part (name, inner) ps) refl (level_names_apart level) (level_names_apart more) name (dirs_of inner)
       (becomes_of_with_part name inner ps others) refl path j in
-      subst (λ (d : Dirs). R (name ∷ rest) old d (first ++ requested)) (sym new_is)
-      (goes_in name rest old (dirs_of inner) e entries first requested entry tree (λ path. dirs_of_opened_cons es [] ps name path (level_names_apart level)
+      subst (λ (d : Dirs). R (name ∷ rest) old d (first ++ looked_up)) (sym new_is)
+      (goes_in name rest old (dirs_of inner) e entries first looked_up entry tree (λ path. dirs_of_opened_cons es [] ps name path (level_names_apart level)
       ∙ none path)
       finds
-      (subst (λ (d : Dirs). R rest d (dirs_of inner) requested) (dirs_of_childless entries) opens))
+      (subst (λ (d : Dirs). R rest d (dirs_of inner) looked_up) (dirs_of_childless entries) opens))
 
 -- an option that is copied is the option of the copy
 pub option_of_copied_some : {X : Type 0} (r : Option (Bor X)) (o : Option X) (x : Bor X) → option_copied r ≡ o → r ≡ Some x → o ≡ Some x.now
@@ -162,13 +162,13 @@ option_of_copied_none r o is none = sym is ∙ ap option_copied none
 pub if_none_weaken : {X : Type 0} (r : Option X) (P : Type 0) → r ≡ None → P → IfNone r P
 if_none_weaken r P is p = subst (λ (o : Option _). IfNone o P) (sym is) p
 
-pub opens_stopped_here : {Ends : EntryView → Type 0} (trees : Trees) (es : List EntryView) (ds : Opened) (path : Path) (name : List ℕ) (rest : Path)
+pub opens_stopped_here : {StopsBefore : EntryView → Type 0} (trees : Trees) (es : List EntryView) (ds : Opened) (path : Path) (name : List ℕ) (rest : Path)
     → path ≡ name ∷ rest
     → (ps : List Part) {base : List EntryView} → opened es base ps ≡ ds → IsLevel es ps → ((at : Path) → in_part name ps at ≡ None)
-    → ((e : EntryView) → Has es e → e.name ≡ name → Ends e) → Opens Ends trees path (dirs_of ds) (dirs_of ds) []
-opens_stopped_here {Ends = Ends} trees es ds path name rest path_is ps view level none other =
-    subst (λ p. Opens Ends trees p (dirs_of ds) (dirs_of ds) []) (sym path_is)
-    (subst (λ (d : Opened). Opens Ends trees (name ∷ rest) (dirs_of d) (dirs_of d) []) view (opens_stopped_at_child trees es ps level name rest none other))
+    → ((e : EntryView) → ContainsEntry es e → e.name ≡ name → StopsBefore e) → Opens StopsBefore trees path (dirs_of ds) (dirs_of ds) []
+opens_stopped_here {StopsBefore = StopsBefore} trees es ds path name rest path_is ps view level none other =
+    subst (λ p. Opens StopsBefore trees p (dirs_of ds) (dirs_of ds) []) (sym path_is)
+    (subst (λ (d : Opened). Opens StopsBefore trees (name ∷ rest) (dirs_of d) (dirs_of d) []) view (opens_stopped_at_child trees es ps level name rest none other))
 
 -- the steps for an entire level, and a path that is known by its parts
 module _ (Fits : EntryView → List EntryView → List ObjectId → Type 0) (R : Path → Dirs → Dirs → List ObjectId → Type 0) (goes_down : GoesDown R)
@@ -176,25 +176,25 @@ module _ (Fits : EntryView → List EntryView → List ObjectId → Type 0) (R :
   pub down_in : (cs l : List Child) {base : List EntryView} → opened es base (parts cs) ≡ ds → IsLevel es (parts cs) → (i : ℕ) (child next : Child)
       → l ≡ cs
       → Some i ≡ position (called name) l → child ≡ get_or cs i child → bstring_bytes next.name ≡ bstring_bytes child.name
-      → (entries : List EntryView) → dirs_of child.open [] ≡ Some entries → (requested : List ObjectId)
-      → R rest (dirs_of child.open) (dirs_of next.open) requested
-      → R path (dirs_of ds) (dirs_of (opened es [] (parts (set cs i next)))) requested
-  down_in cs l view level i child next same at is named entries root requested opens =
-      subst (λ p. R p (dirs_of ds) (dirs_of (opened es [] (parts (set cs i next)))) requested) (sym path_is)
-      (subst (λ (d : Opened). R (name ∷ rest) (dirs_of d) (dirs_of (opened es [] (parts (set cs i next)))) requested) view
-      (down_step Fits R goes_down goes_in es cs l level name rest i child next same at is named entries root requested opens))
+      → (entries : List EntryView) → dirs_of child.open [] ≡ Some entries → (looked_up : List ObjectId)
+      → R rest (dirs_of child.open) (dirs_of next.open) looked_up
+      → R path (dirs_of ds) (dirs_of (opened es [] (parts (set cs i next)))) looked_up
+  down_in cs l view level i child next same at is named entries root looked_up opens =
+      subst (λ p. R p (dirs_of ds) (dirs_of (opened es [] (parts (set cs i next)))) looked_up) (sym path_is)
+      (subst (λ (d : Opened). R (name ∷ rest) (dirs_of d) (dirs_of (opened es [] (parts (set cs i next)))) looked_up) view
+      (down_step Fits R goes_down goes_in es cs l level name rest i child next same at is named entries root looked_up opens))
 
   pub found_in : (cs : List Child) {base : List EntryView} → opened es base (parts cs) ≡ ds → IsLevel es (parts cs)
       → AllByRecursion (λ p. p.0 ≢ name) (parts cs) → ((at : Path) → in_part name (parts cs) at ≡ None) → (e : EntryView) → IsEntryOf name (Some es) e
       → is_tree_mode e.mode ≡ true
-      → (entries : List EntryView) (first requested : List ObjectId) → Fits e entries first → (inner : Opened) (new : List Child)
-      → parts new ≡ with_part (name, inner) (parts cs) → R rest (dirs_of (opened entries [] [])) (dirs_of inner) requested
-      → R path (dirs_of ds) (dirs_of (opened es [] (parts new))) (first ++ requested)
-  found_in cs view level others none e entry tree entries first requested finds inner new is opens =
-      subst (λ p. R p (dirs_of ds) (dirs_of (opened es [] (parts new))) (first ++ requested)) (sym path_is)
-      (subst (λ (ps : List Part). R (name ∷ rest) (dirs_of ds) (dirs_of (opened es [] ps)) (first ++ requested)) (sym is)
-      (subst (λ (d : Opened). R (name ∷ rest) (dirs_of d) (dirs_of (opened es [] (with_part (name, inner) (parts cs)))) (first ++ requested)) view
-      (found_step Fits R goes_down goes_in es (parts cs) level name rest others none e entry tree entries first requested finds inner opens)))
+      → (entries : List EntryView) (first looked_up : List ObjectId) → Fits e entries first → (inner : Opened) (new : List Child)
+      → parts new ≡ with_part (name, inner) (parts cs) → R rest (dirs_of (opened entries [] [])) (dirs_of inner) looked_up
+      → R path (dirs_of ds) (dirs_of (opened es [] (parts new))) (first ++ looked_up)
+  found_in cs view level others none e entry tree entries first looked_up finds inner new is opens =
+      subst (λ p. R p (dirs_of ds) (dirs_of (opened es [] (parts new))) (first ++ looked_up)) (sym path_is)
+      (subst (λ (ps : List Part). R (name ∷ rest) (dirs_of ds) (dirs_of (opened es [] ps)) (first ++ looked_up)) (sym is)
+      (subst (λ (d : Opened). R (name ∷ rest) (dirs_of d) (dirs_of (opened es [] (with_part (name, inner) (parts cs)))) (first ++ looked_up)) view
+      (found_step Fits R goes_down goes_in es (parts cs) level name rest others none e entry tree entries first looked_up finds inner opens)))
 
 pub is_level_of_new_child : (name : List ℕ) (es : List EntryView) (cs : List Child) → IsLevel es (parts cs) → AllByRecursion (λ p. p.0 ≢ name) (parts cs)
     → (e : EntryView)
@@ -209,7 +209,7 @@ names_of_nil (name ∷ rest) h = absurd (omega (arith, h))
 
 -- the list that an entry's directory is opened with
 abbrev pub OpensAs : (EntryView → Type 0) → Trees → EntryView → List EntryView → List ObjectId → Type 0
-OpensAs Ends trees e entries first = (Ends e → ⊥) × Finds trees e.id entries first
+OpensAs StopsBefore trees e entries first = (StopsBefore e → ⊥) × Finds trees e.id entries first
 
 -- an opening ends at most before entries that aren't looked up
 pub ends_before_is_idle : (it : NotLookedUp) → IsIdle (EndsBefore it)
@@ -217,69 +217,69 @@ ends_before_is_idle not_looked_up.Opened e other = inl other
 ends_before_is_idle not_looked_up.Unopened e idle = idle
 
 -- openings, and openings that stop, hold in the directory above
-pub opens_goes_down : (Ends : EntryView → Type 0) (trees : Trees) → GoesDown (Opens Ends trees)
-opens_goes_down Ends trees name rest dirs inner e entries requested has named is opens = down name rest dirs inner e entries requested has named is opens
+pub opens_goes_down : (StopsBefore : EntryView → Type 0) (trees : Trees) → GoesDown (Opens StopsBefore trees)
+opens_goes_down StopsBefore trees name rest dirs inner e entries looked_up has named is opens = down name rest dirs inner e entries looked_up has named is opens
 
-pub opens_goes_in : (Ends : EntryView → Type 0) (trees : Trees) → GoesIn (OpensAs Ends trees) (Opens Ends trees)
-opens_goes_in Ends trees name rest dirs inner e entries first requested entry tree none finds opens =
-    found name rest dirs inner e entries first requested entry tree finds.0 none finds.1 opens
+pub opens_goes_in : (StopsBefore : EntryView → Type 0) (trees : Trees) → GoesIn (OpensAs StopsBefore trees) (Opens StopsBefore trees)
+opens_goes_in StopsBefore trees name rest dirs inner e entries first looked_up entry tree none finds opens =
+    found name rest dirs inner e entries first looked_up entry tree finds.0 none finds.1 opens
 
 abbrev pub HaltsAt : (EntryView → Type 0) → Trees → Option ObjectId → Path → Dirs → Dirs → List ObjectId → Type 0
-HaltsAt Ends trees failed_lookup path old new requested = StopsOpening Ends trees path old new requested failed_lookup
+HaltsAt StopsBefore trees failed_lookup path old new looked_up = StopsOpening StopsBefore trees path old new looked_up failed_lookup
 
-pub halts_at_goes_down : (Ends : EntryView → Type 0) (trees : Trees) (failed_lookup : Option ObjectId) → GoesDown (HaltsAt Ends trees failed_lookup)
-halts_at_goes_down Ends trees failed_lookup name rest dirs inner e entries requested has named is halts =
-    halting.down name rest dirs inner e entries requested failed_lookup has named is halts
+pub halts_at_goes_down : (StopsBefore : EntryView → Type 0) (trees : Trees) (failed_lookup : Option ObjectId) → GoesDown (HaltsAt StopsBefore trees failed_lookup)
+halts_at_goes_down StopsBefore trees failed_lookup name rest dirs inner e entries looked_up has named is halts =
+    halting.down name rest dirs inner e entries looked_up failed_lookup has named is halts
 
-pub halts_at_goes_in : (Ends : EntryView → Type 0) (trees : Trees) (failed_lookup : Option ObjectId)
-    → GoesIn (OpensAs Ends trees) (HaltsAt Ends trees failed_lookup)
-halts_at_goes_in Ends trees failed_lookup name rest dirs inner e entries first requested entry tree none finds halts =
-    halting.found name rest dirs inner e entries first requested failed_lookup entry tree finds.0 none finds.1 halts
+pub halts_at_goes_in : (StopsBefore : EntryView → Type 0) (trees : Trees) (failed_lookup : Option ObjectId)
+    → GoesIn (OpensAs StopsBefore trees) (HaltsAt StopsBefore trees failed_lookup)
+halts_at_goes_in StopsBefore trees failed_lookup name rest dirs inner e entries first looked_up entry tree none finds halts =
+    halting.found name rest dirs inner e entries first looked_up failed_lookup entry tree finds.0 none finds.1 halts
 
 -- an opening that stops at a level leaves the level unchanged
-pub stops_opening_here : (Ends : EntryView → Type 0) (trees : Trees) (path : Path) (name : List ℕ) (rest : Path) (es : List EntryView) (ds : Opened)
+pub stops_opening_here : (StopsBefore : EntryView → Type 0) (trees : Trees) (path : Path) (name : List ℕ) (rest : Path) (es : List EntryView) (ds : Opened)
     (cs new : List Child) → path ≡ name ∷ rest → {base : List EntryView} → opened es base (parts cs) ≡ ds → new ≡ cs
-    → (requested : List ObjectId) (failed_lookup : Option ObjectId)
-    → StopsOpening Ends trees (name ∷ rest) (dirs_of (opened es [] (parts cs))) (dirs_of (opened es [] (parts cs))) requested failed_lookup
-    → StopsOpening Ends trees path (dirs_of ds) (dirs_of (opened es [] (parts new))) requested failed_lookup
-stops_opening_here Ends trees path name rest es ds cs new path_is {base} view same requested failed_lookup halts =
-    subst (λ p. StopsOpening Ends trees p (dirs_of ds) (dirs_of (opened es [] (parts new))) requested failed_lookup) (sym path_is)
-    (subst (λ (d : Opened). StopsOpening Ends trees (name ∷ rest) (dirs_of ds) (dirs_of d) requested failed_lookup)
+    → (looked_up : List ObjectId) (failed_lookup : Option ObjectId)
+    → StopsOpening StopsBefore trees (name ∷ rest) (dirs_of (opened es [] (parts cs))) (dirs_of (opened es [] (parts cs))) looked_up failed_lookup
+    → StopsOpening StopsBefore trees path (dirs_of ds) (dirs_of (opened es [] (parts new))) looked_up failed_lookup
+stops_opening_here StopsBefore trees path name rest es ds cs new path_is {base} view same looked_up failed_lookup halts =
+    subst (λ p. StopsOpening StopsBefore trees p (dirs_of ds) (dirs_of (opened es [] (parts new))) looked_up failed_lookup) (sym path_is)
+    (subst (λ (d : Opened). StopsOpening StopsBefore trees (name ∷ rest) (dirs_of ds) (dirs_of d) looked_up failed_lookup)
     (sym (ap (λ (l : List Child). opened es base (parts l)) same ∙ view))
-    (subst (λ (d : Opened). StopsOpening Ends trees (name ∷ rest) (dirs_of d) (dirs_of d) requested failed_lookup) view halts))
+    (subst (λ (d : Opened). StopsOpening StopsBefore trees (name ∷ rest) (dirs_of d) (dirs_of d) looked_up failed_lookup) view halts))
 
 -- an opening stops at a directory if memory runs out
-pub stops_opening_for_memory : (Ends : EntryView → Type 0) (trees : Trees) (name : List ℕ) (rest : Path) (es : List EntryView) (cs : List Child)
+pub stops_opening_for_memory : (StopsBefore : EntryView → Type 0) (trees : Trees) (name : List ℕ) (rest : Path) (es : List EntryView) (cs : List Child)
     → IsLevel es (parts cs)
-    → ((at : Path) → in_part name (parts cs) at ≡ None) → (e : EntryView) → IsEntryOf name (Some es) e → is_tree_mode e.mode ≡ true → (Ends e → ⊥)
-    → StopsOpening Ends trees (name ∷ rest) (dirs_of (opened es [] (parts cs))) (dirs_of (opened es [] (parts cs))) [] None
-stops_opening_for_memory Ends trees name rest es cs level none e entry tree free = at_once name rest (dirs_of (opened es [] (parts cs))) e entry tree free
+    → ((at : Path) → in_part name (parts cs) at ≡ None) → (e : EntryView) → IsEntryOf name (Some es) e → is_tree_mode e.mode ≡ true → (StopsBefore e → ⊥)
+    → StopsOpening StopsBefore trees (name ∷ rest) (dirs_of (opened es [] (parts cs))) (dirs_of (opened es [] (parts cs))) [] None
+stops_opening_for_memory StopsBefore trees name rest es cs level none e entry tree free = at_once name rest (dirs_of (opened es [] (parts cs))) e entry tree free
     (λ at. dirs_of_opened_cons es [] (parts cs) name at (level_names_apart level) ∙ none at)
 
 -- an opening stops at a directory whose tree isn't found
-pub stops_opening_not_found : (Ends : EntryView → Type 0) (trees : Trees) (name : List ℕ) (rest : Path) (es : List EntryView) (cs : List Child)
+pub stops_opening_not_found : (StopsBefore : EntryView → Type 0) (trees : Trees) (name : List ℕ) (rest : Path) (es : List EntryView) (cs : List Child)
     → IsLevel es (parts cs)
-    → ((at : Path) → in_part name (parts cs) at ≡ None) → (e : EntryView) → IsEntryOf name (Some es) e → is_tree_mode e.mode ≡ true → (Ends e → ⊥)
-    → (IsNeverLookedUp e.id → ⊥) → StopsOpening Ends trees (name ∷ rest) (dirs_of (opened es [] (parts cs))) (dirs_of (opened es [] (parts cs)))
+    → ((at : Path) → in_part name (parts cs) at ≡ None) → (e : EntryView) → IsEntryOf name (Some es) e → is_tree_mode e.mode ≡ true → (StopsBefore e → ⊥)
+    → (IsNeverLookedUp e.id → ⊥) → StopsOpening StopsBefore trees (name ∷ rest) (dirs_of (opened es [] (parts cs))) (dirs_of (opened es [] (parts cs)))
     (e.id ∷ [])
     (Some e.id)
-stops_opening_not_found Ends trees name rest es cs level none e entry tree free filled =
+stops_opening_not_found StopsBefore trees name rest es cs level none e entry tree free filled =
     without_answer name rest (dirs_of (opened es [] (parts cs))) e entry tree free
     (λ at. dirs_of_opened_cons es [] (parts cs) name at (level_names_apart level) ∙ none at) filled
 
 -- the invariant of open directories holds in the directory above
 abbrev pub StaysOpened : Path → Dirs → Dirs → List ObjectId → Type 0
-StaysOpened path old new requested = IsOpened old → IsOpened new
+StaysOpened path old new looked_up = IsOpened old → IsOpened new
 
 abbrev pub IsFormedList : EntryView → List EntryView → List ObjectId → Type 0
 IsFormedList e entries first = IsWellFormed entries
 
 pub stays_opened_goes_down : GoesDown StaysOpened
-stays_opened_goes_down name rest dirs inner e entries requested has named is below =
+stays_opened_goes_down name rest dirs inner e entries looked_up has named is below =
     λ all. is_opened_with_dir name inner dirs (below (is_opened_in_dir name dirs entries is all)) all (all.above [] name entries is)
 
 pub stays_opened_goes_in : GoesIn IsFormedList StaysOpened
-stays_opened_goes_in name rest dirs inner e entries first requested entry tree none formed below =
+stays_opened_goes_in name rest dirs inner e entries first looked_up entry tree none formed below =
     λ all. is_opened_with_dir name inner dirs (below (is_opened_of_only entries formed)) all (e, entry.0, entry.1, tree)
 
 pub is_opened_after_opening : (es : List EntryView) (ds : Opened) (cs new : List Child) {base : List EntryView} → opened es base (parts cs) ≡ ds → new ≡ cs

@@ -2,7 +2,7 @@
 use Rattle.std.proofs.Common.{ℕ, List, [], ◌∷◌}
 use Rattle.std.specs.List.{AllByRecursion}
 use Rattle.gixobj_tree.specs.Entries.{EntryView, Pair}
-use Rattle.gixobj_files.specs.Emission.{EmitsBelow, EmitsEntries, emptied, end, of_entries, unopened, unchanged, written}
+use Rattle.gixobj_files.specs.Emission.{EmitsBelow, EmitsEntries, left_out_if_empty, end, of_entries, unopened, unchanged, written}
 use Rattle.gixobj_files.specs.Opening.{Dirs, in_dir}
 use Rattle.gixobj_files.proofs.StillOpened.{AreFormed}
 use Rattle.gixobj_files.proofs.Sublists.{all_append}
@@ -23,7 +23,7 @@ mutual
       → AreStorable ps
   walk_pairs dirs bases es ps own n (end d b) formed = tt
   walk_pairs dirs bases es ps own n (unopened d b e rest below os m none walk) formed = walk_pairs d b rest below os m walk formed
-  walk_pairs dirs bases es ps own n (emptied d b e rest inner below os i m found walk) formed =
+  walk_pairs dirs bases es ps own n (left_out_if_empty d b e rest inner below os i m found walk) formed =
       all_append (λ pair. IsStorable pair.1) inner below
       (emits_below_storable (in_dir e.name d) (in_dir e.name b) inner [] i found (λ path. formed (e.name ∷ path))).0
       (walk_pairs d b rest below os m walk formed)

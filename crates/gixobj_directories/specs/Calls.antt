@@ -24,15 +24,15 @@ pub record IsStorable (entries : List EntryView) : Type 0 where
 
 -- the closure may be called on each tree that may be emitted, now and after any calls that it answered with ids
 abbrev pub IsCallableOnTrees : {F : Type 0} → (F → Bor (List EntryView) → Type 0) → (F → Pair → F → Type 0) → F → Type 0
-IsCallableOnTrees {F} pre gave out = (answered : List Pair) (state : F) → FoldsTo gave out answered state
+IsCallableOnTrees {F} pre gave out = (pairs : List Pair) (state : F) → FoldsTo gave out pairs state
     → (tree : Bor (List EntryView)) → IsStorable tree.now → pre state tree
 
 -- a call on the tree of the pair returned the id of the pair
 abbrev pub answered : {F E : Type 0} → Mut F (Bor (List EntryView) × Unit {0}) (Result ObjectId E) → F → Pair → F
     → Type 0
-answered of requested pair next = CalledAt of requested pair.1 (Ok pair.0) next
+answered of before pair after = CalledAt of before pair.1 (Ok pair.0) after
 
 -- a call on the tree returned this error
 abbrev pub denied : {F E : Type 0} → Mut F (Bor (List EntryView) × Unit {0}) (Result ObjectId E) → F → List EntryView
     → E → F → Type 0
-denied of requested tree error next = CalledAt of requested tree (Err error) next
+denied of before tree error after = CalledAt of before tree (Err error) after

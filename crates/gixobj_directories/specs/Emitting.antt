@@ -5,7 +5,7 @@ use Rattle.gixobj_tree.specs.Entries.{EntryView, Pair}
 use Rattle.gixobj_hash.specs.declared.hash.object_id.ObjectId.{ObjectId}
 use Rattle.bstr.specs.Owned.{bstring_bytes}
 use Rattle.gixobj_files.specs.Editing.{same_name}
-use Rattle.gixobj_files.specs.Emission.{EmitsEntries, entry_with}
+use Rattle.gixobj_files.specs.Emission.{EmitsEntries, entry_unless_null}
 use Rattle.gixobj_files.specs.Opening.{Dirs, in_dir}
 use Rattle.gixobj_directories.specs.declared.open.Child.{Child}
 use Rattle.gixobj_directories.specs.Nested.{Level, at_side}
@@ -24,18 +24,18 @@ EmitsEntry inside based e inner kept saved =
 -- the entry with this id, or no entry if there is no id
 abbrev pub entry_if_some : EntryView → Option ObjectId → List EntryView
 entry_if_some e None = []
-entry_if_some e (Some id) = entry_with e id
+entry_if_some e (Some id) = entry_unless_null e id
 
 -- a write stopped with an error; `out` returned ids for a prefix of the emitted pairs, and then an error for the next
 -- tree, or an allocation failed
 abbrev pub Stopped : {F E : Type 0} → (F → Pair → F → Type 0) → (F → List EntryView → E → F → Type 0)
     → (List Pair → Type 0) → F → F → WriteError E → Type 0
-Stopped {F} gave rejected goes_out old new (write.Out e) =
-    (before : List Pair) × (tree : List EntryView) × (requested : F) × FoldsTo gave old before requested
-    × rejected requested tree e new
-    × ((id : ObjectId) → (rest : List Pair) × goes_out (before ++ (id, tree) ∷ rest))
-Stopped {F} gave rejected goes_out old new write.OutOfMemory = (before rest : List Pair) × FoldsTo gave old before new
-    × goes_out (before ++ rest)
+Stopped {F} gave rejected EmitsPairs old new (write.Out e) =
+    (before : List Pair) × (tree : List EntryView) × (state : F) × FoldsTo gave old before state
+    × rejected state tree e new
+    × ((id : ObjectId) → (rest : List Pair) × EmitsPairs (before ++ (id, tree) ∷ rest))
+Stopped {F} gave rejected EmitsPairs old new write.OutOfMemory = (before rest : List Pair) × FoldsTo gave old before new
+    × EmitsPairs (before ++ rest)
 
 -- the first of these open directories, if it has this name
 abbrev pub next_child : List ℕ → List Child → Option Child

@@ -12,7 +12,7 @@ ghost use Rattle.gixobj_tree.specs.Entries.{EntryView, IsEntryName, IsWellFormed
 ghost use Rattle.gixobj_mode.specs.Mode.{is_tree_mode, mode_bits};
 ghost use Rattle.gixobj_files.specs.Editing.{has_tree, same_name, with_entry, without};
 ghost use Rattle.gixobj_files.specs.Edits.{IsEntryOf, entry_at, removed_dirs, upserted_dirs, with_directory};
-ghost use Rattle.gixobj_files.specs.Files.{Has, Path};
+ghost use Rattle.gixobj_files.specs.Files.{ContainsEntry, Path};
 ghost use Rattle.gixobj_directories.specs.Calls.{names_of};
 ghost use Rattle.gixobj_directories.specs.Nested.{AreOrdered, bases_of, dirs_of, is_child_before, opened, other_parts, parts, with_part};
 ghost use Rattle.gixobj_files.specs.Bases.{edited_bases};
@@ -467,8 +467,8 @@ pub(crate) fn tree_id(tree: &Tree, name: &BString) -> Option<ObjectId>
     ensures found { IfSome result (λ id. (e : EntryView)
         × IsEntryOf (bstring_bytes name.now) (Some tree.now) e × (is_tree_mode e.mode ≡ true)
         × (e.id ≡ id)) }
-    ensures none { IfNone result ((e : EntryView) → Has tree.now e → e.name ≡ bstring_bytes name.now
-        → is_tree_mode e.mode ≡ false) }
+    ensures none { IfNone result ((e : EntryView) → ContainsEntry tree.now e
+        → e.name ≡ bstring_bytes name.now → is_tree_mode e.mode ≡ false) }
 {
     let entry = find_entry(tree, name)?;
     if entry.mode.is_tree() {

@@ -4,7 +4,7 @@ ghost use Rattle.bstr.specs.Owned.{bstring_bytes};
 ghost use Rattle.gixobj_tree.specs.Entries.{EntryView, IsWellFormed};
 ghost use Rattle.gixobj_mode.specs.Mode.{is_tree_mode};
 ghost use Rattle.gixobj_files.specs.Edits.{Finds, IsEntryOf, Opens, counted};
-ghost use Rattle.gixobj_files.specs.Files.{Has, Path};
+ghost use Rattle.gixobj_files.specs.Files.{ContainsEntry, Path};
 ghost use Rattle.gixobj_files.specs.OpeningStops.{StopsOpening};
 ghost use Rattle.gixobj_files.specs.Opening.{IsOpened};
 ghost use Rattle.gixobj_files.specs.Tables.{IsNeverLookedUp};
@@ -111,8 +111,8 @@ fn next_id(tree: &Tree, name: &BString, not_looked_up: NotLookedUp) -> Option<Ob
     ensures found { IfSome result (λ id. (e : EntryView)
         × IsEntryOf (bstring_bytes name.now) (Some tree.now) e × (is_tree_mode e.mode ≡ true)
         × (¬ EndsBefore not_looked_up e) × (e.id ≡ id)) }
-    ensures none { IfNone result ((e : EntryView) → Has tree.now e → e.name ≡ bstring_bytes name.now
-        → EndsBefore not_looked_up e) }
+    ensures none { IfNone result ((e : EntryView) → ContainsEntry tree.now e
+        → e.name ≡ bstring_bytes name.now → EndsBefore not_looked_up e) }
 {
     let id = tree_id(tree, name)?;
     if not_looked_up.ends_above(id) {
@@ -161,8 +161,8 @@ fn load<S: Find>(
     ensures well_formed { IfOk result (λ it. IsWellFormed it.0) }
     ensures base { IfOk result (λ it. it.1 ≡ it.0) }
     ensures found { IfOk result (λ it. OfTrees (S.objects store.now)
-        (λ trees. (queries : List ObjectId) × Finds trees id it.0 queries
-        × (lookups.new ≡ counted lookups.old queries))) }
+        (λ trees. (looked_up : List ObjectId) × Finds trees id it.0 looked_up
+        × (lookups.new ≡ counted lookups.old looked_up))) }
     ensures lookups { OnErr result ((¬ IsNeverLookedUp id)
         × (lookups.new ≡ counted lookups.old (id ∷ []))) }
     ensures error { IfErr result (IsDirectoryError (S.objects store.now) (S.may_fail store.now)
@@ -204,14 +204,15 @@ impl Open {
         lookups: &mut u64,
     ) -> Result<(), Error>
         ensures opened { OnOk result (OfTrees (S.objects store.now)
-            (λ trees. (queries : List ObjectId)
+            (λ trees. (looked_up : List ObjectId)
             × Opens (EndsBefore not_looked_up) trees (names_of path.now) (dirs_of self.old)
-            (dirs_of self.new) queries × (lookups.new ≡ counted lookups.old queries))) }
+            (dirs_of self.new) looked_up × (lookups.new ≡ counted lookups.old looked_up))) }
         ensures stopped_opening { IfErr result (λ error.
             OfTrees (S.objects store.now)
-            (λ trees. (queries : List ObjectId) × (failed_lookup : Option ObjectId)
+            (λ trees. (looked_up : List ObjectId) × (failed_lookup : Option ObjectId)
             × StopsOpening (EndsBefore not_looked_up) trees (names_of path.now) (dirs_of self.old)
-            (dirs_of self.new) queries failed_lookup × (lookups.new ≡ counted lookups.old queries)
+            (dirs_of self.new) looked_up failed_lookup
+            × (lookups.new ≡ counted lookups.old looked_up)
             × IsOpenErrorAt (S.objects store.now) (S.may_fail store.now) failed_lookup error)) }
         ensures still_opened { IsOpened (dirs_of self.old) → IsOpened (dirs_of self.new) }
         ensures bases { (at : Path) → bases_of self.new at

@@ -5,7 +5,7 @@ ghost use Rattle.std.specs.List.{FoldsTo};
 ghost use Rattle.std.specs.Option.{option_copied};
 ghost use Rattle.gixobj_tree.specs.Entries.{EntryView, IsWellFormed, Pair};
 ghost use Rattle.gixobj_files.specs.Bases.{edited_bases};
-ghost use Rattle.gixobj_files.specs.Edits.{only, raised, with_path};
+ghost use Rattle.gixobj_files.specs.Edits.{only_open, raised, with_path};
 ghost use Rattle.gixobj_files.specs.Files.{Path, is_null};
 ghost use Rattle.gixobj_files.specs.Emission.{EmitsSome, EmitsBelow, Saves};
 ghost use Rattle.gixobj_files.specs.Opening.{in_path};
@@ -106,7 +106,7 @@ fn emit_below<E, F: FnMut(&Tree) -> Result<ObjectId, E>>(
         let (child, tail) = next_of(remaining, entry);
         remaining = tail;
         let id = emit_entry(alloc, entry, child, out, pairs, saved)?;
-        append_entry(alloc, &mut own, base, entry, id, node.tree.entries.len())?;
+        append_unless_null(alloc, &mut own, base, entry, id, node.tree.entries.len())?;
     }
     Ok(own)
 }
@@ -282,7 +282,7 @@ fn emit<E, F: FnMut(&Tree) -> Result<ObjectId, E>>(
 
 /// Appends the entry with the id that it gets, unless that is missing or null. `room` is the maximum of
 /// entries.
-fn append_entry(
+fn append_unless_null(
     alloc: Global,
     own: &mut WrittenTree,
     base: &[Entry],
@@ -319,7 +319,7 @@ fn append_entry(
 /// null ids are left out, and so are directories whose written trees are empty.
 ///
 /// Any other open directory is changed if its written tree isn't its base. Its entry gets the id that `out`
-/// returns for it. An unchanged directory keeps its id, and is counted in [`Written::saved`].
+/// returns for it. An unchanged directory isn't emitted: it keeps its id, and [`Written::saved`] counts it.
 ///
 /// `out` must be callable on every well-formed tree without null ids, whatever it was called on before.
 ///
@@ -405,7 +405,7 @@ pub fn write_at<E, F: FnMut(&Tree) -> Result<ObjectId, E>>(
         × (it.trees.items ≡ below ++ (it.id, own) ∷ [])
         × FoldsTo (answered F.FnMut) out.old (below ++ (it.id, own) ∷ []) out.new × IsStorable own
         × ((at : Path) → dirs_of node.new at
-        ≡ with_path (names_of path.now) (only own) (dirs_of node.old) at)) }
+        ≡ with_path (names_of path.now) (only_open own) (dirs_of node.old) at)) }
     ensures bases { OnOk result ((at : Path)
         → bases_of node.new at ≡ edited_bases (dirs_of node.old) (dirs_of node.new)
         (bases_of node.old) at) }

@@ -11,7 +11,7 @@ use Rattle.gixobj_hash.specs.declared.hash.object_id.ObjectId.{ObjectId}
 use Rattle.gixobj_keep.specs.Keeping.{tree_object, with_tree, with_trees}
 use Rattle.gixobj_tree.specs.TreeDecoding.{DecodesToTree}
 use Rattle.gixobj_tree.specs.Entries.{EntryView, Pair}
-use Rattle.gixobj_editor.specs.Commands.{emitted_pairs, pairs_kept}
+use Rattle.gixobj_editor.specs.Commands.{emitted_pairs, kept_pairs}
 use Rattle.gixobj_editor.specs.RunTables.{AgreesWithObjects, AgreesWithRun, DecodesToItself}
 use Rattle.gixobj_editor.specs.declared.reply.Reply.{Reply}
 use Rattle.gixobj_editor.proofs.KeptPairs.{kept_have}
@@ -51,7 +51,7 @@ module _ (T : Table) where
       (All-tail Has pair pairs has) (All-tail DecodesToItself pair pairs reads)
 
 pub table_of_run_exists : {E : Type 0} (replies : List (Reply E)) (objects : Objects) (trees : Trees) → AreTreesOf objects trees
-    → IsConsistentWith (emitted_pairs replies) trees → All DecodesToItself (pairs_kept replies)
+    → IsConsistentWith (emitted_pairs replies) trees → All DecodesToItself (kept_pairs replies)
     → (T : Table) × AgreesWithRun T objects replies
 table_of_run_exists replies objects trees are fits reads =
     let it = fitting_table (emitted_pairs replies) trees fits in
@@ -60,7 +60,7 @@ table_of_run_exists replies objects trees are fits reads =
       it.0,
       record {
         writes = it.2;
-        stores = λ count. agrees_with_trees it.0 (take count (pairs_kept replies)) objects agrees (All-take (Has it.0) count (pairs_kept replies) has)
-            (All-take DecodesToItself count (pairs_kept replies) reads);
+        stores = λ count. agrees_with_trees it.0 (take count (kept_pairs replies)) objects agrees (All-take (Has it.0) count (kept_pairs replies) has)
+            (All-take DecodesToItself count (kept_pairs replies) reads);
       },
     )

@@ -20,7 +20,7 @@ use Rattle.gixobj_editor.specs.declared.reply.Reply.{Reply}
 use Rattle.gixobj_editor.specs.declared.reply.Reply.TheVariants as reply
 use Rattle.gixobj_store.specs.Stores.{StoreModel}
 
-module _ {S E : Type 0} (means : StoreModel S) (answers : Answers E) where
+module _ {S E : Type 0} (model : StoreModel S) (answers : Answers E) where
   -- the id is the closure's result for the tree
   abbrev pub IsAnswered : Pair → Type 0
   IsAnswered pair = answers pair.1 (Ok pair.0)
@@ -33,7 +33,7 @@ module _ {S E : Type 0} (means : StoreModel S) (answers : Answers E) where
   written at_root it old new is = called tt it.trees.items tt is.called
   written (at_cursor prefix) it old new is = called tt it.trees.items tt is.called
 
-  edit_answered : (place : Place) (old new : State S) (it : Edit) (its_reply : EditReply E) → IsEditReply means answers place old it its_reply new
+  edit_answered : (place : Place) (old new : State S) (it : Edit) (its_reply : EditReply E) → IsEditReply model answers place old it its_reply new
       → All IsAnswered (pairs_of_edit its_reply)
   edit_answered place old new edit.Write (edit_reply.Written it) is = written place it old is.between is.written
   edit_answered place old new edit.Write (edit_reply.NotKept it count error) is = written place it old is.between is.written
@@ -43,7 +43,7 @@ module _ {S E : Type 0} (means : StoreModel S) (answers : Answers E) where
   edit_answered place old new it its_reply is = absurd is
 
   edits_answered : (place : Place) (old new : State S) (edits : List Edit) (replies : List (EditReply E))
-      → AreEditReplies means answers place old edits replies new → All IsAnswered (flat_map pairs_of_edit replies)
+      → AreEditReplies model answers place old edits replies new → All IsAnswered (flat_map pairs_of_edit replies)
   edits_answered place old new [] [] is = All-nil IsAnswered
   edits_answered place old new (it ∷ edits) (its_reply ∷ replies) (between, first, rest) =
       All-append IsAnswered (pairs_of_edit its_reply) (flat_map pairs_of_edit replies) (edit_answered place old between it its_reply first)
@@ -51,20 +51,20 @@ module _ {S E : Type 0} (means : StoreModel S) (answers : Answers E) where
   edits_answered place old new [] (its_reply ∷ replies) is = absurd is
   edits_answered place old new (it ∷ edits) [] is = absurd is
 
-  at_answered : (prefix : Path) (old new : State S) (edits : List Edit) (its_reply : Reply E) → IsReplyAt means answers prefix old edits its_reply new
+  at_answered : (prefix : Path) (old new : State S) (edits : List Edit) (its_reply : Reply E) → IsReplyAt model answers prefix old edits its_reply new
       → All IsAnswered (pairs_of its_reply)
   at_answered prefix old new edits (reply.At replies) (between, ensured, rest) = edits_answered (at_cursor prefix) between new edits replies.items rest
   at_answered prefix old new edits (reply.AtRefused error) is = All-nil IsAnswered
   at_answered prefix old new edits its_reply is = absurd is
 
-  command_answered : (old new : State S) (it : Command) (its_reply : Reply E) → IsReply means answers old it its_reply new → All IsAnswered (pairs_of its_reply)
+  command_answered : (old new : State S) (it : Command) (its_reply : Reply E) → IsReply model answers old it its_reply new → All IsAnswered (pairs_of its_reply)
   command_answered old new (command.Edit it) (reply.Edit its_reply) is = edit_answered at_root old new it its_reply is
   command_answered old new (command.At prefix edits) its_reply is = at_answered (cursor_path (names_of prefix.items)) old new edits.items its_reply is
   command_answered old new (command.SetRoot entries) reply.RootSet is = All-nil IsAnswered
   command_answered old new (command.SetRoot entries) reply.RootRefused is = All-nil IsAnswered
   command_answered old new it its_reply is = absurd is
 
-  pub run_answered : (old new : State S) (commands : List Command) (replies : List (Reply E)) → IsRun means answers old commands replies new
+  pub run_answered : (old new : State S) (commands : List Command) (replies : List (Reply E)) → IsRun model answers old commands replies new
       → All IsAnswered (emitted_pairs replies)
   run_answered old new [] [] is = All-nil IsAnswered
   run_answered old new (it ∷ commands) (its_reply ∷ replies) (between, first, rest) =

@@ -97,10 +97,10 @@ module _ {F E : Type 0} (of : Shared F (Bor (List EntryView) × Unit {0}) (Resul
     has_bases = wrote.has_bases;
   }
 
-  pub stopped : (goes_out : List Pair → Type 0) (error : WriteError E) → (last : Bor F) × Stopped (λ f p g. CalledAt lent f p.1 (Ok p.0) g)
-      (λ f t e g. CalledAt lent f t (Err e) g) goes_out out last error → AreCalls
-      → Stopped (ReturnsTreeId answers) (Denies answers) goes_out tt tt error
-  stopped goes_out (write.Out e) (last, (before, tree, between, folded, one, goes)) calls =
+  pub stopped : (EmitsPairs : List Pair → Type 0) (error : WriteError E) → (last : Bor F) × Stopped (λ f p g. CalledAt lent f p.1 (Ok p.0) g)
+      (λ f t e g. CalledAt lent f t (Err e) g) EmitsPairs out last error → AreCalls
+      → Stopped (ReturnsTreeId answers) (Denies answers) EmitsPairs tt tt error
+  stopped EmitsPairs (write.Out e) (last, (before, tree, between, folded, one, goes)) calls =
       let so_far = folds out before between refl folded calls in
       (before, tree, tt, so_far.0, (answered_so between last tree (Err e) so_far.1 one calls).1, goes)
-  stopped goes_out write.OutOfMemory (last, (before, rest, folded, goes)) calls = (before, rest, (folds out before last refl folded calls).0, goes)
+  stopped EmitsPairs write.OutOfMemory (last, (before, rest, folded, goes)) calls = (before, rest, (folds out before last refl folded calls).0, goes)

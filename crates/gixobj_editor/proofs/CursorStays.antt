@@ -29,7 +29,7 @@ kept_open old new at keeps there none =
       | Some entries ↦ λ is. let bad : Some entries ≡ None = sym (keeps entries is) ∙ none in cc bad
     ] refl
 
-opened_still : {Ends : EntryView → Type 0} (trees : Trees) (path : Path) (old new : Dirs) (queries : List ObjectId) → Opens Ends trees path old new queries
+opened_still : {StopsBefore : EntryView → Type 0} (trees : Trees) (path : Path) (old new : Dirs) (queries : List ObjectId) → Opens StopsBefore trees path old new queries
     → (at : Path) → old at ≢ None → new at ≢ None
 opened_still trees path old new queries opens at there = kept_open old new at (opens_keeps_open_lists trees path old new queries opens at) there
 
@@ -46,25 +46,25 @@ stays old new same kept = (same, λ there. subst (λ (p : Path). open_dirs new p
 
 upserted_open : {S : Type 0} (trees : Trees) (old new : State S) (prefix path : Path) (mode : ℕ) (id : ObjectId)
     → IsUpserted trees old (from_root prefix path) mode id new → open_dirs old prefix ≢ None → open_dirs new prefix ≢ None
-upserted_open trees old new prefix [] mode id h there = λ none. opened_still trees [] (open_dirs old) h.opened h.requested h.opens prefix there
+upserted_open trees old new prefix [] mode id h there = λ none. opened_still trees [] (open_dirs old) h.opened h.looked_up h.opens prefix there
     (sym (h.dirs prefix) ∙ none)
 upserted_open trees old new prefix (name ∷ path) mode id h there = λ none. upserted_dirs_keep_prefix prefix name path mode id (null_id old.object_hash) h.opened
     (sym (h.dirs prefix) ∙ none)
 
-removed_open : {S : Type 0} {Ends : EntryView → Type 0} (trees : Trees) (old new : State S) (prefix path : Path)
-    → IsRemoved Ends trees old (from_root prefix path) new → open_dirs old prefix ≢ None → open_dirs new prefix ≢ None
-removed_open trees old new prefix [] h there = λ none. opened_still trees [] (open_dirs old) h.opened h.requested h.opens prefix there
+removed_open : {S : Type 0} {StopsBefore : EntryView → Type 0} (trees : Trees) (old new : State S) (prefix path : Path)
+    → IsRemoved StopsBefore trees old (from_root prefix path) new → open_dirs old prefix ≢ None → open_dirs new prefix ≢ None
+removed_open trees old new prefix [] h there = λ none. opened_still trees [] (open_dirs old) h.opened h.looked_up h.opens prefix there
     (sym (h.dirs prefix) ∙ none)
 removed_open trees old new prefix (name ∷ path) h there =
     λ none. removed_dirs_keep_prefix prefix name path h.opened
-    (opened_still trees (directory_of (prefix ++ name ∷ path)) (open_dirs old) h.opened h.requested h.opens prefix there) (sym (h.dirs prefix) ∙ none)
+    (opened_still trees (directory_of (prefix ++ name ∷ path)) (open_dirs old) h.opened h.looked_up h.opens prefix there) (sym (h.dirs prefix) ∙ none)
 
 pub stays_upserted : {S : Type 0} (trees : Trees) (old new : State S) (path : Path) (mode : ℕ) (id : ObjectId)
     → IsUpserted trees old (from_root old.prefix path) mode id new → Stays old new
 stays_upserted {S} trees old new path mode id h = stays old new (ap (λ (o : State S). o.prefix) h.rest) (upserted_open trees old new old.prefix path mode id h)
 
-pub stays_removed : {S : Type 0} {Ends : EntryView → Type 0} (trees : Trees) (old new : State S) (path : Path)
-    → IsRemoved Ends trees old (from_root old.prefix path) new → Stays old new
+pub stays_removed : {S : Type 0} {StopsBefore : EntryView → Type 0} (trees : Trees) (old new : State S) (path : Path)
+    → IsRemoved StopsBefore trees old (from_root old.prefix path) new → Stays old new
 stays_removed {S} trees old new path h = stays old new (ap (λ (o : State S). o.prefix) h.rest) (removed_open trees old new old.prefix path h)
 
 pub stays_failed : {S : Type 0} (trees : Trees) (old new : State S) (path : Path) → IsAfterFailedEdit trees old path new → Stays old new
@@ -86,17 +86,17 @@ pub edit_failure_unchanged : {S : Type 0} (trees : Trees) (old : State S) (path 
     → ((at : Path) → open_bases old at ≡ opened_bases (open_dirs old) (open_dirs old) (open_bases old) at) → IsAfterFailedEdit trees old path old
 edit_failure_unchanged trees old path all idle = record {
   not_looked_up = not_looked_up.Opened;
-  prefix = [];
+  reached = [];
   more = path;
   on_the_way = refl;
-  requested = [];
+  looked_up = [];
   opens = arrived (open_dirs old);
   bases = idle;
   stays = λ at entries is. is;
   failed_lookup = [];
-  one = omega arith;
+  at_most_one = omega arith;
   next = λ it is. absurd (cc is);
-  few = omega arith;
+  at_most_unopened = omega arith;
   lookups = refl;
   rest = refl;
   is_opened = all;

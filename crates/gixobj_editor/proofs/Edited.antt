@@ -167,8 +167,8 @@ no_error_above trees dirs it h = longer h.place (h.above.2) (h.above.3) (h.above
     longer [] next rest is = cc is
     longer (name ∷ place) next rest is = cc is
 
-pub tree_known_above : {Ends : EntryView → Type 0} → IsIdle Ends → (trees : Trees) (path head : Path) (last : List ℕ) → path ≡ head ++ last ∷ []
-    → (old new : Dirs) (queries : List ObjectId) → Opens Ends trees head old new queries → (it : ObjectId) → IsUnopenedAbove trees old path it
+pub tree_known_above : {StopsBefore : EntryView → Type 0} → IsIdle StopsBefore → (trees : Trees) (path head : Path) (last : List ℕ) → path ≡ head ++ last ∷ []
+    → (old new : Dirs) (queries : List ObjectId) → Opens StopsBefore trees head old new queries → (it : ObjectId) → IsUnopenedAbove trees old path it
     → (entries : List EntryView) × (trees it ≡ Some entries)
 tree_known_above idle trees path head last is old new queries opens it h =
     let at = h.above in
@@ -188,7 +188,7 @@ is_upserted_unchanged {S} trees old path none mode id all idle = subst (λ p. Is
     nothing = record {
       names = All-nil IsEntryName;
       opened = open_dirs old;
-      requested = [];
+      looked_up = [];
       opens = arrived (open_dirs old);
       dirs = λ at. refl;
       bases = idle;
@@ -242,7 +242,7 @@ module _ {S : Type 0} (store : S) (hash : Kind) (prefix : Path) (trees : Trees) 
       record {
         names = names;
         opened = dirs_of mid;
-        requested = queries;
+        looked_up = queries;
         opens = subst (λ p. Opens IsNoTree trees p (map_dirs ds) (dirs_of mid) queries) (sym (ap directory_of is ∙ directory_of_snoc head last)) opened;
         dirs = λ at. map_dirs_at ds' at ∙ insert_entry at;
         bases = edited_bases_of_map ds mid ds' first then;
@@ -276,28 +276,28 @@ module _ {S : Type 0} (store : S) (hash : Kind) (prefix : Path) (trees : Trees) 
       → OpenedOn ds
       → OpenedSo ds ds' → IsAfterFailedEdit trees (made ds n) path (made ds' m)
   stay it ds ds' n m path so was first =
-      let opened : Opens (EndsBefore it) trees so.prefix (map_dirs ds) (map_dirs ds') so.requested =
-      subst (λ (d : Dirs). Opens (EndsBefore it) trees so.prefix d (map_dirs ds') so.requested) (sym (map_dirs_eq ds))
-      (subst (λ (d : Dirs). Opens (EndsBefore it) trees so.prefix (dirs_of ds) d so.requested) (sym (map_dirs_eq ds')) so.opens) in
+      let opened : Opens (EndsBefore it) trees so.reached (map_dirs ds) (map_dirs ds') so.looked_up =
+      subst (λ (d : Dirs). Opens (EndsBefore it) trees so.reached d (map_dirs ds') so.looked_up) (sym (map_dirs_eq ds))
+      (subst (λ (d : Dirs). Opens (EndsBefore it) trees so.reached (dirs_of ds) d so.looked_up) (sym (map_dirs_eq ds')) so.opens) in
       record {
         not_looked_up = it;
-        prefix = so.prefix;
+        reached = so.reached;
         more = so.more;
         on_the_way = so.on_the_way;
-        requested = so.requested;
+        looked_up = so.looked_up;
         opens = opened;
         bases = only_opened_bases_of_map ds ds' first;
-        stays = opens_keeps_open_lists trees so.prefix (map_dirs ds) (map_dirs ds') so.requested opened;
+        stays = opens_keeps_open_lists trees so.reached (map_dirs ds) (map_dirs ds') so.looked_up opened;
         failed_lookup = so.failed_lookup;
-        one = so.one;
-        next = λ it is. subst (λ (d : Dirs). IsNextUnopened trees d so.prefix so.more it) (sym (map_dirs_eq ds)) (so.next it is);
+        at_most_one = so.at_most_one;
+        next = λ it is. subst (λ (d : Dirs). IsNextUnopened trees d so.reached so.more it) (sym (map_dirs_eq ds)) (so.next it is);
         lookups = so.lookups;
-        few = subst (λ (d : Dirs). length (so.requested ++ so.failed_lookup) ≤ unopened_count trees d path) (sym (map_dirs_eq ds)) so.few;
+        at_most_unopened = subst (λ (d : Dirs). length (so.looked_up ++ so.failed_lookup) ≤ unopened_count trees d path) (sym (map_dirs_eq ds)) so.at_most_unopened;
         rest = refl;
-        is_opened = map_is_opened ds' (is_opened_of_opens trees so.prefix (dirs_of ds) (dirs_of ds') so.requested so.opens was.opened);
-        files = λ T k agrees. opens_keeps_files T trees agrees so.prefix (map_dirs ds) (map_dirs ds') so.requested opened k;
+        is_opened = map_is_opened ds' (is_opened_of_opens trees so.reached (dirs_of ds) (dirs_of ds') so.looked_up so.opens was.opened);
+        files = λ T k agrees. opens_keeps_files T trees agrees so.reached (map_dirs ds) (map_dirs ds') so.looked_up opened k;
         has_bases = λ T agrees has. opened_based T trees hash (map_dirs ds) (map_bases ds) (map_dirs ds') (map_bases ds')
-            (map_is_opened_on ds was) agrees has so.prefix so.requested opened (only_opened_bases_of_map ds ds' first);
+            (map_is_opened_on ds was) agrees has so.reached so.looked_up opened (only_opened_bases_of_map ds ds' first);
       }
 
   pub stay_at : (it : NotLookedUp) (ds ds' : Opened) (n m : ℕ) (old : State S) → made ds n ≡ old → (path : Path)

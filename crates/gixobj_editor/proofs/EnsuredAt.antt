@@ -14,7 +14,7 @@ use Rattle.gixobj_files.specs.Files.{Ensured, Path, SameFiles, Trees}
 use Rattle.gixobj_files.specs.OpeningStops.{StopsOpening, IsUnopenedOnPath, IsUnopenedAbove}
 use Rattle.gixobj_files.specs.Opening.{Dirs, IsOpened, OpenFiles}
 use Rattle.gixobj_files.specs.State.{State, open_dirs}
-use Rattle.gixobj_files.specs.Unopened.{inside}
+use Rattle.gixobj_files.specs.Unopened.{in_directory}
 use Rattle.gixobj_files.proofs.BelowPrefix.{open_of_longer_open}
 use Rattle.gixobj_files.proofs.CursorFiles.{ensured_dirs_files}
 use Rattle.gixobj_files.proofs.StoppedOpenings.{halted_at, halted_unopened}
@@ -47,8 +47,8 @@ ensured_path_is_open path null mid ds ensured named is = λ none. ensured_dirs_o
     (sym (ensured path) ∙ sym (map_dirs_at ds path) ∙ subst (λ p. map_dirs ds p ≡ None) is none)
 
 -- a directory that isn't open after an opening wasn't open before it
-pub unopened_of_no_tree : {Ends : EntryView → Type 0} (trees : Trees) (path : Path) (old new : Dirs) (queries : List ObjectId)
-    → Opens Ends trees path old new queries → (at : Path) → new at ≡ None → old at ≡ None
+pub unopened_of_no_tree : {StopsBefore : EntryView → Type 0} (trees : Trees) (path : Path) (old new : Dirs) (queries : List ObjectId)
+    → Opens StopsBefore trees path old new queries → (at : Path) → new at ≡ None → old at ≡ None
 unopened_of_no_tree trees path old new queries opens at none =
     elim (old at) as (λ o. old at ≡ o → o ≡ None) [
       | None ↦ λ is. refl
@@ -99,7 +99,7 @@ module _ {S : Type 0} (store : S) (hash : Kind) (prefix : Path) (trees : Trees) 
       record {
         names = names;
         opened = dirs_of mid;
-        requested = queries;
+        looked_up = queries;
         opens = opened;
         dirs = λ at. map_dirs_at ds' at ∙ ensured at;
         bases = edited_bases_of_map ds mid ds' first then;
@@ -107,7 +107,7 @@ module _ {S : Type 0} (store : S) (hash : Kind) (prefix : Path) (trees : Trees) 
         rest = refl;
         is_opened = map_is_opened ds' (is_opened_after_ensured path (null_id hash) mid ds' (recursion_from_All IsEntryName path names)
             (is_opened_of_opens trees path (dirs_of ds) (dirs_of mid) queries opens was.opened) ensured);
-        known = tree_known_above no_tree_is_idle trees (inside path) path [] refl (map_dirs ds) (dirs_of mid) queries opened;
+        known = tree_known_above no_tree_is_idle trees (in_directory path) path [] refl (map_dirs ds) (dirs_of mid) queries opened;
         files = λ T k agrees. subst (λ (d : Dirs). SameFiles (OpenFiles T k d) (Ensured path (OpenFiles T k (map_dirs ds)))) (sym new_is)
             (ensured_dirs_files T trees agrees path (null_id hash) (map_dirs ds) (dirs_of mid) queries opened k);
         has_bases = λ T agrees has. ensured_based T trees hash (map_dirs ds) (map_bases ds) (map_dirs ds') (map_bases ds')
@@ -136,10 +136,10 @@ module _ {S : Type 0} (store : S) (hash : Kind) (prefix : Path) (trees : Trees) 
       (subst (λ (d : Dirs). IsCursorError objects may_fail trees d path (edit_error cause)) (sym (map_dirs_eq ds)) (by_cause cause failed_lookup halts at))
     where
       above : (v : Option ObjectId) → StopsOpening IsNoTree trees path (dirs_of ds) (dirs_of ds') queries v → (it : ObjectId) → v ≡ Some it
-          → IsUnopenedAbove trees (dirs_of ds) (inside path) it
+          → IsUnopenedAbove trees (dirs_of ds) (in_directory path) it
       above v h it some = (halted_at trees path [] [] (dirs_of ds) (dirs_of ds') queries v h it some).0
 
-      unopened_at : IsUnopenedOnPath IsNoTree trees (dirs_of ds) (inside path) → dirs_of ds path ≡ None
+      unopened_at : IsUnopenedOnPath IsNoTree trees (dirs_of ds) (in_directory path) → dirs_of ds path ≡ None
       unopened_at h = let begins = prefix_extends path [] h.place h.above.2 h.above.3 h.above.5 in unopened_below path
           (dirs_of ds) all h.place begins.0 begins.1 h.not_open
 

@@ -16,40 +16,40 @@ next_after : (trees : Trees) (dirs : Dirs) (head more after : Path) (it : Object
     → IsNextUnopened trees dirs head (more ++ after) it
 next_after trees dirs head more after it (name, rest, e, is, unopened, seen, named) = (name, rest ++ after, e, ap (λ p. p ++ after) is, unopened, seen, named)
 
-module _ {Ends : EntryView → Type 0} (trees : Trees) where
+module _ {StopsBefore : EntryView → Type 0} (trees : Trees) where
   -- nothing was opened
-  pub none_in_part : (path : Path) (dirs : Dirs) (n : ℕ) → OpensInPart Ends trees path dirs dirs n n
+  pub none_in_part : (path : Path) (dirs : Dirs) (n : ℕ) → OpensInPart StopsBefore trees path dirs dirs n n
   none_in_part path dirs n = record {
-    prefix = [];
+    reached = [];
     more = path;
     on_the_way = refl;
-    requested = [];
+    looked_up = [];
     opens = arrived dirs;
     failed_lookup = [];
-    one = omega arith;
+    at_most_one = omega arith;
     next = λ it is. absurd (cc is);
     lookups = refl;
-    few = omega arith;
+    at_most_unopened = omega arith;
   }
 
   -- the directories on a prefix were opened, and each lookup succeeded
-  pub prefix_in_part : (path head more : Path) → path ≡ head ++ more → (old new : Dirs) (queries : List ObjectId) → Opens Ends trees head old new queries
-      → length queries ≤ unopened_count trees old path → (n m : ℕ) → m ≡ counted n queries → OpensInPart Ends trees path old new n m
+  pub prefix_in_part : (path head more : Path) → path ≡ head ++ more → (old new : Dirs) (queries : List ObjectId) → Opens StopsBefore trees head old new queries
+      → length queries ≤ unopened_count trees old path → (n m : ℕ) → m ≡ counted n queries → OpensInPart StopsBefore trees path old new n m
   prefix_in_part path head more is old new queries opens few n m count = record {
-    prefix = head;
+    reached = head;
     more = more;
     on_the_way = is;
-    requested = queries;
+    looked_up = queries;
     opens = opens;
     failed_lookup = [];
-    one = omega arith;
+    at_most_one = omega arith;
     next = λ it is. absurd (cc is);
     lookups = count ∙ ap (counted n) (sym (append-nil queries));
-    few = subst (λ ids. length ids ≤ unopened_count trees old path) (sym (append-nil queries)) few;
+    at_most_unopened = subst (λ ids. length ids ≤ unopened_count trees old path) (sym (append-nil queries)) few;
   }
 
   pub opened_in_part : (path head : Path) (last : List ℕ) (after : Path) → path ≡ head ++ last ∷ after → (old new : Dirs) (queries : List ObjectId)
-      → Opens Ends trees head old new queries → (n m : ℕ) → m ≡ counted n queries → OpensInPart Ends trees path old new n m
+      → Opens StopsBefore trees head old new queries → (n m : ℕ) → m ≡ counted n queries → OpensInPart StopsBefore trees path old new n m
   opened_in_part path head last after is old new queries opens n m count =
       prefix_in_part path head (last ∷ after) is old new queries opens
       (subst (λ p. length queries ≤ unopened_count trees old p) (sym is) (opens_at_most trees head last after old new queries opens)) n m count
@@ -57,19 +57,19 @@ module _ {Ends : EntryView → Type 0} (trees : Trees) where
   -- the opening halted
   pub halted_in_part : (path head : Path) (last : List ℕ) (after : Path) → path ≡ head ++ last ∷ after
       → (old new : Dirs) (queries : List ObjectId) (failed_lookup : Option ObjectId)
-      → StopsOpening Ends trees head old new queries failed_lookup → (n m : ℕ) → m ≡ counted n queries → OpensInPart Ends trees path old new n m
+      → StopsOpening StopsBefore trees head old new queries failed_lookup → (n m : ℕ) → m ≡ counted n queries → OpensInPart StopsBefore trees path old new n m
   halted_in_part path head last after is old new queries failed_lookup halts n m count =
       let came = halts_opens trees head old new queries failed_lookup halts in
       record {
-        prefix = came.0;
+        reached = came.0;
         more = came.1 ++ last ∷ after;
         on_the_way = is ∙ ap (λ p. p ++ last ∷ after) came.4 ∙ append_assoc came.0 came.1 (last ∷ after);
-        requested = came.2;
+        looked_up = came.2;
         opens = came.5;
         failed_lookup = came.3;
-        one = came.7;
+        at_most_one = came.7;
         next = λ it is. next_after trees old came.0 came.1 (last ∷ after) it (came.8 it is);
         lookups = count ∙ ap (counted n) came.6;
-        few = subst (λ ids. length ids ≤ unopened_count trees old path) came.6
+        at_most_unopened = subst (λ ids. length ids ≤ unopened_count trees old path) came.6
             (subst (λ p. length queries ≤ unopened_count trees old p) (sym is) (halted_count trees head last after old new queries failed_lookup halts));
       }

@@ -3,7 +3,7 @@ use Rattle.std.proofs.Common.{All, List, [], ◌∷◌, ◌++◌}
 use Rattle.std.proofs.lemmas.List.Elements.{All-append, All-cons, All-head, All-nil, All-tail, All-take}
 use Rattle.std.specs.List.{flat_map}
 use Rattle.gixobj_tree.specs.Entries.{Pair}
-use Rattle.gixobj_editor.specs.Commands.{kept_of, kept_of_edit, emitted_pairs, pairs_kept, pairs_of, pairs_of_edit}
+use Rattle.gixobj_editor.specs.Commands.{kept_of, kept_of_edit, emitted_pairs, kept_pairs, pairs_of, pairs_of_edit}
 use Rattle.gixobj_editor.specs.declared.reply.EditReply.{EditReply}
 use Rattle.gixobj_editor.specs.declared.reply.EditReply.TheVariants as edit_reply
 use Rattle.gixobj_editor.specs.declared.reply.Reply.{Reply}
@@ -39,8 +39,8 @@ module _ (P : Pair → Type 0) where
   kept_reply reply.RootRefused all = all
 
   -- what holds of all emitted pairs holds of all kept pairs
-  pub kept_have : {E : Type 0} (replies : List (Reply E)) → All P (emitted_pairs replies) → All P (pairs_kept replies)
+  pub kept_have : {E : Type 0} (replies : List (Reply E)) → All P (emitted_pairs replies) → All P (kept_pairs replies)
   kept_have [] all = all
   kept_have (it ∷ replies) all =
-      All-append P (kept_of it) (pairs_kept replies) (kept_reply it (all_first (pairs_of it) (emitted_pairs replies) all))
+      All-append P (kept_of it) (kept_pairs replies) (kept_reply it (all_first (pairs_of it) (emitted_pairs replies) all))
       (kept_have replies (all_then (pairs_of it) (emitted_pairs replies) all))

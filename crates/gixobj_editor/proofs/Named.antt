@@ -1,5 +1,5 @@
 -- The tree that a write of the root names has the files that the accepted commands before it make; the proof of `run`
--- uses it for `headline`.
+-- uses it for `files_of_root`.
 use Rattle.std.proofs.Common.{◌≡◌, ◌∙◌, ⊎_elim, ℕ, zero, suc, List, [], ◌∷◌, ◌++◌, Some, ap, append_assoc, refl, subst, sym, take}
 use Rattle.std.specs.List.{flat_map}
 use Rattle.gixobj_editor.specs.declared.command.Command.{Command}
@@ -15,12 +15,12 @@ use Rattle.gixobj_editor.specs.Cursors.{IsEnsured, cursor_path}
 use Rattle.gixobj_files.proofs.EditedFiles.{same_files_refl}
 use Rattle.gixobj_files.specs.Bases.{HasBases}
 use Rattle.gixobj_files.specs.Files.{NamedFiles, Path, SameFiles, Table, Trees}
-use Rattle.gixobj_files.specs.History.{History, ensure}
+use Rattle.gixobj_files.specs.History.{FilesAfter, ensure}
 use Rattle.gixobj_files.specs.State.{EditorFiles, State, open_bases, open_dirs}
 use Rattle.gixobj_tree.specs.Entries.{Pair}
 use Rattle.gixobj_files.specs.Tables.{AgreesWithPairs, AgreesWithStore}
 use Rattle.gixobj_keep.specs.Keeping.{with_trees}
-use Rattle.gixobj_editor.specs.Commands.{Place, accepted_steps, at_cursor, at_root, kept_of, kept_of_edit, emitted_pairs, pairs_kept, pairs_of, pairs_of_edit, pairs_of_write, steps_at, steps_of, steps_of_edit, steps_of_edits, written_at, written_by}
+use Rattle.gixobj_editor.specs.Commands.{Place, accepted_steps, at_cursor, at_root, kept_of, kept_of_edit, emitted_pairs, kept_pairs, pairs_of, pairs_of_edit, pairs_of_write, steps_at, steps_of, steps_of_edit, steps_of_edits, written_at, written_by}
 use Rattle.gixobj_editor.specs.Replies.{Answers, AreEditReplies, IsEditReply, IsReply, IsReplyAt, IsRun, IsWriteKept, IsWrittenAt}
 use Rattle.gixobj_editor.specs.RunTables.{AgreesWithObjects, AgreesWithRun}
 use Rattle.gixobj_editor.specs.declared.reply.EditReply.{EditReply}
@@ -57,7 +57,7 @@ agrees_with_run_prefix T objects k replies agrees =
     let kept = fronted kept_of k replies in
     record {
       writes = agrees_with_prefix T (emitted_pairs (take k replies)) passed.0 (subst (λ (ps : List Pair). AgreesWithPairs T ps) passed.1 agrees.writes);
-      stores = agrees_throughout_prefix T (pairs_kept (take k replies)) kept.0 objects
+      stores = agrees_throughout_prefix T (kept_pairs (take k replies)) kept.0 objects
           (subst (λ (ps : List Pair). AgreesThroughout T ps objects) kept.1 agrees.stores);
     }
 
@@ -69,77 +69,77 @@ agrees_with_written_pairs T (r ∷ replies) agrees zero written is = subst (λ (
 agrees_with_written_pairs T (r ∷ replies) agrees (suc k) written is =
     agrees_with_written_pairs T replies (agrees_with_suffix T (pairs_of r) (emitted_pairs replies) agrees) k written is
 
-module _ {S E : Type 0} (means : StoreModel S) (answers : Answers E) where
-  pub edit_keeps : (place : Place) (old new : State S) (it : Edit) (its_reply : EditReply E) → IsEditReply means answers place old it its_reply new
-      → means.objects new.store ≡ with_trees (kept_of_edit its_reply) (means.objects old.store)
+module _ {S E : Type 0} (model : StoreModel S) (answers : Answers E) where
+  pub edit_keeps : (place : Place) (old new : State S) (it : Edit) (its_reply : EditReply E) → IsEditReply model answers place old it its_reply new
+      → model.objects new.store ≡ with_trees (kept_of_edit its_reply) (model.objects old.store)
   edit_keeps place old new (edit.Upsert path kind id) edit_reply.Done h = let it =
-      of_some _ _ h in ap (λ (s : State S). means.objects s.store) it.2.rest
+      of_some _ _ h in ap (λ (s : State S). model.objects s.store) it.2.rest
   edit_keeps place old new (edit.Upsert path kind id) (edit_reply.Refused error) h = let it =
-      of_some _ _ h.0.effect in ap (λ (s : State S). means.objects s.store) it.2.rest
-  edit_keeps place old new (edit.Remove path) edit_reply.Done h = let it = of_some _ _ h in ap (λ (s : State S). means.objects s.store) it.2.rest
+      of_some _ _ h.0.effect in ap (λ (s : State S). model.objects s.store) it.2.rest
+  edit_keeps place old new (edit.Remove path) edit_reply.Done h = let it = of_some _ _ h in ap (λ (s : State S). model.objects s.store) it.2.rest
   edit_keeps place old new (edit.Remove path) (edit_reply.Refused error) h = let it =
-      of_some _ _ h.effect in ap (λ (s : State S). means.objects s.store) it.2.rest
+      of_some _ _ h.effect in ap (λ (s : State S). model.objects s.store) it.2.rest
   edit_keeps place old new (edit.RemoveLeaf path) edit_reply.Done h = let it =
-      of_some _ _ h in ap (λ (s : State S). means.objects s.store) it.2.removed.rest
+      of_some _ _ h in ap (λ (s : State S). model.objects s.store) it.2.removed.rest
   edit_keeps place old new (edit.RemoveLeaf path) (edit_reply.Refused error) h = let it =
-      of_some _ _ h.effect in ap (λ (s : State S). means.objects s.store) it.2.rest
+      of_some _ _ h.effect in ap (λ (s : State S). model.objects s.store) it.2.rest
   edit_keeps place old new edit.Write (edit_reply.Written written) h = h.stored.0
   edit_keeps place old new edit.Write (edit_reply.NotKept written count error) h = h.stored.stored
-  edit_keeps place old new edit.Write (edit_reply.WriteRefused error) h = ap (λ (s : State S). means.objects s.store) h.unchanged
+  edit_keeps place old new edit.Write (edit_reply.WriteRefused error) h = ap (λ (s : State S). model.objects s.store) h.unchanged
   edit_keeps place old new it its_reply h = absurd h
 
   edits_keep : (place : Place) (old new : State S) (edits : List Edit) (replies : List (EditReply E))
-      → AreEditReplies means answers place old edits replies new
-      → means.objects new.store ≡ with_trees (flat_map kept_of_edit replies) (means.objects old.store)
-  edits_keep place old new [] [] h = ap (λ (s : State S). means.objects s.store) h
+      → AreEditReplies model answers place old edits replies new
+      → model.objects new.store ≡ with_trees (flat_map kept_of_edit replies) (model.objects old.store)
+  edits_keep place old new [] [] h = ap (λ (s : State S). model.objects s.store) h
   edits_keep place old new (it ∷ edits) (r ∷ replies) (between, first, rest) =
-      with_trees_append_stored (kept_of_edit r) (flat_map kept_of_edit replies) (means.objects old.store) (means.objects between.store)
-      (means.objects new.store)
+      with_trees_append_stored (kept_of_edit r) (flat_map kept_of_edit replies) (model.objects old.store) (model.objects between.store)
+      (model.objects new.store)
       (edit_keeps place old between it r first)
       (edits_keep place between new edits replies rest)
   edits_keep place old new [] (r ∷ replies) h = absurd h
   edits_keep place old new (it ∷ edits) [] h = absurd h
 
-  pub ensured_keeps : (prefix : Path) (old new : State S) → OfTrees (means.objects old.store) (λ trees. IsEnsured trees old prefix new)
-      → means.objects new.store ≡ means.objects old.store
-  ensured_keeps prefix old new h = let it = of_some _ _ h in ap (λ (s : State S). means.objects s.store) it.2.rest
+  pub ensured_keeps : (prefix : Path) (old new : State S) → OfTrees (model.objects old.store) (λ trees. IsEnsured trees old prefix new)
+      → model.objects new.store ≡ model.objects old.store
+  ensured_keeps prefix old new h = let it = of_some _ _ h in ap (λ (s : State S). model.objects s.store) it.2.rest
 
-  at_keeps : (prefix : Path) (old new : State S) (edits : List Edit) (its_reply : Reply E) → IsReplyAt means answers prefix old edits its_reply new
-      → means.objects new.store ≡ with_trees (kept_of its_reply) (means.objects old.store)
+  at_keeps : (prefix : Path) (old new : State S) (edits : List Edit) (its_reply : Reply E) → IsReplyAt model answers prefix old edits its_reply new
+      → model.objects new.store ≡ with_trees (kept_of its_reply) (model.objects old.store)
   at_keeps prefix old new edits (reply.At replies) (between, ensured, rest) =
-      with_trees_append_stored [] (flat_map kept_of_edit replies.items) (means.objects old.store) (means.objects between.store) (means.objects new.store)
+      with_trees_append_stored [] (flat_map kept_of_edit replies.items) (model.objects old.store) (model.objects between.store) (model.objects new.store)
       (ensured_keeps prefix old between ensured)
       (edits_keep (at_cursor prefix) between new edits replies.items rest)
-  at_keeps prefix old new edits (reply.AtRefused error) h = ⊎_elim (λ wanting. ap (λ (s : State S). means.objects s.store) wanting.1)
-      (λ rejected. let it = of_some _ _ rejected.0.effect in ap (λ (s : State S). means.objects s.store) it.2.rest) h
+  at_keeps prefix old new edits (reply.AtRefused error) h = ⊎_elim (λ wanting. ap (λ (s : State S). model.objects s.store) wanting.1)
+      (λ rejected. let it = of_some _ _ rejected.0.effect in ap (λ (s : State S). model.objects s.store) it.2.rest) h
   at_keeps prefix old new edits its_reply h = absurd h
 
   -- the store changes by the trees that the reply reports as kept
-  pub command_keeps : (old new : State S) (it : Command) (its_reply : Reply E) → IsReply means answers old it its_reply new
-      → means.objects new.store ≡ with_trees (kept_of its_reply) (means.objects old.store)
+  pub command_keeps : (old new : State S) (it : Command) (its_reply : Reply E) → IsReply model answers old it its_reply new
+      → model.objects new.store ≡ with_trees (kept_of its_reply) (model.objects old.store)
   command_keeps old new (command.Edit it) (reply.Edit its_reply) h = edit_keeps at_root old new it its_reply h
   command_keeps old new (command.At prefix edits) its_reply h = at_keeps (cursor_path (names_of prefix.items)) old new edits.items its_reply h
-  command_keeps old new (command.SetRoot entries) reply.RootSet h = ap (λ (s : State S). means.objects s.store) h.state
-  command_keeps old new (command.SetRoot entries) reply.RootRefused h = ap (λ (s : State S). means.objects s.store) h.1
+  command_keeps old new (command.SetRoot entries) reply.RootSet h = ap (λ (s : State S). model.objects s.store) h.state
+  command_keeps old new (command.SetRoot entries) reply.RootRefused h = ap (λ (s : State S). model.objects s.store) h.1
   command_keeps old new it its_reply h = absurd h
 
   -- a run changes the store by the pairs that its replies report as kept
-  pub run_keeps_pairs : (old new : State S) (commands : List Command) (replies : List (Reply E)) → IsRun means answers old commands replies new
-      → means.objects new.store ≡ with_trees (pairs_kept replies) (means.objects old.store)
-  run_keeps_pairs old new [] [] h = ap (λ (s : State S). means.objects s.store) h
+  pub run_keeps_pairs : (old new : State S) (commands : List Command) (replies : List (Reply E)) → IsRun model answers old commands replies new
+      → model.objects new.store ≡ with_trees (kept_pairs replies) (model.objects old.store)
+  run_keeps_pairs old new [] [] h = ap (λ (s : State S). model.objects s.store) h
   run_keeps_pairs old new (it ∷ commands) (r ∷ replies) (between, first, rest) =
-      with_trees_append_stored (kept_of r) (pairs_kept replies) (means.objects old.store) (means.objects between.store) (means.objects new.store)
+      with_trees_append_stored (kept_of r) (kept_pairs replies) (model.objects old.store) (model.objects between.store) (model.objects new.store)
       (command_keeps old between it r first) (run_keeps_pairs between new commands replies rest)
   run_keeps_pairs old new [] (r ∷ replies) h = absurd h
   run_keeps_pairs old new (it ∷ commands) [] h = absurd h
 
   module _ (T : Table) (n : ℕ) where
     -- what holds for the store's trees holds for some trees with which the table agrees
-    agreed : (old : State S) (P : Trees → Type 0) → AgreesWithObjects T (means.objects old.store) → OfTrees (means.objects old.store) P
+    agreed : (old : State S) (P : Trees → Type 0) → AgreesWithObjects T (model.objects old.store) → OfTrees (model.objects old.store) P
         → (trees : Trees)
         × AgreesWithStore T trees × P trees
     agreed old P agrees says = let it =
-        of_some (means.objects old.store) P says in (it.0, (λ id entries other is. agrees id entries other ((it.1 id entries).0 is)), it.2)
+        of_some (model.objects old.store) P says in (it.0, (λ id entries other is. agrees id entries other ((it.1 id entries).0 is)), it.2)
 
     unchanged : (old new : State S) → new ≡ old → SameFiles (EditorFiles T n new) (EditorFiles T n old)
     unchanged old new same = subst (λ (s : State S). SameFiles (EditorFiles T n s) (EditorFiles T n old)) (sym same) (same_files_refl (EditorFiles T n old))
@@ -150,7 +150,7 @@ module _ {S E : Type 0} (means : StoreModel S) (answers : Answers E) where
     written_files (at_cursor prefix) old new it h agrees has = h.same_files T n agrees has
 
     write_files : (place : Place) (old new : State S) (it : Written) (Keeps : Objects → Objects → Type 0)
-        → IsWriteKept means (IsWrittenAt answers place it old) Keeps old new → AgreesWithPairs T it.trees.items
+        → IsWriteKept model (IsWrittenAt answers place it old) Keeps old new → AgreesWithPairs T it.trees.items
         → HasBases T (open_dirs old) (open_bases old)
         → SameFiles (EditorFiles T n new) (EditorFiles T n old)
     write_files place old new it Keeps h agrees has = subst (λ (s : State S). SameFiles (EditorFiles T n s) (EditorFiles T n old)) (sym h.rest)
@@ -167,13 +167,13 @@ module _ {S E : Type 0} (means : StoreModel S) (answers : Answers E) where
     written_based (at_cursor prefix) old new it h has = h.has_bases T has
 
     write_based : (place : Place) (old new : State S) (it : Written) (Keeps : Objects → Objects → Type 0)
-        → IsWriteKept means (IsWrittenAt answers place it old) Keeps old new → HasBases T (open_dirs old) (open_bases old)
+        → IsWriteKept model (IsWrittenAt answers place it old) Keeps old new → HasBases T (open_dirs old) (open_bases old)
         → HasBases T (open_dirs new) (open_bases new)
     write_based place old new it Keeps h has = subst (λ (s : State S). HasBases T (open_dirs s) (open_bases s)) (sym h.rest)
         (written_based place old h.between it h.written has)
 
-    edit_based : (place : Place) (old new : State S) (it : Edit) (its_reply : EditReply E) → IsEditReply means answers place old it its_reply new
-        → AgreesWithObjects T (means.objects old.store) → HasBases T (open_dirs old) (open_bases old) → HasBases T (open_dirs new) (open_bases new)
+    edit_based : (place : Place) (old new : State S) (it : Edit) (its_reply : EditReply E) → IsEditReply model answers place old it its_reply new
+        → AgreesWithObjects T (model.objects old.store) → HasBases T (open_dirs old) (open_bases old) → HasBases T (open_dirs new) (open_bases new)
     edit_based place old new (edit.Upsert path kind id) edit_reply.Done h agrees has = let it = agreed old _ agrees h in it.2.has_bases T it.1 has
     edit_based place old new (edit.Upsert path kind id) (edit_reply.Refused error) h agrees has = let it =
         agreed old _ agrees h.0.effect in it.2.has_bases T it.1 has
@@ -189,32 +189,32 @@ module _ {S E : Type 0} (means : StoreModel S) (answers : Answers E) where
     edit_based place old new it its_reply h agrees has = absurd h
 
     edits_based : (place : Place) (old new : State S) (edits : List Edit) (replies : List (EditReply E))
-        → AreEditReplies means answers place old edits replies new
-        → AgreesThroughout T (flat_map kept_of_edit replies) (means.objects old.store) → HasBases T (open_dirs old) (open_bases old)
+        → AreEditReplies model answers place old edits replies new
+        → AgreesThroughout T (flat_map kept_of_edit replies) (model.objects old.store) → HasBases T (open_dirs old) (open_bases old)
         → HasBases T (open_dirs new) (open_bases new)
     edits_based place old new [] [] h agrees has = unmoved old new h has
     edits_based place old new (it ∷ edits) (r ∷ replies) (between, first, rest) agrees has =
-        edits_based place between new edits replies rest (agrees_throughout_suffix T (kept_of_edit r) (flat_map kept_of_edit replies) (means.objects old.store)
-        (means.objects between.store) (edit_keeps place old between it r first) agrees)
+        edits_based place between new edits replies rest (agrees_throughout_suffix T (kept_of_edit r) (flat_map kept_of_edit replies) (model.objects old.store)
+        (model.objects between.store) (edit_keeps place old between it r first) agrees)
         (edit_based place old between it r first (agrees zero) has)
     edits_based place old new [] (r ∷ replies) h agrees has = absurd h
     edits_based place old new (it ∷ edits) [] h agrees has = absurd h
 
-    at_based : (prefix : Path) (old new : State S) (edits : List Edit) (its_reply : Reply E) → IsReplyAt means answers prefix old edits its_reply new
-        → AgreesThroughout T (kept_of its_reply) (means.objects old.store) → HasBases T (open_dirs old) (open_bases old)
+    at_based : (prefix : Path) (old new : State S) (edits : List Edit) (its_reply : Reply E) → IsReplyAt model answers prefix old edits its_reply new
+        → AgreesThroughout T (kept_of its_reply) (model.objects old.store) → HasBases T (open_dirs old) (open_bases old)
         → HasBases T (open_dirs new) (open_bases new)
     at_based prefix old new edits (reply.At replies) (between, ensured, rest) agrees has =
         let it = agreed old _ (agrees zero) ensured in
         edits_based (at_cursor prefix) between new edits replies.items rest
-        (agrees_throughout_suffix T [] (flat_map kept_of_edit replies.items) (means.objects old.store) (means.objects between.store)
+        (agrees_throughout_suffix T [] (flat_map kept_of_edit replies.items) (model.objects old.store) (model.objects between.store)
         (ensured_keeps prefix old between ensured) agrees) (it.2.has_bases T it.1 has)
     at_based prefix old new edits (reply.AtRefused error) h agrees has =
         ⊎_elim (λ wanting. unmoved old new wanting.1 has)
         (λ rejected. let it = agreed old _ (agrees zero) rejected.0.effect in it.2.has_bases T it.1 has) h
     at_based prefix old new edits its_reply h agrees has = absurd h
 
-    command_based : (old new : State S) (it : Command) (its_reply : Reply E) → IsReply means answers old it its_reply new
-        → AgreesThroughout T (kept_of its_reply) (means.objects old.store) → HasBases T (open_dirs old) (open_bases old)
+    command_based : (old new : State S) (it : Command) (its_reply : Reply E) → IsReply model answers old it its_reply new
+        → AgreesThroughout T (kept_of its_reply) (model.objects old.store) → HasBases T (open_dirs old) (open_bases old)
         → HasBases T (open_dirs new) (open_bases new)
     command_based old new (command.Edit it) (reply.Edit its_reply) h agrees has = edit_based at_root old new it its_reply h (agrees zero) has
     command_based old new (command.At prefix edits) its_reply h agrees has =
@@ -223,9 +223,9 @@ module _ {S E : Type 0} (means : StoreModel S) (answers : Answers E) where
     command_based old new (command.SetRoot entries) reply.RootRefused h agrees has = unmoved old new h.1 has
     command_based old new it its_reply h agrees has = absurd h
 
-    edit_files : (place : Place) (old new : State S) (it : Edit) (its_reply : EditReply E) → IsEditReply means answers place old it its_reply new
-        → AgreesWithObjects T (means.objects old.store) → AgreesWithPairs T (pairs_of_edit its_reply) → HasBases T (open_dirs old) (open_bases old)
-        → SameFiles (EditorFiles T n new) (History T n (steps_of_edit place it its_reply) (EditorFiles T n old))
+    edit_files : (place : Place) (old new : State S) (it : Edit) (its_reply : EditReply E) → IsEditReply model answers place old it its_reply new
+        → AgreesWithObjects T (model.objects old.store) → AgreesWithPairs T (pairs_of_edit its_reply) → HasBases T (open_dirs old) (open_bases old)
+        → SameFiles (EditorFiles T n new) (FilesAfter T n (steps_of_edit place it its_reply) (EditorFiles T n old))
     edit_files place old new (edit.Upsert path kind id) edit_reply.Done h agrees pairs has = let it = agreed old _ agrees h in it.2.files T n it.1
     edit_files place old new (edit.Upsert path kind id) (edit_reply.Refused error) h agrees pairs has = let it =
         agreed old _ agrees h.0.effect in it.2.files T n it.1
@@ -241,10 +241,10 @@ module _ {S E : Type 0} (means : StoreModel S) (answers : Answers E) where
     edit_files place old new it its_reply h agrees pairs has = absurd h
 
     edits_files : (place : Place) (old new : State S) (edits : List Edit) (replies : List (EditReply E))
-        → AreEditReplies means answers place old edits replies new
-        → AgreesThroughout T (flat_map kept_of_edit replies) (means.objects old.store) → AgreesWithPairs T (flat_map pairs_of_edit replies)
+        → AreEditReplies model answers place old edits replies new
+        → AgreesThroughout T (flat_map kept_of_edit replies) (model.objects old.store) → AgreesWithPairs T (flat_map pairs_of_edit replies)
         → HasBases T (open_dirs old) (open_bases old)
-        → SameFiles (EditorFiles T n new) (History T n (steps_of_edits place edits replies) (EditorFiles T n old))
+        → SameFiles (EditorFiles T n new) (FilesAfter T n (steps_of_edits place edits replies) (EditorFiles T n old))
     edits_files place old new [] [] h agrees pairs has = unchanged old new h
     edits_files place old new (it ∷ edits) (r ∷ replies) (between, first, rest) agrees pairs has =
         let kept = edit_keeps place old between it r first in
@@ -252,16 +252,16 @@ module _ {S E : Type 0} (means : StoreModel S) (answers : Answers E) where
         (EditorFiles T n new)
         (edit_files place old between it r first (agrees zero) (agrees_with_prefix T (pairs_of_edit r) (flat_map pairs_of_edit replies) pairs) has)
         (edits_files place between new edits replies rest
-        (agrees_throughout_suffix T (kept_of_edit r) (flat_map kept_of_edit replies) (means.objects old.store)
-        (means.objects between.store) kept agrees)
+        (agrees_throughout_suffix T (kept_of_edit r) (flat_map kept_of_edit replies) (model.objects old.store)
+        (model.objects between.store) kept agrees)
         (agrees_with_suffix T (pairs_of_edit r) (flat_map pairs_of_edit replies) pairs) (edit_based place old between it r first (agrees zero) has))
     edits_files place old new [] (r ∷ replies) h agrees pairs has = absurd h
     edits_files place old new (it ∷ edits) [] h agrees pairs has = absurd h
 
-    at_files : (prefix : Path) (old new : State S) (edits : List Edit) (its_reply : Reply E) → IsReplyAt means answers prefix old edits its_reply new
-        → AgreesThroughout T (kept_of its_reply) (means.objects old.store) → AgreesWithPairs T (pairs_of its_reply)
+    at_files : (prefix : Path) (old new : State S) (edits : List Edit) (its_reply : Reply E) → IsReplyAt model answers prefix old edits its_reply new
+        → AgreesThroughout T (kept_of its_reply) (model.objects old.store) → AgreesWithPairs T (pairs_of its_reply)
         → HasBases T (open_dirs old) (open_bases old)
-        → SameFiles (EditorFiles T n new) (History T n (steps_at prefix edits its_reply) (EditorFiles T n old))
+        → SameFiles (EditorFiles T n new) (FilesAfter T n (steps_at prefix edits its_reply) (EditorFiles T n old))
     at_files prefix old new edits (reply.At replies) (between, ensured, rest) agrees pairs has =
         let it = agreed old _ (agrees zero) ensured in
         history_append_same_files T n (ensure prefix ∷ []) (steps_of_edits (at_cursor prefix) edits replies.items) (EditorFiles T n old)
@@ -269,7 +269,7 @@ module _ {S E : Type 0} (means : StoreModel S) (answers : Answers E) where
         (EditorFiles T n new)
         (it.2.files T n it.1)
         (edits_files (at_cursor prefix) between new edits replies.items rest
-        (agrees_throughout_suffix T [] (flat_map kept_of_edit replies.items) (means.objects old.store) (means.objects between.store)
+        (agrees_throughout_suffix T [] (flat_map kept_of_edit replies.items) (model.objects old.store) (model.objects between.store)
         (ensured_keeps prefix old between ensured) agrees) pairs (it.2.has_bases T it.1 has))
     at_files prefix old new edits (reply.AtRefused error) h agrees pairs has =
         ⊎_elim (λ wanting. unchanged old new wanting.1) (λ rejected. let it = agreed old _ (agrees zero) rejected.0.effect in it.2.files T n it.1)
@@ -277,10 +277,10 @@ module _ {S E : Type 0} (means : StoreModel S) (answers : Answers E) where
     at_files prefix old new edits its_reply h agrees pairs has = absurd h
 
     -- a command makes of the files before it what its steps say
-    command_files : (old new : State S) (it : Command) (its_reply : Reply E) → IsReply means answers old it its_reply new
-        → AgreesThroughout T (kept_of its_reply) (means.objects old.store) → AgreesWithPairs T (pairs_of its_reply)
+    command_files : (old new : State S) (it : Command) (its_reply : Reply E) → IsReply model answers old it its_reply new
+        → AgreesThroughout T (kept_of its_reply) (model.objects old.store) → AgreesWithPairs T (pairs_of its_reply)
         → HasBases T (open_dirs old) (open_bases old)
-        → SameFiles (EditorFiles T n new) (History T n (steps_of it its_reply) (EditorFiles T n old))
+        → SameFiles (EditorFiles T n new) (FilesAfter T n (steps_of it its_reply) (EditorFiles T n old))
     command_files old new (command.Edit it) (reply.Edit its_reply) h agrees pairs has =
         edit_files at_root old new it its_reply h (agrees zero) pairs has
     command_files old new (command.At prefix edits) its_reply h agrees pairs has =
@@ -295,7 +295,7 @@ module _ {S E : Type 0} (means : StoreModel S) (answers : Answers E) where
         h
 
     edit_names : (old new : State S) (it : Edit) (its_reply : EditReply E) (written : Written)
-        → IsEditReply means answers at_root old it its_reply new
+        → IsEditReply model answers at_root old it its_reply new
         → written_by (reply.Edit its_reply) ≡ Some written → AgreesWithPairs T (pairs_of_edit its_reply) → HasBases T (open_dirs old) (open_bases old)
         → SameFiles (NamedFiles T n written.id) (EditorFiles T n old)
     edit_names old new edit.Write (edit_reply.Written w) written h is pairs has = named old w written is (h.written.files T n pairs has)
@@ -306,7 +306,7 @@ module _ {S E : Type 0} (means : StoreModel S) (answers : Answers E) where
     edit_names old new it its_reply written h is pairs has = absurd h
 
     -- a successful write of the root names the files before it
-    write_names : (old new : State S) (it : Command) (its_reply : Reply E) (written : Written) → IsReply means answers old it its_reply new
+    write_names : (old new : State S) (it : Command) (its_reply : Reply E) (written : Written) → IsReply model answers old it its_reply new
         → written_by its_reply ≡ Some written → AgreesWithPairs T (pairs_of its_reply) → HasBases T (open_dirs old) (open_bases old)
         → SameFiles (NamedFiles T n written.id) (EditorFiles T n old)
     write_names old new (command.Edit it) (reply.Edit its_reply) written h is pairs has = edit_names old new it its_reply written h is pairs has
@@ -320,24 +320,24 @@ module _ {S E : Type 0} (means : StoreModel S) (answers : Answers E) where
         → AgreesWithRun T old (first ∷ replies) → AgreesWithRun T between replies
     agrees_later first replies old between kept agrees = record {
       writes = agrees_with_suffix T (pairs_of first) (emitted_pairs replies) agrees.writes;
-      stores = agrees_throughout_suffix T (kept_of first) (pairs_kept replies) old between kept agrees.stores;
+      stores = agrees_throughout_suffix T (kept_of first) (kept_pairs replies) old between kept agrees.stores;
     }
 
     -- a successful write of the root names what the accepted commands before it make of the files at the start
-    pub names_history : (start last : State S) (commands : List Command) (replies : List (Reply E)) → IsRun means answers start commands replies last
-        → (k : ℕ) (written : Written) → written_at replies k ≡ Some written → AgreesWithRun T (means.objects start.store) (take k replies)
+    pub names_history : (start last : State S) (commands : List Command) (replies : List (Reply E)) → IsRun model answers start commands replies last
+        → (k : ℕ) (written : Written) → written_at replies k ≡ Some written → AgreesWithRun T (model.objects start.store) (take k replies)
         → AgreesWithPairs T written.trees.items → HasBases T (open_dirs start) (open_bases start)
-        → SameFiles (NamedFiles T n written.id) (History T n (accepted_steps (take k commands) (take k replies)) (EditorFiles T n start))
+        → SameFiles (NamedFiles T n written.id) (FilesAfter T n (accepted_steps (take k commands) (take k replies)) (EditorFiles T n start))
     names_history start last [] [] run k written is agrees pairs has = absurd (cc is)
     names_history start last [] (r ∷ replies) run k written is agrees pairs has = absurd run
     names_history start last (c ∷ commands) [] run k written is agrees pairs has = absurd run
     names_history start last (c ∷ commands) (r ∷ replies) (between, first, run) zero written is agrees pairs has =
         write_names start between c r written first is (subst (λ (ps : List Pair). AgreesWithPairs T ps) (sym (pairs_are r written is)) pairs) has
     names_history start last (c ∷ commands) (r ∷ replies) (between, first, run) (suc k) written is agrees pairs has =
-        let stores = agrees_throughout_prefix T (kept_of r) (pairs_kept (take k replies)) (means.objects start.store) agrees.stores in
+        let stores = agrees_throughout_prefix T (kept_of r) (kept_pairs (take k replies)) (model.objects start.store) agrees.stores in
         history_append_same_files T n (steps_of c r) (accepted_steps (take k commands) (take k replies)) (EditorFiles T n start) (EditorFiles T n between)
         (NamedFiles T n written.id)
         (command_files start between c r first stores (agrees_with_prefix T (pairs_of r) (emitted_pairs (take k replies)) agrees.writes) has)
         (names_history between last commands replies run k written is
-        (agrees_later r (take k replies) (means.objects start.store) (means.objects between.store)
+        (agrees_later r (take k replies) (model.objects start.store) (model.objects between.store)
         (command_keeps start between c r first) agrees) pairs (command_based start between c r first stores has))

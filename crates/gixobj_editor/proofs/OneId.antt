@@ -29,7 +29,7 @@ use Rattle.gixobj_editor.proofs.Keeping.{AgreesThroughout, agrees_throughout_pre
 use Rattle.gixobj_editor.proofs.Named.{agrees_with_run_prefix, agrees_later, agrees_with_written_pairs, ensured_keeps, command_keeps, edit_keeps, names_history}
 use Rattle.gixobj_editor.proofs.Reported.{mode_of_kind_not_tree, plain_history_of_prefix, known_by_trees, is_up_to_of_same_files}
 use Rattle.gixobj_editor.proofs.PlainRuns.{AreBuilt, IsPlainState, Within, plain_ensured, plain_below, plain_failed, plain_removed, plain_root, plain_upserted}
-use Rattle.gixobj_editor.specs.Commands.{Place, at_cursor, at_root, kept_of, kept_of_edit, emitted_pairs, pairs_kept, pairs_of, pairs_of_edit, written_at, written_by}
+use Rattle.gixobj_editor.specs.Commands.{Place, at_cursor, at_root, kept_of, kept_of_edit, emitted_pairs, kept_pairs, pairs_of, pairs_of_edit, written_at, written_by}
 use Rattle.gixobj_editor.specs.OneId.{IdsDetermineFiles, IsPlainRun, NamesNoTree, InsertsNoTree, files_before}
 use Rattle.gixobj_editor.specs.Replies.{Answers, AreEditReplies, ReturnsTreeId, IsEditReply, IsReply, IsReplyAt, IsRun, IsWriteKept, IsWrittenAt}
 use Rattle.gixobj_editor.specs.RunTables.{AgreesWithObjects, AgreesWithRun}
@@ -38,16 +38,16 @@ use Rattle.gixobj_editor.specs.declared.reply.EditReply.TheVariants as edit_repl
 use Rattle.gixobj_editor.specs.declared.reply.Reply.{Reply}
 use Rattle.gixobj_editor.specs.declared.reply.Reply.TheVariants as reply
 
-module _ {S E : Type 0} (means : StoreModel S) (answers : Answers E) (T : Table) (pairs : List Pair) (known : AgreesWithPairs T pairs) where
+module _ {S E : Type 0} (model : StoreModel S) (answers : Answers E) (T : Table) (pairs : List Pair) (known : AgreesWithPairs T pairs) where
   abbrev Holds : State S → Type 0
   Holds state = IsPlainState T pairs known state
 
   -- what holds for the store's trees holds for some trees with which the table agrees
-  agreed : (old : State S) (P : Trees → Type 0) → AgreesWithObjects T (means.objects old.store) → OfTrees (means.objects old.store) P
+  agreed : (old : State S) (P : Trees → Type 0) → AgreesWithObjects T (model.objects old.store) → OfTrees (model.objects old.store) P
       → (trees : Trees)
       × AgreesWithStore T trees × P trees
   agreed old P agrees says = let it =
-      trees_of_objects_exist (means.objects old.store) in (it.0, (λ id entries other is. agrees id entries other ((it.1 id entries).0 is)), says it.0 it.1)
+      trees_of_objects_exist (model.objects old.store) in (it.0, (λ id entries other is. agrees id entries other ((it.1 id entries).0 is)), says it.0 it.1)
 
   same_state : (old new : State S) → new ≡ old → Holds old → Holds new
   same_state old new same holds = subst (λ (s : State S). Holds s) (sym same) holds
@@ -60,13 +60,13 @@ module _ {S E : Type 0} (means : StoreModel S) (answers : Answers E) (T : Table)
       plain_below T pairs known (ReturnsTreeId answers) tt tt old new prefix it holds h within
 
   write_plain : (place : Place) (old new : State S) (it : Written) (Keeps : Objects → Objects → Type 0)
-      → IsWriteKept means (IsWrittenAt answers place it old) Keeps old new → Holds old → Within T pairs known it.trees.items → Holds new
+      → IsWriteKept model (IsWrittenAt answers place it old) Keeps old new → Holds old → Within T pairs known it.trees.items → Holds new
       × AreBuilt T pairs known it.trees.items
   write_plain place old new it Keeps h holds within = let so = written_plain place old h.between it h.written holds within in
       (subst (λ (s : State S). Holds s) (sym h.rest) so.0, so.1)
 
   edit_plain : (place : Place) (old new : State S) (it : Edit) (its_reply : EditReply E) → InsertsNoTree it
-      → IsEditReply means answers place old it its_reply new → AgreesWithObjects T (means.objects old.store) → Holds old
+      → IsEditReply model answers place old it its_reply new → AgreesWithObjects T (model.objects old.store) → Holds old
       → Within T pairs known (pairs_of_edit its_reply)
       → Holds new × AreBuilt T pairs known (pairs_of_edit its_reply)
   edit_plain place old new (edit.Upsert path k id) edit_reply.Done other h agrees holds within = let it =
@@ -88,7 +88,7 @@ module _ {S E : Type 0} (means : StoreModel S) (answers : Answers E) (T : Table)
   edit_plain place old new it its_reply other h agrees holds within = absurd h
 
   edits_plain : (place : Place) (old new : State S) (edits : List Edit) (replies : List (EditReply E)) → AllByRecursion InsertsNoTree edits
-      → AreEditReplies means answers place old edits replies new → AgreesThroughout T (flat_map kept_of_edit replies) (means.objects old.store)
+      → AreEditReplies model answers place old edits replies new → AgreesThroughout T (flat_map kept_of_edit replies) (model.objects old.store)
       → Holds old
       → Within T pairs known (flat_map pairs_of_edit replies) → Holds new × AreBuilt T pairs known (flat_map pairs_of_edit replies)
   edits_plain place old new [] [] other h agrees holds within = (same_state old new h holds, tt)
@@ -96,21 +96,21 @@ module _ {S E : Type 0} (means : StoreModel S) (answers : Answers E) (T : Table)
       let one = edit_plain place old between it r other.0 first (agrees zero) holds
       (all_remaining (λ pair. Contains pairs pair) (pairs_of_edit r) (flat_map pairs_of_edit replies) within) in
       let more = edits_plain place between new edits replies other.1 rest
-      (agrees_throughout_suffix T (kept_of_edit r) (flat_map kept_of_edit replies) (means.objects old.store) (means.objects between.store)
-      (edit_keeps means answers place old between it r first) agrees) one.0
+      (agrees_throughout_suffix T (kept_of_edit r) (flat_map kept_of_edit replies) (model.objects old.store) (model.objects between.store)
+      (edit_keeps model answers place old between it r first) agrees) one.0
       (all_right (λ pair. Contains pairs pair) (pairs_of_edit r) (flat_map pairs_of_edit replies) within) in
       (more.0, all_joined (HasBuilt pairs) (pairs_of_edit r) (flat_map pairs_of_edit replies) one.1 more.1)
   edits_plain place old new [] (r ∷ replies) other h agrees holds within = absurd h
   edits_plain place old new (it ∷ edits) [] other h agrees holds within = absurd h
 
   at_plain : (prefix : Path) (old new : State S) (edits : List Edit) (its_reply : Reply E) → AllByRecursion InsertsNoTree edits
-      → IsReplyAt means answers prefix old edits its_reply new → AgreesThroughout T (kept_of its_reply) (means.objects old.store) → Holds old
+      → IsReplyAt model answers prefix old edits its_reply new → AgreesThroughout T (kept_of its_reply) (model.objects old.store) → Holds old
       → Within T pairs known (pairs_of its_reply) → Holds new × AreBuilt T pairs known (pairs_of its_reply)
   at_plain prefix old new edits (reply.At replies) other (between, ensured, rest) agrees holds within =
       let it = agreed old _ (agrees zero) ensured in
       edits_plain (at_cursor prefix) between new edits replies.items other rest
-      (agrees_throughout_suffix T [] (flat_map kept_of_edit replies.items) (means.objects old.store) (means.objects between.store)
-      (ensured_keeps means answers prefix old between ensured) agrees)
+      (agrees_throughout_suffix T [] (flat_map kept_of_edit replies.items) (model.objects old.store) (model.objects between.store)
+      (ensured_keeps model answers prefix old between ensured) agrees)
       (plain_ensured T pairs known it.0 it.1 old between holds prefix it.2) within
   at_plain prefix old new edits (reply.AtRefused error) other h agrees holds within = (
     ⊎_elim (λ wanting. same_state old new wanting.1 holds)
@@ -132,8 +132,8 @@ module _ {S E : Type 0} (means : StoreModel S) (answers : Answers E) (T : Table)
             (λ (m : DirMap). Everywhere (Plain pairs) (λ path. map.get m path) (open_bases state)) (sym is) (nothing_in (open_bases state)),
       )
 
-  command_plain : (old new : State S) (it : Command) (its_reply : Reply E) → NamesNoTree it → IsReply means answers old it its_reply new
-      → AgreesThroughout T (kept_of its_reply) (means.objects old.store) → Holds old → Within T pairs known (pairs_of its_reply)
+  command_plain : (old new : State S) (it : Command) (its_reply : Reply E) → NamesNoTree it → IsReply model answers old it its_reply new
+      → AgreesThroughout T (kept_of its_reply) (model.objects old.store) → Holds old → Within T pairs known (pairs_of its_reply)
       → Holds new × AreBuilt T pairs known (pairs_of its_reply)
   command_plain old new (command.Edit it) (reply.Edit its_reply) other h agrees holds within = edit_plain at_root old new it its_reply other h
       (agrees zero) holds within
@@ -146,23 +146,23 @@ module _ {S E : Type 0} (means : StoreModel S) (answers : Answers E) (T : Table)
   command_plain old new it its_reply other h agrees holds within = absurd h
 
   run_plain : (old new : State S) (commands : List Command) (replies : List (Reply E)) → AllByRecursion NamesNoTree commands
-      → IsRun means answers old commands replies new → AgreesWithRun T (means.objects old.store) replies → Holds old
+      → IsRun model answers old commands replies new → AgreesWithRun T (model.objects old.store) replies → Holds old
       → Within T pairs known (emitted_pairs replies)
       → AreBuilt T pairs known (emitted_pairs replies)
   run_plain old new [] [] other run agrees holds within = tt
   run_plain old new (c ∷ commands) (r ∷ replies) other (between, first, run) agrees holds within =
       let one = command_plain old between c r other.0 first
-      (agrees_throughout_prefix T (kept_of r) (pairs_kept replies) (means.objects old.store) agrees.stores) holds
+      (agrees_throughout_prefix T (kept_of r) (kept_pairs replies) (model.objects old.store) agrees.stores) holds
       (all_remaining (λ pair. Contains pairs pair) (pairs_of r) (emitted_pairs replies) within) in
       all_joined (HasBuilt pairs) (pairs_of r) (emitted_pairs replies) one.1
       (run_plain between new commands replies other.1 run
-      (agrees_later means answers T zero r replies (means.objects old.store) (means.objects between.store)
-      (command_keeps means answers old between c r first) agrees) one.0
+      (agrees_later model answers T zero r replies (model.objects old.store) (model.objects between.store)
+      (command_keeps model answers old between c r first) agrees) one.0
       (all_right (λ pair. Contains pairs pair) (pairs_of r) (emitted_pairs replies) within))
   run_plain old new [] (r ∷ replies) other run agrees holds within = absurd run
   run_plain old new (c ∷ commands) [] other run agrees holds within = absurd run
 
-module _ {S E : Type 0} (means : StoreModel S) (answers : Answers E) where
+module _ {S E : Type 0} (model : StoreModel S) (answers : Answers E) where
   -- the own pair of a successful write is its last emitted pair
   abbrev OwnPair : List Pair → Written → Type 0
   OwnPair ps written = (own : List EntryView) × Contains ps (written.id, own)
@@ -173,7 +173,7 @@ module _ {S E : Type 0} (means : StoreModel S) (answers : Answers E) where
   own_as : (w written : Written) (ps : List Pair) → Some w ≡ Some written → OwnPair ps w → OwnPair ps written
   own_as w written ps is own = let same : w ≡ written = cc is in subst (λ (it : Written). OwnPair ps it) same own
 
-  edit_own : (old new : State S) (it : Edit) (its_reply : EditReply E) (written : Written) → IsEditReply means answers at_root old it its_reply new
+  edit_own : (old new : State S) (it : Edit) (its_reply : EditReply E) (written : Written) → IsEditReply model answers at_root old it its_reply new
       → written_by (reply.Edit its_reply) ≡ Some written → OwnPair (pairs_of_edit its_reply) written
   edit_own old new edit.Write (edit_reply.Written w) written h is =
       own_as w written w.trees.items is (own_last w.trees.items h.written.below w h.written.own h.written.last)
@@ -184,7 +184,7 @@ module _ {S E : Type 0} (means : StoreModel S) (answers : Answers E) where
   edit_own old new it (edit_reply.WriteRefused error) written h is = absurd (cc is)
   edit_own old new it its_reply written h is = absurd h
 
-  reply_own : (old new : State S) (it : Command) (its_reply : Reply E) (written : Written) → IsReply means answers old it its_reply new
+  reply_own : (old new : State S) (it : Command) (its_reply : Reply E) (written : Written) → IsReply model answers old it its_reply new
       → written_by its_reply ≡ Some written → OwnPair (pairs_of its_reply) written
   reply_own old new (command.Edit it) (reply.Edit its_reply) written h is = edit_own old new it its_reply written h is
   reply_own old new it (reply.At replies) written h is = absurd (cc is)
@@ -193,7 +193,7 @@ module _ {S E : Type 0} (means : StoreModel S) (answers : Answers E) where
   reply_own old new it reply.RootRefused written h is = absurd (cc is)
   reply_own old new it its_reply written h is = absurd h
 
-  run_own : (old new : State S) (commands : List Command) (replies : List (Reply E)) → IsRun means answers old commands replies new
+  run_own : (old new : State S) (commands : List Command) (replies : List (Reply E)) → IsRun model answers old commands replies new
       → (k : ℕ) (written : Written) → written_at replies k ≡ Some written → OwnPair (emitted_pairs replies) written
   run_own old new [] [] run k written is = absurd (cc is)
   run_own old new [] (r ∷ replies) run k written is = absurd run
@@ -205,8 +205,8 @@ module _ {S E : Type 0} (means : StoreModel S) (answers : Answers E) where
       (own.0, Contains-append_right (pairs_of r) (emitted_pairs replies) (written.id, own.0) own.1)
 
   -- a prefix of a run is a run
-  run_prefix : (m : ℕ) (old new : State S) (commands : List Command) (replies : List (Reply E)) → IsRun means answers old commands replies new
-      → (last : State S) × IsRun means answers old (take m commands) (take m replies) last
+  run_prefix : (m : ℕ) (old new : State S) (commands : List Command) (replies : List (Reply E)) → IsRun model answers old commands replies new
+      → (last : State S) × IsRun model answers old (take m commands) (take m replies) last
   run_prefix zero old new commands replies run = (old, refl)
   run_prefix (suc m) old new [] [] run = (old, refl)
   run_prefix (suc m) old new (c ∷ commands) (r ∷ replies) (between, first, run) = let more = run_prefix m between new commands replies run in
@@ -216,22 +216,22 @@ module _ {S E : Type 0} (means : StoreModel S) (answers : Answers E) where
 
   -- in a complete run ids determine files
   known_by_all : (T : Table) (start last : State S) (commands : List Command) (replies : List (Reply E))
-      → IsRun means answers start commands replies last
-      → IsPlainRun T (means.objects start.store) start commands replies → IdsDetermineFiles commands replies
+      → IsRun model answers start commands replies last
+      → IsPlainRun T (model.objects start.store) start commands replies → IdsDetermineFiles commands replies
   known_by_all T start last commands replies run plain k l first second at_k at_l =
       let pairs : List Pair = emitted_pairs replies in
       let known : AgreesWithPairs T pairs = plain.agrees.writes in
       let no_tree = recursion_from_All NamesNoTree commands plain.no_tree in
       let has : HasBases T (open_dirs start) (open_bases start) = subst (λ (m : DirMap). HasBases T (open_dirs start) (λ path. map.get m path))
       (sym plain.bases) (root_alone_has_bases T (open_dirs start)) in
-      let built = run_plain means answers T pairs known start last commands replies no_tree run plain.agrees
-      (empty_plain means answers T pairs known start plain.dirs)
+      let built = run_plain model answers T pairs known start last commands replies no_tree run plain.agrees
+      (empty_plain model answers T pairs known start plain.dirs)
       (recursion_from_All (λ pair. Contains pairs pair) pairs (All-contains_itself pairs)) in
       let names : (j : ℕ) (written : Written) → written_at replies j ≡ Some written → (n : ℕ)
       → IsUpTo n (NamedFiles T n written.id) (files_before j commands replies) = λ j written at_j n.
       is_up_to_of_same_files n (NamedFiles T n written.id) _ (files_before j commands replies)
-      (names_history means answers T n start last commands replies run j written at_j
-      (agrees_with_run_prefix T (means.objects start.store) j replies plain.agrees)
+      (names_history model answers T n start last commands replies run j written at_j
+      (agrees_with_run_prefix T (model.objects start.store) j replies plain.agrees)
       (agrees_with_written_pairs T replies known j written at_j) has)
       (plain_history_of_prefix T n start j commands replies plain.dirs no_tree) in
       let mine = run_own start last commands replies run k first at_k in
@@ -241,7 +241,7 @@ module _ {S E : Type 0} (means : StoreModel S) (answers : Answers E) where
 
   -- in each prefix of a run ids determine files
   pub ids_determine_files : (T : Table) (start last : State S) (commands : List Command) (replies : List (Reply E))
-      → IsRun means answers start commands replies last → (m : ℕ) → IsPlainRun T (means.objects start.store) start (take m commands) (take m replies)
+      → IsRun model answers start commands replies last → (m : ℕ) → IsPlainRun T (model.objects start.store) start (take m commands) (take m replies)
       → IdsDetermineFiles (take m commands) (take m replies)
   ids_determine_files T start last commands replies run m plain = let head =
       run_prefix m start last commands replies run in known_by_all T start head.0

@@ -13,32 +13,32 @@ none_remaining : {X : Type 0} (xs : List X) → length xs ≡ 0 → xs ≡ []
 none_remaining [] e = refl
 none_remaining (x ∷ xs) e = absurd (omega arith)
 
-module _ {S E : Type 0} (means : StoreModel S) (answers : Answers E) where
+module _ {S E : Type 0} (model : StoreModel S) (answers : Answers E) where
   -- if each completion of the rest completes all commands, then so does each completion after one more command
   pub one_more : (old between first new : State S) (command : Command) (all rest commands : List Command) (reply : Reply E)
-      (seen seen' replies : List (Reply E)) → IsReply means answers old command reply between
+      (seen seen' replies : List (Reply E)) → IsReply model answers old command reply between
       → rest ≡ command ∷ commands → seen' ≡ seen ++ reply ∷ []
-      → ((rs : List (Reply E)) (s : State S) → IsRun means answers old rest rs s → IsRun means answers first all (seen ++ rs) s)
-      → IsRun means answers between commands replies new → IsRun means answers first all (seen' ++ replies) new
+      → ((rs : List (Reply E)) (s : State S) → IsRun model answers old rest rs s → IsRun model answers first all (seen ++ rs) s)
+      → IsRun model answers between commands replies new → IsRun model answers first all (seen' ++ replies) new
   one_more old between first new command all rest commands reply seen seen' replies one is pushed entire later =
       rw (pushed, append_assoc) (entire (reply ∷ replies) new (rw is (between, one, later)))
 
   pub no_more : (old first : State S) (all rest : List Command) (seen : List (Reply E)) → length rest ≡ 0
-      → ((rs : List (Reply E)) (s : State S) → IsRun means answers old rest rs s → IsRun means answers first all (seen ++ rs) s)
-      → IsRun means answers first all seen old
+      → ((rs : List (Reply E)) (s : State S) → IsRun model answers old rest rs s → IsRun model answers first all (seen ++ rs) s)
+      → IsRun model answers first all seen old
   no_more old first all rest seen none entire = rw append-nil at (entire [] old (rw (none_remaining rest none) refl))
 
   pub one_more_edit : (place : Place) (old between first new : State S) (edit : Edit) (all rest edits : List Edit) (reply : EditReply E)
       (seen seen' replies : List (EditReply E))
-      → IsEditReply means answers place old edit reply between → rest ≡ edit ∷ edits → seen' ≡ seen ++ reply ∷ []
-      → ((rs : List (EditReply E)) (s : State S) → AreEditReplies means answers place old rest rs s → AreEditReplies means answers place first all
+      → IsEditReply model answers place old edit reply between → rest ≡ edit ∷ edits → seen' ≡ seen ++ reply ∷ []
+      → ((rs : List (EditReply E)) (s : State S) → AreEditReplies model answers place old rest rs s → AreEditReplies model answers place first all
       (seen ++ rs) s)
-      → AreEditReplies means answers place between edits replies new → AreEditReplies means answers place first all (seen' ++ replies) new
+      → AreEditReplies model answers place between edits replies new → AreEditReplies model answers place first all (seen' ++ replies) new
   one_more_edit place old between first new edit all rest edits reply seen seen' replies one is pushed entire later =
       rw (pushed, append_assoc) (entire (reply ∷ replies) new (rw is (between, one, later)))
 
   pub no_more_edits : (place : Place) (old first : State S) (all rest : List Edit) (seen : List (EditReply E)) → length rest ≡ 0
-      → ((rs : List (EditReply E)) (s : State S) → AreEditReplies means answers place old rest rs s → AreEditReplies means answers place first all
+      → ((rs : List (EditReply E)) (s : State S) → AreEditReplies model answers place old rest rs s → AreEditReplies model answers place first all
       (seen ++ rs) s)
-      → AreEditReplies means answers place first all seen old
+      → AreEditReplies model answers place first all seen old
   no_more_edits place old first all rest seen none entire = rw append-nil at (entire [] old (rw (none_remaining rest none) refl))

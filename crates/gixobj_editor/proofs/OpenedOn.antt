@@ -12,7 +12,7 @@ use Rattle.gixobj_directories.specs.Nested.{Opened, bases_of, dirs_of, opened}
 use Rattle.gixobj_directories.proofs.BaseSteps.{base_none_where_unopened}
 use Rattle.gixobj_directories.proofs.OpeningSteps.{dirs_of_childless}
 use Rattle.gixobj_files.specs.Bases.{base_edited, edited_bases, opened_bases}
-use Rattle.gixobj_files.specs.Edits.{IsNoTree, Opens, ensured_dirs, only, removed_dirs, upserted_dirs, with_path}
+use Rattle.gixobj_files.specs.Edits.{IsNoTree, Opens, ensured_dirs, only_open, removed_dirs, upserted_dirs, with_path}
 use Rattle.gixobj_files.specs.Files.{Path, Trees}
 use Rattle.gixobj_files.specs.OpeningStops.{StopsOpening}
 use Rattle.gixobj_files.specs.Opening.{Dirs}
@@ -44,17 +44,17 @@ root_opened_on ds root base is formed =
 
 module _ (trees : Trees) (ds mid : Opened) (first : OpenedSo ds mid) (was : OpenedOn ds) where
   -- the invariant after directories were opened
-  pub opened_on : {Ends : EntryView → Type 0} (path : Path) (queries : List ObjectId) → Opens Ends trees path (dirs_of ds) (dirs_of mid) queries → OpenedOn mid
+  pub opened_on : {StopsBefore : EntryView → Type 0} (path : Path) (queries : List ObjectId) → Opens StopsBefore trees path (dirs_of ds) (dirs_of mid) queries → OpenedOn mid
   opened_on path queries opens = record {
     opened = is_opened_of_opens trees path (dirs_of ds) (dirs_of mid) queries opens was.opened;
     null_based = opened_null_based trees hash.Sha1 (dirs_of ds) (bases_of ds) (dirs_of mid) (bases_of mid) was path queries opens first;
   }
 
-  pub in_part_on : {Ends : EntryView → Type 0} (path : Path) (n m : ℕ) → OpensInPart Ends trees path (dirs_of ds) (dirs_of mid) n m → OpenedOn mid
-  in_part_on path n m so = opened_on so.prefix so.requested so.opens
+  pub in_part_on : {StopsBefore : EntryView → Type 0} (path : Path) (n m : ℕ) → OpensInPart StopsBefore trees path (dirs_of ds) (dirs_of mid) n m → OpenedOn mid
+  in_part_on path n m so = opened_on so.reached so.looked_up so.opens
 
-  pub halted_on : {Ends : EntryView → Type 0} (path : Path) (queries : List ObjectId) (failed_lookup : Option ObjectId)
-      → StopsOpening Ends trees path (dirs_of ds) (dirs_of mid) queries failed_lookup → OpenedOn mid
+  pub halted_on : {StopsBefore : EntryView → Type 0} (path : Path) (queries : List ObjectId) (failed_lookup : Option ObjectId)
+      → StopsOpening StopsBefore trees path (dirs_of ds) (dirs_of mid) queries failed_lookup → OpenedOn mid
   halted_on path queries failed_lookup halts = let came = halts_opens trees path (dirs_of ds) (dirs_of mid) queries failed_lookup halts in
       opened_on came.0 came.2 came.5
 
@@ -79,7 +79,7 @@ module _ (trees : Trees) (ds mid : Opened) (first : OpenedSo ds mid) (was : Open
           (both_so ds mid ds' first then);
     }
 
-    pub taken_on : {Ends : EntryView → Type 0} (head path : Path) (queries : List ObjectId) → Opens Ends trees head (dirs_of ds) (dirs_of mid) queries
+    pub taken_on : {StopsBefore : EntryView → Type 0} (head path : Path) (queries : List ObjectId) → Opens StopsBefore trees head (dirs_of ds) (dirs_of mid) queries
         → ((at : Path) → dirs_of ds' at ≡ removed_dirs path (dirs_of mid) at) → OpenedOn ds'
     taken_on head path queries opens taken = record {
       opened = is_opened_after_removal path mid ds' (opened_on head queries opens).opened taken;
@@ -96,7 +96,7 @@ written_opened_on (Err error) ds ds' ok unchanged was = subst OpenedOn (sym unch
 
 -- the invariant after a write of a directory at a prefix
 abbrev pub IsWrittenSo : Path → Opened → Opened → Type 0
-IsWrittenSo prefix ds ds' = (own : List EntryView) × IsStorable own × ((at : Path) → dirs_of ds' at ≡ with_path prefix (only own) (dirs_of ds) at)
+IsWrittenSo prefix ds ds' = (own : List EntryView) × IsStorable own × ((at : Path) → dirs_of ds' at ≡ with_path prefix (only_open own) (dirs_of ds) at)
     × EditedSo ds ds'
 
 pub written_below_opened_on : {W X : Type 0} (result : Result W X) (prefix : Path) (ds ds' : Opened) → IfOk result (λ _. IsWrittenSo prefix ds ds')

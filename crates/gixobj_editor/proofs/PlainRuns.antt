@@ -21,8 +21,8 @@ use Rattle.gixobj_files.proofs.Plain.{IsEmitted, HasBuilt, Plain, all_joined, al
 use Rattle.gixobj_files.proofs.StillOpenedOpenings.{is_opened_of_only, is_opened_of_opens}
 use Rattle.gixobj_files.proofs.UpsertedFiles.{IsReady}
 use Rattle.gixobj_files.specs.Bases.{edited_bases, opened_bases}
-use Rattle.gixobj_files.specs.Edits.{IsNoTree, Opens, ensured_dirs, only, removed_dirs, upserted_dirs, with_path}
-use Rattle.gixobj_files.specs.Files.{Has, Path, Table, Trees, is_null}
+use Rattle.gixobj_files.specs.Edits.{IsNoTree, Opens, ensured_dirs, only_open, removed_dirs, upserted_dirs, with_path}
+use Rattle.gixobj_files.specs.Files.{ContainsEntry, Path, Table, Trees, is_null}
 use Rattle.gixobj_files.specs.Emission.{EmitsBelow, of_entries}
 use Rattle.gixobj_files.specs.Opening.{Dirs, IsOpened, in_path}
 use Rattle.gixobj_files.specs.State.{DirMap, State, open_bases, open_dirs, root_alone}
@@ -41,7 +41,7 @@ clean_of : (entries : List EntryView) → IsStorable entries → IsClean entries
 clean_of entries storable =
     record { formed = storable.well_formed; filled = each entries (recursion_from_All (λ (e : EntryView). IsFalse (is_null e.id)) entries storable.no_nulls) }
   where
-    each : (es : List EntryView) → AllByRecursion (λ e. IsFalse (is_null e.id)) es → (e : EntryView) → Has es e → is_null e.id ≡ false
+    each : (es : List EntryView) → AllByRecursion (λ e. IsFalse (is_null e.id)) es → (e : EntryView) → ContainsEntry es e → is_null e.id ≡ false
     each [] all e h = absurd h
     each (x ∷ es) all e (inl same) = subst (λ (y : EntryView). is_null y.id ≡ false) same all.0
     each (x ∷ es) all e (inr h) = each es all.1 e h
@@ -62,7 +62,7 @@ open_there prefix dirs bases below own saved (of_entries d b entries ps os n is 
     ∙ ap dirs (append-nil prefix)
     ∙ none in cc bad
 
-alone_at : (es : List EntryView) (at : Path) → map.get (root_alone es) at ≡ only es at
+alone_at : (es : List EntryView) (at : Path) → map.get (root_alone es) at ≡ only_open es at
 alone_at es [] = root_alone_at_root es
 alone_at es (name ∷ path) = root_alone_below_root es name path
 
@@ -105,20 +105,20 @@ module _ (T : Table) (pairs : List Pair) (known : AgreesWithPairs T pairs) where
             its_pair = λ t. absurd (true≢false (sym t ∙ other));
             based = λ list is. absurd
                 (cc is);
-          }) (ready trees path (open_dirs old) h.opened h.requested h.opens)
-          ((is_opened_of_opens trees (directory_of path) (open_dirs old) h.opened h.requested h.opens holds.0).above)
+          }) (ready trees path (open_dirs old) h.opened h.looked_up h.opens)
+          ((is_opened_of_opens trees (directory_of path) (open_dirs old) h.opened h.looked_up h.opens holds.0).above)
           (everywhere_opened (Plain pairs) trees (null_id old.object_hash) (plain_lasts T pairs known trees (null_id old.object_hash) agrees)
-          (directory_of path) (open_dirs old) h.opened h.requested h.opens (open_bases old) holds.1)),
+          (directory_of path) (open_dirs old) h.opened h.looked_up h.opens (open_bases old) holds.1)),
     )
 
-    pub plain_removed : {Ends : EntryView → Type 0} (path : Path) → IsRemoved Ends trees old path new → IsPlainState new
+    pub plain_removed : {StopsBefore : EntryView → Type 0} (path : Path) → IsRemoved StopsBefore trees old path new → IsPlainState new
     plain_removed path h = (
       h.is_opened,
       edited (open_dirs old) (open_bases old) h.opened (removed_dirs path h.opened) (open_dirs new) (open_bases new) h.dirs h.bases
           (everywhere_removed (Plain pairs) trees (null_id old.object_hash) (plain_lasts T pairs known trees (null_id old.object_hash) agrees) path h.opened
           (opened_bases (open_dirs old) h.opened (open_bases old))
           (everywhere_opened (Plain pairs) trees (null_id old.object_hash) (plain_lasts T pairs known trees (null_id old.object_hash) agrees)
-          (directory_of path) (open_dirs old) h.opened h.requested h.opens (open_bases old) holds.1)),
+          (directory_of path) (open_dirs old) h.opened h.looked_up h.opens (open_bases old) holds.1)),
     )
 
     pub plain_ensured : (path : Path) → IsEnsured trees old path new → IsPlainState new
@@ -127,18 +127,18 @@ module _ (T : Table) (pairs : List Pair) (known : AgreesWithPairs T pairs) where
       edited (open_dirs old) (open_bases old) h.opened (ensured_dirs path (null_id old.object_hash) h.opened) (open_dirs new) (open_bases new) h.dirs h.bases
           (everywhere_ensured (Plain pairs) trees (null_id old.object_hash) (plain_lasts T pairs known trees (null_id old.object_hash) agrees) path h.opened
           (opened_bases (open_dirs old) h.opened (open_bases old))
-          (is_open_along_of_opens trees path (open_dirs old) h.opened h.requested h.opens)
-          ((is_opened_of_opens trees path (open_dirs old) h.opened h.requested h.opens holds.0).above)
+          (is_open_along_of_opens trees path (open_dirs old) h.opened h.looked_up h.opens)
+          ((is_opened_of_opens trees path (open_dirs old) h.opened h.looked_up h.opens holds.0).above)
           (everywhere_opened (Plain pairs) trees (null_id old.object_hash) (plain_lasts T pairs known trees (null_id old.object_hash) agrees) path
-          (open_dirs old) h.opened h.requested h.opens (open_bases old) holds.1)),
+          (open_dirs old) h.opened h.looked_up h.opens (open_bases old) holds.1)),
     )
 
     pub plain_failed : (path : Path) → IsAfterFailedEdit trees old path new → IsPlainState new
     plain_failed path h = (
       h.is_opened,
       carried (open_dirs new) (opened_bases (open_dirs old) (open_dirs new) (open_bases old)) (open_dirs new) (open_bases new) (λ at. refl) h.bases
-          (everywhere_opened (Plain pairs) trees (null_id old.object_hash) (plain_lasts T pairs known trees (null_id old.object_hash) agrees) h.prefix
-          (open_dirs old) (open_dirs new) h.requested h.opens (open_bases old) holds.1),
+          (everywhere_opened (Plain pairs) trees (null_id old.object_hash) (plain_lasts T pairs known trees (null_id old.object_hash) agrees) h.reached
+          (open_dirs old) (open_dirs new) h.looked_up h.opens (open_bases old) holds.1),
     )
 
   -- the emitted pairs are of these pairs, and the trees of the open directories are built up from them
@@ -155,7 +155,7 @@ module _ (T : Table) (pairs : List Pair) (known : AgreesWithPairs T pairs) where
   went : {S : Type 0} (old new : State S) (prefix : Path) (below : List Pair) (id : ObjectId) (own : List EntryView) (saved : ℕ) → IsPlainState old
       → EmitsBelow (in_path prefix (open_dirs old)) (in_path prefix (open_bases old)) below own saved
       → Within (below ++ (id, own) ∷ []) → AllByRecursion (λ pair. IsStorable pair.1) (below ++ (id, own) ∷ [])
-      → ((at : Path) → open_dirs new at ≡ with_path prefix (only own) (open_dirs old) at)
+      → ((at : Path) → open_dirs new at ≡ with_path prefix (only_open own) (open_dirs old) at)
       → ((at : Path) → open_bases new at ≡ edited_bases (open_dirs old) (open_dirs new) (open_bases old) at)
       → Everywhere (Plain pairs) (open_dirs new) (open_bases new) × AreBuilt (below ++ (id, own) ∷ [])
   went old new prefix below id own saved holds going within storable dirs_are bases_are =
@@ -163,7 +163,7 @@ module _ (T : Table) (pairs : List Pair) (known : AgreesWithPairs T pairs) where
       let mine = all_right (IsEmitted pairs) below ((id, own) ∷ []) out in
       let it = emits_below_plain pairs (in_path prefix (open_dirs old)) (in_path prefix (open_bases old)) below own saved going
       (everywhere_in_path (Plain pairs) prefix (open_dirs old) (open_bases old) holds.1) (all_remaining (IsEmitted pairs) below ((id, own) ∷ []) out) in
-      let made : Dirs = with_path prefix (only own) (open_dirs old) in (
+      let made : Dirs = with_path prefix (only_open own) (open_dirs old) in (
         carried made (edited_bases (open_dirs old) made (open_bases old)) (open_dirs new) (open_bases new) dirs_are
             (subst (λ (d : Dirs). (at : Path) → open_bases new at ≡ edited_bases (open_dirs old) d (open_bases old) at) (λ i at. dirs_are at i) bases_are)
             (everywhere_written (Plain pairs) no_trees (null_id old.object_hash)
@@ -180,7 +180,7 @@ module _ (T : Table) (pairs : List Pair) (known : AgreesWithPairs T pairs) where
       let remaining = went old new prefix out.0 out.1 out.2 out.3.0 holds out.3.1 (subst Within out.4 within)
       (subst (λ (l : List Pair). AllByRecursion (λ pair. IsStorable pair.1) l) out.4
       (recursion_from_All (λ (pair : Pair). IsStorable pair.1) it.trees.items h.storable))
-      (subst (λ (l : List EntryView). (at : Path) → open_dirs new at ≡ with_path prefix (only l) (open_dirs old) at) own h.dirs) h.bases in
+      (subst (λ (l : List EntryView). (at : Path) → open_dirs new at ≡ with_path prefix (only_open l) (open_dirs old) at) own h.dirs) h.bases in
       ((h.is_opened, remaining.0), subst AreBuilt (sym out.4) remaining.1)
 
   pub plain_root : {S F : Type 0} (gave : F → Pair → F → Type 0) (queries answered : F) (old new : State S) (it : Written) → IsPlainState old
@@ -190,8 +190,8 @@ module _ (T : Table) (pairs : List Pair) (known : AgreesWithPairs T pairs) where
       let own : h.own ≡ out.2 = last_own h.below (out.0) it.id (out.1) h.own (out.2) (sym h.last ∙ out.4) in
       let storable = subst (λ (l : List Pair). AllByRecursion (λ pair. IsStorable pair.1) l) out.4
       (recursion_from_All (λ (pair : Pair). IsStorable pair.1) it.trees.items h.storable) in
-      let alone : (at : Path) → open_dirs new at ≡ only out.2 at = λ at. ap (λ (m : DirMap). map.get m at) h.dirs ∙ alone_at h.own at
-      ∙ ap (λ (l : List EntryView). only l at) own in
+      let alone : (at : Path) → open_dirs new at ≡ only_open out.2 at = λ at. ap (λ (m : DirMap). map.get m at) h.dirs ∙ alone_at h.own at
+      ∙ ap (λ (l : List EntryView). only_open l at) own in
       let remaining = went old new [] out.0 out.1 out.2 out.3.0 holds out.3.1 (subst Within out.4 within) storable alone h.bases in (
         (
           subst (λ (d : Dirs). IsOpened d) (sym (λ i at. alone at i))

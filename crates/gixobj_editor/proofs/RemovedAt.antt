@@ -29,8 +29,8 @@ use Rattle.gixobj_editor.proofs.InPart.{prefix_in_part}
 use Rattle.gixobj_editor.proofs.Paths.{directory_is_prefix, directory_of_snoc}
 use Rattle.gixobj_editor.proofs.Removing.{IsOpenedFor, path_nil_or_snoc}
 
-nothing_requested : {Ends : EntryView → Type 0} (trees : Trees) (p : Path) → p ≡ [] → (old new : Dirs) (queries : List ObjectId)
-    → Opens Ends trees p old new queries → length queries ≡ 0
+nothing_requested : {StopsBefore : EntryView → Type 0} (trees : Trees) (p : Path) → p ≡ [] → (old new : Dirs) (queries : List ObjectId)
+    → Opens StopsBefore trees p old new queries → length queries ≡ 0
 nothing_requested trees p none old new queries (arrived d) = refl
 nothing_requested trees p none old new queries (stops name rest d other unopened) = refl
 nothing_requested trees p none old new queries (down name rest d inner e entries more has named is below) = absurd (cc none)
@@ -45,10 +45,10 @@ pub not_looked_up_is_idle : IsIdle IsNotLookedUp
 not_looked_up_is_idle e idle = idle
 
 -- what the opening of the directories above a path says of the entire path
-module _ {Ends : EntryView → Type 0} (idle : IsIdle Ends) (trees : Trees) (path : Path) (old new : Dirs) (queries : List ObjectId)
-    (opens : Opens Ends trees (directory_of path) old new queries) where
-  along : (head : Path) (last : List ℕ) → path ≡ head ++ last ∷ [] → Opens Ends trees head old new queries
-  along head last is = subst (λ p. Opens Ends trees p old new queries) (ap directory_of is ∙ directory_of_snoc head last) opens
+module _ {StopsBefore : EntryView → Type 0} (idle : IsIdle StopsBefore) (trees : Trees) (path : Path) (old new : Dirs) (queries : List ObjectId)
+    (opens : Opens StopsBefore trees (directory_of path) old new queries) where
+  along : (head : Path) (last : List ℕ) → path ≡ head ++ last ∷ [] → Opens StopsBefore trees head old new queries
+  along head last is = subst (λ p. Opens StopsBefore trees p old new queries) (ap directory_of is ∙ directory_of_snoc head last) opens
 
   count_above : length queries ≡ unopened_count trees old path
   count_above = elim (path_nil_or_snoc path) [
@@ -79,27 +79,27 @@ module _ {S : Type 0} (store : S) (hash : Kind) (prefix : Path) (trees : Trees) 
   abbrev made : Opened → ℕ → State S
   made ds n = state_of store hash prefix ds n
 
-  abbrev Ends : EntryView → Type 0
-  Ends = EndsBefore it
+  abbrev StopsBefore : EntryView → Type 0
+  StopsBefore = EndsBefore it
 
-  idle : IsIdle Ends
+  idle : IsIdle StopsBefore
   idle = ends_before_is_idle it
 
   -- the directories of an editor's map in place of the owned ones
-  for_map : (ds : Opened) (new : Dirs) (path : Path) (queries : List ObjectId) → IsOpenedFor Ends trees path (dirs_of ds) new queries
-      → IsOpenedFor Ends trees path (map_dirs ds) new queries
-  for_map ds new path queries opened = subst (λ (d : Dirs). IsOpenedFor Ends trees path d new queries) (sym (map_dirs_eq ds)) opened
+  for_map : (ds : Opened) (new : Dirs) (path : Path) (queries : List ObjectId) → IsOpenedFor StopsBefore trees path (dirs_of ds) new queries
+      → IsOpenedFor StopsBefore trees path (map_dirs ds) new queries
+  for_map ds new path queries opened = subst (λ (d : Dirs). IsOpenedFor StopsBefore trees path d new queries) (sym (map_dirs_eq ds)) opened
 
-  taken_out : (ds mid ds' : Opened) (n m : ℕ) (path : Path) (queries : List ObjectId) → IsOpenedFor Ends trees path (dirs_of ds) (dirs_of mid) queries
+  taken_out : (ds mid ds' : Opened) (n m : ℕ) (path : Path) (queries : List ObjectId) → IsOpenedFor StopsBefore trees path (dirs_of ds) (dirs_of mid) queries
       → m ≡ counted n queries → ((at : Path) → dirs_of ds' at ≡ removed_dirs path (dirs_of mid) at)
-      → OpenedOn ds → OpenedSo ds mid → EditedSo mid ds' → IsRemoved Ends trees (made ds n) path (made ds' m)
+      → OpenedOn ds → OpenedSo ds mid → EditedSo mid ds' → IsRemoved StopsBefore trees (made ds n) path (made ds' m)
   taken_out ds mid ds' n m path queries opened count take was first then =
       let so = for_map ds (dirs_of mid) path queries opened in
       let new_is : map_dirs ds' ≡ removed_dirs path (dirs_of mid) = map_dirs_eq ds' ∙ (λ i at. take at i) in
       record {
         names = so.1;
         opened = dirs_of mid;
-        requested = queries;
+        looked_up = queries;
         opens = so.0;
         dirs = λ at. ap (λ (d : Dirs). d at) new_is;
         bases = edited_bases_of_map ds mid ds' first then;
@@ -118,23 +118,23 @@ module _ {S : Type 0} (store : S) (hash : Kind) (prefix : Path) (trees : Trees) 
       }
 
   pub removed_at : (ds mid ds' : Opened) (n m : ℕ) (old : State S) → made ds n ≡ old → (path : Path) (queries : List ObjectId)
-      → IsOpenedFor Ends trees path (dirs_of ds) (dirs_of mid) queries → m ≡ counted n queries
+      → IsOpenedFor StopsBefore trees path (dirs_of ds) (dirs_of mid) queries → m ≡ counted n queries
       → ((at : Path) → dirs_of ds' at ≡ removed_dirs path (dirs_of mid) at) → OpenedOn ds → OpenedSo ds mid → EditedSo mid ds'
-      → IsRemoved Ends trees old path (made ds' m)
+      → IsRemoved StopsBefore trees old path (made ds' m)
   removed_at ds mid ds' n m old view path queries opened count take was first then =
-      subst (λ (o : State S). IsRemoved Ends trees o path (made ds' m)) view
+      subst (λ (o : State S). IsRemoved StopsBefore trees o path (made ds' m)) view
       (taken_out ds mid ds' n m path queries opened count take was first then)
 
   -- the entry at the path, before and after the opening
   pub known_at : (ds mid : Opened) (n : ℕ) (old : State S) → made ds n ≡ old → (path : Path) (queries : List ObjectId)
-      → IsOpenedFor Ends trees path (dirs_of ds) (dirs_of mid) queries → entry_at path (dirs_of mid) ≡ looked_up_entry trees path (open_dirs old)
+      → IsOpenedFor StopsBefore trees path (dirs_of ds) (dirs_of mid) queries → entry_at path (dirs_of mid) ≡ looked_up_entry trees path (open_dirs old)
   known_at ds mid n old view path queries opened = subst (λ (o : State S). entry_at path (dirs_of mid) ≡ looked_up_entry trees path (open_dirs o))
       view
       (known_same idle trees path (map_dirs ds) (dirs_of mid) queries (for_map ds (dirs_of mid) path queries opened).0)
 
   -- directories are opened, and then the removal fails
   pub rejected_at : (ds mid : Opened) (n m : ℕ) (old : State S) → made ds n ≡ old → (path : Path) (queries : List ObjectId)
-      → IsOpenedFor Ends trees path (dirs_of ds) (dirs_of mid) queries → m ≡ counted n queries
+      → IsOpenedFor StopsBefore trees path (dirs_of ds) (dirs_of mid) queries → m ≡ counted n queries
       → OpenedOn ds → OpenedSo ds mid → IsAfterFailedEdit trees old path (made mid m)
   rejected_at ds mid n m old view path queries opened count =
       let same = count_above idle trees path (dirs_of ds) (dirs_of mid) queries opened.0 in

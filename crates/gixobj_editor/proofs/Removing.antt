@@ -16,7 +16,7 @@ use Rattle.gixobj_files.specs.Opening.{Dirs}
 use Rattle.gixobj_files.proofs.ReachedDirectories.{comes_open, open_comes, opens_of_longer_path}
 use Rattle.gixobj_files.proofs.StoppedOpenings.{halted_at, halted_unopened}
 use Rattle.gixobj_files.proofs.UnopenedCounts.{IsIdle}
-use Rattle.gixobj_editor.specs.Upserts.{IsValidated, OpensInPart, IsEntryNameError, IsFirstNameError, directory_of, edit_error}
+use Rattle.gixobj_editor.specs.Upserts.{SplitsAtFirstInvalid, OpensInPart, IsEntryNameError, IsFirstNameError, directory_of, edit_error}
 use Rattle.gixobj_editor.specs.Removals.{ValidatesUpTo, IsRemovalError}
 use Rattle.gixobj_editor.specs.declared.editor.error.Error.{Error}
 use Rattle.gixobj_editor.specs.declared.editor.error.Error.TheVariants as error
@@ -46,24 +46,24 @@ directory_deeper (first ∷ []) name back = refl
 directory_deeper (first ∷ second ∷ prefix) name back = ap (λ p. first ∷ p) (directory_deeper (second ∷ prefix) name back)
 
 -- a split path is empty, or has a name after those that are opened
-after_names : (path names rejected : Path) → IsValidated path names rejected → ((path ≡ []) × (names ≡ []))
+after_names : (path names rejected : Path) → SplitsAtFirstInvalid path names rejected → ((path ≡ []) × (names ≡ []))
     ⊎ ((last : List ℕ) × (following : Path) × (path ≡ names ++ last ∷ following) × AreNames names)
-after_names path names [] validated = elim (path_nil_or_snoc path) [
-  | inl none ↦ inl (none, validated.1 ∙ ap directory_of none)
+after_names path names [] splits = elim (path_nil_or_snoc path) [
+  | inl none ↦ inl (none, splits.1 ∙ ap directory_of none)
   | inr ends ↦
-      let prefix : names ≡ ends.0 = validated.1 ∙ ap directory_of ends.2 ∙ directory_of_snoc ends.0 ends.1 in
+      let prefix : names ≡ ends.0 = splits.1 ∙ ap directory_of ends.2 ∙ directory_of_snoc ends.0 ends.1 in
       inr (
         ends.1,
         [],
         ends.2 ∙ ap (λ p. p ++ ends.1 ∷ []) (sym prefix),
         subst AreNames (sym prefix)
-            (are_names_prefix ends.0 (ends.1 ∷ []) (subst AreNames ends.2 validated.0)),
+            (are_names_prefix ends.0 (ends.1 ∷ []) (subst AreNames ends.2 splits.0)),
       )
 ]
-after_names path names (name ∷ rest) validated = inr (name, rest, validated.2, validated.0)
+after_names path names (name ∷ rest) splits = inr (name, rest, splits.2, splits.0)
 
-no_halt : {Ends : EntryView → Type 0} (trees : Trees) (path : Path) → path ≡ [] → (old new : Dirs) (requested : List ObjectId) (failed_lookup : Option ObjectId)
-    → StopsOpening Ends trees path old new requested failed_lookup → ⊥
+no_halt : {StopsBefore : EntryView → Type 0} (trees : Trees) (path : Path) → path ≡ [] → (old new : Dirs) (requested : List ObjectId) (failed_lookup : Option ObjectId)
+    → StopsOpening StopsBefore trees path old new requested failed_lookup → ⊥
 no_halt trees path is old new requested failed_lookup (at_once name rest d e entry tree free none) = cc is
 no_halt trees path is old new requested failed_lookup (without_answer name rest d e entry tree free none filled) = cc is
 no_halt trees path is old new requested failed_lookup (halting.down name rest d inner e entries more v has named there halts) = cc is
@@ -71,33 +71,33 @@ no_halt trees path is old new requested failed_lookup (halting.found name rest d
 
 -- the effect of a failed removal: the opened directories, the lookups and the error
 abbrev pub IsRejectedSo : (EntryView → Type 0) → Objects → (ObjectId → Bool) → Trees → Path → Dirs → Dirs → ℕ → ℕ → Error → Type 0
-IsRejectedSo Ends objects may_fail trees path old new before after failure =
-    OpensInPart Ends trees path old new before after × IsRemovalError Ends objects may_fail trees old path failure
+IsRejectedSo StopsBefore objects may_fail trees path old new before after failure =
+    OpensInPart StopsBefore trees path old new before after × IsRemovalError StopsBefore objects may_fail trees old path failure
 
-module _ {Ends : EntryView → Type 0} (idle : IsIdle Ends) (objects : Objects) (may_fail : ObjectId → Bool) (trees : Trees) where
+module _ {StopsBefore : EntryView → Type 0} (idle : IsIdle StopsBefore) (objects : Objects) (may_fail : ObjectId → Bool) (trees : Trees) where
   -- a directory isn't opened
   stopped_opening_fails : (path names : Path) (last : List ℕ) (following : Path) → path ≡ names ++ last ∷ following → AreNames names
-      → (old new : Dirs) (requested : List ObjectId) (failed_lookup : Option ObjectId) → StopsOpening Ends trees names old new requested failed_lookup
-      → (cause : directory.Error) → IsOpenErrorAt objects may_fail failed_lookup cause → IsRemovalError Ends objects may_fail trees old path (edit_error cause)
+      → (old new : Dirs) (requested : List ObjectId) (failed_lookup : Option ObjectId) → StopsOpening StopsBefore trees names old new requested failed_lookup
+      → (cause : directory.Error) → IsOpenErrorAt objects may_fail failed_lookup cause → IsRemovalError StopsBefore objects may_fail trees old path (edit_error cause)
   stopped_opening_fails path names last following is good old new requested failed_lookup halts opening.OutOfMemory at =
-      subst (λ p. IsRemovalError Ends objects may_fail trees old p error.OutOfMemory) (sym is)
+      subst (λ p. IsRemovalError StopsBefore objects may_fail trees old p error.OutOfMemory) (sym is)
       (halted_unopened trees names last following old new requested failed_lookup halts)
   stopped_opening_fails path names last following is good old new requested None halts opening.MalformedTree at = absurd (cc at)
   stopped_opening_fails path names last following is good old new requested (Some it) halts opening.MalformedTree at =
       let h = halted_at trees names last following old new requested (Some it) halts it refl in
-      subst (λ p. IsRemovalError Ends objects may_fail trees old p error.MalformedTree) (sym is)
+      subst (λ p. IsRemovalError StopsBefore objects may_fail trees old p error.MalformedTree) (sym is)
       (it, h.0, are_names_prefix h.0.place h.1 (subst AreNames h.2 good), at)
   stopped_opening_fails path names last following is good old new requested None halts (opening.FindExistingObject why) at = absurd (cc at)
   stopped_opening_fails path names last following is good old new requested (Some it) halts (opening.FindExistingObject why) at =
       let h = halted_at trees names last following old new requested (Some it) halts it refl in
-      subst (λ p. IsRemovalError Ends objects may_fail trees old p (error.FindExistingObject why)) (sym is)
+      subst (λ p. IsRemovalError StopsBefore objects may_fail trees old p (error.FindExistingObject why)) (sym is)
       (it, h.0, are_names_prefix h.0.place h.1 (subst AreNames h.2 good), at)
 
-  pub halted_removal : (path names rejected : Path) → IsValidated path names rejected
+  pub halted_removal : (path names rejected : Path) → SplitsAtFirstInvalid path names rejected
       → (old new : Dirs) (requested : List ObjectId) (failed_lookup : Option ObjectId)
-      → StopsOpening Ends trees names old new requested failed_lookup → (cause : directory.Error) → IsOpenErrorAt objects may_fail failed_lookup cause
-      → (n m : ℕ) → m ≡ counted n requested → IsRejectedSo Ends objects may_fail trees path old new n m (edit_error cause)
-  halted_removal path names rejected validated old new requested failed_lookup halts cause at n m count = elim (after_names path names rejected validated) [
+      → StopsOpening StopsBefore trees names old new requested failed_lookup → (cause : directory.Error) → IsOpenErrorAt objects may_fail failed_lookup cause
+      → (n m : ℕ) → m ≡ counted n requested → IsRejectedSo StopsBefore objects may_fail trees path old new n m (edit_error cause)
+  halted_removal path names rejected splits old new requested failed_lookup halts cause at n m count = elim (after_names path names rejected splits) [
     | inl none ↦ absurd (no_halt trees names none.1 old new requested failed_lookup halts)
     | inr remaining ↦ (
       halted_in_part trees path names remaining.0 remaining.1 remaining.2 old new requested failed_lookup halts n m count,
@@ -107,8 +107,8 @@ module _ {Ends : EntryView → Type 0} (idle : IsIdle Ends) (objects : Objects) 
 
   -- a name is invalid
   first_failed : (path names : Path) (name : List ℕ) (rest : Path) → AreNames names → path ≡ names ++ name ∷ rest → (old new : Dirs) (requested : List ObjectId)
-      → Opens Ends trees names old new requested → (entries : List EntryView) → new names ≡ Some entries
-      → (failure : Error) → IsEntryNameError name failure → IsRemovalError Ends objects may_fail trees old path failure
+      → Opens StopsBefore trees names old new requested → (entries : List EntryView) → new names ≡ Some entries
+      → (failure : Error) → IsEntryNameError name failure → IsRemovalError StopsBefore objects may_fail trees old path failure
   first_failed path names name rest good is old new requested opens entries there error.EmptyPathComponent h =
       (name, (names, rest, is, good, open_comes idle trees names old new requested opens entries there), h)
   first_failed path names name rest good is old new requested opens entries there error.SlashInPathComponent h =
@@ -118,35 +118,35 @@ module _ {Ends : EntryView → Type 0} (idle : IsIdle Ends) (objects : Objects) 
   first_failed path names name rest good is old new requested opens entries there error.MalformedTree h = absurd h
   first_failed path names name rest good is old new requested opens entries there error.OutOfMemory h = absurd h
 
-  pub name_rejected_so : (path names rejected : Path) → IsValidated path names rejected → (old new : Dirs) (requested : List ObjectId)
-      → Opens Ends trees names old new requested → (entries : List EntryView) → new names ≡ Some entries → (failure : Error) → IsFirstNameError rejected failure
-      → (n m : ℕ) → m ≡ counted n requested → IsRejectedSo Ends objects may_fail trees path old new n m failure
-  name_rejected_so path names [] validated old new requested opens entries there failure h n m count = absurd h
-  name_rejected_so path names (name ∷ rest) validated old new requested opens entries there failure (inl h) n m count = (
-    opened_in_part trees path names name rest validated.2 old new requested opens n m count,
-    first_failed path names name rest validated.0 validated.2 old new requested opens entries there failure h,
+  pub name_rejected_so : (path names rejected : Path) → SplitsAtFirstInvalid path names rejected → (old new : Dirs) (requested : List ObjectId)
+      → Opens StopsBefore trees names old new requested → (entries : List EntryView) → new names ≡ Some entries → (failure : Error) → IsFirstNameError rejected failure
+      → (n m : ℕ) → m ≡ counted n requested → IsRejectedSo StopsBefore objects may_fail trees path old new n m failure
+  name_rejected_so path names [] splits old new requested opens entries there failure h n m count = absurd h
+  name_rejected_so path names (name ∷ rest) splits old new requested opens entries there failure (inl h) n m count = (
+    opened_in_part trees path names name rest splits.2 old new requested opens n m count,
+    first_failed path names name rest splits.0 splits.2 old new requested opens entries there failure h,
   )
-  name_rejected_so path names (name ∷ rest) validated old new requested opens entries there failure (inr h) n m count = absurd (validated.1 h.0)
+  name_rejected_so path names (name ∷ rest) splits old new requested opens entries there failure (inr h) n m count = absurd (splits.1 h.0)
 
 -- the effect of an opening without an error: the opened directories, and that each reached name is valid
 abbrev pub IsOpenedFor : (EntryView → Type 0) → Trees → Path → Dirs → Dirs → List ObjectId → Type 0
-IsOpenedFor Ends trees path old new requested = Opens Ends trees (directory_of path) old new requested
-    × ((name : List ℕ) → ValidatesUpTo Ends trees old path name → IsEntryName name)
+IsOpenedFor StopsBefore trees path old new requested = Opens StopsBefore trees (directory_of path) old new requested
+    × ((name : List ℕ) → ValidatesUpTo StopsBefore trees old path name → IsEntryName name)
 
-pub is_opened_for_of_opens : {Ends : EntryView → Type 0} → IsIdle Ends → (trees : Trees) (path names rejected : Path) → IsValidated path names rejected
+pub is_opened_for_of_opens : {StopsBefore : EntryView → Type 0} → IsIdle StopsBefore → (trees : Trees) (path names rejected : Path) → SplitsAtFirstInvalid path names rejected
     → (old new : Dirs)
-    → old [] ≢ None → (requested : List ObjectId) → Opens Ends trees names old new requested → (new names ≡ None) ⊎ AreNames rejected
-    → IsOpenedFor Ends trees path old new requested
-is_opened_for_of_opens {Ends = Ends} idle trees path names [] validated old new root requested opens came =
-    (subst (λ p. Opens Ends trees p old new requested) validated.1 opens, λ name it. is_entry_name_of_member it.0 name it.1 (subst AreNames it.2 validated.0))
-is_opened_for_of_opens {Ends = Ends} idle trees path names (bad ∷ rest) validated old new root requested opens (inr good) =
-    absurd (validated.1 (All-head IsEntryName bad rest good))
-is_opened_for_of_opens {Ends = Ends} idle trees path names (bad ∷ rest) validated old new root requested opens (inl ended) = (
-  subst (λ p. Opens Ends trees p old new requested) (sym (ap directory_of validated.2 ∙ directory_deeper names bad rest))
+    → old [] ≢ None → (requested : List ObjectId) → Opens StopsBefore trees names old new requested → (new names ≡ None) ⊎ AreNames rejected
+    → IsOpenedFor StopsBefore trees path old new requested
+is_opened_for_of_opens {StopsBefore = StopsBefore} idle trees path names [] splits old new root requested opens came =
+    (subst (λ p. Opens StopsBefore trees p old new requested) splits.1 opens, λ name it. is_entry_name_of_member it.0 name it.1 (subst AreNames it.2 splits.0))
+is_opened_for_of_opens {StopsBefore = StopsBefore} idle trees path names (bad ∷ rest) splits old new root requested opens (inr good) =
+    absurd (splits.1 (All-head IsEntryName bad rest good))
+is_opened_for_of_opens {StopsBefore = StopsBefore} idle trees path names (bad ∷ rest) splits old new root requested opens (inl ended) = (
+  subst (λ p. Opens StopsBefore trees p old new requested) (sym (ap directory_of splits.2 ∙ directory_deeper names bad rest))
       (opens_of_longer_path trees names (directory_of (bad ∷ rest)) old new requested opens root ended),
-  λ name it. elim (snoc_prefix_cases names bad rest it.0 name it.1 (sym validated.2 ∙ it.2)) [
-    | inl within ↦ is_entry_name_of_member it.0 name within.0 (subst AreNames within.1 validated.0)
-    | inr (inl at) ↦ absurd (comes_open idle trees names old new requested opens root (subst (λ p. ReachesDirectory Ends trees old p) (sym at.0) it.4) ended)
-    | inr (inr following) ↦ absurd (validated.1 (is_entry_name_of_member names bad following.0 (subst AreNames following.1 it.3)))
+  λ name it. elim (snoc_prefix_cases names bad rest it.0 name it.1 (sym splits.2 ∙ it.2)) [
+    | inl within ↦ is_entry_name_of_member it.0 name within.0 (subst AreNames within.1 splits.0)
+    | inr (inl at) ↦ absurd (comes_open idle trees names old new requested opens root (subst (λ p. ReachesDirectory StopsBefore trees old p) (sym at.0) it.4) ended)
+    | inr (inr following) ↦ absurd (splits.1 (is_entry_name_of_member names bad following.0 (subst AreNames following.1 it.3)))
   ],
 )

@@ -28,62 +28,62 @@ use Rattle.gixobj_editor.specs.declared.reply.EditReply.{EditReply}
 use Rattle.gixobj_editor.specs.declared.reply.Reply.TheVariants as reply
 
 -- an edit at the names that were lent to the call
-module _ {S E : Type 0} (means : StoreModel S) (answers : Answers E) (place : Place) (old new : State S) (path : Vec BString Global) (lent : List BString)
+module _ {S E : Type 0} (model : StoreModel S) (answers : Answers E) (place : Place) (old new : State S) (path : Vec BString Global) (lent : List BString)
     (is : lent ≡ path.items) where
   abbrev Of : (Trees → Type 0) → Type 0
-  Of = OfTrees (means.objects old.store)
+  Of = OfTrees (model.objects old.store)
 
   failed_reply : (Rejects : List BString → Trees → Type 0) → Of (λ trees. IsAfterFailedEdit trees old (path_at place (names_of lent)) new) → Of (Rejects lent)
-      → IsFailedEdit means (Rejects path.items) old (path_at place (names_of path.items)) new
-  failed_reply Rejects pending failure = subst (λ (l : List BString). IsFailedEdit means (Rejects l) old (path_at place (names_of l)) new) is
+      → IsFailedEdit model (Rejects path.items) old (path_at place (names_of path.items)) new
+  failed_reply Rejects pending failure = subst (λ (l : List BString). IsFailedEdit model (Rejects l) old (path_at place (names_of l)) new) is
       (record { effect = pending; cause = failure })
 
   abbrev Upserts : List BString → Error → Trees → Type 0
-  Upserts l error trees = IsEditErrorAt place (names_of l) (IsUpsertError (means.objects old.store) (means.may_fail old.store) trees (open_dirs old)
+  Upserts l error trees = IsEditErrorAt place (names_of l) (IsUpsertError (model.objects old.store) (model.may_fail old.store) trees (open_dirs old)
       (path_at place (names_of l))) error
 
   abbrev Removes : List BString → Error → Trees → Type 0
-  Removes l error trees = IsEditErrorAt place (names_of l) (IsRemovalError IsNoTree (means.objects old.store) (means.may_fail old.store) trees (open_dirs old)
+  Removes l error trees = IsEditErrorAt place (names_of l) (IsRemovalError IsNoTree (model.objects old.store) (model.may_fail old.store) trees (open_dirs old)
       (path_at place (names_of l))) error
 
   abbrev RemovesLeaf : List BString → Error → Trees → Type 0
   RemovesLeaf l error trees =
-      IsEditErrorAt place (names_of l) (IsLeafRemovalError (means.objects old.store) (means.may_fail old.store) trees (open_dirs old)
+      IsEditErrorAt place (names_of l) (IsLeafRemovalError (model.objects old.store) (model.may_fail old.store) trees (open_dirs old)
       (path_at place (names_of l))) error
 
   pub upsert_replied : (kind : EntryKind) (id : ObjectId) (done : Result (Unit {0}) Error)
       → OnOk done (Of (λ trees. IsUpserted trees old (path_at place (names_of lent)) (mode_of_kind kind) id new))
       → OnErr done (Of (λ trees. IsAfterFailedEdit trees old (path_at place (names_of lent)) new))
       → IfErr done (λ error. Of (Upserts lent error)) → IfErr done (λ error. IsNameError error → new ≡ old)
-      → IsEditReply means answers place old (edit.Upsert path kind id) (reply_to done) new
+      → IsEditReply model answers place old (edit.Upsert path kind id) (reply_to done) new
   upsert_replied kind id (Ok it) upserted pending failure not_looked_up =
       subst (λ (l : List BString). Of (λ trees. IsUpserted trees old (path_at place (names_of l)) (mode_of_kind kind) id new)) is upserted
   upsert_replied kind id (Err error) upserted pending failure not_looked_up = (failed_reply (λ l trees. Upserts l error trees) pending failure, not_looked_up)
 
   pub removal_replied : (done : Result (Unit {0}) Error) → OnOk done (Of (λ trees. IsRemoved IsNoTree trees old (path_at place (names_of lent)) new))
       → OnErr done (Of (λ trees. IsAfterFailedEdit trees old (path_at place (names_of lent)) new)) → IfErr done (λ error. Of (Removes lent error))
-      → IsEditReply means answers place old (edit.Remove path) (reply_to done) new
+      → IsEditReply model answers place old (edit.Remove path) (reply_to done) new
   removal_replied (Ok it) removed pending failure = subst (λ (l : List BString). Of (λ trees. IsRemoved IsNoTree trees old (path_at place (names_of l)) new)) is
       removed
   removal_replied (Err error) removed pending failure = failed_reply (λ l trees. Removes l error trees) pending failure
 
   pub leaf_removal_replied : (done : Result (Unit {0}) Error) → OnOk done (Of (λ trees. IsLeafRemoved trees old (path_at place (names_of lent)) new))
       → OnErr done (Of (λ trees. IsAfterFailedEdit trees old (path_at place (names_of lent)) new)) → IfErr done (λ error. Of (RemovesLeaf lent error))
-      → IsEditReply means answers place old (edit.RemoveLeaf path) (reply_to done) new
+      → IsEditReply model answers place old (edit.RemoveLeaf path) (reply_to done) new
   leaf_removal_replied (Ok it) removed pending failure = subst (λ (l : List BString). Of (λ trees. IsLeafRemoved trees old (path_at place (names_of l)) new)) is
       removed
   leaf_removal_replied (Err error) removed pending failure = failed_reply (λ l trees. RemovesLeaf l error trees) pending failure
 
 -- edits by a cursor at a prefix, as the editor outside sees them
-module _ {S E : Type 0} (means : StoreModel S) (answers : Answers E) (prefix at : Path) (old lent pending new : State S) (edits : List Edit) where
-  pub done_at : (replies : Vec (EditReply E) Global) → at ≡ prefix → OfTrees (means.objects old.store) (λ trees. IsEnsured trees old prefix lent)
-      → AreEditReplies means answers (at_cursor at) lent edits replies.items pending → new ≡ pending
-      → IsReplyAt means answers prefix old edits (reply.At replies) new
+module _ {S E : Type 0} (model : StoreModel S) (answers : Answers E) (prefix at : Path) (old lent pending new : State S) (edits : List Edit) where
+  pub done_at : (replies : Vec (EditReply E) Global) → at ≡ prefix → OfTrees (model.objects old.store) (λ trees. IsEnsured trees old prefix lent)
+      → AreEditReplies model answers (at_cursor at) lent edits replies.items pending → new ≡ pending
+      → IsReplyAt model answers prefix old edits (reply.At replies) new
   done_at replies is ensured done outside = (
     lent,
     ensured,
-    subst (λ (s : State S). AreEditReplies means answers (at_cursor prefix) lent edits replies.items s) (sym outside)
-        (subst (λ (p : Path). AreEditReplies means answers (at_cursor p) lent edits replies.items pending) is done),
+    subst (λ (s : State S). AreEditReplies model answers (at_cursor prefix) lent edits replies.items s) (sym outside)
+        (subst (λ (p : Path). AreEditReplies model answers (at_cursor p) lent edits replies.items pending) is done),
   )
 
 -- a new root, by the contract of the call for the editor that it returns

@@ -17,7 +17,7 @@ use Rattle.gixobj_files.proofs.OpenedFiles.{no_open_files_of_no_entries}
 use Rattle.gixobj_files.proofs.Plain.{HasBuilt}
 use Rattle.gixobj_files.proofs.PlainHistories.{IsUpTo, steps_plain}
 use Rattle.gixobj_files.specs.Files.{FileSet, Files, NamedFiles, SameFiles, Table}
-use Rattle.gixobj_files.specs.History.{History, Step}
+use Rattle.gixobj_files.specs.History.{FilesAfter, Step}
 use Rattle.gixobj_files.specs.Opening.{OpenFiles}
 use Rattle.gixobj_files.specs.PlainHistory.{HasNoTree, NoFiles}
 use Rattle.gixobj_files.specs.State.{DirMap, EditorFiles, State, root_alone}
@@ -113,7 +113,7 @@ is_up_to_of_same_files n A B C same is path mode id = ((λ h. (is path mode id).
 -- the history of a plain run on an editor of no files needs no table
 pub plain_history_of_prefix : {S E : Type 0} (T : Table) (n : ℕ) (start : State S) (k : ℕ) (commands : List Command) (replies : List (Reply E))
     → start.dirs ≡ root_alone [] → AllByRecursion NamesNoTree commands
-    → IsUpTo n (History T n (accepted_steps (take k commands) (take k replies)) (EditorFiles T n start)) (files_before k commands replies)
+    → IsUpTo n (FilesAfter T n (accepted_steps (take k commands) (take k replies)) (EditorFiles T n start)) (files_before k commands replies)
 plain_history_of_prefix T n start k commands replies empty other =
     let nothing : IsUpTo n (EditorFiles T n start) NoFiles = λ path mode id. (
       (λ h. absurd (no_open_files_of_no_entries T n path mode id

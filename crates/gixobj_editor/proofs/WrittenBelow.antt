@@ -7,7 +7,7 @@ use Rattle.std.proofs.lemmas.List.Elements.{All-from_recursion}
 use Rattle.gixobj_directories.specs.Calls.{IsStorable}
 use Rattle.gixobj_directories.specs.Nested.{Opened, bases_of, dirs_of}
 use Rattle.gixobj_directories.proofs.StorablePairs.{emits_below_storable}
-use Rattle.gixobj_files.specs.Edits.{only, with_path}
+use Rattle.gixobj_files.specs.Edits.{only_open, with_path}
 use Rattle.gixobj_files.specs.Files.{Path, SameFiles}
 use Rattle.gixobj_files.specs.Emission.{EmitsBelow, Saves}
 use Rattle.gixobj_files.specs.Opening.{Dirs, IsOpened, OpenFiles, in_path}
@@ -38,16 +38,16 @@ write_keeps_prefix {S = S} (Err error) old new rest unchanged = ap (λ (o : Stat
 
 -- the directory at the prefix is still open, with the last emitted tree
 pub written_prefix_is_open : {W X S : Type 0} (result : Result W X) (old new : State S)
-    → IfOk result (λ _. (own : List EntryView) × ((at : Path) → open_dirs new at ≡ with_path old.prefix (only own) (open_dirs old) at))
+    → IfOk result (λ _. (own : List EntryView) × ((at : Path) → open_dirs new at ≡ with_path old.prefix (only_open own) (open_dirs old) at))
     → OnErr result (new ≡ old) → new.prefix ≡ old.prefix → open_dirs old old.prefix ≢ None → open_dirs new new.prefix ≢ None
 written_prefix_is_open (Ok it) old new (own, remaining) unchanged same there =
     λ none. let found : Some own ≡ None =
-    sym (sym (ap (with_path old.prefix (only own) (open_dirs old)) (append-nil old.prefix)) ∙ with_path_at_prefix old.prefix (only own) (open_dirs old) [])
+    sym (sym (ap (with_path old.prefix (only_open own) (open_dirs old)) (append-nil old.prefix)) ∙ with_path_at_prefix old.prefix (only_open own) (open_dirs old) [])
     ∙ sym (remaining old.prefix) ∙ subst (λ (p : Path). open_dirs new p ≡ None) same none in cc found
 written_prefix_is_open {S = S} (Err error) old new ok unchanged same there = subst (λ (o : State S). open_dirs o o.prefix ≢ None) (sym unchanged) there
 
 pub is_opened_after_write : (prefix : Path) (own : List EntryView) (ds ds' : Opened) → IsOpened (dirs_of ds) → dirs_of ds prefix ≢ None → IsStorable own
-    → ((at : Path) → dirs_of ds' at ≡ with_path prefix (only own) (dirs_of ds) at) → IsOpened (dirs_of ds')
+    → ((at : Path) → dirs_of ds' at ≡ with_path prefix (only_open own) (dirs_of ds) at) → IsOpened (dirs_of ds')
 is_opened_after_write prefix own ds ds' all there storable remaining = subst (λ (d : Dirs). IsOpened d) (sym (λ i at. remaining at i))
     (is_opened_with_only prefix own (dirs_of ds) all there storable.well_formed)
 
@@ -55,7 +55,7 @@ module _ {S F : Type 0} (store : S) (hash : Kind) (prefix : Path) (gave : F → 
   went_out : (ds ds' : Opened) (n : ℕ) → OpenedOn ds → dirs_of ds prefix ≢ None → (it : Written) (below : List Pair) (own : List EntryView)
       (requested answered : F) → Saves (in_path prefix (dirs_of ds)) (in_path prefix (bases_of ds)) below own it.saved
       → it.trees.items ≡ below ++ (it.id, own) ∷ [] → FoldsTo gave requested (below ++ (it.id, own) ∷ []) answered → IsStorable own
-      → ((at : Path) → dirs_of ds' at ≡ with_path prefix (only own) (dirs_of ds) at) → EditedSo ds ds'
+      → ((at : Path) → dirs_of ds' at ≡ with_path prefix (only_open own) (dirs_of ds) at) → EditedSo ds ds'
       → IsWrittenBelow gave requested (state_of store hash prefix ds n) prefix it (state_of store hash prefix ds' n) answered
   went_out ds ds' n was there it below own requested answered going is called storable remaining edited =
       let old_is = map_dirs_eq ds in
@@ -64,8 +64,8 @@ module _ {S F : Type 0} (store : S) (hash : Kind) (prefix : Path) (gave : F → 
       let leaving : EmitsBelow (in_path prefix (map_dirs ds)) (in_path prefix (map_bases ds)) below own going.0 =
       subst (λ (b : Dirs). EmitsBelow (in_path prefix (map_dirs ds)) (in_path prefix b) below own going.0) (sym (map_bases_eq ds))
       (subst (λ (d : Dirs). EmitsBelow (in_path prefix d) (in_path prefix (bases_of ds)) below own going.0) (sym old_is) going.1) in
-      let new_is : map_dirs ds' ≡ with_path prefix (only own) (map_dirs ds) = map_dirs_eq ds' ∙ (λ i at. remaining at i)
-      ∙ (λ i. with_path prefix (only own) (sym old_is i)) in
+      let new_is : map_dirs ds' ≡ with_path prefix (only_open own) (map_dirs ds) = map_dirs_eq ds' ∙ (λ i at. remaining at i)
+      ∙ (λ i. with_path prefix (only_open own) (sym old_is i)) in
       record {
         emitted = (below, it.id, own, (going.0, leaving, going.2), is);
         called = subst (λ (ps : List Pair). FoldsTo gave requested ps answered) (sym is) called;
@@ -94,7 +94,7 @@ module _ {S F : Type 0} (store : S) (hash : Kind) (prefix : Path) (gave : F → 
       → (it : Written) (below : List Pair) (own : List EntryView) (requested answered : F)
       → Saves (in_path prefix (dirs_of ds)) (in_path prefix (bases_of ds)) below own it.saved → it.trees.items ≡ below ++ (it.id, own) ∷ []
       → FoldsTo gave requested (below ++ (it.id, own) ∷ []) answered → IsStorable own
-      → ((at : Path) → dirs_of ds' at ≡ with_path prefix (only own) (dirs_of ds) at) → EditedSo ds ds' → IsWrittenBelow gave requested old old.prefix it
+      → ((at : Path) → dirs_of ds' at ≡ with_path prefix (only_open own) (dirs_of ds) at) → EditedSo ds ds' → IsWrittenBelow gave requested old old.prefix it
       (state_of store hash prefix ds' n) answered
   written_at ds ds' n old view was there it below own requested answered going is called storable remaining edited =
       subst (λ (o : State S). IsWrittenBelow gave requested o o.prefix it (state_of store hash prefix ds' n) answered) view

@@ -20,7 +20,7 @@ use Rattle.gixobj_directories.specs.declared.write.Written.{Written}
 use Rattle.gixobj_editor.specs.Writes.{IsWrittenEditor}
 use Rattle.gixobj_editor.proofs.Edited.{EditedSo, OpenedOn, map_dirs_at, map_bases, map_dirs, map_is_opened_on, only_edited_bases_of_map, map_bases_eq, map_dirs_eq, state_of}
 use Rattle.gixobj_files.specs.Bases.{HasBases, base_edited}
-use Rattle.gixobj_files.specs.Edits.{only}
+use Rattle.gixobj_files.specs.Edits.{only_open}
 use Rattle.gixobj_files.proofs.Based.{everywhere_based}
 use Rattle.gixobj_files.proofs.Calls.{has_bases_of_none}
 
@@ -46,7 +46,7 @@ module _ {S F : Type 0} (store : S) (hash : Kind) (prefix : Path) (gave : F → 
       → SameFiles (Files T k own) (OpenFiles T k (map_dirs ds)) =
       λ T k agrees has. emits_below_files T (map_dirs ds) (map_bases ds) below own going.0 there (are_trees_of_opened (map_dirs ds) on.opened)
       (everywhere_based T (map_dirs ds) (map_bases ds) on.null_based has) (known_append_left T below ((it.id, own) ∷ []) (known T agrees)) k in
-      let new_is : (at : Path) → map_dirs (opened own base []) at ≡ only own at = λ at. map_dirs_at (opened own base []) at ∙ ap (λ (d : Dirs). d at)
+      let new_is : (at : Path) → map_dirs (opened own base []) at ≡ only_open own at = λ at. map_dirs_at (opened own base []) at ∙ ap (λ (d : Dirs). d at)
       (dirs_of_childless own) in
       record {
         emitted = (below, it.id, own, (going.0, there, going.2), is);

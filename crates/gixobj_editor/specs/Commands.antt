@@ -107,5 +107,5 @@ kept_of (reply.At replies) = flat_map kept_of_edit replies.items
 kept_of its_reply = []
 
 -- the emitted pairs of a run that the store has kept, in order
-abbrev pub pairs_kept : {E : Type 0} → List (Reply E) → List Pair
-pairs_kept replies = flat_map kept_of replies
+abbrev pub kept_pairs : {E : Type 0} → List (Reply E) → List Pair
+kept_pairs replies = flat_map kept_of replies

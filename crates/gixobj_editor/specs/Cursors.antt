@@ -8,14 +8,14 @@ use Rattle.gixobj_directories.specs.Calls.{AreNames, IsStorable}
 use Rattle.gixobj_directories.specs.declared.opening.Error.TheVariants as opening
 use Rattle.gixobj_directories.specs.declared.write.Written.{Written}
 use Rattle.gixobj_files.specs.Bases.{HasBases, edited_bases, opened_bases}
-use Rattle.gixobj_files.specs.Edits.{IsNoTree, Opens, ensured_dirs, only, with_path, raised}
+use Rattle.gixobj_files.specs.Edits.{IsNoTree, Opens, ensured_dirs, only_open, with_path, raised}
 use Rattle.gixobj_files.specs.Files.{Ensured, NamedFiles, Path, SameFiles, Table, Trees}
 use Rattle.gixobj_files.specs.OpeningStops.{IsUnopenedAbove}
 use Rattle.gixobj_files.specs.Emission.{Emits}
 use Rattle.gixobj_files.specs.Opening.{Dirs, IsOpened, in_path}
 use Rattle.gixobj_files.specs.State.{EditorFiles, FilesBelow, State, open_bases, open_dirs}
 use Rattle.gixobj_files.specs.Tables.{AgreesWithPairs, AgreesWithStore}
-use Rattle.gixobj_files.specs.Unopened.{inside, unopened_count}
+use Rattle.gixobj_files.specs.Unopened.{in_directory, unopened_count}
 use Rattle.gixobj_hash.specs.Hash.{null_id}
 use Rattle.gixobj_hash.specs.declared.hash.object_id.ObjectId.{ObjectId}
 use Rattle.gixobj_tree.specs.Entries.{EntryView, Pair}
@@ -41,9 +41,9 @@ IsCursorError objects may_fail trees dirs path error.EmptyPathComponent = IsFirs
 IsCursorError objects may_fail trees dirs path error.SlashInPathComponent =
     IsFirstNameError path error.SlashInPathComponent
 IsCursorError objects may_fail trees dirs path (error.FindExistingObject cause) = AreNames path
-    × IsUnopenedError objects may_fail trees dirs (inside path) (opening.FindExistingObject cause)
+    × IsUnopenedError objects may_fail trees dirs (in_directory path) (opening.FindExistingObject cause)
 IsCursorError objects may_fail trees dirs path error.MalformedTree = AreNames path
-    × IsUnopenedError objects may_fail trees dirs (inside path) opening.MalformedTree
+    × IsUnopenedError objects may_fail trees dirs (in_directory path) opening.MalformedTree
 IsCursorError objects may_fail trees dirs path (error.CannotRemoveNonLeaf at) = ⊥
 IsCursorError objects may_fail trees dirs path error.OutOfMemory = AreNames path × (path ≢ [])
 
@@ -54,9 +54,9 @@ IsCursorEditError path rejects failure = rejects failure ⊎ ((failure ≡ error
 
 -- the error of an edit at this path from the prefix, by the store's trees and the open directories
 abbrev pub IsErrorBelow : {S : Type 0} → StoreModel S → State S → EditErrors → Path → Error → Type 0
-IsErrorBelow means state Rejects path error =
-    OfTrees (means.objects state.store) (λ trees. IsCursorEditError path
-    (Rejects (means.objects state.store) (means.may_fail state.store) trees (open_dirs state)
+IsErrorBelow model state Rejects path error =
+    OfTrees (model.objects state.store) (λ trees. IsCursorEditError path
+    (Rejects (model.objects state.store) (model.may_fail state.store) trees (open_dirs state)
     (from_root state.prefix path)) error)
 
 -- the effect of a new cursor at a path. Its directory is open, with the entries that it had, or none if it is made. The
@@ -65,17 +65,17 @@ pub record IsEnsured {S : Type 0} (trees : Trees) (old : State S) (path : Path) 
   pub names : AreNames path
   -- the directories at and above the path are opened, and then the missing ones are made
   pub opened : Dirs
-  pub requested : List ObjectId
-  pub opens : Opens IsNoTree trees path (open_dirs old) opened requested
+  pub looked_up : List ObjectId
+  pub opens : Opens IsNoTree trees path (open_dirs old) opened looked_up
   pub dirs : (at : Path) → open_dirs new at ≡ ensured_dirs path (null_id old.object_hash) opened at
   pub bases : (at : Path) → open_bases new at ≡ edited_bases opened (open_dirs new)
       (opened_bases (open_dirs old) opened (open_bases old)) at
-  pub lookups : new.lookups ≡ raised old.lookups (unopened_count trees (open_dirs old) (inside path))
+  pub lookups : new.lookups ≡ raised old.lookups (unopened_count trees (open_dirs old) (in_directory path))
   pub rest : new ≡ record old { dirs = new.dirs; bases = new.bases; lookups = new.lookups; prefix = path }
   pub is_opened : IsOpened (open_dirs new)
   -- the store has each unopened directory at or above the path
-  pub known : (it : ObjectId) → IsUnopenedAbove trees (open_dirs old) (inside path) it → (entries : List EntryView)
-      × (trees it ≡ Some entries)
+  pub known : (it : ObjectId) → IsUnopenedAbove trees (open_dirs old) (in_directory path) it
+      → (entries : List EntryView) × (trees it ≡ Some entries)
   pub files : (T : Table) (n : ℕ) → AgreesWithStore T trees
       → SameFiles (EditorFiles T n new) (Ensured path (EditorFiles T n old))
   -- every table that agrees with the store and has the old bases has the new ones
@@ -86,15 +86,15 @@ pub record IsEnsured {S : Type 0} (trees : Trees) (old : State S) (path : Path) 
 -- was called on these trees alone, in this order. Then the directory is open with the last emitted tree, and no
 -- directory in it is open. The rest is unchanged. The named tree has exactly the files below the prefix; the editor's
 -- files are unchanged
-pub record IsWrittenBelow {S F : Type 0} (gave : F → Pair → F → Type 0) (queries : F) (old : State S) (prefix : Path)
-    (it : Written) (new : State S) (answered : F) : Type 0 where
+pub record IsWrittenBelow {S F : Type 0} (gave : F → Pair → F → Type 0) (before : F) (old : State S) (prefix : Path)
+    (it : Written) (new : State S) (after : F) : Type 0 where
   pub emitted : Emits (in_path prefix (open_dirs old)) (in_path prefix (open_bases old)) it.saved it.trees.items
-  pub called : FoldsTo gave queries it.trees.items answered
+  pub called : FoldsTo gave before it.trees.items after
   pub storable : All (λ pair. IsStorable pair.1) it.trees.items
   pub below : List Pair
   pub own : List EntryView
   pub last : it.trees.items ≡ below ++ (it.id, own) ∷ []
-  pub dirs : (at : Path) → open_dirs new at ≡ with_path prefix (only own) (open_dirs old) at
+  pub dirs : (at : Path) → open_dirs new at ≡ with_path prefix (only_open own) (open_dirs old) at
   pub bases : (at : Path) → open_bases new at ≡ edited_bases (open_dirs old) (open_dirs new) (open_bases old) at
   pub rest : new ≡ record old { dirs = new.dirs; bases = new.bases }
   pub is_opened : IsOpened (open_dirs new)

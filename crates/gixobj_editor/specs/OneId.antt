@@ -7,7 +7,7 @@ use Rattle.gixobj_editor.specs.declared.command.Edit.TheVariants as edit
 use Rattle.gixobj_store.specs.Stores.{Objects}
 use Rattle.gixobj_directories.specs.declared.write.Written.{Written}
 use Rattle.gixobj_files.specs.Files.{FileSet, SameFiles, Table}
-use Rattle.gixobj_files.specs.PlainHistory.{NoFiles, PlainHistory}
+use Rattle.gixobj_files.specs.PlainHistory.{NoFiles, PlainFilesAfter}
 use Rattle.gixobj_files.specs.State.{State, root_alone}
 use Rattle.gixobj_files.specs.Tables.{HasOneId}
 use Rattle.gixobj_mode.specs.declared.entry_kind.EntryKind.TheVariants.{Tree}
@@ -38,7 +38,7 @@ pub record IsPlainRun {S E : Type 0} (T : Table) (objects : Objects) (editor : S
 
 -- the files that the accepted commands before command number k make of none, if no tree is inserted
 abbrev pub files_before : {E : Type 0} → ℕ → List Command → List (Reply E) → FileSet
-files_before k commands replies = PlainHistory (accepted_steps (take k commands) (take k replies)) NoFiles
+files_before k commands replies = PlainFilesAfter (accepted_steps (take k commands) (take k replies)) NoFiles
 
 -- two writes of the root name one id if and only if their files are equal, at every depth
 abbrev pub IdsDetermineFiles : {E : Type 0} → List Command → List (Reply E) → Type 0

@@ -24,12 +24,12 @@ use Rattle.gixobj_editor.specs.declared.editor.error.Error.TheVariants as error
 
 -- a removal reaches this name of its path: the names before it are valid, and their directory is reached
 abbrev pub ValidatesUpTo : (EntryView → Type 0) → Trees → Dirs → Path → List ℕ → Type 0
-ValidatesUpTo Ends trees dirs path name = (place rest : Path) × (path ≡ place ++ name ∷ rest) × AreNames place
-    × ReachesDirectory Ends trees dirs place
+ValidatesUpTo StopsBefore trees dirs path name = (place rest : Path) × (path ≡ place ++ name ∷ rest) × AreNames place
+    × ReachesDirectory StopsBefore trees dirs place
 
 -- a removal reaches an invalid name, with this error
 abbrev pub HasInvalidName : (EntryView → Type 0) → Trees → Dirs → Path → Error → Type 0
-HasInvalidName Ends trees dirs path failure = (name : List ℕ) × ValidatesUpTo Ends trees dirs path name
+HasInvalidName StopsBefore trees dirs path failure = (name : List ℕ) × ValidatesUpTo StopsBefore trees dirs path name
     × IsEntryNameError name failure
 
 -- a removal reaches a directory that isn't opened, with this cause
@@ -41,16 +41,17 @@ IsOpenErrorOnPath objects may_fail trees dirs path cause = (it : ObjectId) × (h
 -- which the store doesn't have as a well-formed tree, or whose lookup fails. Or out of memory, if a directory is to be
 -- opened
 abbrev pub IsRemovalError : (EntryView → Type 0) → Objects → (ObjectId → Bool) → Trees → Dirs → Path → Error → Type 0
-IsRemovalError Ends objects may_fail trees dirs path error.EmptyPathComponent =
-    HasInvalidName Ends trees dirs path error.EmptyPathComponent
-IsRemovalError Ends objects may_fail trees dirs path error.SlashInPathComponent =
-    HasInvalidName Ends trees dirs path error.SlashInPathComponent
-IsRemovalError Ends objects may_fail trees dirs path (error.FindExistingObject cause) =
+IsRemovalError StopsBefore objects may_fail trees dirs path error.EmptyPathComponent =
+    HasInvalidName StopsBefore trees dirs path error.EmptyPathComponent
+IsRemovalError StopsBefore objects may_fail trees dirs path error.SlashInPathComponent =
+    HasInvalidName StopsBefore trees dirs path error.SlashInPathComponent
+IsRemovalError StopsBefore objects may_fail trees dirs path (error.FindExistingObject cause) =
     IsOpenErrorOnPath objects may_fail trees dirs path (opening.FindExistingObject cause)
-IsRemovalError Ends objects may_fail trees dirs path error.MalformedTree =
+IsRemovalError StopsBefore objects may_fail trees dirs path error.MalformedTree =
     IsOpenErrorOnPath objects may_fail trees dirs path opening.MalformedTree
-IsRemovalError Ends objects may_fail trees dirs path (error.CannotRemoveNonLeaf at) = ⊥
-IsRemovalError Ends objects may_fail trees dirs path error.OutOfMemory = IsUnopenedOnPath Ends trees dirs path
+IsRemovalError StopsBefore objects may_fail trees dirs path (error.CannotRemoveNonLeaf at) = ⊥
+IsRemovalError StopsBefore objects may_fail trees dirs path error.OutOfMemory =
+    IsUnopenedOnPath StopsBefore trees dirs path
 
 -- a directory is at the path: by the open directories, else by the store's trees
 abbrev pub IsDirectory : Trees → Dirs → Path → Type 0
@@ -73,14 +74,14 @@ IsLeafRemovalError objects may_fail trees dirs path error =
     ⊎ (IsDirectory trees dirs path × IsLeafDirectoryError path error)
 
 -- the effect of an accepted removal: the open directories, the lookups and the files; the rest is unchanged
-pub record IsRemoved {S : Type 0} (Ends : EntryView → Type 0) (trees : Trees) (old : State S) (path : Path)
+pub record IsRemoved {S : Type 0} (StopsBefore : EntryView → Type 0) (trees : Trees) (old : State S) (path : Path)
     (new : State S) : Type 0 where
   -- each name that it reaches is valid
-  pub names : (name : List ℕ) → ValidatesUpTo Ends trees (open_dirs old) path name → IsEntryName name
+  pub names : (name : List ℕ) → ValidatesUpTo StopsBefore trees (open_dirs old) path name → IsEntryName name
   -- the directories above the path are opened, and then the entry is removed
   pub opened : Dirs
-  pub requested : List ObjectId
-  pub opens : Opens Ends trees (directory_of path) (open_dirs old) opened requested
+  pub looked_up : List ObjectId
+  pub opens : Opens StopsBefore trees (directory_of path) (open_dirs old) opened looked_up
   pub dirs : (at : Path) → open_dirs new at ≡ removed_dirs path opened at
   pub bases : (at : Path) → open_bases new at ≡ edited_bases opened (open_dirs new)
       (opened_bases (open_dirs old) opened (open_bases old)) at

@@ -23,7 +23,7 @@ use Rattle.gixobj_files.specs.Files.{Files, Path, SameFiles, Table, Trees}
 use Rattle.gixobj_files.specs.Emission.{EmitsSome}
 use Rattle.gixobj_files.specs.Opening.{Dirs, in_path}
 use Rattle.gixobj_files.specs.State.{EditorFiles, State, open_bases, open_dirs, root_alone, with_store}
-use Rattle.gixobj_files.specs.Unopened.{inside}
+use Rattle.gixobj_files.specs.Unopened.{in_directory}
 use Rattle.gixobj_hash.specs.declared.hash.object_id.ObjectId.{ObjectId}
 use Rattle.gixobj_keep.specs.Keeping.{StopsKeepingAt, with_trees}
 use Rattle.gixobj_tree.specs.Entries.{EntryView, IsWellFormed, Pair}
@@ -55,11 +55,11 @@ dirs_at (at_cursor prefix) dirs = in_path prefix dirs
 
 -- the closure returns the id for the tree
 abbrev pub ReturnsTreeId : {E : Type 0} → Answers E → Unit {0} → Pair → Unit {0} → Type 0
-ReturnsTreeId answers requested pair answered = answers pair.1 (Ok pair.0)
+ReturnsTreeId answers before pair after = answers pair.1 (Ok pair.0)
 
 -- the closure returns an error for the tree
 abbrev pub Denies : {E : Type 0} → Answers E → Unit {0} → List EntryView → E → Unit {0} → Type 0
-Denies answers requested tree error answered = answers tree (Err error)
+Denies answers before tree error after = answers tree (Err error)
 
 -- the reply to an accepted or a failed edit
 abbrev pub reply_to : {E : Type 0} → Result (Unit {0}) Error → EditReply E
@@ -67,10 +67,10 @@ reply_to (Ok done) = edit_reply.Done
 reply_to (Err error) = edit_reply.Refused error
 
 -- the effect of a failed edit, and its cause
-pub record IsFailedEdit {S : Type 0} (means : StoreModel S) (Rejects : Trees → Type 0) (old : State S) (path : Path)
+pub record IsFailedEdit {S : Type 0} (model : StoreModel S) (Rejects : Trees → Type 0) (old : State S) (path : Path)
     (new : State S) : Type 0 where
-  pub remaining : OfTrees (means.objects old.store) (λ trees. IsAfterFailedEdit trees old path new)
-  pub cause : OfTrees (means.objects old.store) Rejects
+  pub remaining : OfTrees (model.objects old.store) (λ trees. IsAfterFailedEdit trees old path new)
+  pub cause : OfTrees (model.objects old.store) Rejects
 
 -- the effect of a successful write
 abbrev pub IsWrittenAt : {S E : Type 0} → Answers E → Place → Written → State S → State S → Type 0
@@ -79,13 +79,13 @@ IsWrittenAt answers (at_cursor prefix) it old new = IsWrittenBelow (ReturnsTreeI
 
 -- the effect of a successful write and of keeping its trees: only the store changes after the write, and it may fail
 -- for the same ids as before
-pub record IsWriteKept {S : Type 0} (means : StoreModel S) (Writes : State S → Type 0)
+pub record IsWriteKept {S : Type 0} (model : StoreModel S) (Writes : State S → Type 0)
     (Keeps : Objects → Objects → Type 0) (old new : State S) : Type 0 where
   pub between : State S
   pub written : Writes between
   pub rest : new ≡ with_store between new.store
-  pub stored : Keeps (means.objects old.store) (means.objects new.store)
-  pub may_fail : (id : ObjectId) → means.may_fail new.store id ≡ means.may_fail old.store id
+  pub stored : Keeps (model.objects old.store) (model.objects new.store)
+  pub may_fail : (id : ObjectId) → model.may_fail new.store id ≡ model.may_fail old.store id
 
 -- all of the trees are kept
 abbrev pub KeepsAll : List Pair → Objects → Objects → Type 0
@@ -105,35 +105,35 @@ pub record IsRootSet {S : Type 0} (old : State S) (entries : List EntryView) (ne
   pub files : (T : Table) (n : ℕ) → SameFiles (EditorFiles T n new) (Files T n entries)
   pub has_bases : (T : Table) → HasBases T (open_dirs new) (open_bases new)
 
-module _ {S E : Type 0} (means : StoreModel S) (answers : Answers E) where
+module _ {S E : Type 0} (model : StoreModel S) (answers : Answers E) where
   -- the edit may get this reply and turn the old state into the new one
   abbrev pub IsEditReply : Place → State S → Edit → EditReply E → State S → Type 0
   IsEditReply place old (edit.Upsert path kind id) edit_reply.Done new =
-      OfTrees (means.objects old.store)
+      OfTrees (model.objects old.store)
       (λ trees. IsUpserted trees old (path_at place (names_of path.items)) (mode_of_kind kind) id new)
   IsEditReply place old (edit.Upsert path kind id) (edit_reply.Refused error) new =
-      IsFailedEdit means (λ trees. IsEditErrorAt place (names_of path.items)
-      (IsUpsertError (means.objects old.store) (means.may_fail old.store) trees (open_dirs old)
+      IsFailedEdit model (λ trees. IsEditErrorAt place (names_of path.items)
+      (IsUpsertError (model.objects old.store) (model.may_fail old.store) trees (open_dirs old)
       (path_at place (names_of path.items))) error) old (path_at place (names_of path.items)) new
       × (IsNameError error → new ≡ old)
   IsEditReply place old (edit.Remove path) edit_reply.Done new =
-      OfTrees (means.objects old.store)
+      OfTrees (model.objects old.store)
       (λ trees. IsRemoved IsNoTree trees old (path_at place (names_of path.items)) new)
   IsEditReply place old (edit.Remove path) (edit_reply.Refused error) new =
-      IsFailedEdit means (λ trees. IsEditErrorAt place (names_of path.items)
-      (IsRemovalError IsNoTree (means.objects old.store) (means.may_fail old.store) trees (open_dirs old)
+      IsFailedEdit model (λ trees. IsEditErrorAt place (names_of path.items)
+      (IsRemovalError IsNoTree (model.objects old.store) (model.may_fail old.store) trees (open_dirs old)
       (path_at place (names_of path.items))) error) old (path_at place (names_of path.items)) new
   IsEditReply place old (edit.RemoveLeaf path) edit_reply.Done new =
-      OfTrees (means.objects old.store) (λ trees. IsLeafRemoved trees old (path_at place (names_of path.items)) new)
+      OfTrees (model.objects old.store) (λ trees. IsLeafRemoved trees old (path_at place (names_of path.items)) new)
   IsEditReply place old (edit.RemoveLeaf path) (edit_reply.Refused error) new =
-      IsFailedEdit means (λ trees. IsEditErrorAt place (names_of path.items)
-      (IsLeafRemovalError (means.objects old.store) (means.may_fail old.store) trees (open_dirs old)
+      IsFailedEdit model (λ trees. IsEditErrorAt place (names_of path.items)
+      (IsLeafRemovalError (model.objects old.store) (model.may_fail old.store) trees (open_dirs old)
       (path_at place (names_of path.items))) error) old (path_at place (names_of path.items)) new
-  IsEditReply place old edit.Write (edit_reply.Written it) new = IsWriteKept means (IsWrittenAt answers place it old)
+  IsEditReply place old edit.Write (edit_reply.Written it) new = IsWriteKept model (IsWrittenAt answers place it old)
       (KeepsAll it.trees.items) old new
   IsEditReply place old edit.Write (edit_reply.NotKept it count error) new =
-      IsWriteKept means (IsWrittenAt answers place it old)
-      (λ before after. StopsKeepingAt (means.may_fail old.store) it.trees.items before after count error) old new
+      IsWriteKept model (IsWrittenAt answers place it old)
+      (λ before after. StopsKeepingAt (model.may_fail old.store) it.trees.items before after count error) old new
   IsEditReply place old edit.Write (edit_reply.WriteRefused error) new = IsFailedWrite answers place old error new
   -- an edit gets no other reply
   IsEditReply place old it its_reply new = ⊥
@@ -149,12 +149,12 @@ module _ {S E : Type 0} (means : StoreModel S) (answers : Answers E) where
   -- allocation of their replies failed, and nothing was done; or the cursor isn't made
   abbrev pub IsReplyAt : Path → State S → List Edit → Reply E → State S → Type 0
   IsReplyAt prefix old edits (reply.At replies) new =
-      (between : State S) × OfTrees (means.objects old.store) (λ trees. IsEnsured trees old prefix between)
+      (between : State S) × OfTrees (model.objects old.store) (λ trees. IsEnsured trees old prefix between)
       × AreEditReplies (at_cursor prefix) between edits replies.items new
   IsReplyAt prefix old edits (reply.AtRefused error) new =
       ((error ≡ editing.OutOfMemory) × (new ≡ old))
-      ⊎ (IsFailedEdit means (λ trees. IsCursorError (means.objects old.store) (means.may_fail old.store) trees
-      (open_dirs old) prefix error) old (inside prefix) new × (IsNameError error → new ≡ old))
+      ⊎ (IsFailedEdit model (λ trees. IsCursorError (model.objects old.store) (model.may_fail old.store) trees
+      (open_dirs old) prefix error) old (in_directory prefix) new × (IsNameError error → new ≡ old))
   IsReplyAt prefix old edits its_reply new = ⊥
 
   -- the command may get this reply and turn the old state into the new one

@@ -10,7 +10,7 @@ use Rattle.gixobj_keep.specs.Keeping.{with_trees}
 use Rattle.gixobj_tree.specs.TreeDecoding.{DecodesToTree}
 use Rattle.gixobj_tree.specs.Entries.{EntryView, IsWellFormed, Pair}
 use Rattle.gixobj_tree.specs.TreeEncoding.{encode_tree}
-use Rattle.gixobj_editor.specs.Commands.{emitted_pairs, pairs_kept}
+use Rattle.gixobj_editor.specs.Commands.{emitted_pairs, kept_pairs}
 use Rattle.gixobj_editor.specs.declared.reply.Reply.{Reply}
 
 -- the table has the well-formed trees that ids name as objects, but for the ids that are never looked up
@@ -21,7 +21,7 @@ AgreesWithObjects T objects = (id : ObjectId) (entries : List EntryView) → (¬
 -- the table has the emitted trees of a run, and agrees with the store before the run and after each tree that was kept
 pub record AgreesWithRun {E : Type 0} (T : Table) (objects : Objects) (replies : List (Reply E)) : Type 0 where
   pub writes : AgreesWithPairs T (emitted_pairs replies)
-  pub stores : (count : ℕ) → AgreesWithObjects T (with_trees (take count (pairs_kept replies)) objects)
+  pub stores : (count : ℕ) → AgreesWithObjects T (with_trees (take count (kept_pairs replies)) objects)
 
 -- the encoding of the tree decodes to no other well-formed tree
 abbrev pub DecodesToItself : Pair → Type 0

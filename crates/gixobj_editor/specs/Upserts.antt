@@ -49,9 +49,9 @@ StartsInvalid (name ∷ path) = ¬ IsEntryName name
 
 -- a path, split into its valid names and those from the first invalid one on; if all are valid, the first part is the
 -- path without its last name
-abbrev pub IsValidated : Path → Path → Path → Type 0
-IsValidated path names [] = AreNames path × (names ≡ directory_of path)
-IsValidated path names (name ∷ rest) = AreNames names × (¬ IsEntryName name) × (path ≡ names ++ name ∷ rest)
+abbrev pub SplitsAtFirstInvalid : Path → Path → Path → Type 0
+SplitsAtFirstInvalid path names [] = AreNames path × (names ≡ directory_of path)
+SplitsAtFirstInvalid path names (name ∷ rest) = AreNames names × (¬ IsEntryName name) × (path ≡ names ++ name ∷ rest)
 
 -- a directory above the path isn't opened, with this cause
 abbrev pub IsUnopenedError : Objects → (ObjectId → Bool) → Trees → Dirs → Path → directory.Error → Type 0
@@ -83,9 +83,9 @@ EditErrors = Objects → (ObjectId → Bool) → Trees → Dirs → Path → Err
 
 -- the error of an edit at this path, by the store's trees and the open directories
 abbrev pub IsErrorIn : {S : Type 0} → StoreModel S → State S → EditErrors → Path → Error → Type 0
-IsErrorIn means state Rejects path error =
-    OfTrees (means.objects state.store)
-    (λ trees. Rejects (means.objects state.store) (means.may_fail state.store) trees (open_dirs state) path error)
+IsErrorIn model state Rejects path error =
+    OfTrees (model.objects state.store)
+    (λ trees. Rejects (model.objects state.store) (model.may_fail state.store) trees (open_dirs state) path error)
 
 -- an error for an invalid name
 abbrev pub IsNameError : Error → Type 0
@@ -103,8 +103,8 @@ pub record IsUpserted {S : Type 0} (trees : Trees) (old : State S) (path : Path)
   pub names : AreNames path
   -- the directories above the path are opened, and then the entry is inserted
   pub opened : Dirs
-  pub requested : List ObjectId
-  pub opens : Opens IsNoTree trees (directory_of path) (open_dirs old) opened requested
+  pub looked_up : List ObjectId
+  pub opens : Opens IsNoTree trees (directory_of path) (open_dirs old) opened looked_up
   pub dirs : (at : Path) → open_dirs new at ≡ upserted_dirs path mode id (null_id old.object_hash) opened at
   pub bases : (at : Path) → open_bases new at ≡ edited_bases opened (open_dirs new)
       (opened_bases (open_dirs old) opened (open_bases old)) at
@@ -122,36 +122,36 @@ pub record IsUpserted {S : Type 0} (trees : Trees) (old : State S) (path : Path)
 
 -- the directories on a path are opened in part: those on a prefix of it, and no other. At most the next one was looked
 -- up without success
-pub record OpensInPart (Ends : EntryView → Type 0) (trees : Trees) (path : Path) (old new : Dirs)
+pub record OpensInPart (StopsBefore : EntryView → Type 0) (trees : Trees) (path : Path) (old new : Dirs)
     (before after : ℕ) : Type 0 where
-  pub prefix : Path
+  pub reached : Path
   pub more : Path
-  pub on_the_way : path ≡ prefix ++ more
-  pub requested : List ObjectId
-  pub opens : Opens Ends trees prefix old new requested
+  pub on_the_way : path ≡ reached ++ more
+  pub looked_up : List ObjectId
+  pub opens : Opens StopsBefore trees reached old new looked_up
   pub failed_lookup : List ObjectId
-  pub one : length failed_lookup ≤ 1
-  pub next : (it : ObjectId) → failed_lookup ≡ it ∷ [] → IsNextUnopened trees old prefix more it
-  pub lookups : after ≡ counted before (requested ++ failed_lookup)
-  pub few : length (requested ++ failed_lookup) ≤ unopened_count trees old path
+  pub at_most_one : length failed_lookup ≤ 1
+  pub next : (it : ObjectId) → failed_lookup ≡ it ∷ [] → IsNextUnopened trees old reached more it
+  pub lookups : after ≡ counted before (looked_up ++ failed_lookup)
+  pub at_most_unopened : length (looked_up ++ failed_lookup) ≤ unopened_count trees old path
 
 -- the effect of a failed edit: the directories on a prefix of the path are opened, and no other. At most the next one
 -- was looked up without success. An open directory is still open, with its entries. Each lookup is counted; there are
 -- at most as many as unopened directories above the path. The files and the rest are unchanged
 pub record IsAfterFailedEdit {S : Type 0} (trees : Trees) (old : State S) (path : Path) (new : State S) : Type 0 where
   pub not_looked_up : NotLookedUp
-  pub prefix : Path
+  pub reached : Path
   pub more : Path
-  pub on_the_way : path ≡ prefix ++ more
-  pub requested : List ObjectId
-  pub opens : Opens (EndsBefore not_looked_up) trees prefix (open_dirs old) (open_dirs new) requested
+  pub on_the_way : path ≡ reached ++ more
+  pub looked_up : List ObjectId
+  pub opens : Opens (EndsBefore not_looked_up) trees reached (open_dirs old) (open_dirs new) looked_up
   pub bases : (at : Path) → open_bases new at ≡ opened_bases (open_dirs old) (open_dirs new) (open_bases old) at
   pub stays : (at : Path) (entries : List EntryView) → open_dirs old at ≡ Some entries → open_dirs new at ≡ Some entries
   pub failed_lookup : List ObjectId
-  pub one : length failed_lookup ≤ 1
-  pub next : (it : ObjectId) → failed_lookup ≡ it ∷ [] → IsNextUnopened trees (open_dirs old) prefix more it
-  pub lookups : new.lookups ≡ raised old.lookups (length (requested ++ failed_lookup))
-  pub few : length (requested ++ failed_lookup) ≤ unopened_count trees (open_dirs old) path
+  pub at_most_one : length failed_lookup ≤ 1
+  pub next : (it : ObjectId) → failed_lookup ≡ it ∷ [] → IsNextUnopened trees (open_dirs old) reached more it
+  pub lookups : new.lookups ≡ raised old.lookups (length (looked_up ++ failed_lookup))
+  pub at_most_unopened : length (looked_up ++ failed_lookup) ≤ unopened_count trees (open_dirs old) path
   pub rest : new ≡ record old { dirs = new.dirs; bases = new.bases; lookups = new.lookups }
   pub is_opened : IsOpened (open_dirs new)
   pub files : (T : Table) (n : ℕ) → AgreesWithStore T trees → SameFiles (EditorFiles T n new) (EditorFiles T n old)

@@ -13,10 +13,10 @@ use Rattle.gixobj_tree.specs.Entries.{EntryView, Pair}
 -- the effect of a successful write. The emitted pairs end with that of the root, and the closure was called on these
 -- trees alone, in this order. Then the root alone is open, with the last emitted tree. The named tree has the editor's
 -- files, which are unchanged
-pub record IsWrittenEditor {S F : Type 0} (gave : F → Pair → F → Type 0) (requested : F) (old : State S) (it : Written)
-    (new : State S) (answered : F) : Type 0 where
+pub record IsWrittenEditor {S F : Type 0} (gave : F → Pair → F → Type 0) (before : F) (old : State S) (it : Written)
+    (new : State S) (after : F) : Type 0 where
   pub emitted : Emits (open_dirs old) (open_bases old) it.saved it.trees.items
-  pub called : FoldsTo gave requested it.trees.items answered
+  pub called : FoldsTo gave before it.trees.items after
   pub storable : All (λ pair. IsStorable pair.1) it.trees.items
   pub below : List Pair
   pub own : List EntryView

@@ -38,7 +38,7 @@ use gixobj_hash::hash::{self, ObjectId};
 use gixobj_store::Find;
 use gixobj_tree::Tree;
 use gixobj_tree::tree::{Entry, EntryKind};
-use names::{check_names, copy_names};
+use names::{copy_names, validate_names};
 use removal::{check_leaf, open_for_removal};
 use std::marker::Model;
 
@@ -282,7 +282,7 @@ impl<S: Find> Editor<S> {
         ensures not_looked_up { IfErr result (λ error. IsNameError error → self.new ≡ self.old) }
     {
         let alloc = *self.prefix.allocator();
-        check_names(path)?;
+        validate_names(path)?;
         let Some((_last, directory)) = path.split_last() else {
             return Ok(());
         };
@@ -463,12 +463,13 @@ impl<S> Editor<S> {
     /// with the emitted tree.
     ///
     /// A directory is changed if its written tree differs from its base. That is the tree that it was opened
-    /// with, or the empty tree if an edit made it. An unchanged one that has entries keeps its id, and
-    /// [`Written::saved`] counts it. A directory that is empty then is left out, as are entries with null
-    /// ids. The id that `out` returns for a tree becomes its id in the tree above; a null id leaves it out.
+    /// with, or the empty tree if an edit made it. An unchanged one that has entries isn't emitted: it keeps
+    /// its id, and [`Written::saved`] counts it. A directory that is empty then is left out, as are entries
+    /// with null ids. The id that `out` returns for a tree becomes its id in the tree above; a null id leaves
+    /// it out.
     ///
-    /// The returned id names a tree with exactly the editor's files, which are unchanged. This holds in each
-    /// table that has the emitted trees and the bases of the open directories.
+    /// Whenever the call returns an id, that tree has exactly the editor's files, which are unchanged. This
+    /// holds in each table that has the emitted trees and the bases of the open directories.
     ///
     /// `out` must be callable on every well-formed tree without null ids, whatever it was called on before.
     ///

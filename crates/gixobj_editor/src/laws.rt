@@ -7,7 +7,7 @@ ghost use Rattle.gixobj_files.specs.Files.{Table, Trees};
 ghost use Rattle.gixobj_tree.specs.Entries.{Pair};
 ghost use Rattle.gixobj_files.specs.Tables.{AgreesWithPairs, IsConsistentWith};
 ghost use Rattle.gixobj_hash.specs.Hash.{id_kind};
-ghost use Rattle.gixobj_editor.specs.Commands.{emitted_pairs, pairs_kept, written_at};
+ghost use Rattle.gixobj_editor.specs.Commands.{emitted_pairs, kept_pairs, written_at};
 ghost use Rattle.gixobj_editor.specs.RunTables.{AgreesWithRun, DecodesToItself};
 ghost use Rattle.gixobj_tree.specs.Rewriting.{RoundTrips};
 
@@ -24,7 +24,7 @@ use gixobj_tree::laws::{tree_decodes_uniquely, tree_round_trips};
 pub fn consistent_run_has_table<E>(replies: &[Reply<E>])
     ensures { (objects : Objects) (trees : Trees) → AreTreesOf objects trees
         → IsConsistentWith (emitted_pairs replies.now) trees
-        → All DecodesToItself (pairs_kept replies.now) → (T : Table)
+        → All DecodesToItself (kept_pairs replies.now) → (T : Table)
         × AgreesWithRun T objects replies.now }
 {}
 

@@ -3,10 +3,10 @@ ghost use Rattle.std.specs.Prelude.{◌≡◌, [], ℕ, IfOk, OnErr, Some, take}
 ghost use Rattle.std.specs.Fn.{FnReturnsAt};
 ghost use Rattle.gixobj_files.specs.Bases.{HasBases};
 ghost use Rattle.gixobj_files.specs.Files.{NamedFiles, SameFiles, Table};
-ghost use Rattle.gixobj_files.specs.History.{History};
+ghost use Rattle.gixobj_files.specs.History.{FilesAfter};
 ghost use Rattle.gixobj_files.specs.State.{EditorFiles, open_bases, open_dirs};
 ghost use Rattle.gixobj_files.specs.Tables.{AgreesWithPairs};
-ghost use Rattle.gixobj_editor.specs.Commands.{accepted_steps, pairs_kept, written_at};
+ghost use Rattle.gixobj_editor.specs.Commands.{accepted_steps, kept_pairs, written_at};
 ghost use Rattle.gixobj_editor.specs.OneId.{IdsDetermineFiles, IsPlainRun};
 ghost use Rattle.gixobj_editor.specs.Replies.{IsCallable, IsReply, IsRun};
 ghost use Rattle.gixobj_editor.specs.RunTables.{AgreesWithRun};
@@ -33,10 +33,12 @@ use std::alloc::Global;
 ///
 /// `out` must be callable on every well-formed tree without null ids.
 ///
-/// A tree whose id a write of the root returns has, at every depth, exactly the files that the accepted
-/// commands before that write make. They start with the files of the last root: the last one that was set, or
-/// else the editor's files at the start. This holds for every table of trees that agrees with the editor's
-/// bases and with the run up to that write, its trees included. It assumes nothing of later commands.
+/// Whenever a write of the root returns an id, that tree has exactly the files that the accepted commands
+/// before it make, at every depth. They start with the files of the last root: the last one that was set, or
+/// else the editor's files at the start.
+///
+/// This holds for every table of trees that agrees with the editor's bases and with the run up to that write,
+/// its trees included. It assumes nothing of later commands.
 ///
 /// Let the editor be new with the empty root, and let no command insert a tree or set another root. Then two
 /// writes of the root return one id if and only if their files are equal at every depth. This assumes a table
@@ -69,14 +71,14 @@ pub fn run<S: Keep, E: Drop, F: Fn(&Tree) -> Result<ObjectId, E> + Drop>(
         IsRun (store_model S.objects S.may_fail) (FnReturnsAt F.Fn out) editor.old commands.items
         replies.items editor.new) }
     ensures stored { IfOk result (λ replies. S.objects editor.new.store
-        ≡ with_trees (pairs_kept replies.items) (S.objects editor.old.store)) }
-    ensures headline { IfOk result (λ replies. (T : Table) (n k : ℕ) (written : Written)
+        ≡ with_trees (kept_pairs replies.items) (S.objects editor.old.store)) }
+    ensures files_of_root { IfOk result (λ replies. (T : Table) (n k : ℕ) (written : Written)
         → written_at replies.items k ≡ Some written
         → AgreesWithRun T (S.objects editor.old.store) (take k replies.items)
         → AgreesWithPairs T written.trees.items
         → HasBases T (open_dirs editor.old) (open_bases editor.old)
         → SameFiles (NamedFiles T n written.id)
-        (History T n (accepted_steps (take k commands.items) (take k replies.items))
+        (FilesAfter T n (accepted_steps (take k commands.items) (take k replies.items))
         (EditorFiles T n editor.old))) }
     ensures one_id { IfOk result (λ replies. (T : Table) (m : ℕ)
         → IsPlainRun T (S.objects editor.old.store) editor.old (take m commands.items)

@@ -24,8 +24,8 @@ based_is_lasting T trees null agrees nothing = record {
   not_open = λ e base p list is. absurd (cc is);
   still = λ e was now base p. p;
   made = λ name now list is. inl (nothing, sym (some_list_unique [] list is));
-  opened = λ e base entries requested p tree finds. (
-    (λ list is. subst (IsAt T e.id) (some_list_unique entries list is) (is_at_of_agreement T trees agrees e.id entries requested finds)),
+  opened = λ e base entries looked_up p tree finds. (
+    (λ list is. subst (IsAt T e.id) (some_list_unique entries list is) (is_at_of_agreement T trees agrees e.id entries looked_up finds)),
     λ x h list is. absurd (cc is),
   );
 }
@@ -34,18 +34,18 @@ based_is_lasting T trees null agrees nothing = record {
 abbrev pub NullBased : OfEntry
 NullBased e here base = (list : List EntryView) → base ≡ Some list → is_null e.id ≡ true → list ≡ []
 
-found_empty : (trees : Trees) (id : ObjectId) (entries : List EntryView) (requested : List ObjectId) → Finds trees id entries requested
+found_empty : (trees : Trees) (id : ObjectId) (entries : List EntryView) (looked_up : List ObjectId) → Finds trees id entries looked_up
     → is_null id ≡ true → entries ≡ []
-found_empty trees id entries requested (formed, inl (is, empty, none)) null = empty
-found_empty trees id entries requested (formed, inr (filled, is, requests)) null = absurd (filled (inl null))
+found_empty trees id entries looked_up (formed, inl (is, empty, none)) null = empty
+found_empty trees id entries looked_up (formed, inr (filled, is, requests)) null = absurd (filled (inl null))
 
 pub null_based_is_lasting : (trees : Trees) (null : ObjectId) → Lasts NullBased trees null
 null_based_is_lasting trees null = record {
   not_open = λ e base p list is. absurd (cc is);
   still = λ e was now base p. p;
   made = λ name now list is nothing. sym (some_list_unique [] list is);
-  opened = λ e base entries requested p tree finds. (
-    (λ list is nothing. sym (some_list_unique entries list is) ∙ found_empty trees e.id entries requested finds nothing),
+  opened = λ e base entries looked_up p tree finds. (
+    (λ list is nothing. sym (some_list_unique entries list is) ∙ found_empty trees e.id entries looked_up finds nothing),
     λ x h list is. absurd (cc is),
   );
 }

@@ -3,7 +3,7 @@ use Rattle.std.proofs.Common.{◌≡◌, ◌≢◌, inl, inr, ℕ, ◌+◌, zero
 use Rattle.std.specs.Prelude.{◌↔◌, IsTrue}
 use Rattle.gixobj_tree.specs.Entries.{EntryView, IsWellFormed}
 use Rattle.gixobj_mode.specs.Mode.{is_tree_mode}
-use Rattle.gixobj_files.specs.Edits.{only, with_path}
+use Rattle.gixobj_files.specs.Edits.{only_open, with_path}
 use Rattle.gixobj_files.specs.Files.{Begins, Path, SameFiles, Table}
 use Rattle.gixobj_files.specs.Opening.{Dirs, HasAt, IsOpened, OpenFiles, in_dir, in_path}
 use Rattle.gixobj_files.proofs.EditedFiles.{same_files_refl}
@@ -107,8 +107,8 @@ is_opened_with_path (name ∷ rest) inner dirs all there within =
     (is_opened_with_path rest inner (in_dir name dirs) (is_opened_in_dir name dirs down.0 down.1 all) there within) all down.2
 
 pub is_opened_with_only : (prefix : Path) (own : List EntryView) (dirs : Dirs) → IsOpened dirs → dirs prefix ≢ None → IsWellFormed own
-    → IsOpened (with_path prefix (only own) dirs)
-is_opened_with_only prefix own dirs all there formed = is_opened_with_path prefix (only own) dirs all there (is_opened_of_only own formed)
+    → IsOpened (with_path prefix (only_open own) dirs)
+is_opened_with_only prefix own dirs all there formed = is_opened_with_path prefix (only_open own) dirs all there (is_opened_of_only own formed)
 
 -- at and below the path the directories are the replacement, and elsewhere they are unchanged
 pub with_path_at_prefix : (prefix : Path) (inner dirs : Dirs) (at : Path) → with_path prefix inner dirs (prefix ++ at) ≡ inner at

@@ -6,8 +6,8 @@ use Rattle.gixobj_hash.specs.Hash.{null_id}
 use Rattle.gixobj_hash.specs.declared.hash.kind.Kind.{Kind}
 use Rattle.gixobj_hash.specs.declared.hash.kind.Kind.TheVariants as hash
 use Rattle.gixobj_hash.specs.declared.hash.object_id.ObjectId.{ObjectId}
-use Rattle.gixobj_files.specs.Edits.{IsNoTree, Opens, ensured_dirs, only, removed_dirs, upserted_dirs, with_path}
-use Rattle.gixobj_files.specs.Files.{Has, Path, Table, Trees, is_null}
+use Rattle.gixobj_files.specs.Edits.{IsNoTree, Opens, ensured_dirs, only_open, removed_dirs, upserted_dirs, with_path}
+use Rattle.gixobj_files.specs.Files.{ContainsEntry, Path, Table, Trees, is_null}
 use Rattle.gixobj_files.specs.Opening.{Dirs, IsOpened}
 use Rattle.gixobj_files.specs.State.{root_alone}
 use Rattle.gixobj_files.specs.Tables.{AgreesWithStore}
@@ -56,36 +56,36 @@ module _ (P : OfEntry) (trees : Trees) (kind : Kind) (lasts : Lasts P trees (nul
       subst (λ (d : Dirs). (at : Path) → remaining at ≡ edited_bases opened d (opened_bases old opened bases) at) (λ i at. dirs_are at i) bases_are in
       carried P made (edited_bases opened made (opened_bases old opened bases)) new remaining dirs_are remaining_is holds
 
-  after_upsert : (head : Path) (last : List ℕ) (mode : ℕ) (id : ObjectId) (opened : Dirs) (requested : List ObjectId)
-      → Opens IsNoTree trees head old opened requested
+  after_upsert : (head : Path) (last : List ℕ) (mode : ℕ) (id : ObjectId) (opened : Dirs) (looked_up : List ObjectId)
+      → Opens IsNoTree trees head old opened looked_up
       → ((name : List ℕ) → P (record { mode = mode; name = name; id = id }) None None)
       → ((at : Path) → new at ≡ upserted_dirs (head ++ last ∷ []) mode id (null_id kind) opened at) → Left opened → Everywhere P new remaining
-  after_upsert head last mode id opened requested opens insert_entry dirs_are bases_are =
+  after_upsert head last mode id opened looked_up opens insert_entry dirs_are bases_are =
       edited_so opened (upserted_dirs (head ++ last ∷ []) mode id (null_id kind) opened) dirs_are bases_are
-      (lasts_upserted P trees (null_id kind) lasts old bases is_opened all head last mode id opened requested opens insert_entry)
+      (lasts_upserted P trees (null_id kind) lasts old bases is_opened all head last mode id opened looked_up opens insert_entry)
 
-  after_assuring : (path : Path) (opened : Dirs) (requested : List ObjectId) → Opens IsNoTree trees path old opened requested
+  after_assuring : (path : Path) (opened : Dirs) (looked_up : List ObjectId) → Opens IsNoTree trees path old opened looked_up
       → ((at : Path) → new at ≡ ensured_dirs path (null_id kind) opened at) → Left opened → Everywhere P new remaining
-  after_assuring path opened requested opens dirs_are bases_are =
+  after_assuring path opened looked_up opens dirs_are bases_are =
       edited_so opened (ensured_dirs path (null_id kind) opened) dirs_are bases_are
-      (lasts_ensured P trees (null_id kind) lasts old bases is_opened all path opened requested opens)
+      (lasts_ensured P trees (null_id kind) lasts old bases is_opened all path opened looked_up opens)
 
-  after_removal : {Ends : EntryView → Type 0} (head path : Path) (opened : Dirs) (requested : List ObjectId) → Opens Ends trees head old opened requested
+  after_removal : {StopsBefore : EntryView → Type 0} (head path : Path) (opened : Dirs) (looked_up : List ObjectId) → Opens StopsBefore trees head old opened looked_up
       → ((at : Path) → new at ≡ removed_dirs path opened at) → Left opened → Everywhere P new remaining
-  after_removal head path opened requested opens dirs_are bases_are =
+  after_removal head path opened looked_up opens dirs_are bases_are =
       edited_so opened (removed_dirs path opened) dirs_are bases_are
-      (lasts_removed P trees (null_id kind) lasts old bases is_opened all head path opened requested opens)
+      (lasts_removed P trees (null_id kind) lasts old bases is_opened all head path opened looked_up opens)
 
-  after_opening : {Ends : EntryView → Type 0} (path : Path) (requested : List ObjectId) → Opens Ends trees path old new requested
+  after_opening : {StopsBefore : EntryView → Type 0} (path : Path) (looked_up : List ObjectId) → Opens StopsBefore trees path old new looked_up
       → ((at : Path) → remaining at ≡ opened_bases old new bases at) → Everywhere P new remaining
-  after_opening path requested opens bases_are =
+  after_opening path looked_up opens bases_are =
       carried P new (opened_bases old new bases) new remaining (λ at. refl) bases_are
-      (everywhere_opened P trees (null_id kind) lasts path old new requested opens bases all)
+      (everywhere_opened P trees (null_id kind) lasts path old new looked_up opens bases all)
 
-  after_write : (prefix : Path) (own : List EntryView) → old prefix ≢ None → ((e : EntryView) → Has own e → P e None None)
-      → ((at : Path) → new at ≡ with_path prefix (only own) old at) → ((at : Path) → remaining at ≡ edited_bases old new bases at) → Everywhere P new remaining
+  after_write : (prefix : Path) (own : List EntryView) → old prefix ≢ None → ((e : EntryView) → ContainsEntry own e → P e None None)
+      → ((at : Path) → new at ≡ with_path prefix (only_open own) old at) → ((at : Path) → remaining at ≡ edited_bases old new bases at) → Everywhere P new remaining
   after_write prefix own there each dirs_are bases_are =
-      let made : Dirs = with_path prefix (only own) old in
+      let made : Dirs = with_path prefix (only_open own) old in
       let remaining_is : (at : Path) → remaining at ≡ edited_bases old made bases at =
       subst (λ (d : Dirs). (at : Path) → remaining at ≡ edited_bases old d bases at) (λ i at. dirs_are at i) bases_are in
       carried P made (edited_bases old made bases) new remaining dirs_are remaining_is
@@ -100,78 +100,78 @@ module _ (T : Table) (trees : Trees) (kind : Kind) (old bases new remaining : Di
   lasting : Lasts (Based T) trees (null_id kind)
   lasting = based_is_lasting T trees (null_id kind) agrees (null_id_is_null kind)
 
-  pub upserted_based : (head : Path) (last : List ℕ) (mode : ℕ) (id : ObjectId) (opened : Dirs) (requested : List ObjectId)
-      → Opens IsNoTree trees head old opened requested
+  pub upserted_based : (head : Path) (last : List ℕ) (mode : ℕ) (id : ObjectId) (opened : Dirs) (looked_up : List ObjectId)
+      → Opens IsNoTree trees head old opened looked_up
       → ((at : Path) → new at ≡ upserted_dirs (head ++ last ∷ []) mode id (null_id kind) opened at)
       → ((at : Path) → remaining at ≡ edited_bases opened new (opened_bases old opened bases) at) → HasBases T new remaining
-  upserted_based head last mode id opened requested opens dirs_are bases_are =
+  upserted_based head last mode id opened looked_up opens dirs_are bases_are =
       has_bases_of_everywhere T new remaining (after_upsert (Based T) trees kind lasting old bases new remaining was.opened all head last mode id opened
-      requested opens
+      looked_up opens
       (λ name list is. absurd (cc is)) dirs_are bases_are)
 
-  pub ensured_based : (path : Path) (opened : Dirs) (requested : List ObjectId) → Opens IsNoTree trees path old opened requested
+  pub ensured_based : (path : Path) (opened : Dirs) (looked_up : List ObjectId) → Opens IsNoTree trees path old opened looked_up
       → ((at : Path) → new at ≡ ensured_dirs path (null_id kind) opened at)
       → ((at : Path) → remaining at ≡ edited_bases opened new (opened_bases old opened bases) at) → HasBases T new remaining
-  ensured_based path opened requested opens dirs_are bases_are =
+  ensured_based path opened looked_up opens dirs_are bases_are =
       has_bases_of_everywhere T new remaining
-      (after_assuring (Based T) trees kind lasting old bases new remaining was.opened all path opened requested opens dirs_are bases_are)
+      (after_assuring (Based T) trees kind lasting old bases new remaining was.opened all path opened looked_up opens dirs_are bases_are)
 
-  pub removed_based : {Ends : EntryView → Type 0} (head path : Path) (opened : Dirs) (requested : List ObjectId) → Opens Ends trees head old opened requested
+  pub removed_based : {StopsBefore : EntryView → Type 0} (head path : Path) (opened : Dirs) (looked_up : List ObjectId) → Opens StopsBefore trees head old opened looked_up
       → ((at : Path) → new at ≡ removed_dirs path opened at)
       → ((at : Path) → remaining at ≡ edited_bases opened new (opened_bases old opened bases) at) → HasBases T new remaining
-  removed_based head path opened requested opens dirs_are bases_are =
+  removed_based head path opened looked_up opens dirs_are bases_are =
       has_bases_of_everywhere T new remaining
-      (after_removal (Based T) trees kind lasting old bases new remaining was.opened all head path opened requested opens dirs_are bases_are)
+      (after_removal (Based T) trees kind lasting old bases new remaining was.opened all head path opened looked_up opens dirs_are bases_are)
 
-  pub opened_based : {Ends : EntryView → Type 0} (path : Path) (requested : List ObjectId) → Opens Ends trees path old new requested
+  pub opened_based : {StopsBefore : EntryView → Type 0} (path : Path) (looked_up : List ObjectId) → Opens StopsBefore trees path old new looked_up
       → ((at : Path) → remaining at ≡ opened_bases old new bases at) → HasBases T new remaining
-  opened_based path requested opens bases_are =
-      has_bases_of_everywhere T new remaining (after_opening (Based T) trees kind lasting old bases new remaining was.opened all path requested opens bases_are)
+  opened_based path looked_up opens bases_are =
+      has_bases_of_everywhere T new remaining (after_opening (Based T) trees kind lasting old bases new remaining was.opened all path looked_up opens bases_are)
 
 -- a null id has an empty base after each call, without a table
 module _ (trees : Trees) (kind : Kind) (old bases new remaining : Dirs) (was : AreOpenedOn old bases) where
   nulls : Everywhere NullBased old bases
   nulls = everywhere_null_based old bases was.null_based
 
-  pub upserted_null_based : (head : Path) (last : List ℕ) (mode : ℕ) (id : ObjectId) (opened : Dirs) (requested : List ObjectId)
-      → Opens IsNoTree trees head old opened requested
+  pub upserted_null_based : (head : Path) (last : List ℕ) (mode : ℕ) (id : ObjectId) (opened : Dirs) (looked_up : List ObjectId)
+      → Opens IsNoTree trees head old opened looked_up
       → ((at : Path) → new at ≡ upserted_dirs (head ++ last ∷ []) mode id (null_id kind) opened at)
       → ((at : Path) → remaining at ≡ edited_bases opened new (opened_bases old opened bases) at) → AreNullBased new remaining
-  upserted_null_based head last mode id opened requested opens dirs_are bases_are =
+  upserted_null_based head last mode id opened looked_up opens dirs_are bases_are =
       are_null_based_of_everywhere new remaining
       (after_upsert NullBased trees kind (null_based_is_lasting trees (null_id kind)) old bases new remaining was.opened nulls head last mode id opened
-      requested
+      looked_up
       opens (λ name list is. absurd (cc is)) dirs_are bases_are)
 
-  pub ensured_null_based : (path : Path) (opened : Dirs) (requested : List ObjectId) → Opens IsNoTree trees path old opened requested
+  pub ensured_null_based : (path : Path) (opened : Dirs) (looked_up : List ObjectId) → Opens IsNoTree trees path old opened looked_up
       → ((at : Path) → new at ≡ ensured_dirs path (null_id kind) opened at)
       → ((at : Path) → remaining at ≡ edited_bases opened new (opened_bases old opened bases) at) → AreNullBased new remaining
-  ensured_null_based path opened requested opens dirs_are bases_are =
+  ensured_null_based path opened looked_up opens dirs_are bases_are =
       are_null_based_of_everywhere new remaining
-      (after_assuring NullBased trees kind (null_based_is_lasting trees (null_id kind)) old bases new remaining was.opened nulls path opened requested opens
+      (after_assuring NullBased trees kind (null_based_is_lasting trees (null_id kind)) old bases new remaining was.opened nulls path opened looked_up opens
       dirs_are bases_are)
 
-  pub removed_null_based : {Ends : EntryView → Type 0} (head path : Path) (opened : Dirs) (requested : List ObjectId)
-      → Opens Ends trees head old opened requested
+  pub removed_null_based : {StopsBefore : EntryView → Type 0} (head path : Path) (opened : Dirs) (looked_up : List ObjectId)
+      → Opens StopsBefore trees head old opened looked_up
       → ((at : Path) → new at ≡ removed_dirs path opened at)
       → ((at : Path) → remaining at ≡ edited_bases opened new (opened_bases old opened bases) at) → AreNullBased new remaining
-  removed_null_based head path opened requested opens dirs_are bases_are =
+  removed_null_based head path opened looked_up opens dirs_are bases_are =
       are_null_based_of_everywhere new remaining
-      (after_removal NullBased trees kind (null_based_is_lasting trees (null_id kind)) old bases new remaining was.opened nulls head path opened requested opens
+      (after_removal NullBased trees kind (null_based_is_lasting trees (null_id kind)) old bases new remaining was.opened nulls head path opened looked_up opens
       dirs_are bases_are)
 
-  pub opened_null_based : {Ends : EntryView → Type 0} (path : Path) (requested : List ObjectId) → Opens Ends trees path old new requested
+  pub opened_null_based : {StopsBefore : EntryView → Type 0} (path : Path) (looked_up : List ObjectId) → Opens StopsBefore trees path old new looked_up
       → ((at : Path) → remaining at ≡ opened_bases old new bases at) → AreNullBased new remaining
-  opened_null_based path requested opens bases_are =
+  opened_null_based path looked_up opens bases_are =
       are_null_based_of_everywhere new remaining
-      (after_opening NullBased trees kind (null_based_is_lasting trees (null_id kind)) old bases new remaining was.opened nulls path requested opens bases_are)
+      (after_opening NullBased trees kind (null_based_is_lasting trees (null_id kind)) old bases new remaining was.opened nulls path looked_up opens bases_are)
 
 -- a write at a prefix needs no store
 abbrev no_trees : Trees
 no_trees = λ id. None
 
 module _ (old bases new remaining : Dirs) (was : AreOpenedOn old bases) (prefix : Path) (own : List EntryView) (there : old prefix ≢ None)
-    (dirs_are : (at : Path) → new at ≡ with_path prefix (only own) old at) (bases_are : (at : Path) → remaining at ≡ edited_bases old new bases at) where
+    (dirs_are : (at : Path) → new at ≡ with_path prefix (only_open own) old at) (bases_are : (at : Path) → remaining at ≡ edited_bases old new bases at) where
   pub written_based : (T : Table) → HasBases T old bases → HasBases T new remaining
   written_based T has =
       let lasting : Lasts (Based T) no_trees (null_id hash.Sha1) = based_is_lasting T no_trees (null_id hash.Sha1)

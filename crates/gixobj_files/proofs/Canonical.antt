@@ -8,13 +8,13 @@ use Rattle.std.proofs.lemmas.List.Elements.{All-contains}
 use Rattle.gixobj_tree.specs.Entries.{ComesBefore, EachLater, EntryView, IsWellFormed, Pair, entry_key, entry_of}
 use Rattle.gixobj_mode.specs.Mode.{is_tree_mode, tree_type}
 use Rattle.gixobj_hash.specs.declared.hash.object_id.ObjectId.{ObjectId}
-use Rattle.gixobj_files.specs.Files.{Below, Files, Has, Path, SameFiles, Table, is_null}
+use Rattle.gixobj_files.specs.Files.{Below, Files, ContainsEntry, Path, SameFiles, Table, is_null}
 use Rattle.gixobj_files.specs.Tables.{AgreesWithPairs, HasOneId}
 use Rattle.gixobj_files.proofs.OpenedFiles.{files_below_of_table}
 use Rattle.gixobj_tree.proofs.WellFormed.{comes_before_trans}
 
 -- an entry comes before those after it, and never before itself
-later_has : (x : EntryView) (ys : List EntryView) (y : EntryView) → AllByRecursion (ComesBefore x) ys → Has ys y → ComesBefore x y
+later_has : (x : EntryView) (ys : List EntryView) (y : EntryView) → AllByRecursion (ComesBefore x) ys → ContainsEntry ys y → ComesBefore x y
 later_has x [] y h k = absurd k
 later_has x (z ∷ zs) y h (inl same) = subst (ComesBefore x) same h.0
 later_has x (z ∷ zs) y h (inr k) = later_has x zs y h.1 k
@@ -23,8 +23,8 @@ never_before_itself : (x : EntryView) → ComesBefore x x → ⊥
 never_before_itself x h = let back = nat_list_cmp_total.antisymm (entry_key x) (entry_key x) in cc (h, back)
 
 -- ascending lists with the same entries are equal
-same_lists : (xs ys : List EntryView) → EachLater ComesBefore xs → EachLater ComesBefore ys → ((e : EntryView) → Has xs e → Has ys e)
-    → ((e : EntryView) → Has ys e → Has xs e) → xs ≡ ys
+same_lists : (xs ys : List EntryView) → EachLater ComesBefore xs → EachLater ComesBefore ys → ((e : EntryView) → ContainsEntry xs e → ContainsEntry ys e)
+    → ((e : EntryView) → ContainsEntry ys e → ContainsEntry xs e) → xs ≡ ys
 same_lists [] [] a b f g = refl
 same_lists [] (y ∷ ys) a b f g = absurd (g y (inl refl))
 same_lists (x ∷ xs) [] a b f g = absurd (f x (inl refl))
@@ -38,12 +38,12 @@ same_lists (x ∷ xs) (y ∷ ys) a b f g =
     cc (head, rest)
 
 -- entries of one name in a list are equal, since the names in it differ
-differs : (x : EntryView) (ys : List EntryView) (y : EntryView) → AllByRecursion (λ z. x.name ≢ z.name) ys → Has ys y → x.name ≢ y.name
+differs : (x : EntryView) (ys : List EntryView) (y : EntryView) → AllByRecursion (λ z. x.name ≢ z.name) ys → ContainsEntry ys y → x.name ≢ y.name
 differs x [] y h k = absurd k
 differs x (z ∷ ys) y h (inl same) = λ q. h.0 (q ∙ ap (λ (w : EntryView). w.name) (sym same))
 differs x (z ∷ ys) y h (inr k) = differs x ys y h.1 k
 
-pub entry_of_name_unique : (es : List EntryView) → EachLater (λ x y. x.name ≢ y.name) es → (x y : EntryView) → Has es x → Has es y → x.name ≡ y.name → x ≡ y
+pub entry_of_name_unique : (es : List EntryView) → EachLater (λ x y. x.name ≢ y.name) es → (x y : EntryView) → ContainsEntry es x → ContainsEntry es y → x.name ≡ y.name → x ≡ y
 entry_of_name_unique [] apart x y h k q = absurd h
 entry_of_name_unique (e ∷ es) apart x y (inl s) (inl t) q = sym s ∙ t
 entry_of_name_unique (e ∷ es) apart x y (inl s) (inr k) q = absurd (differs e es y apart.0 k (ap (λ (w : EntryView). w.name) s ∙ q))
@@ -61,16 +61,16 @@ entries_named_alike_eq x y m n i = same_entry x.mode y.mode x.name y.name x.id y
 -- a well-formed list without null ids
 pub record IsClean (entries : List EntryView) : Type 0 where
   pub formed : IsWellFormed entries
-  pub filled : (e : EntryView) → Has entries e → is_null e.id ≡ false
+  pub filled : (e : EntryView) → ContainsEntry entries e → is_null e.id ≡ false
 
 -- a tree whose directories have the ids of pairs with trees that aren't empty and are built in turn
 pub data IsBuilt (pairs : List Pair) : List EntryView → Type 0 where
   built : (entries : List EntryView) → IsClean entries
-      → ((e : EntryView) → Has entries e → is_tree_mode e.mode ≡ true → e.mode ≡ tree_type)
-      → (tree : (e : EntryView) → Has entries e → is_tree_mode e.mode ≡ true → List EntryView)
-      → ((e : EntryView) (h : Has entries e) (t : is_tree_mode e.mode ≡ true) → tree e h t ≢ [])
-      → ((e : EntryView) (h : Has entries e) (t : is_tree_mode e.mode ≡ true) → Contains pairs (e.id, tree e h t))
-      → ((e : EntryView) (h : Has entries e) (t : is_tree_mode e.mode ≡ true) → IsBuilt pairs (tree e h t))
+      → ((e : EntryView) → ContainsEntry entries e → is_tree_mode e.mode ≡ true → e.mode ≡ tree_type)
+      → (tree : (e : EntryView) → ContainsEntry entries e → is_tree_mode e.mode ≡ true → List EntryView)
+      → ((e : EntryView) (h : ContainsEntry entries e) (t : is_tree_mode e.mode ≡ true) → tree e h t ≢ [])
+      → ((e : EntryView) (h : ContainsEntry entries e) (t : is_tree_mode e.mode ≡ true) → Contains pairs (e.id, tree e h t))
+      → ((e : EntryView) (h : ContainsEntry entries e) (t : is_tree_mode e.mode ≡ true) → IsBuilt pairs (tree e h t))
       → IsBuilt pairs entries
 
 module _ (T : Table) where
@@ -89,7 +89,7 @@ module _ (T : Table) where
       (λ es. Files T k es [] mode id)) other h.1 in (it.1, it.2)
 
   -- the files at the name of an entry are the files at and below the entry
-  at_entry : (xs : List EntryView) → IsClean xs → (e : EntryView) → Has xs e → (k : ℕ) (path : Path) (mode : ℕ) (id : ObjectId)
+  at_entry : (xs : List EntryView) → IsClean xs → (e : EntryView) → ContainsEntry xs e → (k : ℕ) (path : Path) (mode : ℕ) (id : ObjectId)
       → Files T (suc k) xs (e.name ∷ path) mode id → Below T (Files T k) e.mode e.id path mode id
   at_entry xs clean e h k path mode id f =
       subst (λ (x : EntryView). Below T (Files T k) x.mode x.id path mode id) (entry_of_name_unique xs clean.formed.apart f.0 e f.1 h f.2) f.3
@@ -99,13 +99,13 @@ module _ (T : Table) (pairs : List Pair) (known : AgreesWithPairs T pairs) where
   its_tree id tree has = All-contains (λ pair. T.tree_at pair.0 ≡ Some pair.1) pairs (id, tree) known has
 
   -- the files of an entry of tree mode are those of its tree
-  into_tree : (xs : List EntryView) → IsClean xs → (e : EntryView) → Has xs e → is_tree_mode e.mode ≡ true → (tree : List EntryView)
+  into_tree : (xs : List EntryView) → IsClean xs → (e : EntryView) → ContainsEntry xs e → is_tree_mode e.mode ≡ true → (tree : List EntryView)
       → Contains pairs (e.id, tree)
       → (k : ℕ) (path : Path) (mode : ℕ) (id : ObjectId) → Files T (suc k) xs (e.name ∷ path) mode id → Files T k tree path mode id
   into_tree xs clean e h t tree has k path mode id f = (files_below_of_table T k e.mode e.id tree t (inr (its_tree e.id tree has)) path mode id).0
       (at_entry T xs clean e h k path mode id f)
 
-  of_tree : (xs : List EntryView) (e : EntryView) → Has xs e → is_tree_mode e.mode ≡ true → (tree : List EntryView) → Contains pairs (e.id, tree)
+  of_tree : (xs : List EntryView) (e : EntryView) → ContainsEntry xs e → is_tree_mode e.mode ≡ true → (tree : List EntryView) → Contains pairs (e.id, tree)
       → (k : ℕ) (path : Path) (mode : ℕ) (id : ObjectId) → Files T k tree path mode id → Files T (suc k) xs (e.name ∷ path) mode id
   of_tree xs e h t tree has k path mode id f = (e, h, refl, (files_below_of_table T k e.mode e.id tree t (inr (its_tree e.id tree has)) path mode id).1 f)
 
@@ -116,7 +116,7 @@ module _ (T : Table) (pairs : List Pair) (known : AgreesWithPairs T pairs) where
   abbrev HasFileAt : List EntryView → List ℕ → Type 0
   HasFileAt xs name = (n : ℕ) × (path : Path) × (mode : ℕ) × (id : ObjectId) × Files T (suc n) xs (name ∷ path) mode id
 
-  file_at : (xs : List EntryView) → IsClean xs → (e : EntryView) → Has xs e
+  file_at : (xs : List EntryView) → IsClean xs → (e : EntryView) → ContainsEntry xs e
       → (tree : is_tree_mode e.mode ≡ true → List EntryView) → ((t : is_tree_mode e.mode ≡ true) → Contains pairs (e.id, tree t))
       → ((t : is_tree_mode e.mode ≡ true) → HasFile (tree t)) → HasFileAt xs e.name
   file_at xs clean e h tree named deep =
@@ -132,7 +132,7 @@ module _ (T : Table) (pairs : List Pair) (known : AgreesWithPairs T pairs) where
       (λ t. has_file (tree e (inl refl) t) (deep e (inl refl) t) (filled e (inl refl) t)) in
       (suc f.0, e.name ∷ f.1, f.2, f.3, f.4)
 
-  has_file_at : (xs : List EntryView) → IsBuilt pairs xs → (e : EntryView) → Has xs e → HasFileAt xs e.name
+  has_file_at : (xs : List EntryView) → IsBuilt pairs xs → (e : EntryView) → ContainsEntry xs e → HasFileAt xs e.name
   has_file_at xs (built l clean modes tree filled named deep) e h =
       file_at xs clean e h (tree e h) (named e h) (λ t. has_file (tree e h t) (deep e h t) (filled e h t))
 
@@ -140,7 +140,7 @@ module _ (T : Table) (pairs : List Pair) (known : AgreesWithPairs T pairs) where
   abbrev Same : List EntryView → List EntryView → Type 0
   Same xs ys = (n : ℕ) → SameFiles (Files T n xs) (Files T n ys)
 
-  both : (one : HasOneId pairs) (xs ys : List EntryView) → IsClean xs → IsClean ys → Same xs ys → (x y : EntryView) → Has xs x → Has ys y → x.name ≡ y.name
+  both : (one : HasOneId pairs) (xs ys : List EntryView) → IsClean xs → IsClean ys → Same xs ys → (x y : EntryView) → ContainsEntry xs x → ContainsEntry ys y → x.name ≡ y.name
       → (is_tree_mode x.mode ≡ true → x.mode ≡ tree_type) → (is_tree_mode y.mode ≡ true → y.mode ≡ tree_type)
       → (xt : is_tree_mode x.mode ≡ true → List EntryView) → ((t : is_tree_mode x.mode ≡ true) → Contains pairs (x.id, xt t))
       → (yt : is_tree_mode y.mode ≡ true → List EntryView) → ((t : is_tree_mode y.mode ≡ true) → Contains pairs (y.id, yt t))
@@ -177,10 +177,10 @@ module _ (T : Table) (pairs : List Pair) (known : AgreesWithPairs T pairs) where
   same_trees one xs (built lx cx mx tx fx nx dx) ys (built ly cy my ty fy ny dy) same =
       let x_built : IsBuilt pairs xs = built xs cx mx tx fx nx dx in
       let y_built : IsBuilt pairs ys = built ys cy my ty fy ny dy in
-      let meet : (x y : EntryView) → Has xs x → Has ys y → x.name ≡ y.name → x ≡ y =
+      let meet : (x y : EntryView) → ContainsEntry xs x → ContainsEntry ys y → x.name ≡ y.name → x ≡ y =
       λ x y hx hy called. both one xs ys cx cy same x y hx hy called (mx x hx) (my y hy) (tx x hx) (nx x hx) (ty y hy) (ny y hy)
       (λ t u. same_trees one (tx x hx t) (dx x hx t) (ty y hy u) (dy y hy u)) in
       same_lists xs ys cx.formed.ascending cy.formed.ascending
-      (λ x hx. let f = has_file_at xs x_built x hx in let g = (same (suc f.0) (x.name ∷ f.1) f.2 f.3).0 f.4 in subst (Has ys)
+      (λ x hx. let f = has_file_at xs x_built x hx in let g = (same (suc f.0) (x.name ∷ f.1) f.2 f.3).0 f.4 in subst (ContainsEntry ys)
       (sym (meet x g.0 hx g.1 (sym g.2))) g.1)
-      (λ y hy. let f = has_file_at ys y_built y hy in let g = (same (suc f.0) (y.name ∷ f.1) f.2 f.3).1 f.4 in subst (Has xs) (meet g.0 y g.1 hy g.2) g.1)
+      (λ y hy. let f = has_file_at ys y_built y hy in let g = (same (suc f.0) (y.name ∷ f.1) f.2 f.3).1 f.4 in subst (ContainsEntry xs) (meet g.0 y g.1 hy g.2) g.1)

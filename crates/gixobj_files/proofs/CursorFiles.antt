@@ -4,7 +4,7 @@ use Rattle.std.specs.Prelude.{MatchOption}
 use Rattle.std.proofs.lemmas.List.Elements.{recursion_from_All}
 use Rattle.gixobj_tree.specs.Entries.{EntryView, Pair}
 use Rattle.gixobj_hash.specs.declared.hash.object_id.ObjectId.{ObjectId}
-use Rattle.gixobj_files.specs.Edits.{IsNoTree, Opens, ensured_dirs, only, with_path}
+use Rattle.gixobj_files.specs.Edits.{IsNoTree, Opens, ensured_dirs, only_open, with_path}
 use Rattle.gixobj_files.specs.Files.{Ensured, Files, NamedFiles, Path, SameFiles, Table, Trees}
 use Rattle.gixobj_files.specs.Emission.{EmitsBelow}
 use Rattle.gixobj_files.specs.Opening.{Dirs, IsOpened, OpenFiles, in_path}
@@ -21,12 +21,12 @@ use Rattle.gixobj_files.proofs.WrittenFiles.{known_append_left, known_append_rig
 
 -- a directory that is ensured after an opening of its path drops the files at the path, and those at the paths of
 -- parent directories
-pub ensured_dirs_files : (T : Table) (trees : Trees) → AgreesWithStore T trees → (path : Path) (null : ObjectId) (old mid : Dirs) (requested : List ObjectId)
-    → Opens IsNoTree trees path old mid requested
+pub ensured_dirs_files : (T : Table) (trees : Trees) → AgreesWithStore T trees → (path : Path) (null : ObjectId) (old mid : Dirs) (looked_up : List ObjectId)
+    → Opens IsNoTree trees path old mid looked_up
     → (n : ℕ) → SameFiles (OpenFiles T n (ensured_dirs path null mid)) (Ensured path (OpenFiles T n old))
-ensured_dirs_files T trees agrees path null old mid requested opens n =
-    same_files_trans _ _ _ (ensured_dirs_files_of_open T n path null mid (is_open_along_of_opens trees path old mid requested opens))
-    (ensured_congruent path (OpenFiles T n mid) (OpenFiles T n old) (opens_keeps_files T trees agrees path old mid requested opens n))
+ensured_dirs_files T trees agrees path null old mid looked_up opens n =
+    same_files_trans _ _ _ (ensured_dirs_files_of_open T n path null mid (is_open_along_of_opens trees path old mid looked_up opens))
+    (ensured_congruent path (OpenFiles T n mid) (OpenFiles T n old) (opens_keeps_files T trees agrees path old mid looked_up opens n))
 
 -- the written tree of the directory at a path has the files of the directories at and below it
 own_files : (T : Table) (prefix : Path) (dirs bases : Dirs) (below : List Pair) (own : List EntryView) (saved : ℕ) (id : ObjectId) → IsOpened dirs
@@ -58,8 +58,8 @@ written_id_files_below_prefix T n prefix dirs bases below own saved id all based
 pub write_keeps_files : (T : Table) (n : ℕ) (prefix : Path) (dirs bases : Dirs) (below : List Pair) (own : List EntryView) (saved : ℕ) (id : ObjectId)
     → IsOpened dirs → Everywhere (Based T) dirs bases → dirs prefix ≢ None → EmitsBelow (in_path prefix dirs) (in_path prefix bases) below own saved
     → AgreesWithPairs T (below ++ (id, own) ∷ [])
-    → SameFiles (OpenFiles T n (with_path prefix (only own) dirs)) (OpenFiles T n dirs)
+    → SameFiles (OpenFiles T n (with_path prefix (only_open own) dirs)) (OpenFiles T n dirs)
 write_keeps_files T n prefix dirs bases below own saved id all based there going agrees =
-    files_with_same_inner T prefix (only own) dirs all there (λ none. cc none)
-    (λ k. same_files_trans _ _ _ (open_files_of_root_alone T k (only own) own refl (λ name. refl))
+    files_with_same_inner T prefix (only_open own) dirs all there (λ none. cc none)
+    (λ k. same_files_trans _ _ _ (open_files_of_root_alone T k (only_open own) own refl (λ name. refl))
     (own_files T prefix dirs bases below own saved id all based there going agrees k)) n

@@ -8,48 +8,48 @@ use Rattle.std.specs.FinMap as map
 use Rattle.gixobj_tree.specs.Entries.{EntryView}
 use Rattle.gixobj_hash.specs.declared.hash.object_id.ObjectId.{ObjectId}
 use Rattle.gixobj_files.specs.Editing.{comes_before, non_null_entries, same_name, with_entry, without}
-use Rattle.gixobj_files.specs.Files.{Ensured, Below, FileSet, Files, Has, Path, Removed, SameFiles, Table, Upserted, is_null}
+use Rattle.gixobj_files.specs.Files.{Ensured, Below, FileSet, Files, ContainsEntry, Path, Removed, SameFiles, Table, Upserted, is_null}
 use Rattle.gixobj_files.specs.Opening.{OpenFiles}
 use Rattle.gixobj_files.specs.State.{root_alone}
 use Rattle.gixobj_files.proofs.OpenedFiles.{open_files_of_root_alone}
 
 -- the entries of an appended list are those of its parts
-pub has_append_cases : (xs ys : List EntryView) (e : EntryView) → Has (xs ++ ys) e → Has xs e ⊎ Has ys e
+pub has_append_cases : (xs ys : List EntryView) (e : EntryView) → ContainsEntry (xs ++ ys) e → ContainsEntry xs e ⊎ ContainsEntry ys e
 has_append_cases [] ys e h = inr h
 has_append_cases (x ∷ xs) ys e (inl p) = inl (inl p)
 has_append_cases (x ∷ xs) ys e (inr h) = ⊎_elim (λ k. inl (inr k)) inr (has_append_cases xs ys e h)
 
-pub has_append_left : (xs ys : List EntryView) (e : EntryView) → Has xs e → Has (xs ++ ys) e
+pub has_append_left : (xs ys : List EntryView) (e : EntryView) → ContainsEntry xs e → ContainsEntry (xs ++ ys) e
 has_append_left (x ∷ xs) ys e (inl p) = inl p
 has_append_left (x ∷ xs) ys e (inr h) = inr (has_append_left xs ys e h)
 has_append_left [] ys e h = absurd h
 
-pub has_append_right : (xs ys : List EntryView) (e : EntryView) → Has ys e → Has (xs ++ ys) e
+pub has_append_right : (xs ys : List EntryView) (e : EntryView) → ContainsEntry ys e → ContainsEntry (xs ++ ys) e
 has_append_right [] ys e h = h
 has_append_right (x ∷ xs) ys e h = inr (has_append_right xs ys e h)
 
 -- a filter keeps the entries that pass
-Has-kept : (p : EntryView → Bool) (xs : List EntryView) (e : EntryView) → Has (filter p xs) e → Has xs e × (p e ≡ true)
+Has-kept : (p : EntryView → Bool) (xs : List EntryView) (e : EntryView) → ContainsEntry (filter p xs) e → ContainsEntry xs e × (p e ≡ true)
 Has-kept p [] e h = absurd h
 Has-kept p (x ∷ xs) e h =
-    elim (p x) as (λ b. p x ≡ b → Has (cond b (x ∷ filter p xs) (filter p xs)) e → Has (x ∷ xs) e × (p e ≡ true)) [
+    elim (p x) as (λ b. p x ≡ b → ContainsEntry (cond b (x ∷ filter p xs) (filter p xs)) e → ContainsEntry (x ∷ xs) e × (p e ≡ true)) [
       | true ↦ λ t k. ⊎_elim (λ q. (inl q, subst (λ y. p y ≡ true) q t)) (λ r. let s = Has-kept p xs e r in (inr s.0, s.1)) k
       | false ↦ λ t k. let s = Has-kept p xs e k in (inr s.0, s.1)
     ] refl h
 
-Has-keeps : (p : EntryView → Bool) (xs : List EntryView) (e : EntryView) → Has xs e → p e ≡ true → Has (filter p xs) e
+Has-keeps : (p : EntryView → Bool) (xs : List EntryView) (e : EntryView) → ContainsEntry xs e → p e ≡ true → ContainsEntry (filter p xs) e
 Has-keeps p [] e h t = h
 Has-keeps p (x ∷ xs) e (inl q) t = rw (subst (λ y. p y ≡ true) (sym q) t) (inl q)
 Has-keeps p (x ∷ xs) e (inr h) t =
-    elim (p x) as (λ b. Has (cond b (x ∷ filter p xs) (filter p xs)) e) [ true ↦ inr (Has-keeps p xs e h t) | false ↦ Has-keeps p xs e h t ]
+    elim (p x) as (λ b. ContainsEntry (cond b (x ∷ filter p xs) (filter p xs)) e) [ true ↦ inr (Has-keeps p xs e h t) | false ↦ Has-keeps p xs e h t ]
 
 -- the entries of other names are those whose names differ
-pub has_of_without : (name : List ℕ) (es : List EntryView) (e : EntryView) → Has (without name es) e → Has es e × (e.name ≢ name)
+pub has_of_without : (name : List ℕ) (es : List EntryView) (e : EntryView) → ContainsEntry (without name es) e → ContainsEntry es e × (e.name ≢ name)
 has_of_without name es e h =
     let s = Has-kept (λ y. not (same_name y.name name)) es e h in
     (s.0, λ q. cc (ap not ((bytes_decides e.name name).1 q), s.1))
 
-pub has_without_other : (name : List ℕ) (es : List EntryView) (e : EntryView) → Has es e → e.name ≢ name → Has (without name es) e
+pub has_without_other : (name : List ℕ) (es : List EntryView) (e : EntryView) → ContainsEntry es e → e.name ≢ name → ContainsEntry (without name es) e
 has_without_other name es e h n = Has-keeps (λ y. not (same_name y.name name)) es e h
     (apart (same_name e.name name) (λ t. n ((bytes_decides e.name name).0 t)))
   where
@@ -62,18 +62,18 @@ either true = inl refl
 either false = inr refl
 
 -- after an insertion the list has the inserted entry, and those of other names
-pub has_of_with_entry : (x : EntryView) (es : List EntryView) (e : EntryView) → Has (with_entry x es) e → (x ≡ e) ⊎ (Has es e × (e.name ≢ x.name))
+pub has_of_with_entry : (x : EntryView) (es : List EntryView) (e : EntryView) → ContainsEntry (with_entry x es) e → (x ≡ e) ⊎ (ContainsEntry es e × (e.name ≢ x.name))
 has_of_with_entry x es e h =
-    let others : Has (without x.name es) e → Has es e × (e.name ≢ x.name) = has_of_without x.name es e in
+    let others : ContainsEntry (without x.name es) e → ContainsEntry es e × (e.name ≢ x.name) = has_of_without x.name es e in
     ⊎_elim (λ k. inr (others (Has-kept (λ y. comes_before y x) (without x.name es) e k).0))
     (⊎_elim inl (λ k. inr (others (Has-kept (λ y. not (comes_before y x)) (without x.name es) e k).0)))
     (has_append_cases (filter (λ y. comes_before y x) (without x.name es)) (x ∷ filter (λ y. not (comes_before y x)) (without x.name es)) e h)
 
-pub has_with_entry_new : (x : EntryView) (es : List EntryView) → Has (with_entry x es) x
+pub has_with_entry_new : (x : EntryView) (es : List EntryView) → ContainsEntry (with_entry x es) x
 has_with_entry_new x es = has_append_right (filter (λ y. comes_before y x) (without x.name es)) (x ∷ filter (λ y. not (comes_before y x)) (without x.name es)) x
     (inl refl)
 
-pub has_with_entry_other : (x : EntryView) (es : List EntryView) (e : EntryView) → Has es e → e.name ≢ x.name → Has (with_entry x es) e
+pub has_with_entry_other : (x : EntryView) (es : List EntryView) (e : EntryView) → ContainsEntry es e → e.name ≢ x.name → ContainsEntry (with_entry x es) e
 has_with_entry_other x es e h n =
     let remaining = has_without_other x.name es e h n in
     ⊎_elim (λ l. has_append_left (filter (λ y. comes_before y x) (without x.name es)) _ e

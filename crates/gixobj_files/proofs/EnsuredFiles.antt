@@ -4,7 +4,7 @@ use Rattle.std.proofs.Common.{◌≡◌, ◌≢◌, ◌⊎◌, inl, inr, ℕ, ze
 use Rattle.gixobj_tree.specs.Entries.{EntryView}
 use Rattle.gixobj_mode.specs.Mode.{is_tree_mode}
 use Rattle.gixobj_hash.specs.declared.hash.object_id.ObjectId.{ObjectId}
-use Rattle.gixobj_files.specs.Edits.{IsNoTree, Opens, arrived, ensured_dirs, down, found, only, or_empty, stops, with_directory}
+use Rattle.gixobj_files.specs.Edits.{IsNoTree, Opens, arrived, ensured_dirs, down, found, only_open, or_empty, stops, with_directory}
 use Rattle.gixobj_files.specs.Files.{Ensured, Begins, FileSet, Files, Path, SameFiles, Table, Trees}
 use Rattle.gixobj_files.specs.Opening.{Dirs, HasAt, OpenFiles, in_dir}
 use Rattle.gixobj_files.proofs.OpenedFiles.{open_files_of_other_name, open_files_of_open, open_files_into_open, open_files_into_unopened, same_name_refl, same_name_false, path_nil_below_file, no_open_files_of_none, name_eq_or_ne}
@@ -23,11 +23,11 @@ open_nowhere [] dirs none = tt
 open_nowhere (name ∷ rest) dirs none = inl ((λ e h named. absurd (subst (λ (o : Option (List EntryView)). HasAt o e) (none []) h)), λ path. none (name ∷ path))
 
 -- an opening leaves the directories on its path open
-pub is_open_along_of_opens : (trees : Trees) (path : Path) (dirs new : Dirs) (requested : List ObjectId) → Opens IsNoTree trees path dirs new requested
+pub is_open_along_of_opens : (trees : Trees) (path : Path) (dirs new : Dirs) (looked_up : List ObjectId) → Opens IsNoTree trees path dirs new looked_up
     → IsOpenAlong path new
-is_open_along_of_opens trees path dirs new requested (arrived d) = tt
-is_open_along_of_opens trees path dirs new requested (stops name rest d other none) = inl (other, none)
-is_open_along_of_opens trees path dirs new requested (down name rest d inner e entries more has named is opens) =
+is_open_along_of_opens trees path dirs new looked_up (arrived d) = tt
+is_open_along_of_opens trees path dirs new looked_up (stops name rest d other none) = inl (other, none)
+is_open_along_of_opens trees path dirs new looked_up (down name rest d inner e entries more has named is opens) =
     let inside = with_dir_in_dir name inner d in
     inr (
       (e, has, named),
@@ -35,13 +35,13 @@ is_open_along_of_opens trees path dirs new requested (down name rest d inner e e
       subst (IsOpenAlong rest)
           (sym inside) (is_open_along_of_opens trees rest (in_dir name d) inner more opens),
     )
-is_open_along_of_opens trees path dirs new requested (found name rest d inner e entries first more entry tree free none finds opens) =
+is_open_along_of_opens trees path dirs new looked_up (found name rest d inner e entries first more entry tree free none finds opens) =
     let inside = with_dir_in_dir name inner d in
     inr (
       (e, entry.0, entry.1),
-      (entries, ap (λ (x : Dirs). x []) inside ∙ opens_keeps_root trees rest (only entries) inner more opens),
+      (entries, ap (λ (x : Dirs). x []) inside ∙ opens_keeps_root trees rest (only_open entries) inner more opens),
       subst (IsOpenAlong rest)
-          (sym inside) (is_open_along_of_opens trees rest (only entries) inner more opens),
+          (sym inside) (is_open_along_of_opens trees rest (only_open entries) inner more opens),
     )
 
 -- the directories in the first name of an ensured path, and in another name

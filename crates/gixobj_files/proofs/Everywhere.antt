@@ -7,8 +7,8 @@ use Rattle.gixobj_tree.specs.Entries.{EntryView}
 use Rattle.gixobj_mode.specs.Mode.{is_tree_mode, tree_type}
 use Rattle.gixobj_hash.specs.declared.hash.object_id.ObjectId.{ObjectId}
 use Rattle.gixobj_files.specs.Editing.{has_tree, with_entry, without}
-use Rattle.gixobj_files.specs.Edits.{Finds, Opens, arrived, ensured_dirs, down, found, only, or_empty, removed_dirs, stops, upserted_dirs, with_dir, with_directory, with_path}
-use Rattle.gixobj_files.specs.Files.{Has, Path, Trees}
+use Rattle.gixobj_files.specs.Edits.{Finds, Opens, arrived, ensured_dirs, down, found, only_open, or_empty, removed_dirs, stops, upserted_dirs, with_dir, with_directory, with_path}
+use Rattle.gixobj_files.specs.Files.{ContainsEntry, Path, Trees}
 use Rattle.gixobj_files.specs.Opening.{Dirs, HasAt, in_dir}
 use Rattle.gixobj_files.proofs.EnsuredFiles.{IsOpenAlong, ensured_dirs_in_other_dir, ensured_dirs_in_dir}
 use Rattle.gixobj_files.proofs.EditedFiles.{has_of_with_entry}
@@ -34,9 +34,9 @@ pub record Lasts (P : OfEntry) (trees : Trees) (null : ObjectId) : Type 0 where
   pub not_open : (e : EntryView) (base : Option (List EntryView)) → P e None base → P e None None
   pub still : (e : EntryView) (was now : List EntryView) (base : Option (List EntryView)) → P e (Some was) base → P e (Some now) base
   pub made : (name : List ℕ) (now : List EntryView) → P (record { mode = tree_type; name = name; id = null }) (Some now) (Some [])
-  pub opened : (e : EntryView) (base : Option (List EntryView)) (entries : List EntryView) (requested : List ObjectId) → P e None base
-      → is_tree_mode e.mode ≡ true → Finds trees e.id entries requested
-      → P e (Some entries) (Some entries) × ((x : EntryView) → Has entries x → P x None None)
+  pub opened : (e : EntryView) (base : Option (List EntryView)) (entries : List EntryView) (looked_up : List ObjectId) → P e None base
+      → is_tree_mode e.mode ≡ true → Finds trees e.id entries looked_up
+      → P e (Some entries) (Some entries) × ((x : EntryView) → ContainsEntry entries x → P x None None)
 
 module _ (P : OfEntry) (trees : Trees) (null : ObjectId) (lasts : Lasts P trees null) where
   -- a property at all paths follows from the root and from each name
@@ -93,7 +93,7 @@ module _ (P : OfEntry) (trees : Trees) (null : ObjectId) (lasts : Lasts P trees 
 
   -- a property below a directory that wasn't open
   below_found : (name : List ℕ) (dirs inner bases : Dirs) (entries : List EntryView) → ((path : Path) → dirs (name ∷ path) ≡ None)
-      → Everywhere P inner (opened_bases (only entries) inner (λ _. None))
+      → Everywhere P inner (opened_bases (only_open entries) inner (λ _. None))
       → Everywhere P inner (opened_bases (in_dir name dirs) inner (in_dir name bases))
   below_found name dirs inner bases entries none all [] e h =
       subst (λ o. P e (inner (e.name ∷ [])) (base_opened o (inner (e.name ∷ [])) (bases (name ∷ e.name ∷ [])))) (sym (none (e.name ∷ [])))
@@ -104,31 +104,31 @@ module _ (P : OfEntry) (trees : Trees) (null : ObjectId) (lasts : Lasts P trees 
       (sym (none (first ∷ (path ++ e.name ∷ []))))
       (all (first ∷ path) e h)
 
-  alone_everywhere : (entries : List EntryView) → ((x : EntryView) → Has entries x → P x None None) → Everywhere P (only entries) (λ _. None)
+  alone_everywhere : (entries : List EntryView) → ((x : EntryView) → ContainsEntry entries x → P x None None) → Everywhere P (only_open entries) (λ _. None)
   alone_everywhere entries each [] e h = each e h
   alone_everywhere entries each (first ∷ path) e h = absurd h
 
-  pub everywhere_opened : {Ends : EntryView → Type 0} (path : Path) (dirs new : Dirs) (requested : List ObjectId)
-      → Opens Ends trees path dirs new requested
+  pub everywhere_opened : {StopsBefore : EntryView → Type 0} (path : Path) (dirs new : Dirs) (looked_up : List ObjectId)
+      → Opens StopsBefore trees path dirs new looked_up
       → (bases : Dirs) → Everywhere P dirs bases → Everywhere P new (opened_bases dirs new bases)
-  everywhere_opened path dirs new requested (arrived d) bases all = all_settled d bases all
-  everywhere_opened path dirs new requested (stops name rest d other none) bases all = all_settled d bases all
-  everywhere_opened path dirs new requested (down name rest d inner e entries more has named is opens) bases all =
+  everywhere_opened path dirs new looked_up (arrived d) bases all = all_settled d bases all
+  everywhere_opened path dirs new looked_up (stops name rest d other none) bases all = all_settled d bases all
+  everywhere_opened path dirs new looked_up (down name rest d inner e entries more has named is opens) bases all =
       opened_with name d inner bases
       (λ x h called. subst (λ o. P x o (base_opened (d (name ∷ [])) o (bases (name ∷ []))))
       (sym (opens_keeps_root trees rest (in_dir name d) inner more opens))
       (settled x (d (name ∷ [])) (bases (name ∷ [])) (subst (λ n. P x (d (n ∷ [])) (bases (n ∷ []))) called (all [] x h))))
       (everywhere_opened rest (in_dir name d) inner more opens (in_dir name bases) (λ q. all (name ∷ q))) all
-  everywhere_opened path dirs new requested (found name rest d inner e entries first more entry tree free none finds opens) bases all =
+  everywhere_opened path dirs new looked_up (found name rest d inner e entries first more entry tree free none finds opens) bases all =
       let p : P e None (bases (name ∷ [])) = subst (λ o. P e o (bases (name ∷ []))) (none [])
       (subst (λ n. P e (d (n ∷ [])) (bases (n ∷ []))) entry.1 (all [] e entry.0)) in
       let is = lasts.opened e (bases (name ∷ [])) entries first p tree finds in
       opened_with name d inner bases
       (λ x h called. subst (λ (y : EntryView). P y (inner []) (base_opened (d (name ∷ [])) (inner []) (bases (name ∷ [])))) (sym (entry.2 x h called))
       (subst (λ o. P e (inner []) (base_opened o (inner []) (bases (name ∷ [])))) (sym (none []))
-      (subst (λ o. P e o o) (sym (opens_keeps_root trees rest (only entries) inner more opens)) is.0)))
+      (subst (λ o. P e o o) (sym (opens_keeps_root trees rest (only_open entries) inner more opens)) is.0)))
       (below_found name d inner bases entries none
-      (everywhere_opened rest (only entries) inner more opens (λ _. None) (alone_everywhere entries is.1))) all
+      (everywhere_opened rest (only_open entries) inner more opens (λ _. None) (alone_everywhere entries is.1))) all
 
   -- after an edit in the directory of a name, the directories of other names are unchanged
   edited_in : (name : List ℕ) (dirs new inner bases : Dirs) → in_dir name new ≡ inner
@@ -165,18 +165,18 @@ module _ (P : OfEntry) (trees : Trees) (null : ObjectId) (lasts : Lasts P trees 
   a_tree name None e h named tree = absurd h
   a_tree name (Some es) e h named tree = has_tree_of_entry name es e h named tree
 
-  made_entry : (name : List ℕ) (es : List EntryView) (e : EntryView) → has_tree name es ≡ false → Has (with_directory name null es) e → e.name ≡ name
+  made_entry : (name : List ℕ) (es : List EntryView) (e : EntryView) → has_tree name es ≡ false → ContainsEntry (with_directory name null es) e → e.name ≡ name
       → record { mode = tree_type; name = name; id = null } ≡ e
   made_entry name es e none h called =
       let x : EntryView = record { mode = tree_type; name = name; id = null } in
-      ⊎_elim (λ same. same) (λ old. absurd (old.1 called)) (has_of_with_entry x es e (subst (λ b. Has (cond b es (with_entry x es)) e) none h))
+      ⊎_elim (λ same. same) (λ old. absurd (old.1 called)) (has_of_with_entry x es e (subst (λ b. ContainsEntry (cond b es (with_entry x es)) e) none h))
 
   -- the entry of a directory that an edit creates or finds open has the property
   directory_here : (name : List ℕ) (dirs bases : Dirs) (inner : Option (List EntryView)) (root : List EntryView) → inner ≡ Some root → AreAbove dirs
       → Everywhere P dirs bases
       → (((e : EntryView) → HasAt (dirs []) e → e.name ≡ name → is_tree_mode e.mode ≡ false) × (dirs (name ∷ []) ≡ None))
       ⊎ ((es : List EntryView) × (dirs (name ∷ []) ≡ Some es))
-      → (e : EntryView) → Has (with_directory name null (or_empty (dirs []))) e → e.name ≡ name
+      → (e : EntryView) → ContainsEntry (with_directory name null (or_empty (dirs []))) e → e.name ≡ name
       → P e inner (base_edited (dirs (name ∷ [])) inner (bases (name ∷ [])))
   directory_here name dirs bases inner root is above all (inl unopened) e h called =
       let x : EntryView = record { mode = tree_type; name = name; id = null } in
@@ -187,7 +187,7 @@ module _ (P : OfEntry) (trees : Trees) (null : ObjectId) (lasts : Lasts P trees 
   directory_here name dirs bases inner root is above all (inr there) e h called =
       let up = above [] name there.0 there.1 in
       let old : HasAt (dirs []) e =
-      has_at_of_or_empty (dirs []) e (subst (λ l. Has l e) (with_directory_of_tree name null (or_empty (dirs [])) (a_tree name (dirs []) up.0 up.1 up.2 up.3))
+      has_at_of_or_empty (dirs []) e (subst (λ l. ContainsEntry l e) (with_directory_of_tree name null (or_empty (dirs [])) (a_tree name (dirs []) up.0 up.1 up.2 up.3))
       h) in
       stays_open e (dirs (name ∷ [])) inner (bases (name ∷ [])) there.0 root there.1 is
       (subst (λ n. P e (dirs (n ∷ [])) (bases (n ∷ []))) called (all [] e old))
@@ -299,19 +299,19 @@ module _ (P : OfEntry) (trees : Trees) (null : ObjectId) (lasts : Lasts P trees 
   -- a write keeps the property, if the written tree is open alone at its path
   replaced_here : (rest : Path) (own : List EntryView) (dirs : Dirs) (e : EntryView) (base : Option (List EntryView)) → dirs rest ≢ None
       → P e (dirs []) base
-      → P e (with_path rest (only own) dirs []) (base_edited (dirs []) (with_path rest (only own) dirs []) base)
+      → P e (with_path rest (only_open own) dirs []) (base_edited (dirs []) (with_path rest (only_open own) dirs []) base)
   replaced_here [] own dirs e base there p = let was = list_at_open_prefix (dirs []) there in stays_open e (dirs []) (Some own) base was.0 own was.1 refl p
   replaced_here (name ∷ rest) own dirs e base there p = edited e (dirs []) base p
 
   pub everywhere_written : (prefix : Path) (own : List EntryView) (dirs bases : Dirs) → dirs prefix ≢ None
-      → ((e : EntryView) → Has own e → P e None None)
+      → ((e : EntryView) → ContainsEntry own e → P e None None)
       → Everywhere P dirs bases
-      → Everywhere P (with_path prefix (only own) dirs) (edited_bases dirs (with_path prefix (only own) dirs) bases)
-  everywhere_written [] own dirs bases there each all = by_level (only own) (edited_bases dirs (only own) bases) (λ e h. each e h)
+      → Everywhere P (with_path prefix (only_open own) dirs) (edited_bases dirs (with_path prefix (only_open own) dirs) bases)
+  everywhere_written [] own dirs bases there each all = by_level (only_open own) (edited_bases dirs (only_open own) bases) (λ e h. each e h)
       (λ first path e h. absurd h)
   everywhere_written (name ∷ rest) own dirs bases there each all =
-      let below : Dirs = with_path rest (only own) (in_dir name dirs) in
-      edited_in name dirs (with_path (name ∷ rest) (only own) dirs) below bases (with_dir_in_dir name below dirs)
+      let below : Dirs = with_path rest (only_open own) (in_dir name dirs) in
+      edited_in name dirs (with_path (name ∷ rest) (only_open own) dirs) below bases (with_dir_in_dir name below dirs)
       (λ first differ. with_dir_in_other_dir name first below dirs differ)
       (λ e h called. replaced_here rest own (in_dir name dirs) e (bases (name ∷ [])) there
       (subst (λ n. P e (dirs (n ∷ [])) (bases (n ∷ []))) called (all [] e h)))

@@ -10,7 +10,7 @@ use Rattle.gixobj_hash.specs.declared.hash.kind.Kind.TheVariants.{Sha1}
 use Rattle.gixobj_hash.specs.declared.hash.object_id.ObjectId.{ObjectId}
 use Rattle.gixobj_files.specs.Editing.{non_null_entries, same_name}
 use Rattle.gixobj_files.specs.Files.{is_null}
-use Rattle.gixobj_files.specs.Emission.{EmitsBelow, EmitsEntries, emptied, end, entry_with, of_entries, unopened, unchanged, written}
+use Rattle.gixobj_files.specs.Emission.{EmitsBelow, EmitsEntries, left_out_if_empty, end, entry_unless_null, of_entries, unopened, unchanged, written}
 use Rattle.gixobj_files.specs.Opening.{Dirs}
 use Rattle.gixobj_files.specs.WrittenTrees.{with_id}
 use Rattle.gixobj_files.specs.FilteredTrees.{IsFilteredTree, id_among, filtered_out}
@@ -61,7 +61,7 @@ filters_step e rest (x ∷ xs) apart filled h =
           absurd (true≢false (sym ((bytes_decides x.name e.name).1 (ap (λ (y : EntryView). y.name) (head_is x (with_id e here.0) xs here.1 here.2))) ∙ is))) h
     ] refl
 
-filtered_with : (e : EntryView) (id : ObjectId) (os es : List EntryView) → IsFilteredTree os es → IsFilteredTree (entry_with e id ++ os) (e ∷ es)
+filtered_with : (e : EntryView) (id : ObjectId) (os es : List EntryView) → IsFilteredTree os es → IsFilteredTree (entry_unless_null e id ++ os) (e ∷ es)
 filtered_with e id os es h = elim (is_null id) as (λ b. IsFilteredTree (cond b [] (with_id e id ∷ []) ++ os) (e ∷ es))
     [ true ↦ inl h | false ↦ inr (id, os, refl, h) ]
 
@@ -69,7 +69,7 @@ walk_filtered : (dirs bases : Dirs) (es : List EntryView) (ps : List Pair) (own 
     → IsFilteredTree own es
 walk_filtered dirs bases es ps own n (end d b) = refl
 walk_filtered dirs bases es ps own n (unopened d b e rest below os m none walk) = filtered_with e e.id os rest (walk_filtered d b rest below os m walk)
-walk_filtered dirs bases es ps own n (emptied d b e rest inner below os i m found walk) = inl (walk_filtered d b rest below os m walk)
+walk_filtered dirs bases es ps own n (left_out_if_empty d b e rest inner below os i m found walk) = inl (walk_filtered d b rest below os m walk)
 walk_filtered dirs bases es ps own n (unchanged d b e first rest more inner below os i m found same walk) =
     filtered_with e e.id os rest (walk_filtered d b rest below os m walk)
 walk_filtered dirs bases es ps own n (written d b e first rest more inner below os i m id found changed walk) =

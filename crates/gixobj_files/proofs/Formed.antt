@@ -89,16 +89,16 @@ pub is_well_formed_with_entry : (x : EntryView) (es : List EntryView) → IsWell
 is_well_formed_with_entry x es formed name = inserted_formed x (without x.name es) (is_well_formed_without x.name es formed) name (other_names x.name es)
 
 -- the open directories if the root alone is open
-abbrev alone : Path → List EntryView → Option (List EntryView)
-alone path es = cond (is_eq (slice_cmp (slice_cmp nat_cmp) path [])) (Some es) None
+abbrev only_at_root : Path → List EntryView → Option (List EntryView)
+only_at_root path es = cond (is_eq (slice_cmp (slice_cmp nat_cmp) path [])) (Some es) None
 
-root_alone_at : (es : List EntryView) (path : Path) → map.get (root_alone es) path ≡ alone path es
+root_alone_at : (es : List EntryView) (path : Path) → map.get (root_alone es) path ≡ only_at_root path es
 root_alone_at es path =
     map.get-insert (lists_total nat_list_cmp_total) map.empty [] es path
     ∙ ap (λ (o : Option (List EntryView)). cond (is_eq (slice_cmp (slice_cmp nat_cmp) path [])) (Some es) o)
     (map.get-empty (slice_cmp (slice_cmp nat_cmp)) path)
 
-only_root : (path : Path) (es entries : List EntryView) → alone path es ≡ Some entries → (path ≡ []) × (es ≡ entries)
+only_root : (path : Path) (es entries : List EntryView) → only_at_root path es ≡ Some entries → (path ≡ []) × (es ≡ entries)
 only_root [] es entries e = (refl, cc e)
 only_root (name ∷ path) es entries e = absurd (cc e)
 

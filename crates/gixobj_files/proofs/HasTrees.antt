@@ -8,17 +8,17 @@ use Rattle.gixobj_mode.specs.Mode.{is_tree_mode, tree_type}
 use Rattle.gixobj_hash.specs.declared.hash.object_id.ObjectId.{ObjectId}
 use Rattle.gixobj_files.specs.Editing.{has_tree, same_name, with_entry, without}
 use Rattle.gixobj_files.specs.Edits.{with_directory}
-use Rattle.gixobj_files.specs.Files.{Has}
+use Rattle.gixobj_files.specs.Files.{ContainsEntry}
 use Rattle.gixobj_files.proofs.EditedFiles.{has_with_entry_new, has_without_other, has_with_entry_other}
 use Rattle.gixobj_files.proofs.Formed.{is_well_formed_with_entry}
 
 pub entry_of_has_tree : (name : List ℕ) (es : List EntryView) → has_tree name es ≡ true
-    → (e : EntryView) × Has es e × (e.name ≡ name) × (is_tree_mode e.mode ≡ true)
+    → (e : EntryView) × ContainsEntry es e × (e.name ≡ name) × (is_tree_mode e.mode ≡ true)
 entry_of_has_tree name [] h = absurd (true≢false (sym h))
 entry_of_has_tree name (e ∷ es) h =
-    elim (same_name e.name name) as (λ b. same_name e.name name ≡ b → ((b && is_tree_mode e.mode) || has_tree name es) ≡ true → (x : EntryView) × Has (e ∷ es) x
+    elim (same_name e.name name) as (λ b. same_name e.name name ≡ b → ((b && is_tree_mode e.mode) || has_tree name es) ≡ true → (x : EntryView) × ContainsEntry (e ∷ es) x
     × (x.name ≡ name) × (is_tree_mode x.mode ≡ true)) [
-      | true ↦ λ is k. elim (is_tree_mode e.mode) as (λ b. is_tree_mode e.mode ≡ b → (b || has_tree name es) ≡ true → (x : EntryView) × Has (e ∷ es) x
+      | true ↦ λ is k. elim (is_tree_mode e.mode) as (λ b. is_tree_mode e.mode ≡ b → (b || has_tree name es) ≡ true → (x : EntryView) × ContainsEntry (e ∷ es) x
           × (x.name ≡ name) × (is_tree_mode x.mode ≡ true)) [
             | true ↦ λ tree l. (e, inl refl, (bytes_decides e.name name).0 is, tree)
             | false ↦ λ other l. let r = entry_of_has_tree name es l in (r.0, inr r.1, r.2, r.3)
@@ -26,7 +26,7 @@ entry_of_has_tree name (e ∷ es) h =
       | false ↦ λ is k. let r = entry_of_has_tree name es k in (r.0, inr r.1, r.2, r.3)
     ] refl h
 
-pub has_tree_of_entry : (name : List ℕ) (es : List EntryView) (e : EntryView) → Has es e → e.name ≡ name → is_tree_mode e.mode ≡ true → has_tree name es ≡ true
+pub has_tree_of_entry : (name : List ℕ) (es : List EntryView) (e : EntryView) → ContainsEntry es e → e.name ≡ name → is_tree_mode e.mode ≡ true → has_tree name es ≡ true
 has_tree_of_entry name [] e h named tree = absurd h
 has_tree_of_entry name (x ∷ es) e (inl same) named tree =
     let mode : is_tree_mode x.mode ≡ true = ap (λ (y : EntryView). is_tree_mode y.mode) same ∙ tree in

@@ -2,8 +2,8 @@
 use Rattle.std.proofs.Common.{◌≢◌, List, [], ◌∷◌, ◌++◌, ℕ, None}
 use Rattle.gixobj_tree.specs.Entries.{EntryView}
 use Rattle.gixobj_hash.specs.declared.hash.object_id.ObjectId.{ObjectId}
-use Rattle.gixobj_files.specs.Edits.{IsNoTree, Opens, ensured_dirs, only, removed_dirs, upserted_dirs, with_path}
-use Rattle.gixobj_files.specs.Files.{Has, Path, Trees}
+use Rattle.gixobj_files.specs.Edits.{IsNoTree, Opens, ensured_dirs, only_open, removed_dirs, upserted_dirs, with_path}
+use Rattle.gixobj_files.specs.Files.{ContainsEntry, Path, Trees}
 use Rattle.gixobj_files.specs.Opening.{Dirs, IsOpened, in_dir, in_path}
 use Rattle.gixobj_files.proofs.EnsuredFiles.{is_open_along_of_opens}
 use Rattle.gixobj_files.proofs.OpeningFiles.{opens_makes_ready}
@@ -18,8 +18,8 @@ everywhere_in_path P [] dirs bases all = all
 everywhere_in_path P (name ∷ rest) dirs bases all = everywhere_in_path P rest (in_dir name dirs) (in_dir name bases) (λ q. all (name ∷ q))
 
 -- if the root alone is open, no directory has a base
-pub everywhere_of_only : (P : OfEntry) (entries : List EntryView) → ((e : EntryView) → Has entries e → P e None None)
-    → Everywhere P (only entries) (λ _. None)
+pub everywhere_of_only : (P : OfEntry) (entries : List EntryView) → ((e : EntryView) → ContainsEntry entries e → P e None None)
+    → Everywhere P (only_open entries) (λ _. None)
 everywhere_of_only P entries each [] e h = each e h
 everywhere_of_only P entries each (name ∷ path) e h = absurd h
 
@@ -29,29 +29,29 @@ module _ (P : OfEntry) (trees : Trees) (null : ObjectId) (lasts : Lasts P trees 
   abbrev pub after : Dirs → Dirs → Dirs
   after opened new = edited_bases opened new (opened_bases old opened bases)
 
-  pub lasts_upserted : (head : Path) (last : List ℕ) (mode : ℕ) (id : ObjectId) (opened : Dirs) (requested : List ObjectId)
-      → Opens IsNoTree trees head old opened requested
+  pub lasts_upserted : (head : Path) (last : List ℕ) (mode : ℕ) (id : ObjectId) (opened : Dirs) (looked_up : List ObjectId)
+      → Opens IsNoTree trees head old opened looked_up
       → ((name : List ℕ) → P (record { mode = mode; name = name; id = id }) None None)
       → Everywhere P (upserted_dirs (head ++ last ∷ []) mode id null opened) (after opened (upserted_dirs (head ++ last ∷ []) mode id null opened))
-  lasts_upserted head last mode id opened requested opens new =
+  lasts_upserted head last mode id opened looked_up opens new =
       everywhere_upserted P trees null lasts (head ++ last ∷ []) mode id opened (opened_bases old opened bases) new
-      (opens_makes_ready trees head last old opened requested opens)
-      ((is_opened_of_opens trees head old opened requested opens is_opened).above)
-      (everywhere_opened P trees null lasts head old opened requested opens bases all)
+      (opens_makes_ready trees head last old opened looked_up opens)
+      ((is_opened_of_opens trees head old opened looked_up opens is_opened).above)
+      (everywhere_opened P trees null lasts head old opened looked_up opens bases all)
 
-  pub lasts_ensured : (path : Path) (opened : Dirs) (requested : List ObjectId) → Opens IsNoTree trees path old opened requested
+  pub lasts_ensured : (path : Path) (opened : Dirs) (looked_up : List ObjectId) → Opens IsNoTree trees path old opened looked_up
       → Everywhere P (ensured_dirs path null opened) (after opened (ensured_dirs path null opened))
-  lasts_ensured path opened requested opens =
-      everywhere_ensured P trees null lasts path opened (opened_bases old opened bases) (is_open_along_of_opens trees path old opened requested opens)
-      ((is_opened_of_opens trees path old opened requested opens is_opened).above)
-      (everywhere_opened P trees null lasts path old opened requested opens bases all)
+  lasts_ensured path opened looked_up opens =
+      everywhere_ensured P trees null lasts path opened (opened_bases old opened bases) (is_open_along_of_opens trees path old opened looked_up opens)
+      ((is_opened_of_opens trees path old opened looked_up opens is_opened).above)
+      (everywhere_opened P trees null lasts path old opened looked_up opens bases all)
 
-  pub lasts_removed : {Ends : EntryView → Type 0} (head path : Path) (opened : Dirs) (requested : List ObjectId)
-      → Opens Ends trees head old opened requested
+  pub lasts_removed : {StopsBefore : EntryView → Type 0} (head path : Path) (opened : Dirs) (looked_up : List ObjectId)
+      → Opens StopsBefore trees head old opened looked_up
       → Everywhere P (removed_dirs path opened) (after opened (removed_dirs path opened))
-  lasts_removed head path opened requested opens = everywhere_removed P trees null lasts path opened (opened_bases old opened bases)
-      (everywhere_opened P trees null lasts head old opened requested opens bases all)
+  lasts_removed head path opened looked_up opens = everywhere_removed P trees null lasts path opened (opened_bases old opened bases)
+      (everywhere_opened P trees null lasts head old opened looked_up opens bases all)
 
-  pub lasts_written : (prefix : Path) (own : List EntryView) → old prefix ≢ None → ((e : EntryView) → Has own e → P e None None)
-      → Everywhere P (with_path prefix (only own) old) (edited_bases old (with_path prefix (only own) old) bases)
+  pub lasts_written : (prefix : Path) (own : List EntryView) → old prefix ≢ None → ((e : EntryView) → ContainsEntry own e → P e None None)
+      → Everywhere P (with_path prefix (only_open own) old) (edited_bases old (with_path prefix (only_open own) old) bases)
   lasts_written prefix own there each = everywhere_written P trees null lasts prefix own old bases there each all

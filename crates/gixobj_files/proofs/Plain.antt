@@ -8,13 +8,13 @@ use Rattle.gixobj_mode.specs.Mode.{is_tree_mode, tree_type}
 use Rattle.gixobj_hash.specs.Hash.{id_kind}
 use Rattle.gixobj_hash.specs.declared.hash.object_id.ObjectId.{ObjectId}
 use Rattle.gixobj_files.specs.Edits.{Finds}
-use Rattle.gixobj_files.specs.Files.{Has, Table, Trees}
+use Rattle.gixobj_files.specs.Files.{ContainsEntry, Table, Trees}
 use Rattle.gixobj_files.specs.Opening.{Dirs, HasAt, in_dir}
 use Rattle.gixobj_files.specs.Tables.{AgreesWithPairs, AgreesWithStore}
 use Rattle.gixobj_files.proofs.Canonical.{IsBuilt, IsClean, built}
 use Rattle.gixobj_files.proofs.Everywhere.{Everywhere, Lasts, OfEntry}
 use Rattle.gixobj_files.proofs.WrittenFiles.{has_non_null_cons}
-use Rattle.gixobj_files.specs.Emission.{EmitsBelow, EmitsEntries, emptied, end, entry_with, of_entries, unopened, unchanged, written}
+use Rattle.gixobj_files.specs.Emission.{EmitsBelow, EmitsEntries, left_out_if_empty, end, entry_unless_null, of_entries, unopened, unchanged, written}
 use Rattle.gixobj_files.proofs.Based.{some_list_unique}
 
 -- the id of the entry is that of a pair whose tree is built and isn't empty
@@ -36,9 +36,9 @@ Plain pairs e here base = IsPlain pairs e here base
 
 -- each entry of tree mode that isn't open has the id of a pair
 abbrev pub RestsOn : List Pair → List EntryView → Type 0
-RestsOn pairs entries = (e : EntryView) → Has entries e → is_tree_mode e.mode ≡ true → (e.mode ≡ tree_type) × IsOfPair pairs e.id
+RestsOn pairs entries = (e : EntryView) → ContainsEntry entries e → is_tree_mode e.mode ≡ true → (e.mode ≡ tree_type) × IsOfPair pairs e.id
 
-pub is_plain_of_rests_on : (pairs : List Pair) (entries : List EntryView) → RestsOn pairs entries → (e : EntryView) → Has entries e → IsPlain pairs e None None
+pub is_plain_of_rests_on : (pairs : List Pair) (entries : List EntryView) → RestsOn pairs entries → (e : EntryView) → ContainsEntry entries e → IsPlain pairs e None None
 is_plain_of_rests_on pairs entries rests e h = record { mode = λ t. (rests e h t).0; its_pair = λ t none. (rests e h t).1; based = λ list is. absurd (cc is) }
 
 pub rests_on_of_is_built : (pairs : List Pair) (entries : List EntryView) → IsBuilt pairs entries → RestsOn pairs entries
@@ -55,13 +55,13 @@ module _ (T : Table) (pairs : List Pair) (known : AgreesWithPairs T pairs) where
   its_tree id tree has = All-contains (λ pair. T.tree_at pair.0 ≡ Some pair.1) pairs (id, tree) known has
 
   -- what a store has by the id of a pair is the tree of the pair
-  found_is : (trees : Trees) → AgreesWithStore T trees → (id : ObjectId) (it : IsOfPair pairs id) (entries : List EntryView) (requested : List ObjectId)
-      → Finds trees id entries requested → it.tree ≡ entries
-  found_is trees agrees id it entries requested (formed, inl (inl null, empty, none)) =
+  found_is : (trees : Trees) → AgreesWithStore T trees → (id : ObjectId) (it : IsOfPair pairs id) (entries : List EntryView) (looked_up : List ObjectId)
+      → Finds trees id entries looked_up → it.tree ≡ entries
+  found_is trees agrees id it entries looked_up (formed, inl (inl null, empty, none)) =
       absurd (let bad : Some it.tree ≡ None = sym (its_tree id it.tree it.named) ∙ T.nothing_by_null id null in cc bad)
-  found_is trees agrees id it entries requested (formed, inl (inr is, empty, none)) =
+  found_is trees agrees id it entries looked_up (formed, inl (inr is, empty, none)) =
       some_list_unique it.tree entries (sym (its_tree id it.tree it.named) ∙ ap T.tree_at is ∙ T.none_in_empty (id_kind id) ∙ ap Some (sym empty))
-  found_is trees agrees id it entries requested (formed, inr (filled, is, requests)) =
+  found_is trees agrees id it entries looked_up (formed, inr (filled, is, requests)) =
       some_list_unique it.tree entries (sym (its_tree id it.tree it.named) ∙ agrees id entries filled is)
 
   pub plain_lasts : (trees : Trees) (null : ObjectId) → AgreesWithStore T trees → Lasts (Plain pairs) trees null
@@ -74,9 +74,9 @@ module _ (T : Table) (pairs : List Pair) (known : AgreesWithPairs T pairs) where
       based =
           λ list is some. absurd (some (sym (some_list_unique [] list is)));
     };
-    opened = λ e base entries requested p tree finds.
+    opened = λ e base entries looked_up p tree finds.
         let it : IsOfPair pairs e.id = p.its_pair tree refl in
-        let same : it.tree ≡ entries = found_is trees agrees e.id it entries requested finds in (
+        let same : it.tree ≡ entries = found_is trees agrees e.id it entries looked_up finds in (
           record {
             mode = p.mode;
             its_pair = λ t none. absurd (cc none);
@@ -111,7 +111,7 @@ HasBuilt pairs pair = IsBuilt pairs pair.1
 module _ (pairs : List Pair) where
   -- an entry with its id, before others that have ids of pairs
   rests_more : (e : EntryView) (id : ObjectId) (os : List EntryView) → (is_tree_mode e.mode ≡ true → (e.mode ≡ tree_type) × IsOfPair pairs id)
-      → RestsOn pairs os → RestsOn pairs (entry_with e id ++ os)
+      → RestsOn pairs os → RestsOn pairs (entry_unless_null e id ++ os)
   rests_more e id os here rests x h =
       ⊎_elim (λ one. subst (λ (y : EntryView). is_tree_mode y.mode ≡ true → (y.mode ≡ tree_type) × IsOfPair pairs y.id) one.1 here) (λ after. rests x after)
       (has_non_null_cons e id os x h)
@@ -124,7 +124,7 @@ module _ (pairs : List Pair) where
         walk_plain d b es below os n walk (λ e h. all [] e (subst (λ o. HasAt o e) (sym is) h)) (λ first q. all (first ∷ q)) out
 
     walk_plain : (dirs bases : Dirs) (es : List EntryView) (ps : List Pair) (own : List EntryView) (saved : ℕ) → EmitsEntries dirs bases es ps own saved
-        → ((e : EntryView) → Has es e → IsPlain pairs e (dirs (e.name ∷ [])) (bases (e.name ∷ [])))
+        → ((e : EntryView) → ContainsEntry es e → IsPlain pairs e (dirs (e.name ∷ [])) (bases (e.name ∷ [])))
         → ((first : List ℕ) → Everywhere (Plain pairs) (in_dir first dirs) (in_dir first bases)) → AllByRecursion (IsEmitted pairs) ps
         → RestsOn pairs own × AllByRecursion (HasBuilt pairs) ps
     walk_plain dirs bases es ps own saved (end d b) here deeper out = ((λ e h. absurd h), tt)
@@ -132,7 +132,7 @@ module _ (pairs : List Pair) where
         let w = walk_plain d b rest below os n walk (λ x h. here x (inr h)) deeper out in
         let mine = here e (inl refl) in
         (rests_more e e.id os (λ t. (mine.mode t, mine.its_pair t none)) w.0, w.1)
-    walk_plain dirs bases es ps own saved (emptied d b e rest inner below os m n found walk) here deeper out =
+    walk_plain dirs bases es ps own saved (left_out_if_empty d b e rest inner below os m n found walk) here deeper out =
         let w = walk_plain d b rest below os n walk (λ x h. here x (inr h)) deeper (all_right (IsEmitted pairs) inner below out) in
         let lower = emits_below_plain (in_dir e.name d) (in_dir e.name b) inner [] m found (deeper e.name) (all_remaining (IsEmitted pairs) inner below out) in
         (w.0, all_joined (HasBuilt pairs) inner below lower.1 w.1)

@@ -7,8 +7,8 @@ use Rattle.gixobj_tree.specs.Entries.{EntryView}
 use Rattle.gixobj_mode.specs.Mode.{is_tree_mode}
 use Rattle.gixobj_hash.specs.declared.hash.object_id.ObjectId.{ObjectId}
 use Rattle.gixobj_files.specs.Files.{Below, FileSet, Files, Path, PlacedFile, Table, is_null}
-use Rattle.gixobj_files.specs.History.{History, Step, after_step, ensure, remove, set_root, upsert}
-use Rattle.gixobj_files.specs.PlainHistory.{HasNoTree, NoFiles, PlainHistory, after_plain_step}
+use Rattle.gixobj_files.specs.History.{FilesAfter, Step, after_step, ensure, remove, set_root, upsert}
+use Rattle.gixobj_files.specs.PlainHistory.{HasNoTree, NoFiles, PlainFilesAfter, after_plain_step}
 use Rattle.gixobj_files.proofs.OpenedFiles.{no_open_files_of_no_entries}
 
 -- the files of the first set are those of the second whose paths have at most `n` names
@@ -62,11 +62,11 @@ module _ (T : Table) where
         ((λ h. absurd (no_open_files_of_no_entries T n path mode id (subst (λ es. Files T n es path mode id) empty h))), λ h. absurd h.1)
 
     pub steps_plain : (steps : List Step) → AllByRecursion HasNoTree steps → (A B : FileSet) → IsUpTo n A B
-        → IsUpTo n (History T n steps A) (PlainHistory steps B)
+        → IsUpTo n (FilesAfter T n steps A) (PlainFilesAfter steps B)
     steps_plain [] none A B same = same
     steps_plain (step ∷ steps) none A B same = steps_plain steps none.1 (after_step T n step A) (after_plain_step step B) (step_plain step none.0 A B same)
 
 -- all steps make the same files in every table, to the depth `n`
-pub history_is_up_to_plain : (steps : List Step) → All HasNoTree steps → (T : Table) (n : ℕ) → IsUpTo n (History T n steps NoFiles) (PlainHistory steps NoFiles)
+pub history_is_up_to_plain : (steps : List Step) → All HasNoTree steps → (T : Table) (n : ℕ) → IsUpTo n (FilesAfter T n steps NoFiles) (PlainFilesAfter steps NoFiles)
 history_is_up_to_plain steps none T n = steps_plain T n steps (recursion_from_All HasNoTree steps none) NoFiles NoFiles
     (λ path mode id. ((λ h. absurd h), λ h. absurd h.1))

@@ -7,7 +7,7 @@ use Rattle.gixobj_tree.specs.Entries.{EntryView, IsWellFormed}
 use Rattle.gixobj_mode.specs.Mode.{is_tree_mode}
 use Rattle.gixobj_hash.specs.declared.hash.object_id.ObjectId.{ObjectId}
 use Rattle.gixobj_files.specs.Editing.{same_name}
-use Rattle.gixobj_files.specs.Edits.{Opens, arrived, down, found, only, stops, with_dir}
+use Rattle.gixobj_files.specs.Edits.{Opens, arrived, down, found, only_open, stops, with_dir}
 use Rattle.gixobj_files.specs.Files.{Path, Trees}
 use Rattle.gixobj_files.specs.Opening.{Dirs, HasAt, IsOpened, in_dir}
 use Rattle.gixobj_files.proofs.OpeningFiles.{opens_keeps_root}
@@ -34,41 +34,41 @@ above_with_dir name inner dirs inside next_to entry (first ∷ at) other es is =
       | false ↦ λ k. next_to (first ∷ at) other es k
     ] is
 
-formed_only : (entries : List EntryView) → IsWellFormed entries → AreFormed (only entries)
+formed_only : (entries : List EntryView) → IsWellFormed entries → AreFormed (only_open entries)
 formed_only entries formed [] es is = subst IsWellFormed (some_is is) formed
   where
     some_is : Some entries ≡ Some es → entries ≡ es
     some_is e = cc e
 formed_only entries formed (name ∷ path) es is = absurd (cc is)
 
-above_only : (entries : List EntryView) → AreAbove (only entries)
+above_only : (entries : List EntryView) → AreAbove (only_open entries)
 above_only entries [] name es is = absurd (cc is)
 above_only entries (first ∷ path) name es is = absurd (cc is)
 
-formed_opening : {Ends : EntryView → Type 0} (trees : Trees) (path : Path) (dirs new : Dirs) (requested : List ObjectId)
-    → Opens Ends trees path dirs new requested → AreFormed dirs → AreFormed new
-formed_opening trees path dirs new requested (arrived d) formed = formed
-formed_opening trees path dirs new requested (stops name rest d other none) formed = formed
-formed_opening trees path dirs new requested (down name rest d inner e entries more has named is opens) formed =
+formed_opening : {StopsBefore : EntryView → Type 0} (trees : Trees) (path : Path) (dirs new : Dirs) (looked_up : List ObjectId)
+    → Opens StopsBefore trees path dirs new looked_up → AreFormed dirs → AreFormed new
+formed_opening trees path dirs new looked_up (arrived d) formed = formed
+formed_opening trees path dirs new looked_up (stops name rest d other none) formed = formed
+formed_opening trees path dirs new looked_up (down name rest d inner e entries more has named is opens) formed =
     formed_with_dir name inner d (formed_opening trees rest (in_dir name d) inner more opens (λ q. formed (name ∷ q))) formed
-formed_opening trees path dirs new requested (found name rest d inner e entries first more entry tree free none finds opens) formed =
-    formed_with_dir name inner d (formed_opening trees rest (only entries) inner more opens (formed_only entries finds.0)) formed
+formed_opening trees path dirs new looked_up (found name rest d inner e entries first more entry tree free none finds opens) formed =
+    formed_with_dir name inner d (formed_opening trees rest (only_open entries) inner more opens (formed_only entries finds.0)) formed
 
-above_opening : {Ends : EntryView → Type 0} (trees : Trees) (path : Path) (dirs new : Dirs) (requested : List ObjectId)
-    → Opens Ends trees path dirs new requested → AreAbove dirs → AreAbove new
-above_opening trees path dirs new requested (arrived d) above = above
-above_opening trees path dirs new requested (stops name rest d other none) above = above
-above_opening trees path dirs new requested (down name rest d inner e entries more has named is opens) above =
+above_opening : {StopsBefore : EntryView → Type 0} (trees : Trees) (path : Path) (dirs new : Dirs) (looked_up : List ObjectId)
+    → Opens StopsBefore trees path dirs new looked_up → AreAbove dirs → AreAbove new
+above_opening trees path dirs new looked_up (arrived d) above = above
+above_opening trees path dirs new looked_up (stops name rest d other none) above = above
+above_opening trees path dirs new looked_up (down name rest d inner e entries more has named is opens) above =
     above_with_dir name inner d (above_opening trees rest (in_dir name d) inner more opens (λ q. above (name ∷ q))) above (above [] name entries is)
-above_opening trees path dirs new requested (found name rest d inner e entries first more entry tree free none finds opens) above =
-    above_with_dir name inner d (above_opening trees rest (only entries) inner more opens (above_only entries)) above (e, entry.0, entry.1, tree)
+above_opening trees path dirs new looked_up (found name rest d inner e entries first more entry tree free none finds opens) above =
+    above_with_dir name inner d (above_opening trees rest (only_open entries) inner more opens (above_only entries)) above (e, entry.0, entry.1, tree)
 
-pub is_opened_of_opens : {Ends : EntryView → Type 0} (trees : Trees) (path : Path) (dirs new : Dirs) (requested : List ObjectId)
-    → Opens Ends trees path dirs new requested → IsOpened dirs → IsOpened new
-is_opened_of_opens trees path dirs new requested opens opened = record {
-  root = λ none. opened.root (sym (opens_keeps_root trees path dirs new requested opens) ∙ none);
-  well_formed = formed_opening trees path dirs new requested opens opened.well_formed;
-  above = above_opening trees path dirs new requested opens opened.above;
+pub is_opened_of_opens : {StopsBefore : EntryView → Type 0} (trees : Trees) (path : Path) (dirs new : Dirs) (looked_up : List ObjectId)
+    → Opens StopsBefore trees path dirs new looked_up → IsOpened dirs → IsOpened new
+is_opened_of_opens trees path dirs new looked_up opens opened = record {
+  root = λ none. opened.root (sym (opens_keeps_root trees path dirs new looked_up opens) ∙ none);
+  well_formed = formed_opening trees path dirs new looked_up opens opened.well_formed;
+  above = above_opening trees path dirs new looked_up opens opened.above;
 }
 
 -- the open directories in an open directory satisfy the invariant
@@ -79,7 +79,7 @@ is_opened_in_dir name dirs entries is all = record {
   above = λ path. all.above (name ∷ path);
 }
 
-pub is_opened_of_only : (entries : List EntryView) → IsWellFormed entries → IsOpened (only entries)
+pub is_opened_of_only : (entries : List EntryView) → IsWellFormed entries → IsOpened (only_open entries)
 is_opened_of_only entries formed = record { root = λ none. cc none; well_formed = formed_only entries formed; above = above_only entries }
 
 pub is_opened_with_dir : (name : List ℕ) (inner dirs : Dirs) → IsOpened inner → IsOpened dirs
@@ -91,19 +91,19 @@ is_opened_with_dir name inner dirs inside next_to entry = record {
 }
 
 -- an opening leaves each open directory unchanged
-pub opens_keeps_open_lists : {Ends : EntryView → Type 0} (trees : Trees) (path : Path) (dirs new : Dirs) (requested : List ObjectId)
-    → Opens Ends trees path dirs new requested → (at : Path) (es : List EntryView) → dirs at ≡ Some es → new at ≡ Some es
-opens_keeps_open_lists trees path dirs new requested (arrived d) at es is = is
-opens_keeps_open_lists trees path dirs new requested (stops name rest d other none) at es is = is
-opens_keeps_open_lists trees path dirs new requested (down name rest d inner e entries more has named there opens) [] es is = is
-opens_keeps_open_lists trees path dirs new requested (down name rest d inner e entries more has named there opens) (first ∷ at) es is =
+pub opens_keeps_open_lists : {StopsBefore : EntryView → Type 0} (trees : Trees) (path : Path) (dirs new : Dirs) (looked_up : List ObjectId)
+    → Opens StopsBefore trees path dirs new looked_up → (at : Path) (es : List EntryView) → dirs at ≡ Some es → new at ≡ Some es
+opens_keeps_open_lists trees path dirs new looked_up (arrived d) at es is = is
+opens_keeps_open_lists trees path dirs new looked_up (stops name rest d other none) at es is = is
+opens_keeps_open_lists trees path dirs new looked_up (down name rest d inner e entries more has named there opens) [] es is = is
+opens_keeps_open_lists trees path dirs new looked_up (down name rest d inner e entries more has named there opens) (first ∷ at) es is =
     elim (same_name name first) as (λ b. same_name name first ≡ b → cond b (inner at) (d (first ∷ at)) ≡ Some es) [
       | true ↦ λ called. opens_keeps_open_lists trees rest (in_dir name d) inner more opens at es (ap (λ n. d (n ∷ at)) ((bytes_decides name first).0 called)
           ∙ is)
       | false ↦ λ called. is
     ] refl
-opens_keeps_open_lists trees path dirs new requested (found name rest d inner e entries first more entry tree free none finds opens) [] es is = is
-opens_keeps_open_lists trees path dirs new requested (found name rest d inner e entries first more entry tree free none finds opens) (other ∷ at) es is =
+opens_keeps_open_lists trees path dirs new looked_up (found name rest d inner e entries first more entry tree free none finds opens) [] es is = is
+opens_keeps_open_lists trees path dirs new looked_up (found name rest d inner e entries first more entry tree free none finds opens) (other ∷ at) es is =
     elim (same_name name other) as (λ b. same_name name other ≡ b → cond b (inner at) (d (other ∷ at)) ≡ Some es) [
       | true ↦ λ called. absurd (let bad : None ≡ Some es = sym (none at) ∙ ap (λ n. d (n ∷ at)) ((bytes_decides name other).0 called) ∙ is in cc bad)
       | false ↦ λ called. is

@@ -5,7 +5,7 @@ use Rattle.std.specs.Prelude.{◌&&◌}
 use Rattle.gixobj_tree.specs.Entries.{EntryView}
 use Rattle.gixobj_mode.specs.Mode.{is_tree_mode}
 use Rattle.gixobj_hash.specs.declared.hash.object_id.ObjectId.{ObjectId}
-use Rattle.gixobj_files.specs.Edits.{Finds, IsEntryOf, Opens, arrived, down, first_entry_of, found, only, stops}
+use Rattle.gixobj_files.specs.Edits.{Finds, IsEntryOf, Opens, arrived, down, first_entry_of, found, only_open, stops}
 use Rattle.gixobj_files.specs.Files.{Path, Trees}
 use Rattle.gixobj_files.specs.OpeningStops.{StopsOpening, IsAbove, IsNextUnopened, IsUnopenedOnPath, IsUnopenedAbove, at_once, without_answer}
 use Rattle.gixobj_files.specs.OpeningStops as halting
@@ -37,7 +37,7 @@ module _ (trees : Trees) where
 
   next_found : (name : List ℕ) (d : Dirs) (e : EntryView) (entries : List EntryView) (requests : List ObjectId) → IsEntryOf name (d []) e
       → is_tree_mode e.mode ≡ true → ((path : Path) → d (name ∷ path) ≡ None) → Finds trees e.id entries requests
-      → (prefix more : Path) (id : ObjectId) → IsNextUnopened trees (only entries) prefix more id → IsNextUnopened trees d (name ∷ prefix) more id
+      → (prefix more : Path) (id : ObjectId) → IsNextUnopened trees (only_open entries) prefix more id → IsNextUnopened trees d (name ∷ prefix) more id
   next_found name d e entries requests entry tree none finds prefix more id (next, rest, it, is, unopened, seen, named) =
       let remaining = one_more prefix next [] in (
         next,
@@ -46,22 +46,22 @@ module _ (trees : Trees) where
         is,
         subst (λ q. is_unopened trees d (name ∷ q) ≡ true) (sym remaining.2)
             (unopened_found trees name remaining.0 remaining.1 d e entries requests entry tree none finds
-            ∙ subst (λ q. is_unopened trees (only entries) q ≡ true) remaining.2 unopened),
+            ∙ subst (λ q. is_unopened trees (only_open entries) q ≡ true) remaining.2 unopened),
         subst (λ q. looked_up_entry trees (name ∷ q) d ≡ Some it) (sym remaining.2)
             (found_below trees name remaining.0 remaining.1 d e entries requests entry tree (none []) finds
-            ∙ subst (λ q. looked_up_entry trees q (only entries) ≡ Some it) remaining.2 seen),
+            ∙ subst (λ q. looked_up_entry trees q (only_open entries) ≡ Some it) remaining.2 seen),
         named,
       )
 
   -- before the error the directories of a prefix of the path were opened, and at most one more id was looked up
-  pub halts_opens : {Ends : EntryView → Type 0} (path : Path) (old new : Dirs) (requested : List ObjectId) (failed_lookup : Option ObjectId)
-      → StopsOpening Ends trees path old new requested failed_lookup
-      → (prefix back : Path) × (answered tried : List ObjectId) × (path ≡ prefix ++ back) × Opens Ends trees prefix old new answered
-      × (requested ≡ answered ++ tried) × (length tried ≤ 1)
+  pub halts_opens : {StopsBefore : EntryView → Type 0} (path : Path) (old new : Dirs) (looked_up : List ObjectId) (failed_lookup : Option ObjectId)
+      → StopsOpening StopsBefore trees path old new looked_up failed_lookup
+      → (prefix back : Path) × (answered tried : List ObjectId) × (path ≡ prefix ++ back) × Opens StopsBefore trees prefix old new answered
+      × (looked_up ≡ answered ++ tried) × (length tried ≤ 1)
       × ((it : ObjectId) → tried ≡ it ∷ [] → IsNextUnopened trees old prefix back it)
-  halts_opens path old new requested failed_lookup (at_once name rest d e entry tree free none) =
+  halts_opens path old new looked_up failed_lookup (at_once name rest d e entry tree free none) =
       ([], name ∷ rest, [], [], refl, arrived d, refl, omega arith, λ it is. absurd (cc is))
-  halts_opens path old new requested failed_lookup (without_answer name rest d e entry tree free none filled) = (
+  halts_opens path old new looked_up failed_lookup (without_answer name rest d e entry tree free none filled) = (
     [],
     name ∷ rest,
     [],
@@ -80,7 +80,7 @@ module _ (trees : Trees) where
       cc is,
     ),
   )
-  halts_opens path old new requested failed_lookup (halting.down name rest d inner e entries more v has named is halts) =
+  halts_opens path old new looked_up failed_lookup (halting.down name rest d inner e entries more v has named is halts) =
       let r = halts_opens rest (in_dir name d) inner more v halts in (
         name ∷ r.0,
         r.1,
@@ -92,8 +92,8 @@ module _ (trees : Trees) where
         r.7,
         λ it tried. next_open name d entries is r.0 r.1 it (r.8 it tried),
       )
-  halts_opens path old new requested failed_lookup (halting.found name rest d inner e entries first more v entry tree free none finds halts) =
-      let r = halts_opens rest (only entries) inner more v halts in (
+  halts_opens path old new looked_up failed_lookup (halting.found name rest d inner e entries first more v entry tree free none finds halts) =
+      let r = halts_opens rest (only_open entries) inner more v halts in (
         name ∷ r.0,
         r.1,
         first ++ r.2,
@@ -106,21 +106,21 @@ module _ (trees : Trees) where
       )
 
   -- an opening that stopped looked up at most as many ids as there are unopened directories
-  pub halted_count : {Ends : EntryView → Type 0} (path : Path) (last : List ℕ) (after : Path) (old new : Dirs) (requested : List ObjectId)
-      (failed_lookup : Option ObjectId) → StopsOpening Ends trees path old new requested failed_lookup → length requested ≤ unopened_count trees old
+  pub halted_count : {StopsBefore : EntryView → Type 0} (path : Path) (last : List ℕ) (after : Path) (old new : Dirs) (looked_up : List ObjectId)
+      (failed_lookup : Option ObjectId) → StopsOpening StopsBefore trees path old new looked_up failed_lookup → length looked_up ≤ unopened_count trees old
       (path ++ last ∷ after)
-  halted_count path last after old new requested failed_lookup (at_once name rest d e entry tree free none) = omega arith
-  halted_count path last after old new requested failed_lookup (without_answer name rest d e entry tree free none filled) =
+  halted_count path last after old new looked_up failed_lookup (at_once name rest d e entry tree free none) = omega arith
+  halted_count path last after old new looked_up failed_lookup (without_answer name rest d e entry tree free none filled) =
       count_vain trees name rest last after d e entry tree (none []) filled
-  halted_count path last after old new requested failed_lookup (halting.down name rest d inner e entries more v has named is halts) =
+  halted_count path last after old new looked_up failed_lookup (halting.down name rest d inner e entries more v has named is halts) =
       omega (arith, count_open trees name rest last after d entries is, halted_count rest last after (in_dir name d) inner more v halts)
-  halted_count path last after old new requested failed_lookup (halting.found name rest d inner e entries first more v entry tree free none finds halts) =
+  halted_count path last after old new looked_up failed_lookup (halting.found name rest d inner e entries first more v entry tree free none finds halts) =
       omega (
         arith,
         length-append first more,
         count_found trees name rest last after d e entries first entry tree none finds,
         halted_count rest last after
-            (only entries) inner more v halts,
+            (only_open entries) inner more v halts,
       )
 
   above_more : (name : List ℕ) (place path : Path) → IsAbove place path → IsAbove (name ∷ place) (name ∷ path)
@@ -145,7 +145,7 @@ module _ (trees : Trees) where
   abbrev in_found : (name : List ℕ) (path : Path) (d : Dirs) (e : EntryView) (entries : List EntryView) (requests : List ObjectId)
       → IsEntryOf name (d []) e
       → is_tree_mode e.mode ≡ true → ((path : Path) → d (name ∷ path) ≡ None) → Finds trees e.id entries requests
-      → (it : ObjectId) → IsUnopenedAbove trees (only entries) path it → IsUnopenedAbove trees d (name ∷ path) it
+      → (it : ObjectId) → IsUnopenedAbove trees (only_open entries) path it → IsUnopenedAbove trees d (name ∷ path) it
   in_found name path d e entries requests entry tree none finds it h =
       let at = h.above in
       record {
@@ -154,20 +154,20 @@ module _ (trees : Trees) where
         above = above_more name h.place path h.above;
         unopened = subst (λ q. is_unopened trees d (name ∷ q) ≡ true) (sym at.4)
             (unopened_found trees name at.0 at.1 d e entries requests entry tree none finds
-            ∙ subst (λ q. is_unopened trees (only entries) q ≡ true) at.4 h.unopened);
+            ∙ subst (λ q. is_unopened trees (only_open entries) q ≡ true) at.4 h.unopened);
         yielded = subst (λ q. looked_up_entry trees (name ∷ q) d ≡ Some h.entry) (sym at.4)
             (found_below trees name at.0 at.1 d e entries requests entry tree (none []) finds
-            ∙ subst (λ q. looked_up_entry trees q (only entries) ≡ Some h.entry) at.4 h.yielded);
+            ∙ subst (λ q. looked_up_entry trees q (only_open entries) ≡ Some h.entry) at.4 h.yielded);
         named = h.named;
       }
 
   -- an opening stops at an unopened directory on the path
-  pub halted_at : {Ends : EntryView → Type 0} (path : Path) (last : List ℕ) (after : Path) (old new : Dirs) (requested : List ObjectId)
+  pub halted_at : {StopsBefore : EntryView → Type 0} (path : Path) (last : List ℕ) (after : Path) (old new : Dirs) (looked_up : List ObjectId)
       (failed_lookup : Option ObjectId)
-      → StopsOpening Ends trees path old new requested failed_lookup → (it : ObjectId) → failed_lookup ≡ Some it
+      → StopsOpening StopsBefore trees path old new looked_up failed_lookup → (it : ObjectId) → failed_lookup ≡ Some it
       → (h : IsUnopenedAbove trees old (path ++ last ∷ after) it) × (rest : Path) × (path ≡ h.place ++ rest)
-  halted_at path last after old new requested failed_lookup (at_once name rest d e entry tree free none) it is = absurd (cc is)
-  halted_at path last after old new requested failed_lookup (without_answer name rest d e entry tree free none filled) it is =
+  halted_at path last after old new looked_up failed_lookup (at_once name rest d e entry tree free none) it is = absurd (cc is)
+  halted_at path last after old new looked_up failed_lookup (without_answer name rest d e entry tree free none filled) it is =
       let remaining = one_more rest last after in (
         record {
           place = name ∷ [];
@@ -180,17 +180,17 @@ module _ (trees : Trees) where
         rest,
         refl,
       )
-  halted_at path last after old new requested failed_lookup (halting.down name rest d inner e entries more v has named there halts) it is =
+  halted_at path last after old new looked_up failed_lookup (halting.down name rest d inner e entries more v has named there halts) it is =
       let below = halted_at rest last after (in_dir name d) inner more v halts it is in
       (in_open name (rest ++ last ∷ after) d entries there it below.0, below.1, ap (λ p. name ∷ p) below.2)
-  halted_at path last after old new requested failed_lookup (halting.found name rest d inner e entries first more v entry tree free none finds halts) it is =
-      let below = halted_at rest last after (only entries) inner more v halts it is in
+  halted_at path last after old new looked_up failed_lookup (halting.found name rest d inner e entries first more v entry tree free none finds halts) it is =
+      let below = halted_at rest last after (only_open entries) inner more v halts it is in
       (in_found name (rest ++ last ∷ after) d e entries first entry tree none finds it below.0, below.1, ap (λ p. name ∷ p) below.2)
 
-  not_open_here : {Ends : EntryView → Type 0} (name : List ℕ) (rest : Path) (last : List ℕ) (after : Path) (d : Dirs) (e : EntryView)
+  not_open_here : {StopsBefore : EntryView → Type 0} (name : List ℕ) (rest : Path) (last : List ℕ) (after : Path) (d : Dirs) (e : EntryView)
       → IsEntryOf name (d []) e
-      → is_tree_mode e.mode ≡ true → (Ends e → ⊥) → ((path : Path) → d (name ∷ path) ≡ None)
-      → IsUnopenedOnPath Ends trees d (name ∷ (rest ++ last ∷ after))
+      → is_tree_mode e.mode ≡ true → (StopsBefore e → ⊥) → ((path : Path) → d (name ∷ path) ≡ None)
+      → IsUnopenedOnPath StopsBefore trees d (name ∷ (rest ++ last ∷ after))
   not_open_here name rest last after d e entry tree free none =
       let remaining = one_more rest last after in
       record {
@@ -204,13 +204,13 @@ module _ (trees : Trees) where
       }
 
   -- an opening stops at a directory that isn't open
-  pub halted_unopened : {Ends : EntryView → Type 0} (path : Path) (last : List ℕ) (after : Path) (old new : Dirs) (requested : List ObjectId)
-      (failed_lookup : Option ObjectId) → StopsOpening Ends trees path old new requested failed_lookup → IsUnopenedOnPath Ends trees old (path ++ last ∷ after)
-  halted_unopened path last after old new requested failed_lookup (at_once name rest d e entry tree free none) =
+  pub halted_unopened : {StopsBefore : EntryView → Type 0} (path : Path) (last : List ℕ) (after : Path) (old new : Dirs) (looked_up : List ObjectId)
+      (failed_lookup : Option ObjectId) → StopsOpening StopsBefore trees path old new looked_up failed_lookup → IsUnopenedOnPath StopsBefore trees old (path ++ last ∷ after)
+  halted_unopened path last after old new looked_up failed_lookup (at_once name rest d e entry tree free none) =
       not_open_here name rest last after d e entry tree free none
-  halted_unopened path last after old new requested failed_lookup (without_answer name rest d e entry tree free none filled) =
+  halted_unopened path last after old new looked_up failed_lookup (without_answer name rest d e entry tree free none filled) =
       not_open_here name rest last after d e entry tree free none
-  halted_unopened path last after old new requested failed_lookup (halting.down name rest d inner e entries more v has named there halts) =
+  halted_unopened path last after old new looked_up failed_lookup (halting.down name rest d inner e entries more v has named there halts) =
       let h = halted_unopened rest last after (in_dir name d) inner more v halts in
       let at = h.above in
       record {
@@ -223,8 +223,8 @@ module _ (trees : Trees) where
         tree = h.tree;
         free = h.free;
       }
-  halted_unopened path last after old new requested failed_lookup (halting.found name rest d inner e entries first more v entry tree free none finds halts) =
-      let h = halted_unopened rest last after (only entries) inner more v halts in
+  halted_unopened path last after old new looked_up failed_lookup (halting.found name rest d inner e entries first more v entry tree free none finds halts) =
+      let h = halted_unopened rest last after (only_open entries) inner more v halts in
       let at = h.above in
       record {
         place = name ∷ h.place;
@@ -233,7 +233,7 @@ module _ (trees : Trees) where
         not_open = none h.place;
         yielded = subst (λ q. looked_up_entry trees (name ∷ q) d ≡ Some h.entry) (sym at.4)
             (found_below trees name at.0 at.1 d e entries first entry tree (none []) finds
-            ∙ subst (λ q. looked_up_entry trees q (only entries) ≡ Some h.entry)
+            ∙ subst (λ q. looked_up_entry trees q (only_open entries) ≡ Some h.entry)
             at.4 h.yielded);
         tree = h.tree;
         free = h.free;
@@ -254,22 +254,22 @@ module _ (trees : Trees) where
   known_one it entries first (formed, inl (empty, nothing, none)) is = absurd (let bad : true ≡ false = sym is ∙ needs_no_lookup it empty in cc bad)
   known_one it entries first (formed, inr (filled, named, requests)) is = named
 
-  pub opens_known : {Ends : EntryView → Type 0} → IsIdle Ends → (path : Path) (old new : Dirs) (requested : List ObjectId)
-      → Opens Ends trees path old new requested → (first : List ℕ) (more rest : Path) → path ≡ (first ∷ more) ++ rest
+  pub opens_known : {StopsBefore : EntryView → Type 0} → IsIdle StopsBefore → (path : Path) (old new : Dirs) (looked_up : List ObjectId)
+      → Opens StopsBefore trees path old new looked_up → (first : List ℕ) (more rest : Path) → path ≡ (first ∷ more) ++ rest
       → is_unopened trees old (first ∷ more) ≡ true → (entry : EntryView) → looked_up_entry trees (first ∷ more) old ≡ Some entry
       → (entries : List EntryView)
       × (trees entry.id ≡ Some entries)
-  opens_known idle path old new requested (arrived d) first more rest joined unopened entry seen = absurd (cc joined)
-  opens_known idle path old new requested (stops name after d other none) first more rest joined unopened entry seen =
+  opens_known idle path old new looked_up (arrived d) first more rest joined unopened entry seen = absurd (cc joined)
+  opens_known idle path old new looked_up (stops name after d other none) first more rest joined unopened entry seen =
       let same = same_head name first _ _ joined in
       absurd (let bad : true ≡ false = sym unopened ∙ subst (λ n. is_unopened trees d (n ∷ more) ≡ false) same
       (unopened_nowhere trees name more d (λ e h n. idle e (other e h n)) none) in cc bad)
-  opens_known idle path old new requested (down name after d inner e entries requested_more has named is opens) first
+  opens_known idle path old new looked_up (down name after d inner e entries requested_more has named is opens) first
       [] rest joined unopened entry seen =
       let same = same_head name first _ _ joined in
       absurd (let bad : true ≡ false = sym unopened ∙ subst (λ n. is_unopened trees d (n ∷ []) ≡ false) same
       (ap (λ o. needs_opening o && needs_tree_lookup (first_entry_of name (d []))) is) in cc bad)
-  opens_known idle path old new requested (down name after d inner e entries requested_more has named is opens) first
+  opens_known idle path old new looked_up (down name after d inner e entries requested_more has named is opens) first
       (second ∷ more) rest joined unopened entry seen =
       let same = same_head name first _ _ joined in
       let there : d (first ∷ []) ≡ Some entries = subst (λ n. d (n ∷ []) ≡ Some entries) same is in
@@ -279,7 +279,7 @@ module _ (trees : Trees) where
       entry
       (subst (λ n. looked_up_entry trees (second ∷ more) (in_dir n d) ≡ Some entry) (sym same)
       (sym (known_open trees first second more d entries there) ∙ seen))
-  opens_known idle path old new requested (found name after d inner e entries requests requested_more own tree free none finds opens) first
+  opens_known idle path old new looked_up (found name after d inner e entries requests requested_more own tree free none finds opens) first
       [] rest joined unopened entry seen =
       let same = same_head name first _ _ joined in
       let here : first_entry_of name (d []) ≡ Some entry = subst (λ n. first_entry_of n (d []) ≡ Some entry) (sym same) seen in
@@ -288,10 +288,10 @@ module _ (trees : Trees) where
       ∙ subst (λ n. is_unopened trees d (n ∷ []) ≡ true)
       (sym same) unopened in
       (entries, ap (λ (x : EntryView). trees x.id) (sym it) ∙ known_one e.id entries requests finds requested_for)
-  opens_known idle path old new requested (found name after d inner e entries requests requested_more own tree free none finds opens) first
+  opens_known idle path old new looked_up (found name after d inner e entries requests requested_more own tree free none finds opens) first
       (second ∷ more) rest joined unopened entry seen =
       let same = same_head name first _ _ joined in
-      opens_known idle after (only entries) inner requested_more opens second more rest (same_tail name first _ _ joined)
+      opens_known idle after (only_open entries) inner requested_more opens second more rest (same_tail name first _ _ joined)
       (sym (unopened_found trees name second more d e entries requests own tree none finds)
       ∙ subst (λ n. is_unopened trees d (n ∷ second ∷ more) ≡ true)
       (sym same) unopened) entry

@@ -13,8 +13,8 @@ use Rattle.gixobj_hash.specs.declared.hash.object_id.ObjectId.{ObjectId}
 use Rattle.gixobj_hash.specs.declared.hash.object_id.ObjectId.TheVariants as id
 use Rattle.gixobj_hash.specs.declared.kind.Kind.TheVariants.{Tree}
 use Rattle.gixobj_files.specs.Editing.{same_name}
-use Rattle.gixobj_files.specs.Edits.{Finds, IsEntryOf, IsNotLookedUp, Opens, arrived, down, first_entry_of, found, only, stops}
-use Rattle.gixobj_files.specs.Files.{Has, Path, Trees, is_null}
+use Rattle.gixobj_files.specs.Edits.{Finds, IsEntryOf, IsNotLookedUp, Opens, arrived, down, first_entry_of, found, only_open, stops}
+use Rattle.gixobj_files.specs.Files.{ContainsEntry, Path, Trees, is_null}
 use Rattle.gixobj_files.specs.Opening.{Dirs, HasAt, in_dir}
 use Rattle.gixobj_files.specs.Tables.{IsNeverLookedUp}
 use Rattle.gixobj_files.specs.Unopened.{is_empty_tree_id, needs_opening, needs_lookup, needs_tree_lookup, is_unopened, list_of, by_openness, strict_beginnings, looked_up_entry, entry_in_store, tree_of, unopened_count}
@@ -49,16 +49,16 @@ needs_no_lookup it (inl null) = not_either (is_null it) (is_empty_tree_id it) (i
 needs_no_lookup it (inr is) = not_either (is_null it) (is_empty_tree_id it) (inr (is_empty_id it is))
 
 -- entries by name
-find_has : (name : List ℕ) (es : List EntryView) (e : EntryView) → find (λ x. same_name x.name name) es ≡ Some e → Has es e × (e.name ≡ name)
+find_has : (name : List ℕ) (es : List EntryView) (e : EntryView) → find (λ x. same_name x.name name) es ≡ Some e → ContainsEntry es e × (e.name ≡ name)
 find_has name [] e is = absurd (cc is)
 find_has name (x ∷ xs) e is =
-    elim (same_name x.name name) as (λ b. same_name x.name name ≡ b → cond b (Some x) (find (λ y. same_name y.name name) xs) ≡ Some e → Has (x ∷ xs) e
+    elim (same_name x.name name) as (λ b. same_name x.name name ≡ b → cond b (Some x) (find (λ y. same_name y.name name) xs) ≡ Some e → ContainsEntry (x ∷ xs) e
     × (e.name ≡ name)) [
       | true ↦ λ called k. let same : x ≡ e = cc k in (inl same, ap (λ (y : EntryView). y.name) (sym same) ∙ (bytes_decides x.name name).0 called)
       | false ↦ λ other k. let rest = find_has name xs e k in (inr rest.0, rest.1)
     ] refl is
 
-find_none : (name : List ℕ) (es : List EntryView) → find (λ x. same_name x.name name) es ≡ None → (e : EntryView) → Has es e → e.name ≡ name → ⊥
+find_none : (name : List ℕ) (es : List EntryView) → find (λ x. same_name x.name name) es ≡ None → (e : EntryView) → ContainsEntry es e → e.name ≡ name → ⊥
 find_none name [] is e h named = h
 find_none name (x ∷ xs) is e h named =
     elim (same_name x.name name) as (λ b. same_name x.name name ≡ b → cond b (Some x) (find (λ y. same_name y.name name) xs) ≡ None → ⊥) [
@@ -66,7 +66,7 @@ find_none name (x ∷ xs) is e h named =
       | false ↦ λ other k. here h other (λ l. find_none name xs k e l named)
     ] refl is
   where
-    here : Has (x ∷ xs) e → same_name x.name name ≡ false → (Has xs e → ⊥) → ⊥
+    here : ContainsEntry (x ∷ xs) e → same_name x.name name ≡ false → (ContainsEntry xs e → ⊥) → ⊥
     here (inl same) other k = let yes : same_name x.name name ≡ true =
         (bytes_decides x.name name).1 (ap (λ (y : EntryView). y.name) same ∙ named) in let bad : true ≡ false = sym yes ∙ other in cc bad
     here (inr l) other k = k l
@@ -156,7 +156,7 @@ passes_deeper_none p name rest last after here below =
 
 -- an opening ends at most before entries that aren't looked up
 abbrev pub IsIdle : (EntryView → Type 0) → Type 0
-IsIdle Ends = (e : EntryView) → Ends e → IsNotLookedUp e
+IsIdle StopsBefore = (e : EntryView) → StopsBefore e → IsNotLookedUp e
 
 -- entries at a path below a list
 module _ (trees : Trees) where
@@ -170,7 +170,7 @@ module _ (trees : Trees) where
   known_nothing (name ∷ []) = refl
   known_nothing (name ∷ next ∷ rest) = known_none (next ∷ rest)
 
-  known_only : (path : Path) (entries : List EntryView) → looked_up_entry trees path (only entries) ≡ entry_in_store trees path (Some entries)
+  known_only : (path : Path) (entries : List EntryView) → looked_up_entry trees path (only_open entries) ≡ entry_in_store trees path (Some entries)
   known_only [] entries = refl
   known_only (name ∷ []) entries = refl
   known_only (name ∷ next ∷ rest) entries = refl
@@ -241,7 +241,7 @@ module _ (trees : Trees) where
 
   pub found_below : (name first : List ℕ) (path : Path) (dirs : Dirs) (e : EntryView) (entries : List EntryView) (requests : List ObjectId)
       → IsEntryOf name (dirs []) e → is_tree_mode e.mode ≡ true → dirs (name ∷ []) ≡ None → Finds trees e.id entries requests
-      → looked_up_entry trees (name ∷ first ∷ path) dirs ≡ looked_up_entry trees (first ∷ path) (only entries)
+      → looked_up_entry trees (name ∷ first ∷ path) dirs ≡ looked_up_entry trees (first ∷ path) (only_open entries)
   found_below name first path dirs e entries requests entry tree none finds =
       known_unopened name first path dirs none
       ∙ ap (λ o. entry_in_store trees (first ∷ path) (list_of trees o)) (first_entry_of_has_at name (dirs []) e entry)
@@ -264,7 +264,7 @@ module _ (trees : Trees) where
   -- below a directory that is opened the entries and counts are those of the list found
   pub unopened_found : (name first : List ℕ) (path : Path) (dirs : Dirs) (e : EntryView) (entries : List EntryView) (requests : List ObjectId)
       → IsEntryOf name (dirs []) e → is_tree_mode e.mode ≡ true → ((path : Path) → dirs (name ∷ path) ≡ None)
-      → Finds trees e.id entries requests → is_unopened trees dirs (name ∷ first ∷ path) ≡ is_unopened trees (only entries) (first ∷ path)
+      → Finds trees e.id entries requests → is_unopened trees dirs (name ∷ first ∷ path) ≡ is_unopened trees (only_open entries) (first ∷ path)
   unopened_found name first path dirs e entries requests entry tree none finds =
       ap (λ o. needs_opening o && needs_tree_lookup (looked_up_entry trees (name ∷ first ∷ path) dirs)) (none (first ∷ path)) ∙ ap needs_tree_lookup
       (found_below name first path dirs e entries requests entry tree (none []) finds)
@@ -300,12 +300,12 @@ module _ (trees : Trees) where
   pub count_found : (name : List ℕ) (rest : Path) (last : List ℕ) (after : Path) (dirs : Dirs) (e : EntryView) (entries : List EntryView)
       (first : List ObjectId) → IsEntryOf name (dirs []) e → is_tree_mode e.mode ≡ true → ((path : Path) → dirs (name ∷ path) ≡ None)
       → Finds trees e.id entries first → unopened_count trees dirs (name ∷ (rest ++ last ∷ after)) ≡ length first + unopened_count trees
-      (only entries)
+      (only_open entries)
       (rest ++ last ∷ after)
   count_found name rest last after dirs e entries first entry tree none finds =
       let here : one_if (is_unopened trees dirs (name ∷ [])) ≡ length first = ap one_if (unopened_here name dirs e entry tree (none []))
       ∙ sym (first_requested e.id entries first finds) in
-      let below = same_passes (λ q. is_unopened trees dirs (name ∷ q)) (is_unopened trees (only entries))
+      let below = same_passes (λ q. is_unopened trees dirs (name ∷ q)) (is_unopened trees (only_open entries))
       (λ next q. unopened_found name next q dirs e entries first entry tree none finds) (rest ++ last ∷ after) in
       omega (arith, passes_deeper (is_unopened trees dirs) name rest last after, here, below)
 
@@ -317,35 +317,35 @@ module _ (trees : Trees) where
       ap one_if (unopened_here name dirs e entry tree none ∙ lookup_needed e.id filled) in
       omega (arith, passes_deeper (is_unopened trees dirs) name rest last after, here)
 
-  pub requested_count : {Ends : EntryView → Type 0} → IsIdle Ends → (path : Path) (last : List ℕ) (dirs new : Dirs) (requested : List ObjectId)
-      → Opens Ends trees path dirs new requested → length requested ≡ unopened_count trees dirs (path ++ last ∷ [])
-  requested_count idle path last dirs new requested (arrived d) = refl
-  requested_count idle path last dirs new requested (stops name rest d other none) =
+  pub requested_count : {StopsBefore : EntryView → Type 0} → IsIdle StopsBefore → (path : Path) (last : List ℕ) (dirs new : Dirs) (looked_up : List ObjectId)
+      → Opens StopsBefore trees path dirs new looked_up → length looked_up ≡ unopened_count trees dirs (path ++ last ∷ [])
+  requested_count idle path last dirs new looked_up (arrived d) = refl
+  requested_count idle path last dirs new looked_up (stops name rest d other none) =
       sym (passes_deeper_none (is_unopened trees d) name rest last [] (unopened_nowhere name [] d (λ e h n. idle e (other e h n)) none)
       (λ first q. unopened_nowhere name (first ∷ q) d (λ e h n. idle e (other e h n)) none))
-  requested_count idle path last dirs new requested (down name rest d inner e entries more has named is opens) =
+  requested_count idle path last dirs new looked_up (down name rest d inner e entries more has named is opens) =
       requested_count idle rest last (in_dir name d) inner more opens ∙ sym (count_open name rest last [] d entries is)
-  requested_count idle path last dirs new requested (found name rest d inner e entries first more entry tree free none finds opens) =
+  requested_count idle path last dirs new looked_up (found name rest d inner e entries first more entry tree free none finds opens) =
       omega (
         arith,
         length-append first more,
         count_found name rest last [] d e entries first entry tree none finds,
         requested_count idle rest last
-            (only entries) inner more opens,
+            (only_open entries) inner more opens,
       )
 
   -- an opening looks up at most as many ids as there are unopened directories above a longer path
-  pub opens_at_most : {Ends : EntryView → Type 0} (path : Path) (last : List ℕ) (after : Path) (dirs new : Dirs) (requested : List ObjectId)
-      → Opens Ends trees path dirs new requested → length requested ≤ unopened_count trees dirs (path ++ last ∷ after)
-  opens_at_most path last after dirs new requested (arrived d) = omega arith
-  opens_at_most path last after dirs new requested (stops name rest d other none) = omega arith
-  opens_at_most path last after dirs new requested (down name rest d inner e entries more has named is opens) =
+  pub opens_at_most : {StopsBefore : EntryView → Type 0} (path : Path) (last : List ℕ) (after : Path) (dirs new : Dirs) (looked_up : List ObjectId)
+      → Opens StopsBefore trees path dirs new looked_up → length looked_up ≤ unopened_count trees dirs (path ++ last ∷ after)
+  opens_at_most path last after dirs new looked_up (arrived d) = omega arith
+  opens_at_most path last after dirs new looked_up (stops name rest d other none) = omega arith
+  opens_at_most path last after dirs new looked_up (down name rest d inner e entries more has named is opens) =
       omega (arith, count_open name rest last after d entries is, opens_at_most rest last after (in_dir name d) inner more opens)
-  opens_at_most path last after dirs new requested (found name rest d inner e entries first more entry tree free none finds opens) =
+  opens_at_most path last after dirs new looked_up (found name rest d inner e entries first more entry tree free none finds opens) =
       omega (
         arith,
         length-append first more,
         count_found name rest last after d e entries first entry tree none finds,
         opens_at_most rest last after
-            (only entries) inner more opens,
+            (only_open entries) inner more opens,
       )

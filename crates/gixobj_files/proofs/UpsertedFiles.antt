@@ -6,37 +6,37 @@ use Rattle.gixobj_mode.specs.Mode.{is_tree_mode, tree_type}
 use Rattle.gixobj_hash.specs.declared.hash.object_id.ObjectId.{ObjectId}
 use Rattle.gixobj_files.specs.Editing.{has_tree, with_entry}
 use Rattle.gixobj_files.specs.Edits.{or_empty, upserted_dirs, with_directory}
-use Rattle.gixobj_files.specs.Files.{Begins, Below, FileSet, Files, Has, Path, PlacedFile, SameFiles, Table, Upserted}
+use Rattle.gixobj_files.specs.Files.{Begins, Below, FileSet, Files, ContainsEntry, Path, PlacedFile, SameFiles, Table, Upserted}
 use Rattle.gixobj_files.specs.Opening.{Dirs, HasAt, OpenFiles, in_dir}
 use Rattle.gixobj_files.proofs.EditedFiles.{has_with_entry_new, has_of_with_entry, has_with_entry_other, sub_len_one, same_files_refl}
 use Rattle.gixobj_files.proofs.HasTrees.{entry_of_has_tree, has_tree_with_directory}
 use Rattle.gixobj_files.proofs.OpenedFiles.{open_files_of_other_name, open_files_of_open, open_files_of_unopened, open_files_into_open, open_files_into_unopened, same_name_refl, same_name_false, path_nil_below_file, no_open_files_of_none, name_eq_or_ne}
 
 -- a directory that is created leaves entries of other names unchanged
-pub has_of_with_directory : (name : List ℕ) (null : ObjectId) (es : List EntryView) (e : EntryView) → e.name ≢ name → Has (with_directory name null es) e
-    → Has es e
+pub has_of_with_directory : (name : List ℕ) (null : ObjectId) (es : List EntryView) (e : EntryView) → e.name ≢ name → ContainsEntry (with_directory name null es) e
+    → ContainsEntry es e
 has_of_with_directory name null es e differ =
     let x : EntryView = record { mode = tree_type; name = name; id = null } in
-    elim (has_tree name es) as (λ b. Has (cond b es (with_entry x es)) e → Has es e) [
+    elim (has_tree name es) as (λ b. ContainsEntry (cond b es (with_entry x es)) e → ContainsEntry es e) [
       | true ↦ λ h. h
       | false ↦ λ h. ⊎_elim (λ same. absurd (differ (ap (λ (y : EntryView). y.name) (sym same)))) (λ old. old.0) (has_of_with_entry x es e h)
     ]
 
-pub has_with_directory : (name : List ℕ) (null : ObjectId) (es : List EntryView) (e : EntryView) → e.name ≢ name → Has es e
-    → Has (with_directory name null es) e
+pub has_with_directory : (name : List ℕ) (null : ObjectId) (es : List EntryView) (e : EntryView) → e.name ≢ name → ContainsEntry es e
+    → ContainsEntry (with_directory name null es) e
 has_with_directory name null es e differ =
     let x : EntryView = record { mode = tree_type; name = name; id = null } in
-    elim (has_tree name es) as (λ b. Has es e → Has (cond b es (with_entry x es)) e) [ true ↦ λ h. h | false ↦ λ h. has_with_entry_other x es e h differ ]
+    elim (has_tree name es) as (λ b. ContainsEntry es e → ContainsEntry (cond b es (with_entry x es)) e) [ true ↦ λ h. h | false ↦ λ h. has_with_entry_other x es e h differ ]
 
 -- a directory that was created has an entry
-pub has_made_directory : (name : List ℕ) (null : ObjectId) (es : List EntryView) → (e : EntryView) × Has (with_directory name null es) e × (e.name ≡ name)
+pub has_made_directory : (name : List ℕ) (null : ObjectId) (es : List EntryView) → (e : EntryView) × ContainsEntry (with_directory name null es) e × (e.name ≡ name)
 has_made_directory name null es = let h = entry_of_has_tree name (with_directory name null es) (has_tree_with_directory name null es) in (h.0, h.1, h.2)
 
-pub has_at_of_or_empty : (o : Option (List EntryView)) (e : EntryView) → Has (or_empty o) e → HasAt o e
+pub has_at_of_or_empty : (o : Option (List EntryView)) (e : EntryView) → ContainsEntry (or_empty o) e → HasAt o e
 has_at_of_or_empty None e h = h
 has_at_of_or_empty (Some es) e h = h
 
-pub has_or_empty_of_has_at : (o : Option (List EntryView)) (e : EntryView) → HasAt o e → Has (or_empty o) e
+pub has_or_empty_of_has_at : (o : Option (List EntryView)) (e : EntryView) → HasAt o e → ContainsEntry (or_empty o) e
 has_or_empty_of_has_at None e h = h
 has_or_empty_of_has_at (Some es) e h = h
 

@@ -6,10 +6,10 @@ use Rattle.std.specs.List.{AllByRecursion}
 use Rattle.gixobj_tree.specs.Entries.{EntryView, Pair}
 use Rattle.gixobj_mode.specs.Mode.{is_tree_mode}
 use Rattle.gixobj_hash.specs.declared.hash.object_id.ObjectId.{ObjectId}
-use Rattle.gixobj_files.specs.Files.{Below, Files, Has, Path, SameFiles, Table, is_null, resolves_to}
+use Rattle.gixobj_files.specs.Files.{Below, Files, ContainsEntry, Path, SameFiles, Table, is_null, resolves_to}
 use Rattle.gixobj_files.proofs.Based.{Based}
 use Rattle.gixobj_files.proofs.Everywhere.{Everywhere}
-use Rattle.gixobj_files.specs.Emission.{EmitsBelow, EmitsEntries, emptied, end, entry_with, of_entries, unopened, unchanged, written}
+use Rattle.gixobj_files.specs.Emission.{EmitsBelow, EmitsEntries, left_out_if_empty, end, entry_unless_null, of_entries, unopened, unchanged, written}
 use Rattle.gixobj_files.specs.Opening.{Dirs, HasAt, IsOpened, OpenFiles, in_dir}
 use Rattle.gixobj_files.proofs.OpenedFiles.{IsAt, no_open_files_of_no_entries}
 use Rattle.gixobj_files.proofs.Canonical.{entry_of_name_unique}
@@ -33,25 +33,25 @@ known_append_right T (x ∷ xs) ys h = known_append_right T xs ys h.1
 -- the files at a name of some entries
 abbrev Part : Table → ℕ → Dirs → List EntryView → List ℕ → Path → ℕ → ObjectId → Type 0
 Part T k dirs es name path mode id =
-    (e : EntryView) × Has es e × (e.name ≡ name) × MatchOption (dirs (name ∷ [])) (Below T (Files T k) e.mode e.id path mode id)
+    (e : EntryView) × ContainsEntry es e × (e.name ≡ name) × MatchOption (dirs (name ∷ [])) (Below T (Files T k) e.mode e.id path mode id)
     (λ _. OpenFiles T k (in_dir name dirs) path mode id)
 
 -- the entries of a list that begins with a kept entry are that entry and the others
-pub has_non_null_cons : (e : EntryView) (id : ObjectId) (os : List EntryView) (x : EntryView) → Has (entry_with e id ++ os) x
-    → ((is_null id ≡ false) × (record { mode = e.mode; name = e.name; id = id } ≡ x)) ⊎ Has os x
+pub has_non_null_cons : (e : EntryView) (id : ObjectId) (os : List EntryView) (x : EntryView) → ContainsEntry (entry_unless_null e id ++ os) x
+    → ((is_null id ≡ false) × (record { mode = e.mode; name = e.name; id = id } ≡ x)) ⊎ ContainsEntry os x
 has_non_null_cons e id os x h =
-    elim (is_null id) as (λ b. is_null id ≡ b → Has (cond b [] ((record { mode = e.mode; name = e.name; id = id }) ∷ []) ++ os) x
-    → ((is_null id ≡ false) × (record { mode = e.mode; name = e.name; id = id } ≡ x)) ⊎ Has os x) [
+    elim (is_null id) as (λ b. is_null id ≡ b → ContainsEntry (cond b [] ((record { mode = e.mode; name = e.name; id = id }) ∷ []) ++ os) x
+    → ((is_null id ≡ false) × (record { mode = e.mode; name = e.name; id = id } ≡ x)) ⊎ ContainsEntry os x) [
       | true ↦ λ is k. inr k
       | false ↦ λ is k. ⊎_elim (λ same. inl (is, same)) inr k
     ] refl h
 
 has_kept : (e : EntryView) (id : ObjectId) (os : List EntryView) → is_null id ≡ false
-    → Has (entry_with e id ++ os) (record { mode = e.mode; name = e.name; id = id })
+    → ContainsEntry (entry_unless_null e id ++ os) (record { mode = e.mode; name = e.name; id = id })
 has_kept e id os is = rw is (inl refl)
 
-has_after : (e : EntryView) (id : ObjectId) (os : List EntryView) (x : EntryView) → Has os x → Has (entry_with e id ++ os) x
-has_after e id os x h = elim (is_null id) as (λ b. Has (cond b [] ((record { mode = e.mode; name = e.name; id = id }) ∷ []) ++ os) x)
+has_after : (e : EntryView) (id : ObjectId) (os : List EntryView) (x : EntryView) → ContainsEntry os x → ContainsEntry (entry_unless_null e id ++ os) x
+has_after e id os x h = elim (is_null id) as (λ b. ContainsEntry (cond b [] ((record { mode = e.mode; name = e.name; id = id }) ∷ []) ++ os) x)
     [ true ↦ h | false ↦ inr h ]
 
 filled_known : (T : Table) (id : ObjectId) (es : List EntryView) → T.tree_at id ≡ Some es → is_null id ≡ false
@@ -85,8 +85,8 @@ emitted_at : (T : Table) (k : ℕ) (d : Dirs) (e : EntryView) (rest os l root : 
     → (Files T k l path mode id → OpenFiles T k (in_dir e.name d) path mode id) × (OpenFiles T k (in_dir e.name d) path mode id → Files T k l path mode id)
     → (Files T (suc k) os (name ∷ path) mode id → Part T k d rest name path mode id)
     × (Part T k d rest name path mode id → Files T (suc k) os (name ∷ path) mode id)
-    → (Files T (suc k) (entry_with e named_id ++ os) (name ∷ path) mode id → Part T k d (e ∷ rest) name path mode id)
-    × (Part T k d (e ∷ rest) name path mode id → Files T (suc k) (entry_with e named_id ++ os) (name ∷ path) mode id)
+    → (Files T (suc k) (entry_unless_null e named_id ++ os) (name ∷ path) mode id → Part T k d (e ∷ rest) name path mode id)
+    × (Part T k d (e ∷ rest) name path mode id → Files T (suc k) (entry_unless_null e named_id ++ os) (name ∷ path) mode id)
 emitted_at T k d e rest os l root named_id known tree there name path mode id lower w =
     let filled = filled_known T named_id l known in
     let new : EntryView = record { mode = e.mode; name = e.name; id = named_id } in
@@ -128,9 +128,9 @@ mutual
 
   walk_files : (T : Table) (dirs bases : Dirs) (es : List EntryView) (ps : List Pair) (own : List EntryView) (saved : ℕ)
       → EmitsEntries dirs bases es ps own saved
-      → ((e : EntryView) (l : List EntryView) → Has es e → dirs (e.name ∷ []) ≡ Some l → is_tree_mode e.mode ≡ true)
+      → ((e : EntryView) (l : List EntryView) → ContainsEntry es e → dirs (e.name ∷ []) ≡ Some l → is_tree_mode e.mode ≡ true)
       → ((first : List ℕ) → AreTrees (in_dir first dirs))
-      → ((e : EntryView) (l : List EntryView) → Has es e → bases (e.name ∷ []) ≡ Some l → IsAt T e.id l)
+      → ((e : EntryView) (l : List EntryView) → ContainsEntry es e → bases (e.name ∷ []) ≡ Some l → IsAt T e.id l)
       → ((first : List ℕ) → Everywhere (Based T) (in_dir first dirs) (in_dir first bases))
       → Known T ps → (k : ℕ) (name : List ℕ) (path : Path) (mode : ℕ) (id : ObjectId)
       → (Files T (suc k) own (name ∷ path) mode id → Part T k dirs es name path mode id)
@@ -155,7 +155,7 @@ mutual
             (e, has_kept e e.id os mine.0, named, mine))
             (λ l. let f = w.1 (p.0, l, p.2, p.3) in (f.0, has_after e e.id os f.0 f.1, f.2, f.3)) p.1,
       )
-  walk_files T dirs bases es ps own saved (emptied d b e rest inner below os m n found walk) trees deeper based basing known k name path mode id =
+  walk_files T dirs bases es ps own saved (left_out_if_empty d b e rest inner below os m n found walk) trees deeper based basing known k name path mode id =
       let w = walk_files T d b rest below os n walk (λ x l h. trees x l (inr h)) deeper (λ x l h. based x l (inr h)) basing
       (known_append_right T inner below known) k name path mode id in
       let root = root_of (in_dir e.name d) (in_dir e.name b) inner [] m found in
@@ -186,7 +186,7 @@ mutual
       (known_append_left T inner ((named_id, first ∷ more_own) ∷ below) known) k path mode id in
       emitted_at T k d e rest os (first ∷ more_own) root.0 named_id pair.0 (trees e root.0 (inl refl) root.1) root.1 name path mode id lower w
 
-at_some : (o : Option (List EntryView)) (e : EntryView) → HasAt o e → (es : List EntryView) × (o ≡ Some es) × Has es e
+at_some : (o : Option (List EntryView)) (e : EntryView) → HasAt o e → (es : List EntryView) × (o ≡ Some es) × ContainsEntry es e
 at_some None e h = absurd h
 at_some (Some es) e h = (es, refl, h)
 

@@ -63,13 +63,13 @@ entry_at (name ∷ []) dirs = first_entry_of name (dirs [])
 entry_at (name ∷ next ∷ rest) dirs = entry_at (next ∷ rest) (in_dir name dirs)
 
 -- a directory that is open or isn't, with no open directory in it
-abbrev pub alone : Option (List EntryView) → Dirs
-alone here [] = here
-alone here (name ∷ path) = None
+abbrev pub only_at_root : Option (List EntryView) → Dirs
+only_at_root here [] = here
+only_at_root here (name ∷ path) = None
 
 -- the only open directory has this list
-abbrev pub only : List EntryView → Dirs
-only entries = alone (Some entries)
+abbrev pub only_open : List EntryView → Dirs
+only_open entries = only_at_root (Some entries)
 
 -- the first directories in the directory of a name, and the others elsewhere
 abbrev pub with_dir : List ℕ → Dirs → Dirs → Dirs
@@ -91,9 +91,9 @@ IsEntryOf name here e = HasAt here e × (e.name ≡ name)
 -- the list that an id is opened as, which is well-formed, and the ids that are looked up; an id that is never looked up
 -- is opened as empty; any other is opened as the store's tree, by one lookup
 abbrev pub Finds : Trees → ObjectId → List EntryView → List ObjectId → Type 0
-Finds trees id entries requested =
-    IsWellFormed entries × ((IsNeverLookedUp id × (entries ≡ []) × (requested ≡ []))
-    ⊎ ((¬ IsNeverLookedUp id) × (trees id ≡ Some entries) × (requested ≡ id ∷ [])))
+Finds trees id entries looked_up =
+    IsWellFormed entries × ((IsNeverLookedUp id × (entries ≡ []) × (looked_up ≡ []))
+    ⊎ ((¬ IsNeverLookedUp id) × (trees id ≡ Some entries) × (looked_up ≡ id ∷ [])))
 
 -- the maximum of a count, that of a u64
 abbrev pub max_count : ℕ
@@ -106,7 +106,7 @@ raised n (suc times) = raised (min (n + 1) max_count) times
 
 -- a count after these lookups
 abbrev pub counted : ℕ → List ObjectId → ℕ
-counted n requested = raised n (length requested)
+counted n looked_up = raised n (length looked_up)
 
 -- an opening ends before an entry that isn't of tree mode
 abbrev pub IsNoTree : EntryView → Type 0
@@ -118,16 +118,17 @@ IsNotLookedUp e = IsNoTree e ⊎ IsNeverLookedUp e.id
 
 -- opens each directory on a path, from the top, until one is missing or the opening ends before its entry; the
 -- arguments are the open directories before and after, and the ids that were looked up
-pub data Opens (Ends : EntryView → Type 0) (trees : Trees) : Path → Dirs → Dirs → List ObjectId → Type 0 where
-  arrived : (dirs : Dirs) → Opens Ends trees [] dirs dirs []
-  stops : (name : List ℕ) (rest : Path) (dirs : Dirs) → ((e : EntryView) → HasAt (dirs []) e → e.name ≡ name → Ends e)
-      → ((path : Path) → dirs (name ∷ path) ≡ None) → Opens Ends trees (name ∷ rest) dirs dirs []
+pub data Opens (StopsBefore : EntryView → Type 0) (trees : Trees) : Path → Dirs → Dirs → List ObjectId → Type 0 where
+  arrived : (dirs : Dirs) → Opens StopsBefore trees [] dirs dirs []
+  stops : (name : List ℕ) (rest : Path) (dirs : Dirs)
+      → ((e : EntryView) → HasAt (dirs []) e → e.name ≡ name → StopsBefore e)
+      → ((path : Path) → dirs (name ∷ path) ≡ None) → Opens StopsBefore trees (name ∷ rest) dirs dirs []
   down : (name : List ℕ) (rest : Path) (dirs inner : Dirs) (e : EntryView) (entries : List EntryView)
-      (requested : List ObjectId) → HasAt (dirs []) e → e.name ≡ name → dirs (name ∷ []) ≡ Some entries
-      → Opens Ends trees rest (in_dir name dirs) inner requested
-      → Opens Ends trees (name ∷ rest) dirs (with_dir name inner dirs) requested
+      (looked_up : List ObjectId) → HasAt (dirs []) e → e.name ≡ name → dirs (name ∷ []) ≡ Some entries
+      → Opens StopsBefore trees rest (in_dir name dirs) inner looked_up
+      → Opens StopsBefore trees (name ∷ rest) dirs (with_dir name inner dirs) looked_up
   found : (name : List ℕ) (rest : Path) (dirs inner : Dirs) (e : EntryView) (entries : List EntryView)
-      (first requested : List ObjectId) → IsEntryOf name (dirs []) e → is_tree_mode e.mode ≡ true → (¬ Ends e)
+      (first looked_up : List ObjectId) → IsEntryOf name (dirs []) e → is_tree_mode e.mode ≡ true → (¬ StopsBefore e)
       → ((path : Path) → dirs (name ∷ path) ≡ None)
-      → Finds trees e.id entries first → Opens Ends trees rest (only entries) inner requested
-      → Opens Ends trees (name ∷ rest) dirs (with_dir name inner dirs) (first ++ requested)
+      → Finds trees e.id entries first → Opens StopsBefore trees rest (only_open entries) inner looked_up
+      → Opens StopsBefore trees (name ∷ rest) dirs (with_dir name inner dirs) (first ++ looked_up)

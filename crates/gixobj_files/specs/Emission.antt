@@ -7,8 +7,8 @@ use Rattle.gixobj_files.specs.Files.{is_null}
 use Rattle.gixobj_files.specs.Opening.{Dirs, in_dir}
 
 -- the entry with this id; a written tree has no entry with a null id
-abbrev pub entry_with : EntryView → ObjectId → List EntryView
-entry_with e id = if is_null id then [] else (record { mode = e.mode; name = e.name; id = id }) ∷ []
+abbrev pub entry_unless_null : EntryView → ObjectId → List EntryView
+entry_unless_null e id = if is_null id then [] else (record { mode = e.mode; name = e.name; id = id }) ∷ []
 
 mutual
   -- the emitted pairs of the directories open below this one, its written tree, and the number of unchanged directories
@@ -26,8 +26,8 @@ mutual
     unopened : (dirs bases : Dirs) (e : EntryView) (entries : List EntryView) (below : List Pair) (own : List EntryView)
         (saved : ℕ) → dirs (e.name ∷ []) ≡ None
         → EmitsEntries dirs bases entries below own saved
-        → EmitsEntries dirs bases (e ∷ entries) below (entry_with e e.id ++ own) saved
-    emptied : (dirs bases : Dirs) (e : EntryView) (entries : List EntryView) (inner below : List Pair)
+        → EmitsEntries dirs bases (e ∷ entries) below (entry_unless_null e e.id ++ own) saved
+    left_out_if_empty : (dirs bases : Dirs) (e : EntryView) (entries : List EntryView) (inner below : List Pair)
         (own : List EntryView) (inside saved : ℕ)
         → EmitsBelow (in_dir e.name dirs) (in_dir e.name bases) inner [] inside
         → EmitsEntries dirs bases entries below own saved → EmitsEntries dirs bases (e ∷ entries) (inner ++ below) own
@@ -37,13 +37,13 @@ mutual
         → EmitsBelow (in_dir e.name dirs) (in_dir e.name bases) inner (first ∷ rest) inside
         → bases (e.name ∷ []) ≡ Some (first ∷ rest)
         → EmitsEntries dirs bases entries below own saved → EmitsEntries dirs bases (e ∷ entries) (inner ++ below)
-        (entry_with e e.id ++ own) (inside + 1 + saved)
+        (entry_unless_null e e.id ++ own) (inside + 1 + saved)
     written : (dirs bases : Dirs) (e first : EntryView) (entries rest : List EntryView) (inner below : List Pair)
         (own : List EntryView) (inside saved : ℕ) (id : ObjectId)
         → EmitsBelow (in_dir e.name dirs) (in_dir e.name bases) inner (first ∷ rest) inside
         → bases (e.name ∷ []) ≢ Some (first ∷ rest)
         → EmitsEntries dirs bases entries below own saved
-        → EmitsEntries dirs bases (e ∷ entries) (inner ++ (id, first ∷ rest) ∷ below) (entry_with e id ++ own)
+        → EmitsEntries dirs bases (e ∷ entries) (inner ++ (id, first ∷ rest) ∷ below) (entry_unless_null e id ++ own)
         (inside + saved)
 
 -- the pairs below a directory, its written tree, and the number of unchanged directories, which saturates at the

@@ -19,6 +19,6 @@ after_step T n (ensure path) files = Ensured path files
 after_step T n (set_root entries) files = Files T n entries
 
 -- the files after the steps, in order; writes and failed calls are no steps, since they leave the files unchanged
-abbrev pub History : Table → ℕ → List Step → FileSet → FileSet
-History T n [] files = files
-History T n (step ∷ steps) files = History T n steps (after_step T n step files)
+abbrev pub FilesAfter : Table → ℕ → List Step → FileSet → FileSet
+FilesAfter T n [] files = files
+FilesAfter T n (step ∷ steps) files = FilesAfter T n steps (after_step T n step files)

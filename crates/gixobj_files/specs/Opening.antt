@@ -2,7 +2,7 @@
 use Rattle.std.specs.Prelude.{◌≡◌, ◌≢◌, ℕ, zero, suc, List, [], ◌∷◌, ◌++◌, IsTrue, MatchOption, Option, Some, None}
 use Rattle.gixobj_tree.specs.Entries.{EntryView, IsWellFormed}
 use Rattle.gixobj_mode.specs.Mode.{is_tree_mode}
-use Rattle.gixobj_files.specs.Files.{Below, FileSet, Files, Has, Path, Table}
+use Rattle.gixobj_files.specs.Files.{Below, FileSet, Files, ContainsEntry, Path, Table}
 
 -- the entries of each open directory, by its path
 abbrev pub Dirs : Type 0
@@ -19,7 +19,7 @@ in_path path dirs = λ at. dirs (path ++ at)
 -- the directory is open and has the entry
 abbrev pub HasAt : Option (List EntryView) → EntryView → Type 0
 HasAt None e = ⊥
-HasAt (Some entries) e = Has entries e
+HasAt (Some entries) e = ContainsEntry entries e
 
 -- the files of open directories; an open directory replaces the tree that its entry names
 abbrev pub OpenFiles : Table → ℕ → Dirs → FileSet

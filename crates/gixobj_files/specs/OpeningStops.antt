@@ -3,7 +3,7 @@ use Rattle.std.specs.Prelude.{◌≡◌, ◌⊎◌, ◌++◌, ℕ, true, List, [
 use Rattle.gixobj_tree.specs.Entries.{EntryView}
 use Rattle.gixobj_mode.specs.Mode.{is_tree_mode}
 use Rattle.gixobj_hash.specs.declared.hash.object_id.ObjectId.{ObjectId}
-use Rattle.gixobj_files.specs.Edits.{Finds, IsEntryOf, only, with_dir}
+use Rattle.gixobj_files.specs.Edits.{Finds, IsEntryOf, only_open, with_dir}
 use Rattle.gixobj_files.specs.Files.{Path, Trees}
 use Rattle.gixobj_files.specs.Opening.{Dirs, HasAt, in_dir}
 use Rattle.gixobj_files.specs.Tables.{IsNeverLookedUp}
@@ -11,25 +11,26 @@ use Rattle.gixobj_files.specs.Unopened.{is_unopened, looked_up_entry}
 
 -- an opening of the directories on a path that stops; the arguments are the open directories before and after, the ids
 -- that were looked up, and the last of these if its tree wasn't opened
-pub data StopsOpening (Ends : EntryView → Type 0) (trees : Trees) : Path → Dirs → Dirs → List ObjectId → Option ObjectId
-    → Type 0 where
+pub data StopsOpening (StopsBefore : EntryView → Type 0) (trees : Trees) : Path → Dirs → Dirs → List ObjectId
+    → Option ObjectId → Type 0 where
   at_once : (name : List ℕ) (rest : Path) (dirs : Dirs) (e : EntryView) → IsEntryOf name (dirs []) e
-      → is_tree_mode e.mode ≡ true → (¬ Ends e) → ((path : Path) → dirs (name ∷ path) ≡ None)
-      → StopsOpening Ends trees (name ∷ rest) dirs dirs [] None
+      → is_tree_mode e.mode ≡ true → (¬ StopsBefore e) → ((path : Path) → dirs (name ∷ path) ≡ None)
+      → StopsOpening StopsBefore trees (name ∷ rest) dirs dirs [] None
   without_answer : (name : List ℕ) (rest : Path) (dirs : Dirs) (e : EntryView) → IsEntryOf name (dirs []) e
-      → is_tree_mode e.mode ≡ true → (¬ Ends e) → ((path : Path) → dirs (name ∷ path) ≡ None) → (¬ IsNeverLookedUp e.id)
-      → StopsOpening Ends trees (name ∷ rest) dirs dirs (e.id ∷ []) (Some e.id)
+      → is_tree_mode e.mode ≡ true → (¬ StopsBefore e) → ((path : Path) → dirs (name ∷ path) ≡ None)
+      → (¬ IsNeverLookedUp e.id)
+      → StopsOpening StopsBefore trees (name ∷ rest) dirs dirs (e.id ∷ []) (Some e.id)
   down : (name : List ℕ) (rest : Path) (dirs inner : Dirs) (e : EntryView) (entries : List EntryView)
-      (requested : List ObjectId) (failed_lookup : Option ObjectId) → HasAt (dirs []) e → e.name ≡ name
+      (looked_up : List ObjectId) (failed_lookup : Option ObjectId) → HasAt (dirs []) e → e.name ≡ name
       → dirs (name ∷ []) ≡ Some entries
-      → StopsOpening Ends trees rest (in_dir name dirs) inner requested failed_lookup
-      → StopsOpening Ends trees (name ∷ rest) dirs (with_dir name inner dirs) requested failed_lookup
+      → StopsOpening StopsBefore trees rest (in_dir name dirs) inner looked_up failed_lookup
+      → StopsOpening StopsBefore trees (name ∷ rest) dirs (with_dir name inner dirs) looked_up failed_lookup
   found : (name : List ℕ) (rest : Path) (dirs inner : Dirs) (e : EntryView) (entries : List EntryView)
-      (first requested : List ObjectId) (failed_lookup : Option ObjectId) → IsEntryOf name (dirs []) e
-      → is_tree_mode e.mode ≡ true → (¬ Ends e)
+      (first looked_up : List ObjectId) (failed_lookup : Option ObjectId) → IsEntryOf name (dirs []) e
+      → is_tree_mode e.mode ≡ true → (¬ StopsBefore e)
       → ((path : Path) → dirs (name ∷ path) ≡ None) → Finds trees e.id entries first
-      → StopsOpening Ends trees rest (only entries) inner requested failed_lookup
-      → StopsOpening Ends trees (name ∷ rest) dirs (with_dir name inner dirs) (first ++ requested) failed_lookup
+      → StopsOpening StopsBefore trees rest (only_open entries) inner looked_up failed_lookup
+      → StopsOpening StopsBefore trees (name ∷ rest) dirs (with_dir name inner dirs) (first ++ looked_up) failed_lookup
 
 -- the first path is a parent directory of the second, below the root
 abbrev pub IsAbove : Path → Path → Type 0
@@ -55,17 +56,18 @@ IsNextUnopened trees dirs prefix more id =
 -- the opening of a path reaches this directory: the root, an open directory, or one that the opening enters and whose
 -- tree is known
 abbrev pub ReachesDirectory : (EntryView → Type 0) → Trees → Dirs → Path → Type 0
-ReachesDirectory Ends trees dirs place =
+ReachesDirectory StopsBefore trees dirs place =
     (place ≡ []) ⊎ ((entries : List EntryView) × (dirs place ≡ Some entries))
-    ⊎ ((e : EntryView) × (looked_up_entry trees place dirs ≡ Some e) × (is_tree_mode e.mode ≡ true) × (¬ Ends e)
+    ⊎ ((e : EntryView) × (looked_up_entry trees place dirs ≡ Some e) × (is_tree_mode e.mode ≡ true) × (¬ StopsBefore e)
     × (IsNeverLookedUp e.id ⊎ ((entries : List EntryView) × (trees e.id ≡ Some entries))))
 
 -- a parent directory of the path isn't open, and the opening of the path enters it
-pub record IsUnopenedOnPath (Ends : EntryView → Type 0) (trees : Trees) (dirs : Dirs) (path : Path) : Type 0 where
+pub record IsUnopenedOnPath (StopsBefore : EntryView → Type 0) (trees : Trees) (dirs : Dirs)
+    (path : Path) : Type 0 where
   pub place : Path
   pub entry : EntryView
   pub above : IsAbove place path
   pub not_open : dirs place ≡ None
   pub yielded : looked_up_entry trees place dirs ≡ Some entry
   pub tree : is_tree_mode entry.mode ≡ true
-  pub free : ¬ Ends entry
+  pub free : ¬ StopsBefore entry

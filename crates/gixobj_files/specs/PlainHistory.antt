@@ -33,6 +33,6 @@ after_plain_step (ensure path) files = Ensured path files
 after_plain_step (set_root entries) files = NoFiles
 
 -- the files after the steps, in order
-abbrev pub PlainHistory : List Step → FileSet → FileSet
-PlainHistory [] files = files
-PlainHistory (step ∷ steps) files = PlainHistory steps (after_plain_step step files)
+abbrev pub PlainFilesAfter : List Step → FileSet → FileSet
+PlainFilesAfter [] files = files
+PlainFilesAfter (step ∷ steps) files = PlainFilesAfter steps (after_plain_step step files)

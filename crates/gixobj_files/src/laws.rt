@@ -4,9 +4,9 @@ ghost use Rattle.std.specs.FinMap as map;
 ghost use Rattle.gixobj_tree.specs.Entries.{EntryView, IsWellFormed, Pair};
 ghost use Rattle.gixobj_hash.specs.declared.hash.object_id.ObjectId.{ObjectId};
 ghost use Rattle.gixobj_files.specs.Files.{Path, Table, Trees};
-ghost use Rattle.gixobj_files.specs.History.{History, Step};
+ghost use Rattle.gixobj_files.specs.History.{FilesAfter, Step};
 ghost use Rattle.gixobj_files.specs.Opening.{IsOpened};
-ghost use Rattle.gixobj_files.specs.PlainHistory.{HasNoTree, NoFiles, PlainHistory};
+ghost use Rattle.gixobj_files.specs.PlainHistory.{HasNoTree, NoFiles, PlainFilesAfter};
 ghost use Rattle.gixobj_files.specs.State.{root_alone};
 ghost use Rattle.gixobj_files.specs.Tables.{AgreesWithPairs, AgreesWithStore, IsConsistentWith, IsTableOfStore, IsTableOf};
 
@@ -38,11 +38,11 @@ pub fn single_root_is_opened()
 
 /// Steps that start without files make the same files in every table.
 ///
-/// The steps may upsert all but trees, and set only the empty root. `PlainHistory` states their files from
+/// The steps may upsert all but trees, and set only the empty root. `PlainFilesAfter` states their files from
 /// the steps alone, with paths of any length.
 pub fn plain_history_is_table_independent()
     ensures { (steps : List Step) → All HasNoTree steps
         → (T : Table) (n : ℕ) (path : Path) (mode : ℕ) (id : ObjectId)
-        → History T n steps NoFiles path mode id
-        ↔ ((length path ≤ n) × PlainHistory steps NoFiles path mode id) }
+        → FilesAfter T n steps NoFiles path mode id
+        ↔ ((length path ≤ n) × PlainFilesAfter steps NoFiles path mode id) }
 {}

@@ -50,10 +50,10 @@ module _ {F : Type 0} (hash : hash.Kind) (of : Mut F (Bor (List EntryView) × Un
     has_bases = wrote.has_bases;
   }
 
-  pub stopped : (goes_out : List Pair → Type 0) (error : WriteError encode.Error) → (last : F) × Stopped (λ f p g. CalledAt of f p.1 (Ok p.0) g)
-      (λ f t e g. CalledAt of f t (Err e) g) goes_out out last error
-      → Stopped (ReturnsTreeId (IsAnsweredDigest hash)) (Denies (IsAnsweredDigest hash)) goes_out tt tt error
-  stopped goes_out (write.Out e) (last, (before, tree, between, folded, one, goes)) =
+  pub stopped : (EmitsPairs : List Pair → Type 0) (error : WriteError encode.Error) → (last : F) × Stopped (λ f p g. CalledAt of f p.1 (Ok p.0) g)
+      (λ f t e g. CalledAt of f t (Err e) g) EmitsPairs out last error
+      → Stopped (ReturnsTreeId (IsAnsweredDigest hash)) (Denies (IsAnsweredDigest hash)) EmitsPairs tt tt error
+  stopped EmitsPairs (write.Out e) (last, (before, tree, between, folded, one, goes)) =
       let so_far = folds out between before refl folded in
       (before, tree, tt, so_far.0, (answered_so between last tree (Err e) so_far.1 one).0, goes)
-  stopped goes_out write.OutOfMemory (last, (before, rest, folded, goes)) = (before, rest, (folds out last before refl folded).0, goes)
+  stopped EmitsPairs write.OutOfMemory (last, (before, rest, folded, goes)) = (before, rest, (folds out last before refl folded).0, goes)

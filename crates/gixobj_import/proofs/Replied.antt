@@ -21,41 +21,41 @@ use Rattle.gixobj_editor.specs.Replies.{IsFailedEdit, reply_to}
 use Rattle.gixobj_import.specs.Edited.{IsReplied}
 
 -- an edit at the names of a borrowed path
-module _ {S : Type 0} (means : StoreModel S) (old new : State S) (path : Vec BString Global) (lent : List BString) (is : lent ≡ path.items) where
+module _ {S : Type 0} (model : StoreModel S) (old new : State S) (path : Vec BString Global) (lent : List BString) (is : lent ≡ path.items) where
   abbrev Of : (Trees → Type 0) → Type 0
-  Of = OfTrees (means.objects old.store)
+  Of = OfTrees (model.objects old.store)
 
   failed_reply : (Rejects : List BString → Trees → Type 0) → Of (λ trees. IsAfterFailedEdit trees old (names_of lent) new) → Of (Rejects lent)
-      → IsFailedEdit means (Rejects path.items) old (names_of path.items) new
-  failed_reply Rejects pending failure = subst (λ (l : List BString). IsFailedEdit means (Rejects l) old (names_of l) new) is
+      → IsFailedEdit model (Rejects path.items) old (names_of path.items) new
+  failed_reply Rejects pending failure = subst (λ (l : List BString). IsFailedEdit model (Rejects l) old (names_of l) new) is
       (record { effect = pending; cause = failure })
 
   abbrev Upserts : List BString → Error → Trees → Type 0
-  Upserts l error trees = IsUpsertError (means.objects old.store) (means.may_fail old.store) trees (open_dirs old) (names_of l) error
+  Upserts l error trees = IsUpsertError (model.objects old.store) (model.may_fail old.store) trees (open_dirs old) (names_of l) error
 
   abbrev Removes : List BString → Error → Trees → Type 0
-  Removes l error trees = IsRemovalError IsNoTree (means.objects old.store) (means.may_fail old.store) trees (open_dirs old) (names_of l) error
+  Removes l error trees = IsRemovalError IsNoTree (model.objects old.store) (model.may_fail old.store) trees (open_dirs old) (names_of l) error
 
   abbrev RemovesLeaf : List BString → Error → Trees → Type 0
-  RemovesLeaf l error trees = IsLeafRemovalError (means.objects old.store) (means.may_fail old.store) trees (open_dirs old) (names_of l) error
+  RemovesLeaf l error trees = IsLeafRemovalError (model.objects old.store) (model.may_fail old.store) trees (open_dirs old) (names_of l) error
 
   pub upsert_replied : (kind : EntryKind) (id : ObjectId) (done : Result (Unit {0}) Error)
       → OnOk done (Of (λ trees. IsUpserted trees old (names_of lent) (mode_of_kind kind) id new))
       → OnErr done (Of (λ trees. IsAfterFailedEdit trees old (names_of lent) new))
       → IfErr done (λ error. Of (Upserts lent error)) → IfErr done (λ error. IsNameError error → new ≡ old)
-      → IsReplied means old (edit.Upsert path kind id) (reply_to done) new
+      → IsReplied model old (edit.Upsert path kind id) (reply_to done) new
   upsert_replied kind id (Ok it) upserted pending failure not_looked_up =
       subst (λ (l : List BString). Of (λ trees. IsUpserted trees old (names_of l) (mode_of_kind kind) id new)) is upserted
   upsert_replied kind id (Err error) upserted pending failure not_looked_up = (failed_reply (λ l trees. Upserts l error trees) pending failure, not_looked_up)
 
   pub removal_replied : (done : Result (Unit {0}) Error) → OnOk done (Of (λ trees. IsRemoved IsNoTree trees old (names_of lent) new))
       → OnErr done (Of (λ trees. IsAfterFailedEdit trees old (names_of lent) new)) → IfErr done (λ error. Of (Removes lent error))
-      → IsReplied means old (edit.Remove path) (reply_to done) new
+      → IsReplied model old (edit.Remove path) (reply_to done) new
   removal_replied (Ok it) removed pending failure = subst (λ (l : List BString). Of (λ trees. IsRemoved IsNoTree trees old (names_of l) new)) is removed
   removal_replied (Err error) removed pending failure = failed_reply (λ l trees. Removes l error trees) pending failure
 
   pub leaf_removal_replied : (done : Result (Unit {0}) Error) → OnOk done (Of (λ trees. IsLeafRemoved trees old (names_of lent) new))
       → OnErr done (Of (λ trees. IsAfterFailedEdit trees old (names_of lent) new)) → IfErr done (λ error. Of (RemovesLeaf lent error))
-      → IsReplied means old (edit.RemoveLeaf path) (reply_to done) new
+      → IsReplied model old (edit.RemoveLeaf path) (reply_to done) new
   leaf_removal_replied (Ok it) removed pending failure = subst (λ (l : List BString). Of (λ trees. IsLeafRemoved trees old (names_of l) new)) is removed
   leaf_removal_replied (Err error) removed pending failure = failed_reply (λ l trees. RemovesLeaf l error trees) pending failure

@@ -36,11 +36,11 @@ no_write_of_step items lent b same is iff has =
     let holds : b ≡ true = iff.1 (subst (λ (es : List Edit). Contains es edit.Write) (sym same) has) in
     true≢false (sym holds ∙ is)
 
-module _ {S : Type 0} (means : StoreModel S) where
+module _ {S : Type 0} (model : StoreModel S) where
   imported_then : (old between new : Importer S) (steps : List Step) (imported : List Imported) (step : Step) (it : Imported)
-      → AreImported means old steps imported between → IsImported means between step it new
-      → AreImported means old (steps ++ step ∷ []) (imported ++ it ∷ []) new
-  imported_then old between new [] [] step it done last = (new, subst (λ (i : Importer S). IsImported means i step it new) done last, refl)
+      → AreImported model old steps imported between → IsImported model between step it new
+      → AreImported model old (steps ++ step ∷ []) (imported ++ it ∷ []) new
+  imported_then old between new [] [] step it done last = (new, subst (λ (i : Importer S). IsImported model i step it new) done last, refl)
   imported_then old between new (first ∷ steps) (one ∷ imported) step it (next, is, done) last =
       (next, is, imported_then next between new steps imported step it done last)
   imported_then old between new [] (one ∷ imported) step it done last = absurd done
@@ -49,38 +49,38 @@ module _ {S : Type 0} (means : StoreModel S) where
   -- one more step is imported
   pub one_more_imported : (old between new : Importer S) (steps : List Step) (imported : List Imported) (index : ℕ) (step : Step) (it : Imported)
       → index < length steps → step ≡ get_or steps index step
-      → AreImported means old (take index steps) imported between → IsImported means between step it new
-      → AreImported means old (take (index + 1) steps)
+      → AreImported model old (take index steps) imported between → IsImported model between step it new
+      → AreImported model old (take (index + 1) steps)
       (imported ++ it ∷ []) new
   one_more_imported old between new steps imported index step it within is done last =
       let more : take (index + 1) steps ≡ take index steps ++ step ∷ [] = take_more steps index step within
       ∙ ap (λ (x : Step). take index steps ++ x ∷ [])
       (sym is) in
-      subst (λ (ss : List Step). AreImported means old ss (imported ++ it ∷ []) new) (sym more)
+      subst (λ (ss : List Step). AreImported model old ss (imported ++ it ∷ []) new) (sym more)
       (imported_then old between new (take index steps) imported step it done last)
 
   -- after the last step all are imported
   pub all_imported : (old new : Importer S) (steps : List Step) (imported : List Imported) (index : ℕ) → length steps ≤ index
-      → AreImported means old (take index steps) imported new → AreImported means old steps imported new
-  all_imported old new steps imported index over done = subst (λ (ss : List Step). AreImported means old ss imported new)
+      → AreImported model old (take index steps) imported new → AreImported model old steps imported new
+  all_imported old new steps imported index over done = subst (λ (ss : List Step). AreImported model old ss imported new)
       (take_all index steps over) done
 
   -- the next step fails, and the import stops
   pub stopped_at : (old between new : Importer S) (steps : List Step) (imported : List Imported) (index : ℕ) (step : Step) (error : ImportError)
       → index < length steps → step ≡ get_or steps index step
-      → AreImported means old (take index steps) imported between → length imported ≡ index → IsStepError means between step error new
-      → Stops means old steps imported error new
+      → AreImported model old (take index steps) imported between → length imported ≡ index → IsStepError model between step error new
+      → Stops model old steps imported error new
   stopped_at old between new steps imported index step error within is done as_many failure = inl (record {
     failed_step = step;
     at = ap (slice_get steps) as_many ∙ found steps index step within is;
     reached = between;
-    imported = subst (λ (k : ℕ). AreImported means old (take k steps) imported between) (sym as_many) done;
+    imported = subst (λ (k : ℕ). AreImported model old (take k steps) imported between) (sym as_many) done;
     cause = failure;
   })
 
   -- the error of a failed step is an error of the step
-  pub rejects_step : (old new : Importer S) (step : Step) (error : ImportError) → IsStepFailed means old step error new
-      → IsStepError means old step error new
+  pub rejects_step : (old new : Importer S) (step : Step) (error : ImportError) → IsStepFailed model old step error new
+      → IsStepError model old step error new
   rejects_step old new step import.Failed is = ⊎_elim (λ rejected. absurd rejected.2) (λ uncommitted. absurd uncommitted.cause.0) is.cause
   rejects_step old new step import.WriteInStep is = ⊎_elim (λ rejected. absurd rejected.2) (λ uncommitted. absurd uncommitted.cause.0) is.cause
   rejects_step old new step (import.Edit index error) is = is
@@ -90,8 +90,8 @@ module _ {S : Type 0} (means : StoreModel S) where
   rejects_step old new step import.OutOfMemory is = is
 
   -- a write fails after edits that were done
-  pub edits_failed : (hash : hash.Kind) (edits : List Edit) (old edited new : State S) (error : ImportError) → AreDone means old edits edited
-      → IsStepWriteError means hash edited error new → IsStepEditsError means hash edits old error new
+  pub edits_failed : (hash : hash.Kind) (edits : List Edit) (old edited new : State S) (error : ImportError) → AreDone model old edits edited
+      → IsStepWriteError model hash edited error new → IsStepEditsError model hash edits old error new
   edits_failed hash edits old edited new (import.Edit index error) done rejected = absurd rejected
   edits_failed hash edits old edited new (import.Write error) done rejected = (edited, done, rejected)
   edits_failed hash edits old edited new (import.NotKept error) done rejected = (edited, done, rejected)
@@ -102,21 +102,21 @@ module _ {S : Type 0} (means : StoreModel S) where
 
   -- a write after edits that were done, by what the call returned
   pub write_after : (hash : hash.Kind) (edits : List Edit) (old edited new : State S) (done : Result Written ImportError)
-      → AreDone means old edits edited
-      → IfOk done (λ it. IsWriteReplied means hash edited (reply.Written it) new)
-      → IfOk done (λ it. IsWriteAfter means hash old edits (reply.Written it) new)
+      → AreDone model old edits edited
+      → IfOk done (λ it. IsWriteReplied model hash edited (reply.Written it) new)
+      → IfOk done (λ it. IsWriteAfter model hash old edits (reply.Written it) new)
   write_after hash edits old edited new (Ok it) done write = record { edited = edited; done = done; write = write }
   write_after hash edits old edited new (Err error) done write = tt
 
   pub write_failed_after : (hash : hash.Kind) (edits : List Edit) (old edited new : State S) (done : Result Written ImportError)
-      → AreDone means old edits edited
-      → IfErr done (λ error. IsStepWriteError means hash edited error new) → IfErr done (λ error. IsStepEditsError means hash edits old error new)
+      → AreDone model old edits edited
+      → IfErr done (λ error. IsStepWriteError model hash edited error new) → IfErr done (λ error. IsStepEditsError model hash edits old error new)
   write_failed_after hash edits old edited new (Ok it) done failure = tt
   write_failed_after hash edits old edited new (Err error) done failure = edits_failed hash edits old edited new error done failure
 
   -- a commit that isn't encoded
   pub encoding_failed : (hash : hash.Kind) (step : Step) (tree : ObjectId) (parent : Option ObjectId) (old new : State S) (error : ImportError)
-      → IsStepEncodeError step error → new ≡ old → IsStepCommitError means hash step tree parent old error new
+      → IsStepEncodeError step error → new ≡ old → IsStepCommitError model hash step tree parent old error new
   encoding_failed hash step tree parent old new (import.Edit index error) rejected same = absurd rejected
   encoding_failed hash step tree parent old new (import.Write error) rejected same = absurd rejected
   encoding_failed hash step tree parent old new (import.NotKept error) rejected same = absurd rejected

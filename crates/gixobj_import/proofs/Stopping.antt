@@ -14,27 +14,27 @@ use Rattle.gixobj_import.proofs.Filing.{files_of_new}
 use Rattle.gixobj_import.proofs.Known.{OfStores}
 use Rattle.gixobj_store.specs.Stores.{StoreModel}
 
-module _ {S : Type 0} (means : StoreModel S) (laws : OfStores) where
-  pub stopped_adds : (old new : Importer S) (steps : List Step) (imported : List Imported) (error : ImportError) → Stops means old steps imported error new
-      → AddsByDigest (objects_of means laws old) (objects_of means laws new)
+module _ {S : Type 0} (model : StoreModel S) (laws : OfStores) where
+  pub stopped_adds : (old new : Importer S) (steps : List Step) (imported : List Imported) (error : ImportError) → Stops model old steps imported error new
+      → AddsByDigest (objects_of model laws old) (objects_of model laws new)
   stopped_adds old new steps imported error (inl at) =
-      adds_by_digest_append (objects_of means laws old) (objects_of means laws at.reached) (objects_of means laws new)
-      (steps_add means laws old at.reached (take (length imported) steps) imported at.imported)
-      (rejected_adds means laws at.reached new at.failed_step error at.cause)
-  stopped_adds old new steps imported error (inr nothing) = adds_by_digest_nil _ _ (ap (objects_of means laws) nothing.unchanged)
+      adds_by_digest_append (objects_of model laws old) (objects_of model laws at.reached) (objects_of model laws new)
+      (steps_add model laws old at.reached (take (length imported) steps) imported at.imported)
+      (rejected_adds model laws at.reached new at.failed_step error at.cause)
+  stopped_adds old new steps imported error (inr nothing) = adds_by_digest_nil _ _ (ap (objects_of model laws) nothing.unchanged)
 
   pub commits_of_stopped : (old new : Importer S) (steps : List Step) (imported : List Imported) (error : ImportError)
-      → Stops means old steps imported error new → IsNewImporter old
-      → AreCommitsOf old.hash None (take (length imported) steps) imported (objects_of means laws new)
+      → Stops model old steps imported error new → IsNewImporter old
+      → AreCommitsOf old.hash None (take (length imported) steps) imported (objects_of model laws new)
   commits_of_stopped old new steps imported error (inl at) is =
-      commits_of_new means laws old at.reached (take (length imported) steps) imported at.imported is (objects_of means laws new)
-      (rejected_adds means laws at.reached new at.failed_step error at.cause)
+      commits_of_new model laws old at.reached (take (length imported) steps) imported at.imported is (objects_of model laws new)
+      (rejected_adds model laws at.reached new at.failed_step error at.cause)
   commits_of_stopped old new steps [] error (inr nothing) is = tt
   commits_of_stopped old new steps (it ∷ imported) error (inr nothing) is = cc nothing.nothing
 
-  pub files_of_stopped : (old new : Importer S) (steps : List Step) (imported : List Imported) (error : ImportError) → Stops means old steps imported error new
+  pub files_of_stopped : (old new : Importer S) (steps : List Step) (imported : List Imported) (error : ImportError) → Stops model old steps imported error new
       → IsNewImporter old
-      → HaveFilesOfNothing (objects_of means laws old) (take (length imported) steps) imported
-  files_of_stopped old new steps imported error (inl at) is = files_of_new means laws old at.reached (take (length imported) steps) imported at.imported is
+      → HaveFilesOfNothing (objects_of model laws old) (take (length imported) steps) imported
+  files_of_stopped old new steps imported error (inl at) is = files_of_new model laws old at.reached (take (length imported) steps) imported at.imported is
   files_of_stopped old new steps [] error (inr nothing) is = λ T n agrees k it at. cc at
   files_of_stopped old new steps (first ∷ imported) error (inr nothing) is = cc nothing.nothing

@@ -27,14 +27,14 @@ steps_if_done edit.Write = []
 abbrev pub NoAnswers : Answers encode.Error
 NoAnswers tree answer = ⊥
 
-module _ {S : Type 0} (means : StoreModel S) where
+module _ {S : Type 0} (model : StoreModel S) where
   -- the edit may get this reply, by the rules of a run
   abbrev pub IsReplied : State S → Edit → EditReply encode.Error → State S → Type 0
-  IsReplied = IsEditReply means NoAnswers at_root
+  IsReplied = IsEditReply model NoAnswers at_root
 
   -- a write by digests, whose trees the store then keeps, may get this reply, by the rules of a run
   abbrev pub IsWriteReplied : hash.Kind → State S → EditReply encode.Error → State S → Type 0
-  IsWriteReplied hash old its_reply new = IsEditReply means (IsAnsweredDigest hash) at_root old edit.Write its_reply new
+  IsWriteReplied hash old its_reply new = IsEditReply model (IsAnsweredDigest hash) at_root old edit.Write its_reply new
 
   -- the edits are done, one after the other
   abbrev pub AreDone : State S → List Edit → State S → Type 0

@@ -52,7 +52,8 @@ pub record AgreesWithStep {S : Type 0} (T : Table) (objects : Objects) (editor :
 -- with these files
 pub record HasFilesOf {S : Type 0} (T : Table) (n : ℕ) (old : State S) (step : Step) (it : Imported)
     (new : State S) : Type 0 where
-  pub tree : SameFiles (NamedFiles T n it.written.id) (history.History T n (edits_of (step ∷ [])) (EditorFiles T n old))
+  pub tree : SameFiles (NamedFiles T n it.written.id)
+      (history.FilesAfter T n (edits_of (step ∷ [])) (EditorFiles T n old))
   pub continues : SameFiles (EditorFiles T n new) (NamedFiles T n it.written.id)
 
 -- ---- a list of steps
@@ -95,7 +96,7 @@ AreCommitsOf hash parent steps imported objects = ⊥
 abbrev pub HaveFiles : Table → ℕ → FileSet → List Step → List Imported → Type 0
 HaveFiles T n files steps imported =
     (k : ℕ) (it : Imported) → slice_get imported k ≡ Some it
-    → SameFiles (NamedFiles T n it.written.id) (history.History T n (edits_of (take (suc k) steps)) files)
+    → SameFiles (NamedFiles T n it.written.id) (history.FilesAfter T n (edits_of (take (suc k) steps)) files)
 
 -- the tree of each commit has, to every depth, exactly the files that the edits so far make of none. That holds in
 -- every table that agrees with the store and with the emitted ids

@@ -39,14 +39,14 @@ IsStepEncodeError step (import.Commit error) = (error ≡ IllegalActor)
 IsStepEncodeError step import.OutOfMemory = ⊤
 IsStepEncodeError step other = ⊥
 
-module _ {S : Type 0} (means : StoreModel S) where
+module _ {S : Type 0} (model : StoreModel S) where
   -- the store doesn't keep the commit; its objects, the ids whose lookup may fail, and the rest of the editor are
   -- unchanged
   pub record IsCommitUnkept (commit : ObjectId) (old : State S) (error : KeepError) (new : State S) : Type 0 where
-    pub cause : IsKeepCommitError (means.may_fail old.store) commit error
+    pub cause : IsKeepCommitError (model.may_fail old.store) commit error
     pub rest : new ≡ with_store old new.store
-    pub unchanged : means.objects new.store ≡ means.objects old.store
-    pub may_fail : (id : ObjectId) → means.may_fail new.store id ≡ means.may_fail old.store id
+    pub unchanged : model.objects new.store ≡ model.objects old.store
+    pub may_fail : (id : ObjectId) → model.may_fail new.store id ≡ model.may_fail old.store id
 
   -- the step's commit is encoded, and the store keeps it under the digest of its encoding
   pub record IsCommitKept (hash : hash.Kind) (step : Step) (tree : ObjectId) (parent : Option ObjectId) (old : State S)
@@ -58,8 +58,8 @@ module _ {S : Type 0} (means : StoreModel S) where
     pub decodes : HaveHex hash (tree ∷ only_parent parent) → DecodesToCommit hash (encode_step step tree parent)
         (step_commit step tree parent)
     pub rest : new ≡ with_store old new.store
-    pub stored : means.objects new.store ≡ with_commit commit (encode_step step tree parent) (means.objects old.store)
-    pub may_fail : (it : ObjectId) → means.may_fail new.store it ≡ means.may_fail old.store it
+    pub stored : model.objects new.store ≡ with_commit commit (encode_step step tree parent) (model.objects old.store)
+    pub may_fail : (it : ObjectId) → model.may_fail new.store it ≡ model.may_fail old.store it
 
   -- the error of a step's commit that isn't kept: no commit may have its author or committer, the store doesn't keep
   -- it, or an allocation failed
@@ -71,15 +71,15 @@ module _ {S : Type 0} (means : StoreModel S) where
 
   -- the error of a write by digests: the write fails, or the store doesn't keep all of its trees
   abbrev pub IsStepWriteError : hash.Kind → State S → ImportError → State S → Type 0
-  IsStepWriteError hash old (import.Write error) new = IsWriteReplied means hash old (reply.WriteRefused error) new
+  IsStepWriteError hash old (import.Write error) new = IsWriteReplied model hash old (reply.WriteRefused error) new
   IsStepWriteError hash old (import.NotKept error) new = (it : Written) × (count : ℕ)
-      × IsWriteReplied means hash old (reply.NotKept it count error) new
+      × IsWriteReplied model hash old (reply.NotKept it count error) new
   IsStepWriteError hash old other new = ⊥
 
   -- the error of edits that aren't written and kept: one of them fails, or the write after them
   abbrev pub IsStepEditsError : hash.Kind → List Edit → State S → ImportError → State S → Type 0
-  IsStepEditsError hash edits old (import.Edit index error) new = IsFailedAt means old edits index error new
-  IsStepEditsError hash edits old error new = (edited : State S) × AreDone means old edits edited
+  IsStepEditsError hash edits old (import.Edit index error) new = IsFailedAt model old edits index error new
+  IsStepEditsError hash edits old error new = (edited : State S) × AreDone model old edits edited
       × IsStepWriteError hash edited error new
 
   -- the step is imported: its edits are done, the root is written by digests, and its trees and then its commit are
@@ -88,7 +88,7 @@ module _ {S : Type 0} (means : StoreModel S) where
     pub ready : old.failed ≡ false
     pub no_write : ¬ Contains step.edits.items edit.Write
     pub between : State S
-    pub trees : IsWriteAfter means old.hash old.editor step.edits.items (reply.Written it.written) between
+    pub trees : IsWriteAfter model old.hash old.editor step.edits.items (reply.Written it.written) between
     pub root : HaveHex old.hash (it.written.id ∷ [])
     pub commit : IsCommitKept old.hash step it.written.id old.last between it.commit new.editor
     pub rest : new ≡ record old { editor = new.editor; last = Some it.commit }
@@ -97,7 +97,7 @@ module _ {S : Type 0} (means : StoreModel S) where
   pub record IsUncommitted (old : Importer S) (step : Step) (error : ImportError) (new : State S) : Type 0 where
     pub it : Written
     pub between : State S
-    pub trees : IsWriteAfter means old.hash old.editor step.edits.items (reply.Written it) between
+    pub trees : IsWriteAfter model old.hash old.editor step.edits.items (reply.Written it) between
     pub cause : IsStepCommitError old.hash step it.id old.last between error new
 
   -- the step fails, and the importer with it: its edits aren't written and kept, or its commit isn't

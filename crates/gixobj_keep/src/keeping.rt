@@ -76,7 +76,7 @@ pub trait Keep: Find {
         ensures has_encoding { OnOk result (IsEncodableTree tree.now) }
         ensures unchanged { OnErr result (Self.objects self.new ≡ Self.objects self.old) }
         ensures error { IfErr result (IsKeepError (Self.may_fail self.old) id tree.now) }
-        ensures fallible { (other : ObjectId)
+        ensures same_may_fail { (other : ObjectId)
             → Self.may_fail self.new other ≡ Self.may_fail self.old other };
 }
 
@@ -96,7 +96,7 @@ pub trait KeepCommit: Find {
             ≡ with_commit id bytes.now (Self.objects self.old)) }
         ensures unchanged { OnErr result (Self.objects self.new ≡ Self.objects self.old) }
         ensures error { IfErr result (IsKeepCommitError (Self.may_fail self.old) id) }
-        ensures fallible { (other : ObjectId)
+        ensures same_may_fail { (other : ObjectId)
             → Self.may_fail self.new other ≡ Self.may_fail self.old other };
 }
 
@@ -117,7 +117,7 @@ pub fn keep_all<S: Keep>(
     ensures error { IfErr result (λ it.
         StopsKeepingAt (S.may_fail store.old) trees.now (S.objects store.old) (S.objects store.new)
         it.0 it.1) }
-    ensures fallible { (id : ObjectId) → S.may_fail store.new id ≡ S.may_fail store.old id }
+    ensures same_may_fail { (id : ObjectId) → S.may_fail store.new id ≡ S.may_fail store.old id }
 {
     for (number, (id, tree)) in trees.iter().enumerate() {
         match store.keep(*id, tree) {

@@ -44,8 +44,8 @@ impl Memory {
         }
     }
 
-    /// Inserts an object of this kind and content, with ids of `object_hash`, and returns its id by
-    /// `object_hash`.
+    /// Stores `bytes` as an object of `kind`, and returns its id. `object_hash` is the hash of that id and of
+    /// the ids in `bytes`.
     ///
     /// It replaces the object that the id named before. The bytes are not validated. Allocates a copy of
     /// `bytes`, and an entry of the store.

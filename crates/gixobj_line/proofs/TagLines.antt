@@ -4,7 +4,7 @@ use Rattle.std.specs.Prelude.{codes}
 use Rattle.gixobj_actor.specs.Actor.{IsActorLine, IsMalformedActorLine}
 use Rattle.gixobj_fields.proofs.HeaderFields.{field_unique}
 use Rattle.gixobj_fields.specs.HeaderFormat.{HasField, HasNoField, HasOtherName}
-use Rattle.gixobj_line.specs.TagLines.{HasNoName, HasNoTagger, HasTagger}
+use Rattle.gixobj_line.specs.TagLines.{HasNoName, HasMalformedTagger, HasTagger}
 
 -- ---- names
 
@@ -21,12 +21,12 @@ no_name_of_missing_field input none name rest (field, filled) = none name rest f
 pub no_tagger_and_begins_field : (name input value rest : List ℕ) → HasField name input value rest → HasOtherName name input → ⊥
 no_tagger_and_begins_field name input value rest field lacks = lacks (value ++ 10 ∷ rest) (field.joined ∙ simp append_assoc)
 
-pub no_tagger_of_missing_newline : (input after : List ℕ) → input ≡ codes "tagger" ++ 32 ∷ after → HasNoField (codes "tagger") input → HasNoTagger input
+pub no_tagger_of_missing_newline : (input after : List ℕ) → input ≡ codes "tagger" ++ 32 ∷ after → HasNoField (codes "tagger") input → HasMalformedTagger input
 no_tagger_of_missing_newline input after named none (Some line) rest (field, actor) = none line rest field
 no_tagger_of_missing_newline input after named none None rest (lacks, same) = lacks after named
 
 pub no_tagger_of_malformed_actor : (input after line rest : List ℕ) → input ≡ codes "tagger" ++ 32 ∷ after → HasField (codes "tagger") input line rest
-    → IsMalformedActorLine line → HasNoTagger input
+    → IsMalformedActorLine line → HasMalformedTagger input
 no_tagger_of_malformed_actor input after line rest named field none (Some other) following (second, (name, email, time, bytes, is)) =
     let A : List ℕ → Type 0 = λ it. IsActorLine it name email time bytes in
     none name email time bytes (subst A (sym (field_unique (codes "tagger") input line rest other following field second).0) is)

@@ -11,7 +11,7 @@ use Rattle.gixobj_hash.specs.declared.hash.kind.Kind as hash
 use Rattle.gixobj_hash.specs.declared.kind.Kind.{Kind}
 use Rattle.gixobj_hash.specs.declared.kind.Kind.TheVariants as object
 use Rattle.gixobj_line.proofs.TagLines.{tagger_unique}
-use Rattle.gixobj_line.specs.TagLines.{HasName, HasNoName, HasNoTagger, HasTagger}
+use Rattle.gixobj_line.specs.TagLines.{HasName, HasNoName, HasMalformedTagger, HasTagger}
 use Rattle.gixobj_line.specs.TagPrefix.{BeginsTag, IsTagBody, IsTag, IsTaggerLine, encode_tagger}
 
 -- the lines of a tag, decoded in turn, up to its body
@@ -168,7 +168,7 @@ name_after kind bytes target typed token named name tagged body has has_kind has
     (field_unique (codes "tag") named reads.name reads.after_name name tagged there.0 has_name.0).1
 
 pub no_tagger : (kind : hash.Kind) (bytes target typed token named name tagged : List ℕ) → HasId (codes "object") kind bytes target typed
-    → HasField (codes "type") typed token named → HasName named name tagged → HasNoTagger tagged
+    → HasField (codes "type") typed token named → HasName named name tagged → HasMalformedTagger tagged
     → ¬ IsTag kind bytes
 no_tagger kind bytes target typed token named name tagged has has_kind has_name none (body, begins, is) =
     let reads = take_apart kind bytes body begins is in

@@ -3,7 +3,7 @@
 ghost use Rattle.std.specs.Prelude.{IfNone, IfSome, MatchBool};
 ghost use Rattle.bstr.specs.BStr.{bstr_bytes};
 ghost use Rattle.gixobj_line.specs.TagLineViews.{IsParsedTagger, line_if_some};
-ghost use Rattle.gixobj_line.specs.TagLines.{HasName, HasNoName, HasNoTagger, HasTagger};
+ghost use Rattle.gixobj_line.specs.TagLines.{HasName, HasNoName, HasMalformedTagger, HasTagger};
 ghost use Rattle.gixobj_line.specs.TagPrefix.{IsTag, IsTagBody};
 
 use bstr::BStr;
@@ -69,7 +69,7 @@ pub type TaggerLine<'a> = (BStr<'a>, SignatureRef<'a>);
 pub fn tagger(input: &[u8]) -> Option<(Option<TaggerLine<'_>>, &[u8])>
     ensures found { IfSome result (λ it. HasTagger input.now (line_if_some it.0) it.1.now) }
     ensures parts { IfSome result (λ it. IsParsedTagger it.0) }
-    ensures none { IfNone result (HasNoTagger input.now) }
+    ensures none { IfNone result (HasMalformedTagger input.now) }
 {
     let Some(_) = after_name(input, b"tagger") else {
         return Some((None, input));

@@ -20,7 +20,7 @@ use Rattle.gixobj_hash.specs.declared.hash.kind.Kind as hash
 use Rattle.gixobj_hash.specs.declared.hash.object_id.ObjectId.{ObjectId}
 use Rattle.gixobj_tag.proofs.Bodies.{body_unique}
 use Rattle.gixobj_line.proofs.TagLines.{no_tagger_and_begins_field}
-use Rattle.gixobj_line.specs.TagLines.{HasNoTagger, HasTagger}
+use Rattle.gixobj_line.specs.TagLines.{HasMalformedTagger, HasTagger}
 use Rattle.gixobj_line.specs.TagLineViews.{IsParsedTagger, line_if_some}
 use Rattle.gixobj_ref_iter.specs.TagReaders.{IsTokenOfTagger, yields_no_tagger, yields_tagger}
 use Rattle.gixobj_ref_iter.specs.TagTokens.{HasTagToken, DecodesToTagToken, TagTokenView, body_comes, kind_comes, kind_token, name_comes, name_token, no_tagger_comes, tagger_comes, tagger_token, target_comes, target_token}
@@ -49,13 +49,13 @@ has_tagger_token kind before input rest line token same filled has yields = rw s
 
 -- ---- no token
 
-none_yielded : (kind : hash.Kind) (input : List ℕ) (token : TagTokenView) (after : State) (rest : List ℕ) → HasNoTagger input
+none_yielded : (kind : hash.Kind) (input : List ℕ) (token : TagTokenView) (after : State) (rest : List ℕ) → HasMalformedTagger input
     → HasTagToken kind state.Tagger input token after rest → ⊥
 none_yielded kind input token after rest none (tagger_comes _ line _ actor bytes field is) =
     none (Some line) rest (field, (actor.name, actor.email, actor.time, bytes, is))
 none_yielded kind input token after rest none (no_tagger_comes _ filled lacks) = none None input (lacks, refl)
 
-pub has_no_tagger_token : (kind : hash.Kind) (before : State) (input : List ℕ) → before ≡ state.Tagger → HasNoTagger input
+pub has_no_tagger_token : (kind : hash.Kind) (before : State) (input : List ℕ) → before ≡ state.Tagger → HasMalformedTagger input
     → HasNoPiece (HasTagToken kind) before input
 has_no_tagger_token kind before input same none token after rest has = none_yielded kind input token after rest none
     (subst (λ (it : State). HasTagToken kind it input token after rest) same has)

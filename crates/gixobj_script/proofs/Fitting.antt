@@ -17,7 +17,7 @@ use Rattle.gixobj_hash.specs.declared.hash.object_id.ObjectId.{ObjectId}
 use Rattle.gixobj_hash.specs.declared.kind.Kind.TheVariants.{Tree}
 use Rattle.gixobj_editor.proofs.Answered.{IsAnswered, run_answered}
 use Rattle.gixobj_editor.proofs.KeptPairs.{kept_have}
-use Rattle.gixobj_editor.specs.Commands.{emitted_pairs, pairs_kept}
+use Rattle.gixobj_editor.specs.Commands.{emitted_pairs, kept_pairs}
 use Rattle.gixobj_editor.specs.Replies.{IsRun}
 use Rattle.gixobj_editor.specs.RunTables.{DecodesToItself}
 use Rattle.gixobj_editor.specs.declared.reply.Reply.{Reply}
@@ -53,10 +53,10 @@ module _ (hash : Kind) where
   -- kept trees decode to themselves if their entries round-trip
   pub kept_as_themselves : ((pair : Pair) → All (RoundTrips (id_kind pair.0)) pair.1 → DecodesToItself pair) → (replies : List (Reply Error))
       → All (λ pair. id_kind pair.0 ≡ hash) (emitted_pairs replies)
-      → All (λ pair. All (RoundTrips hash) pair.1) (pairs_kept replies) → All DecodesToItself (pairs_kept replies)
+      → All (λ pair. All (RoundTrips hash) pair.1) (kept_pairs replies) → All DecodesToItself (kept_pairs replies)
   kept_as_themselves reads replies kinds back =
       all_so IsOfKind (λ pair. All (RoundTrips hash) pair.1) DecodesToItself
-      (λ pair kind all. reads pair (subst (λ (it : Kind). All (RoundTrips it) pair.1) (sym kind) all)) (pairs_kept replies)
+      (λ pair kind all. reads pair (subst (λ (it : Kind). All (RoundTrips it) pair.1) (sym kind) all)) (kept_pairs replies)
       (kept_have IsOfKind replies kinds) back
 
   module _ (pairs : List Pair) where

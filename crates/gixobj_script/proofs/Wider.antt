@@ -24,7 +24,7 @@ use Rattle.gixobj_editor.specs.declared.reply.EditReply.TheVariants as edit_repl
 use Rattle.gixobj_editor.specs.declared.reply.Reply.{Reply}
 use Rattle.gixobj_editor.specs.declared.reply.Reply.TheVariants as reply
 
-module _ {S E : Type 0} (means : StoreModel S) (answers wider : Answers E) (within : (tree : List EntryView) (answer : Result ObjectId E)
+module _ {S E : Type 0} (model : StoreModel S) (answers wider : Answers E) (within : (tree : List EntryView) (answer : Result ObjectId E)
     → answers tree answer
     → wider tree answer) where
   folds : (requested_hash : Unit {0}) (pairs : List Pair) (answered : Unit {0}) → FoldsTo (ReturnsTreeId answers) requested_hash pairs answered
@@ -64,8 +64,8 @@ module _ {S E : Type 0} (means : StoreModel S) (answers wider : Answers E) (with
   }
 
   kept : (place : Place) (it : Written) (Keeps : Objects → Objects → Type 0) (old new : State S)
-      → IsWriteKept means (IsWrittenAt answers place it old) Keeps old new
-      → IsWriteKept means (IsWrittenAt wider place it old) Keeps old new
+      → IsWriteKept model (IsWrittenAt answers place it old) Keeps old new
+      → IsWriteKept model (IsWrittenAt wider place it old) Keeps old new
   kept place it Keeps old new is =
       record {
         between = is.between;
@@ -75,11 +75,11 @@ module _ {S E : Type 0} (means : StoreModel S) (answers wider : Answers E) (with
         may_fail = is.may_fail;
       }
 
-  stopped : (goes_out : List Pair → Type 0) (error : WriteError E) → Stopped (ReturnsTreeId answers) (Denies answers) goes_out tt tt error
-      → Stopped (ReturnsTreeId wider) (Denies wider) goes_out tt tt error
-  stopped goes_out (write.Out cause) (before, tree, requested_hash, folded, one, goes) =
+  stopped : (EmitsPairs : List Pair → Type 0) (error : WriteError E) → Stopped (ReturnsTreeId answers) (Denies answers) EmitsPairs tt tt error
+      → Stopped (ReturnsTreeId wider) (Denies wider) EmitsPairs tt tt error
+  stopped EmitsPairs (write.Out cause) (before, tree, requested_hash, folded, one, goes) =
       (before, tree, requested_hash, folds tt before requested_hash folded, within tree (Err cause) one, goes)
-  stopped goes_out write.OutOfMemory (before, rest, folded, goes) = (before, rest, folds tt before tt folded, goes)
+  stopped EmitsPairs write.OutOfMemory (before, rest, folded, goes) = (before, rest, folds tt before tt folded, goes)
 
   failed_write : (place : Place) (old : State S) (error : WriteError E) (new : State S) → IsFailedWrite answers place old error new
       → IsFailedWrite wider place old error new
@@ -89,8 +89,8 @@ module _ {S E : Type 0} (means : StoreModel S) (answers wider : Answers E) (with
         unchanged = is.unchanged;
       }
 
-  edit_reply_wider : (place : Place) (old new : State S) (it : Edit) (its_reply : EditReply E) → IsEditReply means answers place old it its_reply new
-      → IsEditReply means wider place old it its_reply new
+  edit_reply_wider : (place : Place) (old new : State S) (it : Edit) (its_reply : EditReply E) → IsEditReply model answers place old it its_reply new
+      → IsEditReply model wider place old it its_reply new
   edit_reply_wider place old new (edit.Upsert path kind id) edit_reply.Done is = is
   edit_reply_wider place old new (edit.Upsert path kind id) (edit_reply.Refused error) is = is
   edit_reply_wider place old new (edit.Remove path) edit_reply.Done is = is
@@ -103,8 +103,8 @@ module _ {S E : Type 0} (means : StoreModel S) (answers wider : Answers E) (with
   edit_reply_wider place old new it its_reply is = absurd is
 
   edit_replies_wider : (place : Place) (old new : State S) (edits : List Edit) (replies : List (EditReply E))
-      → AreEditReplies means answers place old edits replies new
-      → AreEditReplies means wider place old edits replies new
+      → AreEditReplies model answers place old edits replies new
+      → AreEditReplies model wider place old edits replies new
   edit_replies_wider place old new [] [] is = is
   edit_replies_wider place old new (it ∷ edits) (its_reply ∷ replies) (between, first, rest) =
       (between, edit_reply_wider place old between it its_reply first, edit_replies_wider place between new edits replies rest)
@@ -112,23 +112,23 @@ module _ {S E : Type 0} (means : StoreModel S) (answers wider : Answers E) (with
   edit_replies_wider place old new (it ∷ edits) [] is = absurd is
 
   reply_at_wider : (prefix : Path) (old new : State S) (edits : List Edit) (its_reply : Reply E)
-      → IsReplyAt means answers prefix old edits its_reply new
-      → IsReplyAt means wider prefix old edits its_reply new
+      → IsReplyAt model answers prefix old edits its_reply new
+      → IsReplyAt model wider prefix old edits its_reply new
   reply_at_wider prefix old new edits (reply.At replies) (between, ensured, rest) =
       (between, ensured, edit_replies_wider (at_cursor prefix) between new edits replies.items rest)
   reply_at_wider prefix old new edits (reply.AtRefused error) is = is
   reply_at_wider prefix old new edits its_reply is = absurd is
 
-  reply_wider : (old new : State S) (it : Command) (its_reply : Reply E) → IsReply means answers old it its_reply new
-      → IsReply means wider old it its_reply new
+  reply_wider : (old new : State S) (it : Command) (its_reply : Reply E) → IsReply model answers old it its_reply new
+      → IsReply model wider old it its_reply new
   reply_wider old new (command.Edit it) (reply.Edit its_reply) is = edit_reply_wider at_root old new it its_reply is
   reply_wider old new (command.At prefix edits) its_reply is = reply_at_wider (cursor_path (names_of prefix.items)) old new edits.items its_reply is
   reply_wider old new (command.SetRoot entries) reply.RootSet is = is
   reply_wider old new (command.SetRoot entries) reply.RootRefused is = is
   reply_wider old new it its_reply is = absurd is
 
-  pub run_wider : (old new : State S) (commands : List Command) (replies : List (Reply E)) → IsRun means answers old commands replies new
-      → IsRun means wider old commands replies new
+  pub run_wider : (old new : State S) (commands : List Command) (replies : List (Reply E)) → IsRun model answers old commands replies new
+      → IsRun model wider old commands replies new
   run_wider old new [] [] is = is
   run_wider old new (it ∷ commands) (its_reply ∷ replies) (between, first, rest) =
       (between, reply_wider old between it its_reply first, run_wider between new commands replies rest)

@@ -18,21 +18,21 @@ use Rattle.gixobj_keep.specs.declared.memory.Memory.{Memory}
 
 -- the script decodes to commands, which run from the old state to the new one; the bytes report the replies to them and
 -- then the lookups
-pub record IsReported {S E : Type 0} (means : StoreModel S) (answers : Answers E) (hash : hash.Kind) (script : List ℕ)
+pub record IsReported {S E : Type 0} (model : StoreModel S) (answers : Answers E) (hash : hash.Kind) (script : List ℕ)
     (old : State S) (bytes : List ℕ) (new : State S) : Type 0 where
   pub commands : List Command
   pub replies : List (Reply E)
   pub decodes : IsScript hash script (map command_view commands)
-  pub ran : IsRun means answers old commands replies new
+  pub ran : IsRun model answers old commands replies new
   pub yields : bytes ≡ report_lines_of replies new.lookups
 
 -- the script decodes to commands, which run from the old state to the new one
-pub record WasRun {S E : Type 0} (means : StoreModel S) (answers : Answers E) (hash : hash.Kind) (script : List ℕ)
+pub record WasRun {S E : Type 0} (model : StoreModel S) (answers : Answers E) (hash : hash.Kind) (script : List ℕ)
     (old new : State S) : Type 0 where
   pub commands : List Command
   pub replies : List (Reply E)
   pub decodes : IsScript hash script (map command_view commands)
-  pub ran : IsRun means answers old commands replies new
+  pub ran : IsRun model answers old commands replies new
 
 -- the model of the store in memory: no lookup fails, except for memory
 abbrev pub memory_model : StoreModel Memory

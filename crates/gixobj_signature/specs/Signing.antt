@@ -88,15 +88,15 @@ ssh_call it payload = ssh_call_by (literal_key it.key) it payload
 -- ---- outcomes of the answers
 
 -- an outcome of signing: the signature, or why there is none; `program_failed` has the standard error of the program
-pub data Signed : Type 0 where
-  signature : List ℕ → Signed
-  not_owned : decode.Error → Signed
-  not_written : encode.Error → Signed
-  without_key : Signed
-  not_run : Failure → Signed
-  program_failed : List ℕ → List ℕ → Signed
-  not_confirmed : Signed
-  without_signature : Signed
+pub data SignOutcome : Type 0 where
+  signature : List ℕ → SignOutcome
+  copy_failed : decode.Error → SignOutcome
+  encode_failed : encode.Error → SignOutcome
+  without_key : SignOutcome
+  not_run : Failure → SignOutcome
+  program_failed : List ℕ → List ℕ → SignOutcome
+  not_confirmed : SignOutcome
+  without_signature : SignOutcome
 
 -- the byte is a carriage return, and the next one is a newline
 abbrev pub is_return_before : ℕ → List ℕ → Bool
@@ -122,56 +122,56 @@ sign_fails other = other
 
 -- the outcome of an OpenPGP or X.509 program's output: it has to succeed and to report the signature, which is its
 -- standard output
-abbrev pub gpg_signed : List ℕ → OutputView → Signed
+abbrev pub gpg_signed : List ℕ → OutputView → SignOutcome
 gpg_signed program it =
     cond it.success
     (cond (confirms it.stderr) (signature (without_returns it.stdout)) not_confirmed)
     (program_failed program it.stderr)
 
 -- the signature in the file that an SSH program wrote, if it wrote one
-abbrev pub written_signature : Option (List ℕ) → Signed
+abbrev pub written_signature : Option (List ℕ) → SignOutcome
 written_signature (Some bytes) = signature (without_returns bytes)
 written_signature None = without_signature
 
 -- the outcome of an SSH program's output: it has to succeed and to write a signature file
-abbrev pub ssh_signed : List ℕ → OutputView → Signed
+abbrev pub ssh_signed : List ℕ → OutputView → SignOutcome
 ssh_signed program it = cond it.success (written_signature it.result) (program_failed program it.stderr)
 
 -- the rest of the plan after the answer of a signing program
-abbrev pub on_signer : (OutputView → Signed) → Answer → Plan Signed
+abbrev pub on_signer : (OutputView → SignOutcome) → Answer → Plan SignOutcome
 on_signer signed (ran it) = done (signed it)
 on_signer signed (failed why) = done (not_run (sign_fails why))
 on_signer signed no_memory = no_more
 
 -- the plan of an OpenPGP or X.509 program: one call
-abbrev pub gpg_plan : SignOptionsView → List ℕ → Plan Signed
+abbrev pub gpg_plan : SignOptionsView → List ℕ → Plan SignOutcome
 gpg_plan it payload = run_then (gpg_call it payload) (on_signer (gpg_signed it.program))
 
 -- the plan of an SSH program: one call
-abbrev pub ssh_plan : SignOptionsView → List ℕ → Plan Signed
+abbrev pub ssh_plan : SignOptionsView → List ℕ → Plan SignOutcome
 ssh_plan it payload = run_then (ssh_call it payload) (on_signer (ssh_signed it.program))
 
 -- the plan by the format of the signature
-abbrev pub by_format : Format → SignOptionsView → List ℕ → Plan Signed
+abbrev pub by_format : Format → SignOptionsView → List ℕ → Plan SignOutcome
 by_format format.OpenPgp it payload = gpg_plan it payload
 by_format format.X509 it payload = gpg_plan it payload
 by_format format.Ssh it payload = ssh_plan it payload
 
 -- the plan by the key: without a byte in it, no call
-abbrev pub with_key : List ℕ → SignOptionsView → List ℕ → Plan Signed
+abbrev pub with_key : List ℕ → SignOptionsView → List ℕ → Plan SignOutcome
 with_key [] it payload = done without_key
 with_key (byte ∷ rest) it payload = by_format it.format it payload
 
 -- the plan of signing: no call for an empty key, else one call by the format
-abbrev pub sign_plan : SignOptionsView → List ℕ → Plan Signed
+abbrev pub sign_plan : SignOptionsView → List ℕ → Plan SignOutcome
 sign_plan it payload = with_key it.key it payload
 
 -- ---- results of calls
 
 -- the outcome that an error reports, or none if memory ran out
-abbrev pub signer_error : Error → Option Signed
-signer_error (sign.Decode error) = Some (not_owned error)
-signer_error (sign.Encode error) = Some (not_written error)
+abbrev pub signer_error : Error → Option SignOutcome
+signer_error (sign.Decode error) = Some (copy_failed error)
+signer_error (sign.Encode error) = Some (encode_failed error)
 signer_error sign.MissingSigningKey = Some without_key
 signer_error (sign.TemporaryFile why) = Some (not_run (no_file (bstring_bytes why)))
 signer_error (sign.Spawn why) = Some (not_run (not_spawned (bstring_bytes why)))
@@ -182,17 +182,17 @@ signer_error sign.MissingSshSignature = Some without_signature
 signer_error sign.OutOfMemory = None
 
 -- the outcome that a result reports, or none if memory ran out
-abbrev pub sign_view : Result BString Error → Option Signed
+abbrev pub sign_view : Result BString Error → Option SignOutcome
 sign_view (Ok it) = Some (signature (bstring_bytes it))
 sign_view (Err error) = signer_error error
 
 -- the result is that of this plan between these states of the runner; if memory ran out, a prefix of its calls was made
-abbrev pub Signs : {S : Type 0} → (S → CallView → Answer → S → Type 0) → Plan Signed → S → Result BString Error → S
+abbrev pub Signs : {S : Type 0} → (S → CallView → Answer → S → Type 0) → Plan SignOutcome → S → Result BString Error → S
     → Type 0
 Signs runs plan old result new = IsCarriedOut runs plan old (sign_view result) new
 
 -- the outcome of an answer without output, or none if memory ran out
-abbrev pub not_run_view : Answer → Option Signed
+abbrev pub not_run_view : Answer → Option SignOutcome
 not_run_view (ran it) = None
 not_run_view (failed why) = Some (not_run (sign_fails why))
 not_run_view no_memory = None

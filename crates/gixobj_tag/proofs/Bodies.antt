@@ -7,7 +7,7 @@ use Rattle.std.proofs.lemmas.List.{take_rest}
 use Rattle.gixobj_text.proofs.MarkerPlaces.{no_marker_and_marker_place, marker_place_unique}
 use Rattle.gixobj_text.specs.Markers.{HasNoMarker, IsMarkerPlace, StartsLine}
 use Rattle.gixobj_text.specs.declared.signature.Format.{Format}
-use Rattle.gixobj_tag.specs.TagFormat.{HasNoBody, IsBody, IsParted, are_newlines, after_a_newline, newlines_alone, signed, signed_at_once, unsigned}
+use Rattle.gixobj_tag.specs.TagFormat.{IsMalformedBody, IsBody, IsParted, are_newlines, after_a_newline, newlines_alone, signed, signed_at_once, unsigned}
 
 -- ---- bytes split at their marker
 
@@ -109,6 +109,6 @@ is_body_after_newline body bytes message signature more joined parted =
     let after : IsFalse (are_newlines (10 ∷ bytes)) = subst (λ (it : List ℕ). IsFalse (are_newlines it)) joined more in
     after_a_newline body bytes message signature joined after parted
 
-pub no_body_of_other_byte : (body : List ℕ) → IsFalse (are_newlines body) → ((rest : List ℕ) → body ≢ 10 ∷ rest) → HasNoBody body
+pub no_body_of_other_byte : (body : List ℕ) → IsFalse (are_newlines body) → ((rest : List ℕ) → body ≢ 10 ∷ rest) → IsMalformedBody body
 no_body_of_other_byte body more other message signature (newlines_alone _ are) = true≢false (sym are ∙ more)
 no_body_of_other_byte body more other message signature (after_a_newline _ bytes _ _ joined after parted) = other bytes joined

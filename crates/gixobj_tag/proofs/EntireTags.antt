@@ -13,8 +13,8 @@ use Rattle.gixobj_hash.specs.declared.kind.Kind.{Kind}
 use Rattle.gixobj_hash.specs.declared.kind.Kind.TheVariants as object
 use Rattle.gixobj_tag.proofs.Bodies.{body_unique}
 use Rattle.gixobj_line.proofs.TagLines.{tagger_unique}
-use Rattle.gixobj_line.specs.TagLines.{HasName, HasNoName, HasNoTagger, HasTagger}
-use Rattle.gixobj_tag.specs.TagFormat.{HasNoBody, IsBody, IsMalformedTag, DecodesToTag, IsTaggerLine, TagLines, are_newlines, after_a_newline, newlines_alone, encode_tagger}
+use Rattle.gixobj_line.specs.TagLines.{HasName, HasNoName, HasMalformedTagger, HasTagger}
+use Rattle.gixobj_tag.specs.TagFormat.{IsMalformedBody, IsBody, IsMalformedTag, DecodesToTag, IsTaggerLine, TagLines, are_newlines, after_a_newline, newlines_alone, encode_tagger}
 use Rattle.gixobj_hash.proofs.Splits.{byte_free_of_all_pass}
 use Rattle.gixobj_hash.specs.ByteStrings.{IsByteFree}
 
@@ -153,7 +153,7 @@ tag_name_unique kind bytes hex after token following name rest tag has typed nam
     field_unique (codes "tag") following tag.name reads.after_name name rest there.0 named.0
 
 pub malformed_without_tagger : (kind : hash.Kind) (bytes hex after token following name rest : List ℕ) → HasId (codes "object") kind bytes hex after
-    → HasField (codes "type") after token following → HasName following name rest → HasNoTagger rest
+    → HasField (codes "type") after token following → HasName following name rest → HasMalformedTagger rest
     → IsMalformedTag kind bytes
 malformed_without_tagger kind bytes hex after token following name rest has typed named none tag is =
     let reads = parts_of_decoded_tag kind bytes tag is in
@@ -162,7 +162,7 @@ malformed_without_tagger kind bytes hex after token following name rest has type
 
 pub malformed_without_body : (kind : hash.Kind) (bytes hex after token following name rest : List ℕ) (tagger : Option (List ℕ)) (body : List ℕ)
     → HasId (codes "object") kind bytes hex after → HasField (codes "type") after token following
-    → HasName following name rest → HasTagger rest tagger body → HasNoBody body → IsMalformedTag kind bytes
+    → HasName following name rest → HasTagger rest tagger body → IsMalformedBody body → IsMalformedTag kind bytes
 malformed_without_body kind bytes hex after token following name rest tagger body has typed named tagged none tag is =
     let reads = parts_of_decoded_tag kind bytes tag is in
     let here = (tag_name_unique kind bytes hex after token following name rest tag has typed named reads).1 in

@@ -2,7 +2,7 @@
 use Rattle.std.proofs.Common.{◌≡◌, ◌∙◌, ap, inl, inr, subst, sym, refl, IfErr, IfOk, List, [], ◌∷◌, ◌++◌, ℕ, Some, Result, Ok, Err}
 use Rattle.gixobj_fields.specs.Writing.{RejectsNothing}
 use Rattle.gixobj_signature.specs.Calls.{Answer, CallView}
-use Rattle.gixobj_signature.specs.Plans.{Carries, IsCarriedOut}
+use Rattle.gixobj_signature.specs.Plans.{CarriesOut, IsCarriedOut}
 use Rattle.gixobj_signature.specs.Signing.{sign_options_view, sign_plan, signature, signer_error}
 use Rattle.gixobj_signature.specs.declared.signature.sign.Error.{Error}
 use Rattle.gixobj_signature.specs.declared.signature.sign.Options.{Options}
@@ -37,7 +37,7 @@ pub is_signed_tag_of_signature : {S : Type 0} (runs : S → CallView → Answer 
     → IfOk result (GetsTagSignature runs options payload without old new) → IfOk result (IsSignedTag runs options tag old new)
 is_signed_tag_of_signature runs options tag without same payload content writable old new (Ok it) (bytes, went, lines) = record {
   bytes = bytes;
-  called = subst (λ (signs : List ℕ). Carries runs (sign_plan (sign_options_view options) signs) old (signature bytes) new)
+  called = subst (λ (signs : List ℕ). CarriesOut runs (sign_plan (sign_options_view options) signs) old (signature bytes) new)
       (content ∙ ap (λ (of : Tag). encode_tag (owned_tag_lines of) ++ newline ∷ []) same) went;
   lines = lines ∙ ap (λ (of : Tag). signed_as (Some bytes) (owned_tag_lines of)) same;
   writable = subst (λ (of : Tag). RejectsNothing (IsOwnedTagError of)) same writable;

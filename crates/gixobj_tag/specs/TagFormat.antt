@@ -54,8 +54,8 @@ pub data IsBody : List ℕ → List ℕ → Option (List ℕ) → Type 0 where
       → IsBody body message signature
 
 -- the bytes are no body: they do not begin with a newline, and are not empty
-abbrev pub HasNoBody : List ℕ → Type 0
-HasNoBody body = (message : List ℕ) (signature : Option (List ℕ)) → ¬ IsBody body message signature
+abbrev pub IsMalformedBody : List ℕ → Type 0
+IsMalformedBody body = (message : List ℕ) (signature : Option (List ℕ)) → ¬ IsBody body message signature
 
 -- ---- tags
 

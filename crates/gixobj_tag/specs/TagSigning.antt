@@ -4,7 +4,7 @@ use Rattle.gixobj_fields.specs.Writing.{IsEncodingError, RejectsNothing}
 use Rattle.gixobj_fields.specs.declared.encode.Error as encode
 use Rattle.gixobj_hash.specs.declared.decode.Error as decode
 use Rattle.gixobj_signature.specs.Calls.{Answer, CallView}
-use Rattle.gixobj_signature.specs.Plans.{Carries, IsCarriedOut}
+use Rattle.gixobj_signature.specs.Plans.{CarriesOut, IsCarriedOut}
 use Rattle.gixobj_signature.specs.Signing.{sign_options_view, sign_plan, signature, signer_error}
 use Rattle.gixobj_signature.specs.declared.signature.sign.Error.{Error}
 use Rattle.gixobj_signature.specs.declared.signature.sign.Error.TheVariants as sign
@@ -32,14 +32,14 @@ payload_of_tag tag = encode_tag (signed_as None tag) ++ newline ∷ []
 abbrev pub GetsTagSignature : {S : Type 0} → (S → CallView → Answer → S → Type 0) → Options → List ℕ → Tag → S → S → Tag
     → Type 0
 GetsTagSignature runs options payload tag old new signed =
-    (bytes : List ℕ) × Carries runs (sign_plan (sign_options_view options) payload) old (signature bytes) new
+    (bytes : List ℕ) × CarriesOut runs (sign_plan (sign_options_view options) payload) old (signature bytes) new
     × (owned_tag_lines signed ≡ signed_as (Some bytes) (owned_tag_lines tag))
 
 -- no value of the tag is rejected; the plan for its payload led to a signature, and the tag has it
 pub record IsSignedTag {S : Type 0} (runs : S → CallView → Answer → S → Type 0) (options : Options) (tag : Tag)
     (old new : S) (signed : Tag) : Type 0 where
   pub bytes : List ℕ
-  pub called : Carries runs (sign_plan (sign_options_view options) (payload_of_tag (owned_tag_lines tag))) old
+  pub called : CarriesOut runs (sign_plan (sign_options_view options) (payload_of_tag (owned_tag_lines tag))) old
       (signature bytes) new
   pub lines : owned_tag_lines signed ≡ signed_as (Some bytes) (owned_tag_lines tag)
   pub writable : RejectsNothing (IsOwnedTagError tag)

@@ -9,7 +9,7 @@ use Rattle.bstr.specs.Find.{IsFirstByte, is_byte}
 use Rattle.bstr.specs.Owned.{joined}
 use Rattle.bstr.specs.Trim.{trim_end_by}
 use Rattle.gixobj_text.specs.Summing.{has_more, is_multiline, summary_of_rest}
-use Rattle.gixobj_text.specs.Titles.{before_empty, each_without, is_empty_piece, is_trailing_space, prepended_to_first, pieces_of, has_empty_piece, summary_of, summary_of_pieces, without_trailing}
+use Rattle.gixobj_text.specs.Titles.{before_empty, without_trailing_but_last, is_empty_piece, is_trailing_space, prepended_to_first, pieces_of, has_empty_piece, summary_of, summary_of_pieces, without_trailing}
 use Rattle.gixobj_hash.specs.ByteStrings.{trimmed}
 
 abbrev Pieces : Type 0
@@ -116,7 +116,7 @@ both_ways false x y z w one two = two
 
 after_is : (out piece : List ℕ) (pieces : Pieces) → summary_of_rest out (piece ∷ pieces)
     ≡ cond (has_empty_piece (piece ∷ pieces)) (trim (out ++ spaced (map without_trailing (before_empty (piece ∷ pieces)))))
-    (out ++ spaced (each_without (piece ∷ pieces)))
+    (out ++ spaced (without_trailing_but_last (piece ∷ pieces)))
 after_is out [] [] = ap trim (sym (append-nil out))
 after_is out [] (next ∷ pieces) = ap trim (sym (append-nil out))
 after_is out (byte ∷ piece) [] = ap (λ (bytes : List ℕ). out ++ bytes) (sym (append-nil (32 ∷ byte ∷ piece)))
@@ -124,7 +124,7 @@ after_is out (byte ∷ piece) (next ∷ pieces) =
     after_is (out ++ 32 ∷ without_trailing (byte ∷ piece)) next pieces
     ∙ both_ways (has_empty_piece (next ∷ pieces)) _ _ _ _
     (ap trim (append_assoc out (32 ∷ without_trailing (byte ∷ piece)) (spaced (map without_trailing (before_empty (next ∷ pieces))))))
-    (append_assoc out (32 ∷ without_trailing (byte ∷ piece)) (spaced (each_without (next ∷ pieces))))
+    (append_assoc out (32 ∷ without_trailing (byte ∷ piece)) (spaced (without_trailing_but_last (next ∷ pieces))))
 
 begins_by : (first : List ℕ) (pieces : Pieces) → pieces ≢ [] → summary_of_rest (without_trailing first) pieces ≡ summary_of_pieces (first ∷ pieces)
 begins_by first [] some = absurd (some refl)

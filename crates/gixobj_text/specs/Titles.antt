@@ -73,19 +73,19 @@ before_empty [] = []
 before_empty (piece ∷ pieces) = cond (is_empty_piece piece) [] (piece ∷ before_empty pieces)
 
 -- each piece without the ASCII white space at its end; the last piece of all is unchanged
-abbrev pub each_without : List (List ℕ) → List (List ℕ)
-each_without [] = []
-each_without (piece ∷ []) = piece ∷ []
-each_without (piece ∷ next ∷ pieces) = without_trailing piece ∷ each_without (next ∷ pieces)
+abbrev pub without_trailing_but_last : List (List ℕ) → List (List ℕ)
+without_trailing_but_last [] = []
+without_trailing_but_last (piece ∷ []) = piece ∷ []
+without_trailing_but_last (piece ∷ next ∷ pieces) = without_trailing piece ∷ without_trailing_but_last (next ∷ pieces)
 
--- `each_without` of the pieces, joined by spaces; or, if a piece after the first is empty, the pieces before it, joined
--- by spaces and trimmed at the end
+-- `without_trailing_but_last` of the pieces, joined by spaces; or, if a piece after the first is empty, the pieces
+-- before it, joined by spaces and trimmed at the end
 abbrev pub summary_of_pieces : List (List ℕ) → List ℕ
 summary_of_pieces [] = []
 summary_of_pieces (first ∷ pieces) =
     cond (has_empty_piece pieces)
     (trim_end_by is_whitespace (joined (space ∷ []) (map without_trailing (first ∷ before_empty pieces))))
-    (joined (space ∷ []) (each_without (first ∷ pieces)))
+    (joined (space ∷ []) (without_trailing_but_last (first ∷ pieces)))
 
 -- the summary of the trimmed bytes
 abbrev pub summary_of : List ℕ → List ℕ

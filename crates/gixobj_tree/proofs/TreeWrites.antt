@@ -45,7 +45,7 @@ bytes_at items i e h is = ap encode_tree (take_cons_drop items i e h is) ∙ fla
 pub no_error_of_written_tree : (items : List EntryView) (value : RejectedValue) (parts : List ℕ) → AreFree items → IsTreeEncodeError items value parts → ⊥
 no_error_of_written_tree items value parts free r =
     let has : Contains items r.entry =
-    rw (r.joined) (Contains-append_right r.prefix (r.entry ∷ r.back) r.entry (Contains-get_or (r.entry ∷ r.back) 0 r.entry (omega arith))) in
+    rw (r.joined) (Contains-append_right r.prefix (r.entry ∷ r.rest) r.entry (Contains-get_or (r.entry ∷ r.rest) 0 r.entry (omega arith))) in
     All-contains (λ (it : ℕ). it ≡ 0 → ⊥) r.entry.name 0 (All-contains (λ (x : EntryView). IsByteFree 0 x.name) items r.entry free has)
     r.rejected.0 refl
 
@@ -67,10 +67,10 @@ writing_error_at_entry a b c items i e h is write_bytes free why says =
     (λ value parts r. record {
       prefix = take i items;
       entry = e;
-      back = drop (i + 1) items;
-      begun = parts;
+      rest = drop (i + 1) items;
+      partial = parts;
       joined = take_cons_drop items i e h is;
-      free = free;
+      no_zero_byte = free;
       rejected = r;
       written = refl;
     })
@@ -92,8 +92,13 @@ splits_at_or_after (f ∷ first) rest (p ∷ prefix) back e entry same free has 
     let here : f ≡ p = cc same in
     let following : first ++ e ∷ rest ≡ prefix ++ entry ∷ back = cc same in
     ⊎_elim (λ it. inl (ap (λ (xs : List EntryView). p ∷ xs) it.0 ∙ ap (λ (x : EntryView). x ∷ first) (sym here), it.1))
-    (λ later. inr (omega (arith, later, ap (λ (x : EntryView). length (encode_entry x)) here, length-append (encode_entry f) (encode_tree first),
-    length-append (encode_entry p) (encode_tree prefix))))
+    (λ later. inr (omega (
+      arith,
+      later,
+      ap (λ (x : EntryView). length (encode_entry x)) here,
+      length-append (encode_entry f) (encode_tree first),
+      length-append (encode_entry p) (encode_tree prefix),
+    )))
     (splits_at_or_after first rest prefix back e entry following (All-tail (λ (x : EntryView). IsByteFree 0 x.name) f first free) has)
 
 -- the value that is rejected is of the entry after free entries, or comes after that entry
@@ -102,10 +107,13 @@ rejected_at_or_after : (items : List EntryView) (i : ℕ) (e : EntryView) → i 
     → ((begun : List ℕ) × IsEntryEncodeError e value begun × (parts ≡ encode_tree (take i items) ++ begun))
     ⊎ (length (encode_tree (take i items)) + length (encode_entry e) ≤ length parts)
 rejected_at_or_after items i e h is free value parts r =
-    ⊎_elim (λ it. inl (r.begun, subst (λ (x : EntryView). IsEntryEncodeError x value r.begun) it.1 r.rejected,
-    r.written ∙ ap (λ (xs : List EntryView). encode_tree xs ++ r.begun) it.0))
+    ⊎_elim (λ it. inl (
+      r.begun,
+      subst (λ (x : EntryView). IsEntryEncodeError x value r.begun) it.1 r.rejected,
+      r.written ∙ ap (λ (xs : List EntryView). encode_tree xs ++ r.begun) it.0,
+    ))
     (λ later. inr (omega (arith, later, ap length r.written, length-append (encode_tree r.prefix) r.begun)))
-    (splits_at_or_after (take i items) (drop (i + 1) items) r.prefix r.back e r.entry (sym (take_cons_drop items i e h is) ∙ r.joined) free r.rejected.0)
+    (splits_at_or_after (take i items) (drop (i + 1) items) r.prefix r.rest e r.entry (sym (take_cons_drop items i e h is) ∙ r.joined) free r.rejected.0)
 
 -- an entry for which a sink lacks room, after accepted entries, is one of a tree for which it lacks room
 pub lacks_room_at_entry : (a b c : SinkView) (items : List EntryView) (i : ℕ) (e : EntryView) → i < length items → e ≡ get_or items i e

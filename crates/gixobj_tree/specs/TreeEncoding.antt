@@ -40,12 +40,12 @@ IsEntryEncodeError e value parts = Contains e.name 0 × (value ≡ name_with_zer
 pub record IsTreeEncodeError (entries : List EntryView) (value : RejectedValue) (parts : List ℕ) : Type 0 where
   pub prefix : List EntryView
   pub entry : EntryView
-  pub back : List EntryView
-  pub begun : List ℕ
-  pub joined : entries ≡ prefix ++ entry ∷ back
-  pub free : All (λ e. IsByteFree 0 e.name) prefix
-  pub rejected : IsEntryEncodeError entry value begun
-  pub written : parts ≡ encode_tree prefix ++ begun
+  pub rest : List EntryView
+  pub partial : List ℕ
+  pub joined : entries ≡ prefix ++ entry ∷ rest
+  pub no_zero_byte : All (λ e. IsByteFree 0 e.name) prefix
+  pub rejected : IsEntryEncodeError entry value partial
+  pub written : parts ≡ encode_tree prefix ++ partial
 
 -- no name of the tree is rejected
 abbrev pub IsEncodableTree : List EntryView → Type 0

@@ -15,11 +15,11 @@ ghost use Rattle.gixobj_files.specs.Emission.{EmitsSome};
 ghost use Rattle.gixobj_files.specs.Bases.{opened_bases};
 ghost use Rattle.gixobj_files.specs.Opening.{IsOpened, in_path};
 ghost use Rattle.gixobj_files.specs.State.{open_bases, open_dirs};
-ghost use Rattle.gixobj_files.specs.Unopened.{inside};
+ghost use Rattle.gixobj_files.specs.Unopened.{in_directory};
 ghost use Rattle.gixobj_store.specs.Stores.{store_model};
 ghost use Rattle.gixobj_mode.specs.Mode.{mode_of_kind};
 
-use super::names::{check_names, copy_names, join_paths};
+use super::names::{copy_names, join_paths, validate_names};
 use super::{Editor, Error, WriteError, Written};
 use bstr::BString;
 use gixobj_directories::opening::NotLookedUp;
@@ -140,7 +140,8 @@ impl<S: Find> Editor<S> {
         ensures ensured { OnOk result (OfTrees (S.objects self.old.store)
             (λ trees. IsEnsured trees self.old (cursor_path (names_of path.now)) self.new)) }
         ensures after_error { OnErr result (OfTrees (S.objects self.old.store)
-            (λ trees. IsAfterFailedEdit trees self.old (inside (cursor_path (names_of path.now))) self.new)) }
+            (λ trees. IsAfterFailedEdit trees self.old
+            (in_directory (cursor_path (names_of path.now))) self.new)) }
         ensures error { IfErr result (IsErrorIn (store_model S.objects S.may_fail) self.old
             IsCursorError (cursor_path (names_of path.now))) }
         ensures not_looked_up { IfErr result (λ error. IsNameError error → self.new ≡ self.old) }
@@ -155,13 +156,14 @@ impl<S: Find> Editor<S> {
         ensures prefix { OnOk result (self.new.prefix ≡ names_of path.now) }
         ensures is_open { OnOk result (open_dirs self.new self.new.prefix ≢ None) }
         ensures after_error { OnErr result (OfTrees (S.objects self.old.store)
-            (λ trees. IsAfterFailedEdit trees self.old (inside (names_of path.now)) self.new)) }
+            (λ trees. IsAfterFailedEdit trees self.old
+            (in_directory (names_of path.now)) self.new)) }
         ensures error { IfErr result (IsErrorIn (store_model S.objects S.may_fail) self.old
             IsCursorError (names_of path.now)) }
         ensures not_looked_up { IfErr result (λ error. IsNameError error → self.new ≡ self.old) }
     {
         let alloc = *self.prefix.allocator();
-        check_names(path)?;
+        validate_names(path)?;
         let null = ObjectId::null(self.object_hash);
         self.root.open_along(
             alloc,

@@ -4,7 +4,7 @@ ghost use Rattle.bstr.specs.Owned.{bstring_bytes};
 ghost use Rattle.gixobj_tree.specs.Entries.{IsEntryName};
 ghost use Rattle.gixobj_directories.specs.Calls.{AreNames, names_of};
 ghost use Rattle.gixobj_editor.specs.Cursors.{from_root};
-ghost use Rattle.gixobj_editor.specs.Upserts.{IsValidated, IsEntryNameError, IsFirstNameError, StartsInvalid, directory_of};
+ghost use Rattle.gixobj_editor.specs.Upserts.{SplitsAtFirstInvalid, IsEntryNameError, IsFirstNameError, StartsInvalid, directory_of};
 
 use crate::editor::error::Error;
 use bstr::BString;
@@ -13,8 +13,9 @@ use std::alloc::{AllocError, Global};
 
 /// Splits a path into the directories that a removal may open, by valid names, and the names from the first
 /// invalid one on.
-pub(crate) fn validated(path: &[BString]) -> (&[BString], &[BString])
-    ensures { IsValidated (names_of path.now) (names_of result.0.now) (names_of result.1.now) }
+pub(crate) fn split_at_first_invalid(path: &[BString]) -> (&[BString], &[BString])
+    ensures { SplitsAtFirstInvalid (names_of path.now) (names_of result.0.now)
+        (names_of result.1.now) }
 {
     let (names, rejected) = path.split_at(count_names(path));
     if rejected.is_empty() {
@@ -42,7 +43,7 @@ fn count_names(path: &[BString]) -> usize
     let Some((name, rest)) = path.split_first() else {
         return 0;
     };
-    if check_name(name).is_err() {
+    if validate_name(name).is_err() {
         return 0;
     }
     1 + count_names(rest)
@@ -87,19 +88,19 @@ fn push_names(alloc: Global, names: &mut Vec<BString>, path: &[BString]) -> Resu
 }
 
 /// Rejects the first invalid name.
-pub(crate) fn check_names(path: &[BString]) -> Result<(), Error>
+pub(crate) fn validate_names(path: &[BString]) -> Result<(), Error>
     ensures accepted { OnOk result (AreNames (names_of path.now)) }
     ensures error { IfErr result (IsFirstNameError (names_of path.now)) }
 {
     let Some((name, rest)) = path.split_first() else {
         return Ok(());
     };
-    check_name(name)?;
-    check_names(rest)
+    validate_name(name)?;
+    validate_names(rest)
 }
 
 /// Rejects a name that is empty or contains a `/`.
-fn check_name(name: &BString) -> Result<(), Error>
+fn validate_name(name: &BString) -> Result<(), Error>
     ensures accepted { OnOk result (IsEntryName (bstring_bytes name.now)) }
     ensures error { IfErr result (IsEntryNameError (bstring_bytes name.now)) }
 {

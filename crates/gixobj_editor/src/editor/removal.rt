@@ -16,7 +16,7 @@ ghost use Rattle.gixobj_editor.specs.Upserts.{OpensInPart, IsFirstNameError, dir
 ghost use Rattle.gixobj_editor.specs.Removals.{ValidatesUpTo, IsLeafDirectoryError, IsRemovalError};
 
 use crate::editor::error::Error;
-use crate::editor::names::{check_names, validated};
+use crate::editor::names::{split_at_first_invalid, validate_names};
 use bstr::BString;
 use gixobj_directories::open::Open;
 use gixobj_directories::opening::NotLookedUp;
@@ -33,9 +33,9 @@ pub(crate) fn open_for_removal<S: Find>(
     lookups: &mut u64,
 ) -> Result<(), Error>
     ensures opened { OnOk result (OfTrees (S.objects store.now)
-        (λ trees. (requested : List ObjectId)
+        (λ trees. (looked_up : List ObjectId)
         × Opens (EndsBefore not_looked_up) trees (directory_of (names_of path.now)) (dirs_of root.old)
-        (dirs_of root.new) requested × (lookups.new ≡ counted lookups.old requested)
+        (dirs_of root.new) looked_up × (lookups.new ≡ counted lookups.old looked_up)
         × ((name : List _) → ValidatesUpTo (EndsBefore not_looked_up) trees (dirs_of root.old)
         (names_of path.now) name → IsEntryName name))) }
     ensures after_error { IfErr result (λ error.
@@ -48,7 +48,7 @@ pub(crate) fn open_for_removal<S: Find>(
     ensures bases { (at : Path) → bases_of root.new at
         ≡ opened_bases (dirs_of root.old) (dirs_of root.new) (bases_of root.old) at }
 {
-    let (directory, rejected) = validated(path);
+    let (directory, rejected) = split_at_first_invalid(path);
     root.open_along(alloc, directory, not_looked_up, store, lookups)?;
     check_reached(root, directory, rejected)
 }
@@ -64,7 +64,7 @@ fn check_reached(root: &Open, directory: &[BString], names: &[BString]) -> Resul
     let Some(_reached) = root.tree(directory) else {
         return Ok(());
     };
-    check_names(names)
+    validate_names(names)
 }
 
 /// Rejects a path that leads to a directory.

@@ -8,7 +8,7 @@ ghost use Rattle.gixobj_script.specs.Edits.{memory_model};
 ghost use Rattle.gixobj_files.specs.Files.{Table};
 ghost use Rattle.gixobj_files.specs.State.{State};
 ghost use Rattle.gixobj_hash.specs.declared.hash.kind.Kind.{Kind};
-ghost use Rattle.gixobj_editor.specs.Commands.{emitted_pairs, pairs_kept};
+ghost use Rattle.gixobj_editor.specs.Commands.{emitted_pairs, kept_pairs};
 ghost use Rattle.gixobj_editor.specs.Replies.{IsRun};
 ghost use Rattle.gixobj_editor.specs.RunTables.{AgreesWithRun};
 ghost use Rattle.gixobj_keep.specs.Memory.{memory_objects};
@@ -28,7 +28,7 @@ pub fn digest_run_has_table(replies: &[Reply<encode::Error>])
         → memory_objects before.store ≡ finite.empty
         → IsRun memory_model (IsAnsweredDigest hash) before commands replies.now after
         → HaveDistinctIds hash (emitted_pairs replies.now)
-        → All (λ pair. All (RoundTrips hash) pair.1) (pairs_kept replies.now) → (T : Table)
+        → All (λ pair. All (RoundTrips hash) pair.1) (kept_pairs replies.now) → (T : Table)
         × AgreesWithRun T (memory_objects before.store) replies.now }
 {
     consistent_run_has_table(replies);

@@ -4,7 +4,7 @@ ghost use Rattle.bstr.specs.BStr.{bstr_bytes};
 ghost use Rattle.gixobj_hash.specs.Hash.{IsIdHex};
 ghost use Rattle.gixobj_hash.specs.declared.decode.Error.TheVariants.{Malformed};
 ghost use Rattle.gixobj_line.specs.TagLineViews.{line_if_some};
-ghost use Rattle.gixobj_tag.specs.TagFormat.{HasNoBody, IsBody, IsMalformedTag, IsParted, DecodesToTag, are_newlines as are_newlines_of};
+ghost use Rattle.gixobj_tag.specs.TagFormat.{IsMalformedBody, IsBody, IsMalformedTag, IsParted, DecodesToTag, are_newlines as are_newlines_of};
 ghost use Rattle.gixobj_tag.specs.TagViews.{tag_lines};
 ghost use Rattle.gixobj_hash.specs.Bytes.{newline};
 ghost use Rattle.gixobj_hash.specs.Optional.{bytes_if_some};
@@ -86,7 +86,7 @@ fn line_of(tagger: Option<TaggerLine<'_>>) -> Option<BStr<'_>>
 #[tactic(auto, using(crate::proofs::Bodies::is_body_of_newlines, crate::proofs::Bodies::is_body_after_newline, crate::proofs::Bodies::no_body_of_other_byte))]
 pub fn body(input: &[u8]) -> Option<(BStr<'_>, Option<BStr<'_>>)>
     ensures found { IfSome result (λ it. IsBody input.now (bstr_bytes it.0) (bytes_if_some it.1)) }
-    ensures none { IfNone result (HasNoBody input.now) }
+    ensures none { IfNone result (IsMalformedBody input.now) }
 {
     if are_newlines(input) {
         return Some((BStr::new(input), None));

@@ -8,18 +8,18 @@ use Rattle.gix_object.specs.Cursors.{cursor_path}
 
 pub returns-clause-inserted : goal.returns-clause-inserted
 returns-clause-inserted g c =
-    let means : StoreModel g.row.S.Denot = record { objects = g.S.Store.objects; may_fail = g.S.Store.may_fail } in
+    let model : StoreModel g.row.S.Denot = record { objects = g.S.Store.objects; may_fail = g.S.Store.may_fail } in
     let cursor = c.in_ok-cursor.ensures {u = tt} in
     let made = c.in_ok-cursor.cursor.editor.now in
     let last = c.insert_entries.new.cursor.editor.now in
     let is_remaining : c.editor-2-1.given.0 ≡ last = search rules in
-    filled_after means made.prefix c.insert_entries.result c.args.editor.now made last c.editor-2-1.given.0
+    filled_after model made.prefix c.insert_entries.result c.args.editor.now made last c.editor-2-1.given.0
     (cursor_path (names_of c.args.prefix.now)) c.args.entries.now is_remaining cursor.prefix cursor.ensured c.insert_entries.ensures.inserted
 
 pub returns-clause-error : goal.returns-clause-error
 returns-clause-error g c =
-    let means : StoreModel g.row.S.Denot = record { objects = g.S.Store.objects; may_fail = g.S.Store.may_fail } in
+    let model : StoreModel g.row.S.Denot = record { objects = g.S.Store.objects; may_fail = g.S.Store.may_fail } in
     let cursor = c.in_ok-cursor.ensures {u = tt} in
     let made = c.in_ok-cursor.cursor.editor.now in
-    rejected_in means made.prefix c.insert_entries.result c.args.editor.now made (cursor_path (names_of c.args.prefix.now)) c.args.entries.now cursor.prefix
+    rejected_in model made.prefix c.insert_entries.result c.args.editor.now made (cursor_path (names_of c.args.prefix.now)) c.args.entries.now cursor.prefix
     cursor.ensured c.insert_entries.ensures.error

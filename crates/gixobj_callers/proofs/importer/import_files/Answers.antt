@@ -9,35 +9,35 @@ use Rattle.gix_object.specs.Stores.{StoreModel}
 
 pub returns-in-Written-clause-root : goal.returns-in-Written-clause-root
 returns-in-Written-clause-root g c =
-    let means : StoreModel g.row.S.Denot = record { objects = g.S.Store.objects; may_fail = g.S.Store.may_fail } in
+    let model : StoreModel g.row.S.Denot = record { objects = g.S.Store.objects; may_fail = g.S.Store.may_fail } in
     let answers = λ (tree : List EntryView) (answer : Result ObjectId g.row.E.Denot). FnReturnsAt g.F.Fn c.args.out tree answer in
-    let written = write_done means answers c.store_has_tree_map.ensures c.args.editor.now c.deciding_reply.new.editor c.args.edits.items c.in_ok-index.index
+    let written = write_done model answers c.store_has_tree_map.ensures c.args.editor.now c.deciding_reply.new.editor c.args.edits.items c.in_ok-index.index
     c.in_ok-index.reply c.in-Written.written (c.in_ok-index.ensures {u = tt}).decides c.in-Written.is in
-    λ T n agrees pairs has. named_files means answers c.store_has_tree_map.ensures T n c.args.editor.now c.deciding_reply.new.editor c.args.edits.items
+    λ T n agrees pairs has. named_files model answers c.store_has_tree_map.ensures T n c.args.editor.now c.deciding_reply.new.editor c.args.edits.items
     c.in-Written.written written agrees pairs has
 
 pub returns-in-Written-clause-continues : goal.returns-in-Written-clause-continues
 returns-in-Written-clause-continues g c =
-    let means : StoreModel g.row.S.Denot = record { objects = g.S.Store.objects; may_fail = g.S.Store.may_fail } in
+    let model : StoreModel g.row.S.Denot = record { objects = g.S.Store.objects; may_fail = g.S.Store.may_fail } in
     let answers = λ (tree : List EntryView) (answer : Result ObjectId g.row.E.Denot). FnReturnsAt g.F.Fn c.args.out tree answer in
-    let written = write_done means answers c.store_has_tree_map.ensures c.args.editor.now c.deciding_reply.new.editor c.args.edits.items c.in_ok-index.index
+    let written = write_done model answers c.store_has_tree_map.ensures c.args.editor.now c.deciding_reply.new.editor c.args.edits.items c.in_ok-index.index
     c.in_ok-index.reply c.in-Written.written (c.in_ok-index.ensures {u = tt}).decides c.in-Written.is in
-    λ T n pairs. files_remaining means answers c.store_has_tree_map.ensures T n c.args.editor.now c.deciding_reply.new.editor c.args.edits.items
+    λ T n pairs. files_remaining model answers c.store_has_tree_map.ensures T n c.args.editor.now c.deciding_reply.new.editor c.args.edits.items
     c.in-Written.written written pairs
 
 pub returns-in-Written-clause-has_bases : goal.returns-in-Written-clause-has_bases
 returns-in-Written-clause-has_bases g c =
-    let means : StoreModel g.row.S.Denot = record { objects = g.S.Store.objects; may_fail = g.S.Store.may_fail } in
+    let model : StoreModel g.row.S.Denot = record { objects = g.S.Store.objects; may_fail = g.S.Store.may_fail } in
     let answers = λ (tree : List EntryView) (answer : Result ObjectId g.row.E.Denot). FnReturnsAt g.F.Fn c.args.out tree answer in
-    let written = write_done means answers c.store_has_tree_map.ensures c.args.editor.now c.deciding_reply.new.editor c.args.edits.items c.in_ok-index.index
+    let written = write_done model answers c.store_has_tree_map.ensures c.args.editor.now c.deciding_reply.new.editor c.args.edits.items c.in_ok-index.index
     c.in_ok-index.reply c.in-Written.written (c.in_ok-index.ensures {u = tt}).decides c.in-Written.is in
-    λ T. bases_remaining means answers c.store_has_tree_map.ensures T 0 c.args.editor.now c.deciding_reply.new.editor c.args.edits.items c.in-Written.written
+    λ T. bases_remaining model answers c.store_has_tree_map.ensures T 0 c.args.editor.now c.deciding_reply.new.editor c.args.edits.items c.in-Written.written
     written
 
 pub returns-in-Written-clause-stored : goal.returns-in-Written-clause-stored
 returns-in-Written-clause-stored g c =
-    let means : StoreModel g.row.S.Denot = record { objects = g.S.Store.objects; may_fail = g.S.Store.may_fail } in
+    let model : StoreModel g.row.S.Denot = record { objects = g.S.Store.objects; may_fail = g.S.Store.may_fail } in
     let answers = λ (tree : List EntryView) (answer : Result ObjectId g.row.E.Denot). FnReturnsAt g.F.Fn c.args.out tree answer in
-    let written = write_done means answers c.store_has_tree_map.ensures c.args.editor.now c.deciding_reply.new.editor c.args.edits.items c.in_ok-index.index
+    let written = write_done model answers c.store_has_tree_map.ensures c.args.editor.now c.deciding_reply.new.editor c.args.edits.items c.in_ok-index.index
     c.in_ok-index.reply c.in-Written.written (c.in_ok-index.ensures {u = tt}).decides c.in-Written.is in
-    all_kept means answers c.store_has_tree_map.ensures c.args.editor.now c.deciding_reply.new.editor c.args.edits.items c.in-Written.written written
+    all_kept model answers c.store_has_tree_map.ensures c.args.editor.now c.deciding_reply.new.editor c.args.edits.items c.in-Written.written written

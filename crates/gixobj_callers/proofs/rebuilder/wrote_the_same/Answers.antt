@@ -11,38 +11,38 @@ use Rattle.gix_object.specs.Stores.{StoreModel}
 
 pub returns-in-Err-clause-error : goal.returns-in-Err-clause-error
 returns-in-Err-clause-error g c =
-    let means : StoreModel g.row.S.Denot = record { objects = g.S.Store.objects; may_fail = g.S.Store.may_fail } in
+    let model : StoreModel g.row.S.Denot = record { objects = g.S.Store.objects; may_fail = g.S.Store.may_fail } in
     let answers = λ (tree : List EntryView) (answer : Result ObjectId g.row.E.Denot). FnReturnsAt g.F.Fn c.args.out tree answer in
     let new = c.new-editor.ensures in
     let begun = state_is_started c.new-editor.result c.args.store c.args.object_hash [] (new.dirs
     ∙ ap root_alone c.empty.ensures) new.bases new.store new.lookups
     new.object_hash new.prefix in
-    none_at_first means answers c.args.store c.args.object_hash c.args.commands.items c.new-editor.result c.run.new.editor c.in_ok-replies.replies.items
+    none_at_first model answers c.args.store c.args.object_hash c.args.commands.items c.new-editor.result c.run.new.editor c.in_ok-replies.replies.items
     c.deref.result.now c.args.place c.args.other c.in-Err.error begun
     (c.in_ok-replies.ensures {u = tt}).replies c.deref.ensures.value c.in-Err.ensures.error c.in-Err.ensures.none
 
 pub returns-in-Err-id_written-clause-error : goal.returns-in-Err-id_written-clause-error
 returns-in-Err-id_written-clause-error g c =
-    let means : StoreModel g.row.S.Denot = record { objects = g.S.Store.objects; may_fail = g.S.Store.may_fail } in
+    let model : StoreModel g.row.S.Denot = record { objects = g.S.Store.objects; may_fail = g.S.Store.may_fail } in
     let answers = λ (tree : List EntryView) (answer : Result ObjectId g.row.E.Denot). FnReturnsAt g.F.Fn c.args.out tree answer in
     let new = c.new-editor.ensures in
     let begun = state_is_started c.new-editor.result c.args.store c.args.object_hash [] (new.dirs
     ∙ ap root_alone c.empty.ensures) new.bases new.store new.lookups
     new.object_hash new.prefix in
-    none_at_second means answers c.args.store c.args.object_hash c.args.commands.items c.new-editor.result c.run.new.editor c.in_ok-replies.replies.items
+    none_at_second model answers c.args.store c.args.object_hash c.args.commands.items c.new-editor.result c.run.new.editor c.in_ok-replies.replies.items
     c.deref.result.now c.deref-2.result.now c.args.place c.args.other c.in-Ok.first c.in-Err-id_written.error begun
     (c.in_ok-replies.ensures {u = tt}).replies c.deref.ensures.value c.deref-2.ensures.value c.in-Ok.ensures.found c.in-Err-id_written.ensures.error
     c.in-Err-id_written.ensures.none
 
 pub returns-clause-compared : goal.returns-clause-compared
 returns-clause-compared g c =
-    let means : StoreModel g.row.S.Denot = record { objects = g.S.Store.objects; may_fail = g.S.Store.may_fail } in
+    let model : StoreModel g.row.S.Denot = record { objects = g.S.Store.objects; may_fail = g.S.Store.may_fail } in
     let answers = λ (tree : List EntryView) (answer : Result ObjectId g.row.E.Denot). FnReturnsAt g.F.Fn c.args.out tree answer in
     let new = c.new-editor.ensures in
     let begun = state_is_started c.new-editor.result c.args.store c.args.object_hash [] (new.dirs
     ∙ ap root_alone c.empty.ensures) new.bases new.store new.lookups
     new.object_hash new.prefix in
-    is_reported means answers c.args.store c.args.object_hash c.args.commands.items c.new-editor.result c.run.new.editor c.in_ok-replies.replies.items
+    is_reported model answers c.args.store c.args.object_hash c.args.commands.items c.new-editor.result c.run.new.editor c.in_ok-replies.replies.items
     c.deref.result.now c.deref-2.result.now c.args.place c.args.other c.are_same.result c.in-Ok.first c.in-Ok-id_written.second begun
     (c.in_ok-replies.ensures {u = tt}).replies (c.in_ok-replies.ensures {u = tt}).one_id c.deref.ensures.value c.deref-2.ensures.value c.in-Ok.ensures.found
     c.in-Ok-id_written.ensures.found c.are_same.ensures

@@ -9,7 +9,7 @@ use Rattle.gixobj_tree.specs.Entries.{EntryView, IsWellFormed, Pair}
 use Rattle.gixobj_hash.specs.declared.hash.object_id.ObjectId.{ObjectId}
 use Rattle.gixobj_directories.specs.Calls.{IsStorable}
 use Rattle.gixobj_directories.specs.Emitting.{Stopped, EmitsEntry, child_side, entry_if_some, next_child}
-use Rattle.gixobj_files.specs.Emission.{EmitsBelow, entry_with, of_entries}
+use Rattle.gixobj_files.specs.Emission.{EmitsBelow, entry_unless_null, of_entries}
 use Rattle.gixobj_directories.specs.Nested.{Opened, base_side, bases_of, below, dirs_of, entries_side, parts}
 use Rattle.gixobj_files.specs.WrittenTrees.{so_far}
 use Rattle.gixobj_directories.specs.LeafTrees.{Adds, child_leaf_trees, inside_of, leaf_trees}
@@ -61,7 +61,7 @@ emit_below-loop-entry-preserved g t c =
     let base : in_dir e.name bases ≡ based =
     λ i path. (go.here base_side path ∙ ap (λ (o : Option Child). child_side base_side o path) (sym c.next_of.ensures.next)) i in
     let ok = c.in_ok-id.ensures.emitted in
-    let kept = c.in_ok-append_entry.ensures in
+    let kept = c.in_ok-append_unless_null.ensures in
     let remaining = c.loop-entry.remaining.now in
     let ahead : child_leaf_trees next ++ leaf_trees (below (parts c.next_of.result.1.now)) ≡ leaf_trees (below (parts remaining)) =
     ap (λ o. child_leaf_trees o ++ leaf_trees (below (parts c.next_of.result.1.now))) c.next_of.ensures.next
@@ -80,7 +80,7 @@ emit_below-loop-entry-preserved g t c =
         folds_to_append (λ f p h. CalledAt g.F.FnMut f p.1 (Ok p.0) h) c.args.out.now so.0 c.loop-entry.out ok.0 c.emit_entry.new.out so.4 ok.5,
         walk_step dirs bases inside based items c.loop-entry.entry-index e so.0 ok.0 (so_far c.args.base.now c.loop-entry.own)
             (entry_if_some e c.in_ok-id.id) so.1 ok.1 c.loop-entry-test.true c.entry-item.is same base ok.2 so.5
-            (so_far c.args.base.now c.append_entry.new.own)
+            (so_far c.args.base.now c.append_unless_null.new.own)
             kept.entries,
       );
       callable = callable_after_folds _ (λ f p h. CalledAt g.F.FnMut f p.1 (Ok p.0) h) c.loop-entry.out ok.0 c.emit_entry.new.out ok.5
@@ -138,8 +138,8 @@ emit_below-returns-in_err-id-clause-error g t c =
     ))
     c.in_err-id.field-0.0 c.in_err-id.ensures.error))
 
-pub emit_below-returns-in_err-append_entry-clause-error : goal.emit_below-returns-in_err-append_entry-clause-error
-emit_below-returns-in_err-append_entry-clause-error g t c =
+pub emit_below-returns-in_err-append_unless_null-clause-error : goal.emit_below-returns-in_err-append_unless_null-clause-error
+emit_below-returns-in_err-append_unless_null-clause-error g t c =
     let so = c.loop-entry.invariant.emits in
     let e = c.entry-item.result in
     let node = c.args.node.now in
@@ -161,7 +161,7 @@ emit_below-returns-in_err-append_entry-clause-error g t c =
     let kept = entry_if_some e c.in_ok-id.id in
     let acc = so_far c.args.base.now c.loop-entry.own in
     let rest = walk_exists_of_open node (drop (c.loop-entry.entry-index + 1) items) in
-    if_err_weaken c.from_residual-in_err-append_entry.result _ _ c.from_residual-in_err-append_entry.ensures.1
+    if_err_weaken c.from_residual-in_err-append_unless_null.result _ _ c.from_residual-in_err-append_unless_null.ensures.1
     (stopped_at_call (λ f p h. CalledAt g.F.FnMut f p.1 (Ok p.0) h) (λ f tree x h. CalledAt g.F.FnMut f tree (Err x) h)
     (λ ps. (own : List EntryView) × (n : ℕ) × EmitsBelow dirs bases ps own n) c.args.out.now c.emit_entry.new.out (so.0 ++ ok.0) rest.0
     (folds_to_append (λ f p h. CalledAt g.F.FnMut f p.1 (Ok p.0) h) c.args.out.now so.0 c.loop-entry.out ok.0 c.emit_entry.new.out so.4 ok.5) (
@@ -217,7 +217,7 @@ emit_entry-returns-in_default-clause-emitted g t c =
     let none : inside [] ≡ None = ap (λ o. child_side entries_side (option_copied o) []) c.in_default.is in (
       [],
       0,
-      subst (λ id. EmitsEntry inside based e [] (entry_with e id) 0) (sym (ap (λ (x : EntryView). x.id) c.entry.view_is))
+      subst (λ id. EmitsEntry inside based e [] (entry_unless_null e id) 0) (sym (ap (λ (x : EntryView). x.id) c.entry.view_is))
           (emits_entry_unopened inside based e none),
       refl,
       subst
@@ -275,9 +275,9 @@ emit_entry-returns-in_err-passed-clause-error g t c =
     (λ qs one. (
       [],
       (
-        entry_with e one.0,
+        entry_unless_null e one.0,
         0,
-        subst (λ ps. EmitsEntry inside based e ps (entry_with e one.0) 0) (sym (append-nil qs ∙ one.1))
+        subst (λ ps. EmitsEntry inside based e ps (entry_unless_null e one.0) 0) (sym (append-nil qs ∙ one.1))
             (emits_entry_written inside based e [] tree 0 one.0 goes.filled changed found),
       ),
     ))
@@ -338,7 +338,7 @@ emit_entry-returns-then-is_base-clause-emitted g t c =
     let filled = not_nil_of_not_empty own (c.if-has_no_entries.ensures {u = tt} c.base_of-base.result.now c.in_ok-own.ensures.shares_base) in
     let is_same : based [] ≡ Some own = sym (ap (λ (d : Dirs). d []) base) ∙ c.base_of-base.ensures
     ∙ ap Some (sym ((c.if-is_base.ensures {u = tt}).0 refl)) in
-    let kept = subst (λ id. EmitsEntry inside based e ok.0 (entry_with e id) (ok.1 + 1)) (sym (ap (λ (x : EntryView). x.id) c.entry.view_is))
+    let kept = subst (λ id. EmitsEntry inside based e ok.0 (entry_unless_null e id) (ok.1 + 1)) (sym (ap (λ (x : EntryView). x.id) c.entry.view_is))
     (emits_entry_unchanged inside based e ok.0 own ok.1 filled is_same found) in (
       ok.0,
       ok.1 + 1,
@@ -399,9 +399,9 @@ emit_entry-returns-in_err-id-clause-error g t c =
     (λ qs one. (
       [],
       (
-        entry_with e one.0,
+        entry_unless_null e one.0,
         ok.1,
-        subst (λ ps. EmitsEntry inside based e (ok.0 ++ ps) (entry_with e one.0) ok.1)
+        subst (λ ps. EmitsEntry inside based e (ok.0 ++ ps) (entry_unless_null e one.0) ok.1)
             (ap (λ t'. (one.0, t') ∷ []) made ∙ sym (append-nil qs ∙ one.1)) (emits_entry_written inside based e ok.0 own ok.1 one.0 filled changed found),
       ),
     ))
@@ -427,7 +427,7 @@ emit_entry-returns-clause-emitted g t c =
     let gave = λ (f : g.row.F.Denot) (p : Pair) (h : g.row.F.Denot). CalledAt g.F.FnMut f p.1 (Ok p.0) h in (
       ok.0 ++ (c.in_ok-id.id, tree) ∷ [],
       ok.1,
-      subst (λ t'. EmitsEntry inside based e (ok.0 ++ (c.in_ok-id.id, t') ∷ []) (entry_with e c.in_ok-id.id) ok.1) made
+      subst (λ t'. EmitsEntry inside based e (ok.0 ++ (c.in_ok-id.id, t') ∷ []) (entry_unless_null e c.in_ok-id.id) ok.1) made
           (emits_entry_written inside based e ok.0 own ok.1 c.in_ok-id.id filled changed found),
       ok.3,
       adds_leaf_trees_of_child c.args.child c.in-Some.child c.in-Some.is _ (c.in_default-leaf_tree.ensures.none ∙ sym (append-nil _)) c.args.pairs.now.items

@@ -4,7 +4,7 @@ use Rattle.std.proofs.Common.{◌≡◌, ◌∙◌, ◌∷◌, Ok, Err, refl, ru
 use Rattle.std.specs.Fn.{CalledAt}
 use Rattle.std.proofs.lemmas.Result.{MatchResult-weaker}
 use Rattle.bstr.specs.Owned.{bstring_bytes}
-use Rattle.gixobj_files.specs.Edits.{only}
+use Rattle.gixobj_files.specs.Edits.{only_open}
 use Rattle.gixobj_files.specs.Files.{Path}
 use Rattle.gixobj_files.specs.Emission.{Saves}
 use Rattle.gixobj_files.specs.Opening.{Dirs, in_path}
@@ -90,7 +90,7 @@ returns-clause-written g t c = MatchResult-weaker c.write_at.result c.write_at.e
           (written_deeper c.args.node.now c.node.inside.tree c.node.inside.tree (parts cs) _ c.node.view_is (level_names_apart c.node.invariant)
           (level_names_apart level) name (dirs_of c.write_at.new.node)
           (becomes_of_set name cs c.deref.result.now c.in-Some-child_at.place child _ c.deref.ensures.value here c.index_mut-child.ensures.value refl)
-          rest (only ok.1) refl (λ at. rw was (ok.6 at))),
+          rest (only_open ok.1) refl (λ at. rw was (ok.6 at))),
     )) (λ _ u. u)
 
 pub returns-clause-error : goal.returns-clause-error

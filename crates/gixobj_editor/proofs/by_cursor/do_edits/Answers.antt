@@ -11,13 +11,13 @@ use Rattle.gixobj_editor.proofs.by_cursor.do_edits.Goals as goal
 
 pub loop-edit-preserved : goal.loop-edit-preserved
 loop-edit-preserved g c =
-    let means : StoreModel g.row.S.Denot = record { objects = g.S.Store.objects; may_fail = g.S.Store.may_fail } in
+    let model : StoreModel g.row.S.Denot = record { objects = g.S.Store.objects; may_fail = g.S.Store.may_fail } in
     let answers = λ (tree : List EntryView) (answer : Result ObjectId g.row.E.Denot). FnReturnsAt g.F.Fn c.args.out.now tree answer in
     let steps = c.in-Some.ensures.steps in
-    let one = subst (λ (p : Path). IsEditReply means answers (at_cursor p) c.loop-edit.cursor.editor.now c.in-Some.edit c.do_edit_by-reply.result
+    let one = subst (λ (p : Path). IsEditReply model answers (at_cursor p) c.loop-edit.cursor.editor.now c.in-Some.edit c.do_edit_by-reply.result
     c.do_edit_by-reply.new.cursor.editor.now) c.loop-edit.invariant.prefix c.do_edit_by-reply.ensures.reply in
     record {
-      so_far = λ replies new h. one_more_edit means answers (at_cursor c.args.cursor.now.editor.now.prefix) c.loop-edit.cursor.editor.now _ _ _ _ _ _ _ _ _ _ _
+      so_far = λ replies new h. one_more_edit model answers (at_cursor c.args.cursor.now.editor.now.prefix) c.loop-edit.cursor.editor.now _ _ _ _ _ _ _ _ _ _ _
           one steps.0 c.push_reserved.ensures.items c.loop-edit.invariant.so_far h;
       room = let e = ap length steps.0 in grind (arith, c.loop-edit.invariant.room);
       same = refl;
@@ -27,7 +27,7 @@ loop-edit-preserved g c =
 
 pub returns-clause-replies : goal.returns-clause-replies
 returns-clause-replies g c =
-    let means : StoreModel g.row.S.Denot = record { objects = g.S.Store.objects; may_fail = g.S.Store.may_fail } in
+    let model : StoreModel g.row.S.Denot = record { objects = g.S.Store.objects; may_fail = g.S.Store.may_fail } in
     let answers = λ (tree : List EntryView) (answer : Result ObjectId g.row.E.Denot). FnReturnsAt g.F.Fn c.args.out.now tree answer in
-    no_more_edits means answers (at_cursor c.args.cursor.now.editor.now.prefix) _ _ _ _ _
+    no_more_edits model answers (at_cursor c.args.cursor.now.editor.now.prefix) _ _ _ _ _
     (omega (arith, c.in-None.ensures.steps.0, c.loop-edit.edit-iterator.rest.ok.0)) c.loop-edit.invariant.so_far

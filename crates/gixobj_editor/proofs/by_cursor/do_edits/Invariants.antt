@@ -13,11 +13,11 @@ use Rattle.gixobj_editor.proofs.by_cursor.do_edits.Given as goal
 -- the replies so far, with replies to the remaining edits, are replies to all edits
 abbrev pub invariant-loop-edit : goal.invariant-loop-edit
 invariant-loop-edit g l =
-    let means : StoreModel g.row.S.Denot = record { objects = g.S.Store.objects; may_fail = g.S.Store.may_fail } in
+    let model : StoreModel g.row.S.Denot = record { objects = g.S.Store.objects; may_fail = g.S.Store.may_fail } in
     let answers = (λ (tree : List EntryView) (answer : Result ObjectId g.row.E.Denot). FnReturnsAt g.F.Fn l.fn.out tree answer) in record {
       so_far : (replies : List (EditReply g.row.E.Denot)) (new : State g.row.S.Denot)
-          → AreEditReplies means answers (at_cursor l.fn.cursor.editor.now.prefix) l.cursor.editor.now (into_iter_items l.edit-iterator) replies new
-          → AreEditReplies means answers (at_cursor l.fn.cursor.editor.now.prefix) l.fn.cursor.editor.now l.fn.edits.items (l.replies.items ++ replies) new;
+          → AreEditReplies model answers (at_cursor l.fn.cursor.editor.now.prefix) l.cursor.editor.now (into_iter_items l.edit-iterator) replies new
+          → AreEditReplies model answers (at_cursor l.fn.cursor.editor.now.prefix) l.fn.cursor.editor.now l.fn.edits.items (l.replies.items ++ replies) new;
       room : vec_len l.replies + length (into_iter_items l.edit-iterator) ≤ vec_capacity l.replies;
       same : l.out ≡ l.fn.out;
       same_reference : l.cursor.editor.ghost_name ≡ l.fn.cursor.editor.ghost_name;

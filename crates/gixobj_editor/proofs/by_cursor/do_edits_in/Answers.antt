@@ -5,7 +5,7 @@ use Rattle.gixobj_directories.specs.Openings.{OfTrees}
 use Rattle.gixobj_editor.specs.Cursors.{cursor_path}
 use Rattle.gixobj_editor.specs.Upserts.{IsNameError, IsAfterFailedEdit}
 use Rattle.gixobj_files.specs.State.{State}
-use Rattle.gixobj_files.specs.Unopened.{inside}
+use Rattle.gixobj_files.specs.Unopened.{in_directory}
 use Rattle.gixobj_hash.specs.declared.hash.object_id.ObjectId.{ObjectId}
 use Rattle.gixobj_store.specs.Stores.{StoreModel}
 use Rattle.gixobj_tree.specs.Entries.{EntryView}
@@ -16,13 +16,13 @@ use Rattle.gixobj_editor.proofs.by_cursor.do_edits_in.Goals as goal
 
 pub returns-in-Ok : goal.returns-in-Ok
 returns-in-Ok g c =
-    let means : StoreModel g.row.S.Denot = record { objects = g.S.Store.objects; may_fail = g.S.Store.may_fail } in
+    let model : StoreModel g.row.S.Denot = record { objects = g.S.Store.objects; may_fail = g.S.Store.may_fail } in
     let answers = λ (tree : List EntryView) (answer : Result ObjectId g.row.E.Denot). FnReturnsAt g.F.Fn c.args.out.now tree answer in
     let made = c.in-Ok.ensures {u = tt} in
     let pending = c.do_edits.new.cursor.editor.now in
     let done : (new : State g.row.S.Denot) → new ≡ pending
-    → IsReplyAt means answers (cursor_path (names_of c.args.prefix.now)) c.args.editor.now c.args.edits.items (reply.At c.do_edits.result) new =
-    λ new outside. done_at means answers (cursor_path (names_of c.args.prefix.now)) c.in-Ok.cursor.editor.now.prefix c.args.editor.now c.in-Ok.cursor.editor.now
+    → IsReplyAt model answers (cursor_path (names_of c.args.prefix.now)) c.args.editor.now c.args.edits.items (reply.At c.do_edits.result) new =
+    λ new outside. done_at model answers (cursor_path (names_of c.args.prefix.now)) c.in-Ok.cursor.editor.now.prefix c.args.editor.now c.in-Ok.cursor.editor.now
     pending new c.args.edits.items c.do_edits.result
     made.prefix made.ensured c.do_edits.ensures.replies outside in
     record { reply = done _ (search rules) }
@@ -31,6 +31,6 @@ pub returns-in-Err : goal.returns-in-Err
 returns-in-Err g c =
     let pending = c.cursor_at.follows.lender-at-none in
     let rejected : OfTrees (g.S.Store.objects c.args.editor.now.store)
-    (λ trees. IsAfterFailedEdit trees c.args.editor.now (inside (cursor_path (names_of c.args.prefix.now))) pending)
+    (λ trees. IsAfterFailedEdit trees c.args.editor.now (in_directory (cursor_path (names_of c.args.prefix.now))) pending)
     × (IsNameError c.in-Err.error → pending ≡ c.args.editor.now) = search rules in
     record { reply = inr (record { effect = rejected.0; cause = (c.in-Err.ensures {u = tt}).error }, rejected.1) }

@@ -9,36 +9,36 @@ use Rattle.gixobj_editor.proofs.edits.do_edit.Goals as goal
 
 pub returns-in-Upsert : goal.returns-in-Upsert
 returns-in-Upsert g c =
-    let means : StoreModel g.row.S.Denot = record { objects = g.S.Store.objects; may_fail = g.S.Store.may_fail } in
+    let model : StoreModel g.row.S.Denot = record { objects = g.S.Store.objects; may_fail = g.S.Store.may_fail } in
     let answers = λ (tree : List EntryView) (answer : Result ObjectId g.row.E.Denot). FnReturnsAt g.F.Fn c.args.out.now tree answer in
     let call = c.try_upsert in
     record {
       reply = rw (c.in-Upsert.is, c.reply_to_edit.ensures.reply)
-          (upsert_replied means answers at_root c.args.editor.now call.new.self c.in-Upsert.path c.deref.result.now c.deref.ensures.value c.in-Upsert.kind
+          (upsert_replied model answers at_root c.args.editor.now call.new.self c.in-Upsert.path c.deref.result.now c.deref.ensures.value c.in-Upsert.kind
           c.in-Upsert.id call.result
           call.ensures.upserted call.ensures.after_error call.ensures.error call.ensures.not_looked_up);
     }
 
 pub returns-in-Remove : goal.returns-in-Remove
 returns-in-Remove g c =
-    let means : StoreModel g.row.S.Denot = record { objects = g.S.Store.objects; may_fail = g.S.Store.may_fail } in
+    let model : StoreModel g.row.S.Denot = record { objects = g.S.Store.objects; may_fail = g.S.Store.may_fail } in
     let answers = λ (tree : List EntryView) (answer : Result ObjectId g.row.E.Denot). FnReturnsAt g.F.Fn c.args.out.now tree answer in
     let call = c.try_remove in
     record {
       reply = rw (c.in-Remove.is, c.reply_to_edit-in-Remove.ensures.reply)
-          (removal_replied means answers at_root c.args.editor.now call.new.self c.in-Remove.path c.deref-in-Remove.result.now c.deref-in-Remove.ensures.value
+          (removal_replied model answers at_root c.args.editor.now call.new.self c.in-Remove.path c.deref-in-Remove.result.now c.deref-in-Remove.ensures.value
           call.result
           call.ensures.removed call.ensures.after_error call.ensures.error);
     }
 
 pub returns-in-RemoveLeaf : goal.returns-in-RemoveLeaf
 returns-in-RemoveLeaf g c =
-    let means : StoreModel g.row.S.Denot = record { objects = g.S.Store.objects; may_fail = g.S.Store.may_fail } in
+    let model : StoreModel g.row.S.Denot = record { objects = g.S.Store.objects; may_fail = g.S.Store.may_fail } in
     let answers = λ (tree : List EntryView) (answer : Result ObjectId g.row.E.Denot). FnReturnsAt g.F.Fn c.args.out.now tree answer in
     let call = c.try_remove_leaf in
     record {
       reply = rw (c.in-RemoveLeaf.is, c.reply_to_edit-in-RemoveLeaf.ensures.reply)
-          (leaf_removal_replied means answers at_root c.args.editor.now call.new.self c.in-RemoveLeaf.path c.deref-in-RemoveLeaf.result.now
+          (leaf_removal_replied model answers at_root c.args.editor.now call.new.self c.in-RemoveLeaf.path c.deref-in-RemoveLeaf.result.now
           c.deref-in-RemoveLeaf.ensures.value call.result
           call.ensures.removed call.ensures.after_error call.ensures.error);
     }

@@ -26,25 +26,25 @@ returns-in-Err g c =
 
 pub returns-in-Ok-keep_all : goal.returns-in-Ok-keep_all
 returns-in-Ok-keep_all g c =
-    let means : StoreModel g.row.S.Denot = record { objects = g.S.Store.objects; may_fail = g.S.Store.may_fail } in
+    let model : StoreModel g.row.S.Denot = record { objects = g.S.Store.objects; may_fail = g.S.Store.may_fail } in
     let answers = λ (tree : List EntryView) (answer : Result ObjectId g.row.E.Denot). FnReturnsAt g.F.Fn c.args.out.now tree answer in
     let wrote = written g.F.Fn _ c.args.out c.args.editor.now c.write.new.self c.in-Ok.written (c.in-Ok.ensures {u = tt}).written
     (λ requested tree answer answered it. (it.met.1, it.met.0)) in
     let kept = c.in-Ok-keep_all.ensures {u = tt} in
     record {
-      reply = kept_all means answers at_root c.args.editor.now c.write.new.self _ c.store_mut.result.now c.keep_all.new.store c.in-Ok.written
+      reply = kept_all model answers at_root c.args.editor.now c.write.new.self _ c.store_mut.result.now c.keep_all.new.store c.in-Ok.written
           c.deref.result.now wrote (ap (λ (s : State g.row.S.Denot). s.store) wrote.rest) c.store_mut.ensures.value c.deref.ensures.value refl
-          c.keep_all.ensures.fallible kept.stored kept.have_encodings;
+          c.keep_all.ensures.same_may_fail kept.stored kept.have_encodings;
     }
 
 pub returns-in-Err-keep_all : goal.returns-in-Err-keep_all
 returns-in-Err-keep_all g c =
-    let means : StoreModel g.row.S.Denot = record { objects = g.S.Store.objects; may_fail = g.S.Store.may_fail } in
+    let model : StoreModel g.row.S.Denot = record { objects = g.S.Store.objects; may_fail = g.S.Store.may_fail } in
     let answers = λ (tree : List EntryView) (answer : Result ObjectId g.row.E.Denot). FnReturnsAt g.F.Fn c.args.out.now tree answer in
     let wrote = written g.F.Fn _ c.args.out c.args.editor.now c.write.new.self c.in-Ok.written (c.in-Ok.ensures {u = tt}).written
     (λ requested tree answer answered it. (it.met.1, it.met.0)) in
     record {
-      reply = not_kept means answers at_root c.args.editor.now c.write.new.self _ c.store_mut.result.now c.keep_all.new.store c.in-Ok.written
+      reply = not_kept model answers at_root c.args.editor.now c.write.new.self _ c.store_mut.result.now c.keep_all.new.store c.in-Ok.written
           c.deref.result.now wrote (ap (λ (s : State g.row.S.Denot). s.store) wrote.rest) c.store_mut.ensures.value c.deref.ensures.value refl
-          c.keep_all.ensures.fallible c.in-Err-keep_all.count c.in-Err-keep_all.error (c.in-Err-keep_all.ensures {u = tt}).error;
+          c.keep_all.ensures.same_may_fail c.in-Err-keep_all.count c.in-Err-keep_all.error (c.in-Err-keep_all.ensures {u = tt}).error;
     }

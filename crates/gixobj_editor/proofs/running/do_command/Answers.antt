@@ -12,11 +12,11 @@ use Rattle.gixobj_editor.proofs.running.do_command.Goals as goal
 
 pub returns-in-At : goal.returns-in-At
 returns-in-At g c =
-    let means : StoreModel g.row.S.Denot = record { objects = g.S.Store.objects; may_fail = g.S.Store.may_fail } in
+    let model : StoreModel g.row.S.Denot = record { objects = g.S.Store.objects; may_fail = g.S.Store.may_fail } in
     let answers = λ (tree : List EntryView) (answer : Result ObjectId g.row.E.Denot). FnReturnsAt g.F.Fn c.args.out.now tree answer in
     record {
       reply = rw c.in-At.is
-          (subst (λ (l : List BString). IsReplyAt means answers (cursor_path (names_of l)) c.args.editor.now c.in-At.edits.items c.do_edits_at.result
+          (subst (λ (l : List BString). IsReplyAt model answers (cursor_path (names_of l)) c.args.editor.now c.in-At.edits.items c.do_edits_at.result
           c.do_edits_at.new.editor) c.deref.ensures.value c.do_edits_at.ensures.reply);
     }
 

@@ -10,11 +10,11 @@ use Rattle.gixobj_editor.proofs.running.run.Goals as goal
 
 pub loop-command-preserved : goal.loop-command-preserved
 loop-command-preserved g c =
-    let means : StoreModel g.row.S.Denot = record { objects = g.S.Store.objects; may_fail = g.S.Store.may_fail } in
+    let model : StoreModel g.row.S.Denot = record { objects = g.S.Store.objects; may_fail = g.S.Store.may_fail } in
     let answers = λ (tree : List EntryView) (answer : Result ObjectId g.row.E.Denot). FnReturnsAt g.F.Fn c.args.out tree answer in
     let steps = c.in-Some.ensures.steps in
     record {
-      so_far = λ replies new h. one_more means answers c.loop-command.editor _ _ _ _ _ _ _ _ _ _ _ c.do_command-reply.ensures.reply steps.0
+      so_far = λ replies new h. one_more model answers c.loop-command.editor _ _ _ _ _ _ _ _ _ _ _ c.do_command-reply.ensures.reply steps.0
           c.push_reserved.ensures.items c.loop-command.invariant.so_far h;
       room = let e = ap length steps.0 in grind (arith, c.loop-command.invariant.room);
       same = refl;
@@ -22,29 +22,29 @@ loop-command-preserved g c =
 
 pub returns-clause-replies : goal.returns-clause-replies
 returns-clause-replies g c =
-    let means : StoreModel g.row.S.Denot = record { objects = g.S.Store.objects; may_fail = g.S.Store.may_fail } in
+    let model : StoreModel g.row.S.Denot = record { objects = g.S.Store.objects; may_fail = g.S.Store.may_fail } in
     let answers = λ (tree : List EntryView) (answer : Result ObjectId g.row.E.Denot). FnReturnsAt g.F.Fn c.args.out tree answer in
-    no_more means answers _ _ _ _ _ (omega (arith, c.in-None.ensures.steps.0, c.loop-command.command-iterator.rest.ok.0)) c.loop-command.invariant.so_far
+    no_more model answers _ _ _ _ _ (omega (arith, c.in-None.ensures.steps.0, c.loop-command.command-iterator.rest.ok.0)) c.loop-command.invariant.so_far
 
-pub returns-clause-headline : goal.returns-clause-headline
-returns-clause-headline g c =
-    let means : StoreModel g.row.S.Denot = record { objects = g.S.Store.objects; may_fail = g.S.Store.may_fail } in
+pub returns-clause-files_of_root : goal.returns-clause-files_of_root
+returns-clause-files_of_root g c =
+    let model : StoreModel g.row.S.Denot = record { objects = g.S.Store.objects; may_fail = g.S.Store.may_fail } in
     let answers = λ (tree : List EntryView) (answer : Result ObjectId g.row.E.Denot). FnReturnsAt g.F.Fn c.args.out tree answer in
-    λ T n k written is agrees pairs has. names_history means answers T n _ _ _ _
-    (no_more means answers _ _ _ _ _ (omega (arith, c.in-None.ensures.steps.0, c.loop-command.command-iterator.rest.ok.0)) c.loop-command.invariant.so_far) k
+    λ T n k written is agrees pairs has. names_history model answers T n _ _ _ _
+    (no_more model answers _ _ _ _ _ (omega (arith, c.in-None.ensures.steps.0, c.loop-command.command-iterator.rest.ok.0)) c.loop-command.invariant.so_far) k
     written is agrees pairs has
 
 pub returns-clause-one_id : goal.returns-clause-one_id
 returns-clause-one_id g c =
-    let means : StoreModel g.row.S.Denot = record { objects = g.S.Store.objects; may_fail = g.S.Store.may_fail } in
+    let model : StoreModel g.row.S.Denot = record { objects = g.S.Store.objects; may_fail = g.S.Store.may_fail } in
     let answers = λ (tree : List EntryView) (answer : Result ObjectId g.row.E.Denot). FnReturnsAt g.F.Fn c.args.out tree answer in
-    λ T m plain. ids_determine_files means answers T _ _ _ _
-    (no_more means answers _ _ _ _ _ (omega (arith, c.in-None.ensures.steps.0, c.loop-command.command-iterator.rest.ok.0)) c.loop-command.invariant.so_far) m
+    λ T m plain. ids_determine_files model answers T _ _ _ _
+    (no_more model answers _ _ _ _ _ (omega (arith, c.in-None.ensures.steps.0, c.loop-command.command-iterator.rest.ok.0)) c.loop-command.invariant.so_far) m
     plain
 
 pub returns-clause-stored : goal.returns-clause-stored
 returns-clause-stored g c =
-    let means : StoreModel g.row.S.Denot = record { objects = g.S.Store.objects; may_fail = g.S.Store.may_fail } in
+    let model : StoreModel g.row.S.Denot = record { objects = g.S.Store.objects; may_fail = g.S.Store.may_fail } in
     let answers = λ (tree : List EntryView) (answer : Result ObjectId g.row.E.Denot). FnReturnsAt g.F.Fn c.args.out tree answer in
-    run_keeps_pairs means answers _ _ _ _
-    (no_more means answers _ _ _ _ _ (omega (arith, c.in-None.ensures.steps.0, c.loop-command.command-iterator.rest.ok.0)) c.loop-command.invariant.so_far)
+    run_keeps_pairs model answers _ _ _ _
+    (no_more model answers _ _ _ _ _ (omega (arith, c.in-None.ensures.steps.0, c.loop-command.command-iterator.rest.ok.0)) c.loop-command.invariant.so_far)

@@ -12,11 +12,11 @@ use Rattle.gixobj_editor.proofs.running.run.Given as goal
 -- the replies so far, with replies to the remaining commands, are replies to all commands
 abbrev pub invariant-loop-command : goal.invariant-loop-command
 invariant-loop-command g l =
-    let means : StoreModel g.row.S.Denot = record { objects = g.S.Store.objects; may_fail = g.S.Store.may_fail } in
+    let model : StoreModel g.row.S.Denot = record { objects = g.S.Store.objects; may_fail = g.S.Store.may_fail } in
     let answers = (λ (tree : List EntryView) (answer : Result ObjectId g.row.E.Denot). FnReturnsAt g.F.Fn l.fn.out tree answer) in record {
       so_far : (replies : List (Reply g.row.E.Denot)) (new : State g.row.S.Denot)
-          → IsRun means answers l.editor (into_iter_items l.command-iterator) replies new
-          → IsRun means answers l.fn.editor l.fn.commands.items (l.replies.items ++ replies) new;
+          → IsRun model answers l.editor (into_iter_items l.command-iterator) replies new
+          → IsRun model answers l.fn.editor l.fn.commands.items (l.replies.items ++ replies) new;
       room : vec_len l.replies + length (into_iter_items l.command-iterator) ≤ vec_capacity l.replies;
       same : l.out ≡ l.fn.out;
     }

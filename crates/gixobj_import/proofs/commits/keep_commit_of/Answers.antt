@@ -12,7 +12,7 @@ use Rattle.gixobj_store.specs.Stores.{store_model}
 
 pub returns-in-Ok-keep_commit-clause-stored : goal.returns-in-Ok-keep_commit-clause-stored
 returns-in-Ok-keep_commit-clause-stored g c =
-    let means = store_model g.S.Store.objects g.S.Store.may_fail in
+    let model = store_model g.S.Store.objects g.S.Store.may_fail in
     let commit = c.compute_hash-commit.result in
     let content = encode_step c.args.step.now c.args.tree c.args.parent in
     record {
@@ -23,10 +23,10 @@ returns-in-Ok-keep_commit-clause-stored g c =
           (digest_id_kind c.args.hash Commit c.deref.result.now commit c.compute_hash-commit.ensures);
       decodes = λ hex. encode_step_decodes c.args.hash c.args.step.now c.args.tree c.args.parent c.names_actor.ensures c.names_actor-2.ensures hex;
       rest = refl;
-      stored = c.in-Ok-keep_commit.ensures.stored ∙ ap (λ (bytes : List ℕ). with_commit commit bytes (means.objects c.store_mut.result.now))
+      stored = c.in-Ok-keep_commit.ensures.stored ∙ ap (λ (bytes : List ℕ). with_commit commit bytes (model.objects c.store_mut.result.now))
           (c.deref-2.ensures.value ∙ c.in-Ok.ensures.encoded)
-          ∙ ap (λ (s : g.row.S.Denot). with_commit commit content (means.objects s)) c.store_mut.ensures.value;
-      may_fail = λ id. c.keep_commit.ensures.fallible id ∙ ap (λ (s : g.row.S.Denot). means.may_fail s id) c.store_mut.ensures.value;
+          ∙ ap (λ (s : g.row.S.Denot). with_commit commit content (model.objects s)) c.store_mut.ensures.value;
+      may_fail = λ id. c.keep_commit.ensures.same_may_fail id ∙ ap (λ (s : g.row.S.Denot). model.may_fail s id) c.store_mut.ensures.value;
     }
 
 pub returns-in-Err-clause-error : goal.returns-in-Err-clause-error
@@ -36,15 +36,15 @@ returns-in-Err-clause-error g c =
 
 pub returns-clause-error : goal.returns-clause-error
 returns-clause-error g c =
-    let means = store_model g.S.Store.objects g.S.Store.may_fail in
+    let model = store_model g.S.Store.objects g.S.Store.may_fail in
     let commit = c.compute_hash-commit.result in
     record {
       cause =
-          subst (λ (id : ObjectId). IsKeepCommitError (means.may_fail c.args.editor.now.store) id c.in-Err-keep_commit.error)
+          subst (λ (id : ObjectId). IsKeepCommitError (model.may_fail c.args.editor.now.store) id c.in-Err-keep_commit.error)
           (c.compute_hash-commit.ensures ∙ ap (λ (bytes : List ℕ). id_of c.args.hash Commit bytes) (c.deref.ensures.value ∙ c.in-Ok.ensures.encoded))
-          (subst (λ (s : g.row.S.Denot). IsKeepCommitError (means.may_fail s) commit c.in-Err-keep_commit.error) c.store_mut.ensures.value
+          (subst (λ (s : g.row.S.Denot). IsKeepCommitError (model.may_fail s) commit c.in-Err-keep_commit.error) c.store_mut.ensures.value
           c.in-Err-keep_commit.ensures.error);
       rest = refl;
-      unchanged = c.in-Err-keep_commit.ensures.unchanged ∙ ap (λ (s : g.row.S.Denot). means.objects s) c.store_mut.ensures.value;
-      may_fail = λ id. c.keep_commit.ensures.fallible id ∙ ap (λ (s : g.row.S.Denot). means.may_fail s id) c.store_mut.ensures.value;
+      unchanged = c.in-Err-keep_commit.ensures.unchanged ∙ ap (λ (s : g.row.S.Denot). model.objects s) c.store_mut.ensures.value;
+      may_fail = λ id. c.keep_commit.ensures.same_may_fail id ∙ ap (λ (s : g.row.S.Denot). model.may_fail s id) c.store_mut.ensures.value;
     }

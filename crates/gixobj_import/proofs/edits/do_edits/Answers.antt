@@ -8,23 +8,23 @@ do_edit-requires g c = no_write_in_edits c.args.edits.now c.loop-index.index c.i
 
 pub loop-index-preserved : goal.loop-index-preserved
 loop-index-preserved g c =
-    let means = store_model g.S.Store.objects g.S.Store.may_fail in
-    one_more_done means c.args.editor.now c.loop-index.editor c.do_edit.new.editor c.args.edits.now c.loop-index.index c.index-edits-index.result
+    let model = store_model g.S.Store.objects g.S.Store.may_fail in
+    one_more_done model c.args.editor.now c.loop-index.editor c.do_edit.new.editor c.args.edits.now c.loop-index.index c.index-edits-index.result
     c.loop-index-test.true c.index-edits-index.is c.loop-index.invariant c.in-Ok.ensures
 
 pub returns-in-Err : goal.returns-in-Err
 returns-in-Err g c =
-    let means = store_model g.S.Store.objects g.S.Store.may_fail in
+    let model = store_model g.S.Store.objects g.S.Store.may_fail in
     record {
       edited = tt;
-      after_error = rejected_at means c.args.editor.now c.loop-index.editor c.do_edit.new.editor c.args.edits.now c.loop-index.index c.index-edits-index.result
+      after_error = rejected_at model c.args.editor.now c.loop-index.editor c.do_edit.new.editor c.args.edits.now c.loop-index.index c.index-edits-index.result
           c.in-Err.error c.loop-index-test.true c.index-edits-index.is c.loop-index.invariant c.in-Err.ensures;
     }
 
 pub returns : goal.returns
 returns g c =
-    let means = store_model g.S.Store.objects g.S.Store.may_fail in
+    let model = store_model g.S.Store.objects g.S.Store.may_fail in
     record {
-      edited = all_done means c.args.editor.now c.loop-index.editor c.args.edits.now c.loop-index.index c.loop-index-test.false c.loop-index.invariant;
+      edited = all_done model c.args.editor.now c.loop-index.editor c.args.edits.now c.loop-index.index c.loop-index-test.false c.loop-index.invariant;
       after_error = tt;
     }

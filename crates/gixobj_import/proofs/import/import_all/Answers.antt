@@ -15,12 +15,12 @@ use Rattle.gixobj_store.specs.Stores.{store_model}
 
 pub loop-step-preserved : goal.loop-step-preserved
 loop-step-preserved g c =
-    let means = store_model g.S.Store.objects g.S.Store.may_fail in
+    let model = store_model g.S.Store.objects g.S.Store.may_fail in
     let inv = c.loop-step.invariant in
     record {
-      imported = subst (λ (is : List Imported). AreImported means c.args.importer.now (take (c.loop-step.step-index + 1) c.args.steps.now) is c.step.new.self)
+      imported = subst (λ (is : List Imported). AreImported model c.args.importer.now (take (c.loop-step.step-index + 1) c.args.steps.now) is c.step.new.self)
           (sym c.push_reserved.ensures.items)
-          (one_more_imported means c.args.importer.now c.loop-step.importer c.step.new.self c.args.steps.now c.loop-step.imported.items c.loop-step.step-index
+          (one_more_imported model c.args.importer.now c.loop-step.importer c.step.new.self c.args.steps.now c.loop-step.imported.items c.loop-step.step-index
           c.step-item.result c.in-Ok-step.it
           c.loop-step-test.true c.step-item.is inv.imported (c.in-Ok-step.ensures {u = tt}).imported);
       count = ap length c.push_reserved.ensures.items ∙ length-append c.loop-step.imported.items (c.in-Ok-step.it ∷ []) ∙ ap (λ n. n + 1) inv.count;
@@ -30,7 +30,7 @@ loop-step-preserved g c =
 
 pub returns-in-Err : goal.returns-in-Err
 returns-in-Err g c =
-    let means = store_model g.S.Store.objects g.S.Store.may_fail in
+    let model = store_model g.S.Store.objects g.S.Store.may_fail in
     let laws : OfStores = record {
       trees_of = c.store_has_tree_map.ensures;
       inserted = record {
@@ -42,21 +42,21 @@ returns-in-Err g c =
     let old = c.args.importer.now in
     let done = c.no_list.result.done.items in
     let error = c.no_list.result.error in
-    let stops : Stops means old c.args.steps.now done error old =
+    let stops : Stops model old c.args.steps.now done error old =
     inr (record { nothing = c.no_list.ensures.done; memory = c.no_list.ensures.error; unchanged = refl }) in
     record {
       imported = tt;
       error = stops;
-      adds = stopped_adds means laws old old c.args.steps.now done error stops;
+      adds = stopped_adds model laws old old c.args.steps.now done error stops;
       commits = tt;
       files = tt;
-      commits_done = commits_of_stopped means laws old old c.args.steps.now done error stops;
-      files_done = files_of_stopped means laws old old c.args.steps.now done error stops;
+      commits_done = commits_of_stopped model laws old old c.args.steps.now done error stops;
+      files_done = files_of_stopped model laws old old c.args.steps.now done error stops;
     }
 
 pub returns-in-Err-step : goal.returns-in-Err-step
 returns-in-Err-step g c =
-    let means = store_model g.S.Store.objects g.S.Store.may_fail in
+    let model = store_model g.S.Store.objects g.S.Store.may_fail in
     let laws : OfStores = record {
       trees_of = c.store_has_tree_map.ensures;
       inserted = record {
@@ -67,22 +67,22 @@ returns-in-Err-step g c =
     } in
     let inv = c.loop-step.invariant in
     let done = c.loop-step.imported.items in
-    let stops = stopped_at means c.args.importer.now c.loop-step.importer c.step.new.self c.args.steps.now done c.loop-step.step-index c.step-item.result
+    let stops = stopped_at model c.args.importer.now c.loop-step.importer c.step.new.self c.args.steps.now done c.loop-step.step-index c.step-item.result
     c.in-Err-step.error
     c.loop-step-test.true c.step-item.is inv.imported inv.count (c.in-Err-step.ensures {u = tt}).after_error in
     record {
       imported = tt;
       error = stops;
-      adds = stopped_adds means laws c.args.importer.now c.step.new.self c.args.steps.now done c.in-Err-step.error stops;
+      adds = stopped_adds model laws c.args.importer.now c.step.new.self c.args.steps.now done c.in-Err-step.error stops;
       commits = tt;
       files = tt;
-      commits_done = commits_of_stopped means laws c.args.importer.now c.step.new.self c.args.steps.now done c.in-Err-step.error stops;
-      files_done = files_of_stopped means laws c.args.importer.now c.step.new.self c.args.steps.now done c.in-Err-step.error stops;
+      commits_done = commits_of_stopped model laws c.args.importer.now c.step.new.self c.args.steps.now done c.in-Err-step.error stops;
+      files_done = files_of_stopped model laws c.args.importer.now c.step.new.self c.args.steps.now done c.in-Err-step.error stops;
     }
 
 pub returns : goal.returns
 returns g c =
-    let means = store_model g.S.Store.objects g.S.Store.may_fail in
+    let model = store_model g.S.Store.objects g.S.Store.may_fail in
     let laws : OfStores = record {
       trees_of = c.store_has_tree_map.ensures;
       inserted = record {
@@ -94,14 +94,14 @@ returns g c =
     let old = c.args.importer.now in
     let new = c.loop-step.importer in
     let imported = c.loop-step.imported.items in
-    let all = all_imported means old new c.args.steps.now imported c.loop-step.step-index c.loop-step-test.false c.loop-step.invariant.imported in
-    let final = means.objects new.editor.store in
+    let all = all_imported model old new c.args.steps.now imported c.loop-step.step-index c.loop-step-test.false c.loop-step.invariant.imported in
+    let final = model.objects new.editor.store in
     record {
       imported = all;
       error = tt;
-      adds = steps_add means laws old new c.args.steps.now imported all;
-      commits = λ is. commits_of_new means laws old new c.args.steps.now imported all is final (adds_by_digest_nil final final refl);
-      files = files_of_new means laws old new c.args.steps.now imported all;
+      adds = steps_add model laws old new c.args.steps.now imported all;
+      commits = λ is. commits_of_new model laws old new c.args.steps.now imported all is final (adds_by_digest_nil final final refl);
+      files = files_of_new model laws old new c.args.steps.now imported all;
       commits_done = tt;
       files_done = tt;
     }

@@ -6,11 +6,11 @@ use Rattle.gixobj_store.specs.Stores.{store_model}
 
 pub returns-in-Ok-keep_all-clause-written : goal.returns-in-Ok-keep_all-clause-written
 returns-in-Ok-keep_all-clause-written g c =
-    let means = store_model g.S.Store.objects g.S.Store.may_fail in
+    let model = store_model g.S.Store.objects g.S.Store.may_fail in
     let kept = c.in-Ok-keep_all.ensures {u = tt} in
-    kept_all means c.args.hash c.args.editor.now c.write_by_digests.new.editor _ c.store_mut.result.now c.keep_all.new.store c.in-Ok.written c.deref.result.now
+    kept_all model c.args.hash c.args.editor.now c.write_by_digests.new.editor _ c.store_mut.result.now c.keep_all.new.store c.in-Ok.written c.deref.result.now
     (c.in-Ok.ensures {u = tt}).written
-    c.store_mut.ensures.value c.deref.ensures.value refl c.keep_all.ensures.fallible kept.stored kept.have_encodings
+    c.store_mut.ensures.value c.deref.ensures.value refl c.keep_all.ensures.same_may_fail kept.stored kept.have_encodings
 
 pub returns-in-Ok-keep_all-clause-root : goal.returns-in-Ok-keep_all-clause-root
 returns-in-Ok-keep_all-clause-root g c =
@@ -19,12 +19,12 @@ returns-in-Ok-keep_all-clause-root g c =
 
 pub returns-in-Err-keep_all-clause-error : goal.returns-in-Err-keep_all-clause-error
 returns-in-Err-keep_all-clause-error g c =
-    let means = store_model g.S.Store.objects g.S.Store.may_fail in (
+    let model = store_model g.S.Store.objects g.S.Store.may_fail in (
       c.in-Ok.written,
       c.in-Err-keep_all._count,
-      not_kept means c.args.hash c.args.editor.now c.write_by_digests.new.editor _ c.store_mut.result.now c.keep_all.new.store c.in-Ok.written
+      not_kept model c.args.hash c.args.editor.now c.write_by_digests.new.editor _ c.store_mut.result.now c.keep_all.new.store c.in-Ok.written
           c.deref.result.now (c.in-Ok.ensures {u = tt}).written
-          c.store_mut.ensures.value c.deref.ensures.value refl c.keep_all.ensures.fallible c.in-Err-keep_all._count c.in-Err-keep_all.error
+          c.store_mut.ensures.value c.deref.ensures.value refl c.keep_all.ensures.same_may_fail c.in-Err-keep_all._count c.in-Err-keep_all.error
           (c.in-Err-keep_all.ensures {u = tt}).error,
     )
 

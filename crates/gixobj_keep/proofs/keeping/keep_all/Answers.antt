@@ -14,7 +14,7 @@ loop-number-preserved g c =
           (g.S.Store.objects c.loop-number.store) (g.S.Store.objects c.keep.new.self) c.loop-number.invariant.kept c.in-Ok.ensures.stored;
       all_have_encodings = more_have_encodings trees number c.index-trees-number.result c.loop-number-test.true c.index-trees-number.is
           c.loop-number.invariant.all_have_encodings c.in-Ok.ensures.has_encoding;
-      may_fail = λ id. c.in-Ok.ensures.fallible id ∙ c.loop-number.invariant.may_fail id;
+      may_fail = λ id. c.in-Ok.ensures.same_may_fail id ∙ c.loop-number.invariant.may_fail id;
     }
 
 pub returns-clause-have_encodings : goal.returns-clause-have_encodings

@@ -80,16 +80,16 @@ returns-in_default-next_id-clause-opened g t c = λ trees fits. (
 
 pub returns-in_err-own_name-clause-stopped_opening : goal.returns-in_err-own_name-clause-stopped_opening
 returns-in_err-own_name-clause-stopped_opening g t c = if_err_weaken c.from_residual.result _ _ c.from_residual.ensures.1 (λ error is trees fits.
-    let Ends = EndsBefore c.args.not_looked_up in
+    let StopsBefore = EndsBefore c.args.not_looked_up in
     let name = bstring_bytes c.in-Some.name.now in
     let cs = c.self.inside.children.items in
     let there = (c.in-Some-next_id.ensures {u = tt}).found in (
       [],
       None,
-      stops_opening_here Ends trees (names_of c.args.path.now) name (names_of c.in-Some.rest.now) c.self.inside.tree c.args.self.now cs
+      stops_opening_here StopsBefore trees (names_of c.args.path.now) name (names_of c.in-Some.rest.now) c.self.inside.tree c.args.self.now cs
           c.room_for.new.children.items
           (ap names_of c.in-Some.ensures.cases.0) c.self.view_is c.room_for.ensures.items [] None
-          (stops_opening_for_memory Ends trees name (names_of c.in-Some.rest.now) c.self.inside.tree cs c.self.invariant
+          (stops_opening_for_memory StopsBefore trees name (names_of c.in-Some.rest.now) c.self.inside.tree cs c.self.invariant
           (in_part_none name cs c.deref.result.now c.deref.ensures.value (c.in_default-child_at.ensures {u = tt})) there.0 there.1 there.2 there.3),
       refl,
       is,
@@ -98,19 +98,19 @@ returns-in_err-own_name-clause-stopped_opening g t c = if_err_weaken c.from_resi
 pub returns-in_err-tree-clause-stopped_opening : goal.returns-in_err-tree-clause-stopped_opening
 returns-in_err-tree-clause-stopped_opening g t c = if_err_weaken c.from_residual-in_err-tree.result _ _ c.from_residual-in_err-tree.ensures.1
     (λ error is trees fits.
-    let Ends = EndsBefore c.args.not_looked_up in
+    let StopsBefore = EndsBefore c.args.not_looked_up in
     let name = bstring_bytes c.in-Some.name.now in
     let cs = c.self.inside.children.items in
     let there = (c.in-Some-next_id.ensures {u = tt}).found in
     let queries = (c.in_err-tree.ensures {u = tt}).lookups in (
       c.in-Some-next_id.id ∷ [],
       Some c.in-Some-next_id.id,
-      subst (λ (id : ObjectId). StopsOpening Ends trees (names_of c.args.path.now) (dirs_of c.args.self.now)
+      subst (λ (id : ObjectId). StopsOpening StopsBefore trees (names_of c.args.path.now) (dirs_of c.args.self.now)
           (dirs_of (opened c.self.inside.tree c.self.inside.base (parts c.room_for.new.children.items))) (id ∷ []) (Some id)) there.4
-          (stops_opening_here Ends trees (names_of c.args.path.now) name (names_of c.in-Some.rest.now) c.self.inside.tree c.args.self.now cs
+          (stops_opening_here StopsBefore trees (names_of c.args.path.now) name (names_of c.in-Some.rest.now) c.self.inside.tree c.args.self.now cs
           c.room_for.new.children.items (ap names_of c.in-Some.ensures.cases.0) c.self.view_is c.room_for.ensures.items (there.0.id ∷ [])
           (Some there.0.id)
-          (stops_opening_not_found Ends trees name (names_of c.in-Some.rest.now) c.self.inside.tree cs c.self.invariant
+          (stops_opening_not_found StopsBefore trees name (names_of c.in-Some.rest.now) c.self.inside.tree cs c.self.invariant
           (in_part_none name cs c.deref.result.now c.deref.ensures.value (c.in_default-child_at.ensures {u = tt})) there.0 there.1 there.2 there.3
           (subst (λ (id : ObjectId). IsNeverLookedUp id → ⊥) (sym there.4) queries.0))),
       queries.1,

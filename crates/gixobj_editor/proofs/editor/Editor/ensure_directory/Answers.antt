@@ -5,7 +5,7 @@ use Rattle.std.proofs.lemmas.List.Elements.{recursion_from_All}
 use Rattle.gixobj_tree.specs.Entries.{IsEntryName}
 use Rattle.gixobj_files.specs.Edits.{IsNoTree, Opens, ensured_dirs}
 use Rattle.gixobj_files.specs.State.{State, open_dirs}
-use Rattle.gixobj_files.specs.Unopened.{inside}
+use Rattle.gixobj_files.specs.Unopened.{in_directory}
 use Rattle.gixobj_directories.specs.Calls.{names_of}
 use Rattle.gixobj_directories.specs.Nested.{Opened, dirs_of}
 use Rattle.gixobj_directories.specs.Openings.{AreTreesOf, IsOpenErrorAt}
@@ -19,18 +19,18 @@ use Rattle.gixobj_directories.specs.declared.opening.NotLookedUp.TheVariants as 
 use Rattle.gixobj_editor.proofs.OpenedOn.{ensured_on, halted_on, opened_on}
 use Rattle.gixobj_editor.proofs.editor.Editor.ensure_directory.Goals as goal
 
-pub returns-in_err-check_names-clause-error : goal.returns-in_err-check_names-clause-error
-returns-in_err-check_names-clause-error g c = if_err_weaken c.from_residual.result _ _ c.from_residual.ensures.1 (λ error is trees fits.
+pub returns-in_err-validate_names-clause-error : goal.returns-in_err-validate_names-clause-error
+returns-in_err-validate_names-clause-error g c = if_err_weaken c.from_residual.result _ _ c.from_residual.ensures.1 (λ error is trees fits.
     subst (IsCursorError (g.S.Store.objects c.args.self.now.store) (g.S.Store.may_fail c.args.self.now.store) trees (open_dirs c.args.self.now)
     (names_of c.args.path.now)) (sym is)
     (cursor_error_of_name (g.S.Store.objects c.args.self.now.store) (g.S.Store.may_fail c.args.self.now.store) trees (open_dirs c.args.self.now)
-    (names_of c.args.path.now) c.in_err-check_names.field-0.0 (c.in_err-check_names.ensures {u = tt}).error))
+    (names_of c.args.path.now) c.in_err-validate_names.field-0.0 (c.in_err-validate_names.ensures {u = tt}).error))
 
-pub returns-in_err-check_names-clause-after_error : goal.returns-in_err-check_names-clause-after_error
-returns-in_err-check_names-clause-after_error g c =
+pub returns-in_err-validate_names-clause-after_error : goal.returns-in_err-validate_names-clause-after_error
+returns-in_err-validate_names-clause-after_error g c =
     on_err_of c.from_residual.result _
     (λ trees fits. unchanged_at c.self.inside.store c.self.inside.object_hash (names_of c.self.inside.prefix.items) trees c.self.inside.root
-    c.self.inside.lookups c.args.self.now c.self.view_is (inside (names_of c.args.path.now)) c.self.invariant)
+    c.self.inside.lookups c.args.self.now c.self.view_is (in_directory (names_of c.args.path.now)) c.self.invariant)
 
 pub returns-in_err-open_along-clause-after_error : goal.returns-in_err-open_along-clause-after_error
 returns-in_err-open_along-clause-after_error g c =
@@ -40,7 +40,7 @@ returns-in_err-open_along-clause-after_error g c =
     let stored = ap (λ (o : State _). o.store) c.self.view_is in
     let bad = (c.in_err-open_along.ensures {u = tt}).stopped_opening trees (subst (λ o. AreTreesOf (g.S.Store.objects o) trees) (sym stored) fits) in
     halted_so s.store s.object_hash (names_of s.prefix.items) trees s.root c.open_along.new.self s.lookups c.open_along.new.lookups c.args.self.now
-    c.self.view_is (inside path) path [] refl bad.0 bad.1 bad.2 bad.3 c.self.invariant c.open_along.ensures.bases)
+    c.self.view_is (in_directory path) path [] refl bad.0 bad.1 bad.2 bad.3 c.self.invariant c.open_along.ensures.bases)
 
 pub returns-in_err-open_along-clause-error : goal.returns-in_err-open_along-clause-error
 returns-in_err-open_along-clause-error g c =
@@ -53,7 +53,7 @@ returns-in_err-open_along-clause-error g c =
     (sym gives)
     (rejects_at s.store s.object_hash (names_of s.prefix.items) trees (g.S.Store.objects c.args.self.now.store)
     (g.S.Store.may_fail c.args.self.now.store) s.root c.open_along.new.self s.lookups c.args.self.now c.self.view_is path
-    (c.in_ok-check_names.ensures {u = tt}).accepted c.self.invariant.opened
+    (c.in_ok-validate_names.ensures {u = tt}).accepted c.self.invariant.opened
     bad.0 bad.1 bad.2 c.in_err-open_along.field-0.0
     (subst (λ o. IsOpenErrorAt (g.S.Store.objects o) (g.S.Store.may_fail o) bad.1 c.in_err-open_along.field-0.0) stored bad.4)))
 
@@ -66,17 +66,17 @@ returns-in_err-prefix-clause-after_error g c =
     let stored = ap (λ (o : State _). o.store) c.self.view_is in
     let ok = (c.in_ok-open_along.ensures {u = tt}).opened trees (subst (λ o. AreTreesOf (g.S.Store.objects o) trees) (sym stored) fits) in
     opened_so s.store s.object_hash (names_of s.prefix.items) trees not_looked_up.Opened s.root c.open_along.new.self s.lookups c.open_along.new.lookups
-    c.args.self.now c.self.view_is (inside path) path [] refl ok.0 ok.1 ok.2 c.self.invariant c.open_along.ensures.bases)
+    c.args.self.now c.self.view_is (in_directory path) path [] refl ok.0 ok.1 ok.2 c.self.invariant c.open_along.ensures.bases)
 
 pub returns-in_err-prefix-clause-error : goal.returns-in_err-prefix-clause-error
 returns-in_err-prefix-clause-error g c =
     if_err_weaken c.from_residual-in_err-prefix.result _ _ c.from_residual-in_err-prefix.ensures.1 (λ error gives trees fits.
     subst (IsCursorError (g.S.Store.objects c.args.self.now.store) (g.S.Store.may_fail c.args.self.now.store) trees (open_dirs c.args.self.now)
     (names_of c.args.path.now)) (sym gives)
-    ((c.in_ok-check_names.ensures {u = tt}).accepted, (c.in_err-prefix.ensures {u = tt}).allocates))
+    ((c.in_ok-validate_names.ensures {u = tt}).accepted, (c.in_err-prefix.ensures {u = tt}).allocates))
 
 pub ensure_directory-requires : goal.ensure_directory-requires
-ensure_directory-requires g c = recursion_from_All IsEntryName (names_of c.args.path.now) (c.in_ok-check_names.ensures {u = tt}).accepted
+ensure_directory-requires g c = recursion_from_All IsEntryName (names_of c.args.path.now) (c.in_ok-validate_names.ensures {u = tt}).accepted
 
 pub returns-in_err-ensure_directory-clause-after_error : goal.returns-in_err-ensure_directory-clause-after_error
 returns-in_err-ensure_directory-clause-after_error g c =
@@ -87,7 +87,7 @@ returns-in_err-ensure_directory-clause-after_error g c =
     let ok = (c.in_ok-open_along.ensures {u = tt}).opened trees (subst (λ o. AreTreesOf (g.S.Store.objects o) trees) (sym stored) fits) in
     let same : c.ensure_directory.new.self ≡ c.open_along.new.self = (c.in_err-ensure_directory.ensures {u = tt}).unchanged in
     opened_so s.store s.object_hash (names_of s.prefix.items) trees not_looked_up.Opened s.root c.ensure_directory.new.self s.lookups c.open_along.new.lookups
-    c.args.self.now c.self.view_is (inside path) path [] refl ok.0
+    c.args.self.now c.self.view_is (in_directory path) path [] refl ok.0
     (subst (λ (ds : Opened). Opens IsNoTree trees path (dirs_of s.root) (dirs_of ds) ok.0) (sym same) ok.1) ok.2 c.self.invariant
     (subst (λ (ds : Opened). OpenedSo s.root ds) (sym same) c.open_along.ensures.bases))
 
@@ -97,7 +97,7 @@ returns-in_err-ensure_directory-clause-error g c =
     let path = names_of c.args.path.now in
     subst (IsCursorError (g.S.Store.objects c.args.self.now.store) (g.S.Store.may_fail c.args.self.now.store) trees (open_dirs c.args.self.now) path)
     (sym gives) (
-      (c.in_ok-check_names.ensures {u = tt}).accepted,
+      (c.in_ok-validate_names.ensures {u = tt}).accepted,
       path_not_nil path (dirs_of c.open_along.new.self)
           (c.open_along.ensures.still_opened c.self.invariant.opened) (c.in_err-ensure_directory.ensures {u = tt}).unopened,
     ))
@@ -132,7 +132,7 @@ invariant_of-self-2 g c =
     let ok = (c.in_ok-open_along.ensures {u = tt}).opened named.0 named.1 in
     ensured_on named.0 s.root c.open_along.new.self c.open_along.ensures.bases c.self.invariant c.ensure_directory.new.self
     (c.in_ok-ensure_directory.ensures {u = tt}).bases
-    s.object_hash path (c.in_ok-check_names.ensures {u = tt}).accepted ok.0 ok.1
+    s.object_hash path (c.in_ok-validate_names.ensures {u = tt}).accepted ok.0 ok.1
     (λ at. (c.in_ok-ensure_directory.ensures {u = tt}).dirs at ∙ ap (λ null. ensured_dirs path null (dirs_of c.open_along.new.self) at)
     c.null-null.ensures.value)
 
@@ -147,7 +147,7 @@ returns-clause-ensured g c = λ trees fits.
     let stored = ap (λ (o : State _). o.store) c.self.view_is in
     let ok = (c.in_ok-open_along.ensures {u = tt}).opened trees (subst (λ o. AreTreesOf (g.S.Store.objects o) trees) (sym stored) fits) in
     ensured_at s.store s.object_hash (names_of s.prefix.items) trees s.root c.open_along.new.self c.ensure_directory.new.self s.lookups c.open_along.new.lookups
-    c.args.self.now c.self.view_is path ok.0 (c.in_ok-check_names.ensures {u = tt}).accepted ok.1
+    c.args.self.now c.self.view_is path ok.0 (c.in_ok-validate_names.ensures {u = tt}).accepted ok.1
     (λ at. (c.in_ok-ensure_directory.ensures {u = tt}).dirs at ∙ ap (λ null. ensured_dirs path null (dirs_of c.open_along.new.self) at)
     c.null-null.ensures.value)
     ok.2 c.self.invariant

@@ -3,7 +3,7 @@ use Rattle.std.proofs.Common.{◌≡◌, subst}
 use Rattle.std.specs.Prelude.{IfErr, OnErr, OnOk}
 use Rattle.gixobj_files.specs.Files.{Path, Trees}
 use Rattle.gixobj_files.specs.State.{open_dirs}
-use Rattle.gixobj_files.specs.Unopened.{inside}
+use Rattle.gixobj_files.specs.Unopened.{in_directory}
 use Rattle.gixobj_directories.specs.Openings.{AreTreesOf}
 use Rattle.gixobj_editor.specs.Cursors.{IsEnsured, IsCursorError}
 use Rattle.gixobj_editor.specs.Upserts.{IsAfterFailedEdit}
@@ -21,7 +21,7 @@ returns-clause-ensured g c =
 pub returns-clause-after_error : goal.returns-clause-after_error
 returns-clause-after_error g c =
     subst (λ (p : Path). OnErr c.ensure_directory.result ((trees : Trees) → AreTreesOf (g.S.Store.objects c.args.self.now.store) trees
-    → IsAfterFailedEdit trees c.args.self.now (inside p) c.ensure_directory.new.self)) c.cursor_path_of.ensures
+    → IsAfterFailedEdit trees c.args.self.now (in_directory p) c.ensure_directory.new.self)) c.cursor_path_of.ensures
     c.ensure_directory.ensures.after_error
 
 pub returns-clause-error : goal.returns-clause-error

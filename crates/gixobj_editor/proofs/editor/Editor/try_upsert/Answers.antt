@@ -20,15 +20,15 @@ use Rattle.gixobj_editor.proofs.Paths.{names_of_snoc}
 use Rattle.gixobj_editor.proofs.OpenedOn.{halted_on, opened_on, inserted_on}
 use Rattle.gixobj_editor.proofs.editor.Editor.try_upsert.Goals as goal
 
-pub returns-in_err-check_names-clause-error : goal.returns-in_err-check_names-clause-error
-returns-in_err-check_names-clause-error g c = if_err_weaken c.from_residual.result _ _ c.from_residual.ensures.1 (λ error is trees fits.
+pub returns-in_err-validate_names-clause-error : goal.returns-in_err-validate_names-clause-error
+returns-in_err-validate_names-clause-error g c = if_err_weaken c.from_residual.result _ _ c.from_residual.ensures.1 (λ error is trees fits.
     subst (IsUpsertError (g.S.Store.objects c.args.self.now.store) (g.S.Store.may_fail c.args.self.now.store) trees (open_dirs c.args.self.now)
     (names_of c.args.path.now)) (sym is)
     (upsert_error_of_name (g.S.Store.objects c.args.self.now.store) (g.S.Store.may_fail c.args.self.now.store) trees (open_dirs c.args.self.now)
-    (names_of c.args.path.now) c.in_err-check_names.field-0.0 (c.in_err-check_names.ensures {u = tt}).error))
+    (names_of c.args.path.now) c.in_err-validate_names.field-0.0 (c.in_err-validate_names.ensures {u = tt}).error))
 
-pub returns-in_err-check_names-clause-after_error : goal.returns-in_err-check_names-clause-after_error
-returns-in_err-check_names-clause-after_error g c =
+pub returns-in_err-validate_names-clause-after_error : goal.returns-in_err-validate_names-clause-after_error
+returns-in_err-validate_names-clause-after_error g c =
     on_err_of c.from_residual.result _
     (λ trees fits. unchanged_at c.self.inside.store c.self.inside.object_hash (names_of c.self.inside.prefix.items) trees c.self.inside.root
     c.self.inside.lookups c.args.self.now c.self.view_is (names_of c.args.path.now) c.self.invariant)
@@ -67,11 +67,11 @@ returns-in_err-open_along-clause-error g c =
     (g.S.Store.may_fail c.args.self.now.store) s.root
     c.open_along.new.self s.lookups c.args.self.now c.self.view_is (names_of c.args.path.now) (names_of c.in-Some.directory.now)
     (bstring_bytes c.in-Some._last.now)
-    is (c.in_ok-check_names.ensures {u = tt}).accepted bad.0 bad.1 bad.2 c.in_err-open_along.field-0.0
+    is (c.in_ok-validate_names.ensures {u = tt}).accepted bad.0 bad.1 bad.2 c.in_err-open_along.field-0.0
     (subst (λ o. IsOpenErrorAt (g.S.Store.objects o) (g.S.Store.may_fail o) bad.1 c.in_err-open_along.field-0.0) stored bad.4)))
 
 pub insert_entry-requires : goal.insert_entry-requires
-insert_entry-requires g c = recursion_from_All IsEntryName (names_of c.args.path.now) (c.in_ok-check_names.ensures {u = tt}).accepted
+insert_entry-requires g c = recursion_from_All IsEntryName (names_of c.args.path.now) (c.in_ok-validate_names.ensures {u = tt}).accepted
 
 pub returns-in_err-insert_entry-clause-after_error : goal.returns-in_err-insert_entry-clause-after_error
 returns-in_err-insert_entry-clause-after_error g c =
@@ -112,7 +112,7 @@ invariant_of-self-2 g c =
     let ok = (c.in_ok-open_along.ensures {u = tt}).opened named.0 named.1 in
     inserted_on named.0 s.root c.open_along.new.self c.open_along.ensures.bases c.self.invariant c.insert_entry.new.self
     (c.in_ok-insert_entry.ensures {u = tt}).bases
-    s.object_hash path (names_of c.in-Some.directory.now) (bstring_bytes c.in-Some._last.now) is (c.in_ok-check_names.ensures {u = tt}).accepted
+    s.object_hash path (names_of c.in-Some.directory.now) (bstring_bytes c.in-Some._last.now) is (c.in_ok-validate_names.ensures {u = tt}).accepted
     (mode_of_kind c.args.kind) c.args.id ok.0 ok.1
     (λ at. (c.in_ok-insert_entry.ensures {u = tt}).dirs at
     ∙ ap (λ mode. upserted_dirs (names_of c.args.path.now) mode c.args.id c.null-null.result (dirs_of c.open_along.new.self) at) c.into.ensures
@@ -128,7 +128,7 @@ returns-clause-upserted g c = λ trees fits.
     upserted_at s.store s.object_hash (names_of s.prefix.items) trees s.root c.open_along.new.self c.insert_entry.new.self s.lookups
     c.open_along.new.lookups
     c.args.self.now c.self.view_is (names_of c.args.path.now) (names_of c.in-Some.directory.now) (bstring_bytes c.in-Some._last.now)
-    (mode_of_kind c.args.kind) c.args.id ok.0 is (c.in_ok-check_names.ensures {u = tt}).accepted ok.1
+    (mode_of_kind c.args.kind) c.args.id ok.0 is (c.in_ok-validate_names.ensures {u = tt}).accepted ok.1
     (λ at. (c.in_ok-insert_entry.ensures {u = tt}).dirs at
     ∙ ap (λ mode. upserted_dirs (names_of c.args.path.now) mode c.args.id c.null-null.result (dirs_of c.open_along.new.self) at) c.into.ensures
     ∙ ap (λ null. upserted_dirs (names_of c.args.path.now) (mode_of_kind c.args.kind) c.args.id null (dirs_of c.open_along.new.self) at)

@@ -6,7 +6,7 @@ use Rattle.gixobj_directories.specs.Calls.{names_of}
 use Rattle.gixobj_directories.specs.Emitting.{Stopped}
 use Rattle.gixobj_directories.specs.Nested.{bases_of, dirs_of}
 use Rattle.gixobj_files.specs.Files.{Path}
-use Rattle.gixobj_files.specs.Edits.{only, with_path}
+use Rattle.gixobj_files.specs.Edits.{only_open, with_path}
 use Rattle.gixobj_files.specs.Emission.{EmitsSome, Saves}
 use Rattle.gixobj_files.specs.Opening.{Dirs, in_path}
 use Rattle.gixobj_files.specs.State.{State, open_bases, open_dirs}
@@ -41,7 +41,7 @@ returns-clause-written g c = if_ok_and c.write_at.result _ _ _ c.write_at.ensure
     c.args.out.now
     c.write_at.new.out
     (subst (λ (p : Path). Saves (in_path p (dirs_of s.root)) (in_path p (bases_of s.root)) ok.0 ok.1 it.saved) at ok.2) ok.3 ok.4 ok.5
-    (λ place. ok.6 place ∙ ap (λ (p : Path). with_path p (only ok.1) (dirs_of s.root) place) at) edited)
+    (λ place. ok.6 place ∙ ap (λ (p : Path). with_path p (only_open ok.1) (dirs_of s.root) place) at) edited)
 
 pub returns-clause-error : goal.returns-clause-error
 returns-clause-error g c =

@@ -26,14 +26,14 @@ write_edits-requires g c = record {
 
 pub returns-then-self : goal.returns-then-self
 returns-then-self g c =
-    let means = store_model g.S.Store.objects g.S.Store.may_fail in
-    let objects = means.objects c.args.self.now.editor.store in
+    let model = store_model g.S.Store.objects g.S.Store.may_fail in
+    let objects = model.objects c.args.self.now.editor.store in
     record { imported = tt; after_error = (c.if-self.true, refl); adds = adds_by_digest_nil objects objects refl; files = tt; bases = tt }
 
 pub returns-then-hold_a_write : goal.returns-then-hold_a_write
 returns-then-hold_a_write g c =
-    let means = store_model g.S.Store.objects g.S.Store.may_fail in
-    let objects = means.objects c.args.self.now.editor.store in
+    let model = store_model g.S.Store.objects g.S.Store.may_fail in
+    let objects = model.objects c.args.self.now.editor.store in
     record {
       imported = tt;
       after_error = (
@@ -49,7 +49,7 @@ returns-then-hold_a_write g c =
 
 pub returns-in-Err : goal.returns-in-Err
 returns-in-Err g c =
-    let means = store_model g.S.Store.objects g.S.Store.may_fail in
+    let model = store_model g.S.Store.objects g.S.Store.may_fail in
     let laws : OfStores = record {
       trees_of = c.store_has_tree_map.ensures;
       inserted = record {
@@ -60,19 +60,19 @@ returns-in-Err g c =
     } in
     let old = c.args.self.now in
     let new : Importer g.row.S.Denot = record old { editor = c.write_edits.new.editor; failed = true } in
-    let rejected = rejects_step means old new c.args.step.now c.in-Err.error (record {
+    let rejected = rejects_step model old new c.args.step.now c.in-Err.error (record {
       ready = c.if-self.false;
       no_write = no_write_of_step c.args.step.now.edits.items c.deref.result.now c.hold_a_write.result c.deref.ensures.value c.if-hold_a_write.false
           c.hold_a_write.ensures;
-      cause = inl (subst (λ (es : List Edit). IsStepEditsError means old.hash es old.editor c.in-Err.error c.write_edits.new.editor) c.deref-2.ensures.value
+      cause = inl (subst (λ (es : List Edit). IsStepEditsError model old.hash es old.editor c.in-Err.error c.write_edits.new.editor) c.deref-2.ensures.value
           (c.in-Err.ensures {u = tt}).error);
       rest = refl;
     }) in
-    record { imported = tt; after_error = rejected; adds = rejected_adds means laws old new c.args.step.now c.in-Err.error rejected; files = tt; bases = tt }
+    record { imported = tt; after_error = rejected; adds = rejected_adds model laws old new c.args.step.now c.in-Err.error rejected; files = tt; bases = tt }
 
 pub returns-in-Err-kept : goal.returns-in-Err-kept
 returns-in-Err-kept g c =
-    let means = store_model g.S.Store.objects g.S.Store.may_fail in
+    let model = store_model g.S.Store.objects g.S.Store.may_fail in
     let laws : OfStores = record {
       trees_of = c.store_has_tree_map.ensures;
       inserted = record {
@@ -83,14 +83,14 @@ returns-in-Err-kept g c =
     } in
     let old = c.args.self.now in
     let new : Importer g.row.S.Denot = record old { editor = c.keep_commit_of-kept.new.editor; failed = true } in
-    let rejected = rejects_step means old new c.args.step.now c.in-Err-kept.error (record {
+    let rejected = rejects_step model old new c.args.step.now c.in-Err-kept.error (record {
       ready = c.if-self.false;
       no_write = no_write_of_step c.args.step.now.edits.items c.deref.result.now c.hold_a_write.result c.deref.ensures.value c.if-hold_a_write.false
           c.hold_a_write.ensures;
       cause = inr (record {
         it = c.in-Ok.written;
         between = c.write_edits.new.editor;
-        trees = subst (λ (es : List Edit). IsWriteAfter means old.hash old.editor es (reply.Written c.in-Ok.written) c.write_edits.new.editor)
+        trees = subst (λ (es : List Edit). IsWriteAfter model old.hash old.editor es (reply.Written c.in-Ok.written) c.write_edits.new.editor)
             c.deref-2.ensures.value (c.in-Ok.ensures {u = tt}).written;
         cause = (c.in-Err-kept.ensures {u = tt}).error;
       });
@@ -99,14 +99,14 @@ returns-in-Err-kept g c =
     record {
       imported = tt;
       after_error = rejected;
-      adds = rejected_adds means laws old new c.args.step.now c.in-Err-kept.error rejected;
+      adds = rejected_adds model laws old new c.args.step.now c.in-Err-kept.error rejected;
       files = tt;
       bases = tt;
     }
 
 pub returns : goal.returns
 returns g c =
-    let means = store_model g.S.Store.objects g.S.Store.may_fail in
+    let model = store_model g.S.Store.objects g.S.Store.may_fail in
     let laws : OfStores = record {
       trees_of = c.store_has_tree_map.ensures;
       inserted = record {
@@ -118,12 +118,12 @@ returns g c =
     let old = c.args.self.now in
     let new : Importer g.row.S.Denot = record old { editor = c.keep_commit_of-kept.new.editor; last = Some c.in-Ok-kept.commit; failed = false } in
     let it : Imported = record { commit = c.in-Ok-kept.commit; written = c.in-Ok.written } in
-    let one : IsImported means old c.args.step.now it new = record {
+    let one : IsImported model old c.args.step.now it new = record {
       ready = c.if-self.false;
       no_write = no_write_of_step c.args.step.now.edits.items c.deref.result.now c.hold_a_write.result c.deref.ensures.value c.if-hold_a_write.false
           c.hold_a_write.ensures;
       between = c.write_edits.new.editor;
-      trees = subst (λ (es : List Edit). IsWriteAfter means old.hash old.editor es (reply.Written c.in-Ok.written) c.write_edits.new.editor)
+      trees = subst (λ (es : List Edit). IsWriteAfter model old.hash old.editor es (reply.Written c.in-Ok.written) c.write_edits.new.editor)
           c.deref-2.ensures.value (c.in-Ok.ensures {u = tt}).written;
       root = (c.in-Ok.ensures {u = tt}).root;
       commit = (c.in-Ok-kept.ensures {u = tt}).stored;
@@ -132,7 +132,7 @@ returns g c =
     record {
       imported = one;
       after_error = tt;
-      adds = step_adds means laws old c.args.step.now it new one;
-      files = λ T n agrees. step_files means laws old c.args.step.now it new one T n agrees;
-      bases = step_bases means laws old c.args.step.now it new one;
+      adds = step_adds model laws old c.args.step.now it new one;
+      files = λ T n agrees. step_files model laws old c.args.step.now it new one T n agrees;
+      bases = step_bases model laws old c.args.step.now it new one;
     }

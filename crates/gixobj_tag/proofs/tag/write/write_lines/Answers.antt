@@ -65,8 +65,11 @@ pub returns-in_err-write_target-clause-room : goal.returns-in_err-write_target-c
 returns-in_err-write_target-clause-room g c =
     let from = err_from_is_err_and c.from_residual.result c.from_residual.ensures.1 in
     let prefix : List ℕ = encode_target_lines (g.T.Target.target_line c.args.target.now) c.args.target_kind in
-    rw (from.1, from.2) (λ value parts rejected. omega (arith, c.in_err-write_target.ensures.appended.short,
-    parts_after_target prefix (bstr_bytes c.args.name) (g.A.Tagger.rejects c.args.tagger.now) value parts rejected))
+    rw (from.1, from.2) (λ value parts rejected. omega (
+      arith,
+      c.in_err-write_target.ensures.appended.short,
+      parts_after_target prefix (bstr_bytes c.args.name) (g.A.Tagger.rejects c.args.tagger.now) value parts rejected,
+    ))
 
 pub returns-in_err-write_name-clause-room : goal.returns-in_err-write_name-clause-room
 returns-in_err-write_name-clause-room g c =

@@ -98,8 +98,13 @@ returns-in_err-write_hex_ids-clause-room g c =
     let author = encode_field (codes "author") c.as_bytes-author.result.now in
     let committer = encode_field (codes "committer") c.as_bytes-committer.result.now in
     let from = err_from_is_err_and c.from_residual.result c.from_residual.ensures.1 in
-    rw (from.1, from.2) (λ value parts rejected. omega (arith, c.in_err-write_hex_ids.ensures.appended.short, ap length (after value parts rejected),
-    length-append (ids ++ author) committer, length-append ids author))
+    rw (from.1, from.2) (λ value parts rejected. omega (
+      arith,
+      c.in_err-write_hex_ids.ensures.appended.short,
+      ap length (after value parts rejected),
+      length-append (ids ++ author) committer,
+      length-append ids author,
+    ))
 
 pub returns-in_err-trusted_header_field-clause-room : goal.returns-in_err-trusted_header_field-clause-room
 returns-in_err-trusted_header_field-clause-room g c =
@@ -111,9 +116,14 @@ returns-in_err-trusted_header_field-clause-room g c =
     let author = encode_field (codes "author") c.as_bytes-author.result.now in
     let committer = encode_field (codes "committer") c.as_bytes-committer.result.now in
     let from = err_from_is_err_and c.from_residual-in_err-trusted_header_field.result c.from_residual-in_err-trusted_header_field.ensures.1 in
-    rw (from.1, from.2) (λ value parts rejected. omega (arith, c.in_ok-write_hex_ids.ensures.appended.room,
-    c.in_err-trusted_header_field.ensures.appended.short, ap length (after value parts rejected), length-append (ids ++ author) committer,
-    length-append ids author))
+    rw (from.1, from.2) (λ value parts rejected. omega (
+      arith,
+      c.in_ok-write_hex_ids.ensures.appended.room,
+      c.in_err-trusted_header_field.ensures.appended.short,
+      ap length (after value parts rejected),
+      length-append (ids ++ author) committer,
+      length-append ids author,
+    ))
 
 pub returns-in_err-trusted_header_field-2-clause-room : goal.returns-in_err-trusted_header_field-2-clause-room
 returns-in_err-trusted_header_field-2-clause-room g c =
@@ -125,9 +135,15 @@ returns-in_err-trusted_header_field-2-clause-room g c =
     let author = encode_field (codes "author") c.as_bytes-author.result.now in
     let committer = encode_field (codes "committer") c.as_bytes-committer.result.now in
     let from = err_from_is_err_and c.from_residual-in_err-trusted_header_field-2.result c.from_residual-in_err-trusted_header_field-2.ensures.1 in
-    rw (from.1, from.2) (λ value parts rejected. omega (arith, c.in_ok-write_hex_ids.ensures.appended.room,
-    c.in_ok-trusted_header_field.ensures.appended.room, c.in_err-trusted_header_field-2.ensures.appended.short, ap length (after value parts rejected),
-    length-append (ids ++ author) committer, length-append ids author))
+    rw (from.1, from.2) (λ value parts rejected. omega (
+      arith,
+      c.in_ok-write_hex_ids.ensures.appended.room,
+      c.in_ok-trusted_header_field.ensures.appended.room,
+      c.in_err-trusted_header_field-2.ensures.appended.short,
+      ap length (after value parts rejected),
+      length-append (ids ++ author) committer,
+      length-append ids author,
+    ))
 
 pub returns-clause-room : goal.returns-clause-room
 returns-clause-room g c =

@@ -83,9 +83,12 @@ returns-clause-error g c =
 pub returns-in_err-write_ids-clause-room : goal.returns-in_err-write_ids-clause-room
 returns-in_err-write_ids-clause-room g c =
     let from = err_from_is_err_and c.from_residual.result c.from_residual.ensures.1 in
-    rw (from.1, from.2) (λ value parts rejected. omega (arith, c.in_err-write_ids.ensures.appended.short,
-    owned_commit_error_after_ids c.args.self.now c.as_slice-parents.result.now c.borrowed-encoding.result c.as_slice-parents.ensures c.borrowed-encoding.ensures
-    value parts rejected))
+    rw (from.1, from.2) (λ value parts rejected. omega (
+      arith,
+      c.in_err-write_ids.ensures.appended.short,
+      owned_commit_error_after_ids c.args.self.now c.as_slice-parents.result.now c.borrowed-encoding.result c.as_slice-parents.ensures c.borrowed-encoding.ensures
+          value parts rejected,
+    ))
 
 pub returns-in_err-trusted_header_signature-clause-room : goal.returns-in_err-trusted_header_signature-clause-room
 returns-in_err-trusted_header_signature-clause-room g c =
