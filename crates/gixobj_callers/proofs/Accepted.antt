@@ -253,7 +253,8 @@ module _ {S : Type 0} (runs : S → CallView → Answer → S → Type 0) (by : 
 -- ---- all formats
 
 -- an accepted outcome of the plan for a signature's format has calls and answers that accept it
-pub vouches_of_acceptance : {S : Type 0} (runs : S → CallView → Answer → S → Type 0) (it : VerifyOptionsView) (signature signed : List ℕ) (format : Option Format)
+pub vouches_of_acceptance : {S : Type 0} (runs : S → CallView → Answer → S → Type 0) (it : VerifyOptionsView) (signature signed : List ℕ)
+    (format : Option Format)
     (s t : S)
     (outcome : OutcomeView)
     → CarriesOut runs (verify_plan it signature signed format) s (reported outcome) t → outcome.valid ≡ true

@@ -63,7 +63,8 @@ in_it inside based dirs bases name is b inner own saved found = subst (λ (d : D
 
 pub emits_entry_emptied : (inside based : Dirs) (e : EntryView) (inner : List Pair) (own : List EntryView) (saved : ℕ) → own ≡ []
     → EmitsBelow inside based inner own saved → EmitsEntry inside based e inner [] saved
-emits_entry_emptied inside based e inner [] saved is found = λ dirs bases same b entries below own more walk. left_out_if_empty dirs bases e entries inner below own
+emits_entry_emptied inside based e inner [] saved is found = λ dirs bases same b entries below own more walk. left_out_if_empty dirs bases e entries inner
+    below own
     saved more
     (in_it inside based dirs bases e.name same b inner [] saved found) walk
 emits_entry_emptied inside based e inner (x ∷ xs) saved is found = absurd (cc is)

@@ -107,7 +107,8 @@ GoesIn Fits R =
     → is_tree_mode e.mode ≡ true → ((path : Path) → dirs (name ∷ path) ≡ None)
     → Fits e entries first → R rest (only_open entries) inner looked_up → R (name ∷ rest) dirs (with_dir name inner dirs) (first ++ looked_up)
 
-pub opens_stopped_at_child : {StopsBefore : EntryView → Type 0} (trees : Trees) (es : List EntryView) (ps : List Part) → IsLevel es ps → (name : List ℕ) (rest : Path)
+pub opens_stopped_at_child : {StopsBefore : EntryView → Type 0} (trees : Trees) (es : List EntryView) (ps : List Part) → IsLevel es ps
+    → (name : List ℕ) (rest : Path)
     → ((path : Path) → in_part name ps path ≡ None) → ((e : EntryView) → ContainsEntry es e → e.name ≡ name → StopsBefore e)
     → Opens StopsBefore trees (name ∷ rest) (dirs_of (opened es [] ps)) (dirs_of (opened es [] ps)) []
 opens_stopped_at_child trees es ps level name rest none other = stops name rest (dirs_of (opened es [] ps)) other
@@ -168,7 +169,8 @@ pub opens_stopped_here : {StopsBefore : EntryView → Type 0} (trees : Trees) (e
     → ((e : EntryView) → ContainsEntry es e → e.name ≡ name → StopsBefore e) → Opens StopsBefore trees path (dirs_of ds) (dirs_of ds) []
 opens_stopped_here {StopsBefore = StopsBefore} trees es ds path name rest path_is ps view level none other =
     subst (λ p. Opens StopsBefore trees p (dirs_of ds) (dirs_of ds) []) (sym path_is)
-    (subst (λ (d : Opened). Opens StopsBefore trees (name ∷ rest) (dirs_of d) (dirs_of d) []) view (opens_stopped_at_child trees es ps level name rest none other))
+    (subst (λ (d : Opened). Opens StopsBefore trees (name ∷ rest) (dirs_of d) (dirs_of d) []) view
+    (opens_stopped_at_child trees es ps level name rest none other))
 
 -- the steps for an entire level, and a path that is known by its parts
 module _ (Fits : EntryView → List EntryView → List ObjectId → Type 0) (R : Path → Dirs → Dirs → List ObjectId → Type 0) (goes_down : GoesDown R)
@@ -227,7 +229,8 @@ opens_goes_in StopsBefore trees name rest dirs inner e entries first looked_up e
 abbrev pub HaltsAt : (EntryView → Type 0) → Trees → Option ObjectId → Path → Dirs → Dirs → List ObjectId → Type 0
 HaltsAt StopsBefore trees failed_lookup path old new looked_up = StopsOpening StopsBefore trees path old new looked_up failed_lookup
 
-pub halts_at_goes_down : (StopsBefore : EntryView → Type 0) (trees : Trees) (failed_lookup : Option ObjectId) → GoesDown (HaltsAt StopsBefore trees failed_lookup)
+pub halts_at_goes_down : (StopsBefore : EntryView → Type 0) (trees : Trees) (failed_lookup : Option ObjectId)
+    → GoesDown (HaltsAt StopsBefore trees failed_lookup)
 halts_at_goes_down StopsBefore trees failed_lookup name rest dirs inner e entries looked_up has named is halts =
     halting.down name rest dirs inner e entries looked_up failed_lookup has named is halts
 
@@ -253,7 +256,8 @@ pub stops_opening_for_memory : (StopsBefore : EntryView → Type 0) (trees : Tre
     → IsLevel es (parts cs)
     → ((at : Path) → in_part name (parts cs) at ≡ None) → (e : EntryView) → IsEntryOf name (Some es) e → is_tree_mode e.mode ≡ true → (StopsBefore e → ⊥)
     → StopsOpening StopsBefore trees (name ∷ rest) (dirs_of (opened es [] (parts cs))) (dirs_of (opened es [] (parts cs))) [] None
-stops_opening_for_memory StopsBefore trees name rest es cs level none e entry tree free = at_once name rest (dirs_of (opened es [] (parts cs))) e entry tree free
+stops_opening_for_memory StopsBefore trees name rest es cs level none e entry tree free =
+    at_once name rest (dirs_of (opened es [] (parts cs))) e entry tree free
     (λ at. dirs_of_opened_cons es [] (parts cs) name at (level_names_apart level) ∙ none at)
 
 -- an opening stops at a directory whose tree isn't found

@@ -29,7 +29,8 @@ kept_open old new at keeps there none =
       | Some entries ↦ λ is. let bad : Some entries ≡ None = sym (keeps entries is) ∙ none in cc bad
     ] refl
 
-opened_still : {StopsBefore : EntryView → Type 0} (trees : Trees) (path : Path) (old new : Dirs) (queries : List ObjectId) → Opens StopsBefore trees path old new queries
+opened_still : {StopsBefore : EntryView → Type 0} (trees : Trees) (path : Path) (old new : Dirs) (queries : List ObjectId)
+    → Opens StopsBefore trees path old new queries
     → (at : Path) → old at ≢ None → new at ≢ None
 opened_still trees path old new queries opens at there = kept_open old new at (opens_keeps_open_lists trees path old new queries opens at) there
 

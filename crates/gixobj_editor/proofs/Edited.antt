@@ -292,7 +292,8 @@ module _ {S : Type 0} (store : S) (hash : Kind) (prefix : Path) (trees : Trees) 
         at_most_one = so.at_most_one;
         next = λ it is. subst (λ (d : Dirs). IsNextUnopened trees d so.reached so.more it) (sym (map_dirs_eq ds)) (so.next it is);
         lookups = so.lookups;
-        at_most_unopened = subst (λ (d : Dirs). length (so.looked_up ++ so.failed_lookup) ≤ unopened_count trees d path) (sym (map_dirs_eq ds)) so.at_most_unopened;
+        at_most_unopened = subst (λ (d : Dirs). length (so.looked_up ++ so.failed_lookup) ≤ unopened_count trees d path)
+            (sym (map_dirs_eq ds)) so.at_most_unopened;
         rest = refl;
         is_opened = map_is_opened ds' (is_opened_of_opens trees so.reached (dirs_of ds) (dirs_of ds') so.looked_up so.opens was.opened);
         files = λ T k agrees. opens_keeps_files T trees agrees so.reached (map_dirs ds) (map_dirs ds') so.looked_up opened k;

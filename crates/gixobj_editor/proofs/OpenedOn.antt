@@ -44,7 +44,8 @@ root_opened_on ds root base is formed =
 
 module _ (trees : Trees) (ds mid : Opened) (first : OpenedSo ds mid) (was : OpenedOn ds) where
   -- the invariant after directories were opened
-  pub opened_on : {StopsBefore : EntryView → Type 0} (path : Path) (queries : List ObjectId) → Opens StopsBefore trees path (dirs_of ds) (dirs_of mid) queries → OpenedOn mid
+  pub opened_on : {StopsBefore : EntryView → Type 0} (path : Path) (queries : List ObjectId) → Opens StopsBefore trees path (dirs_of ds) (dirs_of mid) queries
+      → OpenedOn mid
   opened_on path queries opens = record {
     opened = is_opened_of_opens trees path (dirs_of ds) (dirs_of mid) queries opens was.opened;
     null_based = opened_null_based trees hash.Sha1 (dirs_of ds) (bases_of ds) (dirs_of mid) (bases_of mid) was path queries opens first;
@@ -79,7 +80,8 @@ module _ (trees : Trees) (ds mid : Opened) (first : OpenedSo ds mid) (was : Open
           (both_so ds mid ds' first then);
     }
 
-    pub taken_on : {StopsBefore : EntryView → Type 0} (head path : Path) (queries : List ObjectId) → Opens StopsBefore trees head (dirs_of ds) (dirs_of mid) queries
+    pub taken_on : {StopsBefore : EntryView → Type 0} (head path : Path) (queries : List ObjectId)
+        → Opens StopsBefore trees head (dirs_of ds) (dirs_of mid) queries
         → ((at : Path) → dirs_of ds' at ≡ removed_dirs path (dirs_of mid) at) → OpenedOn ds'
     taken_on head path queries opens taken = record {
       opened = is_opened_after_removal path mid ds' (opened_on head queries opens).opened taken;

@@ -62,7 +62,8 @@ after_names path names [] splits = elim (path_nil_or_snoc path) [
 ]
 after_names path names (name ∷ rest) splits = inr (name, rest, splits.2, splits.0)
 
-no_halt : {StopsBefore : EntryView → Type 0} (trees : Trees) (path : Path) → path ≡ [] → (old new : Dirs) (requested : List ObjectId) (failed_lookup : Option ObjectId)
+no_halt : {StopsBefore : EntryView → Type 0} (trees : Trees) (path : Path) → path ≡ []
+    → (old new : Dirs) (requested : List ObjectId) (failed_lookup : Option ObjectId)
     → StopsOpening StopsBefore trees path old new requested failed_lookup → ⊥
 no_halt trees path is old new requested failed_lookup (at_once name rest d e entry tree free none) = cc is
 no_halt trees path is old new requested failed_lookup (without_answer name rest d e entry tree free none filled) = cc is
@@ -78,7 +79,8 @@ module _ {StopsBefore : EntryView → Type 0} (idle : IsIdle StopsBefore) (objec
   -- a directory isn't opened
   stopped_opening_fails : (path names : Path) (last : List ℕ) (following : Path) → path ≡ names ++ last ∷ following → AreNames names
       → (old new : Dirs) (requested : List ObjectId) (failed_lookup : Option ObjectId) → StopsOpening StopsBefore trees names old new requested failed_lookup
-      → (cause : directory.Error) → IsOpenErrorAt objects may_fail failed_lookup cause → IsRemovalError StopsBefore objects may_fail trees old path (edit_error cause)
+      → (cause : directory.Error) → IsOpenErrorAt objects may_fail failed_lookup cause
+      → IsRemovalError StopsBefore objects may_fail trees old path (edit_error cause)
   stopped_opening_fails path names last following is good old new requested failed_lookup halts opening.OutOfMemory at =
       subst (λ p. IsRemovalError StopsBefore objects may_fail trees old p error.OutOfMemory) (sym is)
       (halted_unopened trees names last following old new requested failed_lookup halts)
@@ -119,7 +121,8 @@ module _ {StopsBefore : EntryView → Type 0} (idle : IsIdle StopsBefore) (objec
   first_failed path names name rest good is old new requested opens entries there error.OutOfMemory h = absurd h
 
   pub name_rejected_so : (path names rejected : Path) → SplitsAtFirstInvalid path names rejected → (old new : Dirs) (requested : List ObjectId)
-      → Opens StopsBefore trees names old new requested → (entries : List EntryView) → new names ≡ Some entries → (failure : Error) → IsFirstNameError rejected failure
+      → Opens StopsBefore trees names old new requested → (entries : List EntryView) → new names ≡ Some entries → (failure : Error)
+      → IsFirstNameError rejected failure
       → (n m : ℕ) → m ≡ counted n requested → IsRejectedSo StopsBefore objects may_fail trees path old new n m failure
   name_rejected_so path names [] splits old new requested opens entries there failure h n m count = absurd h
   name_rejected_so path names (name ∷ rest) splits old new requested opens entries there failure (inl h) n m count = (
@@ -133,7 +136,8 @@ abbrev pub IsOpenedFor : (EntryView → Type 0) → Trees → Path → Dirs → 
 IsOpenedFor StopsBefore trees path old new requested = Opens StopsBefore trees (directory_of path) old new requested
     × ((name : List ℕ) → ValidatesUpTo StopsBefore trees old path name → IsEntryName name)
 
-pub is_opened_for_of_opens : {StopsBefore : EntryView → Type 0} → IsIdle StopsBefore → (trees : Trees) (path names rejected : Path) → SplitsAtFirstInvalid path names rejected
+pub is_opened_for_of_opens : {StopsBefore : EntryView → Type 0} → IsIdle StopsBefore → (trees : Trees) (path names rejected : Path)
+    → SplitsAtFirstInvalid path names rejected
     → (old new : Dirs)
     → old [] ≢ None → (requested : List ObjectId) → Opens StopsBefore trees names old new requested → (new names ≡ None) ⊎ AreNames rejected
     → IsOpenedFor StopsBefore trees path old new requested
@@ -146,7 +150,8 @@ is_opened_for_of_opens {StopsBefore = StopsBefore} idle trees path names (bad �
       (opens_of_longer_path trees names (directory_of (bad ∷ rest)) old new requested opens root ended),
   λ name it. elim (snoc_prefix_cases names bad rest it.0 name it.1 (sym splits.2 ∙ it.2)) [
     | inl within ↦ is_entry_name_of_member it.0 name within.0 (subst AreNames within.1 splits.0)
-    | inr (inl at) ↦ absurd (comes_open idle trees names old new requested opens root (subst (λ p. ReachesDirectory StopsBefore trees old p) (sym at.0) it.4) ended)
+    | inr (inl at) ↦ absurd (comes_open idle trees names old new requested opens root
+        (subst (λ p. ReachesDirectory StopsBefore trees old p) (sym at.0) it.4) ended)
     | inr (inr following) ↦ absurd (splits.1 (is_entry_name_of_member names bad following.0 (subst AreNames following.1 it.3)))
   ],
 )

@@ -42,7 +42,8 @@ pub written_prefix_is_open : {W X S : Type 0} (result : Result W X) (old new : S
     → OnErr result (new ≡ old) → new.prefix ≡ old.prefix → open_dirs old old.prefix ≢ None → open_dirs new new.prefix ≢ None
 written_prefix_is_open (Ok it) old new (own, remaining) unchanged same there =
     λ none. let found : Some own ≡ None =
-    sym (sym (ap (with_path old.prefix (only_open own) (open_dirs old)) (append-nil old.prefix)) ∙ with_path_at_prefix old.prefix (only_open own) (open_dirs old) [])
+    sym (sym (ap (with_path old.prefix (only_open own) (open_dirs old)) (append-nil old.prefix))
+    ∙ with_path_at_prefix old.prefix (only_open own) (open_dirs old) [])
     ∙ sym (remaining old.prefix) ∙ subst (λ (p : Path). open_dirs new p ≡ None) same none in cc found
 written_prefix_is_open {S = S} (Err error) old new ok unchanged same there = subst (λ (o : State S). open_dirs o o.prefix ≢ None) (sym unchanged) there
 

@@ -28,8 +28,7 @@ pub fn consistent_run_has_table<E>(replies: &[Reply<E>])
         × AgreesWithRun T objects replies.now }
 {}
 
-/// A table that agrees with a run agrees with the part of the run before each write of the root, and with the
-/// trees of that write.
+/// A table that agrees with a run agrees with what is before each write of the root, and with its trees.
 ///
 /// These are the assumptions on tables of the theorem of files in [`run`](crate::run).
 pub fn run_table_agrees_with_writes<E>(replies: &[Reply<E>])

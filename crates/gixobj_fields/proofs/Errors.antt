@@ -82,7 +82,7 @@ pub lacks_room_in_piece : (Q : RejectedValue → List ℕ → Type 0) (a b c : S
 lacks_room_in_piece Q a b c prefix piece first part later =
     λ value parts rejected. omega (arith, first.room, part.short, later value parts rejected)
 
--- the error of a piece after a written prefix is one for lack of room, if each rejected value of the whole is one of the
+-- the error of a piece after a written prefix is one for lack of room, if each rejected value is one of the
 -- piece or comes after it
 pub lacks_room_after : (R Q : RejectedValue → List ℕ → Type 0) (a b c : SinkView) (prefix piece : List ℕ) → AppendsAll a b prefix
     → ((value : RejectedValue) (parts : List ℕ) → Q value parts
@@ -108,7 +108,7 @@ pub lacks_room_of_result : {T : Type 0} (result : Result T Error) (R Q : Rejecte
 lacks_room_of_result (Ok value) R Q a b c prefix piece first back says short = tt
 lacks_room_of_result (Err e) R Q a b c prefix piece first back says short = lacks_room_after R Q a b c prefix piece first back e says short
 
--- fewer rejected values ask for no more room
+-- fewer rejected values need no more room
 pub lacks_room_of_fewer : (R Q : RejectedValue → List ℕ → Type 0) (a : SinkView) → ((value : RejectedValue) (parts : List ℕ) → Q value parts → R value parts)
     → (e : Error) → LacksRoom R a e → LacksRoom Q a e
 lacks_room_of_fewer R Q a fewer (error.Writer cause) short = λ value parts rejected. short value parts (fewer value parts rejected)

@@ -70,7 +70,8 @@ module _ (P : OfEntry) (trees : Trees) (kind : Kind) (lasts : Lasts P trees (nul
       edited_so opened (ensured_dirs path (null_id kind) opened) dirs_are bases_are
       (lasts_ensured P trees (null_id kind) lasts old bases is_opened all path opened looked_up opens)
 
-  after_removal : {StopsBefore : EntryView → Type 0} (head path : Path) (opened : Dirs) (looked_up : List ObjectId) → Opens StopsBefore trees head old opened looked_up
+  after_removal : {StopsBefore : EntryView → Type 0} (head path : Path) (opened : Dirs) (looked_up : List ObjectId)
+      → Opens StopsBefore trees head old opened looked_up
       → ((at : Path) → new at ≡ removed_dirs path opened at) → Left opened → Everywhere P new remaining
   after_removal head path opened looked_up opens dirs_are bases_are =
       edited_so opened (removed_dirs path opened) dirs_are bases_are
@@ -83,7 +84,8 @@ module _ (P : OfEntry) (trees : Trees) (kind : Kind) (lasts : Lasts P trees (nul
       (everywhere_opened P trees (null_id kind) lasts path old new looked_up opens bases all)
 
   after_write : (prefix : Path) (own : List EntryView) → old prefix ≢ None → ((e : EntryView) → ContainsEntry own e → P e None None)
-      → ((at : Path) → new at ≡ with_path prefix (only_open own) old at) → ((at : Path) → remaining at ≡ edited_bases old new bases at) → Everywhere P new remaining
+      → ((at : Path) → new at ≡ with_path prefix (only_open own) old at) → ((at : Path) → remaining at ≡ edited_bases old new bases at)
+      → Everywhere P new remaining
   after_write prefix own there each dirs_are bases_are =
       let made : Dirs = with_path prefix (only_open own) old in
       let remaining_is : (at : Path) → remaining at ≡ edited_bases old made bases at =
@@ -116,7 +118,8 @@ module _ (T : Table) (trees : Trees) (kind : Kind) (old bases new remaining : Di
       has_bases_of_everywhere T new remaining
       (after_assuring (Based T) trees kind lasting old bases new remaining was.opened all path opened looked_up opens dirs_are bases_are)
 
-  pub removed_based : {StopsBefore : EntryView → Type 0} (head path : Path) (opened : Dirs) (looked_up : List ObjectId) → Opens StopsBefore trees head old opened looked_up
+  pub removed_based : {StopsBefore : EntryView → Type 0} (head path : Path) (opened : Dirs) (looked_up : List ObjectId)
+      → Opens StopsBefore trees head old opened looked_up
       → ((at : Path) → new at ≡ removed_dirs path opened at)
       → ((at : Path) → remaining at ≡ edited_bases opened new (opened_bases old opened bases) at) → HasBases T new remaining
   removed_based head path opened looked_up opens dirs_are bases_are =

@@ -43,7 +43,8 @@ differs x [] y h k = absurd k
 differs x (z ∷ ys) y h (inl same) = λ q. h.0 (q ∙ ap (λ (w : EntryView). w.name) (sym same))
 differs x (z ∷ ys) y h (inr k) = differs x ys y h.1 k
 
-pub entry_of_name_unique : (es : List EntryView) → EachLater (λ x y. x.name ≢ y.name) es → (x y : EntryView) → ContainsEntry es x → ContainsEntry es y → x.name ≡ y.name → x ≡ y
+pub entry_of_name_unique : (es : List EntryView) → EachLater (λ x y. x.name ≢ y.name) es → (x y : EntryView) → ContainsEntry es x → ContainsEntry es y
+    → x.name ≡ y.name → x ≡ y
 entry_of_name_unique [] apart x y h k q = absurd h
 entry_of_name_unique (e ∷ es) apart x y (inl s) (inl t) q = sym s ∙ t
 entry_of_name_unique (e ∷ es) apart x y (inl s) (inr k) q = absurd (differs e es y apart.0 k (ap (λ (w : EntryView). w.name) s ∙ q))
@@ -140,7 +141,8 @@ module _ (T : Table) (pairs : List Pair) (known : AgreesWithPairs T pairs) where
   abbrev Same : List EntryView → List EntryView → Type 0
   Same xs ys = (n : ℕ) → SameFiles (Files T n xs) (Files T n ys)
 
-  both : (one : HasOneId pairs) (xs ys : List EntryView) → IsClean xs → IsClean ys → Same xs ys → (x y : EntryView) → ContainsEntry xs x → ContainsEntry ys y → x.name ≡ y.name
+  both : (one : HasOneId pairs) (xs ys : List EntryView) → IsClean xs → IsClean ys → Same xs ys → (x y : EntryView) → ContainsEntry xs x → ContainsEntry ys y
+      → x.name ≡ y.name
       → (is_tree_mode x.mode ≡ true → x.mode ≡ tree_type) → (is_tree_mode y.mode ≡ true → y.mode ≡ tree_type)
       → (xt : is_tree_mode x.mode ≡ true → List EntryView) → ((t : is_tree_mode x.mode ≡ true) → Contains pairs (x.id, xt t))
       → (yt : is_tree_mode y.mode ≡ true → List EntryView) → ((t : is_tree_mode y.mode ≡ true) → Contains pairs (y.id, yt t))
@@ -183,4 +185,5 @@ module _ (T : Table) (pairs : List Pair) (known : AgreesWithPairs T pairs) where
       same_lists xs ys cx.formed.ascending cy.formed.ascending
       (λ x hx. let f = has_file_at xs x_built x hx in let g = (same (suc f.0) (x.name ∷ f.1) f.2 f.3).0 f.4 in subst (ContainsEntry ys)
       (sym (meet x g.0 hx g.1 (sym g.2))) g.1)
-      (λ y hy. let f = has_file_at ys y_built y hy in let g = (same (suc f.0) (y.name ∷ f.1) f.2 f.3).1 f.4 in subst (ContainsEntry xs) (meet g.0 y g.1 hy g.2) g.1)
+      (λ y hy. let f = has_file_at ys y_built y hy in let g = (same (suc f.0) (y.name ∷ f.1) f.2 f.3).1 f.4 in
+      subst (ContainsEntry xs) (meet g.0 y g.1 hy g.2) g.1)

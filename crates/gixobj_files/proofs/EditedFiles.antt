@@ -62,7 +62,8 @@ either true = inl refl
 either false = inr refl
 
 -- after an insertion the list has the inserted entry, and those of other names
-pub has_of_with_entry : (x : EntryView) (es : List EntryView) (e : EntryView) → ContainsEntry (with_entry x es) e → (x ≡ e) ⊎ (ContainsEntry es e × (e.name ≢ x.name))
+pub has_of_with_entry : (x : EntryView) (es : List EntryView) (e : EntryView) → ContainsEntry (with_entry x es) e
+    → (x ≡ e) ⊎ (ContainsEntry es e × (e.name ≢ x.name))
 has_of_with_entry x es e h =
     let others : ContainsEntry (without x.name es) e → ContainsEntry es e × (e.name ≢ x.name) = has_of_without x.name es e in
     ⊎_elim (λ k. inr (others (Has-kept (λ y. comes_before y x) (without x.name es) e k).0))

@@ -187,7 +187,8 @@ module _ (P : OfEntry) (trees : Trees) (null : ObjectId) (lasts : Lasts P trees 
   directory_here name dirs bases inner root is above all (inr there) e h called =
       let up = above [] name there.0 there.1 in
       let old : HasAt (dirs []) e =
-      has_at_of_or_empty (dirs []) e (subst (λ l. ContainsEntry l e) (with_directory_of_tree name null (or_empty (dirs [])) (a_tree name (dirs []) up.0 up.1 up.2 up.3))
+      has_at_of_or_empty (dirs []) e (subst (λ l. ContainsEntry l e) (with_directory_of_tree name null (or_empty (dirs []))
+      (a_tree name (dirs []) up.0 up.1 up.2 up.3))
       h) in
       stays_open e (dirs (name ∷ [])) inner (bases (name ∷ [])) there.0 root there.1 is
       (subst (λ n. P e (dirs (n ∷ [])) (bases (n ∷ []))) called (all [] e old))

@@ -16,7 +16,8 @@ pub entry_of_has_tree : (name : List ℕ) (es : List EntryView) → has_tree nam
     → (e : EntryView) × ContainsEntry es e × (e.name ≡ name) × (is_tree_mode e.mode ≡ true)
 entry_of_has_tree name [] h = absurd (true≢false (sym h))
 entry_of_has_tree name (e ∷ es) h =
-    elim (same_name e.name name) as (λ b. same_name e.name name ≡ b → ((b && is_tree_mode e.mode) || has_tree name es) ≡ true → (x : EntryView) × ContainsEntry (e ∷ es) x
+    elim (same_name e.name name) as (λ b. same_name e.name name ≡ b → ((b && is_tree_mode e.mode) || has_tree name es) ≡ true
+    → (x : EntryView) × ContainsEntry (e ∷ es) x
     × (x.name ≡ name) × (is_tree_mode x.mode ≡ true)) [
       | true ↦ λ is k. elim (is_tree_mode e.mode) as (λ b. is_tree_mode e.mode ≡ b → (b || has_tree name es) ≡ true → (x : EntryView) × ContainsEntry (e ∷ es) x
           × (x.name ≡ name) × (is_tree_mode x.mode ≡ true)) [
@@ -26,7 +27,8 @@ entry_of_has_tree name (e ∷ es) h =
       | false ↦ λ is k. let r = entry_of_has_tree name es k in (r.0, inr r.1, r.2, r.3)
     ] refl h
 
-pub has_tree_of_entry : (name : List ℕ) (es : List EntryView) (e : EntryView) → ContainsEntry es e → e.name ≡ name → is_tree_mode e.mode ≡ true → has_tree name es ≡ true
+pub has_tree_of_entry : (name : List ℕ) (es : List EntryView) (e : EntryView) → ContainsEntry es e → e.name ≡ name → is_tree_mode e.mode ≡ true
+    → has_tree name es ≡ true
 has_tree_of_entry name [] e h named tree = absurd h
 has_tree_of_entry name (x ∷ es) e (inl same) named tree =
     let mode : is_tree_mode x.mode ≡ true = ap (λ (y : EntryView). is_tree_mode y.mode) same ∙ tree in

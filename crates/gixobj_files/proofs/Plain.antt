@@ -38,7 +38,8 @@ Plain pairs e here base = IsPlain pairs e here base
 abbrev pub RestsOn : List Pair → List EntryView → Type 0
 RestsOn pairs entries = (e : EntryView) → ContainsEntry entries e → is_tree_mode e.mode ≡ true → (e.mode ≡ tree_type) × IsOfPair pairs e.id
 
-pub is_plain_of_rests_on : (pairs : List Pair) (entries : List EntryView) → RestsOn pairs entries → (e : EntryView) → ContainsEntry entries e → IsPlain pairs e None None
+pub is_plain_of_rests_on : (pairs : List Pair) (entries : List EntryView) → RestsOn pairs entries → (e : EntryView) → ContainsEntry entries e
+    → IsPlain pairs e None None
 is_plain_of_rests_on pairs entries rests e h = record { mode = λ t. (rests e h t).0; its_pair = λ t none. (rests e h t).1; based = λ list is. absurd (cc is) }
 
 pub rests_on_of_is_built : (pairs : List Pair) (entries : List EntryView) → IsBuilt pairs entries → RestsOn pairs entries

@@ -67,6 +67,7 @@ module _ (T : Table) where
     steps_plain (step ∷ steps) none A B same = steps_plain steps none.1 (after_step T n step A) (after_plain_step step B) (step_plain step none.0 A B same)
 
 -- all steps make the same files in every table, to the depth `n`
-pub history_is_up_to_plain : (steps : List Step) → All HasNoTree steps → (T : Table) (n : ℕ) → IsUpTo n (FilesAfter T n steps NoFiles) (PlainFilesAfter steps NoFiles)
+pub history_is_up_to_plain : (steps : List Step) → All HasNoTree steps → (T : Table) (n : ℕ)
+    → IsUpTo n (FilesAfter T n steps NoFiles) (PlainFilesAfter steps NoFiles)
 history_is_up_to_plain steps none T n = steps_plain T n steps (recursion_from_All HasNoTree steps none) NoFiles NoFiles
     (λ path mode id. ((λ h. absurd h), λ h. absurd h.1))

@@ -118,7 +118,8 @@ module _ {StopsBefore : EntryView → Type 0} (idle : IsIdle StopsBefore) (trees
   open_comes path dirs new looked_up (found name [] d inner e entries first more entry tree free none finds opens) es is_open =
       inr (inr (e, first_entry_of_has_at name (d []) e entry, tree, free, finds_known e.id entries first finds))
   open_comes path dirs new looked_up (found name (next ∷ rest) d inner e entries first more entry tree free none finds opens) es is_open =
-      outside (open_comes (next ∷ rest) (only_open entries) inner more opens es (sym (ap (λ (x : Dirs). x (next ∷ rest)) (with_dir_in_dir name inner d)) ∙ is_open))
+      outside (open_comes (next ∷ rest) (only_open entries) inner more opens es (sym (ap (λ (x : Dirs). x (next ∷ rest)) (with_dir_in_dir name inner d))
+      ∙ is_open))
     where
       outside : ReachesDirectory StopsBefore trees (only_open entries) (next ∷ rest) → ReachesDirectory StopsBefore trees d (name ∷ next ∷ rest)
       outside (inl empty) = absurd (cc empty)

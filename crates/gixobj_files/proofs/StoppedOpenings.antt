@@ -205,7 +205,8 @@ module _ (trees : Trees) where
 
   -- an opening stops at a directory that isn't open
   pub halted_unopened : {StopsBefore : EntryView → Type 0} (path : Path) (last : List ℕ) (after : Path) (old new : Dirs) (looked_up : List ObjectId)
-      (failed_lookup : Option ObjectId) → StopsOpening StopsBefore trees path old new looked_up failed_lookup → IsUnopenedOnPath StopsBefore trees old (path ++ last ∷ after)
+      (failed_lookup : Option ObjectId) → StopsOpening StopsBefore trees path old new looked_up failed_lookup
+      → IsUnopenedOnPath StopsBefore trees old (path ++ last ∷ after)
   halted_unopened path last after old new looked_up failed_lookup (at_once name rest d e entry tree free none) =
       not_open_here name rest last after d e entry tree free none
   halted_unopened path last after old new looked_up failed_lookup (without_answer name rest d e entry tree free none filled) =

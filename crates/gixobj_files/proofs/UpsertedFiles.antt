@@ -13,7 +13,8 @@ use Rattle.gixobj_files.proofs.HasTrees.{entry_of_has_tree, has_tree_with_direct
 use Rattle.gixobj_files.proofs.OpenedFiles.{open_files_of_other_name, open_files_of_open, open_files_of_unopened, open_files_into_open, open_files_into_unopened, same_name_refl, same_name_false, path_nil_below_file, no_open_files_of_none, name_eq_or_ne}
 
 -- a directory that is created leaves entries of other names unchanged
-pub has_of_with_directory : (name : List ℕ) (null : ObjectId) (es : List EntryView) (e : EntryView) → e.name ≢ name → ContainsEntry (with_directory name null es) e
+pub has_of_with_directory : (name : List ℕ) (null : ObjectId) (es : List EntryView) (e : EntryView) → e.name ≢ name
+    → ContainsEntry (with_directory name null es) e
     → ContainsEntry es e
 has_of_with_directory name null es e differ =
     let x : EntryView = record { mode = tree_type; name = name; id = null } in
@@ -26,10 +27,15 @@ pub has_with_directory : (name : List ℕ) (null : ObjectId) (es : List EntryVie
     → ContainsEntry (with_directory name null es) e
 has_with_directory name null es e differ =
     let x : EntryView = record { mode = tree_type; name = name; id = null } in
-    elim (has_tree name es) as (λ b. ContainsEntry es e → ContainsEntry (cond b es (with_entry x es)) e) [ true ↦ λ h. h | false ↦ λ h. has_with_entry_other x es e h differ ]
+    elim (has_tree name es) as (λ b. ContainsEntry es e → ContainsEntry (cond b es (with_entry x es)) e) [
+      | true ↦ λ h. h
+      | false ↦
+          λ h. has_with_entry_other x es e h differ
+    ]
 
 -- a directory that was created has an entry
-pub has_made_directory : (name : List ℕ) (null : ObjectId) (es : List EntryView) → (e : EntryView) × ContainsEntry (with_directory name null es) e × (e.name ≡ name)
+pub has_made_directory : (name : List ℕ) (null : ObjectId) (es : List EntryView)
+    → (e : EntryView) × ContainsEntry (with_directory name null es) e × (e.name ≡ name)
 has_made_directory name null es = let h = entry_of_has_tree name (with_directory name null es) (has_tree_with_directory name null es) in (h.0, h.1, h.2)
 
 pub has_at_of_or_empty : (o : Option (List EntryView)) (e : EntryView) → ContainsEntry (or_empty o) e → HasAt o e

@@ -14,7 +14,8 @@ returns-in_err-open_along-clause-after_error g c = if_err_weaken c.from_residual
     let StopsBefore = EndsBefore c.args.not_looked_up in
     let bad = (c.in_err-open_along.ensures {u = tt}).stopped_opening trees fits in
     let so = halted_removal (ends_before_is_idle c.args.not_looked_up) (g.S.Store.objects c.args.store.now) (g.S.Store.may_fail c.args.store.now) trees
-    (names_of c.args.path.now) (names_of c.split_at_first_invalid.result.0.now) (names_of c.split_at_first_invalid.result.1.now) c.split_at_first_invalid.ensures
+    (names_of c.args.path.now) (names_of c.split_at_first_invalid.result.0.now)
+    (names_of c.split_at_first_invalid.result.1.now) c.split_at_first_invalid.ensures
     (dirs_of c.args.root.now) (dirs_of c.open_along.new.self) bad.0 bad.1 bad.2 c.in_err-open_along.field-0.0 bad.4 c.args.lookups.now c.open_along.new.lookups
     bad.3 in
     subst (λ e. IsRejectedSo StopsBefore (g.S.Store.objects c.args.store.now) (g.S.Store.may_fail c.args.store.now) trees (names_of c.args.path.now)
@@ -24,7 +25,8 @@ pub returns-clause-after_error : goal.returns-clause-after_error
 returns-clause-after_error g c = MatchResult-weaker c.check_reached.result c.check_reached.ensures.error (λ _ u. u) (λ error bad trees fits.
     let ok = (c.in_ok-open_along.ensures {u = tt}).opened trees fits in
     name_rejected_so (ends_before_is_idle c.args.not_looked_up) (g.S.Store.objects c.args.store.now) (g.S.Store.may_fail c.args.store.now) trees
-    (names_of c.args.path.now) (names_of c.split_at_first_invalid.result.0.now) (names_of c.split_at_first_invalid.result.1.now) c.split_at_first_invalid.ensures
+    (names_of c.args.path.now) (names_of c.split_at_first_invalid.result.0.now)
+    (names_of c.split_at_first_invalid.result.1.now) c.split_at_first_invalid.ensures
     (dirs_of c.args.root.now) (dirs_of c.open_along.new.self) ok.0 ok.1 bad.0 bad.1 error bad.2 c.args.lookups.now c.open_along.new.lookups ok.2)
 
 pub returns-clause-opened : goal.returns-clause-opened

@@ -86,7 +86,8 @@ returns-in_err-write_ids-clause-room g c =
     rw (from.1, from.2) (λ value parts rejected. omega (
       arith,
       c.in_err-write_ids.ensures.appended.short,
-      owned_commit_error_after_ids c.args.self.now c.as_slice-parents.result.now c.borrowed-encoding.result c.as_slice-parents.ensures c.borrowed-encoding.ensures
+      owned_commit_error_after_ids c.args.self.now c.as_slice-parents.result.now c.borrowed-encoding.result c.as_slice-parents.ensures
+          c.borrowed-encoding.ensures
           value parts rejected,
     ))
 
