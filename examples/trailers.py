@@ -1,5 +1,5 @@
 #!/usr/bin/env python3
-"""Asks git for the trailers of many bodies: `python3 examples/trailers.py > crates/gixobj_replay/data/git-trailers.tsv`.
+"""Asks git for the trailers of many bodies: `python3 examples/trailers.py > crates/gixobj_replay_messages/data/git-trailers.tsv`.
 
 Each body is passed to `git interpret-trailers --parse --no-divider` after a title and an empty line, since git takes the
 first paragraph of a message for its title. If this repository decodes a body differently on purpose, BY_RULE has the

@@ -1,87 +1,72 @@
-//! Answers about actors, in the format of the recorded ones.
+//! Answers about actors: decoded, trimmed and encoded again.
 
-use crate::formatting::add_time;
-use crate::recorded::answers::Answer;
-use crate::recorded::fields::{bytes_of, fault, outcome_keyword};
 use gixobj_base::actor::{Signature, SignatureRef};
-use gixobj_base::decode;
+use gixobj_recorded::actors::{write_actor, write_owned_actor};
+use gixobj_recorded::answer::Answer;
+use gixobj_recorded::fields::fault;
 
-/// Answers with the actor of a line.
+/// Answers with the actor of a line: it and the rest, trimmed, its size, and encoded from its borrowed and its
+/// owned form.
 pub(crate) fn actor_answer(question: &[u8], answer: &mut Answer) {
-    let bytes = bytes_of(answer.alloc, question);
+    let bytes = answer.input(question);
     let mut rest = bytes.as_slice();
     match SignatureRef::from_bytes_consuming(&mut rest) {
-        Ok(actor) => write_read(actor, rest, answer),
-        Err(error) => answer.write_keyword(fault(&error)),
+        Ok(actor) => {
+            write_actor("ok", actor, answer);
+            answer.add("rest");
+            answer.add_bytes(rest);
+            write_actor("trim", actor.trim(), answer);
+            answer.write("size");
+            answer.add_size(actor.size());
+            write_borrowed(actor, answer);
+            match actor.to_owned(answer.alloc) {
+                Ok(owned) => {
+                    write_owned_actor("owned", &owned, answer);
+                    answer.write("owned-size");
+                    answer.add_size(owned.size());
+                    write_owned("owned-written", &owned, answer);
+                }
+                Err(_) => answer.fail(),
+            }
+        }
+        Err(error) => answer.write(fault(&error)),
     }
 }
 
-/// The columns of an actor and of the rest of its line.
-fn write_read(actor: SignatureRef<'_>, rest: &[u8], answer: &mut Answer) {
-    write_actor("ok", actor, answer);
-    answer.add("rest");
-    answer.add_hex(rest);
-    write_actor("trim", actor.trim(), answer);
-    answer.write_size("size", actor.size());
-    write_written(actor, answer);
-    match actor.to_owned(answer.alloc) {
-        Ok(owned) => write_owned(&owned, answer),
-        Err(_) => answer.fail(),
+/// Answers with the actor of a line: it, trimmed, and encoded from its borrowed and its owned form; and the
+/// rest of the line.
+pub(crate) fn actor_line_answer(question: &[u8], answer: &mut Answer) {
+    let bytes = answer.input(question);
+    let mut rest = bytes.as_slice();
+    match SignatureRef::from_bytes_consuming(&mut rest) {
+        Ok(actor) => {
+            write_actor("ok", actor, answer);
+            write_actor("trimmed", actor.trim(), answer);
+            write_borrowed(actor, answer);
+            answer.add_size(actor.size());
+            match actor.to_owned(answer.alloc) {
+                Ok(owned) => {
+                    write_owned("owned", &owned, answer);
+                    answer.add_size(owned.size());
+                }
+                Err(_) => answer.fail(),
+            }
+        }
+        Err(error) => answer.write(fault(&error)),
     }
+    answer.write_bytes("rest", rest);
 }
 
 /// The column of an encoded borrowed actor.
-fn write_written(actor: SignatureRef<'_>, answer: &mut Answer) {
+fn write_borrowed(actor: SignatureRef<'_>, answer: &mut Answer) {
     let mut out = Vec::new(answer.alloc);
     let outcome = actor.write_to(&mut out);
-    answer.write_pair("written", outcome_keyword(outcome));
-    answer.add_hex(out.as_slice());
+    answer.write_outcome("written", outcome, out.as_slice());
 }
 
-/// The columns of an owned actor.
-fn write_owned(actor: &Signature, answer: &mut Answer) {
-    answer.write_keyword("owned");
-    add_owned(actor, answer);
-    answer.write_size("owned-size", actor.size());
+/// The column of an encoded owned actor.
+fn write_owned(token: &str, actor: &Signature, answer: &mut Answer) {
     let mut out = Vec::new(answer.alloc);
     let outcome = actor.write_to(&mut out);
-    answer.write_pair("owned-written", outcome_keyword(outcome));
-    answer.add_hex(out.as_slice());
-}
-
-/// Adds name, email and time.
-pub(crate) fn add_owned(actor: &Signature, answer: &mut Answer) {
-    answer.add_hex(actor.name.as_slice());
-    answer.add_hex(actor.email.as_slice());
-    add_time(Some(actor.time), answer);
-}
-
-/// The column of an actor: name, email, the bytes of its time, and its time.
-pub(crate) fn write_actor(token: &str, actor: SignatureRef<'_>, answer: &mut Answer) {
-    answer.write_keyword(token);
-    add_actor(actor, answer);
-}
-
-/// Adds name, email, the bytes of the time, and the time.
-pub(crate) fn add_actor(actor: SignatureRef<'_>, answer: &mut Answer) {
-    answer.add_hex(actor.name.as_bytes());
-    answer.add_hex(actor.email.as_bytes());
-    answer.add_hex(actor.time.as_bytes());
-    add_time(actor.time(), answer);
-}
-
-/// The column of an actor, or of the error of its line.
-pub(crate) fn write_actor_or_fault(
-    token: &str,
-    actor: Result<SignatureRef<'_>, decode::Error>,
-    answer: &mut Answer,
-) {
-    answer.write_keyword(token);
-    match actor {
-        Ok(actor) => {
-            answer.add("ok");
-            add_actor(actor, answer);
-        }
-        Err(error) => answer.add(fault(&error)),
-    }
+    answer.write_outcome(token, outcome, out.as_slice());
 }
