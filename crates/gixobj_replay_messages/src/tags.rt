@@ -12,7 +12,9 @@ use gixobj_codec::tag::write;
 use gixobj_codec::{TagRef, TagRefIter};
 use gixobj_recorded::actors::{add_actor, write_actor, write_owned_actor};
 use gixobj_recorded::answer::{Answer, Form, Prefix};
-use gixobj_recorded::fields::{bytes_and_kind, cut, fault, kind_and_bytes, name_fault, yes_or_no};
+use gixobj_recorded::fields::{
+    bytes_and_kind, cut, fault, kind_and_bytes, name_fault, outcome_keyword, yes_or_no,
+};
 use gixobj_recorded::objects::{encoded, write_encoding, write_sizes};
 
 /// Answers with a decoded tag, its encoding and its owned form.
@@ -117,18 +119,27 @@ fn write_token(token: Token<'_>, answer: &mut Answer) {
     }
 }
 
-/// Answers with the result of `validated_name` for a name. Its error has to be that of the writer.
+/// Answers with the result of `validated_name` for a name.
 pub(crate) fn name_answer(question: &[u8], answer: &mut Answer) {
     let bytes = answer.input(question);
     match write::validated_name(BStr::new(bytes.as_slice())) {
         Ok(name) if name.as_bytes() == bytes.as_slice() => answer.write("ok"),
         Ok(_) => answer.write("ok another"),
-        Err(failure) => answer.write(match (failure, encode::Error::from(failure)) {
-            (write::Error::StartsWithDash, encode::Error::StartsWithDash) => "err StartsWithDash",
-            (write::Error::InvalidRefName(fault), encode::Error::InvalidRefName(other))
-                if fault == other => name_fault(fault),
-            _ => "err another",
-        }),
+        Err(failure) => answer.write(rejected_name(failure)),
+    }
+}
+
+/// The error of a name, which is also the error of the writer.
+fn rejected_name(failure: write::Error) -> &'static str {
+    let token = match failure {
+        write::Error::StartsWithDash => "err StartsWithDash",
+        write::Error::InvalidRefName(fault) => name_fault(fault),
+    };
+    let of_writer = outcome_keyword(Err(encode::Error::from(failure)));
+    if of_writer == token {
+        token
+    } else {
+        "err another"
     }
 }
 
