@@ -6,3 +6,6 @@ returns-in-Some-clause-no_error g c = rw (c.in-Some.is, sym c.as_bytes.ensures) 
 
 pub returns-in-Some-clause-error : goal.returns-in-Some-clause-error
 returns-in-Some-clause-error g c = rw (c.in-Some.is, sym c.as_bytes.ensures) c.header_field.ensures.error
+
+pub returns-in-Some-clause-room : goal.returns-in-Some-clause-room
+returns-in-Some-clause-room g c = rw (c.in-Some.is, sym c.as_bytes.ensures) c.header_field.ensures.room
