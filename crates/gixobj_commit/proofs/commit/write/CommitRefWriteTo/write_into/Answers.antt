@@ -8,6 +8,7 @@ use Rattle.bstr.specs.BStr.{bstr_bytes}
 use Rattle.gixobj_fields.proofs.Errors.{lacks_room_of_result, writing_error_append}
 use Rattle.gixobj_hash.specs.Hash.{IsIdHex}
 use Rattle.gixobj_fields.specs.HeaderFormat.{encode_field}
+use Rattle.gixobj_fields.specs.Writing.{RejectedValue}
 use Rattle.gixobj_commit.proofs.CommitWrites.{borrowed_commit_error_after, borrowed_commit_in_parts, ids_written, borrowed_commit_error_of_part, all_map}
 use Rattle.gixobj_fields.proofs.Steps.{appends_all_four, appends_first_of_four, appends_fourth_of_four, appends_second_of_four, appends_third_of_four, appends_all_three}
 use Rattle.gixobj_commit.specs.CommitViews.{commit_lines}
@@ -90,13 +91,14 @@ returns-clause-error g c =
 
 pub returns-in_err-write_hex_ids-clause-room : goal.returns-in_err-write_hex_ids-clause-room
 returns-in_err-write_hex_ids-clause-room g c =
-    let after = λ value parts. borrowed_commit_error_after c.args.self.now (decoded_id (bstr_bytes c.args.self.now.tree)) c.as_slice-parents.result.now
-    c.as_bytes-author.result.now c.as_bytes-committer.result.now value parts
-    (decoded_id_decodes (bstr_bytes c.args.self.now.tree) c.requires.tree) c.as_slice-parents.ensures c.as_bytes-author.ensures
-    c.as_bytes-committer.ensures in
     let ids = ids_written (decoded_id (bstr_bytes c.args.self.now.tree)) hex_parent c.as_slice-parents.result.now in
     let author = encode_field (codes "author") c.as_bytes-author.result.now in
     let committer = encode_field (codes "committer") c.as_bytes-committer.result.now in
+    let after : (value : RejectedValue) (parts : List ℕ) → IsCommitLinesError (in_lower_case (commit_lines c.args.self.now)) value parts
+    → parts ≡ (ids ++ author) ++ committer = λ value parts. borrowed_commit_error_after c.args.self.now (decoded_id (bstr_bytes c.args.self.now.tree)) c.as_slice-parents.result.now
+    c.as_bytes-author.result.now c.as_bytes-committer.result.now value parts
+    (decoded_id_decodes (bstr_bytes c.args.self.now.tree) c.requires.tree) c.as_slice-parents.ensures c.as_bytes-author.ensures
+    c.as_bytes-committer.ensures in
     let from = err_from_is_err_and c.from_residual.result c.from_residual.ensures.1 in
     rw (from.1, from.2) (λ value parts rejected. omega (
       arith,
@@ -108,13 +110,14 @@ returns-in_err-write_hex_ids-clause-room g c =
 
 pub returns-in_err-trusted_header_field-clause-room : goal.returns-in_err-trusted_header_field-clause-room
 returns-in_err-trusted_header_field-clause-room g c =
-    let after = λ value parts. borrowed_commit_error_after c.args.self.now (decoded_id (bstr_bytes c.args.self.now.tree)) c.as_slice-parents.result.now
-    c.as_bytes-author.result.now c.as_bytes-committer.result.now value parts
-    (decoded_id_decodes (bstr_bytes c.args.self.now.tree) c.requires.tree) c.as_slice-parents.ensures c.as_bytes-author.ensures
-    c.as_bytes-committer.ensures in
     let ids = ids_written (decoded_id (bstr_bytes c.args.self.now.tree)) hex_parent c.as_slice-parents.result.now in
     let author = encode_field (codes "author") c.as_bytes-author.result.now in
     let committer = encode_field (codes "committer") c.as_bytes-committer.result.now in
+    let after : (value : RejectedValue) (parts : List ℕ) → IsCommitLinesError (in_lower_case (commit_lines c.args.self.now)) value parts
+    → parts ≡ (ids ++ author) ++ committer = λ value parts. borrowed_commit_error_after c.args.self.now (decoded_id (bstr_bytes c.args.self.now.tree)) c.as_slice-parents.result.now
+    c.as_bytes-author.result.now c.as_bytes-committer.result.now value parts
+    (decoded_id_decodes (bstr_bytes c.args.self.now.tree) c.requires.tree) c.as_slice-parents.ensures c.as_bytes-author.ensures
+    c.as_bytes-committer.ensures in
     let from = err_from_is_err_and c.from_residual-in_err-trusted_header_field.result c.from_residual-in_err-trusted_header_field.ensures.1 in
     rw (from.1, from.2) (λ value parts rejected. omega (
       arith,
@@ -127,13 +130,14 @@ returns-in_err-trusted_header_field-clause-room g c =
 
 pub returns-in_err-trusted_header_field-2-clause-room : goal.returns-in_err-trusted_header_field-2-clause-room
 returns-in_err-trusted_header_field-2-clause-room g c =
-    let after = λ value parts. borrowed_commit_error_after c.args.self.now (decoded_id (bstr_bytes c.args.self.now.tree)) c.as_slice-parents.result.now
-    c.as_bytes-author.result.now c.as_bytes-committer.result.now value parts
-    (decoded_id_decodes (bstr_bytes c.args.self.now.tree) c.requires.tree) c.as_slice-parents.ensures c.as_bytes-author.ensures
-    c.as_bytes-committer.ensures in
     let ids = ids_written (decoded_id (bstr_bytes c.args.self.now.tree)) hex_parent c.as_slice-parents.result.now in
     let author = encode_field (codes "author") c.as_bytes-author.result.now in
     let committer = encode_field (codes "committer") c.as_bytes-committer.result.now in
+    let after : (value : RejectedValue) (parts : List ℕ) → IsCommitLinesError (in_lower_case (commit_lines c.args.self.now)) value parts
+    → parts ≡ (ids ++ author) ++ committer = λ value parts. borrowed_commit_error_after c.args.self.now (decoded_id (bstr_bytes c.args.self.now.tree)) c.as_slice-parents.result.now
+    c.as_bytes-author.result.now c.as_bytes-committer.result.now value parts
+    (decoded_id_decodes (bstr_bytes c.args.self.now.tree) c.requires.tree) c.as_slice-parents.ensures c.as_bytes-author.ensures
+    c.as_bytes-committer.ensures in
     let from = err_from_is_err_and c.from_residual-in_err-trusted_header_field-2.result c.from_residual-in_err-trusted_header_field-2.ensures.1 in
     rw (from.1, from.2) (λ value parts rejected. omega (
       arith,
@@ -147,13 +151,14 @@ returns-in_err-trusted_header_field-2-clause-room g c =
 
 pub returns-clause-room : goal.returns-clause-room
 returns-clause-room g c =
-    let after = λ value parts. borrowed_commit_error_after c.args.self.now (decoded_id (bstr_bytes c.args.self.now.tree)) c.as_slice-parents.result.now
-    c.as_bytes-author.result.now c.as_bytes-committer.result.now value parts
-    (decoded_id_decodes (bstr_bytes c.args.self.now.tree) c.requires.tree) c.as_slice-parents.ensures c.as_bytes-author.ensures
-    c.as_bytes-committer.ensures in
     let ids = ids_written (decoded_id (bstr_bytes c.args.self.now.tree)) hex_parent c.as_slice-parents.result.now in
     let author = encode_field (codes "author") c.as_bytes-author.result.now in
     let committer = encode_field (codes "committer") c.as_bytes-committer.result.now in
+    let after : (value : RejectedValue) (parts : List ℕ) → IsCommitLinesError (in_lower_case (commit_lines c.args.self.now)) value parts
+    → parts ≡ (ids ++ author) ++ committer = λ value parts. borrowed_commit_error_after c.args.self.now (decoded_id (bstr_bytes c.args.self.now.tree)) c.as_slice-parents.result.now
+    c.as_bytes-author.result.now c.as_bytes-committer.result.now value parts
+    (decoded_id_decodes (bstr_bytes c.args.self.now.tree) c.requires.tree) c.as_slice-parents.ensures c.as_bytes-author.ensures
+    c.as_bytes-committer.ensures in
     lacks_room_of_result c.write_rest.result (IsEncodingLineError (bytes_if_some c.args.self.now.encoding))
     (IsCommitLinesError (in_lower_case (commit_lines c.args.self.now))) _ _ _ ((ids ++ author) ++ committer) _
     (appends_all_three _ _ _ _ _ _ _ c.in_ok-write_hex_ids.ensures.appended c.in_ok-trusted_header_field.ensures.appended
