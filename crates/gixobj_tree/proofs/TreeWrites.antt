@@ -108,11 +108,11 @@ rejected_at_or_after : (items : List EntryView) (i : ℕ) (e : EntryView) → i 
     ⊎ (length (encode_tree (take i items)) + length (encode_entry e) ≤ length parts)
 rejected_at_or_after items i e h is free value parts r =
     ⊎_elim (λ it. inl (
-      r.begun,
-      subst (λ (x : EntryView). IsEntryEncodeError x value r.begun) it.1 r.rejected,
-      r.written ∙ ap (λ (xs : List EntryView). encode_tree xs ++ r.begun) it.0,
+      r.partial,
+      subst (λ (x : EntryView). IsEntryEncodeError x value r.partial) it.1 r.rejected,
+      r.written ∙ ap (λ (xs : List EntryView). encode_tree xs ++ r.partial) it.0,
     ))
-    (λ later. inr (omega (arith, later, ap length r.written, length-append (encode_tree r.prefix) r.begun)))
+    (λ later. inr (omega (arith, later, ap length r.written, length-append (encode_tree r.prefix) r.partial)))
     (splits_at_or_after (take i items) (drop (i + 1) items) r.prefix r.rest e r.entry (sym (take_cons_drop items i e h is) ∙ r.joined) free r.rejected.0)
 
 -- an entry for which a sink lacks room, after accepted entries, is one of a tree for which it lacks room
