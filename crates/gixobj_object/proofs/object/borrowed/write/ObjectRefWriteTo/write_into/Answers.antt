@@ -15,3 +15,6 @@ returns-in-Tree-clause-room g c = rw c.in-Tree.is c.write_into.ensures.room
 
 pub returns-in-Tag-clause-room : goal.returns-in-Tag-clause-room
 returns-in-Tag-clause-room g c = rw c.in-Tag.is c.write_into-in-Tag.ensures.room
+
+pub returns-in-Commit-clause-room : goal.returns-in-Commit-clause-room
+returns-in-Commit-clause-room g c = rw c.in-Commit.is c.write_into-in-Commit.ensures.room
