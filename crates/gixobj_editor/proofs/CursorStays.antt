@@ -1,8 +1,8 @@
 -- After each edit by a cursor the directory at its prefix is still open; the proofs of the cursor's `try_` edits use
 -- it.
 use Rattle.std.proofs.Common.{◌≡◌, ◌≢◌, ◌∙◌, ℕ, List, [], ◌∷◌, ◌++◌, Some, None, Result, Ok, Err, ap, arith, refl, subst, sym}
-use Rattle.std.specs.Prelude.{OnErr, OnOk}
-use Rattle.gixobj_store.specs.Stores.{Objects}
+use Rattle.std.specs.Prelude.{IfErr, OnOk}
+use Rattle.gixobj_store.specs.Stores.{Objects, StoreModel}
 use Rattle.gixobj_directories.specs.Openings.{AreTreesOf}
 use Rattle.gixobj_directories.proofs.NamedTrees.{trees_of_objects_exist}
 use Rattle.gixobj_files.specs.Edits.{arrived, Opens}
@@ -19,7 +19,8 @@ use Rattle.gixobj_editor.specs.Cursors.{from_root}
 use Rattle.gixobj_editor.specs.Removals.{IsRemoved}
 use Rattle.gixobj_files.specs.Bases.{opened_bases}
 use Rattle.gixobj_directories.specs.declared.opening.NotLookedUp.TheVariants as not_looked_up
-use Rattle.gixobj_editor.specs.Upserts.{IsAfterFailedEdit, IsUpserted, directory_of}
+use Rattle.gixobj_editor.specs.Upserts.{IsAfterFailedEdit, IsLookupError, IsUpserted, directory_of}
+use Rattle.gixobj_editor.specs.declared.editor.error.Error.{Error}
 
 -- if each open directory is still open, this one is
 kept_open : (old new : Dirs) (at : Path) → ((entries : List EntryView) → old at ≡ Some entries → new at ≡ Some entries) → old at ≢ None → new at ≢ None
@@ -68,24 +69,26 @@ pub stays_removed : {S : Type 0} {StopsBefore : EntryView → Type 0} (trees : T
     → IsRemoved StopsBefore trees old (from_root old.prefix path) new → Stays old new
 stays_removed {S} trees old new path h = stays old new (ap (λ (o : State S). o.prefix) h.rest) (removed_open trees old new old.prefix path h)
 
-pub stays_failed : {S : Type 0} (trees : Trees) (old new : State S) (path : Path) → IsAfterFailedEdit trees old path new → Stays old new
-stays_failed {S} trees old new path h = stays old new (ap (λ (o : State S). o.prefix) h.rest)
+pub stays_failed : {S : Type 0} (model : StoreModel S) (trees : Trees) (old new : State S) (path : Path) (failure : Error)
+    → IsAfterFailedEdit model trees old path failure new → Stays old new
+stays_failed {S} model trees old new path failure h = stays old new (ap (λ (o : State S). o.prefix) h.rest)
     (kept_open (open_dirs old) (open_dirs new) old.prefix (h.stays old.prefix))
 
 -- an edit of the editor, accepted or failed
-pub known_of_either : {W X : Type 0} (result : Result W X) (objects : Objects) (Known : Type 0) (Accepted Refused : Trees → Type 0)
+pub known_of_either : {W X : Type 0} (result : Result W X) (objects : Objects) (Known : Type 0) (Accepted : Trees → Type 0) (Refused : X → Trees → Type 0)
     → OnOk result ((trees : Trees) → AreTreesOf objects trees → Accepted trees)
-    → OnErr result ((trees : Trees) → AreTreesOf objects trees → Refused trees) → ((trees : Trees) → Accepted trees → Known)
-    → ((trees : Trees) → Refused trees → Known) → Known
+    → IfErr result (λ error. (trees : Trees) → AreTreesOf objects trees → Refused error trees) → ((trees : Trees) → Accepted trees → Known)
+    → ((error : X) (trees : Trees) → Refused error trees → Known) → Known
 known_of_either (Ok it) objects Known Accepted Refused ok err accepted rejected = let named = trees_of_objects_exist objects in
     accepted named.0 (ok named.0 named.1)
 known_of_either (Err error) objects Known Accepted Refused ok err accepted rejected = let named = trees_of_objects_exist objects in
-    rejected named.0 (err named.0 named.1)
+    rejected error named.0 (err named.0 named.1)
 
 -- an edit that does nothing
-pub edit_failure_unchanged : {S : Type 0} (trees : Trees) (old : State S) (path : Path) → IsOpened (open_dirs old)
-    → ((at : Path) → open_bases old at ≡ opened_bases (open_dirs old) (open_dirs old) (open_bases old) at) → IsAfterFailedEdit trees old path old
-edit_failure_unchanged trees old path all idle = record {
+pub edit_failure_unchanged : {S : Type 0} (model : StoreModel S) (trees : Trees) (old : State S) (path : Path) (failure : Error) → (¬ IsLookupError failure)
+    → IsOpened (open_dirs old) → ((at : Path) → open_bases old at ≡ opened_bases (open_dirs old) (open_dirs old) (open_bases old) at)
+    → IsAfterFailedEdit model trees old path failure old
+edit_failure_unchanged model trees old path failure other all idle = record {
   not_looked_up = not_looked_up.Opened;
   reached = [];
   more = path;
@@ -95,7 +98,7 @@ edit_failure_unchanged trees old path all idle = record {
   bases = idle;
   stays = λ at entries is. is;
   failed_lookup = [];
-  at_most_one = omega arith;
+  cause = other;
   next = λ it is. absurd (cc is);
   at_most_unopened = omega arith;
   lookups = refl;

@@ -4,12 +4,13 @@ use Rattle.std.proofs.lemmas.Cmp.{lists_total, nat_list_cmp_total}
 use Rattle.std.proofs.lemmas.List.Elements.{All-nil, recursion_from_All}
 use Rattle.std.specs.Prelude.{IfOk, OnOk}
 use Rattle.std.specs.FinMap as map
+use Rattle.std.specs.FinMap.{nat_cmp-IsAntisymmetric, slice_cmp-IsAntisymmetric}
 use Rattle.std.specs.List.{AllByRecursion}
 use Rattle.gixobj_tree.specs.Entries.{EntryView, IsEntryName}
 use Rattle.gixobj_hash.specs.Hash.{null_id}
 use Rattle.gixobj_hash.specs.declared.hash.kind.Kind.{Kind}
 use Rattle.gixobj_hash.specs.declared.hash.object_id.ObjectId.{ObjectId}
-use Rattle.gixobj_store.specs.Stores.{Objects}
+use Rattle.gixobj_store.specs.Stores.{Objects, StoreModel}
 use Rattle.gixobj_files.specs.Edits.{IsNoTree, Opens, arrived, counted, upserted_dirs, raised}
 use Rattle.gixobj_files.specs.Files.{Path, SameFiles, Trees, Upserted}
 use Rattle.gixobj_files.specs.OpeningStops.{StopsOpening, IsNextUnopened, IsUnopenedAbove}
@@ -33,7 +34,7 @@ use Rattle.gixobj_files.specs.Bases.{AreOpenedOn, base_edited, base_opened, edit
 use Rattle.gixobj_files.proofs.Calls.{opened_based, upserted_based}
 use Rattle.gixobj_directories.specs.declared.opening.Error as directory
 use Rattle.gixobj_directories.specs.declared.opening.Error.TheVariants as opening
-use Rattle.gixobj_editor.specs.Upserts.{OpensInPart, IsAfterFailedEdit, IsUpserted, IsEntryNameError, IsFirstNameError, IsUpsertError, directory_of, edit_error}
+use Rattle.gixobj_editor.specs.Upserts.{OpensInPart, IsAfterFailedEdit, IsUpserted, IsEntryNameError, IsFirstNameError, IsLookupError, IsUpsertError, directory_of, edit_error}
 use Rattle.gixobj_editor.specs.declared.editor.error.Error.{Error}
 use Rattle.gixobj_editor.specs.declared.editor.error.Error.TheVariants as error
 use Rattle.gixobj_editor.proofs.InPart.{halted_in_part, none_in_part, opened_in_part}
@@ -206,6 +207,15 @@ no_other_error [] failure never h = h
 no_other_error (name ∷ path) failure never (inl h) = never name h
 no_other_error (name ∷ path) failure never (inr h) = no_other_error path failure never h.1
 
+-- the error of an invalid name isn't one of a lookup
+pub no_lookup_of_name : (path : Path) (failure : Error) → IsFirstNameError path failure → ¬ IsLookupError failure
+no_lookup_of_name path error.EmptyPathComponent h = λ it. it
+no_lookup_of_name path error.SlashInPathComponent h = λ it. it
+no_lookup_of_name path (error.FindExistingObject cause) h = absurd (no_other_error path (error.FindExistingObject cause) (λ name k. k) h)
+no_lookup_of_name path (error.CannotRemoveNonLeaf at) h = λ it. it
+no_lookup_of_name path error.MalformedTree h = absurd (no_other_error path error.MalformedTree (λ name k. k) h)
+no_lookup_of_name path error.OutOfMemory h = λ it. it
+
 pub upsert_error_of_name : (objects : Objects) (may_fail : ObjectId → Bool) (trees : Trees) (dirs : Dirs) (path : Path) (failure : Error)
     → IsFirstNameError path failure → IsUpsertError objects may_fail trees dirs path failure
 upsert_error_of_name objects may_fail trees dirs path error.EmptyPathComponent h = h
@@ -220,6 +230,20 @@ upsert_error_of_name objects may_fail trees dirs path error.OutOfMemory h = absu
 -- an editor of these parts
 abbrev pub state_of : {S : Type 0} → S → Kind → Path → Opened → ℕ → State S
 state_of store hash prefix ds n = record { dirs = map_of ds; bases = base_map ds; store = store; lookups = n; object_hash = hash; prefix = prefix }
+
+-- an editor with equal open directories and an equal number of lookups is the same
+pub same_state : {S : Type 0} (store : S) (hash : Kind) (prefix : Path) (ds mid : Opened) (n m : ℕ) (old : State S) → state_of store hash prefix ds n ≡ old
+    → dirs_of mid ≡ dirs_of ds → OpenedSo ds mid → m ≡ n → state_of store hash prefix mid m ≡ old
+same_state {S} store hash prefix ds mid n m old view same first count =
+    let paths = slice_cmp-IsAntisymmetric (slice_cmp-IsAntisymmetric nat_cmp-IsAntisymmetric) in
+    let dirs : map_of mid ≡ map_of ds = map.same_map (lists_total nat_list_cmp_total) paths (map_of mid) (map_of ds)
+    (λ at. map_dirs_at mid at ∙ ap (λ (d : Dirs). d at) same ∙ sym (map_dirs_at ds at)) in
+    let bases : base_map mid ≡ base_map ds = map.same_map (lists_total nat_list_cmp_total) paths (base_map mid) (base_map ds)
+    (λ at. map_bases_at mid at ∙ first at ∙ ap (λ (d : Dirs). base_opened (dirs_of ds at) (d at) (bases_of ds at)) same
+    ∙ sym (opened_so_refl ds at) ∙ sym (map_bases_at ds at)) in
+    let is : state_of store hash prefix mid m ≡ state_of store hash prefix ds n =
+    λ i. record { dirs = dirs i; bases = bases i; store = store; lookups = count i; object_hash = hash; prefix = prefix } in
+    is ∙ view
 
 module _ {S : Type 0} (store : S) (hash : Kind) (prefix : Path) (trees : Trees) where
   abbrev made : Opened → ℕ → State S
@@ -272,10 +296,14 @@ module _ {S : Type 0} (store : S) (hash : Kind) (prefix : Path) (trees : Trees) 
       (inserted_in ds mid ds' n m path head last mode id queries is names opens insert_entry count was first then)
 
   -- directories are opened, and nothing else changes
-  pub stay : (it : NotLookedUp) (ds ds' : Opened) (n m : ℕ) (path : Path) → OpensInPart (EndsBefore it) trees path (dirs_of ds) (dirs_of ds') n m
+  abbrev InPart : StoreModel S → NotLookedUp → Opened → Opened → ℕ → ℕ → Path → Error → Type 0
+  InPart model it ds ds' n m path failure =
+      OpensInPart (EndsBefore it) (model.objects store) (model.may_fail store) trees path (dirs_of ds) (dirs_of ds') n m failure
+
+  pub stay : (model : StoreModel S) (it : NotLookedUp) (ds ds' : Opened) (n m : ℕ) (path : Path) (failure : Error) → InPart model it ds ds' n m path failure
       → OpenedOn ds
-      → OpenedSo ds ds' → IsAfterFailedEdit trees (made ds n) path (made ds' m)
-  stay it ds ds' n m path so was first =
+      → OpenedSo ds ds' → IsAfterFailedEdit model trees (made ds n) path failure (made ds' m)
+  stay model it ds ds' n m path failure so was first =
       let opened : Opens (EndsBefore it) trees so.reached (map_dirs ds) (map_dirs ds') so.looked_up =
       subst (λ (d : Dirs). Opens (EndsBefore it) trees so.reached d (map_dirs ds') so.looked_up) (sym (map_dirs_eq ds))
       (subst (λ (d : Dirs). Opens (EndsBefore it) trees so.reached (dirs_of ds) d so.looked_up) (sym (map_dirs_eq ds')) so.opens) in
@@ -289,7 +317,7 @@ module _ {S : Type 0} (store : S) (hash : Kind) (prefix : Path) (trees : Trees) 
         bases = only_opened_bases_of_map ds ds' first;
         stays = opens_keeps_open_lists trees so.reached (map_dirs ds) (map_dirs ds') so.looked_up opened;
         failed_lookup = so.failed_lookup;
-        at_most_one = so.at_most_one;
+        cause = so.cause;
         next = λ it is. subst (λ (d : Dirs). IsNextUnopened trees d so.reached so.more it) (sym (map_dirs_eq ds)) (so.next it is);
         lookups = so.lookups;
         at_most_unopened = subst (λ (d : Dirs). length (so.looked_up ++ so.failed_lookup) ≤ unopened_count trees d path)
@@ -301,30 +329,34 @@ module _ {S : Type 0} (store : S) (hash : Kind) (prefix : Path) (trees : Trees) 
             (map_is_opened_on ds was) agrees has so.reached so.looked_up opened (only_opened_bases_of_map ds ds' first);
       }
 
-  pub stay_at : (it : NotLookedUp) (ds ds' : Opened) (n m : ℕ) (old : State S) → made ds n ≡ old → (path : Path)
-      → OpensInPart (EndsBefore it) trees path (dirs_of ds) (dirs_of ds') n m → OpenedOn ds → OpenedSo ds ds'
-      → IsAfterFailedEdit trees old path (made ds' m)
-  stay_at it ds ds' n m old view path so was first = subst (λ (o : State S). IsAfterFailedEdit trees o path (made ds' m)) view
-      (stay it ds ds' n m path so was first)
+  pub stay_at : (model : StoreModel S) (it : NotLookedUp) (ds ds' : Opened) (n m : ℕ) (old : State S) → made ds n ≡ old → (path : Path) (failure : Error)
+      → InPart model it ds ds' n m path failure → OpenedOn ds → OpenedSo ds ds' → IsAfterFailedEdit model trees old path failure (made ds' m)
+  stay_at model it ds ds' n m old view path failure so was first = subst (λ (o : State S). IsAfterFailedEdit model trees o path failure (made ds' m)) view
+      (stay model it ds ds' n m path failure so was first)
 
-  pub unchanged_at : (ds : Opened) (n : ℕ) (old : State S) → made ds n ≡ old → (path : Path) → OpenedOn ds → IsAfterFailedEdit trees old path old
-  unchanged_at ds n old view path was = subst (λ (o : State S). IsAfterFailedEdit trees o path o) view
-      (stay not_looked_up.Opened ds ds n n path (none_in_part trees path (dirs_of ds) n) was (opened_so_refl ds))
+  pub unchanged_at : (model : StoreModel S) (ds : Opened) (n : ℕ) (old : State S) → made ds n ≡ old → (path : Path) (failure : Error) → (¬ IsLookupError failure)
+      → OpenedOn ds → IsAfterFailedEdit model trees old path failure old
+  unchanged_at model ds n old view path failure other was = subst (λ (o : State S). IsAfterFailedEdit model trees o path failure o) view
+      (stay model not_looked_up.Opened ds ds n n path failure
+      (none_in_part (model.objects store) (model.may_fail store) trees path (dirs_of ds) n failure other) was (opened_so_refl ds))
 
-  pub halted_so : (ds ds' : Opened) (n m : ℕ) (old : State S) → made ds n ≡ old → (path head : Path) (last : List ℕ) → path ≡ head ++ last ∷ []
+  pub halted_so : (model : StoreModel S) (ds ds' : Opened) (n m : ℕ) (old : State S) → made ds n ≡ old → (path head : Path) (last : List ℕ) → path ≡ head ++ last ∷ []
       → (queries : List ObjectId) (failed_lookup : Option ObjectId) → StopsOpening IsNoTree trees head (dirs_of ds) (dirs_of ds') queries failed_lookup
-      → m ≡ counted n queries
-      → OpenedOn ds → OpenedSo ds ds' → IsAfterFailedEdit trees old path (made ds' m)
-  halted_so ds ds' n m old view path head last is queries failed_lookup halts count =
-      stay_at not_looked_up.Opened ds ds' n m old view path
-      (halted_in_part trees path head last [] is (dirs_of ds) (dirs_of ds') queries failed_lookup halts n m count)
+      → m ≡ counted n queries → (why : directory.Error) → IsOpenErrorAt (model.objects store) (model.may_fail store) failed_lookup why
+      → OpenedOn ds → OpenedSo ds ds' → IsAfterFailedEdit model trees old path (edit_error why) (made ds' m)
+  halted_so model ds ds' n m old view path head last is queries failed_lookup halts count why at =
+      stay_at model not_looked_up.Opened ds ds' n m old view path (edit_error why)
+      (halted_in_part (model.objects store) (model.may_fail store) trees path head last [] is (dirs_of ds) (dirs_of ds') queries failed_lookup halts n m
+      count why at)
 
-  pub opened_so : (it : NotLookedUp) (ds ds' : Opened) (n m : ℕ) (old : State S) → made ds n ≡ old → (path head : Path) (last : List ℕ)
+  pub opened_so : (model : StoreModel S) (it : NotLookedUp) (ds ds' : Opened) (n m : ℕ) (old : State S) → made ds n ≡ old → (path head : Path) (last : List ℕ)
       → path ≡ head ++ last ∷ []
       → (queries : List ObjectId) → Opens (EndsBefore it) trees head (dirs_of ds) (dirs_of ds') queries → m ≡ counted n queries
-      → OpenedOn ds → OpenedSo ds ds' → IsAfterFailedEdit trees old path (made ds' m)
-  opened_so it ds ds' n m old view path head last is queries opens count =
-      stay_at it ds ds' n m old view path (opened_in_part trees path head last [] is (dirs_of ds) (dirs_of ds') queries opens n m count)
+      → (failure : Error) → (¬ IsLookupError failure)
+      → OpenedOn ds → OpenedSo ds ds' → IsAfterFailedEdit model trees old path failure (made ds' m)
+  opened_so model it ds ds' n m old view path head last is queries opens count failure other =
+      stay_at model it ds ds' n m old view path failure
+      (opened_in_part (model.objects store) (model.may_fail store) trees path head last [] is (dirs_of ds) (dirs_of ds') queries opens n m count failure other)
 
   -- the error of an opening that halts
   some_name : (head : Path) (last : List ℕ) → head ++ last ∷ [] ≢ []

@@ -5,6 +5,7 @@ mod Calling
 mod CursorStays
 mod Edited
 mod FoundBelow
+mod Halted
 mod InPart
 mod Keeping
 mod Kept

@@ -72,15 +72,15 @@ module _ {S E : Type 0} (model : StoreModel S) (answers : Answers E) (T : Table)
   edit_plain place old new (edit.Upsert path k id) edit_reply.Done other h agrees holds within = let it =
       agreed old _ agrees h in (plain_upserted T pairs known it.0 it.1 old new holds _ _ _ (mode_of_kind_not_tree k other) it.2, tt)
   edit_plain place old new (edit.Upsert path k id) (edit_reply.Refused error) other h agrees holds within = let it =
-      agreed old _ agrees h.0.effect in (plain_failed T pairs known it.0 it.1 old new holds _ it.2, tt)
+      agreed old _ agrees h.0.effect in (plain_failed T pairs known it.0 it.1 old new holds model _ error it.2, tt)
   edit_plain place old new (edit.Remove path) edit_reply.Done other h agrees holds within = let it =
       agreed old _ agrees h in (plain_removed T pairs known it.0 it.1 old new holds _ it.2, tt)
   edit_plain place old new (edit.Remove path) (edit_reply.Refused error) other h agrees holds within = let it =
-      agreed old _ agrees h.effect in (plain_failed T pairs known it.0 it.1 old new holds _ it.2, tt)
+      agreed old _ agrees h.effect in (plain_failed T pairs known it.0 it.1 old new holds model _ error it.2, tt)
   edit_plain place old new (edit.RemoveLeaf path) edit_reply.Done other h agrees holds within = let it =
       agreed old _ agrees h in (plain_removed T pairs known it.0 it.1 old new holds _ it.2.removed, tt)
   edit_plain place old new (edit.RemoveLeaf path) (edit_reply.Refused error) other h agrees holds within = let it =
-      agreed old _ agrees h.effect in (plain_failed T pairs known it.0 it.1 old new holds _ it.2, tt)
+      agreed old _ agrees h.effect in (plain_failed T pairs known it.0 it.1 old new holds model _ error it.2, tt)
   edit_plain place old new edit.Write (edit_reply.Written written) other h agrees holds within = write_plain place old new written _ h holds within
   edit_plain place old new edit.Write (edit_reply.NotKept written count error) other h agrees holds within =
       write_plain place old new written _ h holds within
@@ -114,7 +114,7 @@ module _ {S E : Type 0} (model : StoreModel S) (answers : Answers E) (T : Table)
       (plain_ensured T pairs known it.0 it.1 old between holds prefix it.2) within
   at_plain prefix old new edits (reply.AtRefused error) other h agrees holds within = (
     ⊎_elim (λ wanting. same_state old new wanting.1 holds)
-        (λ rejected. let it = agreed old _ (agrees zero) rejected.0.effect in plain_failed T pairs known it.0 it.1 old new holds _ it.2) h,
+        (λ rejected. let it = agreed old _ (agrees zero) rejected.0.effect in plain_failed T pairs known it.0 it.1 old new holds model _ error it.2) h,
     tt,
   )
   at_plain prefix old new edits its_reply other h agrees holds within = absurd h

@@ -1,5 +1,5 @@
 -- The invariant of open directories and their bases holds after each call; the proofs of the editor's calls use it.
-use Rattle.std.proofs.Common.{◌≡◌, ◌≢◌, ◌∙◌, ℕ, List, [], ◌∷◌, ◌++◌, Option, None, Result, Ok, Err, refl, sym, ap, subst}
+use Rattle.std.proofs.Common.{◌≡◌, ◌≢◌, ◌∙◌, ℕ, Bool, List, [], ◌∷◌, ◌++◌, Option, None, Result, Ok, Err, refl, sym, ap, subst}
 use Rattle.std.specs.Prelude.{IfOk, OnErr}
 use Rattle.std.proofs.lemmas.List.Elements.{recursion_from_All}
 use Rattle.gixobj_tree.specs.Entries.{EntryView, IsEntryName, IsWellFormed}
@@ -17,9 +17,11 @@ use Rattle.gixobj_files.specs.Files.{Path, Trees}
 use Rattle.gixobj_files.specs.OpeningStops.{StopsOpening}
 use Rattle.gixobj_files.specs.Opening.{Dirs}
 use Rattle.gixobj_files.proofs.Calls.{ensured_null_based, are_null_based_of_none, opened_null_based, removed_null_based, upserted_null_based, written_null_based}
-use Rattle.gixobj_files.proofs.StoppedOpenings.{halts_opens}
+use Rattle.gixobj_editor.proofs.Halted.{halts_opens}
 use Rattle.gixobj_files.proofs.StillOpenedOpenings.{is_opened_of_opens}
+use Rattle.gixobj_store.specs.Stores.{Objects}
 use Rattle.gixobj_editor.specs.Upserts.{OpensInPart}
+use Rattle.gixobj_editor.specs.declared.editor.error.Error.{Error}
 use Rattle.gixobj_editor.proofs.EnsuredAt.{is_opened_after_ensured}
 use Rattle.gixobj_editor.proofs.Edited.{EditedSo, OpenedOn, OpenedSo, is_opened_after_upsert}
 use Rattle.gixobj_editor.proofs.RemovedAt.{is_opened_after_removal}
@@ -51,8 +53,9 @@ module _ (trees : Trees) (ds mid : Opened) (first : OpenedSo ds mid) (was : Open
     null_based = opened_null_based trees hash.Sha1 (dirs_of ds) (bases_of ds) (dirs_of mid) (bases_of mid) was path queries opens first;
   }
 
-  pub in_part_on : {StopsBefore : EntryView → Type 0} (path : Path) (n m : ℕ) → OpensInPart StopsBefore trees path (dirs_of ds) (dirs_of mid) n m → OpenedOn mid
-  in_part_on path n m so = opened_on so.reached so.looked_up so.opens
+  pub in_part_on : {StopsBefore : EntryView → Type 0} (objects : Objects) (may_fail : ObjectId → Bool) (path : Path) (n m : ℕ) (failure : Error)
+      → OpensInPart StopsBefore objects may_fail trees path (dirs_of ds) (dirs_of mid) n m failure → OpenedOn mid
+  in_part_on objects may_fail path n m failure so = opened_on so.reached so.looked_up so.opens
 
   pub halted_on : {StopsBefore : EntryView → Type 0} (path : Path) (queries : List ObjectId) (failed_lookup : Option ObjectId)
       → StopsOpening StopsBefore trees path (dirs_of ds) (dirs_of mid) queries failed_lookup → OpenedOn mid

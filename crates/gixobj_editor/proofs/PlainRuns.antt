@@ -29,6 +29,8 @@ use Rattle.gixobj_files.specs.State.{DirMap, State, open_bases, open_dirs, root_
 use Rattle.gixobj_files.specs.Tables.{AgreesWithPairs, AgreesWithStore}
 use Rattle.gixobj_hash.specs.Hash.{null_id}
 use Rattle.gixobj_hash.specs.declared.hash.object_id.ObjectId.{ObjectId}
+use Rattle.gixobj_store.specs.Stores.{StoreModel}
+use Rattle.gixobj_editor.specs.declared.editor.error.Error.{Error}
 use Rattle.gixobj_tree.specs.Entries.{EntryView, Pair}
 use Rattle.gixobj_mode.specs.Mode.{is_tree_mode}
 use Rattle.gixobj_editor.proofs.Paths.{directory_of_snoc}
@@ -133,8 +135,8 @@ module _ (T : Table) (pairs : List Pair) (known : AgreesWithPairs T pairs) where
           (open_dirs old) h.opened h.looked_up h.opens (open_bases old) holds.1)),
     )
 
-    pub plain_failed : (path : Path) → IsAfterFailedEdit trees old path new → IsPlainState new
-    plain_failed path h = (
+    pub plain_failed : (model : StoreModel S) (path : Path) (failure : Error) → IsAfterFailedEdit model trees old path failure new → IsPlainState new
+    plain_failed model path failure h = (
       h.is_opened,
       carried (open_dirs new) (opened_bases (open_dirs old) (open_dirs new) (open_bases old)) (open_dirs new) (open_bases new) (λ at. refl) h.bases
           (everywhere_opened (Plain pairs) trees (null_id old.object_hash) (plain_lasts T pairs known trees (null_id old.object_hash) agrees) h.reached

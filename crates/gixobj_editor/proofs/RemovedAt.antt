@@ -18,8 +18,11 @@ use Rattle.gixobj_files.proofs.RemovedFiles.{IsReached, removed_dirs_files}
 use Rattle.gixobj_files.proofs.StillOpenedOpenings.{is_opened_of_opens}
 use Rattle.gixobj_files.proofs.StillOpenedRemovals.{is_opened_removed}
 use Rattle.gixobj_files.proofs.UnopenedCounts.{IsIdle, requested_count}
-use Rattle.gixobj_editor.specs.Upserts.{IsAfterFailedEdit, directory_of}
-use Rattle.gixobj_editor.specs.Removals.{IsRemoved}
+use Rattle.gixobj_editor.specs.Upserts.{IsAfterFailedEdit, IsLookupError, directory_of}
+use Rattle.gixobj_editor.specs.declared.editor.error.Error.{Error}
+use Rattle.gixobj_editor.specs.declared.editor.error.Error.TheVariants as error
+use Rattle.gixobj_store.specs.Stores.{StoreModel}
+use Rattle.gixobj_editor.specs.Removals.{IsLeafDirectoryError, IsRemoved}
 use Rattle.gixobj_editor.proofs.Edited.{EditedSo, OpenedOn, OpenedSo, map_is_opened, edited_bases_of_map, tree_known_above, map_bases, map_dirs, no_error_above, map_is_opened_on, map_dirs_eq, state_of, stay_at}
 use Rattle.gixobj_directories.proofs.OpeningSteps.{ends_before_is_idle}
 use Rattle.gixobj_directories.specs.Openings.{EndsBefore}
@@ -74,6 +77,15 @@ module _ {StopsBefore : EntryView → Type 0} (idle : IsIdle StopsBefore) (trees
     | inr ends ↦ subst (λ p. entry_at p new ≡ looked_up_entry trees p old) (sym ends.2)
         (known_after idle trees ends.0 ends.1 old new queries (along ends.0 ends.1 ends.2))
   ]
+
+-- the error for a directory at the path isn't one of a lookup
+pub no_lookup_of_leaf : (path : Path) (failure : Error) → IsLeafDirectoryError path failure → ¬ IsLookupError failure
+no_lookup_of_leaf path error.EmptyPathComponent h = λ it. it
+no_lookup_of_leaf path error.SlashInPathComponent h = λ it. it
+no_lookup_of_leaf path (error.FindExistingObject cause) h = absurd h
+no_lookup_of_leaf path (error.CannotRemoveNonLeaf at) h = λ it. it
+no_lookup_of_leaf path error.MalformedTree h = absurd h
+no_lookup_of_leaf path error.OutOfMemory h = λ it. it
 
 module _ {S : Type 0} (store : S) (hash : Kind) (prefix : Path) (trees : Trees) (it : NotLookedUp) where
   abbrev made : Opened → ℕ → State S
@@ -132,12 +144,13 @@ module _ {S : Type 0} (store : S) (hash : Kind) (prefix : Path) (trees : Trees) 
       view
       (known_same idle trees path (map_dirs ds) (dirs_of mid) queries (for_map ds (dirs_of mid) path queries opened).0)
 
-  -- directories are opened, and then the removal fails
-  pub rejected_at : (ds mid : Opened) (n m : ℕ) (old : State S) → made ds n ≡ old → (path : Path) (queries : List ObjectId)
+  -- directories are opened, and then the removal fails without another lookup
+  pub rejected_at : (model : StoreModel S) (ds mid : Opened) (n m : ℕ) (old : State S) → made ds n ≡ old → (path : Path) (queries : List ObjectId)
       → IsOpenedFor StopsBefore trees path (dirs_of ds) (dirs_of mid) queries → m ≡ counted n queries
-      → OpenedOn ds → OpenedSo ds mid → IsAfterFailedEdit trees old path (made mid m)
-  rejected_at ds mid n m old view path queries opened count =
+      → (failure : Error) → (¬ IsLookupError failure) → OpenedOn ds → OpenedSo ds mid → IsAfterFailedEdit model trees old path failure (made mid m)
+  rejected_at model ds mid n m old view path queries opened count failure other =
       let same = count_above idle trees path (dirs_of ds) (dirs_of mid) queries opened.0 in
       let begins = directory_is_prefix path in
-      stay_at store hash prefix trees it ds mid n m old view path
-      (prefix_in_part trees path (directory_of path) begins.0 begins.1 (dirs_of ds) (dirs_of mid) queries opened.0 (omega (arith, same)) n m count)
+      stay_at store hash prefix trees model it ds mid n m old view path failure
+      (prefix_in_part (model.objects store) (model.may_fail store) trees path (directory_of path) begins.0 begins.1 (dirs_of ds) (dirs_of mid) queries
+      opened.0 (omega (arith, same)) n m count failure other)

@@ -8,7 +8,7 @@ use Rattle.gixobj_directories.specs.Calls.{AreNames}
 use Rattle.gixobj_directories.specs.Openings.{IsOpenErrorAt}
 use Rattle.gixobj_directories.specs.declared.opening.Error as directory
 use Rattle.gixobj_directories.specs.declared.opening.Error.TheVariants as opening
-use Rattle.gixobj_files.specs.Edits.{Opens, counted}
+use Rattle.gixobj_files.specs.Edits.{Opens, arrived, counted, down, found, stops}
 use Rattle.gixobj_files.specs.Files.{Path, Trees}
 use Rattle.gixobj_files.specs.OpeningStops.{ReachesDirectory, StopsOpening, at_once, without_answer}
 use Rattle.gixobj_files.specs.OpeningStops as halting
@@ -16,10 +16,11 @@ use Rattle.gixobj_files.specs.Opening.{Dirs}
 use Rattle.gixobj_files.proofs.ReachedDirectories.{comes_open, open_comes, opens_of_longer_path}
 use Rattle.gixobj_files.proofs.StoppedOpenings.{halted_at, halted_unopened}
 use Rattle.gixobj_files.proofs.UnopenedCounts.{IsIdle}
-use Rattle.gixobj_editor.specs.Upserts.{SplitsAtFirstInvalid, OpensInPart, IsEntryNameError, IsFirstNameError, directory_of, edit_error}
+use Rattle.gixobj_editor.specs.Upserts.{SplitsAtFirstInvalid, OpensInPart, IsEntryNameError, IsFirstNameError, StartsInvalid, directory_of, edit_error}
 use Rattle.gixobj_editor.specs.Removals.{ValidatesUpTo, IsRemovalError}
 use Rattle.gixobj_editor.specs.declared.editor.error.Error.{Error}
 use Rattle.gixobj_editor.specs.declared.editor.error.Error.TheVariants as error
+use Rattle.gixobj_editor.proofs.Edited.{no_lookup_of_name}
 use Rattle.gixobj_editor.proofs.InPart.{halted_in_part, opened_in_part}
 use Rattle.gixobj_editor.proofs.Paths.{snoc_prefix_cases, directory_of_snoc}
 
@@ -62,7 +63,7 @@ after_names path names [] splits = elim (path_nil_or_snoc path) [
 ]
 after_names path names (name ∷ rest) splits = inr (name, rest, splits.2, splits.0)
 
-no_halt : {StopsBefore : EntryView → Type 0} (trees : Trees) (path : Path) → path ≡ []
+pub no_halt : {StopsBefore : EntryView → Type 0} (trees : Trees) (path : Path) → path ≡ []
     → (old new : Dirs) (requested : List ObjectId) (failed_lookup : Option ObjectId)
     → StopsOpening StopsBefore trees path old new requested failed_lookup → ⊥
 no_halt trees path is old new requested failed_lookup (at_once name rest d e entry tree free none) = cc is
@@ -70,10 +71,25 @@ no_halt trees path is old new requested failed_lookup (without_answer name rest 
 no_halt trees path is old new requested failed_lookup (halting.down name rest d inner e entries more v has named there halts) = cc is
 no_halt trees path is old new requested failed_lookup (halting.found name rest d inner e entries first more v entry tree free none finds halts) = cc is
 
+-- if the first name is invalid, no directory is opened
+pub nothing_validated : (path names rejected : Path) → SplitsAtFirstInvalid path names rejected → StartsInvalid path → names ≡ []
+nothing_validated [] names [] splits bad = splits.1
+nothing_validated (name ∷ path) names [] splits bad = absurd (bad (All-head IsEntryName name path splits.0))
+nothing_validated path [] (name ∷ rest) splits bad = refl
+nothing_validated path (first ∷ names) (name ∷ rest) splits bad =
+    absurd (subst StartsInvalid splits.2 bad (All-head IsEntryName first names splits.0))
+
+pub opens_nothing : {StopsBefore : EntryView → Type 0} (trees : Trees) (path : Path) → path ≡ [] → (old new : Dirs) (requested : List ObjectId)
+    → Opens StopsBefore trees path old new requested → (new ≡ old) × (requested ≡ [])
+opens_nothing trees path none old new requested (arrived d) = (refl, refl)
+opens_nothing trees path none old new requested (stops name rest d other unopened) = (refl, refl)
+opens_nothing trees path none old new requested (down name rest d inner e entries more has named is below) = absurd (cc none)
+opens_nothing trees path none old new requested (found name rest d inner e entries first more entry tree free unopened finds below) = absurd (cc none)
+
 -- the effect of a failed removal: the opened directories, the lookups and the error
 abbrev pub IsRejectedSo : (EntryView → Type 0) → Objects → (ObjectId → Bool) → Trees → Path → Dirs → Dirs → ℕ → ℕ → Error → Type 0
 IsRejectedSo StopsBefore objects may_fail trees path old new before after failure =
-    OpensInPart StopsBefore trees path old new before after × IsRemovalError StopsBefore objects may_fail trees old path failure
+    OpensInPart StopsBefore objects may_fail trees path old new before after failure × IsRemovalError StopsBefore objects may_fail trees old path failure
 
 module _ {StopsBefore : EntryView → Type 0} (idle : IsIdle StopsBefore) (objects : Objects) (may_fail : ObjectId → Bool) (trees : Trees) where
   -- a directory isn't opened
@@ -102,7 +118,7 @@ module _ {StopsBefore : EntryView → Type 0} (idle : IsIdle StopsBefore) (objec
   halted_removal path names rejected splits old new requested failed_lookup halts cause at n m count = elim (after_names path names rejected splits) [
     | inl none ↦ absurd (no_halt trees names none.1 old new requested failed_lookup halts)
     | inr remaining ↦ (
-      halted_in_part trees path names remaining.0 remaining.1 remaining.2 old new requested failed_lookup halts n m count,
+      halted_in_part objects may_fail trees path names remaining.0 remaining.1 remaining.2 old new requested failed_lookup halts n m count cause at,
       stopped_opening_fails path names remaining.0 remaining.1 remaining.2 remaining.3 old new requested failed_lookup halts cause at,
     )
   ]
@@ -126,7 +142,8 @@ module _ {StopsBefore : EntryView → Type 0} (idle : IsIdle StopsBefore) (objec
       → (n m : ℕ) → m ≡ counted n requested → IsRejectedSo StopsBefore objects may_fail trees path old new n m failure
   name_rejected_so path names [] splits old new requested opens entries there failure h n m count = absurd h
   name_rejected_so path names (name ∷ rest) splits old new requested opens entries there failure (inl h) n m count = (
-    opened_in_part trees path names name rest splits.2 old new requested opens n m count,
+    opened_in_part objects may_fail trees path names name rest splits.2 old new requested opens n m count failure
+        (no_lookup_of_name (name ∷ rest) failure (inl h)),
     first_failed path names name rest splits.0 splits.2 old new requested opens entries there failure h,
   )
   name_rejected_so path names (name ∷ rest) splits old new requested opens entries there failure (inr h) n m count = absurd (splits.1 h.0)

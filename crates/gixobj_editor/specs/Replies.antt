@@ -13,7 +13,7 @@ use Rattle.gixobj_directories.specs.declared.write.WriteError.{WriteError}
 use Rattle.gixobj_directories.specs.declared.write.Written.{Written}
 use Rattle.gixobj_editor.specs.Cursors.{IsEnsured, IsWrittenBelow, IsCursorError, IsCursorEditError, cursor_path}
 use Rattle.gixobj_editor.specs.Removals.{IsLeafRemoved, IsRemoved, IsLeafRemovalError, IsRemovalError}
-use Rattle.gixobj_editor.specs.Upserts.{IsNameError, IsAfterFailedEdit, IsUpserted, IsUpsertError}
+use Rattle.gixobj_editor.specs.Upserts.{IsNameError, IsFailedEditIn, IsUpserted, IsUpsertError}
 use Rattle.gixobj_editor.specs.Writes.{IsWrittenEditor}
 use Rattle.gixobj_editor.specs.declared.editor.error.Error.{Error}
 use Rattle.gixobj_editor.specs.declared.editor.error.Error.TheVariants as editing
@@ -66,10 +66,10 @@ abbrev pub reply_to : {E : Type 0} → Result (Unit {0}) Error → EditReply E
 reply_to (Ok done) = edit_reply.Done
 reply_to (Err error) = edit_reply.Refused error
 
--- the effect of a failed edit, and its cause
+-- the effect of an edit that fails with this error, and its cause
 pub record IsFailedEdit {S : Type 0} (model : StoreModel S) (Rejects : Trees → Type 0) (old : State S) (path : Path)
-    (new : State S) : Type 0 where
-  pub remaining : OfTrees (model.objects old.store) (λ trees. IsAfterFailedEdit trees old path new)
+    (failure : Error) (new : State S) : Type 0 where
+  pub effect : IsFailedEditIn model old path new failure
   pub cause : OfTrees (model.objects old.store) Rejects
 
 -- the effect of a successful write
@@ -114,7 +114,7 @@ module _ {S E : Type 0} (model : StoreModel S) (answers : Answers E) where
   IsEditReply place old (edit.Upsert path kind id) (edit_reply.Refused error) new =
       IsFailedEdit model (λ trees. IsEditErrorAt place (names_of path.items)
       (IsUpsertError (model.objects old.store) (model.may_fail old.store) trees (open_dirs old)
-      (path_at place (names_of path.items))) error) old (path_at place (names_of path.items)) new
+      (path_at place (names_of path.items))) error) old (path_at place (names_of path.items)) error new
       × (IsNameError error → new ≡ old)
   IsEditReply place old (edit.Remove path) edit_reply.Done new =
       OfTrees (model.objects old.store)
@@ -122,13 +122,13 @@ module _ {S E : Type 0} (model : StoreModel S) (answers : Answers E) where
   IsEditReply place old (edit.Remove path) (edit_reply.Refused error) new =
       IsFailedEdit model (λ trees. IsEditErrorAt place (names_of path.items)
       (IsRemovalError IsNoTree (model.objects old.store) (model.may_fail old.store) trees (open_dirs old)
-      (path_at place (names_of path.items))) error) old (path_at place (names_of path.items)) new
+      (path_at place (names_of path.items))) error) old (path_at place (names_of path.items)) error new
   IsEditReply place old (edit.RemoveLeaf path) edit_reply.Done new =
       OfTrees (model.objects old.store) (λ trees. IsLeafRemoved trees old (path_at place (names_of path.items)) new)
   IsEditReply place old (edit.RemoveLeaf path) (edit_reply.Refused error) new =
       IsFailedEdit model (λ trees. IsEditErrorAt place (names_of path.items)
       (IsLeafRemovalError (model.objects old.store) (model.may_fail old.store) trees (open_dirs old)
-      (path_at place (names_of path.items))) error) old (path_at place (names_of path.items)) new
+      (path_at place (names_of path.items))) error) old (path_at place (names_of path.items)) error new
   IsEditReply place old edit.Write (edit_reply.Written it) new = IsWriteKept model (IsWrittenAt answers place it old)
       (KeepsAll it.trees.items) old new
   IsEditReply place old edit.Write (edit_reply.NotKept it count error) new =
@@ -154,7 +154,7 @@ module _ {S E : Type 0} (model : StoreModel S) (answers : Answers E) where
   IsReplyAt prefix old edits (reply.AtRefused error) new =
       ((error ≡ editing.OutOfMemory) × (new ≡ old))
       ⊎ (IsFailedEdit model (λ trees. IsCursorError (model.objects old.store) (model.may_fail old.store) trees
-      (open_dirs old) prefix error) old (in_directory prefix) new × (IsNameError error → new ≡ old))
+      (open_dirs old) prefix error) old (in_directory prefix) error new × (IsNameError error → new ≡ old))
   IsReplyAt prefix old edits its_reply new = ⊥
 
   -- the command may get this reply and turn the old state into the new one

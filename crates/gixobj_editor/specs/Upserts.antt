@@ -97,6 +97,23 @@ edit_error (opening.FindExistingObject cause) = error.FindExistingObject cause
 edit_error opening.MalformedTree = error.MalformedTree
 edit_error opening.OutOfMemory = error.OutOfMemory
 
+-- an error that only a lookup has: it failed, or found a tree that isn't well-formed
+abbrev pub IsLookupError : Error → Type 0
+IsLookupError error.EmptyPathComponent = ⊥
+IsLookupError error.SlashInPathComponent = ⊥
+IsLookupError (error.FindExistingObject cause) = ⊤
+IsLookupError (error.CannotRemoveNonLeaf path) = ⊥
+IsLookupError error.MalformedTree = ⊤
+IsLookupError error.OutOfMemory = ⊥
+
+-- the error of an edit, by the ids that were looked up without success. There is at most one, and the error is that of
+-- its lookup; if there is none, the error isn't one of a lookup
+abbrev pub IsErrorAfterLookup : Objects → (ObjectId → Bool) → List ObjectId → Error → Type 0
+IsErrorAfterLookup objects may_fail [] failure = ¬ IsLookupError failure
+IsErrorAfterLookup objects may_fail (it ∷ []) failure = (cause : directory.Error)
+    × IsDirectoryError objects may_fail it cause × (failure ≡ edit_error cause)
+IsErrorAfterLookup objects may_fail (it ∷ next ∷ more) failure = ⊥
+
 -- the effect of an accepted upsert: the open directories, the lookups and the files; the rest is unchanged
 pub record IsUpserted {S : Type 0} (trees : Trees) (old : State S) (path : Path) (mode : ℕ) (id : ObjectId)
     (new : State S) : Type 0 where
@@ -121,24 +138,26 @@ pub record IsUpserted {S : Type 0} (trees : Trees) (old : State S) (path : Path)
       → HasBases T (open_dirs new) (open_bases new)
 
 -- the directories on a path are opened in part: those on a prefix of it, and no other. At most the next one was looked
--- up without success
-pub record OpensInPart (StopsBefore : EntryView → Type 0) (trees : Trees) (path : Path) (old new : Dirs)
-    (before after : ℕ) : Type 0 where
+-- up without success, as the error says
+pub record OpensInPart (StopsBefore : EntryView → Type 0) (objects : Objects) (may_fail : ObjectId → Bool) (trees : Trees)
+    (path : Path) (old new : Dirs) (before after : ℕ) (failure : Error) : Type 0 where
   pub reached : Path
   pub more : Path
   pub on_the_way : path ≡ reached ++ more
   pub looked_up : List ObjectId
   pub opens : Opens StopsBefore trees reached old new looked_up
   pub failed_lookup : List ObjectId
-  pub at_most_one : length failed_lookup ≤ 1
+  pub cause : IsErrorAfterLookup objects may_fail failed_lookup failure
   pub next : (it : ObjectId) → failed_lookup ≡ it ∷ [] → IsNextUnopened trees old reached more it
   pub lookups : after ≡ counted before (looked_up ++ failed_lookup)
   pub at_most_unopened : length (looked_up ++ failed_lookup) ≤ unopened_count trees old path
 
--- the effect of a failed edit: the directories on a prefix of the path are opened, and no other. At most the next one
--- was looked up without success. An open directory is still open, with its entries. Each lookup is counted; there are
--- at most as many as unopened directories above the path. The files and the rest are unchanged
-pub record IsAfterFailedEdit {S : Type 0} (trees : Trees) (old : State S) (path : Path) (new : State S) : Type 0 where
+-- the effect of an edit that fails with this error: the directories on a prefix of the path are opened, and no other.
+-- At most the next one was looked up without success, as the error says. An open directory is still open, with its
+-- entries. Each lookup is counted; there are at most as many as unopened directories above the path. The files and the
+-- rest are unchanged
+pub record IsAfterFailedEdit {S : Type 0} (model : StoreModel S) (trees : Trees) (old : State S) (path : Path)
+    (failure : Error) (new : State S) : Type 0 where
   pub not_looked_up : NotLookedUp
   pub reached : Path
   pub more : Path
@@ -148,7 +167,7 @@ pub record IsAfterFailedEdit {S : Type 0} (trees : Trees) (old : State S) (path 
   pub bases : (at : Path) → open_bases new at ≡ opened_bases (open_dirs old) (open_dirs new) (open_bases old) at
   pub stays : (at : Path) (entries : List EntryView) → open_dirs old at ≡ Some entries → open_dirs new at ≡ Some entries
   pub failed_lookup : List ObjectId
-  pub at_most_one : length failed_lookup ≤ 1
+  pub cause : IsErrorAfterLookup (model.objects old.store) (model.may_fail old.store) failed_lookup failure
   pub next : (it : ObjectId) → failed_lookup ≡ it ∷ [] → IsNextUnopened trees (open_dirs old) reached more it
   pub lookups : new.lookups ≡ raised old.lookups (length (looked_up ++ failed_lookup))
   pub at_most_unopened : length (looked_up ++ failed_lookup) ≤ unopened_count trees (open_dirs old) path
@@ -158,3 +177,8 @@ pub record IsAfterFailedEdit {S : Type 0} (trees : Trees) (old : State S) (path 
   -- every table that agrees with the store and has the old bases has the new ones
   pub has_bases : (T : Table) → AgreesWithStore T trees → HasBases T (open_dirs old) (open_bases old)
       → HasBases T (open_dirs new) (open_bases new)
+
+-- the effect of an edit at this path that fails with this error, by the store's trees
+abbrev pub IsFailedEditIn : {S : Type 0} → StoreModel S → State S → Path → State S → Error → Type 0
+IsFailedEditIn model old path new failure =
+    OfTrees (model.objects old.store) (λ trees. IsAfterFailedEdit model trees old path failure new)

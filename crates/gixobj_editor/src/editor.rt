@@ -17,7 +17,7 @@ ghost use Rattle.gixobj_directories.specs.Calls.{IsCallableOnTrees, answered, de
 ghost use Rattle.gixobj_directories.specs.Emitting.{Stopped};
 ghost use Rattle.gixobj_editor.specs.Writes.{IsWrittenEditor};
 ghost use Rattle.gixobj_directories.specs.Openings.{OfTrees};
-ghost use Rattle.gixobj_editor.specs.Upserts.{IsNameError, IsAfterFailedEdit, IsUpserted, IsErrorIn, IsUpsertError};
+ghost use Rattle.gixobj_editor.specs.Upserts.{IsNameError, IsFailedEditIn, IsUpserted, IsErrorIn, IsUpsertError, StartsInvalid};
 ghost use Rattle.gixobj_editor.specs.Removals.{IsLeafRemoved, IsRemoved, IsLeafRemovalError, IsRemovalError};
 ghost use Rattle.gixobj_editor.specs.contracts.editor.Editor.{the_row};
 
@@ -125,8 +125,7 @@ impl<S> Editor<S> {
     /// Replaces the root by this tree, which must be well-formed, as [`Tree::is_well_formed`] reports.
     ///
     /// Only the root is open then, without earlier edits and bases. The next write emits it even if nothing
-    /// is edited in it. The store, the kind of the ids and the number of lookups are unchanged. Allocates
-    /// nothing.
+    /// is edited in it. The store, the ids' kind and the number of lookups are unchanged. Allocates nothing.
     pub fn set_root(&mut self, root: Tree) -> &mut Editor<S>
         requires { IsWellFormed root }
         ensures same_reference { result.ghost_name ≡ self.entry.ghost_name }
@@ -275,8 +274,8 @@ impl<S: Find> Editor<S> {
         ensures upserted { OnOk result (OfTrees (S.objects self.old.store)
             (λ trees. IsUpserted trees self.old (names_of path.now) (mode_of_kind kind) id
             self.new)) }
-        ensures after_error { OnErr result (OfTrees (S.objects self.old.store)
-            (λ trees. IsAfterFailedEdit trees self.old (names_of path.now) self.new)) }
+        ensures after_error { IfErr result (IsFailedEditIn (store_model S.objects S.may_fail)
+            self.old (names_of path.now) self.new) }
         ensures error { IfErr result (IsErrorIn (store_model S.objects S.may_fail) self.old
             IsUpsertError (names_of path.now)) }
         ensures not_looked_up { IfErr result (λ error. IsNameError error → self.new ≡ self.old) }
@@ -316,7 +315,8 @@ impl<S: Find> Editor<S> {
     /// - [`Error::MalformedTree`] if a directory's tree isn't well-formed;
     /// - [`Error::OutOfMemory`] if allocation fails, only if a directory above the entry isn't open.
     ///
-    /// The files are unchanged after an error; directories that were opened on the way are still open.
+    /// The editor is unchanged if the first name is invalid. After any other error its files are unchanged,
+    /// and directories that were opened on the way are still open.
     ///
     /// # Examples
     ///
@@ -327,10 +327,11 @@ impl<S: Find> Editor<S> {
     pub fn try_remove(&mut self, path: &[BString]) -> Result<(), Error>
         ensures removed { OnOk result (OfTrees (S.objects self.old.store)
             (λ trees. IsRemoved IsNoTree trees self.old (names_of path.now) self.new)) }
-        ensures after_error { OnErr result (OfTrees (S.objects self.old.store)
-            (λ trees. IsAfterFailedEdit trees self.old (names_of path.now) self.new)) }
+        ensures after_error { IfErr result (IsFailedEditIn (store_model S.objects S.may_fail)
+            self.old (names_of path.now) self.new) }
         ensures error { IfErr result (IsErrorIn (store_model S.objects S.may_fail) self.old
             (IsRemovalError IsNoTree) (names_of path.now)) }
+        ensures unchanged { OnErr result (StartsInvalid (names_of path.now) → self.new ≡ self.old) }
     {
         let alloc = *self.prefix.allocator();
         open_for_removal(
@@ -347,8 +348,7 @@ impl<S: Find> Editor<S> {
 
     /// Removes the entry at the path like [`Editor::try_remove`], unless it is a directory.
     ///
-    /// A directory above it with the null id or the empty tree's id isn't opened, since it has nothing to
-    /// remove.
+    /// A directory above it with the null id or the empty tree's id isn't opened: it has nothing to remove.
     ///
     /// # Errors
     ///
@@ -359,10 +359,11 @@ impl<S: Find> Editor<S> {
     pub fn try_remove_leaf(&mut self, path: &[BString]) -> Result<(), Error>
         ensures removed { OnOk result (OfTrees (S.objects self.old.store)
             (λ trees. IsLeafRemoved trees self.old (names_of path.now) self.new)) }
-        ensures after_error { OnErr result (OfTrees (S.objects self.old.store)
-            (λ trees. IsAfterFailedEdit trees self.old (names_of path.now) self.new)) }
+        ensures after_error { IfErr result (IsFailedEditIn (store_model S.objects S.may_fail)
+            self.old (names_of path.now) self.new) }
         ensures error { IfErr result (IsErrorIn (store_model S.objects S.may_fail) self.old
             IsLeafRemovalError (names_of path.now)) }
+        ensures unchanged { OnErr result (StartsInvalid (names_of path.now) → self.new ≡ self.old) }
     {
         let alloc = *self.prefix.allocator();
         open_for_removal(
@@ -383,8 +384,7 @@ impl<S: Find> Editor<S> {
 impl<S> Editor<S> {
     /// Returns the entry at the path, or `None`, by open directories alone.
     ///
-    /// The id of an open directory may be out of date. The call looks nothing up, allocates nothing, and
-    /// always returns `Ok`.
+    /// An open directory's id may be out of date. Looks nothing up, allocates nothing, always returns `Ok`.
     pub fn get(&self, path: &[BString]) -> Result<Option<&Entry>, OutOfMemory>
         ensures no_error { IsOk result }
         ensures found { IfOk result (λ entry. option_copied entry

@@ -7,7 +7,7 @@ ghost use Rattle.gixobj_directories.specs.Emitting.{Stopped};
 ghost use Rattle.gixobj_directories.specs.Openings.{OfTrees};
 ghost use Rattle.gixobj_editor.specs.Cursors.{IsEnsured, IsWrittenBelow, IsErrorBelow, IsCursorError, from_root, cursor_path};
 ghost use Rattle.gixobj_editor.specs.Removals.{IsLeafRemoved, IsRemoved, IsLeafRemovalError, IsRemovalError};
-ghost use Rattle.gixobj_editor.specs.Upserts.{IsNameError, IsAfterFailedEdit, IsUpserted, IsErrorIn, IsUpsertError};
+ghost use Rattle.gixobj_editor.specs.Upserts.{IsNameError, IsFailedEditIn, IsUpserted, IsErrorIn, IsUpsertError};
 ghost use Rattle.gixobj_editor.specs.contracts.editor.Editor.{the_row};
 ghost use Rattle.gixobj_files.specs.Edits.{IsNoTree, entry_at};
 ghost use Rattle.gixobj_files.specs.Files.{Path};
@@ -115,8 +115,8 @@ impl<S: Find> Editor<S> {
     /// ```
     pub fn cursor_at(&mut self, path: &[BString]) -> Result<Cursor<'_, S>, Error>
         ensures* rejected { sem 𝓛 (RestsIfErr (the_row S.row) self.entry (λ c. c.editor.ghost_name)
-            result (λ remaining. OfTrees (S.objects self.old.store)
-            (λ trees. IsAfterFailedEdit trees self.old (inside (cursor_path (names_of path.now))) remaining)
+            result (λ remaining. IfErr result (IsFailedEditIn (store_model S.objects S.may_fail)
+            self.old (in_directory (cursor_path (names_of path.now))) remaining)
             × IfErr result (λ error. IsNameError error → remaining ≡ self.old))) }
         ensures same_reference { IfOk result (λ c. c.editor.ghost_name ≡ self.entry.ghost_name) }
         ensures prefix { IfOk result (λ c. c.editor.now.prefix ≡ cursor_path (names_of path.now)) }
@@ -139,9 +139,8 @@ impl<S: Find> Editor<S> {
         ensures is_open { OnOk result (open_dirs self.new self.new.prefix ≢ None) }
         ensures ensured { OnOk result (OfTrees (S.objects self.old.store)
             (λ trees. IsEnsured trees self.old (cursor_path (names_of path.now)) self.new)) }
-        ensures after_error { OnErr result (OfTrees (S.objects self.old.store)
-            (λ trees. IsAfterFailedEdit trees self.old
-            (in_directory (cursor_path (names_of path.now))) self.new)) }
+        ensures after_error { IfErr result (IsFailedEditIn (store_model S.objects S.may_fail)
+            self.old (in_directory (cursor_path (names_of path.now))) self.new) }
         ensures error { IfErr result (IsErrorIn (store_model S.objects S.may_fail) self.old
             IsCursorError (cursor_path (names_of path.now))) }
         ensures not_looked_up { IfErr result (λ error. IsNameError error → self.new ≡ self.old) }
@@ -155,9 +154,8 @@ impl<S: Find> Editor<S> {
             (λ trees. IsEnsured trees self.old (names_of path.now) self.new)) }
         ensures prefix { OnOk result (self.new.prefix ≡ names_of path.now) }
         ensures is_open { OnOk result (open_dirs self.new self.new.prefix ≢ None) }
-        ensures after_error { OnErr result (OfTrees (S.objects self.old.store)
-            (λ trees. IsAfterFailedEdit trees self.old
-            (in_directory (names_of path.now)) self.new)) }
+        ensures after_error { IfErr result (IsFailedEditIn (store_model S.objects S.may_fail)
+            self.old (in_directory (names_of path.now)) self.new) }
         ensures error { IfErr result (IsErrorIn (store_model S.objects S.may_fail) self.old
             IsCursorError (names_of path.now)) }
         ensures not_looked_up { IfErr result (λ error. IsNameError error → self.new ≡ self.old) }
@@ -285,9 +283,8 @@ impl<S: Find> Cursor<'_, S> {
             (λ trees. IsUpserted trees self.old.editor.now
             (from_root self.old.editor.now.prefix (names_of path.now)) (mode_of_kind kind) id
             self.new.editor.now)) }
-        ensures after_error { OnErr result (OfTrees (S.objects self.old.editor.now.store)
-            (λ trees. IsAfterFailedEdit trees self.old.editor.now
-            (from_root self.old.editor.now.prefix (names_of path.now)) self.new.editor.now)) }
+        ensures after_error { IfErr result (IsFailedEditIn (store_model S.objects S.may_fail)
+            self.old.editor.now (from_root self.old.editor.now.prefix (names_of path.now)) self.new.editor.now) }
         ensures error { IfErr result (IsErrorBelow (store_model S.objects S.may_fail)
             self.old.editor.now IsUpsertError (names_of path.now)) }
         ensures not_looked_up { IfErr result (λ error. IsNameError error
@@ -335,9 +332,8 @@ impl<S: Find> Cursor<'_, S> {
         ensures removed { OnOk result (OfTrees (S.objects self.old.editor.now.store)
             (λ trees. IsRemoved IsNoTree trees self.old.editor.now
             (from_root self.old.editor.now.prefix (names_of path.now)) self.new.editor.now)) }
-        ensures after_error { OnErr result (OfTrees (S.objects self.old.editor.now.store)
-            (λ trees. IsAfterFailedEdit trees self.old.editor.now
-            (from_root self.old.editor.now.prefix (names_of path.now)) self.new.editor.now)) }
+        ensures after_error { IfErr result (IsFailedEditIn (store_model S.objects S.may_fail)
+            self.old.editor.now (from_root self.old.editor.now.prefix (names_of path.now)) self.new.editor.now) }
         ensures error { IfErr result (IsErrorBelow (store_model S.objects S.may_fail)
             self.old.editor.now (IsRemovalError IsNoTree) (names_of path.now)) }
     {
@@ -384,9 +380,8 @@ impl<S: Find> Cursor<'_, S> {
         ensures removed { OnOk result (OfTrees (S.objects self.old.editor.now.store)
             (λ trees. IsLeafRemoved trees self.old.editor.now
             (from_root self.old.editor.now.prefix (names_of path.now)) self.new.editor.now)) }
-        ensures after_error { OnErr result (OfTrees (S.objects self.old.editor.now.store)
-            (λ trees. IsAfterFailedEdit trees self.old.editor.now
-            (from_root self.old.editor.now.prefix (names_of path.now)) self.new.editor.now)) }
+        ensures after_error { IfErr result (IsFailedEditIn (store_model S.objects S.may_fail)
+            self.old.editor.now (from_root self.old.editor.now.prefix (names_of path.now)) self.new.editor.now) }
         ensures error { IfErr result (IsErrorBelow (store_model S.objects S.may_fail)
             self.old.editor.now IsLeafRemovalError (names_of path.now)) }
     {

@@ -12,7 +12,7 @@ ghost use Rattle.gixobj_hash.specs.declared.hash.object_id.ObjectId.{ObjectId};
 ghost use Rattle.gixobj_hash.specs.Bytes.{slash};
 ghost use Rattle.gixobj_tree.specs.Entries.{EntryView, IsEntryName};
 ghost use Rattle.gixobj_mode.specs.Mode.{is_tree_mode};
-ghost use Rattle.gixobj_editor.specs.Upserts.{OpensInPart, IsFirstNameError, directory_of};
+ghost use Rattle.gixobj_editor.specs.Upserts.{OpensInPart, IsFirstNameError, StartsInvalid, directory_of};
 ghost use Rattle.gixobj_editor.specs.Removals.{ValidatesUpTo, IsLeafDirectoryError, IsRemovalError};
 
 use crate::editor::error::Error;
@@ -40,10 +40,12 @@ pub(crate) fn open_for_removal<S: Find>(
         (names_of path.now) name → IsEntryName name))) }
     ensures after_error { IfErr result (λ error.
         OfTrees (S.objects store.now) (λ trees.
-        OpensInPart (EndsBefore not_looked_up) trees (names_of path.now) (dirs_of root.old)
-        (dirs_of root.new) lookups.old lookups.new
+        OpensInPart (EndsBefore not_looked_up) (S.objects store.now) (S.may_fail store.now) trees
+        (names_of path.now) (dirs_of root.old) (dirs_of root.new) lookups.old lookups.new error
         × IsRemovalError (EndsBefore not_looked_up) (S.objects store.now) (S.may_fail store.now) trees
         (dirs_of root.old) (names_of path.now) error)) }
+    ensures unchanged { StartsInvalid (names_of path.now)
+        → (dirs_of root.new ≡ dirs_of root.old) × (lookups.new ≡ lookups.old) }
     ensures still_opened { IsOpened (dirs_of root.old) → IsOpened (dirs_of root.new) }
     ensures bases { (at : Path) → bases_of root.new at
         ≡ opened_bases (dirs_of root.old) (dirs_of root.new) (bases_of root.old) at }

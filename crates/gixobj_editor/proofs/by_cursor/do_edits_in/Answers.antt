@@ -31,6 +31,7 @@ pub returns-in-Err : goal.returns-in-Err
 returns-in-Err g c =
     let pending = c.cursor_at.follows.lender-at-none in
     let rejected : OfTrees (g.S.Store.objects c.args.editor.now.store)
-    (λ trees. IsAfterFailedEdit trees c.args.editor.now (in_directory (cursor_path (names_of c.args.prefix.now))) pending)
+    (λ trees. IsAfterFailedEdit (record { objects = g.S.Store.objects; may_fail = g.S.Store.may_fail }) trees c.args.editor.now
+    (in_directory (cursor_path (names_of c.args.prefix.now))) c.in-Err.error pending)
     × (IsNameError c.in-Err.error → pending ≡ c.args.editor.now) = search rules in
     record { reply = inr (record { effect = rejected.0; cause = (c.in-Err.ensures {u = tt}).error }, rejected.1) }

@@ -10,10 +10,12 @@ use Rattle.gixobj_directories.specs.Calls.{names_of}
 use Rattle.gixobj_directories.specs.Nested.{Opened, dirs_of}
 use Rattle.gixobj_directories.specs.Openings.{AreTreesOf, IsOpenErrorAt}
 use Rattle.gixobj_directories.proofs.Emitting.{if_err_weaken}
-use Rattle.gixobj_files.proofs.WrittenTrees.{on_err_of}
+use Rattle.gixobj_store.specs.Stores.{StoreModel}
+use Rattle.gixobj_editor.specs.Upserts.{IsAfterFailedEdit, IsFirstNameError, IsLookupError}
+use Rattle.gixobj_editor.specs.declared.editor.error.Error.{Error}
 use Rattle.gixobj_editor.specs.Cursors.{IsCursorError}
 use Rattle.gixobj_editor.proofs.EnsuredAt.{ensured_at, ensured_path_is_open, cursor_error_of_name, rejects_at, path_not_nil}
-use Rattle.gixobj_editor.proofs.Edited.{OpenedOn, OpenedSo, halted_so, opened_so, unchanged_at}
+use Rattle.gixobj_editor.proofs.Edited.{OpenedOn, OpenedSo, halted_so, no_lookup_of_name, opened_so, unchanged_at, state_of}
 use Rattle.gixobj_directories.proofs.NamedTrees.{trees_of_objects_exist}
 use Rattle.gixobj_directories.specs.declared.opening.NotLookedUp.TheVariants as not_looked_up
 use Rattle.gixobj_editor.proofs.OpenedOn.{ensured_on, halted_on, opened_on}
@@ -28,19 +30,26 @@ returns-in_err-validate_names-clause-error g c = if_err_weaken c.from_residual.r
 
 pub returns-in_err-validate_names-clause-after_error : goal.returns-in_err-validate_names-clause-after_error
 returns-in_err-validate_names-clause-after_error g c =
-    on_err_of c.from_residual.result _
-    (λ trees fits. unchanged_at c.self.inside.store c.self.inside.object_hash (names_of c.self.inside.prefix.items) trees c.self.inside.root
-    c.self.inside.lookups c.args.self.now c.self.view_is (in_directory (names_of c.args.path.now)) c.self.invariant)
+    if_err_weaken c.from_residual.result _ _ c.from_residual.ensures.1 (λ error is trees fits.
+    let s = c.self.inside in
+    let bad = (c.in_err-validate_names.ensures {u = tt}).error in
+    unchanged_at s.store s.object_hash (names_of s.prefix.items) trees (record { objects = g.S.Store.objects; may_fail = g.S.Store.may_fail }) s.root
+    s.lookups c.args.self.now c.self.view_is (in_directory (names_of c.args.path.now)) error
+    (no_lookup_of_name (names_of c.args.path.now) error (subst (IsFirstNameError (names_of c.args.path.now)) (sym is) bad)) c.self.invariant)
 
 pub returns-in_err-open_along-clause-after_error : goal.returns-in_err-open_along-clause-after_error
 returns-in_err-open_along-clause-after_error g c =
-    on_err_of c.from_residual-in_err-open_along.result _ (λ trees fits.
+    if_err_weaken c.from_residual-in_err-open_along.result _ _ c.from_residual-in_err-open_along.ensures.1 (λ error gives trees fits.
+    let model : StoreModel g.row.S.Denot = record { objects = g.S.Store.objects; may_fail = g.S.Store.may_fail } in
     let s = c.self.inside in
     let path = names_of c.args.path.now in
     let stored = ap (λ (o : State _). o.store) c.self.view_is in
     let bad = (c.in_err-open_along.ensures {u = tt}).stopped_opening trees (subst (λ o. AreTreesOf (g.S.Store.objects o) trees) (sym stored) fits) in
-    halted_so s.store s.object_hash (names_of s.prefix.items) trees s.root c.open_along.new.self s.lookups c.open_along.new.lookups c.args.self.now
-    c.self.view_is (in_directory path) path [] refl bad.0 bad.1 bad.2 bad.3 c.self.invariant c.open_along.ensures.bases)
+    let after = halted_so s.store s.object_hash (names_of s.prefix.items) trees model s.root c.open_along.new.self s.lookups c.open_along.new.lookups
+    c.args.self.now c.self.view_is (in_directory path) path [] refl bad.0 bad.1 bad.2 bad.3 c.in_err-open_along.field-0.0 bad.4 c.self.invariant
+    c.open_along.ensures.bases in
+    subst (λ (e : Error). IsAfterFailedEdit model trees c.args.self.now (in_directory path) e
+    (state_of s.store s.object_hash (names_of s.prefix.items) c.open_along.new.self c.open_along.new.lookups)) (sym gives) after)
 
 pub returns-in_err-open_along-clause-error : goal.returns-in_err-open_along-clause-error
 returns-in_err-open_along-clause-error g c =
@@ -60,13 +69,14 @@ returns-in_err-open_along-clause-error g c =
 -- allocation of the names fails
 pub returns-in_err-prefix-clause-after_error : goal.returns-in_err-prefix-clause-after_error
 returns-in_err-prefix-clause-after_error g c =
-    on_err_of c.from_residual-in_err-prefix.result _ (λ trees fits.
+    if_err_weaken c.from_residual-in_err-prefix.result _ _ c.from_residual-in_err-prefix.ensures.1 (λ error gives trees fits.
     let s = c.self.inside in
     let path = names_of c.args.path.now in
     let stored = ap (λ (o : State _). o.store) c.self.view_is in
     let ok = (c.in_ok-open_along.ensures {u = tt}).opened trees (subst (λ o. AreTreesOf (g.S.Store.objects o) trees) (sym stored) fits) in
-    opened_so s.store s.object_hash (names_of s.prefix.items) trees not_looked_up.Opened s.root c.open_along.new.self s.lookups c.open_along.new.lookups
-    c.args.self.now c.self.view_is (in_directory path) path [] refl ok.0 ok.1 ok.2 c.self.invariant c.open_along.ensures.bases)
+    opened_so s.store s.object_hash (names_of s.prefix.items) trees (record { objects = g.S.Store.objects; may_fail = g.S.Store.may_fail })
+    not_looked_up.Opened s.root c.open_along.new.self s.lookups c.open_along.new.lookups c.args.self.now c.self.view_is (in_directory path) path [] refl ok.0 ok.1 ok.2
+    error (subst (λ (e : Error). ¬ IsLookupError e) (sym gives) (λ it. it)) c.self.invariant c.open_along.ensures.bases)
 
 pub returns-in_err-prefix-clause-error : goal.returns-in_err-prefix-clause-error
 returns-in_err-prefix-clause-error g c =
@@ -80,15 +90,16 @@ ensure_directory-requires g c = recursion_from_All IsEntryName (names_of c.args.
 
 pub returns-in_err-ensure_directory-clause-after_error : goal.returns-in_err-ensure_directory-clause-after_error
 returns-in_err-ensure_directory-clause-after_error g c =
-    on_err_of c.from_residual-in_err-ensure_directory.result _ (λ trees fits.
+    if_err_weaken c.from_residual-in_err-ensure_directory.result _ _ c.from_residual-in_err-ensure_directory.ensures.1 (λ error gives trees fits.
     let s = c.self.inside in
     let path = names_of c.args.path.now in
     let stored = ap (λ (o : State _). o.store) c.self.view_is in
     let ok = (c.in_ok-open_along.ensures {u = tt}).opened trees (subst (λ o. AreTreesOf (g.S.Store.objects o) trees) (sym stored) fits) in
     let same : c.ensure_directory.new.self ≡ c.open_along.new.self = (c.in_err-ensure_directory.ensures {u = tt}).unchanged in
-    opened_so s.store s.object_hash (names_of s.prefix.items) trees not_looked_up.Opened s.root c.ensure_directory.new.self s.lookups c.open_along.new.lookups
-    c.args.self.now c.self.view_is (in_directory path) path [] refl ok.0
-    (subst (λ (ds : Opened). Opens IsNoTree trees path (dirs_of s.root) (dirs_of ds) ok.0) (sym same) ok.1) ok.2 c.self.invariant
+    opened_so s.store s.object_hash (names_of s.prefix.items) trees (record { objects = g.S.Store.objects; may_fail = g.S.Store.may_fail })
+    not_looked_up.Opened s.root c.ensure_directory.new.self s.lookups c.open_along.new.lookups c.args.self.now c.self.view_is (in_directory path) path [] refl ok.0
+    (subst (λ (ds : Opened). Opens IsNoTree trees path (dirs_of s.root) (dirs_of ds) ok.0) (sym same) ok.1) ok.2
+    error (subst (λ (e : Error). ¬ IsLookupError e) (sym gives) (λ it. it)) c.self.invariant
     (subst (λ (ds : Opened). OpenedSo s.root ds) (sym same) c.open_along.ensures.bases))
 
 pub returns-in_err-ensure_directory-clause-error : goal.returns-in_err-ensure_directory-clause-error

@@ -1,6 +1,6 @@
 -- A single empty name means the root.
 use Rattle.std.proofs.Common.{◌≡◌, subst}
-use Rattle.std.specs.Prelude.{IfErr, OnErr, OnOk}
+use Rattle.std.specs.Prelude.{IfErr, OnOk}
 use Rattle.gixobj_files.specs.Files.{Path, Trees}
 use Rattle.gixobj_files.specs.State.{open_dirs}
 use Rattle.gixobj_files.specs.Unopened.{in_directory}
@@ -20,8 +20,9 @@ returns-clause-ensured g c =
 
 pub returns-clause-after_error : goal.returns-clause-after_error
 returns-clause-after_error g c =
-    subst (λ (p : Path). OnErr c.ensure_directory.result ((trees : Trees) → AreTreesOf (g.S.Store.objects c.args.self.now.store) trees
-    → IsAfterFailedEdit trees c.args.self.now (in_directory p) c.ensure_directory.new.self)) c.cursor_path_of.ensures
+    subst (λ (p : Path). IfErr c.ensure_directory.result (λ error. (trees : Trees) → AreTreesOf (g.S.Store.objects c.args.self.now.store) trees
+    → IsAfterFailedEdit (record { objects = g.S.Store.objects; may_fail = g.S.Store.may_fail }) trees c.args.self.now (in_directory p) error
+    c.ensure_directory.new.self)) c.cursor_path_of.ensures
     c.ensure_directory.ensures.after_error
 
 pub returns-clause-error : goal.returns-clause-error

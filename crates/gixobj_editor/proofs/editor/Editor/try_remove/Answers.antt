@@ -9,22 +9,27 @@ use Rattle.gixobj_directories.proofs.Emitting.{if_err_weaken}
 use Rattle.gixobj_directories.proofs.NamedTrees.{trees_of_objects_exist}
 use Rattle.gixobj_files.proofs.WrittenTrees.{on_err_of}
 use Rattle.gixobj_editor.specs.Removals.{IsRemovalError}
-use Rattle.gixobj_editor.proofs.Edited.{map_dirs_eq, stay_at}
+use Rattle.gixobj_editor.proofs.Edited.{map_dirs_eq, same_state, stay_at, state_of}
 use Rattle.gixobj_directories.specs.declared.opening.NotLookedUp.TheVariants as not_looked_up
 use Rattle.gixobj_editor.proofs.RemovedAt.{removed_at}
 use Rattle.gixobj_editor.proofs.OpenedOn.{in_part_on, taken_on}
-use Rattle.gixobj_editor.specs.Upserts.{directory_of}
+use Rattle.gixobj_store.specs.Stores.{StoreModel}
+use Rattle.gixobj_editor.specs.Upserts.{IsAfterFailedEdit, directory_of}
+use Rattle.gixobj_editor.specs.declared.editor.error.Error.{Error}
 use Rattle.gixobj_editor.proofs.editor.Editor.try_remove.Goals as goal
 
 pub returns-in_err-open_for_removal-clause-after_error : goal.returns-in_err-open_for_removal-clause-after_error
 returns-in_err-open_for_removal-clause-after_error g c =
-    on_err_of c.from_residual.result _ (λ trees fits.
+    if_err_weaken c.from_residual.result _ _ c.from_residual.ensures.1 (λ error is trees fits.
+    let model : StoreModel g.row.S.Denot = record { objects = g.S.Store.objects; may_fail = g.S.Store.may_fail } in
     let s = c.self.inside in
     let stored = ap (λ (o : State _). o.store) c.self.view_is in
     let bad = (c.in_err-open_for_removal.ensures {u = tt}).after_error trees (subst (λ o. AreTreesOf (g.S.Store.objects o) trees) (sym stored) fits) in
-    stay_at s.store s.object_hash (names_of s.prefix.items) trees not_looked_up.Opened s.root c.open_for_removal.new.root s.lookups
-    c.open_for_removal.new.lookups
-    c.args.self.now c.self.view_is (names_of c.args.path.now) bad.0 c.self.invariant c.open_for_removal.ensures.bases)
+    let after = stay_at s.store s.object_hash (names_of s.prefix.items) trees model not_looked_up.Opened s.root c.open_for_removal.new.root s.lookups
+    c.open_for_removal.new.lookups c.args.self.now c.self.view_is (names_of c.args.path.now) c.in_err-open_for_removal.field-0.0 bad.0 c.self.invariant
+    c.open_for_removal.ensures.bases in
+    subst (λ (e : Error). IsAfterFailedEdit model trees c.args.self.now (names_of c.args.path.now) e
+    (state_of s.store s.object_hash (names_of s.prefix.items) c.open_for_removal.new.root c.open_for_removal.new.lookups)) (sym is) after)
 
 pub returns-in_err-open_for_removal-clause-error : goal.returns-in_err-open_for_removal-clause-error
 returns-in_err-open_for_removal-clause-error g c =
@@ -45,8 +50,8 @@ invariant_of-self g c =
     let s = c.self.inside in
     let named = trees_of_objects_exist (g.S.Store.objects s.store) in
     let bad = (c.in_err-open_for_removal.ensures {u = tt}).after_error named.0 named.1 in
-    in_part_on named.0 s.root c.open_for_removal.new.root c.open_for_removal.ensures.bases c.self.invariant
-    (names_of c.args.path.now) s.lookups c.open_for_removal.new.lookups bad.0
+    in_part_on named.0 s.root c.open_for_removal.new.root c.open_for_removal.ensures.bases c.self.invariant (g.S.Store.objects s.store)
+    (g.S.Store.may_fail s.store) (names_of c.args.path.now) s.lookups c.open_for_removal.new.lookups c.in_err-open_for_removal.field-0.0 bad.0
 
 pub invariant_of-self-2 : goal.invariant_of-self-2
 invariant_of-self-2 g c =
@@ -65,3 +70,11 @@ returns-clause-removed g c = λ trees fits.
     removed_at s.store s.object_hash (names_of s.prefix.items) trees not_looked_up.Opened s.root c.open_for_removal.new.root c.take.new.self s.lookups
     c.open_for_removal.new.lookups c.args.self.now c.self.view_is (names_of c.args.path.now) ok.0 (ok.1, ok.3) ok.2 c.take.ensures.dirs c.self.invariant
     c.open_for_removal.ensures.bases c.take.ensures.bases
+
+pub returns-in_err-open_for_removal-clause-unchanged : goal.returns-in_err-open_for_removal-clause-unchanged
+returns-in_err-open_for_removal-clause-unchanged g c =
+    on_err_of c.from_residual.result _ (λ bad.
+    let s = c.self.inside in
+    let same = c.open_for_removal.ensures.unchanged bad in
+    same_state s.store s.object_hash (names_of s.prefix.items) s.root c.open_for_removal.new.root s.lookups c.open_for_removal.new.lookups c.args.self.now
+    c.self.view_is same.0 c.open_for_removal.ensures.bases same.1)

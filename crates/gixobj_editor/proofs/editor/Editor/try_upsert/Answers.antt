@@ -11,9 +11,10 @@ use Rattle.gixobj_directories.specs.Nested.{Opened, dirs_of}
 use Rattle.gixobj_directories.specs.Openings.{AreTreesOf, IsOpenErrorAt}
 use Rattle.gixobj_directories.proofs.Emitting.{if_err_weaken}
 use Rattle.gixobj_directories.proofs.OpeningSteps.{names_of_nil}
-use Rattle.gixobj_files.proofs.WrittenTrees.{on_err_of}
-use Rattle.gixobj_editor.specs.Upserts.{IsUpsertError}
-use Rattle.gixobj_editor.proofs.Edited.{OpenedOn, OpenedSo, edited_bases_idle, halted_so, upsert_error_of_name, is_upserted_unchanged, is_opened_of_editor, opened_so, fails, unchanged_at, upserted_at}
+use Rattle.gixobj_store.specs.Stores.{StoreModel}
+use Rattle.gixobj_editor.specs.Upserts.{IsAfterFailedEdit, IsFirstNameError, IsLookupError, IsUpsertError}
+use Rattle.gixobj_editor.specs.declared.editor.error.Error.{Error}
+use Rattle.gixobj_editor.proofs.Edited.{OpenedOn, OpenedSo, edited_bases_idle, halted_so, upsert_error_of_name, is_upserted_unchanged, is_opened_of_editor, opened_so, fails, no_lookup_of_name, unchanged_at, upserted_at, state_of}
 use Rattle.gixobj_directories.specs.declared.opening.NotLookedUp.TheVariants as not_looked_up
 use Rattle.gixobj_directories.proofs.NamedTrees.{trees_of_objects_exist}
 use Rattle.gixobj_editor.proofs.Paths.{names_of_snoc}
@@ -29,9 +30,12 @@ returns-in_err-validate_names-clause-error g c = if_err_weaken c.from_residual.r
 
 pub returns-in_err-validate_names-clause-after_error : goal.returns-in_err-validate_names-clause-after_error
 returns-in_err-validate_names-clause-after_error g c =
-    on_err_of c.from_residual.result _
-    (λ trees fits. unchanged_at c.self.inside.store c.self.inside.object_hash (names_of c.self.inside.prefix.items) trees c.self.inside.root
-    c.self.inside.lookups c.args.self.now c.self.view_is (names_of c.args.path.now) c.self.invariant)
+    if_err_weaken c.from_residual.result _ _ c.from_residual.ensures.1 (λ error is trees fits.
+    let s = c.self.inside in
+    let bad = (c.in_err-validate_names.ensures {u = tt}).error in
+    unchanged_at s.store s.object_hash (names_of s.prefix.items) trees (record { objects = g.S.Store.objects; may_fail = g.S.Store.may_fail }) s.root
+    s.lookups c.args.self.now c.self.view_is (names_of c.args.path.now) error
+    (no_lookup_of_name (names_of c.args.path.now) error (subst (IsFirstNameError (names_of c.args.path.now)) (sym is) bad)) c.self.invariant)
 
 pub returns-in_default-clause-upserted : goal.returns-in_default-clause-upserted
 returns-in_default-clause-upserted g c = λ trees fits. is_upserted_unchanged trees c.args.self.now (names_of c.args.path.now)
@@ -45,14 +49,18 @@ returns-in_default-clause-upserted g c = λ trees fits. is_upserted_unchanged tr
 
 pub returns-in_err-open_along-clause-after_error : goal.returns-in_err-open_along-clause-after_error
 returns-in_err-open_along-clause-after_error g c =
-    on_err_of c.from_residual-in_err-open_along.result _ (λ trees fits.
+    if_err_weaken c.from_residual-in_err-open_along.result _ _ c.from_residual-in_err-open_along.ensures.1 (λ error gives trees fits.
+    let model : StoreModel g.row.S.Denot = record { objects = g.S.Store.objects; may_fail = g.S.Store.may_fail } in
     let s = c.self.inside in
     let is = names_of_snoc c.args.path.now c.in-Some.directory.now c.in-Some._last.now c.in-Some.ensures.cases.0 in
     let stored = ap (λ (o : State _). o.store) c.self.view_is in
     let bad = (c.in_err-open_along.ensures {u = tt}).stopped_opening trees (subst (λ o. AreTreesOf (g.S.Store.objects o) trees) (sym stored) fits) in
-    halted_so s.store s.object_hash (names_of s.prefix.items) trees s.root c.open_along.new.self s.lookups c.open_along.new.lookups c.args.self.now
+    let after = halted_so s.store s.object_hash (names_of s.prefix.items) trees model s.root c.open_along.new.self s.lookups c.open_along.new.lookups
+    c.args.self.now
     c.self.view_is (names_of c.args.path.now) (names_of c.in-Some.directory.now) (bstring_bytes c.in-Some._last.now) is bad.0 bad.1 bad.2 bad.3
-    c.self.invariant c.open_along.ensures.bases)
+    c.in_err-open_along.field-0.0 bad.4 c.self.invariant c.open_along.ensures.bases in
+    subst (λ (e : Error). IsAfterFailedEdit model trees c.args.self.now (names_of c.args.path.now) e
+    (state_of s.store s.object_hash (names_of s.prefix.items) c.open_along.new.self c.open_along.new.lookups)) (sym gives) after)
 
 pub returns-in_err-open_along-clause-error : goal.returns-in_err-open_along-clause-error
 returns-in_err-open_along-clause-error g c =
@@ -75,16 +83,17 @@ insert_entry-requires g c = recursion_from_All IsEntryName (names_of c.args.path
 
 pub returns-in_err-insert_entry-clause-after_error : goal.returns-in_err-insert_entry-clause-after_error
 returns-in_err-insert_entry-clause-after_error g c =
-    on_err_of c.from_residual-in_err-insert_entry.result _ (λ trees fits.
+    if_err_weaken c.from_residual-in_err-insert_entry.result _ _ c.from_residual-in_err-insert_entry.ensures.1 (λ error gives trees fits.
     let s = c.self.inside in
     let is = names_of_snoc c.args.path.now c.in-Some.directory.now c.in-Some._last.now c.in-Some.ensures.cases.0 in
     let stored = ap (λ (o : State _). o.store) c.self.view_is in
     let ok = (c.in_ok-open_along.ensures {u = tt}).opened trees (subst (λ o. AreTreesOf (g.S.Store.objects o) trees) (sym stored) fits) in
     let same : c.insert_entry.new.self ≡ c.open_along.new.self = (c.in_err-insert_entry.ensures {u = tt}).unchanged in
-    opened_so s.store s.object_hash (names_of s.prefix.items) trees not_looked_up.Opened s.root c.insert_entry.new.self s.lookups c.open_along.new.lookups
+    opened_so s.store s.object_hash (names_of s.prefix.items) trees (record { objects = g.S.Store.objects; may_fail = g.S.Store.may_fail })
+    not_looked_up.Opened s.root c.insert_entry.new.self s.lookups c.open_along.new.lookups
     c.args.self.now c.self.view_is (names_of c.args.path.now) (names_of c.in-Some.directory.now) (bstring_bytes c.in-Some._last.now) is ok.0
     (subst (λ (ds : Opened). Opens IsNoTree trees (names_of c.in-Some.directory.now) (dirs_of s.root) (dirs_of ds) ok.0) (sym same) ok.1) ok.2
-    c.self.invariant
+    error (subst (λ (e : Error). ¬ IsLookupError e) (sym gives) (λ it. it)) c.self.invariant
     (subst (λ (ds : Opened). OpenedSo s.root ds) (sym same) c.open_along.ensures.bases))
 
 pub invariant_of-self : goal.invariant_of-self

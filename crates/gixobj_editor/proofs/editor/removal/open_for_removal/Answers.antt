@@ -1,12 +1,14 @@
 -- The directories are opened along the valid names; then the next name, if the removal reaches it, is validated.
-use Rattle.std.proofs.Common.{◌≡◌, ◌∙◌, Some, None, sym, subst}
+use Rattle.std.proofs.Common.{◌≡◌, ◌∙◌, Some, None, ap, sym, subst}
 use Rattle.std.proofs.lemmas.Result.{MatchResult-weaker}
 use Rattle.gixobj_directories.specs.Calls.{names_of}
 use Rattle.gixobj_directories.specs.Nested.{dirs_of}
 use Rattle.gixobj_directories.specs.Openings.{EndsBefore}
 use Rattle.gixobj_directories.proofs.Emitting.{if_err_weaken}
+use Rattle.gixobj_directories.proofs.NamedTrees.{trees_of_objects_exist}
+use Rattle.gixobj_files.specs.Edits.{counted}
 use Rattle.gixobj_directories.proofs.OpeningSteps.{ends_before_is_idle}
-use Rattle.gixobj_editor.proofs.Removing.{IsRejectedSo, halted_removal, name_rejected_so, is_opened_for_of_opens}
+use Rattle.gixobj_editor.proofs.Removing.{IsRejectedSo, halted_removal, name_rejected_so, is_opened_for_of_opens, no_halt, nothing_validated, opens_nothing}
 use Rattle.gixobj_editor.proofs.editor.removal.open_for_removal.Goals as goal
 
 pub returns-in_err-open_along-clause-after_error : goal.returns-in_err-open_along-clause-after_error
@@ -37,3 +39,21 @@ returns-clause-opened g c = MatchResult-weaker c.check_reached.result c.check_re
     (names_of c.split_at_first_invalid.result.1.now) c.split_at_first_invalid.ensures (dirs_of c.args.root.now) (dirs_of c.open_along.new.self)
     (λ none. let bad : Some root.0 ≡ None = sym root.1 ∙ none in cc bad) ok.0 ok.1 came in
     (ok.0, so.0, ok.2, so.1)) (λ _ u. u)
+
+-- the first name is invalid
+pub returns-in_err-open_along-clause-unchanged : goal.returns-in_err-open_along-clause-unchanged
+returns-in_err-open_along-clause-unchanged g c = λ bad.
+    let named = trees_of_objects_exist (g.S.Store.objects c.args.store.now) in
+    let stopped = (c.in_err-open_along.ensures {u = tt}).stopped_opening named.0 named.1 in
+    let names = names_of c.split_at_first_invalid.result.0.now in
+    let none = nothing_validated (names_of c.args.path.now) names (names_of c.split_at_first_invalid.result.1.now) c.split_at_first_invalid.ensures bad in
+    absurd (no_halt named.0 names none (dirs_of c.args.root.now) (dirs_of c.open_along.new.self) stopped.0 stopped.1 stopped.2)
+
+pub returns-clause-unchanged : goal.returns-clause-unchanged
+returns-clause-unchanged g c = λ bad.
+    let named = trees_of_objects_exist (g.S.Store.objects c.args.store.now) in
+    let ok = (c.in_ok-open_along.ensures {u = tt}).opened named.0 named.1 in
+    let names = names_of c.split_at_first_invalid.result.0.now in
+    let none = nothing_validated (names_of c.args.path.now) names (names_of c.split_at_first_invalid.result.1.now) c.split_at_first_invalid.ensures bad in
+    let same = opens_nothing named.0 names none (dirs_of c.args.root.now) (dirs_of c.open_along.new.self) ok.0 ok.1 in
+    (same.0, ok.2 ∙ ap (counted c.args.lookups.now) same.1)

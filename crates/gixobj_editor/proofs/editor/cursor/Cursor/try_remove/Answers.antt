@@ -1,19 +1,22 @@
 -- The editor's own edit, at the path from the root.
-use Rattle.std.proofs.Common.{◌∙◌, ap, subst}
+use Rattle.std.proofs.Common.{◌∙◌, ap, subst, sym}
 use Rattle.gixobj_files.specs.Edits.{IsNoTree}
 use Rattle.gixobj_files.specs.Files.{Path}
 use Rattle.gixobj_directories.specs.Calls.{names_of}
-use Rattle.gixobj_files.proofs.WrittenTrees.{on_err_of}
+use Rattle.gixobj_directories.proofs.Emitting.{if_err_weaken}
+use Rattle.gixobj_store.specs.Stores.{StoreModel}
+use Rattle.gixobj_editor.specs.declared.editor.error.Error.{Error}
 use Rattle.gixobj_editor.specs.Cursors.{from_root}
 use Rattle.gixobj_editor.specs.Removals.{IsRemoved}
-use Rattle.gixobj_editor.specs.Upserts.{IsAfterFailedEdit}
+use Rattle.gixobj_editor.specs.Upserts.{IsAfterFailedEdit, IsLookupError}
 use Rattle.gixobj_editor.proofs.CursorStays.{Stays, known_of_either, edit_failure_unchanged, stays_failed, stays_removed}
 use Rattle.gixobj_editor.proofs.editor.cursor.Cursor.try_remove.Goals as goal
 
 pub returns-in_err-path-clause-after_error : goal.returns-in_err-path-clause-after_error
 returns-in_err-path-clause-after_error g c =
-    on_err_of c.from_residual.result _
-    (λ trees fits. edit_failure_unchanged trees c.args.self.now.editor.now (from_root c.args.self.now.editor.now.prefix (names_of c.args.path.now))
+    if_err_weaken c.from_residual.result _ _ c.from_residual.ensures.1 (λ error is trees fits.
+    edit_failure_unchanged (record { objects = g.S.Store.objects; may_fail = g.S.Store.may_fail }) trees c.args.self.now.editor.now
+    (from_root c.args.self.now.editor.now.prefix (names_of c.args.path.now)) error (subst (λ (e : Error). ¬ IsLookupError e) (sym is) (λ it. it))
     c.path_from_root.ensures.is_opened c.path_from_root.ensures.bases)
 
 pub invariant_of-self-2 : goal.invariant_of-self-2
@@ -23,11 +26,12 @@ invariant_of-self-2 g c =
     let path = names_of c.args.path.now in
     let entire = names_of c.deref.result.now in
     let is = ap names_of c.deref.ensures.value ∙ (c.in_ok-path.ensures {u = tt}).joined in
+    let model : StoreModel g.row.S.Denot = record { objects = g.S.Store.objects; may_fail = g.S.Store.may_fail } in
     let kept : Stays old new = known_of_either c.try_remove.result (g.S.Store.objects old.store) (Stays old new)
     (λ trees. IsRemoved IsNoTree trees old entire new)
-    (λ trees. IsAfterFailedEdit trees old entire new) c.try_remove.ensures.removed c.try_remove.ensures.after_error
+    (λ error trees. IsAfterFailedEdit model trees old entire error new) c.try_remove.ensures.removed c.try_remove.ensures.after_error
     (λ trees h. stays_removed trees old new path (subst (λ (p : Path). IsRemoved IsNoTree trees old p new) is h))
-    (λ trees h. stays_failed trees old new entire h) in
+    (λ error trees h. stays_failed model trees old new entire error h) in
     record { is_open = kept.1 c.args.self.now.is_open }
 
 pub returns-clause-prefix : goal.returns-clause-prefix
@@ -37,9 +41,10 @@ returns-clause-prefix g c =
     let path = names_of c.args.path.now in
     let entire = names_of c.deref.result.now in
     let is = ap names_of c.deref.ensures.value ∙ (c.in_ok-path.ensures {u = tt}).joined in
+    let model : StoreModel g.row.S.Denot = record { objects = g.S.Store.objects; may_fail = g.S.Store.may_fail } in
     let kept : Stays old new = known_of_either c.try_remove.result (g.S.Store.objects old.store) (Stays old new)
     (λ trees. IsRemoved IsNoTree trees old entire new)
-    (λ trees. IsAfterFailedEdit trees old entire new) c.try_remove.ensures.removed c.try_remove.ensures.after_error
+    (λ error trees. IsAfterFailedEdit model trees old entire error new) c.try_remove.ensures.removed c.try_remove.ensures.after_error
     (λ trees h. stays_removed trees old new path (subst (λ (p : Path). IsRemoved IsNoTree trees old p new) is h))
-    (λ trees h. stays_failed trees old new entire h) in
+    (λ error trees h. stays_failed model trees old new entire error h) in
     kept.0
