@@ -11,4 +11,5 @@ mod Replied
 mod Sets
 mod Stopping
 mod Stepping
+mod Storing
 mod Tables

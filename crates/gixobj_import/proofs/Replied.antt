@@ -1,6 +1,6 @@
 -- Replies to edits, from the contracts of the calls.
 use Rattle.std.proofs.Common.{◌≡◌, List, Err, Ok, Result, subst}
-use Rattle.std.specs.Prelude.{IfErr, OnErr, OnOk}
+use Rattle.std.specs.Prelude.{IfErr, OnOk}
 use Rattle.std.specs.declared.alloc.Global.{Global}
 use Rattle.std.specs.declared.vec.Vec.{Vec}
 use Rattle.bstr.specs.declared.bstring.BString.{BString}
@@ -25,9 +25,9 @@ module _ {S : Type 0} (model : StoreModel S) (old new : State S) (path : Vec BSt
   abbrev Of : (Trees → Type 0) → Type 0
   Of = OfTrees (model.objects old.store)
 
-  failed_reply : (Rejects : List BString → Trees → Type 0) → Of (λ trees. IsAfterFailedEdit trees old (names_of lent) new) → Of (Rejects lent)
-      → IsFailedEdit model (Rejects path.items) old (names_of path.items) new
-  failed_reply Rejects pending failure = subst (λ (l : List BString). IsFailedEdit model (Rejects l) old (names_of l) new) is
+  failed_reply : (error : Error) (Rejects : List BString → Trees → Type 0) → Of (λ trees. IsAfterFailedEdit model trees old (names_of lent) error new)
+      → Of (Rejects lent) → IsFailedEdit model (Rejects path.items) old (names_of path.items) error new
+  failed_reply error Rejects pending failure = subst (λ (l : List BString). IsFailedEdit model (Rejects l) old (names_of l) error new) is
       (record { effect = pending; cause = failure })
 
   abbrev Upserts : List BString → Error → Trees → Type 0
@@ -41,21 +41,21 @@ module _ {S : Type 0} (model : StoreModel S) (old new : State S) (path : Vec BSt
 
   pub upsert_replied : (kind : EntryKind) (id : ObjectId) (done : Result (Unit {0}) Error)
       → OnOk done (Of (λ trees. IsUpserted trees old (names_of lent) (mode_of_kind kind) id new))
-      → OnErr done (Of (λ trees. IsAfterFailedEdit trees old (names_of lent) new))
+      → IfErr done (λ error. Of (λ trees. IsAfterFailedEdit model trees old (names_of lent) error new))
       → IfErr done (λ error. Of (Upserts lent error)) → IfErr done (λ error. IsNameError error → new ≡ old)
       → IsReplied model old (edit.Upsert path kind id) (reply_to done) new
   upsert_replied kind id (Ok it) upserted pending failure not_looked_up =
       subst (λ (l : List BString). Of (λ trees. IsUpserted trees old (names_of l) (mode_of_kind kind) id new)) is upserted
-  upsert_replied kind id (Err error) upserted pending failure not_looked_up = (failed_reply (λ l trees. Upserts l error trees) pending failure, not_looked_up)
+  upsert_replied kind id (Err error) upserted pending failure not_looked_up = (failed_reply error (λ l trees. Upserts l error trees) pending failure, not_looked_up)
 
   pub removal_replied : (done : Result (Unit {0}) Error) → OnOk done (Of (λ trees. IsRemoved IsNoTree trees old (names_of lent) new))
-      → OnErr done (Of (λ trees. IsAfterFailedEdit trees old (names_of lent) new)) → IfErr done (λ error. Of (Removes lent error))
+      → IfErr done (λ error. Of (λ trees. IsAfterFailedEdit model trees old (names_of lent) error new)) → IfErr done (λ error. Of (Removes lent error))
       → IsReplied model old (edit.Remove path) (reply_to done) new
   removal_replied (Ok it) removed pending failure = subst (λ (l : List BString). Of (λ trees. IsRemoved IsNoTree trees old (names_of l) new)) is removed
-  removal_replied (Err error) removed pending failure = failed_reply (λ l trees. Removes l error trees) pending failure
+  removal_replied (Err error) removed pending failure = failed_reply error (λ l trees. Removes l error trees) pending failure
 
   pub leaf_removal_replied : (done : Result (Unit {0}) Error) → OnOk done (Of (λ trees. IsLeafRemoved trees old (names_of lent) new))
-      → OnErr done (Of (λ trees. IsAfterFailedEdit trees old (names_of lent) new)) → IfErr done (λ error. Of (RemovesLeaf lent error))
+      → IfErr done (λ error. Of (λ trees. IsAfterFailedEdit model trees old (names_of lent) error new)) → IfErr done (λ error. Of (RemovesLeaf lent error))
       → IsReplied model old (edit.RemoveLeaf path) (reply_to done) new
   leaf_removal_replied (Ok it) removed pending failure = subst (λ (l : List BString). Of (λ trees. IsLeafRemoved trees old (names_of l) new)) is removed
-  leaf_removal_replied (Err error) removed pending failure = failed_reply (λ l trees. RemovesLeaf l error trees) pending failure
+  leaf_removal_replied (Err error) removed pending failure = failed_reply error (λ l trees. RemovesLeaf l error trees) pending failure

@@ -1,14 +1,16 @@
 //! The importer: it edits a tree step by step, and makes each step a commit (gitdatamodel, "commits").
-ghost use Rattle.std.specs.Prelude.{◌≡◌, [], ℕ, IfErr, IfOk, None};
+ghost use Rattle.std.specs.Prelude.{◌≡◌, [], ℕ, IfErr, IfOk, List, None};
 ghost use Rattle.std.specs.Borrow.{Lends, sem};
 ghost use Rattle.gixobj_files.specs.Bases.{HasBases};
 ghost use Rattle.gixobj_files.specs.Files.{Table};
 ghost use Rattle.gixobj_files.specs.State.{open_bases, open_dirs};
 ghost use Rattle.gixobj_import.specs.ByDigest.{AddsByDigest};
-ghost use Rattle.gixobj_import.specs.Imports.{AgreesWithStep, AreCommitsOf, HasFilesOf, HaveFilesOfNothing, IsNewImporter, before};
+ghost use Rattle.gixobj_import.specs.Imports.{AgreesWithStep, AreCommitsOf, HasFilesOf, HaveFilesOfNothing, IsNewImporter, before, with_imports};
 ghost use Rattle.gixobj_import.specs.Steps.{AreImported, IsImported, IsStepError, Stops, over_store};
 ghost use Rattle.gixobj_import.specs.contracts.import.Importer.{the_row};
+ghost use Rattle.gixobj_keep.specs.Keeping.{with_trees};
 ghost use Rattle.gixobj_store.specs.Stores.{store_model};
+ghost use Rattle.gixobj_tree.specs.Entries.{Pair};
 
 use crate::commits::keep_commit_of;
 use crate::edits::hold_a_write;
@@ -217,6 +219,8 @@ impl<S: Keep + KeepCommit> Importer<S> {
 ///
 /// Allocates the list before the first step, and then what each step allocates.
 ///
+/// At the end the store has its former objects, with the trees and the commit of each step inserted in order.
+///
 /// With a new importer, the id of each commit is the digest of an encoding with the step's author, committer
 /// and message. The only parent is the commit before it. The store then names this commit by the id, or
 /// another object with the same digest. The commit's tree has, at every depth, exactly the files that the
@@ -226,7 +230,8 @@ impl<S: Keep + KeepCommit> Importer<S> {
 /// # Errors
 ///
 /// - [`Stopped`] at the first step that fails, with the error of [`Importer::step`] and with what was
-///   imported before. With a new importer, the above holds of these commits too.
+///   imported before. The above holds of these steps and their commits too; the store may also have trees of
+///   the step that failed.
 /// - [`Stopped`] with [`ImportError::OutOfMemory`] and an empty list, if the allocation of the list fails.
 ///   Nothing was done then.
 ///
@@ -252,6 +257,14 @@ pub fn import_all<S: Keep + KeepCommit>(
         importer.new) }
     ensures adds { AddsByDigest (S.objects importer.old.editor.store)
         (S.objects importer.new.editor.store) }
+    // The store has its former objects, with the trees and commits of the imported steps inserted in order.
+    ensures stored { IfOk result (λ all. S.objects importer.new.editor.store
+        ≡ with_imports importer.old.last steps.now all.items (S.objects importer.old.editor.store)) }
+    // After an error it also has trees of the step that failed, if some were kept.
+    ensures stored_done { IfErr result (λ it. (kept : List Pair)
+        × (S.objects importer.new.editor.store ≡ with_trees kept
+        (with_imports importer.old.last (before it.done.items steps.now) it.done.items
+        (S.objects importer.old.editor.store)))) }
     // The commits and files of a new importer, if all steps are imported.
     ensures commits { IfOk result (λ all. IsNewImporter importer.old
         → AreCommitsOf importer.old.hash None steps.now all.items

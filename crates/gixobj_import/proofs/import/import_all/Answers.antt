@@ -10,6 +10,7 @@ use Rattle.gixobj_import.proofs.Adding.{steps_add}
 use Rattle.gixobj_import.proofs.Known.{OfStores}
 use Rattle.gixobj_import.proofs.Stepping.{all_imported, one_more_imported, stopped_at}
 use Rattle.gixobj_import.proofs.Stopping.{commits_of_stopped, files_of_stopped, stopped_adds}
+use Rattle.gixobj_import.proofs.Storing.{steps_stored, stopped_stores}
 use Rattle.gixobj_import.proofs.import.import_all.Goals as goal
 use Rattle.gixobj_store.specs.Stores.{store_model}
 
@@ -48,6 +49,8 @@ returns-in-Err g c =
       imported = tt;
       error = stops;
       adds = stopped_adds model laws old old c.args.steps.now done error stops;
+      stored = tt;
+      stored_done = stopped_stores model laws old old c.args.steps.now done error stops;
       commits = tt;
       files = tt;
       commits_done = commits_of_stopped model laws old old c.args.steps.now done error stops;
@@ -74,6 +77,8 @@ returns-in-Err-step g c =
       imported = tt;
       error = stops;
       adds = stopped_adds model laws c.args.importer.now c.step.new.self c.args.steps.now done c.in-Err-step.error stops;
+      stored = tt;
+      stored_done = stopped_stores model laws c.args.importer.now c.step.new.self c.args.steps.now done c.in-Err-step.error stops;
       commits = tt;
       files = tt;
       commits_done = commits_of_stopped model laws c.args.importer.now c.step.new.self c.args.steps.now done c.in-Err-step.error stops;
@@ -100,6 +105,8 @@ returns g c =
       imported = all;
       error = tt;
       adds = steps_add model laws old new c.args.steps.now imported all;
+      stored = steps_stored model laws old new c.args.steps.now imported all;
+      stored_done = tt;
       commits = λ is. commits_of_new model laws old new c.args.steps.now imported all is final (adds_by_digest_nil final final refl);
       files = files_of_new model laws old new c.args.steps.now imported all;
       commits_done = tt;
