@@ -63,15 +63,16 @@ has_header_before_last leading first more one rest h header hs joined written ot
   ends = ends_before more one rest hs header others is;
 }
 
--- bytes have at most one first header of a name, so all splits into headers leave the same bytes without it
+-- bytes have at most one first header of a name, so all splits into headers have the same one, and leave the same bytes
+-- without it
 pub signature_split_unique : (name : List ℕ) (ps qs : List Header) (p q : Header) (fp op rp fq oq rq : List ℕ)
     → DecodesToHeaders fp ps → All (λ h. h.name ≢ name) ps → DecodesToHeader op p → p.name ≡ name → EndsHeader rp
     → DecodesToHeaders fq qs → All (λ h. h.name ≢ name) qs → DecodesToHeader oq q → q.name ≡ name → EndsHeader rq
-    → fp ++ (op ++ rp) ≡ fq ++ (oq ++ rq) → fp ++ rp ≡ fq ++ rq
+    → fp ++ (op ++ rp) ≡ fq ++ (oq ++ rq) → (fp ++ rp ≡ fq ++ rq) × (p ≡ q) × (rp ≡ rq)
 signature_split_unique name [] [] p q fp op rp fq oq rq np ap_ wp namep ep nq aq wq nameq eq same =
     let e = header_unique (fp ++ (op ++ rp)) p q rp rq (has_header_last fp op rp p np wp ep)
     (subst (λ (it : List ℕ). HasHeader it q rq) (sym same) (has_header_last fq oq rq q nq wq eq)) in
-    ap (λ (it : List ℕ). it ++ rp) np ∙ e.1 ∙ sym (ap (λ (it : List ℕ). it ++ rq) nq)
+    (ap (λ (it : List ℕ). it ++ rp) np ∙ e.1 ∙ sym (ap (λ (it : List ℕ). it ++ rq) nq), e.0, e.1)
 signature_split_unique name [] (k ∷ ks) p q fp op rp fq oq rq np ap_ wp namep ep (first, more, joined, written, others) aq wq nameq eq same =
     let e = header_unique (fp ++ (op ++ rp)) p k rp (more ++ (oq ++ rq)) (has_header_last fp op rp p np wp ep)
     (subst (λ (it : List ℕ). HasHeader it k (more ++ (oq ++ rq))) (sym same) (has_header_before_last fq first more oq rq k q ks joined written others wq)) in
@@ -88,13 +89,16 @@ signature_split_unique name (k ∷ ks) (j ∷ js) p q fp op rp fq oq rq (first, 
     (subst (λ (it : List ℕ). HasHeader it j (more' ++ (oq ++ rq))) (sym same)
     (has_header_before_last fq first' more' oq rq j q js joined' written' others' wq)) in
     let firsts : first ≡ first' = sym (header_round_trips first k written) ∙ ap encode_header e.0 ∙ header_round_trips first' j written' in
-    let rests : more ++ rp ≡ more' ++ rq = signature_split_unique name ks js p q more op rp more' oq rq others
+    let rests : (more ++ rp ≡ more' ++ rq) × (p ≡ q) × (rp ≡ rq) = signature_split_unique name ks js p q more op rp more' oq rq others
     (All-tail (λ (h : Header). h.name ≢ name) k ks ap_)
     wp namep
-    ep others' (All-tail (λ (h : Header). h.name ≢ name) j js aq) wq nameq eq e.1 in
-    ap (λ (it : List ℕ). it ++ rp) joined ∙ append_assoc first more rp
-    ∙ ap (λ (it : List ℕ). it ++ (more ++ rp)) firsts ∙ ap (λ (it : List ℕ). first' ++ it) rests
-    ∙ sym (append_assoc first' more' rq) ∙ sym (ap (λ (it : List ℕ). it ++ rq) joined')
+    ep others' (All-tail (λ (h : Header). h.name ≢ name) j js aq) wq nameq eq e.1 in (
+      ap (λ (it : List ℕ). it ++ rp) joined ∙ append_assoc first more rp
+          ∙ ap (λ (it : List ℕ). it ++ (more ++ rp)) firsts ∙ ap (λ (it : List ℕ). first' ++ it) rests.0
+          ∙ sym (append_assoc first' more' rq) ∙ sym (ap (λ (it : List ℕ). it ++ rq) joined'),
+      rests.1,
+      rests.2,
+    )
 
 -- the bytes are headers, none of this name
 pub record Blocks (name content : List ℕ) : Type 0 where
@@ -102,7 +106,7 @@ pub record Blocks (name content : List ℕ) : Type 0 where
   pub are : DecodesToHeaders content headers
   pub others : All (λ h. h.name ≢ name) headers
 
-encodings_join : (a b : List ℕ) (hs ks : List Header) → DecodesToHeaders a hs → DecodesToHeaders b ks → DecodesToHeaders (a ++ b) (hs ++ ks)
+pub encodings_join : (a b : List ℕ) (hs ks : List Header) → DecodesToHeaders a hs → DecodesToHeaders b ks → DecodesToHeaders (a ++ b) (hs ++ ks)
 encodings_join a b [] ks none are = subst (λ (it : List ℕ). DecodesToHeaders (it ++ b) ks) (sym none) are
 encodings_join a b (h ∷ hs) ks (first, more, joined, written, others) are =
     (first, more ++ b, ap (λ (it : List ℕ). it ++ b) joined ∙ append_assoc first more b, written, encodings_join more b hs ks others are)
@@ -304,7 +308,17 @@ blocks_before kind (first ∷ lines) here content before input line next_state r
     (blocks_before kind lines next after before input line next_state rest more
     (All-tail (λ (it : LineView). ¬ IsNamedLine (signature_field kind) it) first lines others) comes)
 
-header_here : (kind : Kind) (before : State) (input : List ℕ) (header : Header) (next_state : State) (rest : List ℕ)
+-- the bytes before a signature header, which are headers of other names
+pub before_header : (kind : Kind) (lines : List LineView) (here : State) (content : List ℕ) (before : State) (input : List ℕ) (line : LineView)
+    (next_state : State)
+    (rest : List ℕ)
+    → Passes (HasLine kind) here content lines before input → All (λ it. ¬ IsNamedLine (signature_field kind) it) lines
+    → HasLine kind before input line next_state rest → (leading : List ℕ) × (content ≡ leading ++ input) × Blocks (signature_field kind) leading
+unfolding BlocksBefore
+before_header kind lines here content before input line next_state rest passes others comes =
+    blocks_before kind lines here content before input line next_state rest passes others comes
+
+pub header_here : (kind : Kind) (before : State) (input : List ℕ) (header : Header) (next_state : State) (rest : List ℕ)
     → HasLine kind before input (header_line header) next_state rest → HasHeader input header rest
 header_here kind before input header next_state rest (first_header_comes _ _ _ has unlike) = has
 header_here kind before input header next_state rest (header_comes _ _ _ has) = has
@@ -357,7 +371,7 @@ encode_header_decodes header named =
       value = refl;
     }
 
-unlike_name : (name : List ℕ) (header : Header) → is_header_named name header ≡ false → header.name ≢ name
+pub unlike_name : (name : List ℕ) (header : Header) → is_header_named name header ≡ false → header.name ≢ name
 unlike_name name header other same =
     let e : pointwise nat_eq header.name name ≡ true = (bytes_decides header.name name).1 same in
     let f : true ≡ false = sym e ∙ other in
@@ -388,12 +402,12 @@ parents_blocks kind (hex ∷ parents) free =
     (field_block kind (codes "parent") hex parent_name (parent_other kind) (All-head (λ (it : List ℕ). IsByteFree newline it) hex parents free))
     (parents_blocks kind parents (All-tail (λ (it : List ℕ). IsByteFree newline it) hex parents free))
 
-encoding_blocks : (kind : Kind) (encoding : Option (List ℕ)) → IsOneLine encoding → Blocks (signature_field kind) (encode_encoding encoding)
+pub encoding_blocks : (kind : Kind) (encoding : Option (List ℕ)) → IsOneLine encoding → Blocks (signature_field kind) (encode_encoding encoding)
 encoding_blocks kind None free = blocks_nil (signature_field kind)
 encoding_blocks kind (Some encoding) free = field_block kind (codes "encoding") encoding encoding_name (encoding_other kind) free
 
 -- the fields of one line
-prefix_blocks : (kind : Kind) (commit : CommitLines) → HasLineFields commit → Blocks (signature_field kind) (before_encoding commit)
+pub prefix_blocks : (kind : Kind) (commit : CommitLines) → HasLineFields commit → Blocks (signature_field kind) (before_encoding commit)
 prefix_blocks kind commit fields =
     blocks_append (signature_field kind) (encode_ids commit ++ encode_field (codes "author") commit.author) (encode_field (codes "committer") commit.committer)
     (blocks_append (signature_field kind) (encode_ids commit) (encode_field (codes "author") commit.author)
@@ -432,21 +446,37 @@ module _ (kind : Kind) (commit : CommitLines) (bytes : List ℕ) (named : HasHea
       ∙ arranged (before_encoding commit ++ encode_encoding commit.encoding) (flat_map encode_header kept_headers) (encode_header the_header)
       (10 ∷ commit.message)
 
-  -- the payload that is found is the one that was signed
-  pub payload_extracted : (value signed : List ℕ) → HasCommitSignature kind (encode_commit (with_signature kind bytes commit)) value signed
-      → signed ≡ encode_commit (without_headers (signature_field kind) commit)
-  unfolding BlocksBefore
-  payload_extracted value signed has =
-      let read : BlocksBefore kind (encode_commit (with_signature kind bytes commit)) has.input =
-      blocks_before kind has.passes.0 state.Tree (encode_commit (with_signature kind bytes commit)) has.before has.input
+  -- the payload that is found is the one that was signed, the signature is that of the header, and the message follows
+  signature_extracted : (value signed : List ℕ) → (has : HasCommitSignature kind (encode_commit (with_signature kind bytes commit)) value signed)
+      → (signed ≡ encode_commit (without_headers (signature_field kind) commit)) × (value ≡ (read_again the_header).value)
+      × (has.rest ≡ 10 ∷ commit.message)
+  signature_extracted value signed has =
+      let read = before_header kind has.passes.0 state.Tree (encode_commit (with_signature kind bytes commit)) has.before has.input
       (header_line has.header) has.following has.rest has.passes.1 has.passes.2 has.comes in
       let comes : HasHeader has.input has.header has.rest = header_here kind has.before has.input has.header has.following has.rest has.comes in
       let prefixes : has.prefix ≡ read.0 = append_cancel_right has.prefix read.0 has.input (sym has.joined ∙ read.1) in
-      let once : read.0 ++ has.rest ≡ unsigned_prefix ++ 10 ∷ commit.message =
+      let once : (read.0 ++ has.rest ≡ unsigned_prefix ++ 10 ∷ commit.message) × (has.header ≡ read_again the_header) × (has.rest ≡ 10 ∷ commit.message) =
       signature_split_unique (signature_field kind) read.2.headers written_blocks.headers has.header (read_again the_header) read.0 comes.encoded has.rest
       unsigned_prefix
       (encode_header the_header) (10 ∷ commit.message)
       read.2.are read.2.others comes.written has.named comes.ends
       written_blocks.are written_blocks.others (encode_header_decodes the_header (signature_field_is_header_name kind)) refl (λ same. grind (arith, same))
-      (ap (λ (it : List ℕ). read.0 ++ it) (sym comes.joined) ∙ sym read.1 ∙ signed_payload) in
-      has.remaining ∙ ap (λ (it : List ℕ). it ++ has.rest) prefixes ∙ once
+      (ap (λ (it : List ℕ). read.0 ++ it) (sym comes.joined) ∙ sym read.1 ∙ signed_payload) in (
+        has.remaining ∙ ap (λ (it : List ℕ). it ++ has.rest) prefixes ∙ once.0,
+        has.received ∙ ap (λ (it : Header). it.value) once.1,
+        once.2,
+      )
+
+  pub payload_extracted : (value signed : List ℕ) → HasCommitSignature kind (encode_commit (with_signature kind bytes commit)) value signed
+      → signed ≡ encode_commit (without_headers (signature_field kind) commit)
+  payload_extracted value signed has = (signature_extracted value signed has).0
+
+  -- the value that is found consists of the lines of the signature
+  pub value_extracted : (value signed : List ℕ) → HasCommitSignature kind (encode_commit (with_signature kind bytes commit)) value signed
+      → value ≡ value_of_lines (value_lines bytes).0 (value_lines bytes).1
+  value_extracted value signed has = (signature_extracted value signed has).1
+
+  -- the message follows the signature that is found
+  pub message_follows : (value signed : List ℕ) → (has : HasCommitSignature kind (encode_commit (with_signature kind bytes commit)) value signed)
+      → has.rest ≡ 10 ∷ commit.message
+  message_follows value signed has = (signature_extracted value signed has).2

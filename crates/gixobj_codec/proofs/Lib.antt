@@ -1,5 +1,8 @@
 mod CommitsExtracted
 mod OwnedFields
+mod ReceivedCommits
+mod ReceivedTags
+mod SameParts
 mod SignaturesFound
 mod SignersPayloads
 mod TagsAgree

@@ -21,13 +21,13 @@ use Rattle.gixobj_ref_iter.specs.Extracting.{HasNoSignature, IsNamedLine, IsComm
 use Rattle.gixobj_commit.specs.CommitSigning.{with_signature}
 use Rattle.gixobj_codec.specs.LineFields.{HasHeaderNames, HasLineFields}
 
-ends_before_tail : (leading tail : List ℕ) (headers : List Header) → DecodesToHeaders leading headers → EndsHeader tail → EndsHeader (leading ++ tail)
+pub ends_before_tail : (leading tail : List ℕ) (headers : List Header) → DecodesToHeaders leading headers → EndsHeader tail → EndsHeader (leading ++ tail)
 ends_before_tail leading tail [] none ends = subst (λ (it : List ℕ). EndsHeader (it ++ tail)) (sym none) ends
 ends_before_tail leading tail (h ∷ hs) (first, more, joined, written, others) ends =
     subst (λ (it : List ℕ). EndsHeader (it ++ tail)) (sym joined)
     (subst EndsHeader (sym (append_assoc first more tail)) (ends_header_append first (more ++ tail) h written))
 
-comes_here : (leading first more tail : List ℕ) (h : Header) (hs : List Header) → leading ≡ first ++ more → DecodesToHeader first h
+pub comes_here : (leading first more tail : List ℕ) (h : Header) (hs : List Header) → leading ≡ first ++ more → DecodesToHeader first h
     → DecodesToHeaders more hs
     → EndsHeader tail → HasHeader (leading ++ tail) h (more ++ tail)
 comes_here leading first more tail h hs joined written others ends = record {
@@ -38,7 +38,7 @@ comes_here leading first more tail h hs joined written others ends = record {
 }
 
 -- after headers of other names and then no header, no split into headers has one of the name
-none_there : (name : List ℕ) (ps qs : List Header) (q : Header) (fp tail fq oq rq : List ℕ)
+pub none_there : (name : List ℕ) (ps qs : List Header) (q : Header) (fp tail fq oq rq : List ℕ)
     → DecodesToHeaders fp ps → All (λ h. h.name ≢ name) ps → EndsHeader tail → HasNoHeader tail
     → DecodesToHeaders fq qs → DecodesToHeader oq q → q.name ≡ name → EndsHeader rq
     → fp ++ tail ≡ fq ++ (oq ++ rq) → ⊥

@@ -6,7 +6,7 @@ use Rattle.gixobj_commit.specs.CommitWriting.{IsOwnedCommitError, encode_commit}
 use Rattle.gixobj_commit.specs.declared.commit.Commit.{Commit}
 use Rattle.gixobj_fields.specs.Writing.{RejectsNothing}
 use Rattle.gixobj_hash.specs.Hash.{id_kind}
-use Rattle.gixobj_line.specs.Commit.{CommitLines}
+use Rattle.gixobj_line.specs.Commit.{CommitLines, IsCommit}
 use Rattle.gixobj_signature.specs.Calls.{Answer, CallView}
 use Rattle.gixobj_signature.specs.Plans.{CarriesOut}
 use Rattle.gixobj_signature.specs.Signing.{sign_options_view, sign_plan, signature}
@@ -20,10 +20,11 @@ use Rattle.gixobj_tag.specs.TagWriting.{encode_tag}
 use Rattle.gixobj_tag.specs.declared.tag.Tag.{Tag}
 use Rattle.gixobj_ref_iter.specs.Extracting as commits
 use Rattle.gixobj_codec.proofs.CommitsExtracted.{payload_extracted}
+use Rattle.gixobj_codec.proofs.ReceivedCommits.{signature_of_decoded}
 use Rattle.gixobj_codec.proofs.SignaturesFound.{signature_is_there}
 use Rattle.gixobj_codec.proofs.TagsExtracted.{signed_data_is_payload_of_tag}
 use Rattle.gixobj_codec.specs.LineFields.{HasHeaderNames, HasLineFields}
-use Rattle.gixobj_codec.specs.SignedEncodings.{CommitPayloadIsSigned, TagPayloadIsSigned}
+use Rattle.gixobj_codec.specs.SignedEncodings.{CommitPayloadIsSigned, FindsSigned, TagPayloadIsSigned, decoded_value}
 
 module _ {S : Type 0} (runs : S → CallView → Answer → S → Type 0) (options : Options) (old new : S) where
   module _ (it : Commit) (fields : RejectsNothing (IsOwnedCommitError it) → HasLineFields (commit_views.owned_commit_lines it)) where
@@ -34,6 +35,22 @@ module _ {S : Type 0} (runs : S → CallView → Answer → S → Type 0) (optio
     commit_found (Ok signed) is = λ named none.
         signature_is_there (id_kind it.tree) (commit_views.owned_commit_lines it) is.bytes named (fields is.writable)
         (subst (λ (lines : CommitLines). commits.HasNoSignature (id_kind it.tree) (encode_commit lines)) is.lines none)
+
+    pub commit_decoded : (result : Result Commit Error) → IfOk result (commit.IsSignedCommit runs options it old new)
+        → IfOk result (λ signed. HasHeaderNames (commit_views.owned_commit_lines it)
+        → IsCommit (id_kind it.tree) (encode_commit (commit_views.owned_commit_lines signed))
+        → FindsSigned runs options (id_kind it.tree) (encode_commit (commit_views.owned_commit_lines signed)) old new)
+    commit_decoded (Err error) is = tt
+    commit_decoded (Ok signed) is = λ named decodes.
+        let kind = id_kind it.tree in
+        let lines = commit_views.owned_commit_lines it in
+        let again : IsCommit kind (encode_commit (commit.with_signature kind is.bytes lines)) =
+        subst (λ (it : CommitLines). IsCommit kind (encode_commit it)) is.lines decodes in
+        let found : commits.HasCommitSignature kind (encode_commit (commit_views.owned_commit_lines signed)) (decoded_value is.bytes)
+        (commit.payload_of_commit kind lines) =
+        subst (λ (it : CommitLines). commits.HasCommitSignature kind (encode_commit it) (decoded_value is.bytes) (commit.payload_of_commit kind lines))
+        (sym is.lines) (signature_of_decoded kind lines is.bytes named (fields is.writable) again) in
+        (is.bytes, commit.payload_of_commit kind lines, is.called, found)
 
     pub commit_payload : (result : Result Commit Error) → IfOk result (commit.IsSignedCommit runs options it old new)
         → IfOk result (λ signed. HasHeaderNames (commit_views.owned_commit_lines it) → CommitPayloadIsSigned runs options (id_kind it.tree)

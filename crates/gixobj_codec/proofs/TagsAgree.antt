@@ -27,7 +27,7 @@ use Rattle.gixobj_codec.specs.Agreeing.{AreTheSame}
 -- ---- positions of markers after lines
 
 -- no marker is at a position within the prefix
-abbrev AreAfter : List ℕ → List ℕ → Type 0
+abbrev pub AreAfter : List ℕ → List ℕ → Type 0
 AreAfter leading rest = (place : ℕ) (format : Format) → MarksPlace (leading ++ rest) place format → length leading ≤ place
 
 marker_begins : (format : Format) (marker : List ℕ) → IsMarkerOf format marker → (rest : List ℕ) × (marker ≡ 45 ∷ rest)
@@ -80,7 +80,7 @@ after_field byte name value rest other named one_line =
     let free : IsByteFree 10 (byte ∷ (name ++ 32 ∷ value)) = All-append (λ (it : ℕ). it ≢ 10) (byte ∷ name) (32 ∷ value) named spaced in
     subst (λ (leading : List ℕ). AreAfter leading rest) flat (after_line byte (name ++ 32 ∷ value) rest other free)
 
-also_after : (a b rest : List ℕ) → AreAfter a (b ++ rest) → AreAfter b rest → AreAfter (a ++ b) rest
+pub also_after : (a b rest : List ℕ) → AreAfter a (b ++ rest) → AreAfter b rest → AreAfter (a ++ b) rest
 also_after a b rest after_a after_b place format it =
     let flat : MarksPlace (a ++ (b ++ rest)) place format = subst (λ (content : List ℕ). MarksPlace content place format)
     (append_assoc a b rest) it in
@@ -100,7 +100,7 @@ tagger_joined None input body has = sym has.1
 tagger_joined (Some line) input body has = has.0.joined
 
 -- the lines and the body are the encoding
-lines_joined : (kind : Kind) (content : List ℕ) (tag : TagLines) → (reads : Reads kind content tag) → content ≡ encode_tag_lines tag ++ reads.body
+pub lines_joined : (kind : Kind) (content : List ℕ) (tag : TagLines) → (reads : Reads kind content tag) → content ≡ encode_tag_lines tag ++ reads.body
 lines_joined kind content tag reads =
     let object = encode_field (codes "object") tag.target in
     let type = encode_field (codes "type") (kind_name tag.target_kind) in
@@ -113,7 +113,7 @@ lines_joined kind content tag reads =
     (reads.name.0.joined ∙ ap (λ (rest : List ℕ). name ++ rest) (tagger_joined tag.tagger reads.after_name reads.body reads.tagger)))
     ∙ sym flat
 
-after_lines : (kind : Kind) (content : List ℕ) (tag : TagLines) → (reads : Reads kind content tag) → AreAfter (encode_tag_lines tag) reads.body
+pub after_lines : (kind : Kind) (content : List ℕ) (tag : TagLines) → (reads : Reads kind content tag) → AreAfter (encode_tag_lines tag) reads.body
 after_lines kind content tag reads =
     let object = encode_field (codes "object") tag.target in
     let type = encode_field (codes "type") (kind_name tag.target_kind) in
@@ -138,13 +138,13 @@ newline_by_prefix rest leading after place format joined as_long begins (inl non
 newline_by_prefix rest leading after place format joined as_long begins (inr (lines, ends)) =
     omega (arith, as_long, ap length ends, length-append lines (10 ∷ []))
 
-after_newline_alone : (rest : List ℕ) → AreAfter (10 ∷ []) rest
+pub after_newline_alone : (rest : List ℕ) → AreAfter (10 ∷ []) rest
 after_newline_alone rest place format it = newline_by_prefix rest it.prefix it.rest place format it.joined it.as_long it.marked it.starts
 
 -- ---- the marker of the body is that of the encoding
 
 -- the last marker begins this signature in some format; or there is no marker
-abbrev IsFoundIn : List ℕ → Option (List ℕ) → Type 0
+abbrev pub IsFoundIn : List ℕ → Option (List ℕ) → Type 0
 IsFoundIn content None = HasNoMarker content
 IsFoundIn content (Some bytes) = (before : List ℕ) × (format : Format) × HasTagSignature content bytes before format
 
@@ -152,7 +152,7 @@ right_true : (a b : Bool) → (a && b) ≡ true → b ≡ true
 right_true true b both = both
 right_true false b both = cc both
 
-no_marker_in_newlines : (body : List ℕ) → IsTrue (are_newlines body) → HasNoMarker body
+pub no_marker_in_newlines : (body : List ℕ) → IsTrue (are_newlines body) → HasNoMarker body
 no_marker_in_newlines body are place format it =
     let both : (are_newlines it.prefix && are_newlines it.rest) ≡ true = sym (list_all-append (λ byte. byte == 10) it.prefix it.rest)
     ∙ ap are_newlines (sym it.joined) ∙ are in
@@ -220,14 +220,14 @@ body_found lines body message signature after (after_a_newline _ content _ _ joi
     (sym joined) in
     subst (λ (it : List ℕ). IsFoundIn it signature) flat (parted_found lines content ahead message signature parted)
 
-tag_found : (kind : Kind) (content : List ℕ) (tag : TagLines) → Reads kind content tag → IsFoundIn content tag.signature
+pub tag_found : (kind : Kind) (content : List ℕ) (tag : TagLines) → Reads kind content tag → IsFoundIn content tag.signature
 tag_found kind content tag reads =
     subst (λ (it : List ℕ). IsFoundIn it tag.signature) (sym (lines_joined kind content tag reads))
     (body_found (encode_tag_lines tag) reads.body tag.message tag.signature (after_lines kind content tag reads) reads.parted)
 
 -- ---- both signatures agree
 
-one_signature : (content signature signature' before before' : List ℕ) (format format' : Format) → HasTagSignature content signature before format
+pub one_signature : (content signature signature' before before' : List ℕ) (format format' : Format) → HasTagSignature content signature before format
     → HasTagSignature content signature' before' format' → (signature ≡ signature') × (format ≡ format')
 one_signature content signature signature' before before' format format' has has' =
     let one = marker_place_unique content has.place has'.place format format' has.is_place has'.is_place in

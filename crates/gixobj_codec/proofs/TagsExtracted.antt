@@ -11,7 +11,7 @@ use Rattle.gixobj_tag.specs.TagSigning.{payload_of_tag, signed_as}
 use Rattle.gixobj_codec.specs.OneMarker.{HasOneMarker}
 
 -- of two splits of the same bytes, the longer prefix is the shorter one and more
-cut : (p bytes head rest : List ℕ) → p ++ bytes ≡ head ++ rest → length p ≤ length head → (more : List ℕ) × (head ≡ p ++ more) × (bytes ≡ more ++ rest)
+pub cut : (p bytes head rest : List ℕ) → p ++ bytes ≡ head ++ rest → length p ≤ length head → (more : List ℕ) × (head ≡ p ++ more) × (bytes ≡ more ++ rest)
 cut [] bytes head rest same long = (head, refl, same)
 cut (byte ∷ p) bytes [] rest same long = absurd (omega arith)
 cut (byte ∷ p) bytes (other ∷ head) rest same long =
@@ -60,7 +60,7 @@ append_split_unique (x ∷ a) b (y ∷ c) d same long =
 arranged_tag : (lines message signature : List ℕ) → lines ++ (message ++ 10 ∷ signature) ≡ ((lines ++ (message ++ [])) ++ 10 ∷ []) ++ signature
 arranged_tag lines message signature = simp (append_assoc, append-nil)
 
-signed_tag_bytes : (tag : TagLines) (bytes : List ℕ) → encode_tag (signed_as (Some bytes) tag) ≡ payload_of_tag tag ++ bytes
+pub signed_tag_bytes : (tag : TagLines) (bytes : List ℕ) → encode_tag (signed_as (Some bytes) tag) ≡ payload_of_tag tag ++ bytes
 signed_tag_bytes tag bytes = arranged_tag (encode_tag_lines tag) (encode_message tag.message) bytes
 
 at_payload : (unsigned bytes : List ℕ) (place : ℕ) (format own : Format) → BeginsWithMarker own bytes

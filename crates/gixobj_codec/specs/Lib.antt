@@ -1,6 +1,7 @@
 pub mod Agreeing
 pub mod LineFields
 pub mod OneMarker
+pub mod Received
 pub mod SignedEncodings
 pub use Rattle.gixobj_actor.specs.Actor
 pub use Rattle.gixobj_actor.specs.ActorWriting

@@ -1,5 +1,7 @@
 -- The payloads that a signer got, found in the encodings of signed commits and tags (gitformat-signature).
 use Rattle.std.specs.Prelude.{◌≡◌, ℕ, List}
+use Rattle.gixobj_fields.specs.FieldWriting.{value_lines}
+use Rattle.gixobj_fields.specs.HeaderFormat.{value_of_lines}
 use Rattle.gixobj_hash.specs.declared.hash.kind.Kind.{Kind}
 use Rattle.gixobj_signature.specs.Calls.{Answer, CallView}
 use Rattle.gixobj_signature.specs.Plans.{CarriesOut}
@@ -14,6 +16,16 @@ use Rattle.gixobj_ref_iter.specs.Extracting as commits
 abbrev pub WasSigned : {S : Type 0} → (S → CallView → Answer → S → Type 0) → Options → List ℕ → S → S → Type 0
 WasSigned runs options payload old new =
     (bytes : List ℕ) × CarriesOut runs (sign_plan (sign_options_view options) payload) old (signature bytes) new
+
+-- the value to which a header with this value decodes: its line, or its lines with their newlines
+abbrev pub decoded_value : List ℕ → List ℕ
+decoded_value value = value_of_lines (value_lines value).0 (value_lines value).1
+
+-- in these bytes the signature is found that the calls led to, with the payload that was signed
+abbrev pub FindsSigned : {S : Type 0} → (S → CallView → Answer → S → Type 0) → Options → Kind → List ℕ → S → S → Type 0
+FindsSigned runs options kind content old new = (bytes payload : List ℕ)
+    × CarriesOut runs (sign_plan (sign_options_view options) payload) old (signature bytes) new
+    × commits.HasCommitSignature kind content (decoded_value bytes) payload
 
 -- each payload that is found in the encoding of a commit was signed by the calls that were made
 abbrev pub CommitPayloadIsSigned : {S : Type 0} → (S → CallView → Answer → S → Type 0) → Options → Kind → List ℕ → S → S

@@ -1,5 +1,6 @@
 //! Laws of trees, commits, tags and stores. Most functions are empty, and their contract is the law.
 
+pub use crate::received::{received_commits_are_signed, received_tags_are_signed};
 pub use crate::signed::{
     commit_payloads_are_signed, owned_commits_have_line_fields, signed_commit_has_payload,
     signed_tag_has_payload, tag_payloads_are_signed, tag_signatures_agree,

@@ -9,6 +9,7 @@
 pub mod commit;
 pub mod laws;
 mod one_line;
+pub mod received;
 pub mod signed;
 pub mod tag;
 pub mod tree;

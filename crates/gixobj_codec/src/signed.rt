@@ -8,11 +8,11 @@ ghost use Rattle.gixobj_fields.specs.Writing.{RejectsNothing};
 ghost use Rattle.gixobj_hash.specs.Hash.{id_kind};
 ghost use Rattle.gixobj_hash.specs.declared.decode.Error.TheVariants.{Malformed};
 ghost use Rattle.gixobj_hash.specs.declared.hash.kind.Kind.{Kind};
-ghost use Rattle.gixobj_line.specs.Commit.{CommitLines, DecodesToCommit};
+ghost use Rattle.gixobj_line.specs.Commit.{CommitLines, DecodesToCommit, IsCommit};
 ghost use Rattle.gixobj_codec.specs.Agreeing.{AreTheSame};
 ghost use Rattle.gixobj_codec.specs.LineFields.{HasHeaderNames, HasLineFields};
 ghost use Rattle.gixobj_codec.specs.OneMarker.{HasOneMarker};
-ghost use Rattle.gixobj_codec.specs.SignedEncodings.{CommitPayloadIsSigned, TagPayloadIsSigned};
+ghost use Rattle.gixobj_codec.specs.SignedEncodings.{CommitPayloadIsSigned, FindsSigned, TagPayloadIsSigned, decoded_value};
 ghost use Rattle.gixobj_text.specs.Markers.{HasNoMarker};
 ghost use Rattle.gixobj_text.specs.declared.signature.Format.{Format};
 ghost use Rattle.gixobj_text.specs.declared.signature.SignatureRef.{SignatureRef};
@@ -34,9 +34,9 @@ use std::alloc::Global;
 
 /// The payload that is found in a signed commit is the one that was signed.
 ///
-/// In the encoding of a signed commit the search for a signature never returns `None`. Both facts need only
-/// valid header names, and no newline in fields of one line. In the encoding of a commit the search never
-/// fails with `Malformed`.
+/// In the encoding of a signed commit the search for a signature never returns `None`, and it finds the
+/// signature if and only if the encoding decodes. All this needs only valid header names, and no newline in
+/// fields of one line. In the encoding of a commit the search never fails with `Malformed`.
 pub fn commit_payloads_are_signed()
     ensures payload { (kind : Kind) (commit : CommitLines) (bytes value signed : List ℕ)
         → HasHeaderNames commit → HasLineFields commit
@@ -45,6 +45,18 @@ pub fn commit_payloads_are_signed()
     ensures found { (kind : Kind) (commit : CommitLines) (bytes : List ℕ) → HasHeaderNames commit
         → HasLineFields commit → ¬ HasNoSignature kind
         (encode_commit (with_signature kind bytes commit)) }
+    ensures value { (kind : Kind) (commit : CommitLines) (bytes value signed : List ℕ)
+        → HasHeaderNames commit → HasLineFields commit
+        → HasCommitSignature kind (encode_commit (with_signature kind bytes commit)) value signed
+        → value ≡ decoded_value bytes }
+    ensures decoded { (kind : Kind) (commit : CommitLines) (bytes : List ℕ) → HasHeaderNames commit
+        → HasLineFields commit → IsCommit kind (encode_commit (with_signature kind bytes commit))
+        → HasCommitSignature kind (encode_commit (with_signature kind bytes commit))
+        (decoded_value bytes) (payload_of_commit kind commit) }
+    ensures decodes { (kind : Kind) (commit : CommitLines) (bytes value signed : List ℕ)
+        → HasHeaderNames commit → HasLineFields commit
+        → HasCommitSignature kind (encode_commit (with_signature kind bytes commit)) value signed
+        → IsCommit kind (encode_commit (with_signature kind bytes commit)) }
     ensures no_error { (kind : Kind) (content : List ℕ) (read : CommitLines)
         → DecodesToCommit kind content read → ¬ IsCommitSignatureError kind content Malformed }
 {}
@@ -65,8 +77,8 @@ pub fn owned_commits_have_line_fields(commit: &Commit)
 /// Signs a commit by [`Commit::sign`].
 ///
 /// If the header names are valid, the search for a signature in the encoding of the signed commit never
-/// returns `None`. The payload that it finds is the one that the signer got. Allocates what [`Commit::sign`]
-/// allocates.
+/// returns `None`. If the encoding decodes, it finds the signer's signature. The payload that it finds is the
+/// one that the signer got. Allocates what [`Commit::sign`] allocates.
 ///
 /// # Errors
 ///
@@ -81,6 +93,10 @@ pub fn signed_commit_has_payload<R: Runner>(
     ensures error { IfErr result (IsCommitSigningError R.runs options commit runner.old runner.new) }
     ensures found { IfOk result (λ signed. HasHeaderNames (owned_commit_lines commit)
         → ¬ HasNoSignature (id_kind commit.tree) (encode_commit (owned_commit_lines signed))) }
+    ensures decoded { IfOk result (λ signed. HasHeaderNames (owned_commit_lines commit)
+        → IsCommit (id_kind commit.tree) (encode_commit (owned_commit_lines signed))
+        → FindsSigned R.runs options (id_kind commit.tree)
+        (encode_commit (owned_commit_lines signed)) runner.old runner.new) }
     ensures payload { IfOk result (λ signed. HasHeaderNames (owned_commit_lines commit)
         → CommitPayloadIsSigned R.runs options (id_kind commit.tree)
         (encode_commit (owned_commit_lines signed)) runner.old runner.new) }

@@ -67,5 +67,7 @@ mod of_laws_by_topic {
         actor_search_complete, commit_readers_agree, consumed_commit_tokens_are_prefix,
         id_search_complete, message_search_complete,
     };
-    pub use gixobj_codec::laws::tokens::{commit_runs_decode_uniquely, commit_tokens_decode_uniquely};
+    pub use gixobj_codec::laws::tokens::{
+        commit_runs_decode_uniquely, commit_tokens_decode_uniquely,
+    };
 }
