@@ -1,5 +1,7 @@
 mod Accepted
 mod Alone
+mod Audited
+mod Archived
 mod Commits
 mod Histories
 mod Imported
@@ -9,6 +11,7 @@ mod Once
 mod Planned
 mod Inserted
 mod Rebuilt
+mod RebuiltFiles
 mod Errors
 mod Tips
 mod Yielded

@@ -8,7 +8,7 @@ use Rattle.gix_object.specs.hash.hash.kind.Kind.TheVariants as hash
 use Rattle.gix_object.specs.hash.hash.object_id.ObjectId.{ObjectId}
 use Rattle.gix_object.specs.hash.hash.object_id.ObjectId.TheVariants.{Sha1}
 use Rattle.gix_object.specs.hash.kind.Kind.TheVariants as kind
-use Rattle.gix_object.specs.object.«data».Data.{Data}
+use Rattle.gix_object.specs.store.«data».Data.{Data}
 use Rattle.gixobj_callers.specs.Shelves.{listed_objects}
 
 -- the pair of an index out of bounds

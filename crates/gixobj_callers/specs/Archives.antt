@@ -1,14 +1,17 @@
--- The last commit and the files of an imported history, and its errors.
-use Rattle.std.specs.Prelude.{◌≡◌, ◌++◌, ◌∷◌, ℕ, List, [], None, Option, length}
+-- The commits and the files of an imported history, its last commit, and its errors.
+use Rattle.std.specs.Prelude.{◌≡◌, ◌++◌, ◌∷◌, ℕ, All, List, [], None, Option, length}
 use Rattle.gix_object.specs.Commit.{DecodesToCommit}
 use Rattle.gix_object.specs.Commits.{step_commit, encode_step}
-use Rattle.gix_object.specs.Files.{NamedFiles, SameFiles, Table}
+use Rattle.gix_object.specs.Files.{NamedFiles, SameFiles, Table, Trees}
 use Rattle.gix_object.specs.Hash.{id_of}
 use Rattle.gix_object.specs.History.{FilesAfter}
-use Rattle.gix_object.specs.Imports.{AgreesWithImports, IsNewImporter, edits_of}
+use Rattle.gix_object.specs.Imports.{AgreesWithImports, AreCommitsOf, HaveFiles, IsNewImporter, edits_of, pairs_of_imports}
+use Rattle.gix_object.specs.Openings.{OfTrees}
 use Rattle.gix_object.specs.PlainHistory.{NoFiles}
+use Rattle.gix_object.specs.RunTables.{DecodesToItself}
 use Rattle.gix_object.specs.Steps.{Stops}
 use Rattle.gix_object.specs.Stores.{Objects, StoreModel}
+use Rattle.gix_object.specs.Tables.{IsConsistentWith}
 use Rattle.gix_object.specs.hash.hash.kind.Kind as hash
 use Rattle.gix_object.specs.hash.hash.object_id.ObjectId.{ObjectId}
 use Rattle.gix_object.specs.hash.kind.Kind.TheVariants.{Commit}
@@ -16,6 +19,25 @@ use Rattle.gix_object.specs.import.import.ImportError.{ImportError}
 use Rattle.gix_object.specs.import.import.Imported.{Imported}
 use Rattle.gix_object.specs.import.import.Importer.{Importer}
 use Rattle.gix_object.specs.import.import.Step.{Step}
+
+-- the emitted trees of an import are consistent with these trees, and each decodes to itself
+pub record IsConsistentImport (imported : List Imported) (trees : Trees) : Type 0 where
+  pub emitted : IsConsistentWith (pairs_of_imports imported) trees
+  pub decoded : All DecodesToItself (pairs_of_imports imported)
+
+-- in some table that agrees with the import, the tree of each commit has, at every depth, exactly the files that the
+-- edits of the steps so far make of none
+pub record HaveFilesInTable (objects : Objects) (steps : List Step) (imported : List Imported) : Type 0 where
+  pub table : Table
+  pub agrees : AgreesWithImports table objects None steps imported
+  pub files : (n : ℕ) → HaveFiles table n NoFiles steps imported
+
+-- an archived history: each step has its commit, on the commit of the step before. The tree of each commit has the
+-- files of its steps, if the emitted trees are consistent with the store's trees before the import
+pub record IsArchived (hash : hash.Kind) (before : Objects) (steps : List Step) (imported : List Imported)
+    (after : Objects) : Type 0 where
+  pub commits : AreCommitsOf hash None steps imported after
+  pub files : OfTrees before (λ trees. IsConsistentImport imported trees → HaveFilesInTable before steps imported)
 
 -- the commit's id is the digest of this step's encoding, with its tree and a parent or none; the encoding decodes to
 -- the step's commit

@@ -1,11 +1,16 @@
--- Runs on an editor without files, and two of their writes that are compared.
-use Rattle.std.specs.Prelude.{◌≡◌, ◌≢◌, ◌⊎◌, ◌↔◌, ℕ, suc, Bool, IsTrue, List, [], None, Option, Some, max, take, ⊤}
-use Rattle.gix_object.specs.Commands.{written_at}
-use Rattle.gix_object.specs.Files.{SameFiles, Table}
+-- Runs on an editor without files: the files of one write, and whether two writes have equal files.
+use Rattle.std.specs.Prelude.{◌≡◌, ◌≢◌, ◌⊎◌, ◌↔◌, ℕ, suc, All, Bool, IsTrue, List, [], None, Option, Some, max, take, ⊤}
+use Rattle.gix_object.specs.Commands.{accepted_steps, emitted_pairs, kept_pairs, written_at}
+use Rattle.gix_object.specs.Files.{NamedFiles, SameFiles, Table, Trees}
+use Rattle.gix_object.specs.History.{FilesAfter}
 use Rattle.gix_object.specs.OneId.{IsPlainRun, files_before}
+use Rattle.gix_object.specs.Openings.{OfTrees}
+use Rattle.gix_object.specs.PlainHistory.{NoFiles}
 use Rattle.gix_object.specs.Replies.{Answers, IsRun}
+use Rattle.gix_object.specs.RunTables.{AgreesWithRun, DecodesToItself}
 use Rattle.gix_object.specs.State.{State}
-use Rattle.gix_object.specs.Stores.{StoreModel}
+use Rattle.gix_object.specs.Stores.{Objects, StoreModel}
+use Rattle.gix_object.specs.Tables.{IsConsistentWith}
 use Rattle.gix_object.specs.directories.write.Written.{Written}
 use Rattle.gix_object.specs.editor.command.Command.{Command}
 use Rattle.gix_object.specs.editor.reply.Reply.{Reply}
@@ -28,12 +33,41 @@ NamesWritten replies place id = (written : Written) × (written_at replies place
 abbrev pub up_to : ℕ → ℕ → ℕ
 up_to place other = suc (max place other)
 
+-- the emitted trees of a run are consistent with these trees, and each kept tree decodes to itself
+pub record IsConsistentRun {E : Type 0} (replies : List (Reply E)) (trees : Trees) : Type 0 where
+  pub emitted : IsConsistentWith (emitted_pairs replies) trees
+  pub kept : All DecodesToItself (kept_pairs replies)
+
+-- in some table that agrees with the run, the tree of this id has, at every depth, exactly the files that the accepted
+-- commands before an index make of none
+pub record HasFilesInTable {E : Type 0} (objects : Objects) (commands : List Command) (replies : List (Reply E))
+    (place : ℕ) (id : ObjectId) : Type 0 where
+  pub table : Table
+  pub agrees : AgreesWithRun table objects replies
+  pub files : (n : ℕ) → SameFiles (NamedFiles table n id)
+      (FilesAfter table n (accepted_steps (take place commands) (take place replies)) NoFiles)
+
 module _ {S E : Type 0} (model : StoreModel S) (answers : Answers E) (store : S) (object_hash : hash.Kind)
     (commands : List Command) where
   -- a new editor of the empty root may get these replies
   abbrev pub AreReplies : List (Reply E) → Type 0
   AreReplies replies = (remaining : State S)
       × IsRun model answers (started store object_hash []) commands replies remaining
+
+  -- the index is that of a successful write of the root, which names this id. The id's tree has the files of the
+  -- commands before it, if the emitted trees are consistent with the store's trees before the run
+  pub record IsRebuilt (place : ℕ) (id : ObjectId) : Type 0 where
+    pub replies : List (Reply E)
+    pub run : AreReplies replies
+    pub named : NamesWritten replies place id
+    pub files : OfTrees (model.objects store) (λ trees. IsConsistentRun replies trees
+        → HasFilesInTable (model.objects store) commands replies place id)
+
+  -- the errors of a rebuild: no write of the root at the index, or out of memory for the replies
+  abbrev pub IsRebuildError : ℕ → CompareError → Type 0
+  IsRebuildError place (compare.NoWrite at) = (replies : List (Reply E)) × AreReplies replies
+      × (written_at replies at ≡ None) × (at ≡ place)
+  IsRebuildError place compare.OutOfMemory = ⊤
 
   -- both indices are those of a successful write of the root, and the result is whether they name one id; if the run is
   -- plain up to the later index, it is whether their files are equal

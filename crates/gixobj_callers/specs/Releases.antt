@@ -5,6 +5,7 @@ use Rattle.std.specs.List.{filter_map, starts_with}
 use Rattle.std.specs.Cow.{cow_slice_items}
 use Rattle.std.specs.declared.alloc.Global.{Global}
 use Rattle.std.specs.declared.borrow.CowSlice.{CowSlice}
+use Rattle.gix_object.specs.Commit.{CommitLines, DecodesToCommit}
 use Rattle.gix_object.specs.CommitSigning.{IsSignedCommit, IsCommitSigningError, IsCommitEncodingError, payload_of_commit, with_signature}
 use Rattle.gix_object.specs.CommitViews.{owned_commit_lines}
 use Rattle.gix_object.specs.CommitWriting.{encode_commit}
@@ -15,11 +16,13 @@ use Rattle.gix_object.specs.Markers.{HasNoMarker}
 use Rattle.gix_object.specs.Outcomes.{OutcomeView, is_trusted, evaluated}
 use Rattle.gix_object.specs.Plans.{CarriesOut}
 use Rattle.gix_object.specs.ProgramCalls.{Answer, CallView, OutputView, ran}
+use Rattle.gix_object.specs.Received.{SignsCommit, SignsTag}
 use Rattle.gix_object.specs.SignedBytes.{signed_bytes}
 use Rattle.gix_object.specs.Signing as signing
 use Rattle.gix_object.specs.Signing.{sign_plan}
 use Rattle.gix_object.specs.SshReports.{ssh_report}
 use Rattle.gix_object.specs.TagExtracting as tags
+use Rattle.gix_object.specs.TagFormat.{DecodesToTag, TagLines}
 use Rattle.gix_object.specs.Verifiers.{VerifyOptionsView, ProgramView, SshView, by_open_pgp, by_ssh, by_x509}
 use Rattle.gix_object.specs.Verifying.{IsOutcomeOf, IsFormatOf, accepts, human, principals_in, verify_plan}
 use Rattle.gix_object.specs.VerifyingCalls.{open_pgp_call, principal_call, principals_call, x509_call}
@@ -70,6 +73,16 @@ IsObjectSignature kind.Commit ids bytes signature signed = commits.HasCommitSign
 IsObjectSignature kind.Tag ids bytes signature signed = (format : Format)
     × tags.HasTagSignature bytes signature signed format
 IsObjectSignature other ids bytes signature signed = ⊥
+
+-- the signed bytes say what the object says. Of a commit they are the same commit without its first signature header: it
+-- has the same tree, parents, actors and message. Of a tag they have the same target, name and tagger. Whoever decodes
+-- the object therefore has decoded what was signed
+abbrev pub SignsObject : Kind → hash.Kind → List ℕ → List ℕ → List ℕ → Type 0
+SignsObject kind.Commit ids bytes signature signed = (commit : CommitLines) → DecodesToCommit ids bytes commit
+    → SignsCommit ids commit signature signed
+SignsObject kind.Tag ids bytes signature signed = (tag : TagLines) → DecodesToTag ids bytes tag
+    → SignsTag ids tag signature signed
+SignsObject other ids bytes signature signed = ⊥
 
 -- an object has no signature
 abbrev pub IsUnsigned : Kind → hash.Kind → List ℕ → Type 0
@@ -173,12 +186,12 @@ IsAudit runs it kind ids bytes old new (Some outcome) =
     × IsOutcomeOfVerifying runs it signature signed old (Ok outcome) new
 IsAudit runs it kind ids bytes old new None = IsUnsigned kind ids bytes × (new ≡ old)
 
--- the object's signature is accepted
+-- the object's signature is accepted, and the signed bytes say what the object says
 abbrev pub IsAccepted : {S : Type 0} → (S → CallView → Answer → S → Type 0) → VerifyOptionsView → Kind → hash.Kind → List ℕ
     → S → OutcomeView → S → Type 0
 IsAccepted runs it kind ids bytes old outcome new =
     (signature signed : List ℕ) × IsObjectSignature kind ids bytes signature signed
-    × Vouches runs it signature signed old outcome new
+    × Vouches runs it signature signed old outcome new × SignsObject kind ids bytes signature signed
 
 -- the errors of an audit: no signature is found, and no call was made; or the signature isn't verified
 abbrev pub IsAuditError : {S : Type 0} → (S → CallView → Answer → S → Type 0) → VerifyOptionsView → Kind → hash.Kind → List ℕ

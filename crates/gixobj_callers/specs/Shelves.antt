@@ -3,7 +3,7 @@ use Rattle.std.specs.Prelude.{List, map}
 use Rattle.std.specs.FinMap as finite
 use Rattle.gix_object.specs.Stores.{Objects, stored}
 use Rattle.gix_object.specs.hash.hash.object_id.ObjectId.{ObjectId}
-use Rattle.gix_object.specs.object.«data».Data.{Data}
+use Rattle.gix_object.specs.store.«data».Data.{Data}
 use Rattle.gixobj_callers.specs.declared.shelf.Shelf.{Shelf}
 
 -- the objects by their ids; the first object of an id counts

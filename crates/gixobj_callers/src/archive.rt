@@ -1,12 +1,51 @@
-//! An archive, which imports a history into an object store and returns its last commit.
+//! An archive, which imports a history into an object store: all its commits, or the last one.
 ghost use Rattle.std.specs.Prelude.{◌≡◌, ◌↔◌, [], IfErr, IfOk, IfSome, IsNone};
-ghost use Rattle.gixobj_callers.specs.Archives.{IsArchiveError, IsTip};
+ghost use Rattle.gixobj_callers.specs.Archives.{IsArchiveError, IsArchived, IsTip};
+ghost use Rattle.gix_object.specs.Imports.{IsNewImporter};
+ghost use Rattle.gix_object.specs.Steps.{Stops};
 ghost use Rattle.gix_object.specs.Stores.{store_model};
 
 use gix_object::hash::Kind;
-use gix_object::import::{ImportError, Imported, Importer, Step, import_all};
+use gix_object::import::{ImportError, Imported, Importer, Step, Stopped, import_all};
+use gix_object::laws::consistent_import_has_table;
 use gix_object::{Keep, KeepCommit};
 use std::alloc::Global;
+
+/// Imports the steps of a history by a new importer, and returns the imports, one for each step.
+///
+/// The store then names each commit by its id, or another object with the same digest.
+///
+/// Let the emitted trees be consistent with the trees of the store before the import, and let each decode to
+/// itself. Then some table agrees with the import. In it, the tree of each commit has, at every depth,
+/// exactly the files that the edits of the steps so far make of none.
+///
+/// Trees are consistent if no id is null, no id names two trees, the store's included, and the empty tree's
+/// id names it alone.
+///
+/// Allocates as [`import_all`].
+///
+/// # Errors
+///
+/// [`Stopped`] at the first step that fails, as [`import_all`].
+pub fn archive<S: Keep + KeepCommit>(
+    importer: &mut Importer<S>,
+    steps: &[Step],
+) -> Result<Vec<Imported>, Stopped>
+    requires new { IsNewImporter importer.old }
+    ensures archived { IfOk result (λ all. IsArchived importer.old.hash
+        (S.objects importer.old.editor.store) steps.now all.items
+        (S.objects importer.new.editor.store)) }
+    ensures error { IfErr result (λ it. Stops (store_model S.objects S.may_fail) importer.old steps.now
+        it.done.items it.error importer.new) }
+{
+    match import_all(importer, steps) {
+        Ok(imported) => {
+            consistent_import_has_table(steps, &imported);
+            Ok(imported)
+        }
+        Err(stopped) => Err(stopped),
+    }
+}
 
 /// Imports the steps of a history into a store, and returns the last import: its commit and the written root.
 ///

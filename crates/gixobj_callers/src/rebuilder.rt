@@ -1,17 +1,18 @@
-//! A rebuilder, which runs commands on an editor without files, and compares two of their writes.
+//! A rebuilder, which runs commands on an editor without files, and returns or compares the roots it writes.
 ghost use Rattle.std.specs.Prelude.{◌≡◌, ◌↔◌, IfErr, IfOk, IsTrue, None, OnErr};
 ghost use Rattle.std.specs.Fn.{FnReturnsAt};
 ghost use Rattle.gix_object.specs.Commands.{written_at, written_by, written_by_edit};
 ghost use Rattle.gix_object.specs.Replies.{IsCallable};
-ghost use Rattle.gixobj_callers.specs.Rebuilds.{IsCompared, NamesWritten, IsComparisonError, id_named};
+ghost use Rattle.gixobj_callers.specs.Rebuilds.{IsCompared, IsComparisonError, IsRebuildError, IsRebuilt, NamesWritten, id_named};
 ghost use Rattle.gix_object.specs.Stores.{store_model};
 
 use gix_object::hash::{Kind, ObjectId};
+use gix_object::laws::{consistent_run_has_table, run_table_agrees_with_writes};
 use gix_object::tree::editor::{Command, EditReply, Editor, Reply, run};
 use gix_object::{Keep, OutOfMemory, Tree};
 use std::alloc::Global;
 
-/// The error of [`wrote_the_same`].
+/// The error of [`rebuild`] and [`wrote_the_same`].
 #[derive(Debug, Drop, thiserror::Error)]
 pub enum CompareError {
     /// The command at this index isn't a successful write of the root, or is missing. The commands were run.
@@ -34,6 +35,47 @@ impl From<OutOfMemory> for CompareError {
     fn from(_: OutOfMemory) -> CompareError {
         CompareError::OutOfMemory
     }
+}
+
+/// Runs commands on an editor without files, and returns the id that the write of the root at this index, from
+/// 0, names.
+///
+/// The write also counts if the store didn't keep all its trees. Allocates the replies, and what the edits
+/// allocate; drops the store at the end.
+///
+/// Let the emitted trees be consistent with the trees of the store before the run, and let each kept tree
+/// decode to itself. Then some table agrees with the run. In it, the tree of the id has, at every depth,
+/// exactly the files that the accepted commands before that write make of none.
+///
+/// Trees are consistent if no id is null, no id names two trees, the store's included, and the empty tree's
+/// id names it alone.
+///
+/// `out` must be callable on every well-formed tree without null ids.
+///
+/// # Errors
+///
+/// - [`CompareError::NoWrite`] with the index, if its command is missing, or isn't a successful write of the
+///   root;
+/// - [`CompareError::OutOfMemory`] if allocation of the list of replies fails.
+pub fn rebuild<S: Keep + Drop, E: Drop, F: Fn(&Tree) -> Result<ObjectId, E> + Drop>(
+    alloc: Global,
+    store: S,
+    object_hash: Kind,
+    commands: Vec<Command>,
+    place: usize,
+    out: F,
+) -> Result<ObjectId, CompareError>
+    requires callable { IsCallable F.pre out }
+    ensures files { IfOk result (IsRebuilt (store_model S.objects S.may_fail) (FnReturnsAt F.Fn out)
+        store object_hash commands.items place) }
+    ensures error { IfErr result (IsRebuildError (store_model S.objects S.may_fail)
+        (FnReturnsAt F.Fn out) store object_hash commands.items place) }
+{
+    let mut editor = Editor::new(Tree::empty(alloc), store, object_hash);
+    let replies = run(alloc, &mut editor, commands, out)?;
+    consistent_run_has_table(&replies);
+    run_table_agrees_with_writes(&replies);
+    id_written(&replies, place)
 }
 
 /// Runs commands on an editor without files, and tests if its writes of the root at two indices, from 0, name

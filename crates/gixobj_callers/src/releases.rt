@@ -1,6 +1,6 @@
 //! A signer of commits, and an auditor of releases, who verifies signatures of commits and tags: both by
 //! programs that a runner runs.
-ghost use Rattle.std.specs.Prelude.{◌≡◌, IfErr, IfOk, IfSome, true};
+ghost use Rattle.std.specs.Prelude.{◌≡◌, ℕ, IfErr, IfOk, IfSome, List, true};
 ghost use Rattle.std.specs.Cow.{cow_slice_items};
 ghost use Rattle.gix_object.specs.CommitSigning.{IsCommitEncodingError};
 ghost use Rattle.gix_object.specs.CommitViews.{owned_commit_lines};
@@ -9,9 +9,10 @@ ghost use Rattle.gix_object.specs.Outcomes.{outcome_view};
 ghost use Rattle.gix_object.specs.SignedBytes.{signed_bytes};
 ghost use Rattle.gix_object.specs.Signing as signing;
 ghost use Rattle.gix_object.specs.Verifiers.{verify_options_view};
-ghost use Rattle.gixobj_callers.specs.Releases.{IsOutcomeOfVerifying, FindsSignature, IsAccepted, IsAudit, IsSignedEncoding, IsAuditError, IsSignatureError, IsSignedEncodingError, Vouches};
+ghost use Rattle.gixobj_callers.specs.Releases.{IsOutcomeOfVerifying, FindsSignature, IsAccepted, IsAudit, IsSignedEncoding, IsAuditError, IsObjectSignature, IsSignatureError, IsSignedEncodingError, SignsObject, Vouches};
 
 use bstr::BStr;
+use gix_object::laws::{received_commits_are_signed, received_tags_are_signed};
 use gix_object::signature::verify::{self, Options, Outcome};
 use gix_object::signature::{Runner, SignedData, sign};
 use gix_object::{Commit, CommitRefIter, Kind, TagRefIter, WriteTo, decode, encode, hash};
@@ -74,8 +75,9 @@ pub enum AuditError {
 /// unsigned.
 ///
 /// If the outcome is accepted ([`Outcome::is_valid`]), the signature is of exactly the object's other bytes:
-/// of a commit all but the signature header, of a tag all before the marker. To the stated calls, and no
-/// others, programs answered that it is good. That these answers are true doesn't follow.
+/// of a commit all but the signature header, of a tag all before the marker. The tree and the parents of the
+/// commit, or the target of the tag, are those of the signed bytes. To the stated calls, and no others,
+/// programs answered that the signature is good. That these answers are true doesn't follow.
 ///
 /// # Errors
 ///
@@ -101,6 +103,7 @@ pub fn audit<R: Runner>(
     ensures error { IfErr result (IsAuditError R.runs (verify_options_view options) kind hash_kind
         bytes.now runner.old runner.new) }
 {
+    signature_signs_object(kind, hash_kind, bytes);
     match signature_of(alloc, kind, hash_kind, bytes) {
         Ok(Some((signature, signed))) => {
             match verified(alloc, signature.as_slice(), &signed, options, runner) {
@@ -111,6 +114,16 @@ pub fn audit<R: Runner>(
         Ok(None) => Ok(None),
         Err(error) => Err(error),
     }
+}
+
+/// The bytes that a signature of these bytes signs say what the object says.
+fn signature_signs_object(kind: Kind, hash_kind: hash::Kind, bytes: &[u8])
+    ensures { (signature signed : List ℕ)
+        → IsObjectSignature kind hash_kind bytes.now signature signed
+        → SignsObject kind hash_kind bytes.now signature signed }
+{
+    received_commits_are_signed();
+    received_tags_are_signed();
 }
 
 /// Returns the signature of an object, and what it signs.

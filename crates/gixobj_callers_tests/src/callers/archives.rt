@@ -1,11 +1,11 @@
-//! The tip of an archived history.
+//! Archived histories, and the tip of one.
 
-use crate::import::samples::{COMMITS, STEPS, steps_of};
+use crate::import::samples::{COMMITS, Outcome, STEPS, StepRow, steps_of};
 use gix_object::Memory;
 use gix_object::hash::Kind;
-use gix_object::import::{Imported, Step};
+use gix_object::import::{Imported, Importer, Step};
 use gix_object_tests::samples::id;
-use gixobj_callers::archive::tip_of;
+use gixobj_callers::archive::{archive, tip_of};
 use std::alloc::Global;
 
 /// Id that `git mktree --missing` prints for the root of the last of the three steps.
@@ -31,4 +31,25 @@ fn returns_last_step_as_tip(rt: HostRuntime) {
     let alloc = rt.alloc();
     assert!(rt; has_last(alloc, &steps_of(alloc, &STEPS)) == Some(true));
     assert!(rt; has_last(alloc, &[]).is_none());
+}
+
+/// Archives the steps of these rows.
+fn archived(alloc: Global, rows: &[StepRow]) -> Outcome {
+    let mut importer = Importer::new(alloc, Memory::new(alloc), Kind::Sha1);
+    match archive(&mut importer, &steps_of(alloc, rows)) {
+        Ok(done) => Outcome { done, error: None },
+        Err(stopped) => Outcome {
+            done: stopped.done,
+            error: Some(stopped.error),
+        },
+    }
+}
+
+#[test]
+fn archives_steps_before_rejected_author(rt: HostRuntime) {
+    let alloc = rt.alloc();
+    let [first, second, _] = STEPS;
+    let [one, two, _] = COMMITS;
+    assert!(rt; archived(alloc, &STEPS).has(&COMMITS, 0));
+    assert!(rt; archived(alloc, &[first, second, ("A>", &[])]).has(&[one, two], 5));
 }

@@ -7,7 +7,7 @@ use gix_object::hash::Kind as HashKind;
 use gix_object::laws::{signed_commit_has_payload, signed_tag_has_payload};
 use gix_object::signature::verify::{self, Outcome, TrustLevel};
 use gix_object::signature::{Call, Format, Output, RunError, Runner, sign};
-use gix_object::{Commit, CommitRef, Kind, Tag, TagRef, WriteTo, decode};
+use gix_object::{Commit, CommitRef, CommitRefIter, Kind, Tag, TagRef, WriteTo, decode};
 use gix_object_tests::samples::string_of;
 use gixobj_callers::releases::{AuditError, audit, signed_payload};
 use std::alloc::Global;
@@ -31,6 +31,23 @@ const SIGNED: &[u8] = b"tree 4b825dc642cb6eb9a060e54bf8d69288fbee4904\n\
     \x20\n\
     \x20A\n\
     \x20-----END PGP SIGNATURE-----\n\
+    \nhi\n";
+
+/// A commit without message encoding. After its old signature comes a header of two lines, named `encoding`.
+const FOLDED: &[u8] = b"tree 4b825dc642cb6eb9a060e54bf8d69288fbee4904\n\
+    author A <a@b> 0 +0000\n\
+    committer A <a@b> 0 +0000\n\
+    gpgsig x\n\
+    encoding a\n\
+    \x20b\n\
+    \nhi\n";
+
+/// `FOLDED` without the old signature. It isn't the encoding of a commit: a message encoding has one line.
+const FOLDED_PAYLOAD: &[u8] = b"tree 4b825dc642cb6eb9a060e54bf8d69288fbee4904\n\
+    author A <a@b> 0 +0000\n\
+    committer A <a@b> 0 +0000\n\
+    encoding a\n\
+    \x20b\n\
     \nhi\n";
 
 /// A tag without a signature.
@@ -196,6 +213,53 @@ fn is_signed_by_law(alloc: Global, commit: Commit, payload: &'static [u8], signe
         Ok(commit) => is_commit_encoding(alloc, &commit, signed),
         Err(_) => false,
     }
+}
+
+/// Names the result of the search for a signature in a commit's encoding.
+fn search_name(alloc: Global, content: &[u8]) -> &'static str {
+    match &CommitRefIter::signature(alloc, content, HashKind::Sha1) {
+        Ok(Some((signature, _))) => {
+            if signature.as_slice() == SIGNATURE {
+                "signer's"
+            } else {
+                "another"
+            }
+        }
+        Ok(None) => "no signature",
+        Err(decode::Error::Malformed) => "malformed",
+        Err(_) => "otherwise",
+    }
+}
+
+/// Names the result of the search in the encoding of a decoded commit, after the law of signed commits has
+/// signed it, with this payload.
+fn searched_after_signing(alloc: Global, content: &[u8], payload: &'static [u8]) -> &'static str {
+    let commit = match commit_of(alloc, content) {
+        Some(commit) => commit,
+        None => return "no commit",
+    };
+    let mut runner = runner(
+        alloc,
+        payload,
+        None,
+        (SIGNATURE, b"[GNUPG:] SIG_CREATED x\n"),
+    );
+    let mut encoding = Vec::new(alloc);
+    match signed_commit_has_payload(alloc, commit, signing_options(alloc), &mut runner) {
+        Ok(signed) => match signed.write_to_vec(alloc, &mut encoding) {
+            Ok(()) => search_name(alloc, encoding.as_slice()),
+            Err(_) => "not encoded",
+        },
+        Err(_) => "not signed",
+    }
+}
+
+#[test]
+fn finds_signature_if_signed_commit_decodes(rt: HostRuntime) {
+    let alloc = rt.alloc();
+    assert!(rt; search_name(alloc, FOLDED) == "another");
+    assert!(rt; searched_after_signing(alloc, PLAIN, PLAIN) == "signer's");
+    assert!(rt; searched_after_signing(alloc, FOLDED, FOLDED_PAYLOAD) == "malformed");
 }
 
 /// Whether the encoding of a tag is `wanted`.

@@ -1,13 +1,13 @@
-//! Trees to upload for the files of an editor, and comparisons of two writes of a script.
+//! Trees to upload for the files of an editor, and writes of a script that are rebuilt and compared.
 
 use super::plans::stored;
 use super::{FIRST, SECOND};
-use gix_object::hash::Kind;
+use gix_object::hash::{Kind, ObjectId};
 use gix_object::tree::editor::{Command, Edit, Editor, WriteError};
 use gix_object::{Memory, Tree, encode};
 use gix_object_tests::samples::{Row, edits_of, id};
 use gixobj_callers::planner::root_in;
-use gixobj_callers::rebuilder::{CompareError, wrote_the_same};
+use gixobj_callers::rebuilder::{CompareError, rebuild, wrote_the_same};
 use gixobj_callers::upload::{Upload, upload_of};
 use std::alloc::Global;
 
@@ -148,4 +148,36 @@ fn compares_writes_at_two_positions(rt: HostRuntime) {
     assert!(rt; compared(alloc, 1, 3) == Some(false));
     assert!(rt; without_write(alloc, 0, 6) == Some(0));
     assert!(rt; without_write(alloc, 1, 6) == Some(6));
+}
+
+/// Id that `git mktree --missing` prints for the file `a/b` with the first id.
+const WITH_B: &[u8] = b"5402bd8062856e83ade50b9be4aafcb8717cc232";
+
+/// Id that `git mktree --missing` prints for the files `a/b` and `a/c` with the first id.
+const WITH_C: &[u8] = b"85a28e8cd9a95ec694f26a0ec14192e57fef1c9a";
+
+/// The root that the script writes at a position.
+fn rebuilt(alloc: Global, place: usize) -> Result<ObjectId, CompareError> {
+    let commands = script(alloc);
+    let store = Memory::new(alloc);
+    let out = |tree: &Tree| tree.compute_id(alloc, Kind::Sha1);
+    rebuild(alloc, store, Kind::Sha1, commands, place, out)
+}
+
+/// Whether the script has no write at a position.
+fn has_no_write(alloc: Global, place: usize) -> bool {
+    match rebuilt(alloc, place) {
+        Err(CompareError::NoWrite { place: at }) => at == place,
+        _ => false,
+    }
+}
+
+#[test]
+fn rebuilds_root_of_each_write(rt: HostRuntime) {
+    let alloc = rt.alloc();
+    assert!(rt; rebuilt(alloc, 1).ok() == Some(id(WITH_B)));
+    assert!(rt; rebuilt(alloc, 3).ok() == Some(id(WITH_C)));
+    assert!(rt; rebuilt(alloc, 5).ok() == Some(id(WITH_B)));
+    assert!(rt; has_no_write(alloc, 0));
+    assert!(rt; has_no_write(alloc, 6));
 }
