@@ -8,6 +8,8 @@ mod editor;
 #[cfg(test)]
 mod listing;
 #[cfg(test)]
+mod more_tasks;
+#[cfg(test)]
 mod ordinary_lists;
 #[cfg(test)]
 mod public_paths;

@@ -126,8 +126,9 @@ mod of_laws_of_messages {
 mod of_laws_of_signatures {
     pub use gix_object::laws::{
         commit_payloads_are_signed, marker_position_is_unique, owned_commits_have_line_fields,
-        signature_format_is_unique, signed_commit_has_payload, signed_tag_has_payload,
-        tag_payloads_are_signed, tag_signatures_agree,
+        received_commits_are_signed, received_tags_are_signed, signature_format_is_unique,
+        signed_commit_has_payload, signed_tag_has_payload, tag_payloads_are_signed,
+        tag_signatures_agree,
     };
 }
 

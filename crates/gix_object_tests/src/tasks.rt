@@ -1,15 +1,22 @@
-//! Calls each example of docs/CALLING.md once. That document prints the files without their head comments.
+//! Calls examples of docs/GUIDE.md once. That document prints the files without their head comments.
 
+pub mod batches;
 mod clauses;
 mod commits;
+pub mod depths;
+pub mod differences;
 mod editors;
 mod edits;
 mod entries;
 mod headers;
+pub mod histories;
 mod ids;
 mod imports;
 mod listing;
 mod loose;
+pub mod memories;
+pub mod names;
+pub mod one_error;
 mod paths;
 mod rewording;
 mod runners;
@@ -20,6 +27,7 @@ mod streams;
 mod tags;
 mod tokens;
 mod trailers;
+pub mod values;
 mod verifying;
 mod walks;
 mod writes;
@@ -33,26 +41,26 @@ use gix_object::tree::editor::{Editor, Error};
 use gix_object::{Commit, CommitRef, Data, Exists, Find, Kind, Memory, OutOfMemory, Tree, decode};
 use std::alloc::Global;
 
-const BLOB: &[u8] = b"ce013625030ba8dba906f756967f9e9ca394464a";
+pub const BLOB: &[u8] = b"ce013625030ba8dba906f756967f9e9ca394464a";
 
 /// Id that `git mktree` prints for the file `a.txt` with this blob and for `run.sh`, empty and executable.
-const TREE: &[u8] = b"6a1189fc1d3cfd1b49810fec0ce01390b8239044";
+pub const TREE: &[u8] = b"6a1189fc1d3cfd1b49810fec0ce01390b8239044";
 
-const TREE_BYTES: &[u8] = b"100644 a.txt\0\
+pub const TREE_BYTES: &[u8] = b"100644 a.txt\0\
     \xce\x01\x36\x25\x03\x0b\xa8\xdb\xa9\x06\xf7\x56\x96\x7f\x9e\x9c\xa3\x94\x46\x4a\
     100755 run.sh\0\
     \xe6\x9d\xe2\x9b\xb2\xd1\xd6\x43\x4b\x8b\x29\xae\x77\x5a\xd8\xc2\xe4\x8c\x53\x91";
 
 /// Id that `git hash-object -t commit` prints for the first commit.
-const FIRST: &[u8] = b"cfe258e596ae478f05508755d7b1559681b5833a";
+pub const FIRST: &[u8] = b"cfe258e596ae478f05508755d7b1559681b5833a";
 
-const FIRST_BYTES: &[u8] = b"tree 4b825dc642cb6eb9a060e54bf8d69288fbee4904\n\
+pub const FIRST_BYTES: &[u8] = b"tree 4b825dc642cb6eb9a060e54bf8d69288fbee4904\n\
     author A <a@b> 0 +0000\n\
     committer A <a@b> 0 +0000\n\
     \nfirst\n";
 
 /// The second commit, a child of the first.
-const SECOND_BYTES: &[u8] = b"tree 6a1189fc1d3cfd1b49810fec0ce01390b8239044\n\
+pub const SECOND_BYTES: &[u8] = b"tree 6a1189fc1d3cfd1b49810fec0ce01390b8239044\n\
     parent cfe258e596ae478f05508755d7b1559681b5833a\n\
     author A U Thor <a@b> 7 +0100\n\
     committer A <a@b> 8 +0000\n\
@@ -226,7 +234,7 @@ fn store(alloc: Global) -> Result<Memory, OutOfMemory> {
 }
 
 /// Id that `git hash-object -t commit` prints for the second commit.
-const SECOND: &[u8] = b"df0d5713d06ef4f4e7699d6813312b896de0436b";
+pub const SECOND: &[u8] = b"df0d5713d06ef4f4e7699d6813312b896de0436b";
 
 /// Whether the second commit has this ancestor, or none, `generations` commits before it.
 fn is_ancestor(

@@ -1,0 +1,218 @@
+//! Calls more examples of docs/GUIDE.md once: values from nothing, stores in memory, work lists.
+
+use crate::samples::{id, path_of, string_of, tree_of};
+use crate::tasks::{
+    BLOB, FIRST, FIRST_BYTES, SECOND, SECOND_BYTES, TREE, TREE_BYTES, batches, depths, differences,
+    histories, memories, names, one_error, values,
+};
+use bstr::BString;
+use gix_object::find::existing_object::Error;
+use gix_object::hash::{Kind as HashKind, ObjectId};
+use gix_object::tree::EntryKind;
+use gix_object::{Header, Keep, Kind, Memory, OutOfMemory};
+use std::alloc::Global;
+
+/// Whether the store has the blob, and no object has the id of the first commit.
+fn has_blob(alloc: Global, store: &Memory, blob: ObjectId) -> bool {
+    let mut buffer = Vec::new(alloc);
+    let content = memories::content_of(alloc, store, blob, &mut buffer).ok();
+    content == Some(b"hello\n".as_slice())
+        && memories::header_of(store, id(FIRST)).ok() == Some(None)
+}
+
+/// Whether the store has the tree.
+fn has_tree(store: &Memory, tree: ObjectId) -> bool {
+    let header = Header {
+        kind: Kind::Tree,
+        size: 67,
+    };
+    memories::header_of(store, tree).ok() == Some(Some(header))
+}
+
+/// Whether a blob and a tree are found after they were inserted.
+fn are_stored(alloc: Global) -> bool {
+    match memories::store_of(alloc, b"hello\n", TREE_BYTES) {
+        Ok((store, blob, tree)) => {
+            blob == id(BLOB) && has_blob(alloc, &store, blob) && has_tree(&store, tree)
+        }
+        Err(_) => false,
+    }
+}
+
+#[test]
+fn looks_up_inserted_objects(rt: HostRuntime) {
+    assert!(rt; are_stored(rt.alloc()));
+}
+
+/// `git hash-object -t tag` prints the id of the tag.
+#[test]
+fn encodes_values_from_nothing(rt: HostRuntime) {
+    let tag = id(b"17a06e40c0cab9c675740072ef2b116b2a6a51d4");
+    assert!(rt; values::tag_id(rt.alloc(), id(BLOB), id(FIRST)).ok() == Some(tag));
+}
+
+/// Whether a path has these names.
+fn has_names(alloc: Global, path: &[u8], wanted: &[&str]) -> bool {
+    match names::names_of(alloc, path) {
+        Ok(names) => names == path_of(alloc, wanted),
+        Err(_) => false,
+    }
+}
+
+#[test]
+fn splits_path_into_names(rt: HostRuntime) {
+    let alloc = rt.alloc();
+    assert!(rt; has_names(alloc, b"a/b/c", &["a", "b", "c"]));
+    assert!(rt; has_names(alloc, b"/docs//a.txt/", &["docs", "a.txt"]));
+    assert!(rt; has_names(alloc, b"", &[]));
+}
+
+/// A store of both commits and of the tree of the second.
+fn store(alloc: Global) -> Result<Memory, OutOfMemory> {
+    let mut store = Memory::new(alloc);
+    store.insert(Kind::Tree, HashKind::Sha1, TREE_BYTES)?;
+    store.insert(Kind::Commit, HashKind::Sha1, FIRST_BYTES)?;
+    store.insert(Kind::Commit, HashKind::Sha1, SECOND_BYTES)?;
+    Ok(store)
+}
+
+/// Id that `git mktree` prints for `a.txt`, `docs` with `c.txt`, and `run.sh`.
+const WITH_FILE: &[u8] = b"a759b0b839da5bd7e992c70eeac3d50514b37a45";
+
+/// Whether the tree of the second commit with one more file has its id.
+fn is_extended(alloc: Global, store: &Memory) -> bool {
+    let path = path_of(alloc, &["docs", "c.txt"]);
+    let with_file = one_error::tree_with(alloc, store, id(SECOND), &path, id(BLOB));
+    with_file.ok() == Some(id(WITH_FILE))
+}
+
+/// Whether the lookup of a commit fails if the id names a tree.
+fn needs_commit(alloc: Global, store: &Memory) -> bool {
+    let path = path_of(alloc, &["docs"]);
+    match one_error::tree_with(alloc, store, id(TREE), &path, id(BLOB)) {
+        Err(one_error::ToolError::Find(_)) => true,
+        _ => false,
+    }
+}
+
+#[test]
+fn converts_errors_of_tool(rt: HostRuntime) {
+    let alloc = rt.alloc();
+    let store = store(alloc).unwrap_or(Memory::new(alloc));
+    assert!(rt; is_extended(alloc, &store));
+    assert!(rt; needs_commit(alloc, &store));
+}
+
+/// Whether `history` lists these commits, in order.
+fn lists(alloc: Global, store: &Memory, max_commits: u32, wanted: &[ObjectId]) -> bool {
+    match histories::history(alloc, store, id(SECOND), max_commits) {
+        Ok(Some(commits)) => commits.as_slice() == wanted,
+        _ => false,
+    }
+}
+
+/// Whether the history exceeds a bound.
+fn exceeds(alloc: Global, store: &Memory, max_commits: u32) -> bool {
+    histories::history(alloc, store, id(SECOND), max_commits).ok() == Some(None)
+}
+
+#[test]
+fn lists_history_up_to_bound(rt: HostRuntime) {
+    let alloc = rt.alloc();
+    let store = store(alloc).unwrap_or(Memory::new(alloc));
+    assert!(rt; lists(alloc, &store, 2, &[id(SECOND), id(FIRST)]));
+    assert!(rt; exceeds(alloc, &store, 1));
+}
+
+/// Whether the second commit's parent is found among objects.
+fn finds_parent(alloc: Global, objects: &[(Kind, &[u8])]) -> bool {
+    let parent = batches::ancestor_in(alloc, objects, id(SECOND), 1);
+    parent.ok() == Some(Some(id(FIRST)))
+}
+
+/// Whether the lookup of a commit that isn't among the objects fails.
+fn lacks_commit(alloc: Global, objects: &[(Kind, &[u8])]) -> bool {
+    match batches::ancestor_in(alloc, objects, id(SECOND), 2) {
+        Err(Error::NotFound { oid }) => oid == id(FIRST),
+        _ => false,
+    }
+}
+
+#[test]
+fn inserts_objects_on_demand(rt: HostRuntime) {
+    let alloc = rt.alloc();
+    let first: (Kind, &[u8]) = (Kind::Commit, FIRST_BYTES);
+    let second: (Kind, &[u8]) = (Kind::Commit, SECOND_BYTES);
+    assert!(rt; finds_parent(alloc, &[first, second]));
+    assert!(rt; lacks_commit(alloc, &[second]));
+}
+
+/// Id that `git mktree` prints for the directory `docs` of the tree, and a file `z.txt`.
+const NESTED: &[u8] = b"805d1ea513536df94ee76b5baab4a68c5a2de7da";
+
+/// A store in which a tree has itself as an entry.
+fn endless(alloc: Global) -> Memory {
+    let mut store = Memory::new(alloc);
+    let tree = tree_of(alloc, &[(EntryKind::Tree, b"loop", id(TREE))]);
+    let _ = store.keep(id(TREE), &tree);
+    store
+}
+
+/// A store of the tree, and of a tree in which it is the directory `docs`.
+fn nested(alloc: Global) -> Memory {
+    let mut store = store(alloc).unwrap_or(Memory::new(alloc));
+    let docs = (EntryKind::Tree, b"docs".as_slice(), id(TREE));
+    let file = (EntryKind::Blob, b"z.txt".as_slice(), id(BLOB));
+    let _ = store.keep(id(NESTED), &tree_of(alloc, &[docs, file]));
+    store
+}
+
+/// Whether the last of three files below the nested tree is the script.
+fn is_listed(alloc: Global, store: &Memory) -> bool {
+    match depths::files_below(alloc, store, id(NESTED), 2) {
+        Ok(Some(files)) => files.len() == 3 && is_script(alloc, files.last()),
+        _ => false,
+    }
+}
+
+/// Whether the found file is the script in the directory.
+fn is_script(alloc: Global, found: Option<&(BString, ObjectId)>) -> bool {
+    match found {
+        Some((path, _)) => *path == string_of(alloc, b"docs/run.sh"),
+        None => false,
+    }
+}
+
+/// Whether the list of a tree that contains itself ends at a bound.
+fn ends(alloc: Global, store: &Memory) -> bool {
+    match depths::files_below(alloc, store, id(TREE), 3) {
+        Ok(found) => found.is_none(),
+        Err(_) => false,
+    }
+}
+
+#[test]
+fn lists_trees_to_every_depth(rt: HostRuntime) {
+    let alloc = rt.alloc();
+    assert!(rt; is_listed(alloc, &nested(alloc)));
+    assert!(rt; ends(alloc, &endless(alloc)));
+}
+
+/// A tree of the file `a.txt`, empty.
+const EMPTIED_BYTES: &[u8] = b"100644 a.txt\0\
+    \xe6\x9d\xe2\x9b\xb2\xd1\xd6\x43\x4b\x8b\x29\xae\x77\x5a\xd8\xc2\xe4\x8c\x53\x91";
+
+/// Whether each of two trees has this number of entries in which they differ.
+fn differ(alloc: Global, before: &[u8], after: &[u8], counts: (usize, usize)) -> bool {
+    match differences::compare(alloc, before, after) {
+        Ok(found) => (found.before.len(), found.after.len()) == counts,
+        Err(_) => false,
+    }
+}
+
+#[test]
+fn lists_entries_that_differ(rt: HostRuntime) {
+    let alloc = rt.alloc();
+    assert!(rt; differ(alloc, TREE_BYTES, EMPTIED_BYTES, (2, 1)));
+    assert!(rt; differ(alloc, TREE_BYTES, TREE_BYTES, (0, 0)));
+}
