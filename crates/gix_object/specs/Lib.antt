@@ -146,10 +146,12 @@ pub use Rattle.gixobj_text.specs.Trailers
 pub use Rattle.gixobj_text.specs.Unfolding
 pub use Rattle.gixobj_text.specs.declared as message
 pub use Rattle.gixobj_tree.specs.Entries
+pub use Rattle.gixobj_tree.specs.KeyOrder
 pub use Rattle.gixobj_tree.specs.EntryOrder
 pub use Rattle.gixobj_tree.specs.Rewriting as TreeRewriting
 pub use Rattle.gixobj_tree.specs.TreeDecoding
 pub use Rattle.gixobj_tree.specs.TreeEncoding
+pub use Rattle.gixobj_tree.specs.TreeSizes
 pub use Rattle.gixobj_tree.specs.TreeViews
 pub use Rattle.gixobj_tree.specs.WellFormed
 pub use Rattle.gixobj_tree.specs.declared as tree

@@ -21,7 +21,9 @@ pub use Rattle.gixobj_mode.specs.Mode
 pub use Rattle.gixobj_mode.specs.ModeNumber
 pub use Rattle.gixobj_mode.specs.declared as mode
 pub use Rattle.gixobj_tree.specs.Entries
+pub use Rattle.gixobj_tree.specs.KeyOrder
 pub use Rattle.gixobj_tree.specs.EntryOrder
 pub use Rattle.gixobj_tree.specs.TreeEncoding
+pub use Rattle.gixobj_tree.specs.TreeSizes
 pub use Rattle.gixobj_tree.specs.WellFormed
 pub use Rattle.gixobj_tree.specs.declared as tree

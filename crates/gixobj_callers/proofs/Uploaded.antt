@@ -3,7 +3,8 @@ use Rattle.std.proofs.Common.{◌≡◌, ◌≢◌, ◌<◌, ◌+◌, ◌∙◌,
 use Rattle.std.proofs.lemmas.List.{append-nil, get_or-map, length-map, map-append}
 use Rattle.std.proofs.lemmas.List.Elements.{All-append, All-cons, All-map, All-nil, All-weaker, Contains-append_left, Contains-append_right}
 use Rattle.std.specs.List.{AllByRecursion}
-use Rattle.gix_object.specs.Entries.{Pair, EachLater, EntryView, IsWellFormed}
+use Rattle.gix_object.specs.Entries.{Pair, EntryView}
+use Rattle.gix_object.specs.WellFormed.{EachLater, IsWellFormed}
 use Rattle.gix_object.specs.Edits.{raised}
 use Rattle.gix_object.specs.Files.{ContainsEntry, Path}
 use Rattle.gix_object.specs.Emission.{Emits, EmitsBelow, EmitsEntries, left_out_if_empty, end, of_entries, unopened, unchanged, written}

@@ -6,7 +6,7 @@ use Rattle.gix_object.specs.Runs.{Ending, complete, yields_end, yields_piece}
 use Rattle.gix_object.specs.TagReaders.{AreTokensOfTag, IsOptionalToken, IsAfterName, misses_body, misses_nothing, misses_tagger_and_body}
 use Rattle.gix_object.specs.TagFormat.{DecodesToTag, TagLines}
 use Rattle.gix_object.specs.TagTokenSteps.{NextTagToken, IsAtStartOfTag, YieldsTagTokens, tag_reader_state, tag_token_id}
-use Rattle.gix_object.specs.TagTokens.{HasTagToken, TagTokenView, kind_token, name_token, tag_token_view, target_token}
+use Rattle.gix_object.specs.TagTokens.{BeginsWithTagToken, TagTokenView, kind_token, name_token, tag_token_view, target_token}
 use Rattle.gix_object.specs.hash.hash.kind.Kind.{Kind}
 use Rattle.gix_object.specs.hash.hash.object_id.ObjectId.{ObjectId}
 use Rattle.gix_object.specs.ref_iter.tag.State.{State}
@@ -19,8 +19,8 @@ use Rattle.gixobj_callers.specs.Yielded.{IsToYield}
 
 abbrev OneToken : Type 0
 OneToken = (kind : Kind) (before : State) (input : List ℕ) (token token' : TagTokenView) (following after' : State) (rest rest' : List ℕ)
-    → HasTagToken kind before input token following rest
-    → HasTagToken kind before input token' after' rest' → (token ≡ token') × (following ≡ after') × (rest ≡ rest')
+    → BeginsWithTagToken kind before input token following rest
+    → BeginsWithTagToken kind before input token' after' rest' → (token ≡ token') × (following ≡ after') × (rest ≡ rest')
 
 abbrev OneRun : Type 0
 OneRun = (kind : Kind) (before : State) (input : List ℕ) (tokens tokens' : List TagTokenView) (ending ending' : Ending)
@@ -34,7 +34,7 @@ IsKnown = (kind : Kind) (content : List ℕ) (tag : TagLines) → DecodesToTag k
 -- ---- one call, if tokens remain
 
 yielded_on : OneToken → (kind kind' : Kind) (before after : State) (input rest : List ℕ) (token first : TagTokenView) (others : List TagTokenView)
-    → HasTagToken kind before input token after rest → kind' ≡ kind
+    → BeginsWithTagToken kind before input token after rest → kind' ≡ kind
     → YieldsTagTokens kind before input (first ∷ others) complete → (token ≡ first) × YieldsTagTokens kind' after rest others complete
 yielded_on one kind kind' before after input rest token first others has same (yields_piece _ following _ remaining _ _ _ comes more) =
     let it = one kind before input token first after following rest remaining has comes in

@@ -1,6 +1,7 @@
 -- Plans, which insert an entry into a stored root, and then write.
 use Rattle.std.specs.Prelude.{◌≡◌, ◌≢◌, ℕ, Bool, List, []}
-use Rattle.gix_object.specs.Entries.{Pair, EntryView, IsWellFormed}
+use Rattle.gix_object.specs.Entries.{Pair, EntryView}
+use Rattle.gix_object.specs.WellFormed.{IsWellFormed}
 use Rattle.gix_object.specs.Stores.{StoreModel, Objects}
 use Rattle.gix_object.specs.Openings.{OfTrees, NamesMalformed, NamesTree}
 use Rattle.gix_object.specs.Existing.{IsEmptyId, NamesSuch, IsFindObjectError}

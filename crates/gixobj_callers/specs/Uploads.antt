@@ -1,6 +1,7 @@
 -- Uploads, by the open directories of an editor that a write emits, and those that the store has already.
 use Rattle.std.specs.Prelude.{◌≡◌, ◌≢◌, ◌⊎◌, ◌++◌, ◌∷◌, ℕ, All, Contains, IsFalse, List, [], Some, length, map}
-use Rattle.gix_object.specs.Entries.{Pair, EachLater, EntryView}
+use Rattle.gix_object.specs.Entries.{Pair, EntryView}
+use Rattle.gix_object.specs.WellFormed.{EachLater}
 use Rattle.gix_object.specs.Bases.{HasBases}
 use Rattle.gix_object.specs.Edits.{raised}
 use Rattle.gix_object.specs.Files.{FileSet, NamedFiles, Path, SameFiles, Table}

@@ -3,7 +3,7 @@ ghost use Rattle.std.specs.Prelude.{◌≡◌, ℕ, IfErr, IfOk, OnOk};
 ghost use Rattle.gix_object.specs.Calls.{answered, denied, IsCallableOnTrees, names_of};
 ghost use Rattle.gix_object.specs.Openings.{OfTrees, AreTreesOf};
 ghost use Rattle.gix_object.specs.Cursors.{cursor_path};
-ghost use Rattle.gix_object.specs.Entries.{IsWellFormed};
+ghost use Rattle.gix_object.specs.WellFormed.{IsWellFormed};
 ghost use Rattle.gix_object.specs.Files.{Files, NamedFiles, SameFiles, Table, Trees};
 ghost use Rattle.gix_object.specs.History.{FilesAfter};
 ghost use Rattle.gix_object.specs.Tables.{AgreesWithPairs, AgreesWithStore};

@@ -15,12 +15,12 @@ use Rattle.gixobj_commit.specs.ExtraHeaders.{signature_field}
 use Rattle.gixobj_fields.proofs.HeaderFields.{header_unique}
 use Rattle.gixobj_fields.proofs.HeadersRoundTrip.{header_round_trips}
 use Rattle.gixobj_fields.specs.FieldWriting.{encode_header, value_lines}
-use Rattle.gixobj_fields.specs.HeaderFormat.{EndsHeader, HasField, HasHeader, Header, IsHeaderName, DecodesToHeader, encode_field, encode_continuation, encode_line, value_of_lines}
+use Rattle.gixobj_fields.specs.HeaderFormat.{EndsHeader, BeginsWithField, BeginsWithHeader, Header, IsHeaderName, DecodesToHeader, encode_field, encode_continuation, encode_line, value_of_lines}
 use Rattle.gixobj_fields.specs.Runs.{Passes}
 use Rattle.gixobj_hash.specs.declared.hash.kind.Kind.{Kind}
 use Rattle.gixobj_hash.specs.declared.hash.kind.Kind.TheVariants as hash
 use Rattle.gixobj_line.specs.Commit.{DecodesToHeaders, CommitLines, before_encoding, encode_encoding, encode_ids, encode_parent}
-use Rattle.gixobj_line.specs.Lines.{HasLine, LineView, author_comes, committer_comes, encoding_comes, first_header_comes, first_message_comes, header_comes, header_line, message_comes, parent_comes, tree_comes}
+use Rattle.gixobj_line.specs.Lines.{BeginsWithLine, LineView, author_comes, committer_comes, encoding_comes, first_header_comes, first_message_comes, header_comes, header_line, message_comes, parent_comes, tree_comes}
 use Rattle.gixobj_line.specs.declared.lines.State.{State}
 use Rattle.gixobj_line.specs.declared.lines.State.TheVariants as state
 use Rattle.gixobj_hash.specs.Bytes.{newline, space}
@@ -49,13 +49,13 @@ ends_before leading one rest (h ∷ hs) header (first, more, joined, written, ot
     (subst EndsHeader (sym (append_assoc first more (one ++ rest))) (ends_header_append first (more ++ (one ++ rest)) h written))
 
 pub has_header_last : (leading one rest : List ℕ) (header : Header) → leading ≡ [] → DecodesToHeader one header → EndsHeader rest
-    → HasHeader (leading ++ (one ++ rest)) header rest
+    → BeginsWithHeader (leading ++ (one ++ rest)) header rest
 has_header_last leading one rest header none is ends =
     record { encoded = one; joined = ap (λ (it : List ℕ). it ++ (one ++ rest)) none; written = is; ends = ends }
 
 pub has_header_before_last : (leading first more one rest : List ℕ) (h header : Header) (hs : List Header) → leading ≡ first ++ more → DecodesToHeader first h
     → DecodesToHeaders more hs → DecodesToHeader one header
-    → HasHeader (leading ++ (one ++ rest)) h (more ++ (one ++ rest))
+    → BeginsWithHeader (leading ++ (one ++ rest)) h (more ++ (one ++ rest))
 has_header_before_last leading first more one rest h header hs joined written others is = record {
   encoded = first;
   joined = ap (λ (it : List ℕ). it ++ (one ++ rest)) joined ∙ append_assoc first more (one ++ rest);
@@ -71,22 +71,22 @@ pub signature_split_unique : (name : List ℕ) (ps qs : List Header) (p q : Head
     → fp ++ (op ++ rp) ≡ fq ++ (oq ++ rq) → (fp ++ rp ≡ fq ++ rq) × (p ≡ q) × (rp ≡ rq)
 signature_split_unique name [] [] p q fp op rp fq oq rq np ap_ wp namep ep nq aq wq nameq eq same =
     let e = header_unique (fp ++ (op ++ rp)) p q rp rq (has_header_last fp op rp p np wp ep)
-    (subst (λ (it : List ℕ). HasHeader it q rq) (sym same) (has_header_last fq oq rq q nq wq eq)) in
+    (subst (λ (it : List ℕ). BeginsWithHeader it q rq) (sym same) (has_header_last fq oq rq q nq wq eq)) in
     (ap (λ (it : List ℕ). it ++ rp) np ∙ e.1 ∙ sym (ap (λ (it : List ℕ). it ++ rq) nq), e.0, e.1)
 signature_split_unique name [] (k ∷ ks) p q fp op rp fq oq rq np ap_ wp namep ep (first, more, joined, written, others) aq wq nameq eq same =
     let e = header_unique (fp ++ (op ++ rp)) p k rp (more ++ (oq ++ rq)) (has_header_last fp op rp p np wp ep)
-    (subst (λ (it : List ℕ). HasHeader it k (more ++ (oq ++ rq))) (sym same) (has_header_before_last fq first more oq rq k q ks joined written others wq)) in
+    (subst (λ (it : List ℕ). BeginsWithHeader it k (more ++ (oq ++ rq))) (sym same) (has_header_before_last fq first more oq rq k q ks joined written others wq)) in
     absurd (All-head (λ (h : Header). h.name ≢ name) k ks aq (sym (ap (λ (h : Header). h.name) e.0) ∙ namep))
 signature_split_unique name (k ∷ ks) [] p q fp op rp fq oq rq (first, more, joined, written, others) ap_ wp namep ep nq aq wq nameq eq same =
     let e = header_unique (fp ++ (op ++ rp)) k q (more ++ (op ++ rp)) rq (has_header_before_last fp first more op rp k p ks joined written others wp)
-    (subst (λ (it : List ℕ). HasHeader it q rq) (sym same) (has_header_last fq oq rq q nq wq eq)) in
+    (subst (λ (it : List ℕ). BeginsWithHeader it q rq) (sym same) (has_header_last fq oq rq q nq wq eq)) in
     absurd (All-head (λ (h : Header). h.name ≢ name) k ks ap_ (ap (λ (h : Header). h.name) e.0 ∙ nameq))
 signature_split_unique name (k ∷ ks) (j ∷ js) p q fp op rp fq oq rq (first, more, joined, written, others) ap_ wp namep ep
     (first', more', joined', written', others') aq wq
     nameq eq same =
     let e = header_unique (fp ++ (op ++ rp)) k j (more ++ (op ++ rp)) (more' ++ (oq ++ rq))
     (has_header_before_last fp first more op rp k p ks joined written others wp)
-    (subst (λ (it : List ℕ). HasHeader it j (more' ++ (oq ++ rq))) (sym same)
+    (subst (λ (it : List ℕ). BeginsWithHeader it j (more' ++ (oq ++ rq))) (sym same)
     (has_header_before_last fq first' more' oq rq j q js joined' written' others' wq)) in
     let firsts : first ≡ first' = sym (header_round_trips first k written) ∙ ap encode_header e.0 ∙ header_round_trips first' j written' in
     let rests : (more ++ rp ≡ more' ++ rq) × (p ≡ q) × (rp ≡ rq) = signature_split_unique name ks js p q more op rp more' oq rq others
@@ -230,12 +230,12 @@ IsBlockLine kind content next after = ((next ≡ state.End) × ((message : List 
     ⊎ ((one : List ℕ) × (content ≡ one ++ after) × Blocks (signature_field kind) one)
 
 field_line : (kind : Kind) (name content value : List ℕ) (next : State) (after : List ℕ) → IsHeaderName name → name ≢ signature_field kind
-    → HasField name content value after → IsBlockLine kind content next after
+    → BeginsWithField name content value after → IsBlockLine kind content next after
 field_line kind name content value next after named other has =
     inr (encode_field name value, has.joined, field_block kind name value named other has.one_line)
 
 pub block_line_of_header : (kind : Kind) (here : State) (content : List ℕ) (line : LineView) (next : State) (after : List ℕ)
-    → HasLine kind here content line next after
+    → BeginsWithLine kind here content line next after
     → ¬ IsNamedLine (signature_field kind) line → IsBlockLine kind content next after
 block_line_of_header kind here content line next after (tree_comes _ hex _ has) other = field_line kind (codes "tree") content hex state.Parents after tree_name
     (tree_other kind) has.0
@@ -256,7 +256,7 @@ block_line_of_header kind here content line next after (first_message_comes _ me
 block_line_of_header kind here content line next after (message_comes _ message is) other = inl (refl, (message, is))
 
 no_line_at_end : (kind : Kind) (here : State) (content : List ℕ) (line : LineView) (next : State) (after : List ℕ) → here ≡ state.End
-    → HasLine kind here content line next after → ⊥
+    → BeginsWithLine kind here content line next after → ⊥
 no_line_at_end kind here content line next after is (tree_comes _ hex _ has) = cc is
 no_line_at_end kind here content line next after is (parent_comes _ hex _ has) = cc is
 no_line_at_end kind here content line next after is (author_comes _ actor _ has) = cc is
@@ -269,7 +269,7 @@ no_line_at_end kind here content line next after is (message_comes _ message sam
 
 nothing_after_end : (kind : Kind) (lines : List LineView) (next : State) (after : List ℕ) (before : State) (input : List ℕ) (line : LineView)
     (next_state : State) (rest : List ℕ)
-    → next ≡ state.End → Passes (HasLine kind) next after lines before input → HasLine kind before input line next_state rest → ⊥
+    → next ≡ state.End → Passes (BeginsWithLine kind) next after lines before input → BeginsWithLine kind before input line next_state rest → ⊥
 nothing_after_end kind [] next after before input line next_state rest is passes comes = no_line_at_end kind before input line next_state rest
     (sym passes.0 ∙ is) comes
 nothing_after_end kind (first ∷ lines) next after before input line next_state rest is (n, a, has, more) comes =
@@ -282,7 +282,7 @@ BlocksBefore kind content input = (leading : List ℕ) × (content ≡ leading +
 with_line : (kind : Kind) (lines : List LineView) (content : List ℕ) (next : State) (after : List ℕ) (before : State) (input : List ℕ)
     (line : LineView)
     (next_state : State) (rest : List ℕ)
-    → IsBlockLine kind content next after → Passes (HasLine kind) next after lines before input → HasLine kind before input line next_state rest
+    → IsBlockLine kind content next after → Passes (BeginsWithLine kind) next after lines before input → BeginsWithLine kind before input line next_state rest
     → BlocksBefore kind after input → BlocksBefore kind content input
 unfolding BlocksBefore
 with_line kind lines content next after before input line next_state rest (inl (is, (message, same))) passes comes blocks =
@@ -297,8 +297,8 @@ with_line kind lines content next after before input line next_state rest (inr (
 blocks_before : (kind : Kind) (lines : List LineView) (here : State) (content : List ℕ) (before : State) (input : List ℕ) (line : LineView)
     (next_state : State)
     (rest : List ℕ)
-    → Passes (HasLine kind) here content lines before input → All (λ it. ¬ IsNamedLine (signature_field kind) it) lines
-    → HasLine kind before input line next_state rest → BlocksBefore kind content input
+    → Passes (BeginsWithLine kind) here content lines before input → All (λ it. ¬ IsNamedLine (signature_field kind) it) lines
+    → BeginsWithLine kind before input line next_state rest → BlocksBefore kind content input
 unfolding BlocksBefore
 blocks_before kind [] here content before input line next_state rest passes others comes = ([], passes.1, blocks_nil (signature_field kind))
 blocks_before kind (first ∷ lines) here content before input line next_state rest (next, after, has, more) others comes =
@@ -312,14 +312,14 @@ blocks_before kind (first ∷ lines) here content before input line next_state r
 pub before_header : (kind : Kind) (lines : List LineView) (here : State) (content : List ℕ) (before : State) (input : List ℕ) (line : LineView)
     (next_state : State)
     (rest : List ℕ)
-    → Passes (HasLine kind) here content lines before input → All (λ it. ¬ IsNamedLine (signature_field kind) it) lines
-    → HasLine kind before input line next_state rest → (leading : List ℕ) × (content ≡ leading ++ input) × Blocks (signature_field kind) leading
+    → Passes (BeginsWithLine kind) here content lines before input → All (λ it. ¬ IsNamedLine (signature_field kind) it) lines
+    → BeginsWithLine kind before input line next_state rest → (leading : List ℕ) × (content ≡ leading ++ input) × Blocks (signature_field kind) leading
 unfolding BlocksBefore
 before_header kind lines here content before input line next_state rest passes others comes =
     blocks_before kind lines here content before input line next_state rest passes others comes
 
 pub header_here : (kind : Kind) (before : State) (input : List ℕ) (header : Header) (next_state : State) (rest : List ℕ)
-    → HasLine kind before input (header_line header) next_state rest → HasHeader input header rest
+    → BeginsWithLine kind before input (header_line header) next_state rest → BeginsWithHeader input header rest
 header_here kind before input header next_state rest (first_header_comes _ _ _ has unlike) = has
 header_here kind before input header next_state rest (header_comes _ _ _ has) = has
 
@@ -453,7 +453,7 @@ module _ (kind : Kind) (commit : CommitLines) (bytes : List ℕ) (named : HasHea
   signature_extracted value signed has =
       let read = before_header kind has.passes.0 state.Tree (encode_commit (with_signature kind bytes commit)) has.before has.input
       (header_line has.header) has.following has.rest has.passes.1 has.passes.2 has.comes in
-      let comes : HasHeader has.input has.header has.rest = header_here kind has.before has.input has.header has.following has.rest has.comes in
+      let comes : BeginsWithHeader has.input has.header has.rest = header_here kind has.before has.input has.header has.following has.rest has.comes in
       let prefixes : has.prefix ≡ read.0 = append_cancel_right has.prefix read.0 has.input (sym has.joined ∙ read.1) in
       let once : (read.0 ++ has.rest ≡ unsigned_prefix ++ 10 ∷ commit.message) × (has.header ≡ read_again the_header) × (has.rest ≡ 10 ∷ commit.message) =
       signature_split_unique (signature_field kind) read.2.headers written_blocks.headers has.header (read_again the_header) read.0 comes.encoded has.rest

@@ -12,14 +12,14 @@ use Rattle.gixobj_commit.specs.ExtraHeaders.{signature_field}
 use Rattle.gixobj_fields.proofs.HeadersRoundTrip.{header_round_trips}
 use Rattle.gixobj_fields.proofs.Runs.{passes_one}
 use Rattle.gixobj_fields.specs.FieldWriting.{encode_header, value_lines}
-use Rattle.gixobj_fields.specs.HeaderFormat.{HasHeader, Header, DecodesToHeader, value_of_lines}
+use Rattle.gixobj_fields.specs.HeaderFormat.{BeginsWithHeader, Header, DecodesToHeader, value_of_lines}
 use Rattle.gixobj_fields.specs.Runs.{Passes, Yields, complete, yields_end, yields_piece}
 use Rattle.gixobj_hash.specs.declared.hash.kind.Kind.{Kind}
 use Rattle.gixobj_line.proofs.EntireCommits.{reaches_end, reaches_more}
 use Rattle.gixobj_line.proofs.LinesYielded.{yields_lines_of_commit}
 use Rattle.gixobj_line.proofs.OneLine.{no_header_of_newline}
 use Rattle.gixobj_line.specs.Commit.{CommitLines, DecodesToCommit, DecodesToHeaders, IsCommit, encoding_lines, lines_of_commit}
-use Rattle.gixobj_line.specs.Lines.{HasLine, LineView, author_line, committer_line, encoding_line, first_header_comes, header_comes, header_line, message_comes, message_line, parent_line, tree_line}
+use Rattle.gixobj_line.specs.Lines.{BeginsWithLine, LineView, author_line, committer_line, encoding_line, first_header_comes, header_comes, header_line, message_comes, message_line, parent_line, tree_line}
 use Rattle.gixobj_line.specs.declared.lines.State.{State}
 use Rattle.gixobj_line.specs.declared.lines.State.TheVariants as state
 use Rattle.gixobj_ref_iter.specs.Extracting.{HasCommitSignature, HasNoSignature, IsNamedLine}
@@ -169,11 +169,11 @@ record Comes (kind : Kind) (here : State) (content : List ℕ) (lines : List Lin
   input : List ℕ
   following : State
   rest : List ℕ
-  passes : Passes (HasLine kind) here content lines before input
-  comes : HasLine kind before input line following rest
+  passes : Passes (BeginsWithLine kind) here content lines before input
+  comes : BeginsWithLine kind before input line following rest
 
 comes_after : (kind : Kind) (here : State) (content : List ℕ) (all lines : List LineView) (line : LineView) (more : List LineView)
-    → all ≡ lines ++ line ∷ more → Yields (HasLine kind) here content all complete → Comes kind here content lines line
+    → all ≡ lines ++ line ∷ more → Yields (BeginsWithLine kind) here content all complete → Comes kind here content lines line
 comes_after kind here content all [] line more same (yields_end _) = cc same
 comes_after kind here content all (first ∷ lines) line more same (yields_end _) = cc same
 comes_after kind here content all [] line more same (yields_piece _ next _ after piece others _ has seen) =
@@ -184,7 +184,7 @@ comes_after kind here content all [] line more same (yields_piece _ next _ after
       following = next;
       rest = after;
       passes = (refl, refl);
-      comes = subst (λ (it : LineView). HasLine kind here content it next after) e has;
+      comes = subst (λ (it : LineView). BeginsWithLine kind here content it next after) e has;
     }
 comes_after kind here content all (first ∷ lines) line more same (yields_piece _ next _ after piece others _ has seen) =
     let e : piece ≡ first = cc same in
@@ -195,7 +195,7 @@ comes_after kind here content all (first ∷ lines) line more same (yields_piece
       input = later.input;
       following = later.following;
       rest = later.rest;
-      passes = (next, after, subst (λ (it : LineView). HasLine kind here content it next after) e has, later.passes);
+      passes = (next, after, subst (λ (it : LineView). BeginsWithLine kind here content it next after) e has, later.passes);
       comes = later.comes;
     }
 
@@ -231,7 +231,7 @@ module _ (kind : Kind) (content : List ℕ) (commit : CommitLines) (is : Decodes
   signs_by_split value signed has (inl split) =
       let read = before_header kind has.passes.0 state.Tree content has.before has.input (header_line has.header) has.following has.rest has.passes.1
       has.passes.2 has.comes in
-      let comes : HasHeader has.input has.header has.rest = header_here kind has.before has.input has.header has.following has.rest has.comes in
+      let comes : BeginsWithHeader has.input has.header has.rest = header_here kind has.before has.input has.header has.following has.rest has.comes in
       let prefixes : has.prefix ≡ read.0 = append_cancel_right has.prefix read.0 has.input (sym has.joined ∙ read.1) in
       let others : Blocks name split.prefix = record { headers = split.before; are = split.before_are; others = split.others } in
       let blocks = blocks_append name (leading commit) split.prefix content_blocks others in
@@ -259,7 +259,7 @@ module _ (kind : Kind) (content : List ℕ) (commit : CommitLines) (is : Decodes
   signs_by_split value signed has (inr none) =
       let read = before_header kind has.passes.0 state.Tree content has.before has.input (header_line has.header) has.following has.rest has.passes.1
       has.passes.2 has.comes in
-      let comes : HasHeader has.input has.header has.rest = header_here kind has.before has.input has.header has.following has.rest has.comes in
+      let comes : BeginsWithHeader has.input has.header has.rest = header_here kind has.before has.input has.header has.following has.rest has.comes in
       let others : Blocks name is.headers_encoding = record { headers = commit.extra_headers; are = is.extra_headers; others = none } in
       let blocks = blocks_append name (leading commit) is.headers_encoding content_blocks others in
       absurd (none_there name blocks.headers read.2.headers has.header (leading commit ++ is.headers_encoding) (10 ∷ commit.message) read.0 comes.encoded
@@ -362,7 +362,7 @@ module _ (kind : Kind) (content : List ℕ) (commit : CommitLines) (is : Decodes
 -- ---- signed commits
 
 after_header : (kind : Kind) (before : State) (input : List ℕ) (header : Header) (following : State) (rest : List ℕ)
-    → HasLine kind before input (header_line header) following rest → following ≡ state.ExtraHeaders
+    → BeginsWithLine kind before input (header_line header) following rest → following ≡ state.ExtraHeaders
 after_header kind before input header following rest (first_header_comes _ _ _ has unlike) = refl
 after_header kind before input header following rest (header_comes _ _ _ has) = refl
 
@@ -392,9 +392,9 @@ module _ (kind : Kind) (commit : CommitLines) (bytes : List ℕ) (named : HasHea
       let content = encode_commit (with_signature kind bytes commit) in
       let rest : has.rest ≡ 10 ∷ commit.message = message_follows kind commit bytes named fields value signed has in
       let after : has.following ≡ state.ExtraHeaders = after_header kind has.before has.input has.header has.following has.rest has.comes in
-      let passes : Passes (HasLine kind) state.Tree content (has.passes.0 ++ header_line has.header ∷ []) has.following has.rest =
-      passes_one (HasLine kind) state.Tree has.before has.following content has.input has.rest has.passes.0 (header_line has.header) has.passes.1 has.comes in
-      let ends : HasLine kind has.following has.rest (message_line commit.message) state.End [] =
-      subst (λ (it : State). HasLine kind it has.rest (message_line commit.message) state.End []) (sym after) (message_comes has.rest commit.message rest) in
+      let passes : Passes (BeginsWithLine kind) state.Tree content (has.passes.0 ++ header_line has.header ∷ []) has.following has.rest =
+      passes_one (BeginsWithLine kind) state.Tree has.before has.following content has.input has.rest has.passes.0 (header_line has.header) has.passes.1 has.comes in
+      let ends : BeginsWithLine kind has.following has.rest (message_line commit.message) state.End [] =
+      subst (λ (it : State). BeginsWithLine kind it has.rest (message_line commit.message) state.End []) (sym after) (message_comes has.rest commit.message rest) in
       reaches_end kind content state.End [] (reaches_more kind content has.following state.End has.rest []
       (has.passes.0 ++ header_line has.header ∷ [], passes) (message_line commit.message, ends)) refl

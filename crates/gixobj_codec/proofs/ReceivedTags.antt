@@ -3,12 +3,12 @@
 use Rattle.std.proofs.Common.{◌≡◌, ◌≢◌, ◌≤◌, ◌∙◌, ℕ, List, [], ◌∷◌, ◌++◌, Option, Some, None, append_assoc, ap, arith, codes, length, refl, subst, sym}
 use Rattle.std.proofs.lemmas.List.{append_cancel_right}
 use Rattle.gixobj_fields.proofs.HeaderFields.{field_unique, first_bytes_eq}
-use Rattle.gixobj_fields.specs.HeaderFormat.{HasField, encode_field}
+use Rattle.gixobj_fields.specs.HeaderFormat.{BeginsWithField, encode_field}
 use Rattle.gixobj_hash.proofs.Headers.{kind_keyword_injective}
 use Rattle.gixobj_hash.specs.Kind.{kind_name}
 use Rattle.gixobj_hash.specs.declared.hash.kind.Kind.{Kind}
 use Rattle.gixobj_line.proofs.TagLines.{tagger_unique}
-use Rattle.gixobj_line.specs.TagLines.{HasTagger}
+use Rattle.gixobj_line.specs.TagLines.{BeginsWithTagger}
 use Rattle.gixobj_line.specs.TagPrefix.{IsTag}
 use Rattle.gixobj_ref_iter.specs.TagExtracting.{HasTagSignature}
 use Rattle.gixobj_tag.proofs.EntireTags.{Reads, parts_of_decoded_tag}
@@ -43,8 +43,8 @@ begins_with_lines lines body message signature signed own format after (after_a_
 
 -- ---- the same lines
 
-tagger_here : (tagger : Option (List ℕ)) (input body more : List ℕ) → HasTagger input tagger body
-    → HasTagger (encode_tagger tagger ++ 10 ∷ more) tagger (10 ∷ more)
+tagger_here : (tagger : Option (List ℕ)) (input body more : List ℕ) → BeginsWithTagger input tagger body
+    → BeginsWithTagger (encode_tagger tagger ++ 10 ∷ more) tagger (10 ∷ more)
 tagger_here None input body more has = (λ rest same. no_tagger more rest same, refl)
   where
     no_tagger : (more rest : List ℕ) → 10 ∷ more ≢ codes "tagger" ++ 32 ∷ rest
@@ -66,13 +66,13 @@ lines_agree kind content signed more tag read reads joined again =
     let target = field_unique (codes "object") signed read.target again.after_target tag.target after_target again.target.0
     (record { joined = joined ∙ flat; one_line = reads.target.0.one_line }) in
     let typed = field_unique (codes "type") after_target (kind_name read.target_kind) again.after_kind (kind_name tag.target_kind) after_kind
-    (subst (λ (it : List ℕ). HasField (codes "type") it (kind_name read.target_kind) again.after_kind) target.1 again.target_kind)
+    (subst (λ (it : List ℕ). BeginsWithField (codes "type") it (kind_name read.target_kind) again.after_kind) target.1 again.target_kind)
     (record { joined = refl; one_line = reads.target_kind.one_line }) in
     let named = field_unique (codes "tag") after_kind read.name again.after_name tag.name after_name
-    (subst (λ (it : List ℕ). HasField (codes "tag") it read.name again.after_name) typed.1 again.name.0)
+    (subst (λ (it : List ℕ). BeginsWithField (codes "tag") it read.name again.after_name) typed.1 again.name.0)
     (record { joined = refl; one_line = reads.name.0.one_line }) in
     let tagged = tagger_unique after_name read.tagger tag.tagger again.body (10 ∷ more)
-    (subst (λ (it : List ℕ). HasTagger it read.tagger again.body) named.1 again.tagger)
+    (subst (λ (it : List ℕ). BeginsWithTagger it read.tagger again.body) named.1 again.tagger)
     (tagger_here tag.tagger reads.after_name reads.body more reads.tagger) in
     record {
       target = target.0;

@@ -7,7 +7,7 @@ use Rattle.gixobj_actor.specs.Actor.{NamesActor}
 use Rattle.gixobj_commit.specs.ExtraHeaders.{signature_field}
 use Rattle.gixobj_fields.proofs.HeaderFields.{header_unique, hex_digits_newline_free}
 use Rattle.gixobj_fields.proofs.Runs.{after_passed}
-use Rattle.gixobj_fields.specs.HeaderFormat.{HasHeader, Header, encode_field}
+use Rattle.gixobj_fields.specs.HeaderFormat.{BeginsWithHeader, Header, encode_field}
 use Rattle.gixobj_fields.specs.Runs.{Passes, complete}
 use Rattle.gixobj_hash.specs.ByteStrings.{IsByteFree}
 use Rattle.gixobj_hash.specs.Bytes.{newline}
@@ -16,7 +16,7 @@ use Rattle.gixobj_hash.specs.declared.hash.kind.Kind.{Kind}
 use Rattle.gixobj_line.proofs.LinesYielded.{has_field_of_encode_field, yields_lines_of_commit}
 use Rattle.gixobj_line.proofs.OneLine.{line_unique, no_header_of_newline, no_line_of_nil}
 use Rattle.gixobj_line.specs.Commit.{CommitLines, DecodesToCommit, DecodesToHeaders, IsEncoding, before_encoding, encode_encoding, encode_parent, encoding_lines, lines_of_commit}
-use Rattle.gixobj_line.specs.Lines.{HasLine, LineView, author_comes, author_line, committer_comes, committer_line, header_line, message_line, parent_comes, parent_line, tree_comes, tree_line}
+use Rattle.gixobj_line.specs.Lines.{BeginsWithLine, LineView, author_comes, author_line, committer_comes, committer_line, header_line, message_line, parent_comes, parent_line, tree_comes, tree_line}
 use Rattle.gixobj_line.specs.declared.lines.State.{State}
 use Rattle.gixobj_line.specs.declared.lines.State.TheVariants as state
 use Rattle.gixobj_codec.proofs.CommitsExtracted.{Blocks, blocks_append, encoding_blocks, encodings_join, prefix_blocks}
@@ -34,25 +34,25 @@ actor_is_one_line : (line : List ℕ) → NamesActor line → IsByteFree newline
 actor_is_one_line line (name, email, time, is) = is.one_line
 
 parents_passed : (kind : Kind) (hexes : List (List ℕ)) (rest : List ℕ) (lines : List LineView) (following : State) (end : List ℕ)
-    → All (IsIdHexOfKind kind) hexes → Passes (HasLine kind) state.Parents rest lines following end
-    → Passes (HasLine kind) state.Parents (flat_map encode_parent hexes ++ rest) (map parent_line hexes ++ lines) following end
+    → All (IsIdHexOfKind kind) hexes → Passes (BeginsWithLine kind) state.Parents rest lines following end
+    → Passes (BeginsWithLine kind) state.Parents (flat_map encode_parent hexes ++ rest) (map parent_line hexes ++ lines) following end
 parents_passed kind [] rest lines following end are passes = passes
 parents_passed kind (hex ∷ hexes) rest lines following end are passes =
     let P : List ℕ → Type 0 = IsIdHexOfKind kind in
     let one : IsIdHexOfKind kind hex = All-head P hex hexes are in
     let more = flat_map encode_parent hexes ++ rest in
-    let parts : Passes (HasLine kind) state.Parents (encode_parent hex ++ more) (parent_line hex ∷ (map parent_line hexes ++ lines)) following end = (
+    let parts : Passes (BeginsWithLine kind) state.Parents (encode_parent hex ++ more) (parent_line hex ∷ (map parent_line hexes ++ lines)) following end = (
       state.Parents,
       more,
       parent_comes _ hex _ (has_field_of_encode_field (codes "parent") hex more (hex_digits_newline_free hex one.1), one),
       parents_passed kind hexes rest lines following end (All-tail P hex hexes are) passes,
     ) in
-    subst (λ (it : List ℕ). Passes (HasLine kind) state.Parents it (parent_line hex ∷ (map parent_line hexes ++ lines)) following end)
+    subst (λ (it : List ℕ). Passes (BeginsWithLine kind) state.Parents it (parent_line hex ∷ (map parent_line hexes ++ lines)) following end)
     (sym (append_assoc (encode_parent hex) (flat_map encode_parent hexes) rest)) parts
 
 module _ (kind : Kind) (content : List ℕ) (commit : CommitLines) (is : DecodesToCommit kind content commit) where
   -- bytes that begin with these lines of a decoded commit yield them
-  pub begins_passed : (rest : List ℕ) → Passes (HasLine kind) state.Tree (before_encoding commit ++ rest) (lines_before_encoding commit)
+  pub begins_passed : (rest : List ℕ) → Passes (BeginsWithLine kind) state.Tree (before_encoding commit ++ rest) (lines_before_encoding commit)
       state.Encoding rest
   begins_passed rest =
       let committer_rest = encode_field (codes "committer") commit.committer ++ rest in
@@ -62,7 +62,7 @@ module _ (kind : Kind) (content : List ℕ) (commit : CommitLines) (is : Decodes
       ++ encode_field (codes "committer") commit.committer) ++ rest ≡ encode_field (codes "tree") commit.tree
       ++ (flat_map encode_parent commit.parents ++ (encode_field (codes "author") commit.author
       ++ (encode_field (codes "committer") commit.committer ++ rest))) = simp append_assoc in
-      let committed : Passes (HasLine kind) state.Committer committer_rest (committer_line commit.committer ∷ []) state.Encoding rest = (
+      let committed : Passes (BeginsWithLine kind) state.Committer committer_rest (committer_line commit.committer ∷ []) state.Encoding rest = (
         state.Encoding,
         rest,
         committer_comes _ commit.committer _ (
@@ -71,7 +71,7 @@ module _ (kind : Kind) (content : List ℕ) (commit : CommitLines) (is : Decodes
         ),
         (refl, refl),
       ) in
-      let authored : Passes (HasLine kind) state.Parents author_rest (author_line commit.author ∷ committer_line commit.committer ∷ [])
+      let authored : Passes (BeginsWithLine kind) state.Parents author_rest (author_line commit.author ∷ committer_line commit.committer ∷ [])
       state.Encoding rest = (
         state.Committer,
         committer_rest,
@@ -83,7 +83,7 @@ module _ (kind : Kind) (content : List ℕ) (commit : CommitLines) (is : Decodes
       ) in
       let parented = parents_passed kind commit.parents author_rest (author_line commit.author ∷ committer_line commit.committer ∷ [])
       state.Encoding rest is.parents authored in
-      let entire : Passes (HasLine kind) state.Tree (encode_field (codes "tree") commit.tree ++ parents_rest) (lines_before_encoding commit)
+      let entire : Passes (BeginsWithLine kind) state.Tree (encode_field (codes "tree") commit.tree ++ parents_rest) (lines_before_encoding commit)
       state.Encoding rest = (
         state.Parents,
         parents_rest,
@@ -93,7 +93,7 @@ module _ (kind : Kind) (content : List ℕ) (commit : CommitLines) (is : Decodes
         ),
         parented,
       ) in
-      subst (λ (it : List ℕ). Passes (HasLine kind) state.Tree it (lines_before_encoding commit) state.Encoding rest) (sym flat) entire
+      subst (λ (it : List ℕ). Passes (BeginsWithLine kind) state.Tree it (lines_before_encoding commit) state.Encoding rest) (sym flat) entire
 
 -- ---- the same lines have the same parts
 
@@ -139,7 +139,7 @@ message_unique (k ∷ ks) [] fp fq m n (first, more, joined, is, rest) nq same =
 message_unique (k ∷ ks) (j ∷ js) fp fq m n (first, more, joined, is, rest) (first', more', joined', is', rest') same =
     let e = header_unique (fp ++ 10 ∷ m) k j (more ++ 10 ∷ m) (more' ++ 10 ∷ n)
     (comes_here fp first more (10 ∷ m) k ks joined is rest (λ no. grind (arith, no)))
-    (subst (λ (it : List ℕ). HasHeader it j (more' ++ 10 ∷ n)) (sym same)
+    (subst (λ (it : List ℕ). BeginsWithHeader it j (more' ++ 10 ∷ n)) (sym same)
     (comes_here fq first' more' (10 ∷ n) j js joined' is' rest' (λ no. grind (arith, no)))) in
     message_unique ks js more more' m n rest rest' e.1
 
@@ -196,10 +196,10 @@ module _ (kind : Kind) (content signed : List ℕ) (commit read : CommitLines) (
       let rest = (encode_encoding commit.encoding ++ encoded) ++ 10 ∷ commit.message in
       let flat : (leading commit ++ encoded) ++ 10 ∷ commit.message ≡ before_encoding commit ++ rest =
       regrouped (before_encoding commit) (encode_encoding commit.encoding) encoded (10 ∷ commit.message) in
-      let passes : Passes (HasLine kind) state.Tree signed (lines_before_encoding commit) state.Encoding rest =
-      subst (λ (it : List ℕ). Passes (HasLine kind) state.Tree it (lines_before_encoding commit) state.Encoding rest) (sym (joined ∙ flat))
+      let passes : Passes (BeginsWithLine kind) state.Tree signed (lines_before_encoding commit) state.Encoding rest =
+      subst (λ (it : List ℕ). Passes (BeginsWithLine kind) state.Tree it (lines_before_encoding commit) state.Encoding rest) (sym (joined ∙ flat))
       (begins_passed kind content commit is rest) in
-      let at = after_passed (HasLine kind) (line_unique kind) (no_line_of_nil kind) state.Tree state.Encoding signed rest
+      let at = after_passed (BeginsWithLine kind) (line_unique kind) (no_line_of_nil kind) state.Tree state.Encoding signed rest
       (lines_before_encoding commit) (lines_of_commit read) complete passes (yields_lines_of_commit kind signed read again) in
       let same = lines_agree commit read at.others at.joined in
       record { tree = same.0; parents = same.1; author = same.2; committer = same.3; message = same_message }

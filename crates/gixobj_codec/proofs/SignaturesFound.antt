@@ -6,14 +6,14 @@ use Rattle.gixobj_commit.specs.CommitWriting.{encode_commit}
 use Rattle.gixobj_commit.specs.ExtraHeaders.{signature_field}
 use Rattle.gixobj_fields.proofs.HeaderFields.{header_unique}
 use Rattle.gixobj_fields.specs.FieldWriting.{encode_header}
-use Rattle.gixobj_fields.specs.HeaderFormat.{EndsHeader, HasHeader, HasNoHeader, Header, DecodesToHeader}
+use Rattle.gixobj_fields.specs.HeaderFormat.{EndsHeader, BeginsWithHeader, BeginsWithNoHeader, Header, DecodesToHeader}
 use Rattle.gixobj_fields.specs.Runs.{Yields, broken, complete, yields_end, yields_error, yields_piece}
 use Rattle.gixobj_hash.specs.declared.decode.Error.TheVariants.{Malformed}
 use Rattle.gixobj_hash.specs.declared.hash.kind.Kind.{Kind}
 use Rattle.gixobj_line.proofs.LinesYielded.{yields_lines_of_commit}
 use Rattle.gixobj_line.proofs.OneLine.{header_len_lt, no_header_of_newline, no_line_of_nil, line_unique}
 use Rattle.gixobj_line.specs.Commit.{DecodesToHeaders, CommitLines, DecodesToCommit, lines_of_commit}
-use Rattle.gixobj_line.specs.Lines.{HasLine, LineView}
+use Rattle.gixobj_line.specs.Lines.{BeginsWithLine, LineView}
 use Rattle.gixobj_line.specs.declared.lines.State.{State}
 use Rattle.gixobj_line.specs.declared.lines.State.TheVariants as state
 use Rattle.gixobj_codec.proofs.CommitsExtracted.{Blocks, IsBlockLine, block_line_of_header, has_header_last, has_header_before_last, ends_header_append, blocks_append, blocks_nil, read_again, signature_field_is_header_name, signed_payload, the_header, unsigned_prefix, written_blocks, encode_header_decodes}
@@ -29,7 +29,7 @@ ends_before_tail leading tail (h ∷ hs) (first, more, joined, written, others) 
 
 pub comes_here : (leading first more tail : List ℕ) (h : Header) (hs : List Header) → leading ≡ first ++ more → DecodesToHeader first h
     → DecodesToHeaders more hs
-    → EndsHeader tail → HasHeader (leading ++ tail) h (more ++ tail)
+    → EndsHeader tail → BeginsWithHeader (leading ++ tail) h (more ++ tail)
 comes_here leading first more tail h hs joined written others ends = record {
   encoded = first;
   joined = ap (λ (it : List ℕ). it ++ tail) joined ∙ append_assoc first more tail;
@@ -39,23 +39,23 @@ comes_here leading first more tail h hs joined written others ends = record {
 
 -- after headers of other names and then no header, no split into headers has one of the name
 pub none_there : (name : List ℕ) (ps qs : List Header) (q : Header) (fp tail fq oq rq : List ℕ)
-    → DecodesToHeaders fp ps → All (λ h. h.name ≢ name) ps → EndsHeader tail → HasNoHeader tail
+    → DecodesToHeaders fp ps → All (λ h. h.name ≢ name) ps → EndsHeader tail → BeginsWithNoHeader tail
     → DecodesToHeaders fq qs → DecodesToHeader oq q → q.name ≡ name → EndsHeader rq
     → fp ++ tail ≡ fq ++ (oq ++ rq) → ⊥
 none_there name [] [] q fp tail fq oq rq np others ends lacks nq wq named eq same =
-    lacks q rq (subst (λ (it : List ℕ). HasHeader it q rq) (sym same ∙ ap (λ (it : List ℕ). it ++ tail) np) (has_header_last fq oq rq q nq wq eq))
+    lacks q rq (subst (λ (it : List ℕ). BeginsWithHeader it q rq) (sym same ∙ ap (λ (it : List ℕ). it ++ tail) np) (has_header_last fq oq rq q nq wq eq))
 none_there name [] (k ∷ ks) q fp tail fq oq rq np others ends lacks (first, more, joined, written, rest) wq named eq same =
-    lacks k (more ++ (oq ++ rq)) (subst (λ (it : List ℕ). HasHeader it k (more ++ (oq ++ rq))) (sym same ∙ ap (λ (it : List ℕ). it ++ tail) np)
+    lacks k (more ++ (oq ++ rq)) (subst (λ (it : List ℕ). BeginsWithHeader it k (more ++ (oq ++ rq))) (sym same ∙ ap (λ (it : List ℕ). it ++ tail) np)
     (has_header_before_last fq first more oq rq k q ks joined written rest wq))
 none_there name (k ∷ ks) [] q fp tail fq oq rq (first, more, joined, written, rest) others ends lacks nq wq named eq same =
     let e = header_unique (fp ++ tail) k q (more ++ tail) rq (comes_here fp first more tail k ks joined written rest ends)
-    (subst (λ (it : List ℕ). HasHeader it q rq) (sym same) (has_header_last fq oq rq q nq wq eq)) in
+    (subst (λ (it : List ℕ). BeginsWithHeader it q rq) (sym same) (has_header_last fq oq rq q nq wq eq)) in
     All-head (λ (h : Header). h.name ≢ name) k ks others (ap (λ (h : Header). h.name) e.0 ∙ named)
 none_there name (k ∷ ks) (j ∷ js) q fp tail fq oq rq (first, more, joined, written, rest) others ends lacks
     (first', more', joined', written', rest') wq named
     eq same =
     let e = header_unique (fp ++ tail) k j (more ++ tail) (more' ++ (oq ++ rq)) (comes_here fp first more tail k ks joined written rest ends)
-    (subst (λ (it : List ℕ). HasHeader it j (more' ++ (oq ++ rq))) (sym same) (has_header_before_last fq first' more' oq rq j q js joined' written' rest' wq))
+    (subst (λ (it : List ℕ). BeginsWithHeader it j (more' ++ (oq ++ rq))) (sym same) (has_header_before_last fq first' more' oq rq j q js joined' written' rest' wq))
     in
     none_there name ks js q more tail more' oq rq rest (All-tail (λ (h : Header). h.name ≢ name) k ks others) ends lacks rest' wq named eq e.1
 
@@ -66,12 +66,12 @@ record InBlocks (kind : Kind) (content : List ℕ) : Type 0 where
   joined : content ≡ prefix ++ tail
   blocks : Blocks (signature_field kind) prefix
   ends : EndsHeader tail
-  lacks : HasNoHeader tail
+  lacks : BeginsWithNoHeader tail
 
 none_shorter : (n : ℕ) → n < 0 → ⊥
 none_shorter n less = absurd (omega arith)
 
-no_header_in_nothing : HasNoHeader []
+no_header_in_nothing : BeginsWithNoHeader []
 no_header_in_nothing header rest has = none_shorter (length rest) (header_len_lt [] header rest has)
 
 of_line : (kind : Kind) (content : List ℕ) (next : State) (after : List ℕ) → IsBlockLine kind content next after → InBlocks kind after
@@ -93,7 +93,7 @@ of_line kind content next after (inr (one, joined, block)) rest = record {
   lacks = rest.lacks;
 }
 
-in_blocks : (kind : Kind) (here : State) (content : List ℕ) (pieces : List LineView) → Yields (HasLine kind) here content pieces complete
+in_blocks : (kind : Kind) (here : State) (content : List ℕ) (pieces : List LineView) → Yields (BeginsWithLine kind) here content pieces complete
     → All (λ it. ¬ IsNamedLine (signature_field kind) it) pieces → InBlocks kind content
 in_blocks kind here content pieces (yields_end _) others =
     record { prefix = []; tail = []; joined = refl; blocks = blocks_nil (signature_field kind); ends = tt; lacks = no_header_in_nothing }
@@ -103,8 +103,8 @@ in_blocks kind here content pieces (yields_piece _ next _ after piece more _ has
     (in_blocks kind next after more seen (All-tail (λ (it : LineView). ¬ IsNamedLine (signature_field kind) it) piece more others))
 
 -- bytes that decode to their end have no malformed line
-two_endings : (kind : Kind) (here : State) (content : List ℕ) (ps qs : List LineView) → Yields (HasLine kind) here content ps complete
-    → Yields (HasLine kind) here content qs broken → ⊥
+two_endings : (kind : Kind) (here : State) (content : List ℕ) (ps qs : List LineView) → Yields (BeginsWithLine kind) here content ps complete
+    → Yields (BeginsWithLine kind) here content qs broken → ⊥
 two_endings kind here content ps qs (yields_end _) (yields_error _ _ some lacks) = some refl
 two_endings kind here content ps qs (yields_end _) (yields_piece _ next _ after piece more _ has seen) =
     no_line_of_nil kind here [] piece next after refl has
@@ -112,8 +112,8 @@ two_endings kind here content ps qs (yields_piece _ next _ after piece more _ ha
 two_endings kind here content ps qs (yields_piece _ next _ after piece more _ has seen) (yields_piece _ next' _ after' piece' more' _ has' seen') =
     let e = line_unique kind here content piece piece' next next' after after' has has' in
     two_endings kind next after more more' seen
-    (subst (λ (s : State). Yields (HasLine kind) s after more' broken) (sym e.1)
-    (subst (λ (it : List ℕ). Yields (HasLine kind) next' it more' broken) (sym e.2) seen'))
+    (subst (λ (s : State). Yields (BeginsWithLine kind) s after more' broken) (sym e.1)
+    (subst (λ (it : List ℕ). Yields (BeginsWithLine kind) next' it more' broken) (sym e.2) seen'))
 
 module _ (kind : Kind) (commit : CommitLines) (bytes : List ℕ) (named : HasHeaderNames commit) (fields : HasLineFields commit) where
   pub signature_is_there : HasNoSignature kind (encode_commit (with_signature kind bytes commit)) → ⊥

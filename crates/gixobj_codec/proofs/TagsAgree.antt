@@ -14,7 +14,7 @@ use Rattle.gixobj_text.specs.declared.signature.Format.{Format}
 use Rattle.gixobj_text.specs.declared.signature.SignatureRef.{SignatureRef}
 use Rattle.gixobj_ref_iter.specs.TagExtracting.{FindsSignatureOfTag, HasTagSignature}
 use Rattle.gixobj_tag.proofs.EntireTags.{Reads, parts_of_decoded_tag}
-use Rattle.gixobj_line.specs.TagLines.{HasTagger}
+use Rattle.gixobj_line.specs.TagLines.{BeginsWithTagger}
 use Rattle.gixobj_tag.specs.Signed.{IsSignature}
 use Rattle.gixobj_tag.specs.TagFormat.{IsBody, IsParted, DecodesToTag, TagLines, are_newlines, after_a_newline, encode_tag_lines, newlines_alone, signed, signed_at_once, encode_tagger, unsigned}
 use Rattle.gixobj_hash.proofs.Splits.{byte_free_of_all_pass}
@@ -90,12 +90,12 @@ also_after a b rest after_a after_b place format it =
 
 -- ---- the lines of a tag
 
-after_tagger : (tagger : Option (List ℕ)) (input body : List ℕ) → HasTagger input tagger body → AreAfter (encode_tagger tagger) body
+after_tagger : (tagger : Option (List ℕ)) (input body : List ℕ) → BeginsWithTagger input tagger body → AreAfter (encode_tagger tagger) body
 after_tagger None input body has = λ place format it. omega arith
 after_tagger (Some line) input body has = after_field 116 (codes "agger") line body (λ same. omega (arith, same))
     (byte_free_of_all_pass 10 (codes "tagger") refl) has.0.one_line
 
-tagger_joined : (tagger : Option (List ℕ)) (input body : List ℕ) → HasTagger input tagger body → input ≡ encode_tagger tagger ++ body
+tagger_joined : (tagger : Option (List ℕ)) (input body : List ℕ) → BeginsWithTagger input tagger body → input ≡ encode_tagger tagger ++ body
 tagger_joined None input body has = sym has.1
 tagger_joined (Some line) input body has = has.0.joined
 

@@ -6,7 +6,8 @@ use Rattle.std.specs.List.{AllByRecursion, position}
 use Rattle.bstr.specs.Owned.{bstring_bytes}
 use Rattle.gixobj_directories.specs.declared.open.Child.{Child}
 use Rattle.std.specs.Cmp.Lexicographic.{bytes_decides}
-use Rattle.gixobj_tree.specs.Entries.{EachLater, EntryView}
+use Rattle.gixobj_tree.specs.Entries.{EntryView}
+use Rattle.gixobj_tree.specs.WellFormed.{EachLater}
 use Rattle.gixobj_files.specs.Bases.{base_edited, base_opened}
 use Rattle.gixobj_mode.specs.Mode.{is_tree_mode}
 use Rattle.gixobj_files.proofs.HasTrees.{has_tree_of_entry}

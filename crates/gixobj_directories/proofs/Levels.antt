@@ -9,7 +9,9 @@ use Rattle.std.specs.List.{AllByRecursion, filter, position, position_or_len, re
 use Rattle.std.specs.Ordering.{eq_by_cmp, nat_cmp}
 use Rattle.std.proofs.lemmas.Bool.{ltb-false, ltb-true}
 use Rattle.bstr.specs.Owned.{bstring_bytes}
-use Rattle.gixobj_tree.specs.Entries.{EachLater, EntryView, IsEntryName, key_of}
+use Rattle.gixobj_tree.specs.Entries.{EntryView}
+use Rattle.gixobj_tree.specs.KeyOrder.{key_of}
+use Rattle.gixobj_tree.specs.WellFormed.{EachLater, IsEntryName}
 use Rattle.gixobj_hash.specs.declared.hash.object_id.ObjectId.{ObjectId}
 use Rattle.gixobj_files.specs.Editing.{has_tree, same_name, with_entry, without}
 use Rattle.gixobj_files.specs.Edits.{with_directory}

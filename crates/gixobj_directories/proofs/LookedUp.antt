@@ -13,7 +13,7 @@ use Rattle.gixobj_hash.specs.declared.hash.kind.Kind.{Kind}
 use Rattle.gixobj_hash.specs.declared.hash.object_id.ObjectId.{ObjectId}
 use Rattle.gixobj_tree.proofs.EntryRuns.{yields_entries_iff}
 use Rattle.gixobj_tree.proofs.OneEntry.{entry_unique}
-use Rattle.gixobj_tree.specs.TreeDecoding.{BeginsWithEntry, HasEntry, DecodesToTree, YieldsEntries}
+use Rattle.gixobj_tree.specs.TreeDecoding.{BeginsWithEntry, EntryStep, DecodesToTree, YieldsEntries}
 use Rattle.gixobj_tree.specs.Entries.{EntryView}
 use Rattle.gixobj_directories.specs.LookedUp.{IsDirectoryIn, IsFileIn, IsLookedUp}
 use Rattle.gixobj_directories.specs.Openings.{AreTreesOf}
@@ -33,7 +33,7 @@ nothing kind e rest (content, joined, is) =
 
 -- an entry that comes after others is one of those that the iterator yields
 passed_has : (kind : Kind) (content here rest : List ℕ) (entries passed : List EntryView) (e : EntryView) → YieldsEntries kind content entries complete
-    → runs.Passes (HasEntry kind) tt content passed tt here → BeginsWithEntry kind here e rest → ContainsEntry entries e
+    → runs.Passes (EntryStep kind) tt content passed tt here → BeginsWithEntry kind here e rest → ContainsEntry entries e
 passed_has kind content here rest entries [] e (yields_end _) (_, same) has =
     absurd (nothing kind e rest (subst (λ (at : List ℕ). BeginsWithEntry kind at e rest) (sym same) has))
 passed_has kind content here rest entries [] e (yields_piece _ _ _ following x more _ first on) (_, same) has =
@@ -41,7 +41,7 @@ passed_has kind content here rest entries [] e (yields_piece _ _ _ following x m
 passed_has kind content here rest entries (p ∷ passed) e (yields_end _) (_, after, first, on) has = absurd (nothing kind p after first)
 passed_has kind content here rest entries (p ∷ passed) e (yields_piece _ _ _ following x more _ first on) (_, after, other, way) has =
     let same = (entry_unique kind content p x after following other first).1 in
-    inr (passed_has kind following here rest more passed e on (subst (λ (at : List ℕ). runs.Passes (HasEntry kind) tt at passed tt here) same way) has)
+    inr (passed_has kind following here rest more passed e on (subst (λ (at : List ℕ). runs.Passes (EntryStep kind) tt at passed tt here) same way) has)
 
 first_has : (kind : Kind) (content : List ℕ) (entries : List EntryView) (name : Name) (e : EntryView) → DecodesToTree kind content entries
     → HasFirstNamed kind content name e → ContainsEntry entries e × (e.name ≡ name)

@@ -7,7 +7,8 @@ use denote.Ref.{Bor}
 use Rattle.std.specs.List.{AllByRecursion, find, position}
 use Rattle.std.specs.Cmp.Lexicographic.{bytes_decides}
 use Rattle.bstr.specs.Owned.{bstring_bytes}
-use Rattle.gixobj_tree.specs.Entries.{EachLater, EntryView, IsWellFormed}
+use Rattle.gixobj_tree.specs.Entries.{EntryView}
+use Rattle.gixobj_tree.specs.WellFormed.{EachLater, IsWellFormed}
 use Rattle.gixobj_mode.specs.Mode.{is_tree_mode}
 use Rattle.gixobj_hash.specs.declared.hash.object_id.ObjectId.{ObjectId}
 use Rattle.bstr.specs.declared.bstring.BString.{BString}

@@ -13,7 +13,9 @@ use Rattle.bstr.specs.Owned.{bstring_bytes}
 use Rattle.gixobj_files.proofs.Sublists.{all_weaker}
 use Rattle.gixobj_files.specs.Editing.{same_name}
 use Rattle.gixobj_tree.proofs.WellFormed.{eq_of_slice_cmp_equal, slice_cmp_equal_of_eq}
-use Rattle.gixobj_tree.specs.Entries.{EachLater, EntryView, key_of}
+use Rattle.gixobj_tree.specs.Entries.{EntryView}
+use Rattle.gixobj_tree.specs.KeyOrder.{key_of}
+use Rattle.gixobj_tree.specs.WellFormed.{EachLater}
 use Rattle.gixobj_directories.specs.declared.open.Child.{Child}
 use Rattle.gixobj_directories.specs.Nested.{AreOrdered, IsLevel, Part, is_child_before, is_part_before, part, part_key, parts, with_part}
 use Rattle.gixobj_files.proofs.BinarySearch.{Ascends, compared, element_at, halved_key, halved_none, halved_place, later_at, less_of_compare, position_at, position_none}

@@ -5,7 +5,8 @@ use Rattle.std.specs.List.{FoldsTo}
 use denote.Ref.{Bor}
 use Rattle.bstr.specs.Owned.{bstring_bytes}
 use Rattle.bstr.specs.declared.bstring.BString.{BString}
-use Rattle.gixobj_tree.specs.Entries.{EntryView, IsEntryName, IsWellFormed, Pair}
+use Rattle.gixobj_tree.specs.Entries.{EntryView, Pair}
+use Rattle.gixobj_tree.specs.WellFormed.{IsEntryName, IsWellFormed}
 use Rattle.gixobj_hash.specs.declared.hash.object_id.ObjectId.{ObjectId}
 use Rattle.gixobj_files.specs.Files.{Path, is_null}
 

@@ -1,7 +1,7 @@
 //! Ensured directories: the directories on a path become open.
 ghost use Rattle.std.specs.Prelude.{◌≡◌, None, OnErr, OnOk};
 ghost use Rattle.std.specs.List.{AllByRecursion};
-ghost use Rattle.gixobj_tree.specs.Entries.{IsEntryName};
+ghost use Rattle.gixobj_tree.specs.WellFormed.{IsEntryName};
 ghost use Rattle.gixobj_files.specs.Edits.{ensured_dirs};
 ghost use Rattle.gixobj_files.specs.Files.{Path};
 ghost use Rattle.gixobj_directories.specs.Calls.{names_of};

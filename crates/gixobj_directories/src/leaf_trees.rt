@@ -1,7 +1,8 @@
 //! Leaf trees: trees of directories that are emitted without a copy, and moved after the last call.
 ghost use Rattle.std.specs.Prelude.{◌≡◌, ◌≢◌, ◌≤◌, ◌+◌, ◌++◌, ◌∷◌, [], IfNone, IfSome, List, length, not, reverse, true, vec_capacity, vec_len};
 ghost use Rattle.std.specs.List.{list_all};
-ghost use Rattle.gixobj_tree.specs.Entries.{EachLater, EntryView, Pair};
+ghost use Rattle.gixobj_tree.specs.Entries.{EntryView, Pair};
+ghost use Rattle.gixobj_tree.specs.WellFormed.{EachLater};
 ghost use Rattle.gixobj_files.specs.Files.{is_null};
 ghost use Rattle.gixobj_directories.specs.Calls.{IsStorable};
 ghost use Rattle.gixobj_directories.specs.Nested.{below, opened, parts};

@@ -1,6 +1,7 @@
 -- An editor whose root alone is open.
 use Rattle.std.proofs.Common.{◌≡◌, ℕ, List, [], sym, subst}
-use Rattle.gixobj_tree.specs.Entries.{EntryView, IsWellFormed}
+use Rattle.gixobj_tree.specs.Entries.{EntryView}
+use Rattle.gixobj_tree.specs.WellFormed.{IsWellFormed}
 use Rattle.gixobj_directories.specs.Nested.{Opened, dirs_of, opened}
 use Rattle.gixobj_directories.proofs.OpeningSteps.{dirs_of_childless}
 use Rattle.gixobj_files.specs.Files.{Files, SameFiles, Table}

@@ -26,7 +26,8 @@ use Rattle.gixobj_files.specs.State.{EditorFiles, State, open_bases, open_dirs, 
 use Rattle.gixobj_files.specs.Unopened.{in_directory}
 use Rattle.gixobj_hash.specs.declared.hash.object_id.ObjectId.{ObjectId}
 use Rattle.gixobj_keep.specs.Keeping.{StopsKeepingAt, with_trees}
-use Rattle.gixobj_tree.specs.Entries.{EntryView, IsWellFormed, Pair}
+use Rattle.gixobj_tree.specs.Entries.{EntryView, Pair}
+use Rattle.gixobj_tree.specs.WellFormed.{IsWellFormed}
 use Rattle.gixobj_tree.specs.TreeEncoding.{IsEncodableTree}
 use Rattle.gixobj_mode.specs.Mode.{mode_of_kind}
 use Rattle.gixobj_editor.specs.Commands.{Place, at_cursor, at_root, path_at}

@@ -13,8 +13,8 @@ use Rattle.std.specs.List.{AllPass, flat_map}
 use Rattle.std.specs.Prelude.{true, false, MatchOption, Option, nat_eq, take, drop}
 use Rattle.hex.specs.Hex.{is_hex_digit}
 use Rattle.gixobj_hash.proofs.Splits.{no_split_of_byte_free, split_parts_unique}
-use Rattle.gixobj_fields.specs.HeaderFormat.{BeginsSeveralLines, EndsHeader, HasField, HasHeader, HasNoField, HasNoHeader, Header, IsHeaderName, encode_field, encode_continuation, encode_line, value_of_lines}
-use Rattle.gixobj_fields.specs.HeaderReading.{HasNoId, HasNoKind, HasNoLines, IsUnfolded, IsHeaderFieldError}
+use Rattle.gixobj_fields.specs.HeaderFormat.{BeginsWithSeveralLines, EndsHeader, BeginsWithField, BeginsWithHeader, BeginsWithNoField, BeginsWithNoHeader, Header, IsHeaderName, encode_field, encode_continuation, encode_line, value_of_lines}
+use Rattle.gixobj_fields.specs.HeaderReading.{BeginsWithNoIdField, BeginsWithNoKindField, BeginsWithNoContinuations, IsUnfolded, IsHeaderFieldError}
 use Rattle.gixobj_hash.specs.ByteStrings.{IsByteFree, SplitsAt}
 use Rattle.gixobj_hash.specs.Hash.{IsIdHex, hash_len}
 use Rattle.gixobj_hash.specs.Hash.Hex.{IsIdHexOfKind}
@@ -44,29 +44,29 @@ not_name_and_space input name following joined ends rest same =
     let e : following ≡ 32 ∷ rest = append_cancel_left name following (32 ∷ rest) (sym joined ∙ same) in
     let k : EndsHeader (32 ∷ rest) = subst EndsHeader e ends in k refl
 
-pub has_field_of_parts : (name input line value rest : List ℕ) → input ≡ name ++ 32 ∷ line → SplitsAt 10 line value rest → HasField name input value rest
+pub has_field_of_parts : (name input line value rest : List ℕ) → input ≡ name ++ 32 ∷ line → SplitsAt 10 line value rest → BeginsWithField name input value rest
 has_field_of_parts name input line value rest joined split =
     record { joined = joined ∙ ap (λ (it : List ℕ). name ++ 32 ∷ it) split.joined ∙ sym (flat_field name value rest); one_line = split.first }
 
-pub no_field_without_name : (name input : List ℕ) → ((rest : List ℕ) → input ≢ name ++ 32 ∷ rest) → HasNoField name input
+pub no_field_without_name : (name input : List ℕ) → ((rest : List ℕ) → input ≢ name ++ 32 ∷ rest) → BeginsWithNoField name input
 no_field_without_name name input without value rest field = without (value ++ 10 ∷ rest) (field.joined ∙ flat_field name value rest)
 
 -- the bytes after the name of a field are its value, a newline and the rest
-name_after : (name input line value rest : List ℕ) → input ≡ name ++ 32 ∷ line → HasField name input value rest → line ≡ value ++ 10 ∷ rest
+name_after : (name input line value rest : List ℕ) → input ≡ name ++ 32 ∷ line → BeginsWithField name input value rest → line ≡ value ++ 10 ∷ rest
 name_after name input line value rest joined field =
     let e : 32 ∷ line ≡ 32 ∷ (value ++ 10 ∷ rest) = append_cancel_left name (32 ∷ line) (32 ∷ (value ++ 10 ∷ rest))
     (sym joined ∙ field.joined ∙ flat_field name value rest) in cc
 
-pub no_field_without_newline : (name input line : List ℕ) → input ≡ name ++ 32 ∷ line → IsByteFree 10 line → HasNoField name input
+pub no_field_without_newline : (name input line : List ℕ) → input ≡ name ++ 32 ∷ line → IsByteFree 10 line → BeginsWithNoField name input
 no_field_without_newline name input line joined free value rest field =
     no_split_of_byte_free 10 value rest (subst (IsByteFree 10) (name_after name input line value rest joined field) free)
 
-pub field_unique : (name input a x b y : List ℕ) → HasField name input a x → HasField name input b y → (a ≡ b) × (x ≡ y)
+pub field_unique : (name input a x b y : List ℕ) → BeginsWithField name input a x → BeginsWithField name input b y → (a ≡ b) × (x ≡ y)
 field_unique name input a x b y first second =
     split_parts_unique 10 a x b y first.one_line second.one_line (name_after name input (a ++ 10 ∷ x) b y (first.joined ∙ flat_field name a x) second)
 
 -- a field at the beginning of an input is a field by itself
-pub has_field_of_encoded : (name input value rest : List ℕ) → HasField name input value rest → HasField name (encode_field name value) value []
+pub has_field_of_encoded : (name input value rest : List ℕ) → BeginsWithField name input value rest → BeginsWithField name (encode_field name value) value []
 has_field_of_encoded name input value rest has = record { joined = sym (append-nil (encode_field name value)); one_line = has.one_line }
 
 pub first_bytes_eq : (a b : ℕ) (x y : List ℕ) → a ∷ x ≡ b ∷ y → a ≡ b
@@ -87,14 +87,14 @@ hex_digits_newline_free (byte ∷ bytes) digits =
     All-cons (λ it. it ≢ 10) byte bytes (hex_digit_is_no_newline byte (All-head P byte bytes digits))
     (hex_digits_newline_free bytes (All-tail P byte bytes digits))
 
-pub no_kind_of_unknown_name : (name input value rest : List ℕ) → HasField name input value rest → IsUnknownKindName value → HasNoKind name input
+pub no_kind_of_unknown_name : (name input value rest : List ℕ) → BeginsWithField name input value rest → IsUnknownKindName value → BeginsWithNoKindField name input
 no_kind_of_unknown_name name input value rest field bad kind following second =
     bad kind (field_unique name input value rest (kind_name kind) following field second).0
 
 -- ---- the hex of an id, whose length is the position of the newline
 
 pub no_id_without_newline : (name : List ℕ) (kind : Kind) (input line : List ℕ) (len : ℕ) → input ≡ name ++ 32 ∷ line → len ≡ 2 * hash_len kind
-    → get_or line len 0 ≢ 10 → HasNoId name kind input
+    → get_or line len 0 ≢ 10 → BeginsWithNoIdField name kind input
 no_id_without_newline name kind input line len joined long other hex rest has =
     let cut : line ≡ hex ++ 10 ∷ rest = name_after name input line hex rest joined has.0 in
     let placed : len ≡ length hex = long ∙ sym has.1.0 in
@@ -107,7 +107,7 @@ same_prefix a x b y same long =
 pub no_id_of_other_hex : (name : List ℕ) (kind : Kind) (input line value rest : List ℕ) (len : ℕ) → input ≡ name ++ 32 ∷ line
     → len ≡ 2 * hash_len kind
     → line ≡ value ++ 10 ∷ rest → length value ≡ len
-    → (IsIdHexOfKind kind value → ⊥) → HasNoId name kind input
+    → (IsIdHexOfKind kind value → ⊥) → BeginsWithNoIdField name kind input
 no_id_of_other_hex name kind input line value rest len joined long cut placed bad hex following has =
     let same : hex ≡ value = same_prefix hex (10 ∷ following) value (10 ∷ rest) (sym (name_after name input line hex following joined has.0) ∙ cut)
     (has.1.0 ∙ sym (placed ∙ long)) in
@@ -215,7 +215,7 @@ is_unfolded_at_end first input value rest so_far ends =
     (so_far.more, record { joined = so_far.joined; each_one_line = so_far.each_one_line; ends = ends }, so_far.value)
 
 pub no_lines_of_split : (first input value rest following : List ℕ) → Unfolding first input value rest → rest ≡ 32 ∷ following → IsByteFree 10 following
-    → HasNoLines input
+    → BeginsWithNoContinuations input
 no_lines_of_split first input value rest following so_far space free more tail lines =
     no_run_of_unindented so_far.more more following tail so_far.each_one_line lines.each_one_line free lines.ends
     (ap (λ (it : List ℕ). flat_map encode_continuation so_far.more ++ it) (sym space) ∙ sym so_far.joined ∙ lines.joined)
@@ -249,7 +249,7 @@ name_of_parts input name following first after parts =
 
 pub has_header_of_one_line : (input name following first after : List ℕ) → SplitsAt 32 input name following → (name ≢ []) × IsByteFree 10 name
     → SplitsAt 10 following first after → EndsHeader after
-    → HasHeader input (record { name = name; value = first }) after
+    → BeginsWithHeader input (record { name = name; value = first }) after
 has_header_of_one_line input name following first after cut named line ends =
     let parts : HeaderParts input name following first after = record { split_parts = cut; named = named; line = line } in
     record {
@@ -275,7 +275,7 @@ several first after rest value (second ∷ more) same ends goes_on is = is
 
 pub has_header_of_lines : (input name following first after value rest : List ℕ) → SplitsAt 32 input name following → (name ≢ []) × IsByteFree 10 name
     → SplitsAt 10 following first after
-    → (EndsHeader after → ⊥) → IsUnfolded first after value rest → HasHeader input (record { name = name; value = value }) rest
+    → (EndsHeader after → ⊥) → IsUnfolded first after value rest → BeginsWithHeader input (record { name = name; value = value }) rest
 has_header_of_lines input name following first after value rest cut named line goes_on (more, lines, is) =
     let parts : HeaderParts input name following first after = record { split_parts = cut; named = named; line = line } in
     record {
@@ -294,29 +294,29 @@ has_header_of_lines input name following first after value rest cut named line g
     }
 
 -- the input is the name, a space, the first line, the continuation lines and the rest
-flat_of : (input : List ℕ) (h : Header) (rest : List ℕ) (it : HasHeader input h rest)
+flat_of : (input : List ℕ) (h : Header) (rest : List ℕ) (it : BeginsWithHeader input h rest)
     → input ≡ h.name ++ 32 ∷ (it.written.first ++ 10 ∷ (flat_map encode_continuation it.written.more ++ rest))
 flat_of input h rest it = it.joined ∙ ap (λ (bytes : List ℕ). bytes ++ rest) it.written.joined
     ∙ flat_header h.name it.written.first rest it.written.more
 
-pub no_header_without_space : (input : List ℕ) → IsByteFree 32 input → HasNoHeader input
+pub no_header_without_space : (input : List ℕ) → IsByteFree 32 input → BeginsWithNoHeader input
 no_header_without_space input free h rest it =
     no_split_of_byte_free 32 h.name (it.written.first ++ 10 ∷ (flat_map encode_continuation it.written.more ++ rest))
     (subst (IsByteFree 32) (flat_of input h rest it) free)
 
 -- the first space of a header splits its name from its lines
-name_cut : (input name following : List ℕ) (h : Header) (rest : List ℕ) → SplitsAt 32 input name following → (it : HasHeader input h rest)
+name_cut : (input name following : List ℕ) (h : Header) (rest : List ℕ) → SplitsAt 32 input name following → (it : BeginsWithHeader input h rest)
     → (name ≡ h.name) × (following ≡ it.written.first ++ 10 ∷ (flat_map encode_continuation it.written.more ++ rest))
 name_cut input name following h rest cut it =
     split_parts_unique 32 name following h.name (it.written.first ++ 10 ∷ (flat_map encode_continuation it.written.more ++ rest)) cut.first
     it.written.named.no_space
     (sym cut.joined ∙ flat_of input h rest it)
 
-pub no_header_of_empty_name : (input name following : List ℕ) → SplitsAt 32 input name following → (IsHeaderName name → ⊥) → HasNoHeader input
+pub no_header_of_empty_name : (input name following : List ℕ) → SplitsAt 32 input name following → (IsHeaderName name → ⊥) → BeginsWithNoHeader input
 no_header_of_empty_name input name following cut bad h rest it =
     bad (subst IsHeaderName (sym (name_cut input name following h rest cut it).0) it.written.named)
 
-pub no_header_without_newline : (input name following : List ℕ) → SplitsAt 32 input name following → IsByteFree 10 following → HasNoHeader input
+pub no_header_without_newline : (input name following : List ℕ) → SplitsAt 32 input name following → IsByteFree 10 following → BeginsWithNoHeader input
 no_header_without_newline input name following cut free h rest it =
     no_split_of_byte_free 10 it.written.first (flat_map encode_continuation it.written.more ++ rest)
     (subst (IsByteFree 10) (name_cut input name following h rest cut it).1 free)
@@ -324,14 +324,14 @@ no_header_without_newline input name following cut free h rest it =
 -- the first newline of a header's lines splits the first line from the continuation lines
 line_cut : (input name following first after : List ℕ) (h : Header) (rest : List ℕ) → SplitsAt 32 input name following
     → SplitsAt 10 following first after
-    → (it : HasHeader input h rest)
+    → (it : BeginsWithHeader input h rest)
     → (first ≡ it.written.first) × (after ≡ flat_map encode_continuation it.written.more ++ rest)
 line_cut input name following first after h rest cut line it =
     split_parts_unique 10 first after it.written.first (flat_map encode_continuation it.written.more ++ rest) line.first it.written.one_line
     (sym line.joined ∙ (name_cut input name following h rest cut it).1)
 
 pub no_header_without_lines : (input name following first after : List ℕ) → SplitsAt 32 input name following → SplitsAt 10 following first after
-    → HasNoLines after → HasNoHeader input
+    → BeginsWithNoContinuations after → BeginsWithNoHeader input
 no_header_without_lines input name following first after cut line bad h rest it =
     bad it.written.more rest (record {
       joined = (line_cut input name following first after h rest cut line it).1;
@@ -344,7 +344,7 @@ goes_with_space [] goes_on = absurd (goes_on tt)
 goes_with_space (byte ∷ rest) goes_on = (rest, grind (arith, goes_on))
 
 pub begins_several_of_indented : (input name following first after tail : List ℕ) → SplitsAt 32 input name following → (name ≢ []) × IsByteFree 10 name
-    → SplitsAt 10 following first after → after ≡ 32 ∷ tail → BeginsSeveralLines input
+    → SplitsAt 10 following first after → after ≡ 32 ∷ tail → BeginsWithSeveralLines input
 begins_several_of_indented input name following first after tail cut named line space =
     record {
       name = name;
@@ -366,14 +366,14 @@ same_header a b name value = ap (λ (it : List ℕ). header_from it a.value) nam
 pub header_error_of_lines : (input name following first after tail : List ℕ) (f e : Error) → f ≡ e → SplitsAt 32 input name following → (name ≢ [])
     × IsByteFree 10 name
     → SplitsAt 10 following first after → after ≡ 32 ∷ tail
-    → (e ≡ Malformed → HasNoLines after) → IsHeaderFieldError input f
+    → (e ≡ Malformed → BeginsWithNoContinuations after) → IsHeaderFieldError input f
 header_error_of_lines input name following first after tail f Malformed same cut named line space bad =
     rw same (no_header_without_lines input name following first after cut line (bad refl))
 header_error_of_lines input name following first after tail f OutOfMemory same cut named line space bad =
     rw same (begins_several_of_indented input name following first after tail cut named line space)
 
 -- an input begins with at most one header
-pub header_unique : (input : List ℕ) (h k : Header) (x y : List ℕ) → HasHeader input h x → HasHeader input k y → (h ≡ k) × (x ≡ y)
+pub header_unique : (input : List ℕ) (h k : Header) (x y : List ℕ) → BeginsWithHeader input h x → BeginsWithHeader input k y → (h ≡ k) × (x ≡ y)
 header_unique input h k x y first second =
     let cut : SplitsAt 32 input h.name (first.written.first ++ 10 ∷ (flat_map encode_continuation first.written.more ++ x)) =
     record { joined = flat_of input h x first; first = first.written.named.no_space } in

@@ -18,17 +18,17 @@ abbrev pub encode_field : List ℕ → List ℕ → List ℕ
 encode_field name value = name ++ space ∷ encode_line value
 
 -- the input begins with the field of this name and this value, which has no newline, and the rest follows
-pub record HasField (name input value rest : List ℕ) : Type 0 where
+pub record BeginsWithField (name input value rest : List ℕ) : Type 0 where
   pub joined : input ≡ encode_field name value ++ rest
   pub one_line : IsByteFree newline value
 
 -- the input does not begin with a field of this name
-abbrev pub HasNoField : List ℕ → List ℕ → Type 0
-HasNoField name input = (value rest : List ℕ) → ¬ HasField name input value rest
+abbrev pub BeginsWithNoField : List ℕ → List ℕ → Type 0
+BeginsWithNoField name input = (value rest : List ℕ) → ¬ BeginsWithField name input value rest
 
 -- the input does not begin with this name and a space
-abbrev pub HasOtherName : List ℕ → List ℕ → Type 0
-HasOtherName name input = (rest : List ℕ) → input ≢ name ++ space ∷ rest
+abbrev pub BeginsWithOtherName : List ℕ → List ℕ → Type 0
+BeginsWithOtherName name input = (rest : List ℕ) → input ≢ name ++ space ∷ rest
 
 -- a header: a name, and a value of one line or of several
 pub record Header : Type 0 where
@@ -62,18 +62,18 @@ EndsHeader [] = ⊤
 EndsHeader (byte ∷ rest) = byte ≢ space
 
 -- the input begins with all lines of this header, and the rest follows
-pub record HasHeader (input : List ℕ) (header : Header) (rest : List ℕ) : Type 0 where
+pub record BeginsWithHeader (input : List ℕ) (header : Header) (rest : List ℕ) : Type 0 where
   pub encoded : List ℕ
   pub joined : input ≡ encoded ++ rest
   pub written : DecodesToHeader encoded header
   pub ends : EndsHeader rest
 
 -- the input does not begin with a header
-abbrev pub HasNoHeader : List ℕ → Type 0
-HasNoHeader input = (header : Header) (rest : List ℕ) → ¬ HasHeader input header rest
+abbrev pub BeginsWithNoHeader : List ℕ → Type 0
+BeginsWithNoHeader input = (header : Header) (rest : List ℕ) → ¬ BeginsWithHeader input header rest
 
 -- the input begins with the name of a header and its first line
-pub record BeginsHeader (input : List ℕ) : Type 0 where
+pub record BeginsWithHeaderLine (input : List ℕ) : Type 0 where
   pub name : List ℕ
   pub first : List ℕ
   pub rest : List ℕ
@@ -82,7 +82,7 @@ pub record BeginsHeader (input : List ℕ) : Type 0 where
   pub one_line : IsByteFree newline first
 
 -- the input begins with the name of a header, its first line, and the space that begins a continuation line
-pub record BeginsSeveralLines (input : List ℕ) : Type 0 where
+pub record BeginsWithSeveralLines (input : List ℕ) : Type 0 where
   pub name : List ℕ
   pub first : List ℕ
   pub rest : List ℕ

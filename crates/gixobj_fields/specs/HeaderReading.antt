@@ -9,7 +9,7 @@ use Rattle.bstr.specs.BStr.{bstr_bytes}
 use Rattle.bstr.specs.Owned.{bstring_bytes}
 use Rattle.bstr.specs.declared.bstr.BStr.{BStr}
 use Rattle.bstr.specs.declared.bstring.BString.{BString}
-use Rattle.gixobj_fields.specs.HeaderFormat.{BeginsSeveralLines, EndsHeader, HasField, HasNoHeader, Header, encode_continuation, encode_line}
+use Rattle.gixobj_fields.specs.HeaderFormat.{BeginsWithSeveralLines, EndsHeader, BeginsWithField, BeginsWithNoHeader, Header, encode_continuation, encode_line}
 use Rattle.gixobj_hash.specs.ByteStrings.{IsByteFree}
 use Rattle.gixobj_hash.specs.Hash.Hex.{IsIdHexOfKind}
 use Rattle.gixobj_hash.specs.declared.decode.Error.{Error}
@@ -20,16 +20,16 @@ use Rattle.gixobj_hash.specs.declared.kind.Kind as object
 use Rattle.gixobj_hash.specs.Bytes.{newline}
 
 -- the input begins with the field of this name whose value is this id of this kind in hex, and the rest follows
-abbrev pub HasId : List ℕ → Kind → List ℕ → List ℕ → List ℕ → Type 0
-HasId name kind input hex rest = HasField name input hex rest × IsIdHexOfKind kind hex
+abbrev pub BeginsWithIdField : List ℕ → Kind → List ℕ → List ℕ → List ℕ → Type 0
+BeginsWithIdField name kind input hex rest = BeginsWithField name input hex rest × IsIdHexOfKind kind hex
 
 -- the input does not begin with a field of this name whose value is an id of this kind in hex
-abbrev pub HasNoId : List ℕ → Kind → List ℕ → Type 0
-HasNoId name kind input = (hex rest : List ℕ) → ¬ HasId name kind input hex rest
+abbrev pub BeginsWithNoIdField : List ℕ → Kind → List ℕ → Type 0
+BeginsWithNoIdField name kind input = (hex rest : List ℕ) → ¬ BeginsWithIdField name kind input hex rest
 
 -- the input does not begin with a field of this name whose value names a kind of objects
-abbrev pub HasNoKind : List ℕ → List ℕ → Type 0
-HasNoKind name input = (kind : object.Kind) (rest : List ℕ) → ¬ HasField name input (kind_name kind) rest
+abbrev pub BeginsWithNoKindField : List ℕ → List ℕ → Type 0
+BeginsWithNoKindField name input = (kind : object.Kind) (rest : List ℕ) → ¬ BeginsWithField name input (kind_name kind) rest
 
 -- the header of a borrowed name and a value that may be borrowed
 abbrev pub header_of : BStr × CowSlice ℕ Global → Header
@@ -46,20 +46,20 @@ owned_header_of it = record { name = bstring_bytes it.0; value = bstring_bytes i
 
 -- Malformed: the input does not begin with a header; OutOfMemory: the header has several lines, whose value allocates
 abbrev pub IsHeaderFieldError : List ℕ → Error → Type 0
-IsHeaderFieldError input Malformed = HasNoHeader input
-IsHeaderFieldError input OutOfMemory = BeginsSeveralLines input
+IsHeaderFieldError input Malformed = BeginsWithNoHeader input
+IsHeaderFieldError input OutOfMemory = BeginsWithSeveralLines input
 
 -- the input begins with these continuation lines, and the rest, which follows them, begins with none
-pub record HasLines (input : List ℕ) (more : List (List ℕ)) (rest : List ℕ) : Type 0 where
+pub record BeginsWithContinuations (input : List ℕ) (more : List (List ℕ)) (rest : List ℕ) : Type 0 where
   pub joined : input ≡ flat_map encode_continuation more ++ rest
   pub each_one_line : All (λ line. IsByteFree newline line) more
   pub ends : EndsHeader rest
 
 -- the input does not begin with complete continuation lines: one of them lacks its newline
-abbrev pub HasNoLines : List ℕ → Type 0
-HasNoLines input = (more : List (List ℕ)) (rest : List ℕ) → ¬ HasLines input more rest
+abbrev pub BeginsWithNoContinuations : List ℕ → Type 0
+BeginsWithNoContinuations input = (more : List (List ℕ)) (rest : List ℕ) → ¬ BeginsWithContinuations input more rest
 
 -- the value is the first line and the continuation lines of the input, each with its newline, and the rest follows
 abbrev pub IsUnfolded : List ℕ → List ℕ → List ℕ → List ℕ → Type 0
-IsUnfolded first input value rest = (more : List (List ℕ)) × HasLines input more rest
+IsUnfolded first input value rest = (more : List (List ℕ)) × BeginsWithContinuations input more rest
     × (value ≡ flat_map encode_line (first ∷ more))

@@ -4,7 +4,7 @@ ghost use Rattle.gixobj_fields.specs.FieldWriting.{encode_header};
 ghost use Rattle.gixobj_fields.specs.Streams.{SinkView};
 ghost use Rattle.gixobj_fields.specs.Writing.{FailsAsSink, RejectsNothing, IsWritingError};
 ghost use Rattle.gixobj_fields.specs.declared.encode.Error.{Error};
-ghost use Rattle.gixobj_fields.specs.HeaderFormat.{HasField, HasHeader, Header, DecodesToHeader};
+ghost use Rattle.gixobj_fields.specs.HeaderFormat.{BeginsWithField, BeginsWithHeader, Header, DecodesToHeader};
 
 use crate::WriteTo;
 
@@ -13,10 +13,10 @@ use crate::WriteTo;
 /// An input begins with at most one field of a name, and with at most one header.
 pub fn header_field_decodes_uniquely()
     ensures one_field { (name input value rest value' rest' : List ℕ)
-        → HasField name input value rest → HasField name input value' rest' → (value ≡ value')
+        → BeginsWithField name input value rest → BeginsWithField name input value' rest' → (value ≡ value')
         × (rest ≡ rest') }
     ensures one_header { (input : List ℕ) (header header' : Header) (rest rest' : List ℕ)
-        → HasHeader input header rest → HasHeader input header' rest' → (header ≡ header')
+        → BeginsWithHeader input header rest → BeginsWithHeader input header' rest' → (header ≡ header')
         × (rest ≡ rest') }
 {}
 

@@ -1,8 +1,8 @@
 //! Decoding of header fields (gitdatamodel, "commits"; gitformat-signature, "Commit signatures").
 ghost use Rattle.std.specs.Prelude.{◌≡◌, ◌≢◌, ◌++◌, ◌∷◌, [], ℕ, List, IfErr, IfOk, IfSome, IfNone, MatchBool, MatchOption, length, slice_index};
 ghost use Rattle.bstr.specs.BStr.{bstr_bytes};
-ghost use Rattle.gixobj_fields.specs.HeaderReading.{BorrowsOneLine, HasId, HasNoId, HasNoKind, HasNoLines, IsUnfolded, IsHeaderFieldError, header_of};
-ghost use Rattle.gixobj_fields.specs.HeaderFormat.{EndsHeader, HasField, HasHeader, HasNoField, IsHeaderName, HasOtherName};
+ghost use Rattle.gixobj_fields.specs.HeaderReading.{BorrowsOneLine, BeginsWithIdField, BeginsWithNoIdField, BeginsWithNoKindField, BeginsWithNoContinuations, IsUnfolded, IsHeaderFieldError, header_of};
+ghost use Rattle.gixobj_fields.specs.HeaderFormat.{EndsHeader, BeginsWithField, BeginsWithHeader, BeginsWithNoField, IsHeaderName, BeginsWithOtherName};
 ghost use Rattle.gixobj_hash.specs.ByteStrings.{IsByteFree};
 ghost use Rattle.gixobj_hash.specs.declared.decode.Error.TheVariants.{Malformed};
 ghost use Rattle.gixobj_hash.specs.Kind.{kind_name};
@@ -23,8 +23,8 @@ use std::borrow::CowSlice;
 #[inline(always)]
 #[tactic(auto, using(crate::proofs::HeaderFields::has_field_of_parts, crate::proofs::HeaderFields::no_field_without_name))]
 pub fn header_field<'a>(input: &'a [u8], name: &[u8]) -> Option<(&'a [u8], &'a [u8])>
-    ensures found { IfSome result (λ it. HasField name.now input.now it.0.now it.1.now) }
-    ensures none { IfNone result (HasNoField name.now input.now) }
+    ensures found { IfSome result (λ it. BeginsWithField name.now input.now it.0.now it.1.now) }
+    ensures none { IfNone result (BeginsWithNoField name.now input.now) }
 {
     let Some(line) = after_name(input, name) else {
         return None;
@@ -41,8 +41,8 @@ pub fn header_field<'a>(input: &'a [u8], name: &[u8]) -> Option<(&'a [u8], &'a [
 /// Returns `None` unless the input begins with the field of an id of this kind.
 #[inline(always)]
 pub fn header_id<'a>(input: &'a [u8], name: &[u8], kind: Kind) -> Option<(BStr<'a>, &'a [u8])>
-    ensures found { IfSome result (λ it. HasId name.now kind input.now (bstr_bytes it.0) it.1.now) }
-    ensures none { IfNone result (HasNoId name.now kind input.now) }
+    ensures found { IfSome result (λ it. BeginsWithIdField name.now kind input.now (bstr_bytes it.0) it.1.now) }
+    ensures none { IfNone result (BeginsWithNoIdField name.now kind input.now) }
 {
     let Some(line) = after_name(input, name) else {
         return None;
@@ -75,8 +75,8 @@ fn split_at_newline(bytes: &[u8], place: usize) -> Option<(&[u8], &[u8])>
 ///
 /// Returns `None` unless the input begins with such a field. Allocates nothing.
 pub fn header_kind<'a>(input: &'a [u8], name: &[u8]) -> Option<(ObjectKind, &'a [u8])>
-    ensures found { IfSome result (λ it. HasField name.now input.now (kind_name it.0) it.1.now) }
-    ensures none { IfNone result (HasNoKind name.now input.now) }
+    ensures found { IfSome result (λ it. BeginsWithField name.now input.now (kind_name it.0) it.1.now) }
+    ensures none { IfNone result (BeginsWithNoKindField name.now input.now) }
 {
     let Some((token, rest)) = header_field(input, name) else {
         return None;
@@ -91,7 +91,7 @@ pub fn header_kind<'a>(input: &'a [u8], name: &[u8]) -> Option<(ObjectKind, &'a 
 #[inline(always)]
 pub fn after_name<'a>(input: &'a [u8], name: &[u8]) -> Option<&'a [u8]>
     ensures found { IfSome result (λ rest. input.now ≡ name.now ++ space ∷ rest.now) }
-    ensures none { IfNone result (HasOtherName name.now input.now) }
+    ensures none { IfNone result (BeginsWithOtherName name.now input.now) }
 {
     let Some(following) = after_prefix(input, name) else {
         return None;
@@ -130,7 +130,7 @@ pub fn any_header_field(
     alloc: Global,
     input: &[u8],
 ) -> Result<((BStr<'_>, CowSlice<'_, u8>), &[u8]), Error>
-    ensures found { IfOk result (λ it. HasHeader input.now (header_of it.0) it.1.now) }
+    ensures found { IfOk result (λ it. BeginsWithHeader input.now (header_of it.0) it.1.now) }
     ensures borrowed { IfOk result (λ it. BorrowsOneLine it.0.1) }
     ensures error { IfErr result (IsHeaderFieldError input.now) }
 {
@@ -156,7 +156,7 @@ pub fn any_header_field(
 #[tactic(auto, using(crate::proofs::HeaderFields::unfolding_first, crate::proofs::HeaderFields::is_unfolded_at_end, crate::proofs::HeaderFields::unfolding_len_lt))]
 fn unfolded<'a>(alloc: Global, first: &[u8], input: &'a [u8]) -> Result<(Vec<u8>, &'a [u8]), Error>
     ensures found { IfOk result (λ it. IsUnfolded first.now input.now it.0.items it.1.now) }
-    ensures error { IfErr result (λ e. e ≡ Malformed → HasNoLines input.now) }
+    ensures error { IfErr result (λ e. e ≡ Malformed → BeginsWithNoContinuations input.now) }
 {
     let mut value = Vec::from_slice(alloc, first)?;
     value.push(b'\n')?;

@@ -17,7 +17,7 @@ use Rattle.std.proofs.lemmas.List.Sorted.{searchable_from_sorted}
 use Rattle.std.proofs.lemmas.List.Sums.{prefix_len_is}
 use Rattle.std.proofs.lemmas.Option.{slice_get-get_or, slice_get_past}
 use Rattle.gixobj_tree.proofs.WellFormed.{eq_of_slice_cmp_equal, slice_cmp_equal_of_eq}
-use Rattle.gixobj_tree.specs.Entries.{EachLater}
+use Rattle.gixobj_tree.specs.WellFormed.{EachLater}
 
 -- the first position at which a test passes, and a list in which it never does
 module _ {X : Type 0} (p : X → Bool) where

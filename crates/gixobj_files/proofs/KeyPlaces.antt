@@ -19,9 +19,10 @@ use Rattle.gixobj_files.specs.Editing.{has_tree, same_name}
 use Rattle.gixobj_hash.specs.ByteStrings.{IsByteFree}
 use Rattle.gixobj_tree.proofs.NameKeys.{name_cmp_eq_key_cmp}
 use Rattle.gixobj_tree.proofs.WellFormed.{has_key_of_test, eq_of_slice_cmp_equal, no_slash_at_end}
-use Rattle.gixobj_tree.specs.Entries.{EntryView, IsEntryName, IsWellFormed, entry_key, key_of, name_cmp}
+use Rattle.gixobj_tree.specs.Entries.{EntryView}
+use Rattle.gixobj_tree.specs.KeyOrder.{entry_key, key_of, name_cmp}
+use Rattle.gixobj_tree.specs.WellFormed.{HasKey, IsEntryName, IsWellFormed}
 use Rattle.gixobj_mode.specs.Mode.{is_tree_mode}
-use Rattle.gixobj_tree.specs.WellFormed.{HasKey}
 use Rattle.gixobj_files.proofs.BinarySearch.{IsNarrowed, compared, element_at, greater_from, halved_key, halved_place, is_before, later_at, less_to, less_of_compare, narrowed_none, position_at, position_none}
 
 -- a key has one name and one kind

@@ -5,7 +5,9 @@ use Rattle.std.specs.List.{AllByRecursion, filter, insert, prefix_len}
 use Rattle.std.specs.Ordering.{is_lt}
 use Rattle.std.proofs.lemmas.Bool.{false_from_ne_true}
 use Rattle.std.proofs.lemmas.List.Elements.{All-from_recursion}
-use Rattle.gixobj_tree.specs.Entries.{ComesBefore, EachLater, EntryView, IsEntryName}
+use Rattle.gixobj_tree.specs.Entries.{EntryView}
+use Rattle.gixobj_tree.specs.KeyOrder.{ComesBefore}
+use Rattle.gixobj_tree.specs.WellFormed.{EachLater, IsEntryName}
 use Rattle.gixobj_hash.specs.ByteStrings.{IsByteFree}
 use Rattle.gixobj_files.specs.Editing.{comes_before, same_name, with_entry, without}
 use Rattle.gixobj_files.proofs.KeyOrder.{comes_before_of_true}

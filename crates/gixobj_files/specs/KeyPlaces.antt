@@ -2,7 +2,8 @@
 use Rattle.std.specs.Prelude.{ℕ, Bool, List}
 use Rattle.std.specs.Cmp.Lexicographic.{slice_cmp}
 use Rattle.std.specs.Ordering.{is_lt, nat_cmp}
-use Rattle.gixobj_tree.specs.Entries.{EntryView, entry_key}
+use Rattle.gixobj_tree.specs.Entries.{EntryView}
+use Rattle.gixobj_tree.specs.KeyOrder.{entry_key}
 
 -- the key of the entry is less than this one
 abbrev pub has_key_before : List ℕ → EntryView → Bool

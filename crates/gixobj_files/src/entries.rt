@@ -1,8 +1,8 @@
 //! Entries of a directory: insertion, copies and tests of one entry.
 ghost use Rattle.std.specs.Prelude.{◌≡◌, ◌≤◌, ◌<◌, IfOk, not, vec_len, vec_capacity};
 ghost use Rattle.std.specs.List.{position, prefix_len};
-ghost use Rattle.gixobj_tree.specs.Entries.{IsEntryName, IsWellFormed, entry_key};
-ghost use Rattle.gixobj_tree.specs.WellFormed.{HasKey};
+ghost use Rattle.gixobj_tree.specs.KeyOrder.{entry_key};
+ghost use Rattle.gixobj_tree.specs.WellFormed.{HasKey, IsEntryName, IsWellFormed};
 ghost use Rattle.gixobj_hash.specs.ByteStrings.{IsByteFree};
 ghost use Rattle.gixobj_hash.specs.Bytes.{slash};
 ghost use Rattle.gixobj_files.specs.Editing.{comes_before, same_name, with_entry, without};

@@ -1,6 +1,6 @@
 //! Filtering of a tree in place: it keeps some of its entries, with other ids.
 ghost use Rattle.std.specs.Prelude.{◌≡◌, ◌≢◌, All, IsFalse};
-ghost use Rattle.gixobj_tree.specs.Entries.{EachLater, IsWellFormed};
+ghost use Rattle.gixobj_tree.specs.WellFormed.{EachLater, IsWellFormed};
 ghost use Rattle.gixobj_files.specs.Editing.{non_null_entries};
 ghost use Rattle.gixobj_files.specs.Files.{is_null};
 ghost use Rattle.gixobj_files.specs.WrittenTrees.{with_id};

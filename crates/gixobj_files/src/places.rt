@@ -3,9 +3,9 @@ ghost use Rattle.std.specs.Prelude.{◌≡◌, ◌<◌, ◌≤◌, false, true, 
 ghost use Rattle.std.specs.List.{HoldsAt, position, prefix_len};
 ghost use Rattle.gixobj_hash.specs.Bytes.{slash};
 ghost use Rattle.gixobj_hash.specs.ByteStrings.{IsByteFree};
-ghost use Rattle.gixobj_tree.specs.Entries.{IsWellFormed, key_of, name_cmp};
+ghost use Rattle.gixobj_tree.specs.KeyOrder.{key_of, name_cmp};
+ghost use Rattle.gixobj_tree.specs.WellFormed.{HasKey, IsWellFormed};
 ghost use Rattle.gixobj_mode.specs.Mode.{is_tree_mode};
-ghost use Rattle.gixobj_tree.specs.WellFormed.{HasKey};
 ghost use Rattle.gixobj_files.specs.Editing.{same_name, without};
 ghost use Rattle.gixobj_files.specs.KeyPlaces.{has_key_before};
 

@@ -6,3 +6,4 @@ pub use Rattle.gixobj_fields.specs.Writing
 pub use Rattle.gixobj_keep.specs.ExistingTrees
 pub use Rattle.gixobj_store.specs.Stores
 pub use Rattle.gixobj_tree.specs.TreeEncoding
+pub use Rattle.gixobj_tree.specs.TreeSizes

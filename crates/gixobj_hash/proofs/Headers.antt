@@ -7,7 +7,7 @@ use Rattle.bstr.specs.Owned.{bstring_bytes}
 use Rattle.gixobj_hash.proofs.DecodedSizes.{no_size_fault_of_digits, size_bytes_zero_free, decimal_decodes_to_size}
 use Rattle.gixobj_hash.proofs.Splits.{byte_free_of_all_pass, no_split_of_byte_free, split_parts_unique}
 use Rattle.std.specs.Prelude.{◌^◌, ◌==◌, decimal, if◌then◌else◌, IfErr, IfOk, Result, Ok, Err}
-use Rattle.gixobj_hash.specs.Decode.{HasFaultySize, HasLooseHeader, HasSizeFault, HasUnknownKind, DecodesToSize, IsLooseHeaderError}
+use Rattle.gixobj_hash.specs.Decode.{HasFaultySize, HasLooseHeaderOfLength, HasSizeFault, HasUnknownKind, DecodesToSize, IsLooseHeaderError}
 use Rattle.gixobj_hash.specs.Encode.{encode_loose_header}
 use Rattle.gixobj_hash.specs.Kind.{kind_name}
 use Rattle.gixobj_hash.specs.ByteStrings.{IsByteFree}
@@ -53,7 +53,7 @@ regrouped word size_bytes rest = simp append_assoc
 header_len : (word size_bytes : List ℕ) → length ((word ++ 32 ∷ size_bytes) ++ 0 ∷ []) ≡ length word + length size_bytes + 2
 header_len word size_bytes = simp length-append (omega arith)
 
-pub parts_of_loose_header : (input : List ℕ) (kind : Kind) (size used : ℕ) → HasLooseHeader input kind size used → Parts input kind size used
+pub parts_of_loose_header : (input : List ℕ) (kind : Kind) (size used : ℕ) → HasLooseHeaderOfLength input kind size used → Parts input kind size used
 parts_of_loose_header input kind size used header =
     let prefix = header.1 in
     record {
@@ -65,7 +65,7 @@ parts_of_loose_header input kind size used header =
       len = sym (length-take-le used input header.0) ∙ ap length prefix.joined ∙ header_len (kind_name kind) prefix.size_bytes;
     }
 
-pub loose_header_of_parts : (input : List ℕ) (kind : Kind) (size used : ℕ) → Parts input kind size used → HasLooseHeader input kind size used
+pub loose_header_of_parts : (input : List ℕ) (kind : Kind) (size used : ℕ) → Parts input kind size used → HasLooseHeaderOfLength input kind size used
 loose_header_of_parts input kind size used parts =
     let prefix = (kind_name kind ++ 32 ∷ parts.size_bytes) ++ 0 ∷ [] in
     let entire : input ≡ prefix ++ parts.rest = parts.joined ∙ sym (regrouped (kind_name kind) parts.size_bytes parts.rest) in
@@ -124,8 +124,8 @@ no_error_of_loose_header input kind size used OutOfMemory parts (inr faulty) = g
 
 -- a decoder whose results and errors are right accepts each header
 pub decode_header_of_loose_header : (input : List ℕ) (result : Result (Kind × ℕ × ℕ) LooseHeaderDecodeError)
-    → IfOk result (λ header. HasLooseHeader input header.0 header.1 header.2) → IfErr result (IsLooseHeaderError input)
-    → (kind : Kind) (size used : ℕ) → HasLooseHeader input kind size used → result ≡ Ok (kind, size, used)
+    → IfOk result (λ header. HasLooseHeaderOfLength input header.0 header.1 header.2) → IfErr result (IsLooseHeaderError input)
+    → (kind : Kind) (size used : ℕ) → HasLooseHeaderOfLength input kind size used → result ≡ Ok (kind, size, used)
 decode_header_of_loose_header input (Ok (kind', size', used')) found failure kind size used header =
     let same = loose_header_unique _ _ _ _ _ _ _ (parts_of_loose_header _ kind' size' used' found) (parts_of_loose_header _ kind size used header) in
     cc (same.0, same.1, same.2)
@@ -133,7 +133,7 @@ decode_header_of_loose_header input (Err error) found failure kind size used hea
     absurd (no_error_of_loose_header _ kind size used error (parts_of_loose_header _ kind size used header) failure)
 
 pub encode_loose_header_decodes : (kind : Kind) (size : ℕ) (rest : List ℕ) → size < 2 ^ 64
-    → HasLooseHeader (encode_loose_header kind size ++ rest) kind size (length (encode_loose_header kind size))
+    → HasLooseHeaderOfLength (encode_loose_header kind size ++ rest) kind size (length (encode_loose_header kind size))
 encode_loose_header_decodes kind size rest fits =
     let header_bytes = encode_loose_header kind size in (
       omega (arith, length-append header_bytes rest),

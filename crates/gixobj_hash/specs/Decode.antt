@@ -53,22 +53,22 @@ pub record IsLooseHeader (bytes : List ℕ) (kind : Kind) (size : ℕ) : Type 0 
   pub decodes : DecodesToSize size_bytes size
 
 -- the input begins with a loose header of this kind and size, and the rest follows
-abbrev pub BeginsWithHeader : List ℕ → Kind → ℕ → List ℕ → Type 0
-BeginsWithHeader input kind size rest = (header : List ℕ) × (input ≡ header ++ rest) × IsLooseHeader header kind size
+abbrev pub BeginsWithLooseHeader : List ℕ → Kind → ℕ → List ℕ → Type 0
+BeginsWithLooseHeader input kind size rest = (header : List ℕ) × (input ≡ header ++ rest) × IsLooseHeader header kind size
 
 -- the input begins with a loose object: a header that states this kind and the length of the content, and then the
 -- content. Any bytes may follow
 abbrev pub HasContent : List ℕ → Kind → List ℕ → Type 0
-HasContent input kind content = (rest : List ℕ) × BeginsWithHeader input kind (length content) (content ++ rest)
+HasContent input kind content = (rest : List ℕ) × BeginsWithLooseHeader input kind (length content) (content ++ rest)
 
 -- fewer bytes follow the header than it states
 abbrev pub IsShort : List ℕ → Type 0
-IsShort input = (kind : Kind) × (size : ℕ) × (rest : List ℕ) × BeginsWithHeader input kind size rest
+IsShort input = (kind : Kind) × (size : ℕ) × (rest : List ℕ) × BeginsWithLooseHeader input kind size rest
     × (length rest < size)
 
 -- the input begins with a loose header, whose length is `used`
-abbrev pub HasLooseHeader : List ℕ → Kind → ℕ → ℕ → Type 0
-HasLooseHeader input kind size used = (used ≤ length input) × IsLooseHeader (take used input) kind size
+abbrev pub HasLooseHeaderOfLength : List ℕ → Kind → ℕ → ℕ → Type 0
+HasLooseHeaderOfLength input kind size used = (used ≤ length input) × IsLooseHeader (take used input) kind size
 
 -- the bytes before the first space are an unknown kind
 abbrev pub HasUnknownKind : List ℕ → List ℕ → Type 0
@@ -99,5 +99,5 @@ IsLooseHeaderError input OutOfMemory =
 -- states
 abbrev pub IsLooseContentError : List ℕ → LooseContentError → Type 0
 IsLooseContentError input (Header error) = IsLooseHeaderError input error
-IsLooseContentError input (Short size) = (kind : Kind) × (rest : List ℕ) × BeginsWithHeader input kind size rest
+IsLooseContentError input (Short size) = (kind : Kind) × (rest : List ℕ) × BeginsWithLooseHeader input kind size rest
     × (length rest < size)

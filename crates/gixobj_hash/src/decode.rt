@@ -4,7 +4,7 @@ ghost use Rattle.std.specs.Option.{SomeIff};
 ghost use Rattle.std.specs.Str.Parse.{AllDigits, IsNumeral, digits_value, starts_with_minus};
 ghost use Rattle.gixobj_hash.specs.declared.decode.Error.TheVariants.{OutOfMemory};
 ghost use Rattle.gixobj_hash.specs.declared.kind.Kind.{Kind};
-ghost use Rattle.gixobj_hash.specs.Decode.{HasContent, HasLooseHeader, HasSizeFault, DecodesToSize, IsLooseHeaderError, IsLooseContentError, IsSizeError, size_digits};
+ghost use Rattle.gixobj_hash.specs.Decode.{HasContent, HasLooseHeaderOfLength, HasSizeFault, DecodesToSize, IsLooseHeaderError, IsLooseContentError, IsSizeError, size_digits};
 
 use crate::split::{are_digits, number_from_digits, split_at_byte};
 use crate::{Kind, kind};
@@ -198,9 +198,9 @@ pub fn loose_header(
     alloc: Global,
     input: &[u8],
 ) -> Result<(Kind, u64, usize), LooseHeaderDecodeError>
-    ensures accepts { (kind : Kind) (size used : ℕ) → HasLooseHeader input.now kind size used
+    ensures accepts { (kind : Kind) (size used : ℕ) → HasLooseHeaderOfLength input.now kind size used
         → result ≡ Ok (kind, size, used) }
-    ensures found { IfOk result (λ header. HasLooseHeader input.now header.0 header.1 header.2) }
+    ensures found { IfOk result (λ header. HasLooseHeaderOfLength input.now header.0 header.1 header.2) }
     ensures error { IfErr result (IsLooseHeaderError input.now) }
 {
     decode_loose_header_parts(alloc, input)
@@ -211,7 +211,7 @@ fn decode_loose_header_parts(
     alloc: Global,
     input: &[u8],
 ) -> Result<(Kind, u64, usize), LooseHeaderDecodeError>
-    ensures found { IfOk result (λ header. HasLooseHeader input.now header.0 header.1 header.2) }
+    ensures found { IfOk result (λ header. HasLooseHeaderOfLength input.now header.0 header.1 header.2) }
     ensures error { IfErr result (IsLooseHeaderError input.now) }
 {
     let Some((token, after)) = split_at_byte(input, b' ') else {

@@ -3,7 +3,7 @@
 ghost use Rattle.std.specs.Prelude.{◌≡◌, ◌<◌, ◌^◌, ◌++◌, ℕ, List, length};
 ghost use Rattle.std.specs.List.{AllPass};
 ghost use Rattle.std.specs.Str.{str_to_ascii_lowercase};
-ghost use Rattle.gixobj_hash.specs.Decode.{HasLooseHeader};
+ghost use Rattle.gixobj_hash.specs.Decode.{HasLooseHeaderOfLength};
 ghost use Rattle.gixobj_hash.specs.Encode.{encode_loose_header};
 ghost use Rattle.gixobj_hash.specs.Hash.{IsIdHex, IsId, DecodesToId, encode_id_hex, is_lower_hex_digit};
 ghost use Rattle.gixobj_hash.specs.Hash.Hex.{decoded_id};
@@ -13,7 +13,7 @@ ghost use Rattle.gixobj_hash.specs.declared.kind.Kind.{Kind};
 /// An encoded loose header decodes to the same kind and size, whatever bytes follow it.
 pub fn loose_header_round_trips()
     ensures { (kind : Kind) (size : ℕ) (rest : List ℕ) → size < 2 ^ 64
-        → HasLooseHeader (encode_loose_header kind size ++ rest) kind size
+        → HasLooseHeaderOfLength (encode_loose_header kind size ++ rest) kind size
         (length (encode_loose_header kind size)) }
 {}
 

@@ -6,4 +6,5 @@ pub use Rattle.gixobj_line.specs.TagPrefix
 pub use Rattle.gixobj_store.specs.Stores
 pub use Rattle.gixobj_tree.specs.TreeDecoding
 pub use Rattle.gixobj_tree.specs.TreeEncoding
+pub use Rattle.gixobj_tree.specs.TreeSizes
 pub use Rattle.gixobj_tree.specs.TreeViews

@@ -6,13 +6,13 @@ use Rattle.std.proofs.lemmas.List.Concat.{flat_map-append}
 use Rattle.std.proofs.lemmas.List.Elements.{All-nil, All-push}
 use Rattle.std.specs.List.{flat_map}
 use Rattle.std.specs.Prelude.{codes}
-use Rattle.gixobj_fields.specs.HeaderFormat.{HasField, Header, DecodesToHeader, encode_field}
+use Rattle.gixobj_fields.specs.HeaderFormat.{BeginsWithField, Header, DecodesToHeader, encode_field}
 use Rattle.gixobj_fields.specs.Runs.{Passes}
 use Rattle.gixobj_hash.specs.Hash.Hex.{IsIdHexOfKind}
 use Rattle.gixobj_hash.specs.declared.hash.kind.Kind.{Kind}
 use Rattle.gixobj_line.specs.Commit.{DecodesToHeaders, BeginsCommit, CommitLines, DecodesToCommit, IsEncoding, before_encoding, encode_encoding, encode_ids, encode_parent}
 use Rattle.gixobj_line.specs.Gathering.{gather, gathered, empty_commit}
-use Rattle.gixobj_line.specs.Lines.{HasLine, LineView, author_comes, committer_comes, encoding_comes, first_header_comes, first_message_comes, header_comes, header_line, message_comes, parent_comes, tree_comes}
+use Rattle.gixobj_line.specs.Lines.{BeginsWithLine, LineView, author_comes, committer_comes, encoding_comes, first_header_comes, first_message_comes, header_comes, header_line, message_comes, parent_comes, tree_comes}
 use Rattle.gixobj_actor.specs.Actor.{NamesActor}
 use Rattle.gixobj_line.specs.declared.lines.State.{State}
 use Rattle.gixobj_line.specs.declared.lines.State.TheVariants as state
@@ -120,7 +120,7 @@ begins_commit_gather_header kind bytes input first rest commit header begins joi
 
 write_encoding : (kind : Kind) (bytes input encoding rest : List ℕ) (commit : CommitLines) → BeginsCommit kind bytes commit input
     → LacksHeaders commit
-    → HasField (codes "encoding") input encoding rest
+    → BeginsWithField (codes "encoding") input encoding rest
     → BeginsCommit kind bytes (record commit { encoding = Some encoding }) rest
 write_encoding kind bytes input encoding rest commit begins lacks has =
     record {
@@ -170,7 +170,7 @@ write_message kind bytes input message commit begins is =
 
 pub reads_gather : (kind : Kind) (bytes : List ℕ) (commit : CommitLines) (before : State) (input : List ℕ) (line : LineView) (following : State)
     (rest : List ℕ)
-    → HasLine kind before input line following rest
+    → BeginsWithLine kind before input line following rest
     → Reads kind bytes before input commit → Reads kind bytes following rest (gather commit line)
 reads_gather kind bytes commit before input line after rest (tree_comes _ hex _ has) (is, none, lacks) = (
   first_id bytes (encode_field (codes "tree") hex) input rest commit.parents is has.0.joined none,
@@ -208,7 +208,7 @@ reads_gather kind bytes commit before input line after rest (message_comes _ mes
     write_message kind bytes input message commit begins is
 
 pub reads_gathered : (kind : Kind) (bytes : List ℕ) (commit : CommitLines) (before : State) (input : List ℕ) (lines : List LineView) (following : State)
-    (rest : List ℕ) → Passes (HasLine kind) before input lines following rest
+    (rest : List ℕ) → Passes (BeginsWithLine kind) before input lines following rest
     → Reads kind bytes before input commit → Reads kind bytes following rest (gathered commit lines)
 reads_gathered kind bytes commit before input [] following rest (same_state, same_input) reads = rw (← same_state, ← same_input) reads
 reads_gathered kind bytes commit before input (line ∷ lines) following rest (next, after, has, more) reads =
@@ -217,6 +217,6 @@ reads_gathered kind bytes commit before input (line ∷ lines) following rest (n
 
 -- the lines of the encoding from its start
 pub reads_gathered_of_empty : (kind : Kind) (bytes : List ℕ) (lines : List LineView) (following : State) (rest : List ℕ)
-    → Passes (HasLine kind) state.Tree bytes lines following rest → Reads kind bytes following rest (gathered empty_commit lines)
+    → Passes (BeginsWithLine kind) state.Tree bytes lines following rest → Reads kind bytes following rest (gathered empty_commit lines)
 reads_gathered_of_empty kind bytes lines following rest passes = reads_gathered kind bytes empty_commit state.Tree bytes lines following rest passes
     (refl, refl, (refl, refl))

@@ -7,7 +7,7 @@ use Rattle.std.specs.List.{flat_map}
 use Rattle.std.specs.Prelude.{codes, map}
 use Rattle.gixobj_fields.proofs.HeaderFields.{is_id_hex_of_decoded}
 use Rattle.gixobj_fields.proofs.Runs.{after_passed, one_run, passes_one}
-use Rattle.gixobj_fields.specs.HeaderFormat.{BeginsSeveralLines, Header, DecodesToHeader, HasOtherName, encode_field}
+use Rattle.gixobj_fields.specs.HeaderFormat.{BeginsWithSeveralLines, Header, DecodesToHeader, BeginsWithOtherName, encode_field}
 use Rattle.gixobj_fields.specs.Runs.{HasNoPiece, Passes, Yields, complete, yields_end, yields_piece}
 use Rattle.gixobj_hash.specs.Hash.{IsIdHex}
 use Rattle.gixobj_hash.specs.Hash.Hex.{IsIdHexOfKind}
@@ -19,7 +19,7 @@ use Rattle.gixobj_line.proofs.LinesYielded.{yields_lines_of_commit}
 use Rattle.gixobj_line.proofs.OneLine.{line_len_lt, no_line_of_nil, line_unique}
 use Rattle.gixobj_line.specs.Commit.{CommitLines, DecodesToCommit, IsCommit, IsMalformedCommit, ReachesHeader, ReachesSecondParent, IsCommitDecodeError, encoding_lines, lines_of_commit, encode_parent}
 use Rattle.gixobj_line.specs.Gathering.{Gathers, Allocates, gather, gathered, empty_commit}
-use Rattle.gixobj_line.specs.Lines.{HasLine, HasSomeLine, LineView, MayFold, IsLineError, author_comes, author_line, committer_comes, committer_line, encoding_comes, first_header_comes, first_message_comes, header_comes, header_line, message_comes, message_line, parent_comes, parent_line, tree_comes, tree_line}
+use Rattle.gixobj_line.specs.Lines.{BeginsWithLine, BeginsWithSomeLine, LineView, MayFold, IsLineError, author_comes, author_line, committer_comes, committer_line, encoding_comes, first_header_comes, first_message_comes, header_comes, header_line, message_comes, message_line, parent_comes, parent_line, tree_comes, tree_line}
 use Rattle.gixobj_hash.specs.ByteStrings.{IsByteFree}
 use Rattle.gixobj_line.specs.declared.lines.State.{State}
 use Rattle.gixobj_line.specs.declared.lines.State.TheVariants as state
@@ -64,7 +64,7 @@ lines_gathered commit =
 pub commit_unique : (kind : Kind) (bytes : List ℕ) (a b : CommitLines) → DecodesToCommit kind bytes a → DecodesToCommit kind bytes b → a ≡ b
 commit_unique kind bytes a b is is' =
     let seen = yields_lines_of_commit kind bytes a is in
-    let same = (one_run (HasLine kind) (line_unique kind) (no_line_of_nil kind) state.Tree bytes (lines_of_commit a)
+    let same = (one_run (BeginsWithLine kind) (line_unique kind) (no_line_of_nil kind) state.Tree bytes (lines_of_commit a)
     (lines_of_commit b) complete complete seen
     (yields_lines_of_commit kind bytes b is')).0 in
     sym (lines_gathered a) ∙ ap (λ (it : List LineView). gathered empty_commit it) same ∙ lines_gathered b
@@ -72,23 +72,23 @@ commit_unique kind bytes a b is is' =
 -- ---- without a line before the end there is no commit
 
 message_ends : (kind : Kind) (before : State) (input message : List ℕ) (following : State) (rest : List ℕ)
-    → HasLine kind before input (message_line message) following rest → following ≡ state.End
+    → BeginsWithLine kind before input (message_line message) following rest → following ≡ state.End
 message_ends kind before input message following rest (first_message_comes _ _ is) = refl
 message_ends kind before input message following rest (message_comes _ _ is) = refl
 
 -- after lines that end with a message, the decoder is at the end
 pub end_state_of_message : (kind : Kind) (before : State) (input : List ℕ) (lines prefix : List LineView) (message : List ℕ) (following : State)
     (rest : List ℕ)
-    → Passes (HasLine kind) before input lines following rest
+    → Passes (BeginsWithLine kind) before input lines following rest
     → lines ≡ prefix ++ message_line message ∷ [] → following ≡ state.End
 end_state_of_message kind before input [] [] message following rest passes is = cc is
 end_state_of_message kind before input [] (first ∷ prefix) message following rest passes is = cc is
 end_state_of_message kind before input (line ∷ lines) [] message following rest (next, after, has, more) is =
     let first : line ≡ message_line message = cc is in
     let none : lines ≡ [] = cc is in
-    let at_end : Passes (HasLine kind) next after [] following rest =
-    subst (λ (it : List LineView). Passes (HasLine kind) next after it following rest) none more in
-    sym at_end.0 ∙ message_ends kind before input message next after (subst (λ (it : LineView). HasLine kind before input it next after) first has)
+    let at_end : Passes (BeginsWithLine kind) next after [] following rest =
+    subst (λ (it : List LineView). Passes (BeginsWithLine kind) next after it following rest) none more in
+    sym at_end.0 ∙ message_ends kind before input message next after (subst (λ (it : LineView). BeginsWithLine kind before input it next after) first has)
 end_state_of_message kind before input (line ∷ lines) (first ∷ prefix) message following rest (next, after, has, more) is =
     let others : lines ≡ prefix ++ message_line message ∷ [] =
     cc is in end_state_of_message kind next after lines prefix message following rest more others
@@ -101,18 +101,18 @@ lines_end_with_message commit = (
 )
 
 stops : (kind : Kind) (bytes : List ℕ) (lines others : List LineView) (following : State) (rest : List ℕ) (commit : CommitLines)
-    → Passes (HasLine kind) state.Tree bytes lines following rest → HasNoPiece (HasLine kind) following rest → following ≢ state.End
-    → lines_of_commit commit ≡ lines ++ others → Yields (HasLine kind) following rest others complete → ⊥
+    → Passes (BeginsWithLine kind) state.Tree bytes lines following rest → HasNoPiece (BeginsWithLine kind) following rest → following ≢ state.End
+    → lines_of_commit commit ≡ lines ++ others → Yields (BeginsWithLine kind) following rest others complete → ⊥
 stops kind bytes lines others following rest commit passes none going is (yields_end _) =
     let last = lines_end_with_message commit in
     going (end_state_of_message kind state.Tree bytes lines last.0 commit.message following rest passes (sym (append-nil lines) ∙ sym is ∙ last.1))
 stops kind bytes lines others following rest commit passes none going is (yields_piece _ next _ after line more _ has seen) = none line next after has
 
 pub malformed_commit_of_no_line : (kind : Kind) (bytes : List ℕ) (lines : List LineView) (following : State) (rest : List ℕ)
-    → Passes (HasLine kind) state.Tree bytes lines following rest → HasNoPiece (HasLine kind) following rest → following ≢ state.End
+    → Passes (BeginsWithLine kind) state.Tree bytes lines following rest → HasNoPiece (BeginsWithLine kind) following rest → following ≢ state.End
     → IsMalformedCommit kind bytes
 malformed_commit_of_no_line kind bytes lines following rest passes none going commit is =
-    let at = after_passed (HasLine kind) (line_unique kind) (no_line_of_nil kind) state.Tree following bytes rest lines
+    let at = after_passed (BeginsWithLine kind) (line_unique kind) (no_line_of_nil kind) state.Tree following bytes rest lines
     (lines_of_commit commit) complete passes (yields_lines_of_commit kind bytes commit is) in
     stops kind bytes lines at.others following rest commit passes none going at.joined at.yielded
 
@@ -147,10 +147,10 @@ two_parents kind bytes tree hex rest (first ∷ second ∷ parents) some is of_t
           (All-cons P second [] (All-head P second (parents ++ hex ∷ []) more) (All-nil P)));
     }
 
-abbrev first_header : {input : List ℕ} → BeginsSeveralLines input → Header
+abbrev first_header : {input : List ℕ} → BeginsWithSeveralLines input → Header
 first_header several = record { name = several.name; value = several.first }
 
-first_line : (input : List ℕ) → (several : BeginsSeveralLines input) → DecodesToHeader (encode_field several.name several.first)
+first_line : (input : List ℕ) → (several : BeginsWithSeveralLines input) → DecodesToHeader (encode_field several.name several.first)
     (first_header several)
 first_line input several =
     record {
@@ -163,7 +163,7 @@ first_line input several =
       value = refl;
     }
 
-not_encoding : (input : List ℕ) → (several : BeginsSeveralLines input) → HasOtherName (codes "encoding") input → several.name ≢ codes "encoding"
+not_encoding : (input : List ℕ) → (several : BeginsWithSeveralLines input) → BeginsWithOtherName (codes "encoding") input → several.name ≢ codes "encoding"
 not_encoding input several lacks same =
     let flat : encode_field several.name several.first ++ 32 ∷ several.rest ≡ several.name ++ 32 ∷ (several.first ++ 10 ∷ (32 ∷ several.rest)) =
     simp append_assoc in
@@ -171,7 +171,7 @@ not_encoding input several lacks same =
 
 -- a header of several lines is reached
 several_reached : (kind : Kind) (bytes : List ℕ) (before : State) (input : List ℕ) (commit : CommitLines) → Reads kind bytes before input commit
-    → MayFold before input → BeginsSeveralLines input → ReachesHeader kind bytes
+    → MayFold before input → BeginsWithSeveralLines input → ReachesHeader kind bytes
 several_reached kind bytes state.Tree input commit reads may several = absurd may
 several_reached kind bytes state.Parents input commit reads may several = absurd may
 several_reached kind bytes state.Committer input commit reads may several = absurd may
@@ -200,10 +200,10 @@ gathered_more commit (first ∷ lines) line = gathered_more (gather commit first
 
 pub gathers_snoc : (kind : Kind) (bytes : List ℕ) (commit after : CommitLines) (before following : State) (input rest : List ℕ) (line : LineView)
     → Gathers kind bytes before input commit
-    → HasLine kind before input line following rest → after ≡ gather commit line → Gathers kind bytes following rest after
+    → BeginsWithLine kind before input line following rest → after ≡ gather commit line → Gathers kind bytes following rest after
 gathers_snoc kind bytes commit after before following input rest line (lines, passes, is) has grown = (
   lines ++ line ∷ [],
-  passes_one (HasLine kind) state.Tree before following bytes input rest lines line passes has,
+  passes_one (BeginsWithLine kind) state.Tree before following bytes input rest lines line passes has,
   grown
       ∙ ap (λ (it : CommitLines). gather it line) is ∙ sym (gathered_more empty_commit lines line),
 )
@@ -229,7 +229,7 @@ decode_error_of_line_error kind bytes before input commit error OutOfMemory same
     rw same (inr (several_reached kind bytes before input commit (reads_gathered kind bytes before input commit gathers) may several))
 
 pub reaches_second_parent_or_header : (kind : Kind) (bytes : List ℕ) (commit : CommitLines) (before following : State) (input rest : List ℕ) (line : LineView)
-    → Gathers kind bytes before input commit → HasLine kind before input line following rest → Allocates commit line
+    → Gathers kind bytes before input commit → BeginsWithLine kind before input line following rest → Allocates commit line
     → ReachesSecondParent kind bytes ⊎ ReachesHeader kind bytes
 reaches_second_parent_or_header kind bytes commit before following input rest line gathers (tree_comes _ hex _ has) takes = absurd takes
 reaches_second_parent_or_header kind bytes commit before following input rest line gathers (parent_comes _ hex _ has) takes =
@@ -261,15 +261,15 @@ parents_are_id_hex kind (hex ∷ hexes) are = All-cons IsIdHex hex hexes (is_id_
 
 -- the bytes begin with some lines of a commit, and the rest follows in this state
 abbrev pub Reaches : Kind → List ℕ → State → List ℕ → Type 0
-Reaches kind bytes after rest = (lines : List LineView) × Passes (HasLine kind) state.Tree bytes lines after rest
+Reaches kind bytes after rest = (lines : List LineView) × Passes (BeginsWithLine kind) state.Tree bytes lines after rest
 
 pub reaches_start : (kind : Kind) (bytes : List ℕ) → Reaches kind bytes state.Tree bytes
 reaches_start kind bytes = ([], (refl, refl))
 
 pub reaches_more : (kind : Kind) (bytes : List ℕ) (before following : State) (input rest : List ℕ) → Reaches kind bytes before input
-    → HasSomeLine kind before input following rest → Reaches kind bytes following rest
+    → BeginsWithSomeLine kind before input following rest → Reaches kind bytes following rest
 reaches_more kind bytes before following input rest (lines, passes) (line, has) =
-    (lines ++ line ∷ [], passes_one (HasLine kind) state.Tree before following bytes input rest lines line passes has)
+    (lines ++ line ∷ [], passes_one (BeginsWithLine kind) state.Tree before following bytes input rest lines line passes has)
 
 pub reaches_end : (kind : Kind) (bytes : List ℕ) (following : State) (rest : List ℕ) → Reaches kind bytes following rest → following ≡ state.End
     → IsCommit kind bytes
@@ -279,9 +279,9 @@ reaches_end kind bytes following rest (lines, passes) at_end = (
 )
 
 pub reaches_none : (kind : Kind) (bytes : List ℕ) (before : State) (input : List ℕ) → Reaches kind bytes before input
-    → HasNoPiece (HasLine kind) before input → before ≢ state.End → IsMalformedCommit kind bytes
+    → HasNoPiece (BeginsWithLine kind) before input → before ≢ state.End → IsMalformedCommit kind bytes
 reaches_none kind bytes before input (lines, passes) none going = malformed_commit_of_no_line kind bytes lines before input passes none going
 
 pub some_line_shortens : (kind : Kind) (before : State) (input : List ℕ) (following : State) (rest : List ℕ)
-    → HasSomeLine kind before input following rest → length rest < length input
+    → BeginsWithSomeLine kind before input following rest → length rest < length input
 some_line_shortens kind before input following rest (line, has) = line_len_lt kind before input line following rest has

@@ -4,19 +4,19 @@ use Rattle.std.proofs.lemmas.List.Elements.{All-head, All-tail}
 use Rattle.std.specs.List.{flat_map}
 use Rattle.std.specs.Prelude.{codes, map}
 use Rattle.gixobj_fields.proofs.HeaderFields.{hex_digits_newline_free}
-use Rattle.gixobj_fields.specs.HeaderFormat.{EndsHeader, HasField, HasHeader, Header, DecodesToHeader, encode_field, encode_continuation}
+use Rattle.gixobj_fields.specs.HeaderFormat.{EndsHeader, BeginsWithField, BeginsWithHeader, Header, DecodesToHeader, encode_field, encode_continuation}
 use Rattle.gixobj_fields.specs.Runs.{Yields, complete, yields_end, yields_piece}
 use Rattle.gixobj_hash.specs.Hash.Hex.{IsIdHexOfKind}
 use Rattle.gixobj_hash.specs.declared.hash.kind.Kind.{Kind}
 use Rattle.gixobj_line.specs.Commit.{DecodesToHeaders, CommitLines, DecodesToCommit, IsEncoding, encoding_lines, encode_encoding, lines_of_commit, encode_parent}
-use Rattle.gixobj_line.specs.Lines.{HasLine, LineView, author_comes, author_line, committer_comes, committer_line, encoding_comes, encoding_line, first_header_comes, first_message_comes, header_comes, header_line, message_comes, message_line, parent_comes, parent_line, tree_comes, tree_line}
+use Rattle.gixobj_line.specs.Lines.{BeginsWithLine, LineView, author_comes, author_line, committer_comes, committer_line, encoding_comes, encoding_line, first_header_comes, first_message_comes, header_comes, header_line, message_comes, message_line, parent_comes, parent_line, tree_comes, tree_line}
 use Rattle.gixobj_actor.specs.Actor.{NamesActor}
 use Rattle.gixobj_line.specs.declared.lines.State.TheVariants as state
 use Rattle.gixobj_hash.specs.ByteStrings.{IsByteFree}
 
 -- ---- fields
 
-pub has_field_of_encode_field : (name value rest : List ℕ) → IsByteFree 10 value → HasField name (encode_field name value ++ rest) value rest
+pub has_field_of_encode_field : (name value rest : List ℕ) → IsByteFree 10 value → BeginsWithField name (encode_field name value ++ rest) value rest
 has_field_of_encode_field name value rest free = record { joined = refl; one_line = free }
 
 -- ---- headers
@@ -34,7 +34,7 @@ headers_end bytes message (header ∷ headers) (first, rest, joined, is, others)
 
 header_there : (bytes first rest message : List ℕ) (header : Header) (headers : List Header) → bytes ≡ first ++ rest → DecodesToHeader first header
     → DecodesToHeaders rest headers
-    → HasHeader (bytes ++ 10 ∷ message) header (rest ++ 10 ∷ message)
+    → BeginsWithHeader (bytes ++ 10 ∷ message) header (rest ++ 10 ∷ message)
 header_there bytes first rest message header headers joined is others =
     record {
       encoded = first;
@@ -44,7 +44,7 @@ header_there bytes first rest message header headers joined is others =
     }
 
 headers_yielded : (kind : Kind) (bytes message : List ℕ) (headers : List Header) → DecodesToHeaders bytes headers
-    → Yields (HasLine kind) state.ExtraHeaders (bytes ++ 10 ∷ message) (map header_line headers ++ message_line message ∷ []) complete
+    → Yields (BeginsWithLine kind) state.ExtraHeaders (bytes ++ 10 ∷ message) (map header_line headers ++ message_line message ∷ []) complete
 headers_yielded kind bytes message [] is =
     rw is (yields_piece state.ExtraHeaders state.End (10 ∷ message) [] (message_line message) [] complete (message_comes _ message refl)
     (yields_end state.End))
@@ -56,7 +56,7 @@ headers_yielded kind bytes message (header ∷ headers) (first, rest, joined, is
 
 encoding_yielded : (kind : Kind) (encoding : Option (List ℕ)) (bytes message : List ℕ) (headers : List Header) → IsEncoding encoding headers
     → DecodesToHeaders bytes headers
-    → Yields (HasLine kind) state.Encoding (encode_encoding encoding ++ (bytes ++ 10 ∷ message))
+    → Yields (BeginsWithLine kind) state.Encoding (encode_encoding encoding ++ (bytes ++ 10 ∷ message))
     (encoding_lines encoding ++ (map header_line headers ++ message_line message ∷ [])) complete
 encoding_yielded kind (Some encoding) bytes message headers free are =
     yields_piece state.Encoding state.ExtraHeaders (encode_field (codes "encoding") encoding ++ (bytes ++ 10 ∷ message)) (bytes ++ 10 ∷ message)
@@ -73,8 +73,8 @@ encoding_yielded kind None bytes message (header ∷ headers) other (first, rest
     (headers_yielded kind rest message headers others)
 
 parents_yielded : (kind : Kind) (hexes : List (List ℕ)) (rest : List ℕ) (lines : List LineView) → All (IsIdHexOfKind kind) hexes
-    → Yields (HasLine kind) state.Parents rest lines complete
-    → Yields (HasLine kind) state.Parents (flat_map encode_parent hexes ++ rest) (map parent_line hexes ++ lines) complete
+    → Yields (BeginsWithLine kind) state.Parents rest lines complete
+    → Yields (BeginsWithLine kind) state.Parents (flat_map encode_parent hexes ++ rest) (map parent_line hexes ++ lines) complete
 parents_yielded kind [] rest lines are seen = seen
 parents_yielded kind (hex ∷ hexes) rest lines are seen =
     let P : List ℕ → Type 0 = IsIdHexOfKind kind in
@@ -99,7 +99,7 @@ actor_is_one_line : (line : List ℕ) → NamesActor line → IsByteFree 10 line
 actor_is_one_line line (name, email, time, is) = is.one_line
 
 pub yields_lines_of_commit : (kind : Kind) (bytes : List ℕ) (commit : CommitLines) → DecodesToCommit kind bytes commit
-    → Yields (HasLine kind) state.Tree bytes (lines_of_commit commit) complete
+    → Yields (BeginsWithLine kind) state.Tree bytes (lines_of_commit commit) complete
 yields_lines_of_commit kind bytes commit is =
     let after = encoding_yielded kind commit.encoding is.headers_encoding commit.message commit.extra_headers is.encoding is.extra_headers in
     let committed = yields_piece state.Committer state.Encoding _ _ (committer_line commit.committer) _ complete

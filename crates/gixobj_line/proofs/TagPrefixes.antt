@@ -2,8 +2,8 @@
 use Rattle.std.proofs.Common.{◌≡◌, ℕ, List, [], ◌∷◌, ◌++◌, Option, Some, None, append_assoc, ap, arith, refl, subst, sym, ◌∙◌}
 use Rattle.std.specs.Prelude.{Bool, MatchBool, codes, false, true}
 use Rattle.gixobj_fields.proofs.HeaderFields.{hex_digits_newline_free, first_bytes_eq, field_unique}
-use Rattle.gixobj_fields.specs.HeaderReading.{HasId, HasNoId, HasNoKind}
-use Rattle.gixobj_fields.specs.HeaderFormat.{HasField, HasOtherName, encode_field}
+use Rattle.gixobj_fields.specs.HeaderReading.{BeginsWithIdField, BeginsWithNoIdField, BeginsWithNoKindField}
+use Rattle.gixobj_fields.specs.HeaderFormat.{BeginsWithField, BeginsWithOtherName, encode_field}
 use Rattle.gixobj_hash.proofs.Splits.{byte_free_of_all_pass}
 use Rattle.gixobj_hash.specs.Kind.{kind_name}
 use Rattle.gixobj_hash.specs.ByteStrings.{IsByteFree}
@@ -11,7 +11,7 @@ use Rattle.gixobj_hash.specs.declared.hash.kind.Kind as hash
 use Rattle.gixobj_hash.specs.declared.kind.Kind.{Kind}
 use Rattle.gixobj_hash.specs.declared.kind.Kind.TheVariants as object
 use Rattle.gixobj_line.proofs.TagLines.{tagger_unique}
-use Rattle.gixobj_line.specs.TagLines.{HasName, HasNoName, HasMalformedTagger, HasTagger}
+use Rattle.gixobj_line.specs.TagLines.{BeginsWithTagName, BeginsWithNoTagName, BeginsWithMalformedTagger, BeginsWithTagger}
 use Rattle.gixobj_line.specs.TagPrefix.{BeginsTag, IsTagBody, IsTag, IsTaggerLine, encode_tagger}
 
 -- the lines of a tag, decoded in turn, up to its body
@@ -23,10 +23,10 @@ pub record ReadsPrefix (kind : hash.Kind) (bytes body : List ℕ) : Type 0 where
   pub after_target : List ℕ
   pub after_kind : List ℕ
   pub after_name : List ℕ
-  pub has_target : HasId (codes "object") kind bytes target after_target
-  pub has_kind : HasField (codes "type") after_target (kind_name target_kind) after_kind
-  pub has_name : HasName after_kind name after_name
-  pub has_tagger : HasTagger after_name tagger body
+  pub has_target : BeginsWithIdField (codes "object") kind bytes target after_target
+  pub has_kind : BeginsWithField (codes "type") after_target (kind_name target_kind) after_kind
+  pub has_name : BeginsWithTagName after_kind name after_name
+  pub has_tagger : BeginsWithTagger after_name tagger body
 
 -- ---- joined
 
@@ -34,11 +34,11 @@ join_lines : (bytes target a kind b name c tagger body : List ℕ) → bytes ≡
     → bytes ≡ (((target ++ kind) ++ name) ++ tagger) ++ body
 join_lines bytes target a kind b name c tagger body one two three four = rw (one, two, three, four) (sym (simp append_assoc))
 
-tagger_joined : (tagger : Option (List ℕ)) (input rest : List ℕ) → HasTagger input tagger rest → input ≡ encode_tagger tagger ++ rest
+tagger_joined : (tagger : Option (List ℕ)) (input rest : List ℕ) → BeginsWithTagger input tagger rest → input ≡ encode_tagger tagger ++ rest
 tagger_joined None input rest (lacks, same) = sym same
 tagger_joined (Some line) input rest (field, actor) = field.joined
 
-tagger_begins : (tagger : Option (List ℕ)) (input rest : List ℕ) → HasTagger input tagger rest → IsTaggerLine tagger
+tagger_begins : (tagger : Option (List ℕ)) (input rest : List ℕ) → BeginsWithTagger input tagger rest → IsTaggerLine tagger
 tagger_begins None input rest has = tt
 tagger_begins (Some line) input rest (field, actor) = actor
 
@@ -61,7 +61,7 @@ parts_append kind bytes body reads =
 -- ---- split
 
 -- no body begins as a tagger line does
-lacks_tagger : (body : List ℕ) → IsTagBody body → HasOtherName (codes "tagger") body
+lacks_tagger : (body : List ℕ) → IsTagBody body → BeginsWithOtherName (codes "tagger") body
 lacks_tagger [] is rest same = cc same
 lacks_tagger (byte ∷ more) is rest same = let first : 116 ≡ 10 = first_bytes_eq 116 10 _ _ (sym same ∙ ap (λ (it : ℕ). it ∷ more) is) in absurd
     (omega (arith, first))
@@ -72,10 +72,10 @@ value_is_one_line object.Blob = byte_free_of_all_pass 10 (kind_name object.Blob)
 value_is_one_line object.Commit = byte_free_of_all_pass 10 (kind_name object.Commit) refl
 value_is_one_line object.Tag = byte_free_of_all_pass 10 (kind_name object.Tag) refl
 
-field_there : (name input value rest : List ℕ) → input ≡ encode_field name value ++ rest → IsByteFree 10 value → HasField name input value rest
+field_there : (name input value rest : List ℕ) → input ≡ encode_field name value ++ rest → IsByteFree 10 value → BeginsWithField name input value rest
 field_there name input value rest joined free = record { joined = joined; one_line = free }
 
-tagger_there : (tagger : Option (List ℕ)) (body : List ℕ) → IsTaggerLine tagger → IsTagBody body → HasTagger (encode_tagger tagger ++ body) tagger body
+tagger_there : (tagger : Option (List ℕ)) (body : List ℕ) → IsTaggerLine tagger → IsTagBody body → BeginsWithTagger (encode_tagger tagger ++ body) tagger body
 tagger_there None body begins is = (lacks_tagger body is, refl)
 tagger_there (Some line) body (name, email, time, rest, actor) is =
     (field_there (codes "tagger") (encode_field (codes "tagger") line ++ body) line body refl actor.one_line, (name, email, time, rest, actor))
@@ -109,8 +109,8 @@ take_apart kind bytes body it is =
 -- ---- whether bytes are a tag
 
 pub all_read : (kind : hash.Kind) (bytes target typed : List ℕ) (target_kind : Kind) (named name tagged : List ℕ) (tagger : Option (List ℕ)) (body : List ℕ)
-    → HasId (codes "object") kind bytes target typed
-    → HasField (codes "type") typed (kind_name target_kind) named → HasName named name tagged → HasTagger tagged tagger body → IsTagBody body
+    → BeginsWithIdField (codes "object") kind bytes target typed
+    → BeginsWithField (codes "type") typed (kind_name target_kind) named → BeginsWithTagName named name tagged → BeginsWithTagger tagged tagger body → IsTagBody body
     → IsTag kind bytes
 all_read kind bytes target typed target_kind named name tagged tagger body has_target has_kind has_name has_tagger is =
     let reads : ReadsPrefix kind bytes body =
@@ -129,65 +129,65 @@ all_read kind bytes target typed target_kind named name tagged tagger body has_t
     } in
     (body, parts_append kind bytes body reads, is)
 
-pub no_target : (kind : hash.Kind) (bytes : List ℕ) → HasNoId (codes "object") kind bytes → ¬ IsTag kind bytes
+pub no_target : (kind : hash.Kind) (bytes : List ℕ) → BeginsWithNoIdField (codes "object") kind bytes → ¬ IsTag kind bytes
 no_target kind bytes none (body, begins, is) = let reads = take_apart kind bytes body begins is in none reads.target reads.after_target reads.has_target
 
 -- after the decoded lines, the tag continues as the bytes do
-target_after : (kind : hash.Kind) (bytes target typed body : List ℕ) → HasId (codes "object") kind bytes target typed → (reads : ReadsPrefix kind bytes body)
+target_after : (kind : hash.Kind) (bytes target typed body : List ℕ) → BeginsWithIdField (codes "object") kind bytes target typed → (reads : ReadsPrefix kind bytes body)
     → reads.after_target ≡ typed
 target_after kind bytes target typed body has reads = (field_unique (codes "object") bytes reads.target reads.after_target target typed reads.has_target.0
     has.0).1
 
-pub no_kind : (kind : hash.Kind) (bytes target typed : List ℕ) → HasId (codes "object") kind bytes target typed → HasNoKind (codes "type") typed
+pub no_kind : (kind : hash.Kind) (bytes target typed : List ℕ) → BeginsWithIdField (codes "object") kind bytes target typed → BeginsWithNoKindField (codes "type") typed
     → ¬ IsTag kind bytes
 no_kind kind bytes target typed has none (body, begins, is) =
     let reads = take_apart kind bytes body begins is in
-    none reads.target_kind reads.after_kind (subst (λ (it : List ℕ). HasField (codes "type") it (kind_name reads.target_kind) reads.after_kind)
+    none reads.target_kind reads.after_kind (subst (λ (it : List ℕ). BeginsWithField (codes "type") it (kind_name reads.target_kind) reads.after_kind)
     (target_after kind bytes target typed body has reads) reads.has_kind)
 
-kind_after : (kind : hash.Kind) (bytes target typed token named body : List ℕ) → HasId (codes "object") kind bytes target typed
-    → HasField (codes "type") typed token named → (reads : ReadsPrefix kind bytes body) → reads.after_kind ≡ named
+kind_after : (kind : hash.Kind) (bytes target typed token named body : List ℕ) → BeginsWithIdField (codes "object") kind bytes target typed
+    → BeginsWithField (codes "type") typed token named → (reads : ReadsPrefix kind bytes body) → reads.after_kind ≡ named
 kind_after kind bytes target typed token named body has has_kind reads =
-    let there = subst (λ (it : List ℕ). HasField (codes "type") it (kind_name reads.target_kind) reads.after_kind)
+    let there = subst (λ (it : List ℕ). BeginsWithField (codes "type") it (kind_name reads.target_kind) reads.after_kind)
     (target_after kind bytes target typed body has reads) reads.has_kind in
     (field_unique (codes "type") typed (kind_name reads.target_kind) reads.after_kind token named there has_kind).1
 
-pub no_name : (kind : hash.Kind) (bytes target typed token named : List ℕ) → HasId (codes "object") kind bytes target typed
-    → HasField (codes "type") typed token named → HasNoName named → ¬ IsTag kind bytes
+pub no_name : (kind : hash.Kind) (bytes target typed token named : List ℕ) → BeginsWithIdField (codes "object") kind bytes target typed
+    → BeginsWithField (codes "type") typed token named → BeginsWithNoTagName named → ¬ IsTag kind bytes
 no_name kind bytes target typed token named has has_kind none (body, begins, is) =
     let reads = take_apart kind bytes body begins is in
-    none reads.name reads.after_name (subst (λ (it : List ℕ). HasName it reads.name reads.after_name)
+    none reads.name reads.after_name (subst (λ (it : List ℕ). BeginsWithTagName it reads.name reads.after_name)
     (kind_after kind bytes target typed token named body has has_kind reads) reads.has_name)
 
-name_after : (kind : hash.Kind) (bytes target typed token named name tagged body : List ℕ) → HasId (codes "object") kind bytes target typed
-    → HasField (codes "type") typed token named → HasName named name tagged
+name_after : (kind : hash.Kind) (bytes target typed token named name tagged body : List ℕ) → BeginsWithIdField (codes "object") kind bytes target typed
+    → BeginsWithField (codes "type") typed token named → BeginsWithTagName named name tagged
     → (reads : ReadsPrefix kind bytes body) → reads.after_name ≡ tagged
 name_after kind bytes target typed token named name tagged body has has_kind has_name reads =
-    let there = subst (λ (it : List ℕ). HasName it reads.name reads.after_name) (kind_after kind bytes target typed token named body has has_kind reads)
+    let there = subst (λ (it : List ℕ). BeginsWithTagName it reads.name reads.after_name) (kind_after kind bytes target typed token named body has has_kind reads)
     reads.has_name in
     (field_unique (codes "tag") named reads.name reads.after_name name tagged there.0 has_name.0).1
 
-pub no_tagger : (kind : hash.Kind) (bytes target typed token named name tagged : List ℕ) → HasId (codes "object") kind bytes target typed
-    → HasField (codes "type") typed token named → HasName named name tagged → HasMalformedTagger tagged
+pub no_tagger : (kind : hash.Kind) (bytes target typed token named name tagged : List ℕ) → BeginsWithIdField (codes "object") kind bytes target typed
+    → BeginsWithField (codes "type") typed token named → BeginsWithTagName named name tagged → BeginsWithMalformedTagger tagged
     → ¬ IsTag kind bytes
 no_tagger kind bytes target typed token named name tagged has has_kind has_name none (body, begins, is) =
     let reads = take_apart kind bytes body begins is in
-    none reads.tagger body (subst (λ (it : List ℕ). HasTagger it reads.tagger body)
+    none reads.tagger body (subst (λ (it : List ℕ). BeginsWithTagger it reads.tagger body)
     (name_after kind bytes target typed token named name tagged body has has_kind has_name reads) reads.has_tagger)
 
 pub no_body : (kind : hash.Kind) (bytes target typed token named name tagged : List ℕ) (tagger : Option (List ℕ)) (remaining : List ℕ)
-    → HasId (codes "object") kind bytes target typed → HasField (codes "type") typed token named → HasName named name tagged
-    → HasTagger tagged tagger remaining → ¬ IsTagBody remaining → ¬ IsTag kind bytes
+    → BeginsWithIdField (codes "object") kind bytes target typed → BeginsWithField (codes "type") typed token named → BeginsWithTagName named name tagged
+    → BeginsWithTagger tagged tagger remaining → ¬ IsTagBody remaining → ¬ IsTag kind bytes
 no_body kind bytes target typed token named name tagged tagger remaining has has_kind has_name has_tagger bad (body, begins, is) =
     let reads = take_apart kind bytes body begins is in
-    let there = subst (λ (it : List ℕ). HasTagger it reads.tagger body)
+    let there = subst (λ (it : List ℕ). BeginsWithTagger it reads.tagger body)
     (name_after kind bytes target typed token named name tagged body has has_kind has_name reads) reads.has_tagger in
     bad (subst IsTagBody (tagger_unique tagged reads.tagger tagger body remaining there has_tagger).1 is)
 
 -- after all lines, the body decides
 pub by_body : (kind : hash.Kind) (bytes target typed : List ℕ) (target_kind : Kind) (named name tagged : List ℕ) (tagger : Option (List ℕ)) (body : List ℕ)
-    (result : Bool) → HasId (codes "object") kind bytes target typed
-    → HasField (codes "type") typed (kind_name target_kind) named → HasName named name tagged → HasTagger tagged tagger body
+    (result : Bool) → BeginsWithIdField (codes "object") kind bytes target typed
+    → BeginsWithField (codes "type") typed (kind_name target_kind) named → BeginsWithTagName named name tagged → BeginsWithTagger tagged tagger body
     → MatchBool result (IsTagBody body) (¬ IsTagBody body) → MatchBool result (IsTag kind bytes) (¬ IsTag kind bytes)
 by_body kind bytes target typed target_kind named name tagged tagger body true has has_kind has_name has_tagger is = all_read kind bytes target typed
     target_kind named name tagged tagger body has has_kind has_name has_tagger is

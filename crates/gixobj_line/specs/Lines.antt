@@ -2,8 +2,8 @@
 use Rattle.std.specs.Prelude.{◌≡◌, ◌≢◌, ℕ, List, [], ◌∷◌, codes, ⊤}
 use Rattle.bstr.specs.BStr.{bstr_bytes}
 use Rattle.gixobj_actor.specs.Actor.{IsActorOf, NamesActor, actor_view}
-use Rattle.gixobj_fields.specs.HeaderReading.{BorrowsOneLine, HasId, header_of}
-use Rattle.gixobj_fields.specs.HeaderFormat.{BeginsSeveralLines, HasField, HasHeader, Header, HasOtherName}
+use Rattle.gixobj_fields.specs.HeaderReading.{BorrowsOneLine, BeginsWithIdField, header_of}
+use Rattle.gixobj_fields.specs.HeaderFormat.{BeginsWithSeveralLines, BeginsWithField, BeginsWithHeader, Header, BeginsWithOtherName}
 use Rattle.gixobj_fields.specs.Runs.{IsPieceError}
 use Rattle.gixobj_hash.specs.Hash.{IsIdHex}
 use Rattle.gixobj_hash.specs.declared.decode.Error.{Error}
@@ -49,49 +49,49 @@ HasHex (parent_line hex) = IsIdHex hex
 HasHex _ = ⊤
 
 -- the input begins with a field of this name whose value is an actor, and the rest follows
-abbrev pub HasActor : List ℕ → List ℕ → List ℕ → List ℕ → Type 0
-HasActor name input bytes rest = HasField name input bytes rest × NamesActor bytes
+abbrev pub BeginsWithActorField : List ℕ → List ℕ → List ℕ → List ℕ → Type 0
+BeginsWithActorField name input bytes rest = BeginsWithField name input bytes rest × NamesActor bytes
 
 -- the input begins with no field of this name whose value is an actor
-abbrev pub HasNoActor : List ℕ → List ℕ → Type 0
-HasNoActor name input = (bytes rest : List ℕ) → ¬ HasActor name input bytes rest
+abbrev pub BeginsWithNoActorField : List ℕ → List ℕ → Type 0
+BeginsWithNoActorField name input = (bytes rest : List ℕ) → ¬ BeginsWithActorField name input bytes rest
 
 -- in this state the input begins with this line, and the rest follows in the next state
-pub data HasLine (kind : Kind) : State → List ℕ → LineView → State → List ℕ → Type 0 where
-  tree_comes : (input hex rest : List ℕ) → HasId (codes "tree") kind input hex rest
-      → HasLine kind state.Tree input (tree_line hex) state.Parents rest
-  parent_comes : (input hex rest : List ℕ) → HasId (codes "parent") kind input hex rest
-      → HasLine kind state.Parents input (parent_line hex) state.Parents rest
-  author_comes : (input bytes rest : List ℕ) → HasActor (codes "author") input bytes rest
-      → HasLine kind state.Parents input (author_line bytes) state.Committer rest
-  committer_comes : (input bytes rest : List ℕ) → HasActor (codes "committer") input bytes rest
-      → HasLine kind state.Committer input (committer_line bytes) state.Encoding rest
-  encoding_comes : (input encoding rest : List ℕ) → HasField (codes "encoding") input encoding rest
-      → HasLine kind state.Encoding input (encoding_line encoding) state.ExtraHeaders rest
-  first_header_comes : (input : List ℕ) (header : Header) (rest : List ℕ) → HasHeader input header rest
-      → header.name ≢ codes "encoding" → HasLine kind state.Encoding input (header_line header) state.ExtraHeaders rest
-  header_comes : (input : List ℕ) (header : Header) (rest : List ℕ) → HasHeader input header rest
-      → HasLine kind state.ExtraHeaders input (header_line header) state.ExtraHeaders rest
+pub data BeginsWithLine (kind : Kind) : State → List ℕ → LineView → State → List ℕ → Type 0 where
+  tree_comes : (input hex rest : List ℕ) → BeginsWithIdField (codes "tree") kind input hex rest
+      → BeginsWithLine kind state.Tree input (tree_line hex) state.Parents rest
+  parent_comes : (input hex rest : List ℕ) → BeginsWithIdField (codes "parent") kind input hex rest
+      → BeginsWithLine kind state.Parents input (parent_line hex) state.Parents rest
+  author_comes : (input bytes rest : List ℕ) → BeginsWithActorField (codes "author") input bytes rest
+      → BeginsWithLine kind state.Parents input (author_line bytes) state.Committer rest
+  committer_comes : (input bytes rest : List ℕ) → BeginsWithActorField (codes "committer") input bytes rest
+      → BeginsWithLine kind state.Committer input (committer_line bytes) state.Encoding rest
+  encoding_comes : (input encoding rest : List ℕ) → BeginsWithField (codes "encoding") input encoding rest
+      → BeginsWithLine kind state.Encoding input (encoding_line encoding) state.ExtraHeaders rest
+  first_header_comes : (input : List ℕ) (header : Header) (rest : List ℕ) → BeginsWithHeader input header rest
+      → header.name ≢ codes "encoding" → BeginsWithLine kind state.Encoding input (header_line header) state.ExtraHeaders rest
+  header_comes : (input : List ℕ) (header : Header) (rest : List ℕ) → BeginsWithHeader input header rest
+      → BeginsWithLine kind state.ExtraHeaders input (header_line header) state.ExtraHeaders rest
   first_message_comes : (input message : List ℕ) → input ≡ newline ∷ message
-      → HasLine kind state.Encoding input (message_line message) state.End []
+      → BeginsWithLine kind state.Encoding input (message_line message) state.End []
   message_comes : (input message : List ℕ) → input ≡ newline ∷ message
-      → HasLine kind state.ExtraHeaders input (message_line message) state.End []
+      → BeginsWithLine kind state.ExtraHeaders input (message_line message) state.End []
 
 -- in this state the input begins with some line, and the rest follows in the next state
-abbrev pub HasSomeLine : Kind → State → List ℕ → State → List ℕ → Type 0
-HasSomeLine kind before input after rest = (line : LineView) × HasLine kind before input line after rest
+abbrev pub BeginsWithSomeLine : Kind → State → List ℕ → State → List ℕ → Type 0
+BeginsWithSomeLine kind before input after rest = (line : LineView) × BeginsWithLine kind before input line after rest
 
 -- a header of several lines may come in this state; directly after the committer its name is not `encoding`, since
 -- the encoding has one line
 abbrev pub MayFold : State → List ℕ → Type 0
-MayFold state.Encoding input = HasOtherName (codes "encoding") input
+MayFold state.Encoding input = BeginsWithOtherName (codes "encoding") input
 MayFold state.ExtraHeaders input = ⊤
 MayFold _ input = ⊥
 
 -- a header of several lines comes, whose value is allocated
 abbrev pub NeedsAllocation : State → List ℕ → Type 0
-NeedsAllocation before input = MayFold before input × BeginsSeveralLines input
+NeedsAllocation before input = MayFold before input × BeginsWithSeveralLines input
 
 -- why no line is decoded: the input begins with none, or a header of several lines needs an allocation
 abbrev pub IsLineError : Kind → State → List ℕ → Error → Type 0
-IsLineError kind = IsPieceError (HasLine kind) NeedsAllocation
+IsLineError kind = IsPieceError (BeginsWithLine kind) NeedsAllocation

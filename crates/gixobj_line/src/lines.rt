@@ -2,12 +2,12 @@
 ghost use Rattle.std.specs.Prelude.{◌≡◌, ◌≢◌, ◌∷◌, [], ℕ, List, IfErr, IfNone, IfOk, IfSome, MatchBool, MatchOption};
 ghost use Rattle.bstr.specs.BStr.{bstr_bytes};
 ghost use Rattle.gixobj_actor.specs.Actor.{IsActorOf, actor_view};
-ghost use Rattle.gixobj_fields.specs.HeaderFormat.{HasHeader, HasNoHeader, Header, IsHeaderName};
-ghost use Rattle.gixobj_fields.specs.HeaderReading.{HasLines, HasNoLines};
+ghost use Rattle.gixobj_fields.specs.HeaderFormat.{BeginsWithHeader, BeginsWithNoHeader, Header, IsHeaderName};
+ghost use Rattle.gixobj_fields.specs.HeaderReading.{BeginsWithContinuations, BeginsWithNoContinuations};
 ghost use Rattle.gixobj_fields.specs.Runs.{HasNoPiece};
 ghost use Rattle.gixobj_hash.specs.ByteStrings.{IsByteFree};
 ghost use Rattle.gixobj_hash.specs.declared.hash.kind.Kind.{Kind};
-ghost use Rattle.gixobj_line.specs.Lines.{HasActor, HasLine, HasNoActor, HasSomeLine, IsLineError, IsParsedLine, line_view};
+ghost use Rattle.gixobj_line.specs.Lines.{BeginsWithActorField, BeginsWithLine, BeginsWithNoActorField, BeginsWithSomeLine, IsLineError, IsParsedLine, line_view};
 ghost use Rattle.gixobj_line.specs.declared.lines.State.TheVariants as state;
 ghost use Rattle.gixobj_hash.specs.Bytes.{newline};
 
@@ -78,7 +78,7 @@ pub fn decode_line(
     kind: Kind,
     input: &[u8],
 ) -> Result<(Line<'_>, State, &[u8]), Error>
-    ensures found { IfOk result (λ it. HasLine kind before input.now (line_view it.0) it.1
+    ensures found { IfOk result (λ it. BeginsWithLine kind before input.now (line_view it.0) it.1
         it.2.now) }
     ensures parts { IfOk result (λ it. IsParsedLine it.0) }
     ensures error { IfErr result (IsLineError kind before input.now) }
@@ -97,7 +97,7 @@ pub fn decode_line(
 #[inline(always)]
 #[tactic(auto, using(crate::specs::Lines::tree_comes))]
 fn decode_tree_line(kind: Kind, input: &[u8]) -> Result<(Line<'_>, State, &[u8]), Error>
-    ensures found { IfOk result (λ it. HasLine kind state.Tree input.now (line_view it.0) it.1
+    ensures found { IfOk result (λ it. BeginsWithLine kind state.Tree input.now (line_view it.0) it.1
         it.2.now) }
     ensures parts { IfOk result (λ it. IsParsedLine it.0) }
     ensures error { IfErr result (IsLineError kind state.Tree input.now) }
@@ -112,7 +112,7 @@ fn decode_tree_line(kind: Kind, input: &[u8]) -> Result<(Line<'_>, State, &[u8])
 #[inline(always)]
 #[tactic(auto, using(crate::specs::Lines::parent_comes, crate::specs::Lines::author_comes))]
 fn decode_parent_or_author(kind: Kind, input: &[u8]) -> Result<(Line<'_>, State, &[u8]), Error>
-    ensures found { IfOk result (λ it. HasLine kind state.Parents input.now (line_view it.0) it.1
+    ensures found { IfOk result (λ it. BeginsWithLine kind state.Parents input.now (line_view it.0) it.1
         it.2.now) }
     ensures parts { IfOk result (λ it. IsParsedLine it.0) }
     ensures error { IfErr result (IsLineError kind state.Parents input.now) }
@@ -131,7 +131,7 @@ fn decode_parent_or_author(kind: Kind, input: &[u8]) -> Result<(Line<'_>, State,
 #[tactic(auto, using(crate::specs::Lines::committer_comes))]
 fn decode_committer(input: &[u8]) -> Result<(Line<'_>, State, &[u8]), Error>
     ensures found { (kind : Kind) → IfOk result
-        (λ it. HasLine kind state.Committer input.now (line_view it.0) it.1 it.2.now) }
+        (λ it. BeginsWithLine kind state.Committer input.now (line_view it.0) it.1 it.2.now) }
     ensures parts { IfOk result (λ it. IsParsedLine it.0) }
     ensures error { (kind : Kind) → IfErr result (IsLineError kind state.Committer input.now) }
 {
@@ -146,7 +146,7 @@ fn decode_committer(input: &[u8]) -> Result<(Line<'_>, State, &[u8]), Error>
 #[tactic(auto, using(crate::specs::Lines::encoding_comes))]
 fn decode_encoding_or_header(alloc: Global, input: &[u8]) -> Result<(Line<'_>, State, &[u8]), Error>
     ensures found { (kind : Kind) → IfOk result
-        (λ it. HasLine kind state.Encoding input.now (line_view it.0) it.1 it.2.now) }
+        (λ it. BeginsWithLine kind state.Encoding input.now (line_view it.0) it.1 it.2.now) }
     ensures parts { IfOk result (λ it. IsParsedLine it.0) }
     ensures error { (kind : Kind) → IfErr result (IsLineError kind state.Encoding input.now) }
 {
@@ -168,7 +168,7 @@ fn decode_encoding_or_header(alloc: Global, input: &[u8]) -> Result<(Line<'_>, S
 #[tactic(auto, using(crate::specs::Lines::header_comes, crate::specs::Lines::message_comes, crate::proofs::LineErrors::line_error_at_headers))]
 fn decode_header_or_message(alloc: Global, input: &[u8]) -> Result<(Line<'_>, State, &[u8]), Error>
     ensures found { (kind : Kind) → IfOk result
-        (λ it. HasLine kind state.ExtraHeaders input.now (line_view it.0) it.1 it.2.now) }
+        (λ it. BeginsWithLine kind state.ExtraHeaders input.now (line_view it.0) it.1 it.2.now) }
     ensures parts { IfOk result (λ it. IsParsedLine it.0) }
     ensures error { (kind : Kind) → IfErr result (IsLineError kind state.ExtraHeaders input.now) }
 {
@@ -182,9 +182,9 @@ fn decode_header_or_message(alloc: Global, input: &[u8]) -> Result<(Line<'_>, St
 /// Decodes the field of this name with an actor: its value, the actor, and the rest of the input.
 #[inline(always)]
 fn actor_line<'a>(input: &'a [u8], name: &[u8]) -> Option<(BStr<'a>, SignatureRef<'a>, &'a [u8])>
-    ensures found { IfSome result (λ it. HasActor name.now input.now (bstr_bytes it.0) it.2.now) }
+    ensures found { IfSome result (λ it. BeginsWithActorField name.now input.now (bstr_bytes it.0) it.2.now) }
     ensures actor { IfSome result (λ it. IsActorOf (bstr_bytes it.0) (actor_view it.1)) }
-    ensures none { IfNone result (HasNoActor name.now input.now) }
+    ensures none { IfNone result (BeginsWithNoActorField name.now input.now) }
 {
     let Some((line, rest)) = header_field(input, name) else {
         return None;
@@ -200,8 +200,8 @@ fn actor_line<'a>(input: &'a [u8], name: &[u8]) -> Option<(BStr<'a>, SignatureRe
 /// Returns the state after it and the rest of the input. Returns `None` if the input begins with no line that
 /// may come in this state. Ids are hex of the hash function `kind`. Allocates nothing.
 pub fn after_line(before: State, kind: Kind, input: &[u8]) -> Option<(State, &[u8])>
-    ensures found { IfSome result (λ it. HasSomeLine kind before input.now it.0 it.1.now) }
-    ensures none { IfNone result (HasNoPiece (HasLine kind) before input.now) }
+    ensures found { IfSome result (λ it. BeginsWithSomeLine kind before input.now it.0 it.1.now) }
+    ensures none { IfNone result (HasNoPiece (BeginsWithLine kind) before input.now) }
 {
     match before {
         State::Tree => after_tree(kind, input),
@@ -216,8 +216,8 @@ pub fn after_line(before: State, kind: Kind, input: &[u8]) -> Option<(State, &[u
 /// Skips the tree.
 #[tactic(auto, using(crate::proofs::SkippedLines::no_tree))]
 fn after_tree(kind: Kind, input: &[u8]) -> Option<(State, &[u8])>
-    ensures found { IfSome result (λ it. HasSomeLine kind state.Tree input.now it.0 it.1.now) }
-    ensures none { IfNone result (HasNoPiece (HasLine kind) state.Tree input.now) }
+    ensures found { IfSome result (λ it. BeginsWithSomeLine kind state.Tree input.now it.0 it.1.now) }
+    ensures none { IfNone result (HasNoPiece (BeginsWithLine kind) state.Tree input.now) }
 {
     let Some((_, rest)) = header_id(input, b"tree", kind) else {
         return None;
@@ -228,8 +228,8 @@ fn after_tree(kind: Kind, input: &[u8]) -> Option<(State, &[u8])>
 /// Skips a parent, or else the author.
 #[tactic(auto, using(crate::proofs::SkippedLines::no_parent_or_author))]
 fn after_parent_or_author(kind: Kind, input: &[u8]) -> Option<(State, &[u8])>
-    ensures found { IfSome result (λ it. HasSomeLine kind state.Parents input.now it.0 it.1.now) }
-    ensures none { IfNone result (HasNoPiece (HasLine kind) state.Parents input.now) }
+    ensures found { IfSome result (λ it. BeginsWithSomeLine kind state.Parents input.now it.0 it.1.now) }
+    ensures none { IfNone result (HasNoPiece (BeginsWithLine kind) state.Parents input.now) }
 {
     if let Some((_, rest)) = header_id(input, b"parent", kind) {
         return Some((State::Parents, rest));
@@ -244,9 +244,9 @@ fn after_parent_or_author(kind: Kind, input: &[u8]) -> Option<(State, &[u8])>
 #[tactic(auto, using(crate::proofs::SkippedLines::no_committer))]
 fn after_committer(input: &[u8]) -> Option<(State, &[u8])>
     ensures found { (kind : Kind) → IfSome result
-        (λ it. HasSomeLine kind state.Committer input.now it.0 it.1.now) }
+        (λ it. BeginsWithSomeLine kind state.Committer input.now it.0 it.1.now) }
     ensures none { (kind : Kind) → IfNone result
-        (HasNoPiece (HasLine kind) state.Committer input.now) }
+        (HasNoPiece (BeginsWithLine kind) state.Committer input.now) }
 {
     let Some((_, _, rest)) = actor_line(input, b"committer") else {
         return None;
@@ -257,9 +257,9 @@ fn after_committer(input: &[u8]) -> Option<(State, &[u8])>
 /// Skips the encoding if its name comes, and else a header or the message.
 fn after_encoding_or_header(input: &[u8]) -> Option<(State, &[u8])>
     ensures found { (kind : Kind) → IfSome result
-        (λ it. HasSomeLine kind state.Encoding input.now it.0 it.1.now) }
+        (λ it. BeginsWithSomeLine kind state.Encoding input.now it.0 it.1.now) }
     ensures none { (kind : Kind) → IfNone result
-        (HasNoPiece (HasLine kind) state.Encoding input.now) }
+        (HasNoPiece (BeginsWithLine kind) state.Encoding input.now) }
 {
     let Some(_) = after_name(input, b"encoding") else {
         return after_header_or_message(input);
@@ -274,9 +274,9 @@ fn after_encoding_or_header(input: &[u8]) -> Option<(State, &[u8])>
 #[tactic(auto, using(crate::proofs::LineErrors::no_line_at_headers))]
 fn after_header_or_message(input: &[u8]) -> Option<(State, &[u8])>
     ensures found { (kind : Kind) → IfSome result
-        (λ it. HasSomeLine kind state.ExtraHeaders input.now it.0 it.1.now) }
+        (λ it. BeginsWithSomeLine kind state.ExtraHeaders input.now it.0 it.1.now) }
     ensures none { (kind : Kind) → IfNone result
-        (HasNoPiece (HasLine kind) state.ExtraHeaders input.now) }
+        (HasNoPiece (BeginsWithLine kind) state.ExtraHeaders input.now) }
 {
     if let Some(_) = after_newline(input) {
         return Some((State::End, b""));
@@ -292,8 +292,8 @@ fn after_header_or_message(input: &[u8]) -> Option<(State, &[u8])>
 /// Returns `None` if the input begins with no header.
 fn after_header(input: &[u8]) -> Option<&[u8]>
     ensures found { IfSome result
-        (λ rest. (header : Header) × HasHeader input.now header rest.now) }
-    ensures none { IfNone result (HasNoHeader input.now) }
+        (λ rest. (header : Header) × BeginsWithHeader input.now header rest.now) }
+    ensures none { IfNone result (BeginsWithNoHeader input.now) }
 {
     let Some((name, following)) = split_at_byte(input, b' ') else {
         return None;
@@ -324,8 +324,8 @@ fn is_header_name(name: &[u8]) -> bool
 #[tactic(auto, using(crate::proofs::SkippedLines::consumed_start, crate::proofs::SkippedLines::consumed_end, gixobj_fields::proofs::HeaderFields::unfolding_len_lt))]
 fn after_continuations(input: &[u8]) -> Option<&[u8]>
     ensures found { IfSome result
-        (λ rest. (more : List (List ℕ)) × HasLines input.now more rest.now) }
-    ensures none { IfNone result (HasNoLines input.now) }
+        (λ rest. (more : List (List ℕ)) × BeginsWithContinuations input.now more rest.now) }
+    ensures none { IfNone result (BeginsWithNoContinuations input.now) }
 {
     let mut rest = input;
     while let Some(following) = after_space(rest) {

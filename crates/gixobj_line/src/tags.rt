@@ -3,7 +3,7 @@
 ghost use Rattle.std.specs.Prelude.{IfNone, IfSome, MatchBool};
 ghost use Rattle.bstr.specs.BStr.{bstr_bytes};
 ghost use Rattle.gixobj_line.specs.TagLineViews.{IsParsedTagger, line_if_some};
-ghost use Rattle.gixobj_line.specs.TagLines.{HasName, HasNoName, HasMalformedTagger, HasTagger};
+ghost use Rattle.gixobj_line.specs.TagLines.{BeginsWithTagName, BeginsWithNoTagName, BeginsWithMalformedTagger, BeginsWithTagger};
 ghost use Rattle.gixobj_line.specs.TagPrefix.{IsTag, IsTagBody};
 
 use bstr::BStr;
@@ -46,8 +46,8 @@ fn is_body(body: &[u8]) -> bool
 /// Returns `None` if there is no such line, or if the name is empty. Allocates nothing.
 #[tactic(auto, using(crate::proofs::TagLines::no_name_of_empty, crate::proofs::TagLines::no_name_of_missing_field))]
 pub fn name(input: &[u8]) -> Option<(BStr<'_>, &[u8])>
-    ensures found { IfSome result (λ it. HasName input.now (bstr_bytes it.0) it.1.now) }
-    ensures none { IfNone result (HasNoName input.now) }
+    ensures found { IfSome result (λ it. BeginsWithTagName input.now (bstr_bytes it.0) it.1.now) }
+    ensures none { IfNone result (BeginsWithNoTagName input.now) }
 {
     let Some((name, rest)) = header_field(input, b"tag") else {
         return None;
@@ -67,9 +67,9 @@ pub type TaggerLine<'a> = (BStr<'a>, SignatureRef<'a>);
 /// but the line lacks its newline, or its value doesn't begin with an actor. Allocates nothing.
 #[tactic(auto, using(crate::proofs::TagLines::no_tagger_of_missing_newline))]
 pub fn tagger(input: &[u8]) -> Option<(Option<TaggerLine<'_>>, &[u8])>
-    ensures found { IfSome result (λ it. HasTagger input.now (line_if_some it.0) it.1.now) }
+    ensures found { IfSome result (λ it. BeginsWithTagger input.now (line_if_some it.0) it.1.now) }
     ensures parts { IfSome result (λ it. IsParsedTagger it.0) }
-    ensures none { IfNone result (HasMalformedTagger input.now) }
+    ensures none { IfNone result (BeginsWithMalformedTagger input.now) }
 {
     let Some(_) = after_name(input, b"tagger") else {
         return Some((None, input));

@@ -21,4 +21,5 @@ pub use Rattle.gixobj_tag.specs.TagViews
 pub use Rattle.gixobj_tag.specs.TagWriting
 pub use Rattle.gixobj_tree.specs.TreeDecoding
 pub use Rattle.gixobj_tree.specs.TreeEncoding
+pub use Rattle.gixobj_tree.specs.TreeSizes
 pub use Rattle.gixobj_tree.specs.TreeViews

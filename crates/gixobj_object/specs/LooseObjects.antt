@@ -1,7 +1,7 @@
 -- Decoding of loose objects: a header, and a content of the size in the header (gitformat-loose, "Loose object
 -- format").
 use Rattle.std.specs.Prelude.{◌≡◌, ◌⊎◌, ◌≤◌, ◌^◌, ℕ, List, ⊤}
-use Rattle.gixobj_hash.specs.Decode.{BeginsWithHeader, HasContent, IsShort, IsLooseHeaderError}
+use Rattle.gixobj_hash.specs.Decode.{BeginsWithLooseHeader, HasContent, IsShort, IsLooseHeaderError}
 use Rattle.gixobj_hash.specs.declared.decode.Error.{Error}
 use Rattle.gixobj_hash.specs.declared.decode.LooseContentError.{LooseContentError}
 use Rattle.gixobj_hash.specs.declared.decode.LooseContentError.TheVariants as content
@@ -16,7 +16,7 @@ use Rattle.gixobj_object.specs.declared.object.borrowed.decode.LooseDecodeError.
 
 -- the size in the header is 2^64 or more, which no header states
 abbrev pub IsTooLarge : List ℕ → ℕ → Type 0
-IsTooLarge input size = (kind : Kind) × (rest : List ℕ) × BeginsWithHeader input kind size rest × (2 ^ 64 ≤ size)
+IsTooLarge input size = (kind : Kind) × (rest : List ℕ) × BeginsWithLooseHeader input kind size rest × (2 ^ 64 ≤ size)
 
 -- the input begins with this loose object, with ids of this hash kind
 abbrev pub IsLooseObject : hash.Kind → List ℕ → ObjectRef → Type 0

@@ -8,7 +8,7 @@ use Rattle.gixobj_line.proofs.LinesYielded.{yields_lines_of_commit}
 use Rattle.gixobj_line.proofs.EntireCommits.{end_state_of_message, lines_end_with_message, decodes_commit_of_gathered}
 use Rattle.gixobj_line.specs.Commit.{CommitLines, DecodesToCommit}
 use Rattle.gixobj_line.specs.Gathering.{gathered, empty_commit}
-use Rattle.gixobj_line.specs.Lines.{HasLine, LineView, message_line}
+use Rattle.gixobj_line.specs.Lines.{BeginsWithLine, LineView, message_line}
 use Rattle.gixobj_line.specs.declared.lines.State.{State}
 use Rattle.gixobj_line.specs.declared.lines.State.TheVariants as state
 use Rattle.gixobj_ref_iter.proofs.CommitRuns.{token_run_unique}
@@ -39,8 +39,8 @@ last_token (token ∷ tokens) (line ∷ prefix) message (yields, more) =
 
 -- ---- a complete run is consumed to its end
 
-passed : (kind : Kind) (before : State) (input : List ℕ) (lines : List LineView) → runs.Yields (HasLine kind) before input lines complete → (following : State)
-    × Passes (HasLine kind) before input lines following []
+passed : (kind : Kind) (before : State) (input : List ℕ) (lines : List LineView) → runs.Yields (BeginsWithLine kind) before input lines complete → (following : State)
+    × Passes (BeginsWithLine kind) before input lines following []
 passed kind before input lines (yields_end _) = (before, (refl, refl))
 passed kind before input lines (yields_piece _ next _ after line others _ has yields_decoded) = let more = passed kind next after others yields_decoded in
     (more.0, (next, after, has, more.1))

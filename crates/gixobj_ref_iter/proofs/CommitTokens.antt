@@ -7,17 +7,17 @@ use Rattle.std.specs.Prelude.{codes}
 use Rattle.gixobj_actor.proofs.ActorLines.{actor_view_unique}
 use Rattle.gixobj_actor.specs.Actor.{ActorView}
 use Rattle.gixobj_fields.proofs.HeaderFields.{has_field_of_encoded, is_id_hex_of_decoded}
-use Rattle.gixobj_fields.specs.HeaderFormat.{HasHeader, Header}
+use Rattle.gixobj_fields.specs.HeaderFormat.{BeginsWithHeader, Header}
 use Rattle.gixobj_fields.specs.Runs.{complete, yields_end, yields_piece}
 use Rattle.gixobj_fields.specs.Runs as runs
 use Rattle.gixobj_hash.proofs.HexIds.{decoded_id_unique, decoded_id_decodes}
 use Rattle.gixobj_hash.specs.Hash.Hex.{decoded_id}
 use Rattle.gixobj_hash.specs.declared.hash.kind.Kind.{Kind}
 use Rattle.gixobj_line.proofs.OneLine.{no_line_of_nil, line_unique}
-use Rattle.gixobj_line.specs.Lines.{HasLine, LineView, author_comes, committer_comes, encoding_comes, first_header_comes, first_message_comes, header_comes, message_comes, parent_comes, tree_comes}
+use Rattle.gixobj_line.specs.Lines.{BeginsWithLine, LineView, author_comes, committer_comes, encoding_comes, first_header_comes, first_message_comes, header_comes, message_comes, parent_comes, tree_comes}
 use Rattle.gixobj_line.specs.declared.lines.State.{State}
 use Rattle.gixobj_ref_iter.specs.CommitRuns.{YieldsCommitTokens}
-use Rattle.gixobj_ref_iter.specs.CommitTokens.{HasCommitToken, DecodesToCommitToken, IsTokenOfLine, CommitTokenView, author_token, committer_token, encoding_token, header_token, message_token, parent_token, yields_author, yields_committer, yields_encoding, yields_header, yields_message, yields_parent, yields_tree, tree_token}
+use Rattle.gixobj_ref_iter.specs.CommitTokens.{BeginsWithCommitToken, DecodesToCommitToken, IsTokenOfLine, CommitTokenView, author_token, committer_token, encoding_token, header_token, message_token, parent_token, yields_author, yields_committer, yields_encoding, yields_header, yields_message, yields_parent, yields_tree, tree_token}
 
 -- ---- at most one token
 
@@ -31,24 +31,24 @@ one_of_line line a b (yields_header header) (yields_header _) = refl
 one_of_line line a b (yields_message message) (yields_message _) = refl
 
 pub commit_token_unique : (kind : Kind) (before : State) (input : List ℕ) (a b : CommitTokenView) (s t : State) (x y : List ℕ)
-    → HasCommitToken kind before input a s x
-    → HasCommitToken kind before input b t y → (a ≡ b) × (s ≡ t) × (x ≡ y)
+    → BeginsWithCommitToken kind before input a s x
+    → BeginsWithCommitToken kind before input b t y → (a ≡ b) × (s ≡ t) × (x ≡ y)
 commit_token_unique kind before input a b s t x y (line, has, yields) (line', has', yields') =
     let same = line_unique kind before input line line' s t x y has has' in
     (one_of_line line' a b (subst (λ (it : LineView). IsTokenOfLine it a) same.0 yields) yields', same.1, same.2)
 
 pub no_commit_token_of_nil : (kind : Kind) (before : State) (input : List ℕ) (token : CommitTokenView) (after : State) (rest : List ℕ) → input ≡ []
-    → HasCommitToken kind before input token after rest → ⊥
+    → BeginsWithCommitToken kind before input token after rest → ⊥
 no_commit_token_of_nil kind before input token after rest none (line, has, yields) = no_line_of_nil kind before input line after rest none has
 
 -- ---- the encoding of a token
 
-header_alone : (input : List ℕ) (header : Header) (rest : List ℕ) → (has : HasHeader input header rest) → HasHeader has.encoded header []
+header_alone : (input : List ℕ) (header : Header) (rest : List ℕ) → (has : BeginsWithHeader input header rest) → BeginsWithHeader has.encoded header []
 header_alone input header rest has = record { encoded = has.encoded; joined = sym (append-nil has.encoded); written = has.written; ends = tt }
 
 bytes_of_line : (kind : Kind) (before : State) (input : List ℕ) (line : LineView) (after : State) (rest : List ℕ)
-    → HasLine kind before input line after rest
-    → (bytes : List ℕ) × (input ≡ bytes ++ rest) × HasLine kind before bytes line after []
+    → BeginsWithLine kind before input line after rest
+    → (bytes : List ℕ) × (input ≡ bytes ++ rest) × BeginsWithLine kind before bytes line after []
 bytes_of_line kind before input line after rest (tree_comes _ hex _ has) =
     (_, has.0.joined, tree_comes _ hex [] (has_field_of_encoded (codes "tree") input hex rest has.0, has.1))
 bytes_of_line kind before input line after rest (parent_comes _ hex _ has) =
@@ -68,7 +68,7 @@ bytes_of_line kind before input line after rest (first_message_comes _ message i
 bytes_of_line kind before input line after rest (message_comes _ message is) = (input, sym (append-nil input), message_comes input message is)
 
 pub commit_token_bytes_exist : (kind : Kind) (before : State) (input : List ℕ) (token : CommitTokenView) (after : State) (rest : List ℕ)
-    → HasCommitToken kind before input token after rest
+    → BeginsWithCommitToken kind before input token after rest
     → (bytes : List ℕ) × (input ≡ bytes ++ rest) × DecodesToCommitToken kind token bytes
 commit_token_bytes_exist kind before input token after rest (line, has, yields) =
     let alone = bytes_of_line kind before input line after rest has in (alone.0, alone.1, (before, after, (line, alone.2, yields)))
@@ -76,7 +76,7 @@ commit_token_bytes_exist kind before input token after rest (line, has, yields) 
 -- ---- lines yield tokens
 
 token_of_line : (kind : Kind) (before : State) (input : List ℕ) (line : LineView) (after : State) (rest : List ℕ)
-    → HasLine kind before input line after rest
+    → BeginsWithLine kind before input line after rest
     → (token : CommitTokenView) × IsTokenOfLine line token
 token_of_line kind before input line after rest (tree_comes _ hex _ has) =
     (tree_token (decoded_id hex), yields_tree hex (decoded_id hex) (decoded_id_decodes hex (is_id_hex_of_decoded kind hex has.1)))
@@ -92,7 +92,7 @@ token_of_line kind before input line after rest (header_comes _ header _ has) = 
 token_of_line kind before input line after rest (first_message_comes _ message is) = (message_token message, yields_message message)
 token_of_line kind before input line after rest (message_comes _ message is) = (message_token message, yields_message message)
 
-pub tokens_of_lines_exist : (kind : Kind) (before : State) (input : List ℕ) (lines : List LineView) → runs.Yields (HasLine kind) before input lines complete
+pub tokens_of_lines_exist : (kind : Kind) (before : State) (input : List ℕ) (lines : List LineView) → runs.Yields (BeginsWithLine kind) before input lines complete
     → (tokens : List CommitTokenView) × YieldsCommitTokens kind before input tokens complete × AllZip IsTokenOfLine lines tokens
 tokens_of_lines_exist kind before input lines (yields_end _) = ([], yields_end before, tt)
 tokens_of_lines_exist kind before input lines (yields_piece _ after _ rest line others _ has seen) =
@@ -102,7 +102,7 @@ tokens_of_lines_exist kind before input lines (yields_piece _ after _ rest line 
 
 pub lines_of_tokens_exist : (kind : Kind) (before : State) (input : List ℕ) (tokens : List CommitTokenView)
     → YieldsCommitTokens kind before input tokens complete
-    → (lines : List LineView) × runs.Yields (HasLine kind) before input lines complete × AllZip IsTokenOfLine lines tokens
+    → (lines : List LineView) × runs.Yields (BeginsWithLine kind) before input lines complete × AllZip IsTokenOfLine lines tokens
 lines_of_tokens_exist kind before input tokens (yields_end _) = ([], yields_end before, tt)
 lines_of_tokens_exist kind before input tokens (yields_piece _ after _ rest token others _ (line, has, yields) seen) =
     let more = lines_of_tokens_exist kind after rest others seen in

@@ -8,7 +8,7 @@ use Rattle.gixobj_hash.specs.declared.hash.kind.Kind.{Kind}
 use Rattle.gixobj_line.specs.declared.lines.State.{State}
 use Rattle.gixobj_line.specs.declared.lines.State.TheVariants as state
 use Rattle.gixobj_ref_iter.specs.CommitRuns.{YieldsCommitTokens}
-use Rattle.gixobj_ref_iter.specs.CommitTokens.{HasCommitToken, CommitTokenView, commit_token_view}
+use Rattle.gixobj_ref_iter.specs.CommitTokens.{BeginsWithCommitToken, CommitTokenView, commit_token_view}
 use Rattle.gixobj_ref_iter.specs.CommitTokenSteps.{NextCommitToken, IsAtStartOfCommit, commit_reader_state}
 use Rattle.gixobj_ref_iter.specs.TokenSearch.{HasConsumedCommitTokens}
 use Rattle.gixobj_ref_iter.specs.declared.commit.CommitRefIter.{CommitRefIter}
@@ -25,9 +25,9 @@ module _ (kind : Kind) (content : List ℕ) where
   pub goes_on : (tokens : List CommitTokenView) (at after : CommitRefIter) (token : Token) → HasConsumedCommitTokens kind content tokens at
       → NextCommitToken at (Some (Ok token)) after → HasConsumedCommitTokens kind content (tokens ++ commit_token_view token ∷ []) after
   goes_on tokens at after token (passed, same_kind) (has, kept, such) =
-      let here = subst (λ (it : Kind). HasCommitToken it (commit_reader_state at).state (commit_reader_state at).bytes (commit_token_view token)
+      let here = subst (λ (it : Kind). BeginsWithCommitToken it (commit_reader_state at).state (commit_reader_state at).bytes (commit_token_view token)
       (commit_reader_state after).state (commit_reader_state after).bytes) same_kind has in (
-        passes_one (HasCommitToken kind) state.Tree (commit_reader_state at).state (commit_reader_state after).state content (commit_reader_state at).bytes
+        passes_one (BeginsWithCommitToken kind) state.Tree (commit_reader_state at).state (commit_reader_state after).state content (commit_reader_state at).bytes
             (commit_reader_state after).bytes tokens (commit_token_view token) passed here,
         kept ∙ same_kind,
       )
@@ -37,12 +37,12 @@ module _ (kind : Kind) (content : List ℕ) where
   ends tokens at after (passed, same_kind) gives =
       let end : YieldsCommitTokens kind (commit_reader_state at).state (commit_reader_state at).bytes [] complete =
       rw gives.0 (yields_end (commit_reader_state at).state) in
-      yields_passed (HasCommitToken kind) state.Tree (commit_reader_state at).state content (commit_reader_state at).bytes tokens complete passed end
+      yields_passed (BeginsWithCommitToken kind) state.Tree (commit_reader_state at).state content (commit_reader_state at).bytes tokens complete passed end
 
   pub stops : (tokens : List CommitTokenView) (at after : CommitRefIter) → HasConsumedCommitTokens kind content tokens at
       → NextCommitToken at (Some (Err Malformed)) after → YieldsCommitTokens kind state.Tree content tokens broken
   stops tokens at after (passed, same_kind) gives =
-      let none = subst (λ (it : Kind). HasNoPiece (HasCommitToken it) (commit_reader_state at).state (commit_reader_state at).bytes) same_kind gives.1 in
+      let none = subst (λ (it : Kind). HasNoPiece (BeginsWithCommitToken it) (commit_reader_state at).state (commit_reader_state at).bytes) same_kind gives.1 in
       let stop : YieldsCommitTokens kind (commit_reader_state at).state (commit_reader_state at).bytes [] broken =
       yields_error (commit_reader_state at).state (commit_reader_state at).bytes gives.0 none in
-      yields_passed (HasCommitToken kind) state.Tree (commit_reader_state at).state content (commit_reader_state at).bytes tokens broken passed stop
+      yields_passed (BeginsWithCommitToken kind) state.Tree (commit_reader_state at).state content (commit_reader_state at).bytes tokens broken passed stop

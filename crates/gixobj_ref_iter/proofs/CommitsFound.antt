@@ -22,7 +22,7 @@ use Rattle.gixobj_ref_iter.proofs.CommitLanguage as language
 use Rattle.gixobj_ref_iter.proofs.CommitRuns.{token_run_unique}
 use Rattle.gixobj_ref_iter.proofs.CommitTokens.{no_commit_token_of_nil, commit_token_unique}
 use Rattle.gixobj_ref_iter.specs.CommitRuns.{YieldsCommitTokens}
-use Rattle.gixobj_ref_iter.specs.CommitTokens.{CommitTokenView, HasCommitToken, IsTokenOfLine, author_token, commit_token_view, committer_token, message_token, yields_author, yields_committer, yields_message, yields_tree, tree_token}
+use Rattle.gixobj_ref_iter.specs.CommitTokens.{CommitTokenView, BeginsWithCommitToken, IsTokenOfLine, author_token, commit_token_view, committer_token, message_token, yields_author, yields_committer, yields_message, yields_tree, tree_token}
 use Rattle.gixobj_ref_iter.specs.Readers.{AreTokensOfCommit, EndsInMessage}
 use Rattle.gixobj_ref_iter.specs.CommitTokenSteps.{NextCommitToken, NextIdOfCommit, IsAtStartOfCommit, answered_commit_id, commit_id_or_malformed, commit_token_id, commit_reader_state}
 use Rattle.gixobj_ref_iter.specs.TokenSearch.{EndsSearch, FindsAuthor, FindsCommitter, FindsMessage, IsAuthorToken, IsCommitterToken, IsMessageToken, first_token, no_token, optional_error, required_error}
@@ -132,7 +132,7 @@ yields_tokens_from_start kind content reader tokens start yields_decoded =
 
 begins_token : (kind : Kind) (before : State) (input : List ℕ) (line : LineView) (lines : List LineView) (tokens : List CommitTokenView)
     → YieldsCommitTokens kind before input tokens complete → AllZip IsTokenOfLine (line ∷ lines) tokens
-    → (token : CommitTokenView) × (following : State) × (rest : List ℕ) × HasCommitToken kind before input token following rest
+    → (token : CommitTokenView) × (following : State) × (rest : List ℕ) × BeginsWithCommitToken kind before input token following rest
 begins_token kind before input line lines tokens (yields_end _) zips = absurd zips
 begins_token kind before input line lines tokens (yields_piece _ following _ rest token _ _ has yields_decoded) zips = (token, following, rest, has)
 
@@ -149,7 +149,7 @@ module _ (kind : Kind) (content : List ℕ) (commit : CommitLines) (reader : Com
   line_found : (Is : CommitTokenView → Type 0) (token : CommitTokenView) → EndsSearch Is reader (first_token token) → (line : LineView) × IsLineOf commit line
       × IsTokenOfLine line token
   line_found Is token (before, following, here, rest, (passed, passes, none), has) =
-      let has_token = HasCommitToken (commit_reader_state reader).kind in
+      let has_token = BeginsWithCommitToken (commit_reader_state reader).kind in
       let one = commit_token_unique (commit_reader_state reader).kind in
       let some = no_commit_token_of_nil (commit_reader_state reader).kind in
       let at = after_passed has_token one some (commit_reader_state reader).state before (commit_reader_state reader).bytes here passed run.0 complete
@@ -203,7 +203,7 @@ module _ (kind : Kind) (content : List ℕ) (commit : CommitLines) (reader : Com
 
   -- ---- the tree
 
-  tree_begins : (token : CommitTokenView) × (following : State) × (rest : List ℕ) × HasCommitToken (commit_reader_state reader).kind
+  tree_begins : (token : CommitTokenView) × (following : State) × (rest : List ℕ) × BeginsWithCommitToken (commit_reader_state reader).kind
       (commit_reader_state reader).state (commit_reader_state reader).bytes token following rest
   tree_begins = begins_token (commit_reader_state reader).kind (commit_reader_state reader).state (commit_reader_state reader).bytes
       (tree_line commit.tree) _ run.0 yields_decoded run.2
@@ -212,7 +212,7 @@ module _ (kind : Kind) (content : List ℕ) (commit : CommitLines) (reader : Com
       × (answered_commit_id answer ≡ Ok id) × DecodesToId commit.tree id
   its_answer (Some (Ok token)) after gives =
       let kind' = (commit_reader_state reader).kind in
-      let first = after_first (HasCommitToken kind') (commit_token_unique kind') (no_commit_token_of_nil kind') (commit_reader_state reader).state
+      let first = after_first (BeginsWithCommitToken kind') (commit_token_unique kind') (no_commit_token_of_nil kind') (commit_reader_state reader).state
       (commit_reader_state after).state (commit_reader_state reader).bytes (commit_reader_state after).bytes
       (commit_token_view token) run.0 complete gives.0 yields_decoded in
       let tree = tree_of commit _ (commit_token_view token) first.others

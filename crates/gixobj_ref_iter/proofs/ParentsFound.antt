@@ -14,7 +14,7 @@ use Rattle.gixobj_fields.proofs.Runs.{after_first, after_passed}
 use Rattle.gixobj_fields.specs.HeaderFormat.{Header}
 use Rattle.gixobj_fields.specs.Runs.{Ending, HasNone, complete, yields_end, yields_error, yields_piece}
 use Rattle.gixobj_line.specs.Commit.{CommitLines, DecodesToCommit, encoding_lines, lines_of_commit}
-use Rattle.gixobj_line.specs.Lines.{HasLine, LineView, MayFold, author_comes, committer_comes, encoding_comes, first_header_comes, first_message_comes, header_comes, header_line, message_comes, message_line, parent_comes, parent_line, tree_comes}
+use Rattle.gixobj_line.specs.Lines.{BeginsWithLine, LineView, MayFold, author_comes, committer_comes, encoding_comes, first_header_comes, first_message_comes, header_comes, header_line, message_comes, message_line, parent_comes, parent_line, tree_comes}
 use Rattle.gixobj_line.specs.declared.lines.State.{State}
 use Rattle.gixobj_line.specs.declared.lines.State.TheVariants as state
 use Rattle.gixobj_ref_iter.proofs.CommitsFound.{yields_tokens_from_start}
@@ -22,7 +22,7 @@ use Rattle.gixobj_ref_iter.proofs.CommitLanguage as language
 use Rattle.gixobj_ref_iter.proofs.CommitRuns.{token_run_unique}
 use Rattle.gixobj_ref_iter.proofs.CommitTokens.{no_commit_token_of_nil, commit_token_unique}
 use Rattle.gixobj_ref_iter.specs.CommitRuns.{YieldsCommitTokens}
-use Rattle.gixobj_ref_iter.specs.CommitTokens.{HasCommitToken, IsTokenOfLine, CommitTokenView, author_token, committer_token, encoding_token, header_token, message_token, parent_token, yields_author, yields_committer, yields_encoding, yields_header, yields_message, yields_parent, yields_tree, tree_token}
+use Rattle.gixobj_ref_iter.specs.CommitTokens.{BeginsWithCommitToken, IsTokenOfLine, CommitTokenView, author_token, committer_token, encoding_token, header_token, message_token, parent_token, yields_author, yields_committer, yields_encoding, yields_header, yields_message, yields_parent, yields_tree, tree_token}
 use Rattle.gixobj_ref_iter.specs.Readers.{AreTokensOfCommit}
 use Rattle.gixobj_ref_iter.specs.TokenFilters.{NextParent, parents_reader}
 use Rattle.gixobj_ref_iter.specs.CommitTokenSteps.{IsAtStartOfCommit, commit_reader_state}
@@ -75,7 +75,7 @@ after_folded state.ExtraHeaders input may = tt
 after_folded state.End input may = absurd may
 
 after_actors : (kind : Kind) (before : State) (input : List ℕ) (line : LineView) (token : CommitTokenView) (after : State) (rest : List ℕ)
-    → HasLine kind before input line after rest → IsTokenOfLine line token → IsAfterActors before
+    → BeginsWithLine kind before input line after rest → IsTokenOfLine line token → IsAfterActors before
     → (¬ IsParentToken token) × IsAfterActors after
 after_actors kind before input line token after rest (tree_comes _ hex _ has) yields may = absurd may
 after_actors kind before input line token after rest (parent_comes _ hex _ has) yields may = absurd may
@@ -110,10 +110,10 @@ module _ (it : ParentIds) (tokens : List CommitTokenView)
   some_passed : (id : ObjectId) (after : ParentIds) → NextParent it (Some id) after → Given id tokens after
   some_passed id after (before, input, token, (passed, passes, none), has, is, same_kind) =
       let kind = (commit_reader_state (parents_reader it)).kind in
-      let at = after_passed (HasCommitToken kind) (commit_token_unique kind) (no_commit_token_of_nil kind)
+      let at = after_passed (BeginsWithCommitToken kind) (commit_token_unique kind) (no_commit_token_of_nil kind)
       (commit_reader_state (parents_reader it)).state before
       (commit_reader_state (parents_reader it)).bytes input passed tokens complete passes seen in
-      let one = after_first (HasCommitToken kind) (commit_token_unique kind) (no_commit_token_of_nil kind) before _ input _ token at.others complete has
+      let one = after_first (BeginsWithCommitToken kind) (commit_token_unique kind) (no_commit_token_of_nil kind) before _ input _ token at.others complete has
       at.yielded in
       record {
         others = one.others;
@@ -129,7 +129,7 @@ module _ (it : ParentIds) (tokens : List CommitTokenView)
       no_parents tokens (subst (HasNone IsParentToken) same none)
   none_passed after (OutOfMemory, (before, input, (passed, passes, none), rejected), ended, same_kind) =
       let kind = (commit_reader_state (parents_reader it)).kind in
-      let at = after_passed (HasCommitToken kind) (commit_token_unique kind) (no_commit_token_of_nil kind)
+      let at = after_passed (BeginsWithCommitToken kind) (commit_token_unique kind) (no_commit_token_of_nil kind)
       (commit_reader_state (parents_reader it)).state before
       (commit_reader_state (parents_reader it)).bytes input passed tokens complete passes seen in
       ap parents_of at.joined ∙ after_others passed at.others none ∙ no_parents at.others

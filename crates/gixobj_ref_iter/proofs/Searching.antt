@@ -11,7 +11,7 @@ use Rattle.gixobj_fields.specs.Runs.{PassesNone, Yields, broken, complete, yield
 use Rattle.gixobj_hash.specs.declared.decode.Error.{Error}
 use Rattle.gixobj_hash.specs.declared.decode.Error.TheVariants.{Malformed, OutOfMemory}
 use Rattle.gixobj_hash.specs.declared.hash.kind.Kind.{Kind}
-use Rattle.gixobj_line.specs.Lines.{HasLine, LineView, IsLineError, author_comes, committer_comes, encoding_comes, first_header_comes, first_message_comes, header_comes, message_comes, parent_comes, tree_comes}
+use Rattle.gixobj_line.specs.Lines.{BeginsWithLine, LineView, IsLineError, author_comes, committer_comes, encoding_comes, first_header_comes, first_message_comes, header_comes, message_comes, parent_comes, tree_comes}
 use Rattle.gixobj_line.specs.declared.lines.State.{State}
 use Rattle.gixobj_line.specs.declared.lines.State.TheVariants as state
 use Rattle.gixobj_commit.specs.ExtraHeaders.{signature_field}
@@ -19,7 +19,7 @@ use Rattle.gixobj_ref_iter.specs.Extracting.{IsNamedLine, IsCommitSignatureError
 
 -- the bytes of a line are a prefix of the input
 pub token_bytes_are_prefix : (kind : Kind) (before : State) (input : List ℕ) (line : LineView) (after : State) (rest : List ℕ)
-    → HasLine kind before input line after rest
+    → BeginsWithLine kind before input line after rest
     → (one : List ℕ) × (input ≡ one ++ rest)
 token_bytes_are_prefix kind before input line after rest (tree_comes _ hex _ has) = (encode_field (codes "tree") hex, has.0.joined)
 token_bytes_are_prefix kind before input line after rest (parent_comes _ hex _ has) = (encode_field (codes "parent") hex, has.0.joined)
@@ -49,26 +49,26 @@ offset_advances content rest one after place placed joined is =
 
 -- no consumed line has the name
 module _ (kind : Kind) (name content : List ℕ) (here : State) (rest : List ℕ)
-    (passes : PassesNone (HasLine kind) (IsNamedLine name) state.Tree content here rest) where
-  pub passes_on : (line : LineView) (next : State) (after : List ℕ) → HasLine kind here rest line next after → ¬ IsNamedLine name line
-      → PassesNone (HasLine kind) (IsNamedLine name) state.Tree content next after
+    (passes : PassesNone (BeginsWithLine kind) (IsNamedLine name) state.Tree content here rest) where
+  pub passes_on : (line : LineView) (next : State) (after : List ℕ) → BeginsWithLine kind here rest line next after → ¬ IsNamedLine name line
+      → PassesNone (BeginsWithLine kind) (IsNamedLine name) state.Tree content next after
   passes_on line next after has other = (
     passes.0 ++ line ∷ [],
-    passes_one (HasLine kind) state.Tree here next content rest after passes.0 line passes.1 has,
+    passes_one (BeginsWithLine kind) state.Tree here next content rest after passes.0 line passes.1 has,
     All-push (λ it. ¬ IsNamedLine name it) passes.0 line passes.2 other,
   )
 
-  pub ended : rest ≡ [] → runs.YieldsNone (HasLine kind) (IsNamedLine name) state.Tree content complete
+  pub ended : rest ≡ [] → runs.YieldsNone (BeginsWithLine kind) (IsNamedLine name) state.Tree content complete
   ended none =
-      let yields : Yields (HasLine kind) here rest [] complete = rw none (yields_end here) in
-      (passes.0, yields_passed (HasLine kind) state.Tree here content rest passes.0 complete passes.1 yields, passes.2)
+      let yields : Yields (BeginsWithLine kind) here rest [] complete = rw none (yields_end here) in
+      (passes.0, yields_passed (BeginsWithLine kind) state.Tree here content rest passes.0 complete passes.1 yields, passes.2)
 
 module _ (kind : Kind) (content : List ℕ) (here : State) (rest : List ℕ)
-    (passes : PassesNone (HasLine kind) (IsNamedLine (signature_field kind)) state.Tree content here rest) where
+    (passes : PassesNone (BeginsWithLine kind) (IsNamedLine (signature_field kind)) state.Tree content here rest) where
   pub rejected : (error : Error) → rest ≢ [] → IsLineError kind here rest error → IsCommitSignatureError kind content error
   rejected Malformed some none =
-      let yields : Yields (HasLine kind) here rest [] broken = yields_error here rest some none in
-      (passes.0, yields_passed (HasLine kind) state.Tree here content rest passes.0 broken passes.1 yields, passes.2)
+      let yields : Yields (BeginsWithLine kind) here rest [] broken = yields_error here rest some none in
+      (passes.0, yields_passed (BeginsWithLine kind) state.Tree here content rest passes.0 broken passes.1 yields, passes.2)
   rejected OutOfMemory some wants = (here, rest, passes, wants)
 
 -- whether bytes remain, by their length

@@ -4,8 +4,8 @@ use Rattle.std.proofs.Common.{◌≡◌, ◌≢◌, ℕ, List, [], ◌∷◌, �
 use Rattle.std.specs.Prelude.{codes}
 use Rattle.gixobj_actor.specs.Actor.{ActorView, IsActorLineOf}
 use Rattle.gixobj_fields.proofs.HeaderFields.{is_id_hex_of_decoded}
-use Rattle.gixobj_fields.specs.HeaderReading.{HasId}
-use Rattle.gixobj_fields.specs.HeaderFormat.{HasField}
+use Rattle.gixobj_fields.specs.HeaderReading.{BeginsWithIdField}
+use Rattle.gixobj_fields.specs.HeaderFormat.{BeginsWithField}
 use Rattle.gixobj_fields.specs.Runs.{complete, yields_end, yields_piece}
 use Rattle.gixobj_hash.proofs.HexIds.{decoded_id_decodes}
 use Rattle.gixobj_hash.specs.Hash.{DecodesToId}
@@ -16,7 +16,7 @@ use Rattle.gixobj_hash.specs.declared.hash.object_id.ObjectId.{ObjectId}
 use Rattle.gixobj_hash.specs.declared.kind.Kind.{Kind}
 use Rattle.gixobj_tag.proofs.Bodies.{body_unique}
 use Rattle.gixobj_tag.proofs.EntireTags.{Reads, decodes_tag_of_parts, parts_of_decoded_tag}
-use Rattle.gixobj_line.specs.TagLines.{HasName, HasTagger}
+use Rattle.gixobj_line.specs.TagLines.{BeginsWithTagName, BeginsWithTagger}
 use Rattle.gixobj_ref_iter.specs.TagReaders.{AreTokensOfTag, IsOptionalToken, IsAfterName, IsTokenOfTagger, misses_body, misses_nothing, misses_tagger_and_body, yields_no_tagger, yields_tagger}
 use Rattle.gixobj_tag.specs.TagFormat.{IsBody, DecodesToTag, TagLines, newlines_alone}
 use Rattle.gixobj_ref_iter.specs.TagTokens.{TagTokenView, body_comes, body_token, kind_comes, kind_token, name_comes, name_token, no_tagger_comes, no_tagger_token, tagger_comes, tagger_token, target_comes, target_token}
@@ -61,7 +61,7 @@ body_yielded kind (byte ∷ body) message signature is =
 -- ---- the tokens of a tagger and a body
 
 after_tagger : (kind : hash.Kind) (input line rest message : List ℕ) (signature : Option (List ℕ)) (actor : ActorView) (bytes : List ℕ)
-    → HasField (codes "tagger") input line rest → IsActorLineOf line actor bytes
+    → BeginsWithField (codes "tagger") input line rest → IsActorLineOf line actor bytes
     → TailYielded kind state.Body rest (body_token message signature ∷ [])
     → TailYielded kind state.Tagger input (tagger_token actor ∷ body_token message signature ∷ [])
 after_tagger kind input line rest message signature actor bytes field is tail =
@@ -75,7 +75,7 @@ after_tagger kind input line rest message signature actor bytes field is tail =
       joined = ap (λ (it : List TagTokenView). tagger_token actor ∷ it) tail.joined;
     }
 
-untagged_yielded : (kind : hash.Kind) (body message : List ℕ) (signature : Option (List ℕ)) → HasTagger body None body → IsBody body message signature
+untagged_yielded : (kind : hash.Kind) (body message : List ℕ) (signature : Option (List ℕ)) → BeginsWithTagger body None body → IsBody body message signature
     → TailYielded kind state.Tagger body (no_tagger_token ∷ body_token message signature ∷ [])
 untagged_yielded kind [] message signature has is =
     record {
@@ -106,10 +106,10 @@ record TaggerYielded (kind : hash.Kind) (input : List ℕ) (line : Option (List 
   tail : TailYielded kind state.Tagger input (token ∷ body_token message signature ∷ [])
 
 tail_yielded : (kind : hash.Kind) (input : List ℕ) (line : Option (List ℕ)) (body message : List ℕ) (signature : Option (List ℕ))
-    → HasTagger input line body
+    → BeginsWithTagger input line body
     → IsBody body message signature → TaggerYielded kind input line message signature
 tail_yielded kind input None body message signature (lacks, same) is =
-    let has : HasTagger body None body = (subst (λ (it : List ℕ). HasTagger it None body) (sym same) (lacks, same)) in
+    let has : BeginsWithTagger body None body = (subst (λ (it : List ℕ). BeginsWithTagger it None body) (sym same) (lacks, same)) in
     let yields_decoded = untagged_yielded kind body message signature has is in
     record {
       token = no_tagger_token;
@@ -154,7 +154,7 @@ record Tail (input : List ℕ) (tokens : List TagTokenView) : Type 0 where
   signature : Option (List ℕ)
   token : TagTokenView
   missing : List TagTokenView
-  has : HasTagger input line body
+  has : BeginsWithTagger input line body
   parted : IsBody body message signature
   yields : IsTokenOfTagger line token
   may : IsOptionalToken missing
@@ -166,7 +166,7 @@ after_body kind tokens (yields_end _) = refl
 after_body kind _ (yields_piece _ following _ rest piece pieces _ has _) = elim has [ ]
 
 read_body : (kind : hash.Kind) (input : List ℕ) (line : Option (List ℕ)) (body : List ℕ) (token : TagTokenView) (tokens : List TagTokenView)
-    → HasTagger input line body → IsTokenOfTagger line token → YieldsTagTokens kind state.Body body tokens complete
+    → BeginsWithTagger input line body → IsTokenOfTagger line token → YieldsTagTokens kind state.Body body tokens complete
     → Tail input (token ∷ tokens)
 read_body kind input line body token tokens has determines (yields_end _) =
     record {
@@ -230,8 +230,8 @@ abbrev Found : hash.Kind → List ℕ → List TagTokenView → Type 0
 Found kind content tokens = (tag : TagLines) × DecodesToTag kind content tag × AreTokensOfTag tag tokens
 
 found : (kind : hash.Kind) (content hex after following name rest : List ℕ) (id : ObjectId) (of : Kind) (tokens : List TagTokenView)
-    → HasId (codes "object") kind content hex after → DecodesToId hex id → HasField (codes "type") after (kind_name of) following
-    → HasName following name rest → Tail rest tokens → Found kind content (target_token id ∷ kind_token of ∷ name_token name ∷ tokens)
+    → BeginsWithIdField (codes "object") kind content hex after → DecodesToId hex id → BeginsWithField (codes "type") after (kind_name of) following
+    → BeginsWithTagName following name rest → Tail rest tokens → Found kind content (target_token id ∷ kind_token of ∷ name_token name ∷ tokens)
 found kind content hex after following name rest id of tokens has spells field named tail =
     let tag : TagLines = record {
       target = hex;
@@ -260,7 +260,7 @@ found kind content hex after following name rest id of tokens has spells field n
     )
 
 read_name : (kind : hash.Kind) (content hex after input : List ℕ) (id : ObjectId) (of : Kind) (tokens : List TagTokenView)
-    → HasId (codes "object") kind content hex after → DecodesToId hex id → HasField (codes "type") after (kind_name of) input
+    → BeginsWithIdField (codes "object") kind content hex after → DecodesToId hex id → BeginsWithField (codes "type") after (kind_name of) input
     → YieldsTagTokens kind state.Name input tokens complete → IsAfterName tokens → Found kind content (target_token id ∷ kind_token of ∷ tokens)
 read_name kind content hex after input id of tokens has spells field (yields_end _) came = absurd came
 read_name kind content hex after input id of tokens has spells field (yields_piece _ _ _ rest _ others _ (name_comes _ name _ named) yields_decoded)
@@ -268,7 +268,7 @@ read_name kind content hex after input id of tokens has spells field (yields_pie
     found kind content hex after input name rest id of others has spells field named (read_tail kind rest others yields_decoded)
 
 read_kind : (kind : hash.Kind) (content hex input : List ℕ) (id : ObjectId) (tokens : List TagTokenView)
-    → HasId (codes "object") kind content hex input
+    → BeginsWithIdField (codes "object") kind content hex input
     → DecodesToId hex id → YieldsTagTokens kind state.TargetKind input tokens complete → IsAfterName tokens
     → Found kind content (target_token id ∷ tokens)
 read_kind kind content hex input id tokens has spells (yields_end _) came = absurd came

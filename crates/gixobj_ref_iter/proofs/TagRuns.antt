@@ -9,7 +9,7 @@ use Rattle.gixobj_hash.specs.declared.decode.Error.{Error}
 use Rattle.gixobj_hash.specs.declared.decode.Error.TheVariants.{Malformed, OutOfMemory}
 use Rattle.gixobj_hash.specs.declared.hash.kind.Kind.{Kind}
 use Rattle.gixobj_ref_iter.proofs.TagTokens.{remaining_len_le, no_tag_token_of_nil, tag_token_unique, tag_token_bytes_exist}
-use Rattle.gixobj_ref_iter.specs.TagTokens.{HasTagToken, DecodesToTagToken, TagTokenView, tag_token_view}
+use Rattle.gixobj_ref_iter.specs.TagTokens.{BeginsWithTagToken, DecodesToTagToken, TagTokenView, tag_token_view}
 use Rattle.gixobj_ref_iter.specs.TagTokenSteps.{DecodesToTagTokens, NextTagToken, IsTaggerToken, YieldsTagTokens, NoTokenAllocates, tag_reader_state}
 use Rattle.gixobj_ref_iter.specs.declared.tag.State.{State}
 use Rattle.gixobj_ref_iter.specs.declared.tag.TagRefIter.{TagRefIter}
@@ -19,11 +19,11 @@ use Rattle.gixobj_actor.specs.declared.actor.SignatureRef.{SignatureRef}
 
 pub token_run_unique : (kind : Kind) (before : State) (input : List ℕ) (a b : List TagTokenView) (e f : Ending) → YieldsTagTokens kind before input a e
     → YieldsTagTokens kind before input b f → (a ≡ b) × (e ≡ f)
-token_run_unique kind = runs.one_run (HasTagToken kind) (tag_token_unique kind) (no_tag_token_of_nil kind)
+token_run_unique kind = runs.one_run (BeginsWithTagToken kind) (tag_token_unique kind) (no_tag_token_of_nil kind)
 
 pub decodes_tokens_of_run : (kind : Kind) (before : State) (input : List ℕ) (tokens : List TagTokenView) → YieldsTagTokens kind before input tokens complete
     → DecodesToTagTokens kind input tokens
-decodes_tokens_of_run kind = runs.run_encodings (HasTagToken kind) (DecodesToTagToken kind) (tag_token_bytes_exist kind)
+decodes_tokens_of_run kind = runs.run_encodings (BeginsWithTagToken kind) (DecodesToTagToken kind) (tag_token_bytes_exist kind)
 
 -- ---- searches
 
@@ -33,39 +33,39 @@ Every token = ⊤
 
 -- the second iterator is the first one after tokens without the property
 abbrev pub Searches : (TagTokenView → Type 0) → TagRefIter → TagRefIter → Type 0
-Searches = readers.SearchInvariant tag_reader_state HasTagToken NoTokenAllocates tag_token_view Every remaining_len_le
+Searches = readers.SearchInvariant tag_reader_state BeginsWithTagToken NoTokenAllocates tag_token_view Every remaining_len_le
 
 pub searches_nil : (Is : TagTokenView → Type 0) (reader : TagRefIter) → Searches Is reader reader
-searches_nil = readers.search_start tag_reader_state HasTagToken NoTokenAllocates tag_token_view Every remaining_len_le
+searches_nil = readers.search_start tag_reader_state BeginsWithTagToken NoTokenAllocates tag_token_view Every remaining_len_le
 
 pub searches_snoc : (Is : TagTokenView → Type 0) (reader at after : TagRefIter) (item : Result Token Error) (token : Token) → Searches Is reader at
     → NextTagToken at (Some item) after → item ≡ Ok token
     → ¬ Is (tag_token_view token) → Searches Is reader after
-searches_snoc = readers.search_on tag_reader_state HasTagToken NoTokenAllocates tag_token_view Every remaining_len_le
+searches_snoc = readers.search_on tag_reader_state BeginsWithTagToken NoTokenAllocates tag_token_view Every remaining_len_le
 
 pub finds_first_at_token : (Is : TagTokenView → Type 0) (reader at after : TagRefIter) (item : Result Token Error) (token : Token) → Searches Is reader at
     → NextTagToken at (Some item) after → item ≡ Ok token
-    → FindsFirst tag_reader_state HasTagToken Is reader (tag_token_view token)
-finds_first_at_token = readers.search_first tag_reader_state HasTagToken NoTokenAllocates tag_token_view Every remaining_len_le
+    → FindsFirst tag_reader_state BeginsWithTagToken Is reader (tag_token_view token)
+finds_first_at_token = readers.search_first tag_reader_state BeginsWithTagToken NoTokenAllocates tag_token_view Every remaining_len_le
 
 -- no token allocates
-malformed : (Is : TagTokenView → Type 0) (reader : TagRefIter) (error : Error) → FindsNone tag_reader_state HasTagToken NoTokenAllocates Is reader error
-    → (error ≡ Malformed) × ((ending : Ending) × YieldsNone tag_reader_state HasTagToken Is reader ending)
+malformed : (Is : TagTokenView → Type 0) (reader : TagRefIter) (error : Error) → FindsNone tag_reader_state BeginsWithTagToken NoTokenAllocates Is reader error
+    → (error ≡ Malformed) × ((ending : Ending) × YieldsNone tag_reader_state BeginsWithTagToken Is reader ending)
 malformed Is reader Malformed none = (refl, none)
 malformed Is reader OutOfMemory (before, input, passes, wants) = absurd wants
 
 pub yields_none_at_error : (Is : TagTokenView → Type 0) (reader at after : TagRefIter) (item : Result Token Error) (passed error : Error) → passed ≡ error
     → Searches Is reader at → NextTagToken at (Some item) after → item ≡ Err error
-    → (passed ≡ Malformed) × ((ending : Ending) × YieldsNone tag_reader_state HasTagToken Is reader ending)
+    → (passed ≡ Malformed) × ((ending : Ending) × YieldsNone tag_reader_state BeginsWithTagToken Is reader ending)
 yields_none_at_error Is reader at after item passed error same searches gives err =
     malformed Is reader passed
-    (readers.search_errors tag_reader_state HasTagToken NoTokenAllocates tag_token_view Every remaining_len_le Is reader at after item passed error same
+    (readers.search_errors tag_reader_state BeginsWithTagToken NoTokenAllocates tag_token_view Every remaining_len_le Is reader at after item passed error same
     searches
     gives err)
 
 pub yields_none_at_end : (Is : TagTokenView → Type 0) (reader at after : TagRefIter) → Searches Is reader at → NextTagToken at None after
-    → YieldsNone tag_reader_state HasTagToken Is reader complete
-yields_none_at_end = readers.search_ends tag_reader_state HasTagToken NoTokenAllocates tag_token_view Every remaining_len_le
+    → YieldsNone tag_reader_state BeginsWithTagToken Is reader complete
+yields_none_at_end = readers.search_ends tag_reader_state BeginsWithTagToken NoTokenAllocates tag_token_view Every remaining_len_le
 
 pub is_not_tagger_token : (it : Token) → ((tagger : Option SignatureRef) → it ≡ token.Tagger tagger → ⊥) → ¬ IsTaggerToken (tag_token_view it)
 is_not_tagger_token (token.Target id) other = λ is. is

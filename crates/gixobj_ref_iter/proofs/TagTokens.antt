@@ -9,8 +9,8 @@ use Rattle.gixobj_actor.proofs.ActorLines.{actor_view_unique}
 use Rattle.gixobj_actor.specs.Actor.{IsActorLineOf, actor_view}
 use Rattle.gixobj_actor.specs.declared.actor.SignatureRef.{SignatureRef}
 use Rattle.gixobj_fields.proofs.HeaderFields.{has_field_of_encoded, field_unique}
-use Rattle.gixobj_fields.specs.HeaderReading.{HasId}
-use Rattle.gixobj_fields.specs.HeaderFormat.{HasField, encode_field}
+use Rattle.gixobj_fields.specs.HeaderReading.{BeginsWithIdField}
+use Rattle.gixobj_fields.specs.HeaderFormat.{BeginsWithField, encode_field}
 use Rattle.gixobj_fields.specs.Runs.{HasNoPiece}
 use Rattle.gixobj_hash.proofs.Headers.{kind_keyword_injective}
 use Rattle.gixobj_hash.proofs.HexIds.{decoded_id_unique}
@@ -20,10 +20,10 @@ use Rattle.gixobj_hash.specs.declared.hash.kind.Kind as hash
 use Rattle.gixobj_hash.specs.declared.hash.object_id.ObjectId.{ObjectId}
 use Rattle.gixobj_tag.proofs.Bodies.{body_unique}
 use Rattle.gixobj_line.proofs.TagLines.{no_tagger_and_begins_field}
-use Rattle.gixobj_line.specs.TagLines.{HasMalformedTagger, HasTagger}
+use Rattle.gixobj_line.specs.TagLines.{BeginsWithMalformedTagger, BeginsWithTagger}
 use Rattle.gixobj_line.specs.TagLineViews.{IsParsedTagger, line_if_some}
 use Rattle.gixobj_ref_iter.specs.TagReaders.{IsTokenOfTagger, yields_no_tagger, yields_tagger}
-use Rattle.gixobj_ref_iter.specs.TagTokens.{HasTagToken, DecodesToTagToken, TagTokenView, body_comes, kind_comes, kind_token, name_comes, name_token, no_tagger_comes, tagger_comes, tagger_token, target_comes, target_token}
+use Rattle.gixobj_ref_iter.specs.TagTokens.{BeginsWithTagToken, DecodesToTagToken, TagTokenView, body_comes, kind_comes, kind_token, name_comes, name_token, no_tagger_comes, tagger_comes, tagger_token, target_comes, target_token}
 use Rattle.gixobj_ref_iter.specs.TagTokenSteps.{remaining_states}
 use Rattle.gixobj_ref_iter.specs.declared.tag.State.{State}
 use Rattle.gixobj_ref_iter.specs.declared.tag.State.TheVariants as state
@@ -36,39 +36,39 @@ is_token_of_tagger tagger line actor parsed same =
     let it : IsParsedTagger (Some (line, actor)) = subst IsParsedTagger same parsed in
     rw same (yields_tagger (bstr_bytes line) (actor_view actor) it.0 it.1)
 
-yielded_comes : (kind : hash.Kind) (input rest : List ℕ) (line : Option (List ℕ)) (token : TagTokenView) → input ≢ [] → HasTagger input line rest
-    → IsTokenOfTagger line token → HasTagToken kind state.Tagger input token state.Body rest
+yielded_comes : (kind : hash.Kind) (input rest : List ℕ) (line : Option (List ℕ)) (token : TagTokenView) → input ≢ [] → BeginsWithTagger input line rest
+    → IsTokenOfTagger line token → BeginsWithTagToken kind state.Tagger input token state.Body rest
 yielded_comes kind input rest (Some line) token filled (field, _) (yields_tagger _ actor after is) = tagger_comes input line rest actor after field is
 yielded_comes kind input rest None token filled (lacks, same) yields_no_tagger =
     rw same (no_tagger_comes input filled lacks)
 
 pub has_tagger_token : (kind : hash.Kind) (before : State) (input rest : List ℕ) (line : Option (List ℕ)) (token : TagTokenView) → before ≡ state.Tagger
-    → input ≢ [] → HasTagger input line rest → IsTokenOfTagger line token
-    → HasTagToken kind before input token state.Body rest
+    → input ≢ [] → BeginsWithTagger input line rest → IsTokenOfTagger line token
+    → BeginsWithTagToken kind before input token state.Body rest
 has_tagger_token kind before input rest line token same filled has yields = rw same (yielded_comes kind input rest line token filled has yields)
 
 -- ---- no token
 
-none_yielded : (kind : hash.Kind) (input : List ℕ) (token : TagTokenView) (after : State) (rest : List ℕ) → HasMalformedTagger input
-    → HasTagToken kind state.Tagger input token after rest → ⊥
+none_yielded : (kind : hash.Kind) (input : List ℕ) (token : TagTokenView) (after : State) (rest : List ℕ) → BeginsWithMalformedTagger input
+    → BeginsWithTagToken kind state.Tagger input token after rest → ⊥
 none_yielded kind input token after rest none (tagger_comes _ line _ actor bytes field is) =
     none (Some line) rest (field, (actor.name, actor.email, actor.time, bytes, is))
 none_yielded kind input token after rest none (no_tagger_comes _ filled lacks) = none None input (lacks, refl)
 
-pub has_no_tagger_token : (kind : hash.Kind) (before : State) (input : List ℕ) → before ≡ state.Tagger → HasMalformedTagger input
-    → HasNoPiece (HasTagToken kind) before input
+pub has_no_tagger_token : (kind : hash.Kind) (before : State) (input : List ℕ) → before ≡ state.Tagger → BeginsWithMalformedTagger input
+    → HasNoPiece (BeginsWithTagToken kind) before input
 has_no_tagger_token kind before input same none token after rest has = none_yielded kind input token after rest none
-    (subst (λ (it : State). HasTagToken kind it input token after rest) same has)
+    (subst (λ (it : State). BeginsWithTagToken kind it input token after rest) same has)
 
 -- ---- a token consumes bytes, or at least a state
 
 -- after a field fewer bytes remain
-field_shortens : (name input value rest : List ℕ) → HasField name input value rest → length rest < length input
+field_shortens : (name input value rest : List ℕ) → BeginsWithField name input value rest → length rest < length input
 field_shortens name input value rest field =
     omega (arith, ap length field.joined, length-append (encode_field name value) rest, length-append name (32 ∷ (value ++ 10 ∷ [])))
 
 pub remaining_len_le : (kind : hash.Kind) (before : State) (input : List ℕ) (token : TagTokenView) (after : State) (rest : List ℕ)
-    → HasTagToken kind before input token after rest → length rest ≤ length input
+    → BeginsWithTagToken kind before input token after rest → length rest ≤ length input
 remaining_len_le kind before input token after rest (target_comes _ hex _ id has spells) = let less =
     field_shortens (codes "object") input hex rest has.0 in omega
     (arith, less)
@@ -83,7 +83,7 @@ remaining_len_le kind before input token after rest (no_tagger_comes _ filled la
 remaining_len_le kind before input token after rest (body_comes _ message signature filled is) = omega arith
 
 fewer_states : (kind : hash.Kind) (before : State) (input : List ℕ) (token : TagTokenView) (after : State) (rest : List ℕ)
-    → HasTagToken kind before input token after rest → remaining_states after < remaining_states before
+    → BeginsWithTagToken kind before input token after rest → remaining_states after < remaining_states before
 fewer_states kind before input token after rest (target_comes _ hex _ id has spells) = omega arith
 fewer_states kind before input token after rest (kind_comes _ _ of field) = omega arith
 fewer_states kind before input token after rest (name_comes _ name _ has) = omega arith
@@ -92,7 +92,7 @@ fewer_states kind before input token after rest (no_tagger_comes _ filled lacks)
 fewer_states kind before input token after rest (body_comes _ message signature filled is) = omega arith
 
 pub remaining_measure_lt : (kind : hash.Kind) (before : State) (input : List ℕ) (token : TagTokenView) (after : State) (rest : List ℕ)
-    → HasTagToken kind before input token after rest
+    → BeginsWithTagToken kind before input token after rest
     → length rest + remaining_states after < length input + remaining_states before
 remaining_measure_lt kind before input token after rest has =
     omega (arith, remaining_len_le kind before input token after rest has, fewer_states kind before input token after rest has)
@@ -100,7 +100,7 @@ remaining_measure_lt kind before input token after rest has =
 -- ---- one token
 
 pub no_tag_token_of_nil : (kind : hash.Kind) (before : State) (input : List ℕ) (token : TagTokenView) (after : State) (rest : List ℕ) → input ≡ []
-    → HasTagToken kind before input token after rest → ⊥
+    → BeginsWithTagToken kind before input token after rest → ⊥
 no_tag_token_of_nil kind before input token after rest bare (target_comes _ hex _ id has spells) = let less =
     field_shortens (codes "object") input hex rest has.0 in omega (arith, less, ap length bare)
 no_tag_token_of_nil kind before input token after rest bare (kind_comes _ _ of field) = let less =
@@ -113,17 +113,17 @@ no_tag_token_of_nil kind before input token after rest bare (tagger_comes _ line
 no_tag_token_of_nil kind before input token after rest bare (no_tagger_comes _ filled lacks) = filled bare
 no_tag_token_of_nil kind before input token after rest bare (body_comes _ message signature filled is) = filled bare
 
-one_target : (kind : hash.Kind) (input a x : List ℕ) (i : ObjectId) (b y : List ℕ) (j : ObjectId) → HasId (codes "object") kind input a x
+one_target : (kind : hash.Kind) (input a x : List ℕ) (i : ObjectId) (b y : List ℕ) (j : ObjectId) → BeginsWithIdField (codes "object") kind input a x
     → DecodesToId a i
-    → HasId (codes "object") kind input b y → DecodesToId b j → (i ≡ j) × (x ≡ y)
+    → BeginsWithIdField (codes "object") kind input b y → DecodesToId b j → (i ≡ j) × (x ≡ y)
 one_target kind input a x i b y j has spells has' spells' =
     let same = field_unique (codes "object") input a x b y has.0 has'.0 in
     let there : DecodesToId b i = subst (λ (it : List ℕ). DecodesToId it i) same.0 spells in
     (decoded_id_unique b i there ∙ sym (decoded_id_unique b j spells'), same.1)
 
 pub tag_token_unique : (kind : hash.Kind) (before : State) (input : List ℕ) (a b : TagTokenView) (s t : State) (x y : List ℕ)
-    → HasTagToken kind before input a s x
-    → HasTagToken kind before input b t y → (a ≡ b) × (s ≡ t) × (x ≡ y)
+    → BeginsWithTagToken kind before input a s x
+    → BeginsWithTagToken kind before input b t y → (a ≡ b) × (s ≡ t) × (x ≡ y)
 tag_token_unique kind before input a b s t x y (target_comes _ hex _ id has spells) (target_comes _ hex' _ id' has' spells') =
     let same = one_target kind input hex x id hex' y id' has spells has' spells' in (ap target_token same.0, refl, same.1)
 tag_token_unique kind before input a b s t x y (kind_comes _ _ of field) (kind_comes _ _ of' field') =
@@ -146,7 +146,7 @@ tag_token_unique kind before input a b s t x y (body_comes _ message signature f
 -- ---- the encoding of a token
 
 pub tag_token_bytes_exist : (kind : hash.Kind) (before : State) (input : List ℕ) (token : TagTokenView) (after : State) (rest : List ℕ)
-    → HasTagToken kind before input token after rest → (content : List ℕ) × (input ≡ content ++ rest) × DecodesToTagToken kind token content
+    → BeginsWithTagToken kind before input token after rest → (content : List ℕ) × (input ≡ content ++ rest) × DecodesToTagToken kind token content
 tag_token_bytes_exist kind before input token after rest (target_comes _ hex _ id has spells) = (
   encode_field (codes "object") hex,
   has.0.joined,

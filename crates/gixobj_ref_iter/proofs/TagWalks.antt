@@ -6,7 +6,7 @@ use Rattle.gixobj_fields.specs.Runs.{HasNoPiece, broken, complete, yields_end, y
 use Rattle.gixobj_hash.specs.declared.decode.Error.{Error}
 use Rattle.gixobj_hash.specs.declared.decode.Error.TheVariants.{Malformed, OutOfMemory}
 use Rattle.gixobj_hash.specs.declared.hash.kind.Kind.{Kind}
-use Rattle.gixobj_ref_iter.specs.TagTokens.{HasTagToken, TagTokenView, tag_token_view}
+use Rattle.gixobj_ref_iter.specs.TagTokens.{BeginsWithTagToken, TagTokenView, tag_token_view}
 use Rattle.gixobj_ref_iter.specs.TagTokenSteps.{NextTagToken, HasConsumedTagTokens, IsAtStartOfTag, YieldsTagTokens, tag_reader_state}
 use Rattle.gixobj_ref_iter.specs.declared.tag.State.{State}
 use Rattle.gixobj_ref_iter.specs.declared.tag.State.TheVariants as state
@@ -24,9 +24,9 @@ module _ (kind : Kind) (content : List ℕ) where
   pub goes_on : (tokens : List TagTokenView) (at after : TagRefIter) (token : Token) → HasConsumedTagTokens kind content tokens at
       → NextTagToken at (Some (Ok token)) after → HasConsumedTagTokens kind content (tokens ++ tag_token_view token ∷ []) after
   goes_on tokens at after token (passed, same_kind) (has, kept, such) =
-      let here = subst (λ (it : Kind). HasTagToken it (tag_reader_state at).state (tag_reader_state at).bytes (tag_token_view token)
+      let here = subst (λ (it : Kind). BeginsWithTagToken it (tag_reader_state at).state (tag_reader_state at).bytes (tag_token_view token)
       (tag_reader_state after).state (tag_reader_state after).bytes) same_kind has in (
-        passes_one (HasTagToken kind) state.Target (tag_reader_state at).state (tag_reader_state after).state content (tag_reader_state at).bytes
+        passes_one (BeginsWithTagToken kind) state.Target (tag_reader_state at).state (tag_reader_state after).state content (tag_reader_state at).bytes
             (tag_reader_state after).bytes tokens (tag_token_view token) passed here,
         kept ∙ same_kind,
       )
@@ -36,7 +36,7 @@ module _ (kind : Kind) (content : List ℕ) where
   ends tokens at after (passed, same_kind) gives =
       let end : YieldsTagTokens kind (tag_reader_state at).state (tag_reader_state at).bytes [] complete =
       rw gives.0 (yields_end (tag_reader_state at).state) in
-      yields_passed (HasTagToken kind) state.Target (tag_reader_state at).state content (tag_reader_state at).bytes tokens complete passed end
+      yields_passed (BeginsWithTagToken kind) state.Target (tag_reader_state at).state content (tag_reader_state at).bytes tokens complete passed end
 
   malformed_only : (at after : TagRefIter) (error : Error) → NextTagToken at (Some (Err error)) after → NextTagToken at (Some (Err Malformed)) after
   malformed_only at after Malformed gives = gives
@@ -46,7 +46,7 @@ module _ (kind : Kind) (content : List ℕ) where
       → NextTagToken at (Some (Err error)) after → YieldsTagTokens kind state.Target content tokens broken
   stops tokens at after error (passed, same_kind) gives =
       let rejected = malformed_only at after error gives in
-      let none = subst (λ (it : Kind). HasNoPiece (HasTagToken it) (tag_reader_state at).state (tag_reader_state at).bytes) same_kind rejected.1 in
+      let none = subst (λ (it : Kind). HasNoPiece (BeginsWithTagToken it) (tag_reader_state at).state (tag_reader_state at).bytes) same_kind rejected.1 in
       let stop : YieldsTagTokens kind (tag_reader_state at).state (tag_reader_state at).bytes [] broken =
       yields_error (tag_reader_state at).state (tag_reader_state at).bytes rejected.0 none in
-      yields_passed (HasTagToken kind) state.Target (tag_reader_state at).state content (tag_reader_state at).bytes tokens broken passed stop
+      yields_passed (BeginsWithTagToken kind) state.Target (tag_reader_state at).state content (tag_reader_state at).bytes tokens broken passed stop

@@ -16,7 +16,7 @@ use Rattle.gixobj_ref_iter.proofs.TagRuns.{token_run_unique}
 use Rattle.gixobj_ref_iter.proofs.TagTokens.{no_tag_token_of_nil, tag_token_unique}
 use Rattle.gixobj_ref_iter.specs.TagReaders.{AreTokensOfTag, EndsAfterItsName, IsOptionalToken, IsAfterName, AreAllTokensOfTag, IsTokenOfTagger, misses_body, misses_nothing, misses_tagger_and_body, yields_no_tagger, yields_tagger}
 use Rattle.gixobj_tag.specs.TagFormat.{DecodesToTag, TagLines}
-use Rattle.gixobj_ref_iter.specs.TagTokens.{HasTagToken, TagTokenView, body_token, kind_token, name_token, no_tagger_token, target_token, tag_token_view}
+use Rattle.gixobj_ref_iter.specs.TagTokens.{BeginsWithTagToken, TagTokenView, body_token, kind_token, name_token, no_tagger_token, target_token, tag_token_view}
 use Rattle.gixobj_ref_iter.specs.TagTokenSteps.{FindsTagger, NextIdOfTag, NextTagToken, IsAtStartOfTag, IsTaggerToken, YieldsNoTagger, YieldsTagTokens, answered_tag_id, tag_id_or_malformed, tag_reader_state, token_of_tagger, tag_token_id}
 use Rattle.gixobj_ref_iter.specs.declared.tag.State.{State}
 use Rattle.gixobj_ref_iter.specs.declared.tag.State.TheVariants as state
@@ -109,7 +109,7 @@ first_of_all tag tokens missing token others all same =
     cc joined
 
 begins_token : (kind : Kind) (before : State) (input : List ℕ) (tokens : List TagTokenView) → YieldsTagTokens kind before input tokens complete
-    → IsAfterName tokens → (token : TagTokenView) × (following : State) × (rest : List ℕ) × HasTagToken kind before input token following rest
+    → IsAfterName tokens → (token : TagTokenView) × (following : State) × (rest : List ℕ) × BeginsWithTagToken kind before input token following rest
 begins_token kind before input tokens (yields_end _) came = absurd came
 begins_token kind before input tokens (yields_piece _ following _ rest token _ _ has yields_decoded) came = (token, following, rest, has)
 
@@ -121,7 +121,7 @@ module _ (kind : Kind) (content : List ℕ) (tag : TagLines) (reader : TagRefIte
   yields_decoded : YieldsTagTokens (tag_reader_state reader).kind (tag_reader_state reader).state (tag_reader_state reader).bytes run.0 complete
   yields_decoded = subst (λ (it : ReaderState Kind State). YieldsTagTokens it.kind it.state it.bytes run.0 complete) (sym start) run.1
 
-  begins : (token : TagTokenView) × (following : State) × (rest : List ℕ) × HasTagToken (tag_reader_state reader).kind (tag_reader_state reader).state
+  begins : (token : TagTokenView) × (following : State) × (rest : List ℕ) × BeginsWithTagToken (tag_reader_state reader).kind (tag_reader_state reader).state
       (tag_reader_state reader).bytes token following rest
   begins = begins_token (tag_reader_state reader).kind (tag_reader_state reader).state (tag_reader_state reader).bytes run.0 yields_decoded run.3
 
@@ -129,7 +129,7 @@ module _ (kind : Kind) (content : List ℕ) (tag : TagLines) (reader : TagRefIte
       × (answered_tag_id answer ≡ Ok id) × DecodesToId tag.target id
   its_answer (Some (Ok token)) after gives =
       let kind' = (tag_reader_state reader).kind in
-      let first = after_first (HasTagToken kind') (tag_token_unique kind') (no_tag_token_of_nil kind') (tag_reader_state reader).state
+      let first = after_first (BeginsWithTagToken kind') (tag_token_unique kind') (no_tag_token_of_nil kind') (tag_reader_state reader).state
       (tag_reader_state after).state
       (tag_reader_state reader).bytes (tag_reader_state after).bytes (tag_token_view token) run.0 complete gives.0 yields_decoded in
       let all = run.2.2 in
@@ -147,9 +147,9 @@ module _ (kind : Kind) (content : List ℕ) (tag : TagLines) (reader : TagRefIte
   pub its_tagger : (tagger : Option SignatureRef) → FindsTagger reader tagger → IsTokenOfTagger tag.tagger (token_of_tagger tagger)
   its_tagger tagger (before, following, here, rest, (passed, passes, none), has) =
       let kind' = (tag_reader_state reader).kind in
-      let at = after_passed (HasTagToken kind') (tag_token_unique kind') (no_tag_token_of_nil kind') (tag_reader_state reader).state before
+      let at = after_passed (BeginsWithTagToken kind') (tag_token_unique kind') (no_tag_token_of_nil kind') (tag_reader_state reader).state before
       (tag_reader_state reader).bytes here passed run.0 complete passes yields_decoded in
-      let first = after_first (HasTagToken kind') (tag_token_unique kind') (no_tag_token_of_nil kind') before following here rest
+      let first = after_first (BeginsWithTagToken kind') (tag_token_unique kind') (no_tag_token_of_nil kind') before following here rest
       (token_of_tagger tagger) at.others complete has at.yielded in
       let all = run.2.2 in
       let joined : passed ++ token_of_tagger tagger ∷ (first.others ++ run.2.0) ≡ (passed ++ token_of_tagger tagger ∷ first.others) ++ run.2.0 =

@@ -3,9 +3,9 @@ use Rattle.std.specs.Prelude.{ℕ, List}
 use Rattle.gixobj_fields.specs.Runs as runs
 use Rattle.gixobj_fields.specs.Runs.{Ending}
 use Rattle.gixobj_hash.specs.declared.hash.kind.Kind.{Kind}
-use Rattle.gixobj_ref_iter.specs.CommitTokens.{HasCommitToken, CommitTokenView}
+use Rattle.gixobj_ref_iter.specs.CommitTokens.{BeginsWithCommitToken, CommitTokenView}
 use Rattle.gixobj_line.specs.declared.lines.State.{State}
 
 -- the complete run from this state over this input yields these tokens, and has this ending
 abbrev pub YieldsCommitTokens : Kind → State → List ℕ → List CommitTokenView → Ending → Type 0
-YieldsCommitTokens kind before input tokens ending = runs.Yields (HasCommitToken kind) before input tokens ending
+YieldsCommitTokens kind before input tokens ending = runs.Yields (BeginsWithCommitToken kind) before input tokens ending

@@ -7,7 +7,7 @@ use Rattle.gixobj_hash.specs.declared.hash.kind.Kind.{Kind}
 use Rattle.gixobj_hash.specs.declared.hash.object_id.ObjectId.{ObjectId}
 use Rattle.gixobj_fields.specs.Iterators.{NextPiece, ReaderState}
 use Rattle.gixobj_line.specs.Lines.{NeedsAllocation}
-use Rattle.gixobj_ref_iter.specs.CommitTokens.{HasCommitToken, CommitTokenView, commit_token_view}
+use Rattle.gixobj_ref_iter.specs.CommitTokens.{BeginsWithCommitToken, CommitTokenView, commit_token_view}
 use Rattle.gixobj_ref_iter.specs.CommitTokens.CommitTokenView.{tree_token, parent_token, author_token, committer_token, encoding_token, header_token, message_token}
 use Rattle.gixobj_ref_iter.specs.declared.commit.CommitRefIter.{CommitRefIter}
 use Rattle.gixobj_line.specs.declared.lines.State.{State}
@@ -38,7 +38,7 @@ BorrowsValue _ = ⊤
 
 -- one step: the next token; an error, after which no bytes remain; or none, without bytes
 abbrev pub NextCommitToken : CommitRefIter → Option (Result Token Error) → CommitRefIter → Type 0
-NextCommitToken = NextPiece commit_reader_state HasCommitToken (λ kind. NeedsAllocation) commit_token_view BorrowsValue
+NextCommitToken = NextPiece commit_reader_state BeginsWithCommitToken (λ kind. NeedsAllocation) commit_token_view BorrowsValue
 
 -- ---- ids of tokens
 

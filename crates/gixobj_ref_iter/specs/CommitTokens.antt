@@ -7,7 +7,7 @@ use Rattle.gixobj_fields.specs.HeaderFormat.{Header}
 use Rattle.gixobj_hash.specs.Hash.{DecodesToId}
 use Rattle.gixobj_hash.specs.declared.hash.kind.Kind.{Kind}
 use Rattle.gixobj_hash.specs.declared.hash.object_id.ObjectId.{ObjectId}
-use Rattle.gixobj_line.specs.Lines.{HasLine, LineView, author_line, committer_line, encoding_line, header_line, message_line, parent_line, tree_line}
+use Rattle.gixobj_line.specs.Lines.{BeginsWithLine, LineView, author_line, committer_line, encoding_line, header_line, message_line, parent_line, tree_line}
 use Rattle.gixobj_line.specs.declared.lines.State.{State}
 use Rattle.gixobj_ref_iter.specs.declared.commit.Token.{Token}
 use Rattle.gixobj_ref_iter.specs.declared.commit.Token.TheVariants as token
@@ -46,11 +46,11 @@ pub data IsTokenOfLine : LineView → CommitTokenView → Type 0 where
   yields_message : (message : List ℕ) → IsTokenOfLine (message_line message) (message_token message)
 
 -- the input begins with the line of this token, and the rest follows in the state after it
-abbrev pub HasCommitToken : Kind → State → List ℕ → CommitTokenView → State → List ℕ → Type 0
-HasCommitToken kind before input token after rest = (line : LineView) × HasLine kind before input line after rest
+abbrev pub BeginsWithCommitToken : Kind → State → List ℕ → CommitTokenView → State → List ℕ → Type 0
+BeginsWithCommitToken kind before input token after rest = (line : LineView) × BeginsWithLine kind before input line after rest
     × IsTokenOfLine line token
 
 -- the bytes are the encoding of this token alone
 abbrev pub DecodesToCommitToken : Kind → CommitTokenView → List ℕ → Type 0
 DecodesToCommitToken kind token bytes = (before : State) × (after : State)
-    × HasCommitToken kind before bytes token after []
+    × BeginsWithCommitToken kind before bytes token after []

@@ -10,7 +10,7 @@ use Rattle.gixobj_fields.specs.Runs.{PassesNone, broken, complete}
 use Rattle.gixobj_hash.specs.declared.decode.Error.{Error}
 use Rattle.gixobj_hash.specs.declared.decode.Error.TheVariants.{Malformed, OutOfMemory}
 use Rattle.gixobj_hash.specs.declared.hash.kind.Kind.{Kind}
-use Rattle.gixobj_line.specs.Lines.{HasLine, LineView, NeedsAllocation, header_line}
+use Rattle.gixobj_line.specs.Lines.{BeginsWithLine, LineView, NeedsAllocation, header_line}
 use Rattle.gixobj_line.specs.declared.lines.State.{State}
 use Rattle.gixobj_line.specs.declared.lines.State.TheVariants as state
 use Rattle.gixobj_signature.specs.SignedBytes.{signed_bytes}
@@ -29,8 +29,8 @@ pub record HasCommitSignature (kind : Kind) (content value signed : List ℕ) : 
   pub rest : List ℕ
   pub header : Header
   pub prefix : List ℕ
-  pub passes : PassesNone (HasLine kind) (IsNamedLine (signature_field kind)) state.Tree content before input
-  pub comes : HasLine kind before input (header_line header) following rest
+  pub passes : PassesNone (BeginsWithLine kind) (IsNamedLine (signature_field kind)) state.Tree content before input
+  pub comes : BeginsWithLine kind before input (header_line header) following rest
   pub named : header.name ≡ signature_field kind
   pub received : value ≡ header.value
   pub joined : content ≡ prefix ++ input
@@ -39,7 +39,7 @@ pub record HasCommitSignature (kind : Kind) (content value signed : List ℕ) : 
 -- the bytes decode to lines, to their end, and none of them is a signature header
 abbrev pub HasNoSignature : Kind → List ℕ → Type 0
 HasNoSignature kind content =
-    runs.YieldsNone (HasLine kind) (IsNamedLine (signature_field kind)) state.Tree content complete
+    runs.YieldsNone (BeginsWithLine kind) (IsNamedLine (signature_field kind)) state.Tree content complete
 
 -- the signature of these bytes with the data that it signs, or none
 abbrev pub FindsSignatureOfCommit : Kind → List ℕ → Option (CowSlice ℕ Global × SignedData) → Type 0
@@ -51,8 +51,8 @@ FindsSignatureOfCommit kind content None = HasNoSignature kind content
 -- header of several lines, whose value allocates
 abbrev pub IsCommitSignatureError : Kind → List ℕ → Error → Type 0
 IsCommitSignatureError kind content Malformed =
-    runs.YieldsNone (HasLine kind) (IsNamedLine (signature_field kind)) state.Tree content broken
+    runs.YieldsNone (BeginsWithLine kind) (IsNamedLine (signature_field kind)) state.Tree content broken
 IsCommitSignatureError kind content OutOfMemory =
     (before : State) × (input : List ℕ)
-    × PassesNone (HasLine kind) (IsNamedLine (signature_field kind)) state.Tree content before input
+    × PassesNone (BeginsWithLine kind) (IsNamedLine (signature_field kind)) state.Tree content before input
     × NeedsAllocation before input

@@ -12,7 +12,7 @@ use Rattle.gixobj_hash.specs.declared.decode.Error.{Error}
 use Rattle.gixobj_hash.specs.declared.decode.Error.TheVariants.{Malformed}
 use Rattle.gixobj_hash.specs.declared.hash.kind.Kind.{Kind}
 use Rattle.gixobj_hash.specs.declared.hash.object_id.ObjectId.{ObjectId}
-use Rattle.gixobj_ref_iter.specs.TagTokens.{HasTagToken, DecodesToTagToken, TagTokenView, body_token, kind_token, name_token, no_tagger_token, tagger_token, target_token, tag_token_view}
+use Rattle.gixobj_ref_iter.specs.TagTokens.{BeginsWithTagToken, DecodesToTagToken, TagTokenView, body_token, kind_token, name_token, no_tagger_token, tagger_token, target_token, tag_token_view}
 use Rattle.gixobj_ref_iter.specs.declared.tag.State.{State}
 use Rattle.gixobj_ref_iter.specs.declared.tag.State.TheVariants as state
 use Rattle.gixobj_ref_iter.specs.declared.tag.TagRefIter.{TagRefIter}
@@ -49,18 +49,18 @@ NoTokenAllocates kind before input = ⊥
 
 -- one step: the next token; an error, after which no bytes remain; or none, without bytes
 abbrev pub NextTagToken : TagRefIter → Option (Result Token Error) → TagRefIter → Type 0
-NextTagToken = NextPiece tag_reader_state HasTagToken NoTokenAllocates tag_token_view (λ token. ⊤)
+NextTagToken = NextPiece tag_reader_state BeginsWithTagToken NoTokenAllocates tag_token_view (λ token. ⊤)
 
 -- ---- runs
 
 -- the complete run from this state over this input yields these tokens, and has this ending
 abbrev pub YieldsTagTokens : Kind → State → List ℕ → List TagTokenView → Ending → Type 0
-YieldsTagTokens kind before input tokens ending = runs.Yields (HasTagToken kind) before input tokens ending
+YieldsTagTokens kind before input tokens ending = runs.Yields (BeginsWithTagToken kind) before input tokens ending
 
 -- the iterator began before the target of these bytes, and has consumed these tokens
 abbrev pub HasConsumedTagTokens : Kind → List ℕ → List TagTokenView → TagRefIter → Type 0
 HasConsumedTagTokens kind content tokens reader =
-    runs.Passes (HasTagToken kind) state.Target content tokens (tag_reader_state reader).state
+    runs.Passes (BeginsWithTagToken kind) state.Target content tokens (tag_reader_state reader).state
     (tag_reader_state reader).bytes × ((tag_reader_state reader).kind ≡ kind)
 
 -- the input is the concatenation of an encoding for each token
@@ -110,9 +110,9 @@ token_of_tagger None = no_tagger_token
 
 -- the token of this tagger, or of its absence, follows tokens that are neither
 abbrev pub FindsTagger : TagRefIter → Option SignatureRef → Type 0
-FindsTagger reader tagger = readers.FindsFirst tag_reader_state HasTagToken IsTaggerToken reader
+FindsTagger reader tagger = readers.FindsFirst tag_reader_state BeginsWithTagToken IsTaggerToken reader
     (token_of_tagger tagger)
 
 -- the complete run yields no tagger token, not even that of its absence, and has this ending
 abbrev pub YieldsNoTagger : TagRefIter → Ending → Type 0
-YieldsNoTagger = readers.YieldsNone tag_reader_state HasTagToken IsTaggerToken
+YieldsNoTagger = readers.YieldsNone tag_reader_state BeginsWithTagToken IsTaggerToken

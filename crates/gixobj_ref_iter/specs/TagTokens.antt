@@ -2,14 +2,14 @@
 use Rattle.std.specs.Prelude.{◌≡◌, ◌≢◌, ℕ, List, [], Option, Some, None, codes}
 use Rattle.bstr.specs.BStr.{bstr_bytes}
 use Rattle.gixobj_actor.specs.Actor.{ActorView, IsActorLineOf, actor_view}
-use Rattle.gixobj_fields.specs.HeaderReading.{HasId}
-use Rattle.gixobj_fields.specs.HeaderFormat.{HasField, HasOtherName}
+use Rattle.gixobj_fields.specs.HeaderReading.{BeginsWithIdField}
+use Rattle.gixobj_fields.specs.HeaderFormat.{BeginsWithField, BeginsWithOtherName}
 use Rattle.gixobj_hash.specs.Hash.{DecodesToId}
 use Rattle.gixobj_hash.specs.Kind.{kind_name}
 use Rattle.gixobj_hash.specs.declared.hash.kind.Kind as hash
 use Rattle.gixobj_hash.specs.declared.hash.object_id.ObjectId.{ObjectId}
 use Rattle.gixobj_hash.specs.declared.kind.Kind.{Kind}
-use Rattle.gixobj_line.specs.TagLines.{HasName}
+use Rattle.gixobj_line.specs.TagLines.{BeginsWithTagName}
 use Rattle.gixobj_tag.specs.TagFormat.{IsBody}
 use Rattle.gixobj_ref_iter.specs.declared.tag.State.{State}
 use Rattle.gixobj_ref_iter.specs.declared.tag.State.TheVariants as state
@@ -36,22 +36,22 @@ tag_token_view (token.Tagger None) = no_tagger_token
 tag_token_view (token.Body message signature) = body_token (bstr_bytes message) (bytes_if_some signature)
 
 -- in this state the input begins with this token, and the rest follows in the state after it
-pub data HasTagToken (kind : hash.Kind) : State → List ℕ → TagTokenView → State → List ℕ → Type 0 where
-  target_comes : (input hex rest : List ℕ) (id : ObjectId) → HasId (codes "object") kind input hex rest
-      → DecodesToId hex id → HasTagToken kind state.Target input (target_token id) state.TargetKind rest
-  kind_comes : (input rest : List ℕ) (of : Kind) → HasField (codes "type") input (kind_name of) rest
-      → HasTagToken kind state.TargetKind input (kind_token of) state.Name rest
-  name_comes : (input name rest : List ℕ) → HasName input name rest
-      → HasTagToken kind state.Name input (name_token name) state.Tagger rest
+pub data BeginsWithTagToken (kind : hash.Kind) : State → List ℕ → TagTokenView → State → List ℕ → Type 0 where
+  target_comes : (input hex rest : List ℕ) (id : ObjectId) → BeginsWithIdField (codes "object") kind input hex rest
+      → DecodesToId hex id → BeginsWithTagToken kind state.Target input (target_token id) state.TargetKind rest
+  kind_comes : (input rest : List ℕ) (of : Kind) → BeginsWithField (codes "type") input (kind_name of) rest
+      → BeginsWithTagToken kind state.TargetKind input (kind_token of) state.Name rest
+  name_comes : (input name rest : List ℕ) → BeginsWithTagName input name rest
+      → BeginsWithTagToken kind state.Name input (name_token name) state.Tagger rest
   tagger_comes : (input line rest : List ℕ) (actor : ActorView) (after : List ℕ)
-      → HasField (codes "tagger") input line rest → IsActorLineOf line actor after
-      → HasTagToken kind state.Tagger input (tagger_token actor) state.Body rest
-  no_tagger_comes : (input : List ℕ) → input ≢ [] → HasOtherName (codes "tagger") input
-      → HasTagToken kind state.Tagger input no_tagger_token state.Body input
+      → BeginsWithField (codes "tagger") input line rest → IsActorLineOf line actor after
+      → BeginsWithTagToken kind state.Tagger input (tagger_token actor) state.Body rest
+  no_tagger_comes : (input : List ℕ) → input ≢ [] → BeginsWithOtherName (codes "tagger") input
+      → BeginsWithTagToken kind state.Tagger input no_tagger_token state.Body input
   body_comes : (input message : List ℕ) (signature : Option (List ℕ)) → input ≢ [] → IsBody input message signature
-      → HasTagToken kind state.Body input (body_token message signature) state.End []
+      → BeginsWithTagToken kind state.Body input (body_token message signature) state.End []
 
 -- the bytes are the encoding of this token alone; the absence of a tagger has no bytes
 abbrev pub DecodesToTagToken : hash.Kind → TagTokenView → List ℕ → Type 0
 DecodesToTagToken kind no_tagger_token bytes = bytes ≡ []
-DecodesToTagToken kind token bytes = (before : State) × (after : State) × HasTagToken kind before bytes token after []
+DecodesToTagToken kind token bytes = (before : State) × (after : State) × BeginsWithTagToken kind before bytes token after []

@@ -4,7 +4,7 @@ use Rattle.std.specs.Iterator.{Count}
 use Rattle.gixobj_actor.specs.Actor.{actor_view}
 use Rattle.gixobj_actor.specs.declared.actor.SignatureRef.{SignatureRef}
 use Rattle.gixobj_hash.specs.declared.hash.object_id.ObjectId.{ObjectId}
-use Rattle.gixobj_ref_iter.specs.CommitTokens.{CommitTokenView, HasCommitToken, parent_token}
+use Rattle.gixobj_ref_iter.specs.CommitTokens.{CommitTokenView, BeginsWithCommitToken, parent_token}
 use Rattle.gixobj_fields.specs.Iterators as readers
 use Rattle.gixobj_line.specs.Lines.{NeedsAllocation}
 use Rattle.gixobj_ref_iter.specs.CommitTokenSteps.{remaining_commit_tokens, commit_reader_state}
@@ -32,12 +32,12 @@ remaining_actors it = remaining_commit_tokens (actors_reader it)
 -- after tokens without the first property, the iterator consumes one with the second
 abbrev pub ReadsFirstToken : (CommitTokenView → Type 0) → (CommitTokenView → Type 0) → CommitRefIter → CommitRefIter
     → Type 0
-ReadsFirstToken = readers.ReadsFirst commit_reader_state HasCommitToken
+ReadsFirstToken = readers.ReadsFirst commit_reader_state BeginsWithCommitToken
 
 -- no token with the property comes before the end, a malformed token, or a header whose value allocates; the iterator
 -- is at its end
 abbrev pub ReadsNoToken : (CommitTokenView → Type 0) → CommitRefIter → CommitRefIter → Type 0
-ReadsNoToken = readers.ReadsNone commit_reader_state HasCommitToken (λ kind. NeedsAllocation)
+ReadsNoToken = readers.ReadsNone commit_reader_state BeginsWithCommitToken (λ kind. NeedsAllocation)
 
 -- the next parent; or none, at the end of the tokens or at an error
 abbrev pub NextParent : ParentIds → Option ObjectId → ParentIds → Type 0

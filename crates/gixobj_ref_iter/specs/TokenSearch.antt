@@ -9,7 +9,7 @@ use Rattle.gixobj_fields.specs.Runs as runs
 use Rattle.gixobj_fields.specs.Runs.{Ending, complete}
 use Rattle.gixobj_line.specs.Lines.{NeedsAllocation}
 use Rattle.gixobj_line.specs.declared.lines.State.TheVariants as state
-use Rattle.gixobj_ref_iter.specs.CommitTokens.{CommitTokenView, HasCommitToken, DecodesToCommitToken, author_token, committer_token, message_token, parent_token}
+use Rattle.gixobj_ref_iter.specs.CommitTokens.{CommitTokenView, BeginsWithCommitToken, DecodesToCommitToken, author_token, committer_token, message_token, parent_token}
 use Rattle.gixobj_ref_iter.specs.CommitTokenSteps.{commit_reader_state}
 use Rattle.gixobj_ref_iter.specs.declared.commit.CommitRefIter.{CommitRefIter}
 
@@ -21,7 +21,7 @@ DecodesToCommitTokens kind input tokens = (encodings : List (List ℕ)) × (inpu
 -- the iterator began before the tree of these bytes, and has consumed these tokens
 abbrev pub HasConsumedCommitTokens : Kind → List ℕ → List CommitTokenView → CommitRefIter → Type 0
 HasConsumedCommitTokens kind content tokens reader =
-    runs.Passes (HasCommitToken kind) state.Tree content tokens (commit_reader_state reader).state
+    runs.Passes (BeginsWithCommitToken kind) state.Tree content tokens (commit_reader_state reader).state
     (commit_reader_state reader).bytes × ((commit_reader_state reader).kind ≡ kind)
 
 -- the end of a search for a token: the first token, the ending of a run without one, or an error. The error is that of
@@ -36,12 +36,12 @@ pub data SearchEnd : Type 0 where
 -- error Malformed: of a required token, the run yields none; of an optional one, the run yields none and is broken. The
 -- error OutOfMemory: after tokens without the property comes a header whose value allocates
 abbrev pub EndsSearch : (CommitTokenView → Type 0) → CommitRefIter → SearchEnd → Type 0
-EndsSearch Is reader (first_token token) = readers.FindsFirst commit_reader_state HasCommitToken Is reader token
-EndsSearch Is reader (no_token ending) = readers.YieldsNone commit_reader_state HasCommitToken Is reader ending
+EndsSearch Is reader (first_token token) = readers.FindsFirst commit_reader_state BeginsWithCommitToken Is reader token
+EndsSearch Is reader (no_token ending) = readers.YieldsNone commit_reader_state BeginsWithCommitToken Is reader ending
 EndsSearch Is reader (required_error error) =
-    readers.FindsNone commit_reader_state HasCommitToken (λ kind. NeedsAllocation) Is reader error
+    readers.FindsNone commit_reader_state BeginsWithCommitToken (λ kind. NeedsAllocation) Is reader error
 EndsSearch Is reader (optional_error error) =
-    readers.FindsFault commit_reader_state HasCommitToken (λ kind. NeedsAllocation) Is reader error
+    readers.FindsFault commit_reader_state BeginsWithCommitToken (λ kind. NeedsAllocation) Is reader error
 
 -- the token is a parent
 abbrev pub IsParentToken : CommitTokenView → Type 0

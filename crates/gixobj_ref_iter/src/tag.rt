@@ -5,7 +5,7 @@ ghost use Rattle.gixobj_hash.specs.Hash.Borrowed.{borrowed_id};
 ghost use Rattle.gixobj_hash.specs.declared.decode.Error.TheVariants.{Malformed};
 ghost use Rattle.gixobj_line.specs.TagLineViews.{IsParsedTagger, line_if_some};
 ghost use Rattle.gixobj_ref_iter.specs.TagReaders.{IsTokenOfTagger};
-ghost use Rattle.gixobj_ref_iter.specs.TagTokens.{HasTagToken, tag_token_view};
+ghost use Rattle.gixobj_ref_iter.specs.TagTokens.{BeginsWithTagToken, tag_token_view};
 ghost use Rattle.gixobj_ref_iter.specs.TagTokenSteps.{FindsTagger, NextIdOfTag, NextTagToken, IsAtStartOfTag, YieldsNoTagger, tag_token_id, remaining_tag_tokens};
 
 mod signature;
@@ -150,8 +150,8 @@ fn decode_token(
 ) -> Option<(Token<'_>, State, &[u8])>
     requires { input.now ≢ [] }
     ensures found { IfSome result (λ it.
-        HasTagToken hash_kind before input.now (tag_token_view it.0) it.1 it.2.now) }
-    ensures none { IfNone result (HasNoPiece (HasTagToken hash_kind) before input.now) }
+        BeginsWithTagToken hash_kind before input.now (tag_token_view it.0) it.1 it.2.now) }
+    ensures none { IfNone result (HasNoPiece (BeginsWithTagToken hash_kind) before input.now) }
 {
     match before {
         State::Target => {

@@ -14,7 +14,7 @@ use Rattle.gixobj_tree.specs.TreeDecoding.{BeginsWithEntry, IsMalformedTree, Dec
 use Rattle.gixobj_fields.specs.Streams.{AppendsAll, AppendsPrefix, SinkView}
 use Rattle.gixobj_script.specs.Arguments.{IsListCommand}
 use Rattle.gixobj_show.specs.Engine.{ReadsAll, IsPrinted, HasWrittenNothing}
-use Rattle.gixobj_show.specs.Failure.{HasNoLooseHeader, exit_status_of, line_of}
+use Rattle.gixobj_show.specs.Failure.{BeginsWithNoLooseHeader, exit_status_of, line_of}
 use Rattle.gixobj_show.specs.Arguments.{IsCommandOfHash}
 use Rattle.gixobj_show.specs.declared.failure.Failure.{Failure}
 use Rattle.gixobj_show.specs.declared.failure.Failure.TheVariants.{BadHeader, BadTree, InputFailed, NotATree, OutOfMemory, OutputFailed, ShortData}
@@ -54,8 +54,8 @@ HasFirstEntry hash input =
 
 -- the error of a loose tree before its content decodes. Out of memory occurs only for the copy in the error of a header
 abbrev pub IsListedTreeError : List ℕ → Failure → Type 0
-IsListedTreeError input BadHeader = HasNoLooseHeader input
-IsListedTreeError input OutOfMemory = HasNoLooseHeader input
+IsListedTreeError input BadHeader = BeginsWithNoLooseHeader input
+IsListedTreeError input OutOfMemory = BeginsWithNoLooseHeader input
 IsListedTreeError input ShortData = IsShort input
 IsListedTreeError input NotATree = IsOfAnotherKind input
 IsListedTreeError input _ = ⊥
@@ -63,11 +63,11 @@ IsListedTreeError input _ = ⊥
 -- the error of a list. Out of memory occurs only for the copy in the error of a header, or for content that begins with
 -- an entry
 abbrev pub IsListingError : hash.Kind → List ℕ → Failure → Type 0
-IsListingError hash input BadHeader = HasNoLooseHeader input
+IsListingError hash input BadHeader = BeginsWithNoLooseHeader input
 IsListingError hash input ShortData = IsShort input
 IsListingError hash input NotATree = IsOfAnotherKind input
 IsListingError hash input BadTree = IsBadTree hash input
-IsListingError hash input OutOfMemory = HasNoLooseHeader input ⊎ HasFirstEntry hash input
+IsListingError hash input OutOfMemory = BeginsWithNoLooseHeader input ⊎ HasFirstEntry hash input
 IsListingError hash input _ = ⊥
 
 -- the arguments request a list, the entire input was read, and the bytes list the tree at its start
@@ -88,7 +88,7 @@ IsListError words rest rest' may_fail out out' OutputFailed = (bytes : List ℕ)
     × AppendsPrefix out out' bytes
 IsListError words rest rest' may_fail out out' OutOfMemory = IsListCommand words
 IsListError words rest rest' may_fail out out' BadHeader = IsListCommand words × (input : List ℕ)
-    × ReadsAll rest rest' input × HasNoLooseHeader input
+    × ReadsAll rest rest' input × BeginsWithNoLooseHeader input
 IsListError words rest rest' may_fail out out' ShortData = IsListCommand words × (input : List ℕ)
     × ReadsAll rest rest' input × IsShort input
 IsListError words rest rest' may_fail out out' NotATree = IsListCommand words × (input : List ℕ)

@@ -6,10 +6,10 @@ use Rattle.gixobj_hash.specs.declared.decode.LooseContentError.TheVariants.{Head
 use Rattle.gixobj_hash.specs.declared.decode.LooseHeaderDecodeError.{LooseHeaderDecodeError}
 use Rattle.gixobj_hash.specs.declared.decode.LooseHeaderDecodeError.TheVariants as header
 use Rattle.gixobj_hash.proofs.Headers.{no_error_of_loose_header, parts_of_loose_header}
-use Rattle.gixobj_show.specs.Failure.{HasNoLooseHeader, content_error}
+use Rattle.gixobj_show.specs.Failure.{BeginsWithNoLooseHeader, content_error}
 use Rattle.gixobj_show.specs.Show.{IsShowError}
 
-no_header : (input : List ℕ) (error : LooseHeaderDecodeError) → IsLooseHeaderError input error → HasNoLooseHeader input
+no_header : (input : List ℕ) (error : LooseHeaderDecodeError) → IsLooseHeaderError input error → BeginsWithNoLooseHeader input
 no_header input error rejected kind size used header = no_error_of_loose_header input kind size used error
     (parts_of_loose_header input kind size used header) rejected
 

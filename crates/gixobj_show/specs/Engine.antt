@@ -4,7 +4,7 @@ use Rattle.std.specs.Io.KnownBytes.{Consumes, IsAtEnd}
 use Rattle.gixobj_hash.specs.Decode.{IsShort}
 use Rattle.gixobj_fields.specs.Streams.{AppendsAll, AppendsPrefix, SinkView}
 use Rattle.gixobj_hash.specs.declared.hash.kind.Kind as hash
-use Rattle.gixobj_show.specs.Failure.{HasNoLooseHeader, exit_status_of, line_of}
+use Rattle.gixobj_show.specs.Failure.{BeginsWithNoLooseHeader, exit_status_of, line_of}
 use Rattle.gixobj_show.specs.Show.{IsShowLine}
 use Rattle.gixobj_show.specs.Arguments.{IsCommand, IsOtherCommand, IsCommandOfHash}
 use Rattle.gixobj_show.specs.declared.failure.Failure.{Failure}
@@ -33,7 +33,7 @@ IsAnswerError words rest rest' may_fail out out' OutputFailed = (line : List ℕ
     × AppendsPrefix out out' line
 IsAnswerError words rest rest' may_fail out out' OutOfMemory = IsCommand words (codes "show")
 IsAnswerError words rest rest' may_fail out out' BadHeader =
-    IsCommand words (codes "show") × (input : List ℕ) × ReadsAll rest rest' input × HasNoLooseHeader input
+    IsCommand words (codes "show") × (input : List ℕ) × ReadsAll rest rest' input × BeginsWithNoLooseHeader input
 IsAnswerError words rest rest' may_fail out out' ShortData =
     IsCommand words (codes "show") × (input : List ℕ) × ReadsAll rest rest' input × IsShort input
 IsAnswerError words rest rest' may_fail out out' _ = ⊥

@@ -1,6 +1,6 @@
 -- The errors of the program, with their lines and exit statuses.
 use Rattle.std.specs.Prelude.{ℕ, List, codes}
-use Rattle.gixobj_hash.specs.Decode.{HasLooseHeader}
+use Rattle.gixobj_hash.specs.Decode.{HasLooseHeaderOfLength}
 use Rattle.gixobj_hash.specs.declared.decode.LooseContentError.{LooseContentError}
 use Rattle.gixobj_hash.specs.declared.decode.LooseContentError.TheVariants.{Header, Short}
 use Rattle.gixobj_hash.specs.declared.decode.LooseHeaderDecodeError.TheVariants as header
@@ -10,8 +10,8 @@ use Rattle.gixobj_show.specs.declared.failure.Failure.TheVariants.{Usage, InputF
 use Rattle.gixobj_fields.specs.HeaderFormat.{encode_line}
 
 -- the input does not begin with a loose header
-abbrev pub HasNoLooseHeader : List ℕ → Type 0
-HasNoLooseHeader input = (kind : Kind) (size used : ℕ) → ¬ HasLooseHeader input kind size used
+abbrev pub BeginsWithNoLooseHeader : List ℕ → Type 0
+BeginsWithNoLooseHeader input = (kind : Kind) (size used : ℕ) → ¬ HasLooseHeaderOfLength input kind size used
 
 -- the program's error for that of a loose object; it leaves out why a header is malformed
 abbrev pub content_error : LooseContentError → Failure

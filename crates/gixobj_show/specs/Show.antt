@@ -7,7 +7,7 @@ use Rattle.gixobj_hash.specs.Kind.{kind_name}
 use Rattle.gixobj_hash.specs.declared.hash.kind.Kind as hash
 use Rattle.gixobj_hash.specs.declared.hash.object_id.ObjectId.{ObjectId}
 use Rattle.gixobj_hash.specs.declared.kind.Kind.{Kind}
-use Rattle.gixobj_show.specs.Failure.{HasNoLooseHeader}
+use Rattle.gixobj_show.specs.Failure.{BeginsWithNoLooseHeader}
 use Rattle.gixobj_show.specs.declared.failure.Failure.{Failure}
 use Rattle.gixobj_show.specs.declared.failure.Failure.TheVariants.{BadHeader, OutOfMemory, ShortData}
 
@@ -18,8 +18,8 @@ IsShown hash input kind size id = (content : List ℕ) × HasContent input kind 
 
 -- `show` fails with this error; only the error of a malformed header allocates
 abbrev pub IsShowError : List ℕ → Failure → Type 0
-IsShowError input BadHeader = HasNoLooseHeader input
-IsShowError input OutOfMemory = HasNoLooseHeader input
+IsShowError input BadHeader = BeginsWithNoLooseHeader input
+IsShowError input OutOfMemory = BeginsWithNoLooseHeader input
 IsShowError input ShortData = IsShort input
 IsShowError input _ = ⊥
 

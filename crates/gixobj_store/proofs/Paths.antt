@@ -10,7 +10,7 @@ use Rattle.gixobj_hash.specs.declared.kind.Kind.{Kind}
 use Rattle.gixobj_hash.specs.declared.kind.Kind.TheVariants.{Blob, Commit, Tag, Tree}
 use Rattle.gixobj_tree.specs.Entries.{EntryView}
 use Rattle.gixobj_tree.proofs.OneEntry.{entry_unique, entry_rest_len_lt}
-use Rattle.gixobj_tree.specs.TreeDecoding.{BeginsWithEntry, HasEntry, YieldsEntries}
+use Rattle.gixobj_tree.specs.TreeDecoding.{BeginsWithEntry, EntryStep, YieldsEntries}
 use Rattle.std.specs.Option.{option_map}
 use Rattle.std.specs.declared.ops.ControlFlow.{ControlFlow}
 use Rattle.std.specs.declared.ops.ControlFlow.TheVariants.{Break, Continue}
@@ -25,7 +25,7 @@ use Rattle.gixobj_store.specs.declared.find.Error.TheVariants.{OutOfMemory, Stor
 
 -- this entry of the name comes after entries of other names
 abbrev pub Comes : hash.Kind → List ℕ → List EntryView → Name → EntryView → Type 0
-Comes kind input passed name e = (here rest : List ℕ) × runs.Passes (HasEntry kind) tt input passed tt here × BeginsWithEntry kind here e rest
+Comes kind input passed name e = (here rest : List ℕ) × runs.Passes (EntryStep kind) tt input passed tt here × BeginsWithEntry kind here e rest
     × runs.HasNone (IsNamed name) passed × IsNamed name e
 
 other_first : (name : Name) (x : EntryView) (others : List EntryView) → runs.HasNone (IsNamed name) (x ∷ others) → ¬ IsNamed name x
@@ -52,7 +52,7 @@ comes_once kind input name (x ∷ passed) (y ∷ others) e it (here, rest, (_, a
     comes_once kind after name passed others e it (here, rest, on, has, others_more name x passed none, is) (
       here',
       rest',
-      subst (λ (at : List ℕ). runs.Passes (HasEntry kind) tt at others tt here') (sym same_rest) on',
+      subst (λ (at : List ℕ). runs.Passes (EntryStep kind) tt at others tt here') (sym same_rest) on',
       has',
       others_more name y others none',
       is',
@@ -93,10 +93,10 @@ none_comes kind input name seen (x ∷ passed) ending e (yields_piece _ _ _ foll
     (here, rest, (_, after, first, on), has, none, is) =
     let same_rest = (entry_unique kind input x y after following first first').1 in
     none_comes kind following name more passed ending e seen' (others_more name y more lacks)
-    (here, rest, subst (λ (at : List ℕ). runs.Passes (HasEntry kind) tt at passed tt here) same_rest on, has, others_more name x passed none, is)
+    (here, rest, subst (λ (at : List ℕ). runs.Passes (EntryStep kind) tt at passed tt here) same_rest on, has, others_more name x passed none, is)
 
 pub no_entry_named_of_search : (kind : hash.Kind) (input : List ℕ) (name : Name) (ending : Ending)
-    → runs.YieldsNone (HasEntry kind) (IsNamed name) tt input ending
+    → runs.YieldsNone (EntryStep kind) (IsNamed name) tt input ending
     → HasNoEntryNamed kind input name
 no_entry_named_of_search kind input name ending (seen, yields, lacks) e first =
     let (passed, comes) = as_coming kind input name e first in

@@ -9,7 +9,7 @@ use Rattle.gixobj_hash.specs.declared.decode.Error.{Error}
 use Rattle.gixobj_hash.specs.declared.decode.Error.TheVariants.{Malformed, OutOfMemory}
 use Rattle.gixobj_hash.specs.declared.hash.kind.Kind.{Kind}
 use Rattle.gixobj_tree.specs.Entries.{EntryView}
-use Rattle.gixobj_tree.specs.TreeDecoding.{HasEntry, YieldsEntries}
+use Rattle.gixobj_tree.specs.TreeDecoding.{EntryStep, YieldsEntries}
 use Rattle.gixobj_tree.specs.TreeViews.{entry_view}
 use Rattle.gixobj_tree.specs.declared.tree.borrowed.entry_ref.EntryRef.{EntryRef}
 use Rattle.gixobj_store.specs.EntrySteps.{NextEntry, HasConsumedEntries, IsAtEntry, IsTail, remaining_tree_bytes, tree_reader_state}
@@ -22,8 +22,8 @@ pub has_consumed_snoc : (kind : Kind) (content : List ℕ) (entries : List Entry
     → HasConsumedEntries kind content entries at → NextEntry at (Some (Ok entry)) after
     → HasConsumedEntries kind content (entries ++ entry_view entry ∷ []) after
 has_consumed_snoc kind content entries at after entry (passed, same_kind) (has, kept, such) =
-    let here = subst (λ (it : Kind). HasEntry it tt (tree_reader_state at).bytes (entry_view entry) tt (tree_reader_state after).bytes) same_kind has in (
-      passes_one (HasEntry kind) tt tt tt content (tree_reader_state at).bytes (tree_reader_state after).bytes entries (entry_view entry) passed here,
+    let here = subst (λ (it : Kind). EntryStep it tt (tree_reader_state at).bytes (entry_view entry) tt (tree_reader_state after).bytes) same_kind has in (
+      passes_one (EntryStep kind) tt tt tt content (tree_reader_state at).bytes (tree_reader_state after).bytes entries (entry_view entry) passed here,
       kept
           ∙ same_kind,
     )
@@ -32,7 +32,7 @@ pub yields_entries_complete : (kind : Kind) (content : List ℕ) (entries : List
     → NextEntry at None after → YieldsEntries kind content entries complete
 yields_entries_complete kind content entries at after (passed, same_kind) gives =
     let end : YieldsEntries kind (tree_reader_state at).bytes [] complete = rw gives.0 (yields_end tt) in
-    yields_passed (HasEntry kind) tt tt content (tree_reader_state at).bytes entries complete passed end
+    yields_passed (EntryStep kind) tt tt content (tree_reader_state at).bytes entries complete passed end
 
 malformed_only : (at after : TreeRefIter) (error : Error) → NextEntry at (Some (Err error)) after → NextEntry at (Some (Err Malformed)) after
 malformed_only at after Malformed gives = gives
@@ -43,10 +43,10 @@ pub yields_entries_broken : (kind : Kind) (content : List ℕ) (entries : List E
     → NextEntry at (Some (Err error)) after → YieldsEntries kind content entries broken
 yields_entries_broken kind content entries at after error (passed, same_kind) gives =
     let rejected = malformed_only at after error gives in
-    let none = subst (λ (it : Kind). (e : EntryView) (following : ⊤) (rest : List ℕ) → HasEntry it tt (tree_reader_state at).bytes e following rest
+    let none = subst (λ (it : Kind). (e : EntryView) (following : ⊤) (rest : List ℕ) → EntryStep it tt (tree_reader_state at).bytes e following rest
     → ⊥) same_kind rejected.1 in
     let stop : YieldsEntries kind (tree_reader_state at).bytes [] broken = yields_error tt (tree_reader_state at).bytes rejected.0 none in
-    yields_passed (HasEntry kind) tt tt content (tree_reader_state at).bytes entries broken passed stop
+    yields_passed (EntryStep kind) tt tt content (tree_reader_state at).bytes entries broken passed stop
 
 -- ---- the remaining bytes are a suffix
 

@@ -6,7 +6,7 @@ use Rattle.gixobj_fields.specs.Runs as runs
 use Rattle.gixobj_hash.specs.declared.decode.Error.{Error}
 use Rattle.gixobj_hash.specs.declared.hash.kind.Kind.{Kind}
 use Rattle.gixobj_tree.specs.Entries.{EntryView}
-use Rattle.gixobj_tree.specs.TreeDecoding.{HasEntry}
+use Rattle.gixobj_tree.specs.TreeDecoding.{EntryStep}
 use Rattle.gixobj_tree.specs.TreeViews.{entry_view}
 use Rattle.gixobj_tree.specs.declared.tree.borrowed.entry_ref.EntryRef.{EntryRef}
 use Rattle.gixobj_store.specs.declared.tree.TreeRefIter.{TreeRefIter}
@@ -33,11 +33,11 @@ NoEntryAllocates kind before input = ⊥
 
 -- one call yields the next entry; or an error, after which no bytes remain; or none, if no bytes remain
 abbrev pub NextEntry : TreeRefIter → Option (Result EntryRef Error) → TreeRefIter → Type 0
-NextEntry = NextPiece tree_reader_state HasEntry NoEntryAllocates entry_view (λ entry. ⊤)
+NextEntry = NextPiece tree_reader_state EntryStep NoEntryAllocates entry_view (λ entry. ⊤)
 
 -- an iterator over this content has consumed these entries
 abbrev pub HasConsumedEntries : Kind → List ℕ → List EntryView → TreeRefIter → Type 0
-HasConsumedEntries kind content entries reader = runs.Passes (HasEntry kind) tt content entries tt
+HasConsumedEntries kind content entries reader = runs.Passes (EntryStep kind) tt content entries tt
     (remaining_tree_bytes reader) × ((tree_reader_state reader).kind ≡ kind)
 
 -- the content ends with this tail

@@ -10,7 +10,7 @@ use Rattle.gixobj_hash.specs.declared.kind.Kind.TheVariants.{Tree}
 use Rattle.gixobj_hash.specs.Bytes.{slash}
 use Rattle.gixobj_hash.specs.Splits.{IsSplitAtEach}
 use Rattle.gixobj_tree.specs.Entries.{EntryView}
-use Rattle.gixobj_tree.specs.TreeDecoding.{HasEntry}
+use Rattle.gixobj_tree.specs.TreeDecoding.{EntryStep}
 use Rattle.gixobj_tree.specs.TreeViews.{entry_view}
 use Rattle.gixobj_tree.specs.declared.tree.borrowed.entry_ref.EntryRef.{EntryRef}
 use Rattle.gixobj_store.specs.EntrySteps.{remaining_tree_bytes}
@@ -29,7 +29,7 @@ IsNamed name e = e.name ≡ name
 
 -- the first entry of this name that a tree's content yields, before any malformed entry
 abbrev pub HasFirstNamed : hash.Kind → List ℕ → Name → EntryView → Type 0
-HasFirstNamed hash content name e = runs.FindsFirst (HasEntry hash) (IsNamed name) tt content e × IsNamed name e
+HasFirstNamed hash content name e = runs.FindsFirst (EntryStep hash) (IsNamed name) tt content e × IsNamed name e
 
 -- a tree's content yields no entry of this name
 abbrev pub HasNoEntryNamed : hash.Kind → List ℕ → Name → Type 0

@@ -4,8 +4,8 @@ use Rattle.std.proofs.Common.{◌≡◌, ℕ, List, ◌∷◌, ◌++◌, IsTrue,
 use Rattle.std.proofs.lemmas.Bool.{true≢false}
 use Rattle.std.specs.Prelude.{codes}
 use Rattle.gixobj_fields.proofs.HeaderFields.{hex_digits_newline_free, first_bytes_eq, field_unique}
-use Rattle.gixobj_fields.specs.HeaderReading.{HasId, HasNoId, HasNoKind}
-use Rattle.gixobj_fields.specs.HeaderFormat.{HasField, HasOtherName, encode_field}
+use Rattle.gixobj_fields.specs.HeaderReading.{BeginsWithIdField, BeginsWithNoIdField, BeginsWithNoKindField}
+use Rattle.gixobj_fields.specs.HeaderFormat.{BeginsWithField, BeginsWithOtherName, encode_field}
 use Rattle.gixobj_hash.proofs.Headers.{kind_keyword_injective}
 use Rattle.gixobj_hash.specs.Kind.{kind_name}
 use Rattle.gixobj_hash.specs.declared.hash.kind.Kind as hash
@@ -13,7 +13,7 @@ use Rattle.gixobj_hash.specs.declared.kind.Kind.{Kind}
 use Rattle.gixobj_hash.specs.declared.kind.Kind.TheVariants as object
 use Rattle.gixobj_tag.proofs.Bodies.{body_unique}
 use Rattle.gixobj_line.proofs.TagLines.{tagger_unique}
-use Rattle.gixobj_line.specs.TagLines.{HasName, HasNoName, HasMalformedTagger, HasTagger}
+use Rattle.gixobj_line.specs.TagLines.{BeginsWithTagName, BeginsWithNoTagName, BeginsWithMalformedTagger, BeginsWithTagger}
 use Rattle.gixobj_tag.specs.TagFormat.{IsMalformedBody, IsBody, IsMalformedTag, DecodesToTag, IsTaggerLine, TagLines, are_newlines, after_a_newline, newlines_alone, encode_tagger}
 use Rattle.gixobj_hash.proofs.Splits.{byte_free_of_all_pass}
 use Rattle.gixobj_hash.specs.ByteStrings.{IsByteFree}
@@ -24,10 +24,10 @@ pub record Reads (kind : hash.Kind) (bytes : List ℕ) (tag : TagLines) : Type 0
   pub after_kind : List ℕ
   pub after_name : List ℕ
   pub body : List ℕ
-  pub target : HasId (codes "object") kind bytes tag.target after_target
-  pub target_kind : HasField (codes "type") after_target (kind_name tag.target_kind) after_kind
-  pub name : HasName after_kind tag.name after_name
-  pub tagger : HasTagger after_name tag.tagger body
+  pub target : BeginsWithIdField (codes "object") kind bytes tag.target after_target
+  pub target_kind : BeginsWithField (codes "type") after_target (kind_name tag.target_kind) after_kind
+  pub name : BeginsWithTagName after_kind tag.name after_name
+  pub tagger : BeginsWithTagger after_name tag.tagger body
   pub parted : IsBody body tag.message tag.signature
 
 -- ---- joined
@@ -36,11 +36,11 @@ join_lines : (bytes target a kind b name c tagger body : List ℕ) → bytes ≡
     → bytes ≡ (((target ++ kind) ++ name) ++ tagger) ++ body
 join_lines bytes target a kind b name c tagger body one two three four = rw (one, two, three, four) (sym (simp append_assoc))
 
-tagger_joined : (tagger : Option (List ℕ)) (input rest : List ℕ) → HasTagger input tagger rest → input ≡ encode_tagger tagger ++ rest
+tagger_joined : (tagger : Option (List ℕ)) (input rest : List ℕ) → BeginsWithTagger input tagger rest → input ≡ encode_tagger tagger ++ rest
 tagger_joined None input rest (lacks, same) = sym same
 tagger_joined (Some line) input rest (field, actor) = field.joined
 
-tagger_begins : (tagger : Option (List ℕ)) (input rest : List ℕ) → HasTagger input tagger rest → IsTaggerLine tagger
+tagger_begins : (tagger : Option (List ℕ)) (input rest : List ℕ) → BeginsWithTagger input tagger rest → IsTaggerLine tagger
 tagger_begins None input rest has = tt
 tagger_begins (Some line) input rest (field, actor) = actor
 
@@ -62,7 +62,7 @@ decodes_tag_of_parts kind bytes tag reads =
 -- ---- split
 
 -- no body begins as a tagger line does
-lacks_tagger : (body message : List ℕ) (signature : Option (List ℕ)) → IsBody body message signature → HasOtherName (codes "tagger") body
+lacks_tagger : (body message : List ℕ) (signature : Option (List ℕ)) → IsBody body message signature → BeginsWithOtherName (codes "tagger") body
 lacks_tagger body message signature (newlines_alone _ are) rest same =
     let all : IsTrue (are_newlines (codes "tagger" ++ 32 ∷ rest)) = subst (λ (it : List ℕ). IsTrue (are_newlines it)) same are in
     true≢false (sym all)
@@ -75,11 +75,11 @@ value_is_one_line object.Blob = byte_free_of_all_pass 10 (kind_name object.Blob)
 value_is_one_line object.Commit = byte_free_of_all_pass 10 (kind_name object.Commit) refl
 value_is_one_line object.Tag = byte_free_of_all_pass 10 (kind_name object.Tag) refl
 
-field_there : (name input value rest : List ℕ) → input ≡ encode_field name value ++ rest → IsByteFree 10 value → HasField name input value rest
+field_there : (name input value rest : List ℕ) → input ≡ encode_field name value ++ rest → IsByteFree 10 value → BeginsWithField name input value rest
 field_there name input value rest joined free = record { joined = joined; one_line = free }
 
 tagger_there : (tagger : Option (List ℕ)) (body message : List ℕ) (signature : Option (List ℕ)) → IsTaggerLine tagger → IsBody body message signature
-    → HasTagger (encode_tagger tagger ++ body) tagger body
+    → BeginsWithTagger (encode_tagger tagger ++ body) tagger body
 tagger_there None body message signature begins parted = (lacks_tagger body message signature parted, refl)
 tagger_there (Some line) body message signature (name, email, time, rest, actor) parted =
     (field_there (codes "tagger") (encode_field (codes "tagger") line ++ body) line body refl actor.one_line, (name, email, time, rest, actor))
@@ -111,62 +111,62 @@ parts_of_decoded_tag kind bytes tag is =
 
 -- ---- malformed tags
 
-pub malformed_without_target : (kind : hash.Kind) (bytes : List ℕ) → HasNoId (codes "object") kind bytes → IsMalformedTag kind bytes
+pub malformed_without_target : (kind : hash.Kind) (bytes : List ℕ) → BeginsWithNoIdField (codes "object") kind bytes → IsMalformedTag kind bytes
 malformed_without_target kind bytes none tag is = let reads = parts_of_decoded_tag kind bytes tag is in none tag.target reads.after_target reads.target
 
 -- after the decoded lines, the tag continues as the bytes do
-target_after : (kind : hash.Kind) (bytes hex after : List ℕ) (tag : TagLines) → HasId (codes "object") kind bytes hex after
+target_after : (kind : hash.Kind) (bytes hex after : List ℕ) (tag : TagLines) → BeginsWithIdField (codes "object") kind bytes hex after
     → (reads : Reads kind bytes tag)
     → reads.after_target ≡ after
 target_after kind bytes hex after tag has reads = (field_unique (codes "object") bytes tag.target reads.after_target hex after reads.target.0 has.0).1
 
-pub malformed_without_kind : (kind : hash.Kind) (bytes hex after : List ℕ) → HasId (codes "object") kind bytes hex after → HasNoKind (codes "type") after
+pub malformed_without_kind : (kind : hash.Kind) (bytes hex after : List ℕ) → BeginsWithIdField (codes "object") kind bytes hex after → BeginsWithNoKindField (codes "type") after
     → IsMalformedTag kind bytes
 malformed_without_kind kind bytes hex after has none tag is =
     let reads = parts_of_decoded_tag kind bytes tag is in
     let here = target_after kind bytes hex after tag has reads in
     none tag.target_kind reads.after_kind
-    (subst (λ (it : List ℕ). HasField (codes "type") it (kind_name tag.target_kind) reads.after_kind) here reads.target_kind)
+    (subst (λ (it : List ℕ). BeginsWithField (codes "type") it (kind_name tag.target_kind) reads.after_kind) here reads.target_kind)
 
-kind_after : (kind : hash.Kind) (bytes hex after token following : List ℕ) (tag : TagLines) → HasId (codes "object") kind bytes hex after
-    → HasField (codes "type") after token following → (reads : Reads kind bytes tag)
+kind_after : (kind : hash.Kind) (bytes hex after token following : List ℕ) (tag : TagLines) → BeginsWithIdField (codes "object") kind bytes hex after
+    → BeginsWithField (codes "type") after token following → (reads : Reads kind bytes tag)
     → (kind_name tag.target_kind ≡ token) × (reads.after_kind ≡ following)
 kind_after kind bytes hex after token following tag has typed reads =
     let here = target_after kind bytes hex after tag has reads in
-    let there = subst (λ (it : List ℕ). HasField (codes "type") it (kind_name tag.target_kind) reads.after_kind) here reads.target_kind in
+    let there = subst (λ (it : List ℕ). BeginsWithField (codes "type") it (kind_name tag.target_kind) reads.after_kind) here reads.target_kind in
     field_unique (codes "type") after (kind_name tag.target_kind) reads.after_kind token following there typed
 
-pub malformed_without_name : (kind : hash.Kind) (bytes hex after token following : List ℕ) → HasId (codes "object") kind bytes hex after
-    → HasField (codes "type") after token following → HasNoName following → IsMalformedTag kind bytes
+pub malformed_without_name : (kind : hash.Kind) (bytes hex after token following : List ℕ) → BeginsWithIdField (codes "object") kind bytes hex after
+    → BeginsWithField (codes "type") after token following → BeginsWithNoTagName following → IsMalformedTag kind bytes
 malformed_without_name kind bytes hex after token following has typed none tag is =
     let reads = parts_of_decoded_tag kind bytes tag is in
     let here = (kind_after kind bytes hex after token following tag has typed reads).1 in
-    none tag.name reads.after_name (subst (λ (it : List ℕ). HasName it tag.name reads.after_name) here reads.name)
+    none tag.name reads.after_name (subst (λ (it : List ℕ). BeginsWithTagName it tag.name reads.after_name) here reads.name)
 
 pub tag_name_unique : (kind : hash.Kind) (bytes hex after token following name rest : List ℕ) (tag : TagLines)
-    → HasId (codes "object") kind bytes hex after
-    → HasField (codes "type") after token following → HasName following name rest
+    → BeginsWithIdField (codes "object") kind bytes hex after
+    → BeginsWithField (codes "type") after token following → BeginsWithTagName following name rest
     → (reads : Reads kind bytes tag) → (tag.name ≡ name) × (reads.after_name ≡ rest)
 tag_name_unique kind bytes hex after token following name rest tag has typed named reads =
     let here = (kind_after kind bytes hex after token following tag has typed reads).1 in
-    let there = subst (λ (it : List ℕ). HasName it tag.name reads.after_name) here reads.name in
+    let there = subst (λ (it : List ℕ). BeginsWithTagName it tag.name reads.after_name) here reads.name in
     field_unique (codes "tag") following tag.name reads.after_name name rest there.0 named.0
 
-pub malformed_without_tagger : (kind : hash.Kind) (bytes hex after token following name rest : List ℕ) → HasId (codes "object") kind bytes hex after
-    → HasField (codes "type") after token following → HasName following name rest → HasMalformedTagger rest
+pub malformed_without_tagger : (kind : hash.Kind) (bytes hex after token following name rest : List ℕ) → BeginsWithIdField (codes "object") kind bytes hex after
+    → BeginsWithField (codes "type") after token following → BeginsWithTagName following name rest → BeginsWithMalformedTagger rest
     → IsMalformedTag kind bytes
 malformed_without_tagger kind bytes hex after token following name rest has typed named none tag is =
     let reads = parts_of_decoded_tag kind bytes tag is in
     let here = (tag_name_unique kind bytes hex after token following name rest tag has typed named reads).1 in
-    none tag.tagger reads.body (subst (λ (it : List ℕ). HasTagger it tag.tagger reads.body) here reads.tagger)
+    none tag.tagger reads.body (subst (λ (it : List ℕ). BeginsWithTagger it tag.tagger reads.body) here reads.tagger)
 
 pub malformed_without_body : (kind : hash.Kind) (bytes hex after token following name rest : List ℕ) (tagger : Option (List ℕ)) (body : List ℕ)
-    → HasId (codes "object") kind bytes hex after → HasField (codes "type") after token following
-    → HasName following name rest → HasTagger rest tagger body → IsMalformedBody body → IsMalformedTag kind bytes
+    → BeginsWithIdField (codes "object") kind bytes hex after → BeginsWithField (codes "type") after token following
+    → BeginsWithTagName following name rest → BeginsWithTagger rest tagger body → IsMalformedBody body → IsMalformedTag kind bytes
 malformed_without_body kind bytes hex after token following name rest tagger body has typed named tagged none tag is =
     let reads = parts_of_decoded_tag kind bytes tag is in
     let here = (tag_name_unique kind bytes hex after token following name rest tag has typed named reads).1 in
-    let there = subst (λ (it : List ℕ). HasTagger it tag.tagger reads.body) here reads.tagger in
+    let there = subst (λ (it : List ℕ). BeginsWithTagger it tag.tagger reads.body) here reads.tagger in
     let same = (tagger_unique rest tag.tagger tagger reads.body body there tagged).1 in
     none tag.message tag.signature (subst (λ (it : List ℕ). IsBody it tag.message tag.signature) same reads.parted)
 
@@ -191,7 +191,7 @@ tag_unique kind bytes a b is is' =
     let first = parts_of_decoded_tag kind bytes a is in
     let second = parts_of_decoded_tag kind bytes b is' in
     let target = field_unique (codes "object") bytes a.target first.after_target b.target second.after_target first.target.0 second.target.0 in
-    let typed = subst (λ (it : List ℕ). HasField (codes "type") it (kind_name a.target_kind) first.after_kind) target.1 first.target_kind in
+    let typed = subst (λ (it : List ℕ). BeginsWithField (codes "type") it (kind_name a.target_kind) first.after_kind) target.1 first.target_kind in
     let token = field_unique (codes "type") second.after_target (kind_name a.target_kind) first.after_kind
     (kind_name b.target_kind) second.after_kind typed
     second.target_kind in
@@ -199,7 +199,7 @@ tag_unique kind bytes a b is is' =
     second.target
     second.target_kind second.name first in
     let tagged = tagger_unique second.after_name a.tagger b.tagger first.body second.body
-    (subst (λ (it : List ℕ). HasTagger it a.tagger first.body) named.1 first.tagger) second.tagger in
+    (subst (λ (it : List ℕ). BeginsWithTagger it a.tagger first.body) named.1 first.tagger) second.tagger in
     let parted = body_unique second.body a.message b.message a.signature b.signature
     (subst (λ (it : List ℕ). IsBody it a.message a.signature) tagged.1 first.parted) second.parted in
     same_tag a b target.0 (kind_keyword_injective a.target_kind b.target_kind token.0) named.0 tagged.0 parted.0 parted.1

@@ -6,7 +6,7 @@ use Rattle.std.specs.Ordering.{MatchOrdering, is_ne, nat_cmp, ordering_then}
 use Rattle.std.specs.Cmp.{nat_cmp_is}
 use Rattle.std.specs.Cmp.Lexicographic.{slice_cmp}
 use Rattle.std.proofs.lemmas.Cmp.{ranked}
-use Rattle.gixobj_tree.specs.Entries.{name_cmp}
+use Rattle.gixobj_tree.specs.KeyOrder.{name_cmp}
 use Rattle.gixobj_tree.proofs.NameKeys.{ordering_then_of_decided, name_cmp_cons, ordering_then_assoc}
 
 -- each element is below 256

@@ -9,29 +9,29 @@ use Rattle.gixobj_fields.specs.Runs.{Ending, HasNoPiece, Passes, broken, complet
 use Rattle.gixobj_hash.specs.declared.hash.kind.Kind.{Kind}
 use Rattle.gixobj_tree.specs.Entries.{EntryView}
 use Rattle.gixobj_tree.proofs.OneEntry.{entry_unique, entry_rest_len_lt}
-use Rattle.gixobj_tree.specs.TreeDecoding.{BeginsWithEntry, BeginsWithNoEntry, HasEntry, DecodesToEntry, IsMalformedTree, DecodesToTree, YieldsEntries}
+use Rattle.gixobj_tree.specs.TreeDecoding.{BeginsWithEntry, BeginsWithNoEntry, EntryStep, DecodesToEntry, IsMalformedTree, DecodesToTree, YieldsEntries}
 
-one_piece : (kind : Kind) (before : ⊤) (input : List ℕ) (a b : EntryView) (s t : ⊤) (x y : List ℕ) → HasEntry kind before input a s x
-    → HasEntry kind before input b t y → (a ≡ b) × (s ≡ t) × (x ≡ y)
+one_piece : (kind : Kind) (before : ⊤) (input : List ℕ) (a b : EntryView) (s t : ⊤) (x y : List ℕ) → EntryStep kind before input a s x
+    → EntryStep kind before input b t y → (a ≡ b) × (s ≡ t) × (x ≡ y)
 one_piece kind before input a b s t x y first second = (let same = entry_unique kind input a b x y first second in (same.0, refl, same.1))
 
 pub no_entry_of_nil : (kind : Kind) (before : ⊤) (input : List ℕ) (e : EntryView) (following : ⊤) (rest : List ℕ) → input ≡ []
-    → HasEntry kind before input e following rest → ⊥
+    → EntryStep kind before input e following rest → ⊥
 no_entry_of_nil kind before input e following rest bare has = (let less = entry_rest_len_lt kind input e rest has in omega (arith, less, ap length bare))
 
 pub entry_run_unique : (kind : Kind) (input : List ℕ) (a b : List EntryView) (e f : Ending) → YieldsEntries kind input a e → YieldsEntries kind input b f
     → (a ≡ b)
     × (e ≡ f)
-entry_run_unique kind input = runs.one_run (HasEntry kind) (one_piece kind) (no_entry_of_nil kind) tt input
+entry_run_unique kind input = runs.one_run (EntryStep kind) (one_piece kind) (no_entry_of_nil kind) tt input
 
-bytes_of_entry : (kind : Kind) (before : ⊤) (input : List ℕ) (e : EntryView) (following : ⊤) (rest : List ℕ) → HasEntry kind before input e following rest
+bytes_of_entry : (kind : Kind) (before : ⊤) (input : List ℕ) (e : EntryView) (following : ⊤) (rest : List ℕ) → EntryStep kind before input e following rest
     → (bytes : List ℕ) × (input ≡ bytes ++ rest) × DecodesToEntry kind e bytes
 bytes_of_entry kind before input e following rest has = has
 
 -- the input of a complete run is a tree
 pub decodes_to_tree_of_run : (kind : Kind) (bytes : List ℕ) (entries : List EntryView) → YieldsEntries kind bytes entries complete
     → DecodesToTree kind bytes entries
-decodes_to_tree_of_run kind bytes entries test_iff = runs.run_encodings (HasEntry kind) (DecodesToEntry kind) (bytes_of_entry kind) tt bytes entries test_iff
+decodes_to_tree_of_run kind bytes entries test_iff = runs.run_encodings (EntryStep kind) (DecodesToEntry kind) (bytes_of_entry kind) tt bytes entries test_iff
 
 all_yielded : (kind : Kind) (bytes : List ℕ) (entries : List EntryView) (encodings : List (List ℕ)) → bytes ≡ concat encodings
     → AllZip (DecodesToEntry kind) entries encodings → YieldsEntries kind bytes entries complete
@@ -54,14 +54,14 @@ tree_unique kind bytes a b first second = (entry_run_unique kind bytes a b compl
 
 -- the input begins with the encodings of these entries, and the rest follows
 abbrev pub PassesEntries : Kind → List ℕ → List EntryView → List ℕ → Type 0
-PassesEntries kind input entries rest = Passes (HasEntry kind) tt input entries tt rest
+PassesEntries kind input entries rest = Passes (EntryStep kind) tt input entries tt rest
 
 pub passes_entries_nil : (kind : Kind) (input : List ℕ) → PassesEntries kind input [] input
 passes_entries_nil kind input = (refl, refl)
 
 pub passes_entries_snoc : (kind : Kind) (input after rest : List ℕ) (entries : List EntryView) (e : EntryView) → PassesEntries kind input entries after
     → BeginsWithEntry kind after e rest → PassesEntries kind input (entries ++ e ∷ []) rest
-passes_entries_snoc kind input after rest entries e passed has = passes_one (HasEntry kind) tt tt tt input after rest entries e passed has
+passes_entries_snoc kind input after rest entries e passed has = passes_one (EntryStep kind) tt tt tt input after rest entries e passed has
 
 pub passes_entries_of_views : {X : Type 0} (view : X → EntryView) (kind : Kind) (input after rest : List ℕ) (xs new : List X) (x : X)
     → PassesEntries kind input (map view xs) after → BeginsWithEntry kind after (view x) rest → new ≡ xs ++ x ∷ []
@@ -74,9 +74,9 @@ pub decodes_to_tree_at_end : (kind : Kind) (input rest : List ℕ) (entries : Li
     → DecodesToTree kind input entries
 decodes_to_tree_at_end kind input rest entries bare passed =
     let ends : YieldsEntries kind rest [] complete = rw bare (yields_end tt) in
-    decodes_to_tree_of_run kind input entries (yields_passed (HasEntry kind) tt tt input rest entries complete passed ends)
+    decodes_to_tree_of_run kind input entries (yields_passed (EntryStep kind) tt tt input rest entries complete passed ends)
 
-no_piece : (kind : Kind) (input : List ℕ) → BeginsWithNoEntry kind input → HasNoPiece (HasEntry kind) tt input
+no_piece : (kind : Kind) (input : List ℕ) → BeginsWithNoEntry kind input → HasNoPiece (EntryStep kind) tt input
 no_piece kind input none = λ e following rest has. none e rest has
 
 -- bytes are malformed if their rest begins with no entry
@@ -85,7 +85,7 @@ pub malformed_tree_of_no_entry : (kind : Kind) (input rest : List ℕ) (entries 
     → IsMalformedTree kind input
 malformed_tree_of_no_entry kind input rest entries some none passed = λ others is.
     let stops : YieldsEntries kind rest [] broken = yields_error tt rest some (no_piece kind rest none) in
-    let run = yields_passed (HasEntry kind) tt tt input rest entries broken passed stops in
+    let run = yields_passed (EntryStep kind) tt tt input rest entries broken passed stops in
     let same = entry_run_unique kind input entries others broken complete run (yields_entries_iff kind input others is) in
     cc same.1
 

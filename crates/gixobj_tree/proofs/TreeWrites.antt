@@ -6,7 +6,8 @@ use Rattle.std.proofs.lemmas.List.Elements.{All-contains, All-head, All-push, Al
 use Rattle.std.proofs.lemmas.List.Concat.{flat_map-append}
 use Rattle.gixobj_tree.specs.Entries.{EntryView}
 use Rattle.gixobj_hash.specs.ByteStrings.{IsByteFree}
-use Rattle.gixobj_tree.specs.TreeEncoding.{IsEntryEncodeError, IsTreeEncodeError, before_name, encode_entry, encode_mode_and_name, encode_tree, with_ids}
+use Rattle.gixobj_tree.specs.TreeEncoding.{IsEntryEncodeError, IsTreeEncodeError, before_name, encode_entry, encode_tree}
+use Rattle.gixobj_tree.specs.TreeSizes.{encode_mode_and_name, with_ids}
 use Rattle.gixobj_fields.specs.Streams.{AppendsAll, AppendsPrefix, SinkView}
 use Rattle.gixobj_fields.specs.Writing.{IsWritingError, LacksRoom, RejectedValue}
 use Rattle.gixobj_fields.specs.declared.encode.Error.{Error}

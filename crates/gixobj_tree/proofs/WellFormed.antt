@@ -11,10 +11,11 @@ use Rattle.std.proofs.lemmas.Bool.Decides.{leb_tells}
 use Rattle.std.proofs.lemmas.Cmp.{nat_list_cmp_total, tied_itself}
 use Rattle.std.proofs.lemmas.List.Elements.{All-contains, All-from_recursion, All-weaker, at_from_Contains, Contains-get_or, Contains-push, recursion_from_All}
 use Rattle.std.proofs.lemmas.List.Sorted.{searchable_from_sorted}
-use Rattle.gixobj_tree.specs.Entries.{ComesBefore, EachLater, EntryView, IsEntryName, entry_key, key_of}
+use Rattle.gixobj_tree.specs.Entries.{EntryView}
+use Rattle.gixobj_tree.specs.KeyOrder.{ComesBefore, entry_key, key_of}
+use Rattle.gixobj_tree.specs.WellFormed.{AreApart, EachLater, HasKey, HasNamesake, HaveEntryNames, IsEntryName}
 use Rattle.gixobj_mode.specs.Mode.{is_tree_mode}
 use Rattle.gixobj_hash.specs.ByteStrings.{IsByteFree}
-use Rattle.gixobj_tree.specs.WellFormed.{AreApart, HasKey, HasNamesake, HaveEntryNames}
 
 module _ {X : Type 0} (R : X → X → Type 0) where
   later_at : (xs : List X) → EachLater R xs → (i j : ℕ) (d : X) → i < j → j < length xs → R (get_or xs i d) (get_or xs j d)

@@ -6,7 +6,8 @@ use Rattle.std.specs.Ordering.{is_eq, nat_cmp, on, then_cmp}
 use Rattle.std.specs.declared.cmp.Ordering.{Ordering}
 use Rattle.gixobj_hash.specs.Hash.{id_bytes}
 use Rattle.gixobj_hash.specs.Hash.Order.{id_cmp}
-use Rattle.gixobj_tree.specs.Entries.{EntryView, entry_key}
+use Rattle.gixobj_tree.specs.Entries.{EntryView}
+use Rattle.gixobj_tree.specs.KeyOrder.{entry_key}
 
 -- the order of entries: by key, then by mode, name and id
 abbrev pub entry_cmp : EntryView → EntryView → Ordering

@@ -10,7 +10,8 @@ use Rattle.gixobj_hash.specs.Hash.{id_bytes}
 use Rattle.gixobj_hash.specs.Hash.Order.{id_cmp}
 use Rattle.gixobj_hash.specs.Hash.OrderLaws.{id_cmp_total}
 use Rattle.gixobj_hash.specs.declared.hash.object_id.ObjectId.{ObjectId}
-use Rattle.gixobj_tree.specs.Entries.{EntryView, entry_key}
+use Rattle.gixobj_tree.specs.Entries.{EntryView}
+use Rattle.gixobj_tree.specs.KeyOrder.{entry_key}
 use Rattle.gixobj_tree.specs.EntryOrder.{entry_cmp, entry_feed, same_entry, same_tree, tree_cmp, tree_feed}
 
 -- the order of entries is total

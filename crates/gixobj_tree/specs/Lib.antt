@@ -1,9 +1,11 @@
 pub mod Entries
 pub mod EntryOrder
 pub mod EntryOrderLaws
+pub mod KeyOrder
 pub mod Rewriting
 pub mod TreeDecoding
 pub mod TreeEncoding
+pub mod TreeSizes
 pub mod TreeViews
 pub mod WellFormed
 pub use Rattle.gixobj_fields.specs.Runs

@@ -56,9 +56,9 @@ IsTreeDecodeError kind content OutOfMemory = (e : EntryView) × (rest : List ℕ
 -- ---- entries, one by one: the iterator has a single state
 
 -- a step of the iterator decodes one entry at the beginning of the input, and the rest remains
-abbrev pub HasEntry : Kind → ⊤ → List ℕ → EntryView → ⊤ → List ℕ → Type 0
-HasEntry kind before input e following rest = BeginsWithEntry kind input e rest
+abbrev pub EntryStep : Kind → ⊤ → List ℕ → EntryView → ⊤ → List ℕ → Type 0
+EntryStep kind before input e following rest = BeginsWithEntry kind input e rest
 
 -- the complete run over this input yields these entries, and has this ending
 abbrev pub YieldsEntries : Kind → List ℕ → List EntryView → Ending → Type 0
-YieldsEntries kind input entries ending = runs.Yields (HasEntry kind) tt input entries ending
+YieldsEntries kind input entries ending = runs.Yields (EntryStep kind) tt input entries ending

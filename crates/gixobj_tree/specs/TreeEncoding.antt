@@ -1,5 +1,5 @@
 -- Encoding of trees (gitdatamodel, "trees"; git-mktree reads the same entries as lines).
-use Rattle.std.specs.Prelude.{◌≡◌, ◌+◌, ◌*◌, ℕ, List, [], ◌∷◌, ◌++◌, All, Contains, Err, Ok, Result}
+use Rattle.std.specs.Prelude.{◌≡◌, ℕ, List, [], ◌∷◌, ◌++◌, All, Contains, Err, Ok, Result}
 use Rattle.std.specs.List.{flat_map}
 use Rattle.gixobj_tree.specs.Entries.{EntryView}
 use Rattle.gixobj_hash.specs.Hash.{id_bytes, id_of}
@@ -15,14 +15,6 @@ use Rattle.gixobj_hash.specs.Bytes.{space}
 -- the bytes of an entry before its name: the mode and a space
 abbrev pub before_name : EntryView → List ℕ
 before_name e = encode_mode e.mode ++ space ∷ []
-
--- the mode and the name of an entry, without the space, the zero byte and the id
-abbrev pub encode_mode_and_name : EntryView → List ℕ
-encode_mode_and_name e = encode_mode e.mode ++ e.name
-
--- a size, plus 22 bytes for each entry (a space, a zero byte and an id), plus 12 for each `longer` id of 32 bytes
-abbrev pub with_ids : ℕ → ℕ → ℕ → ℕ
-with_ids size entries longer = size + 22 * entries + 12 * longer
 
 -- the encoding of an entry: mode, space, name, zero byte, id
 abbrev pub encode_entry : EntryView → List ℕ

@@ -1,7 +1,27 @@
--- The parts of the check for well-formed trees.
-use Rattle.std.specs.Prelude.{◌≡◌, ◌≢◌, ℕ, List, All, Contains, IsTrue}
-use Rattle.gixobj_tree.specs.Entries.{EachLater, EntryView, IsEntryName, entry_key}
+-- Well-formed trees, and the parts of the check for them (gitdatamodel, "trees"; git-fsck reports other trees).
+use Rattle.std.specs.Prelude.{◌≡◌, ◌≢◌, ℕ, List, [], ◌∷◌, All, Contains, IsTrue}
+use Rattle.std.specs.List.{AllByRecursion}
+use Rattle.gixobj_tree.specs.Entries.{EntryView}
+use Rattle.gixobj_tree.specs.KeyOrder.{ComesBefore, entry_key}
 use Rattle.gixobj_mode.specs.Mode.{is_tree_mode}
+use Rattle.gixobj_hash.specs.ByteStrings.{IsByteFree}
+use Rattle.gixobj_hash.specs.Bytes.{slash}
+
+-- a valid name of an entry in a well-formed tree: not empty, and without a slash
+pub record IsEntryName (name : List ℕ) : Type 0 where
+  pub filled : name ≢ []
+  pub one_name : IsByteFree slash name
+
+-- `R` holds of each element and each later one
+abbrev pub EachLater : {X : Type 0} → (X → X → Type 0) → List X → Type 0
+EachLater R [] = Unit {0}
+EachLater R (x ∷ xs) = AllByRecursion (R x) xs × EachLater R xs
+
+-- a well-formed tree: each name is valid, no two names are equal, and the keys ascend
+pub record IsWellFormed (entries : List EntryView) : Type 0 where
+  pub names : AllByRecursion (λ e. IsEntryName e.name) entries
+  pub apart : EachLater (λ x y. x.name ≢ y.name) entries
+  pub ascending : EachLater ComesBefore entries
 
 -- each name is not empty and has no slash
 abbrev pub HaveEntryNames : List EntryView → Type 0

@@ -1,7 +1,7 @@
 //! Validation and joining of the names in the paths of edits.
 ghost use Rattle.std.specs.Prelude.{◌≡◌, ◌≢◌, ◌≤◌, ◌++◌, [], IfErr, IfOk, OnErr, OnOk, drop, length, take};
 ghost use Rattle.bstr.specs.Owned.{bstring_bytes};
-ghost use Rattle.gixobj_tree.specs.Entries.{IsEntryName};
+ghost use Rattle.gixobj_tree.specs.WellFormed.{IsEntryName};
 ghost use Rattle.gixobj_directories.specs.Calls.{AreNames, names_of};
 ghost use Rattle.gixobj_editor.specs.Cursors.{from_root};
 ghost use Rattle.gixobj_editor.specs.Upserts.{SplitsAtFirstInvalid, IsEntryNameError, IsFirstNameError, StartsInvalid, directory_of};

@@ -8,7 +8,7 @@ ghost use Rattle.gixobj_hash.specs.declared.decode.Error as decode;
 ghost use Rattle.gixobj_hash.specs.declared.hash.kind.Kind.{Kind};
 ghost use Rattle.gixobj_hash.specs.declared.hash.object_id.ObjectId.{ObjectId};
 ghost use Rattle.gixobj_ref_iter.specs.TagReaders.{AreTokensOfTag, EndsAfterItsName, IsAfterName, IsTokenOfTagger};
-ghost use Rattle.gixobj_ref_iter.specs.TagTokens.{HasTagToken, TagTokenView, tag_token_view};
+ghost use Rattle.gixobj_ref_iter.specs.TagTokens.{BeginsWithTagToken, TagTokenView, tag_token_view};
 ghost use Rattle.gixobj_ref_iter.specs.TagTokenSteps.{DecodesToTagTokens, FindsTagger, NextIdOfTag, NextTagToken, HasConsumedTagTokens, IsAtStartOfTag, YieldsNoTagger, YieldsTagTokens, token_of_tagger};
 ghost use Rattle.gixobj_ref_iter.specs.declared.tag.State.{State};
 ghost use Rattle.gixobj_ref_iter.specs.declared.tag.State.TheVariants as state;
@@ -22,8 +22,8 @@ ghost use Rattle.gixobj_tag.specs.TagFormat.{DecodesToTag, TagLines};
 pub fn tag_tokens_decode_uniquely()
     ensures one_token { (kind : Kind) (before : State) (input : List ℕ)
         (token token' : TagTokenView) (following after' : State) (rest rest' : List ℕ)
-        → HasTagToken kind before input token following rest
-        → HasTagToken kind before input token' after' rest' → (token ≡ token') × (following ≡ after')
+        → BeginsWithTagToken kind before input token following rest
+        → BeginsWithTagToken kind before input token' after' rest' → (token ≡ token') × (following ≡ after')
         × (rest ≡ rest') }
     ensures one_run { (kind : Kind) (before : State) (input : List ℕ)
         (tokens tokens' : List TagTokenView) (ending ending' : Ending)

@@ -3,7 +3,7 @@ ghost use Rattle.std.specs.Prelude.{◌≡◌, ℕ, List};
 ghost use Rattle.gixobj_hash.specs.declared.hash.kind.Kind.{Kind};
 ghost use Rattle.gixobj_fields.specs.Runs.{Ending, complete};
 ghost use Rattle.gixobj_ref_iter.specs.CommitRuns.{YieldsCommitTokens};
-ghost use Rattle.gixobj_ref_iter.specs.CommitTokens.{HasCommitToken, CommitTokenView};
+ghost use Rattle.gixobj_ref_iter.specs.CommitTokens.{BeginsWithCommitToken, CommitTokenView};
 ghost use Rattle.gixobj_ref_iter.specs.TokenSearch.{DecodesToCommitTokens};
 ghost use Rattle.gixobj_line.specs.declared.lines.State.{State};
 
@@ -11,8 +11,8 @@ ghost use Rattle.gixobj_line.specs.declared.lines.State.{State};
 pub fn commit_tokens_decode_uniquely()
     ensures { (kind : Kind) (before : State) (input : List ℕ) (token token' : CommitTokenView)
         (after after' : State) (rest rest' : List ℕ)
-        → HasCommitToken kind before input token after rest
-        → HasCommitToken kind before input token' after' rest' → (token ≡ token')
+        → BeginsWithCommitToken kind before input token after rest
+        → BeginsWithCommitToken kind before input token' after' rest' → (token ≡ token')
         × (after ≡ after') × (rest ≡ rest') }
 {}
 

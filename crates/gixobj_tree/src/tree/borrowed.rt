@@ -4,9 +4,9 @@ ghost use Rattle.std.specs.List.Sorted.{IsBinarySearchResult, IsSearchInRange};
 ghost use Rattle.std.specs.declared.cmp.Ordering.TheVariants.{Equal};
 ghost use Rattle.gixobj_hash.specs.Bytes.{slash};
 ghost use Rattle.gixobj_hash.specs.ByteStrings.{IsByteFree};
-ghost use Rattle.gixobj_tree.specs.Entries.{IsWellFormed, entry_key, key_of, name_cmp};
+ghost use Rattle.gixobj_tree.specs.KeyOrder.{entry_key, key_of, name_cmp};
+ghost use Rattle.gixobj_tree.specs.WellFormed.{HasKey, IsWellFormed};
 ghost use Rattle.gixobj_mode.specs.Mode.{is_tree_mode};
-ghost use Rattle.gixobj_tree.specs.WellFormed.{HasKey};
 ghost use Rattle.gixobj_tree.specs.TreeViews.{entry_view, tree_entries};
 ghost use Rattle.bstr.specs.BStr.{bstr_bytes};
 

@@ -4,7 +4,7 @@ ghost use Rattle.std.specs.Cmp.{partial_equiv_from_equiv, partial_order_from_agr
 ghost use Rattle.std.specs.Cmp.Lexicographic.{slice_cmp};
 ghost use Rattle.std.specs.Ordering.{as_partial_cmp, nat_cmp};
 ghost use Rattle.bstr.specs.Owned.{bstring_bytes};
-ghost use Rattle.gixobj_tree.specs.Entries.{entry_key, key_of};
+ghost use Rattle.gixobj_tree.specs.KeyOrder.{entry_key, key_of};
 ghost use Rattle.gixobj_tree.specs.EntryOrder.{entry_cmp, entry_feed, same_entry};
 ghost use Rattle.gixobj_tree.specs.EntryOrderLaws.{entries_alike, entry_cmp_total, entry_equiv, entry_ties};
 

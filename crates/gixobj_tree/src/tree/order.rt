@@ -3,7 +3,7 @@ ghost use Rattle.std.specs.Prelude.{◌≡◌, ◌≤◌, length, take};
 ghost use Rattle.std.specs.Int.{from_be_bytes, w16, w32, w64};
 ghost use Rattle.std.specs.Cmp.Lexicographic.{slice_cmp};
 ghost use Rattle.std.specs.Ordering.{nat_cmp};
-ghost use Rattle.gixobj_tree.specs.Entries.{key_of, name_cmp, next_byte};
+ghost use Rattle.gixobj_tree.specs.KeyOrder.{key_of, name_cmp, next_byte};
 ghost use Rattle.gixobj_hash.specs.ByteStrings.{IsByteFree};
 ghost use Rattle.gixobj_hash.specs.Bytes.{slash};
 

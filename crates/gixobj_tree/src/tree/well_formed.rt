@@ -1,7 +1,7 @@
 //! Well-formed trees (gitdatamodel, "trees").
 ghost use Rattle.std.specs.Prelude.{◌↔◌, IsTrue};
-ghost use Rattle.gixobj_tree.specs.Entries.{ComesBefore, EachLater, IsEntryName, IsWellFormed};
-ghost use Rattle.gixobj_tree.specs.WellFormed.{AreApart, HasKey, HasNamesake, HaveEntryNames};
+ghost use Rattle.gixobj_tree.specs.KeyOrder.{ComesBefore};
+ghost use Rattle.gixobj_tree.specs.WellFormed.{AreApart, EachLater, HasKey, HasNamesake, HaveEntryNames, IsEntryName, IsWellFormed};
 
 use super::{Entry, Tree};
 use gixobj_hash::split::has_byte;

@@ -1,6 +1,6 @@
 use Rattle.std.proofs.Common.{◌≡◌, ◌≢◌, ◌≤◌, ◌+◌, ◌*◌, ◌++◌, length}
 use Rattle.std.specs.Prelude.{reverse, vec_capacity, vec_len}
-use Rattle.gixobj_tree.specs.Entries.{EachLater}
+use Rattle.gixobj_tree.specs.WellFormed.{EachLater}
 use Rattle.gixobj_directories.specs.Nested.{below, parts}
 use Rattle.gixobj_directories.specs.LeafTrees.{leaf_trees}
 use Rattle.gixobj_directories.proofs.leaf_trees.+taking.Given as goal

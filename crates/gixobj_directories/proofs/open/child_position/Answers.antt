@@ -2,7 +2,7 @@
 use Rattle.std.proofs.Common.{◌≡◌, ◌∙◌, ◌<◌, ◌≤◌, HoldsAt, Less, Equal, Greater, Ordering, Ok, Err, length, sym, subst, true, arith}
 use Rattle.std.specs.List.Sorted.{IsBinarySearchResult}
 use Rattle.bstr.specs.Owned.{bstring_bytes}
-use Rattle.gixobj_tree.specs.Entries.{key_of}
+use Rattle.gixobj_tree.specs.KeyOrder.{key_of}
 use Rattle.gixobj_files.proofs.BinarySearch.{IsNarrowed, compared, looked, narrowed_down, narrowed_none, narrowed_up}
 use Rattle.gixobj_directories.proofs.Ordered.{children_ascend, child_before, child_found, child_key}
 use Rattle.gixobj_directories.proofs.open.child_position.Goals.{in-Less, in-Greater}

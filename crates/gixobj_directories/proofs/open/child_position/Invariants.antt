@@ -1,7 +1,7 @@
 -- The directory of the name can be at the remaining positions alone, and the next comparison is at one of these.
 use Rattle.std.proofs.Common.{◌<◌, ◌≤◌, ◌-◌, length, true}
 use Rattle.bstr.specs.Owned.{bstring_bytes}
-use Rattle.gixobj_tree.specs.Entries.{key_of}
+use Rattle.gixobj_tree.specs.KeyOrder.{key_of}
 use Rattle.gixobj_files.proofs.BinarySearch.{IsNarrowed}
 use Rattle.gixobj_directories.proofs.Ordered.{child_key}
 use Rattle.gixobj_directories.proofs.open.child_position.Given as goal

@@ -1,6 +1,7 @@
 use Rattle.std.proofs.Common.{◌≡◌, ◌∙◌, HoldsAt, List, Some, Bool, ℕ, ap, is_ok, refl, subst, true, arith}
 use Rattle.std.specs.List.{position, prefix_len}
-use Rattle.gixobj_tree.specs.Entries.{EntryView, key_of}
+use Rattle.gixobj_tree.specs.Entries.{EntryView}
+use Rattle.gixobj_tree.specs.KeyOrder.{key_of}
 use Rattle.gixobj_mode.specs.Mode.{is_tree_mode}
 use Rattle.gixobj_files.specs.Editing.{comes_before, same_name}
 use Rattle.gixobj_files.specs.KeyPlaces.{has_key_before}

@@ -1,6 +1,7 @@
 use Rattle.std.proofs.Common.{◌≡◌, ◌∙◌, Some, ap, sym, subst, arith}
 use Rattle.std.specs.List.{position, prefix_len}
-use Rattle.gixobj_tree.specs.Entries.{EntryView, IsWellFormed}
+use Rattle.gixobj_tree.specs.Entries.{EntryView}
+use Rattle.gixobj_tree.specs.WellFormed.{IsWellFormed}
 use Rattle.gixobj_files.specs.Editing.{comes_before, same_name, without}
 use Rattle.gixobj_files.proofs.Formed.{is_well_formed_without}
 use Rattle.gixobj_files.proofs.Namesakes.{without_absent_name, remove_eq_without}

@@ -1,5 +1,5 @@
 use Rattle.std.proofs.Common.{◌≡◌, ◌≢◌, ◌++◌, drop, take}
-use Rattle.gixobj_tree.specs.Entries.{EachLater}
+use Rattle.gixobj_tree.specs.WellFormed.{EachLater}
 use Rattle.gixobj_files.specs.Editing.{non_null_entries}
 use Rattle.gixobj_files.specs.FilteredTrees.{IsFilteredTree}
 use Rattle.gixobj_files.proofs.FilteredEntries.{AreFilled}

@@ -3,7 +3,7 @@ use Rattle.std.proofs.lemmas.List.Sums.{prefix_len-le-length}
 use Rattle.gixobj_files.proofs.BinarySearch.{less_of_compare}
 use Rattle.gixobj_files.proofs.KeyPlaces.{first_of_two, no_file, first_in_pairs}
 use Rattle.gixobj_files.specs.KeyPlaces.{has_key_before}
-use Rattle.gixobj_tree.specs.Entries.{key_of}
+use Rattle.gixobj_tree.specs.KeyOrder.{key_of}
 use Rattle.gixobj_files.proofs.places.file_with_first_name.Goals as goal
 
 pub returns-then-place-eq0 : goal.returns-then-place-eq0

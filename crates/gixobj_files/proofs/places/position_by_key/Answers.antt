@@ -1,7 +1,7 @@
 -- Each comparison with an entry narrows the positions of the searched key.
 use Rattle.std.proofs.Common.{◌≡◌, ◌∙◌, ◌<◌, ◌≤◌, HoldsAt, Less, Equal, Greater, Ordering, Ok, Err, length, sym, subst, arith}
 use Rattle.std.specs.List.Sorted.{IsBinarySearchResult}
-use Rattle.gixobj_tree.specs.Entries.{entry_key, key_of}
+use Rattle.gixobj_tree.specs.KeyOrder.{entry_key, key_of}
 use Rattle.gixobj_files.proofs.BinarySearch.{IsNarrowed, compared, narrowed_down, narrowed_none, narrowed_up}
 use Rattle.gixobj_files.proofs.KeyPlaces.{found_before, found_kind, found_none, found_place, first_in_pairs}
 use Rattle.gixobj_files.proofs.places.position_by_key.Goals.{in-Less, in-Greater}

@@ -1,6 +1,6 @@
 -- An entry with the key can be at the remaining positions alone, and the next comparison is at one of these.
 use Rattle.std.proofs.Common.{◌<◌, ◌≤◌, ◌-◌, length}
-use Rattle.gixobj_tree.specs.Entries.{entry_key, key_of}
+use Rattle.gixobj_tree.specs.KeyOrder.{entry_key, key_of}
 use Rattle.gixobj_files.proofs.BinarySearch.{IsNarrowed}
 use Rattle.gixobj_files.proofs.places.position_by_key.Given as goal
 

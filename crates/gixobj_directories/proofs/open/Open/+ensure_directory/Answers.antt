@@ -4,7 +4,7 @@ use Rattle.std.proofs.Common.{◌≡◌, ◌∙◌, ◌∷◌, None, ap, sym, re
 use Rattle.std.proofs.lemmas.Result.{MatchResult-weaker}
 use Rattle.std.specs.List.{AllByRecursion}
 use Rattle.bstr.specs.Owned.{bstring_bytes}
-use Rattle.gixobj_tree.specs.Entries.{IsEntryName}
+use Rattle.gixobj_tree.specs.WellFormed.{IsEntryName}
 use Rattle.gixobj_files.specs.Edits.{with_directory}
 use Rattle.gixobj_files.proofs.HasTrees.{with_directory_of_tree}
 use Rattle.gixobj_directories.specs.Calls.{names_of}

@@ -2,7 +2,7 @@
 -- `ensure_directory`.
 use Rattle.std.proofs.Common.{◌≡◌, ◌∙◌, [], refl, sym, ap, subst}
 use Rattle.std.proofs.lemmas.List.Elements.{recursion_from_All}
-use Rattle.gixobj_tree.specs.Entries.{IsEntryName}
+use Rattle.gixobj_tree.specs.WellFormed.{IsEntryName}
 use Rattle.gixobj_files.specs.Edits.{IsNoTree, Opens, ensured_dirs}
 use Rattle.gixobj_files.specs.State.{State, open_dirs}
 use Rattle.gixobj_files.specs.Unopened.{in_directory}

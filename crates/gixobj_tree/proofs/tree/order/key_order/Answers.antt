@@ -1,6 +1,6 @@
 use Rattle.std.proofs.Common.{◌≡◌, ◌∙◌, length, rules, sym}
 use Rattle.std.specs.Ordering.{nat_cmp, ordering_then}
-use Rattle.gixobj_tree.specs.Entries.{key_of, name_cmp}
+use Rattle.gixobj_tree.specs.KeyOrder.{key_of, name_cmp}
 use Rattle.gixobj_tree.proofs.NameKeys.{key_cmp_eq_name_cmp_then_len}
 use Rattle.gixobj_tree.proofs.tree.order.key_order.Goals as goal
 

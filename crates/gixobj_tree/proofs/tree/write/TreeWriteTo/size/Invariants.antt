@@ -1,5 +1,6 @@
 use Rattle.std.proofs.Common.{◌≡◌, ◌≤◌, ◌<◌, ◌^◌, take, length}
-use Rattle.gixobj_tree.specs.TreeEncoding.{encode_tree, with_ids}
+use Rattle.gixobj_tree.specs.TreeEncoding.{encode_tree}
+use Rattle.gixobj_tree.specs.TreeSizes.{with_ids}
 use Rattle.gixobj_tree.proofs.tree.write.TreeWriteTo.size.Given as goal
 
 abbrev pub invariant-loop-entry : goal.invariant-loop-entry
