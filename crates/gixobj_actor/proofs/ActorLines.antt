@@ -9,9 +9,10 @@ use Rattle.gixobj_hash.proofs.Splits.{no_split_of_byte_free, split_parts_unique,
 use Rattle.gixobj_actor.specs.Actor.{ActorView, EndsTime, IsActorLine, IsActorLineOf, IsGap, IsNameOf, IsNoActor, IsMalformedActorLine, is_time_byte}
 use Rattle.gixobj_hash.specs.ByteStrings.{IsByteFree, SplitsAt, SplitsAtLast}
 
-regrouped : (name_bytes email gap time rest : List ℕ) → name_bytes ++ 60 ∷ (email ++ 62 ∷ (gap ++ (time ++ rest))) ≡ name_bytes ++ 60 ∷ email ++ 62 ∷ gap
+actor_line_append_assoc : (name_bytes email gap time rest : List ℕ) → name_bytes ++ 60 ∷ (email ++ 62 ∷ (gap ++ (time ++ rest)))
+    ≡ name_bytes ++ 60 ∷ email ++ 62 ∷ gap
     ++ time ++ rest
-regrouped name_bytes email gap time rest = simp append_assoc
+actor_line_append_assoc name_bytes email gap time rest = simp append_assoc
 
 -- the parts of a line, split from the left
 pub record Cuts (line name email time rest : List ℕ) : Type 0 where
@@ -39,7 +40,7 @@ line_of_splits line name email time rest cuts =
       name_bytes = cuts.name_bytes;
       gap = cuts.gap;
       joined = cuts.first.joined ∙ ap (λ it. cuts.name_bytes ++ 60 ∷ it) (cuts.last.joined ∙ ap (λ it. email ++ 62 ∷ it) after)
-          ∙ regrouped cuts.name_bytes email cuts.gap time rest;
+          ∙ actor_line_append_assoc cuts.name_bytes email cuts.gap time rest;
       one_line = cuts.one_line;
       first = cuts.first.first;
       last = subst F (after ∙ sym (append_assoc cuts.gap time rest)) cuts.last.last;
@@ -50,58 +51,58 @@ line_of_splits line name email time rest cuts =
     }
 
 -- the bytes after the first `<` of an actor line are its email, gap, time and rest
-after_first : (line name email time rest name_bytes after_less_than : List ℕ) (actor : IsActorLine line name email time rest)
+actor_line_splits_at_opening_bracket : (line name email time rest name_bytes after_less_than : List ℕ) (actor : IsActorLine line name email time rest)
     → SplitsAt 60 line name_bytes after_less_than
     → (actor.name_bytes ≡ name_bytes) × (email ++ 62 ∷ (actor.gap ++ (time ++ rest)) ≡ after_less_than)
-after_first line name email time rest name_bytes after_less_than actor split =
+actor_line_splits_at_opening_bracket line name email time rest name_bytes after_less_than actor split =
     split_parts_unique 60 actor.name_bytes (email ++ 62 ∷ (actor.gap ++ (time ++ rest))) name_bytes after_less_than actor.first split.first
-    (regrouped actor.name_bytes email actor.gap time rest ∙ sym actor.joined ∙ split.joined)
+    (actor_line_append_assoc actor.name_bytes email actor.gap time rest ∙ sym actor.joined ∙ split.joined)
 
 pub malformed_without_opening_bracket : (line : List ℕ) → IsByteFree 60 line → IsMalformedActorLine line
 malformed_without_opening_bracket line free name email time rest actor =
     let joined : line ≡ actor.name_bytes ++ 60 ∷ (email ++ 62 ∷ (actor.gap ++ (time ++ rest))) =
-    actor.joined ∙ sym (regrouped actor.name_bytes email actor.gap time rest) in
+    actor.joined ∙ sym (actor_line_append_assoc actor.name_bytes email actor.gap time rest) in
     no_split_of_byte_free 60 actor.name_bytes (email ++ 62 ∷ (actor.gap ++ (time ++ rest))) (let P : List ℕ → Type 0 = IsByteFree 60 in subst P joined free)
 
 pub malformed_without_closing_bracket : (line name_bytes after_less_than : List ℕ) → SplitsAt 60 line name_bytes after_less_than → IsByteFree 62 after_less_than
     → IsMalformedActorLine line
 malformed_without_closing_bracket line name_bytes after_less_than split free name email time rest actor =
-    let same = after_first line name email time rest name_bytes after_less_than actor split in
+    let same = actor_line_splits_at_opening_bracket line name email time rest name_bytes after_less_than actor split in
     no_split_of_byte_free 62 email (actor.gap ++ (time ++ rest)) (let P : List ℕ → Type 0 = IsByteFree 62 in subst P (sym same.1) free)
 
 -- unique decoding of each part
-same_name : (name_bytes a b : List ℕ) → IsNameOf name_bytes a → IsNameOf name_bytes b → a ≡ b
-same_name name_bytes a b (inl first) (inl second) =
+actor_name_unique : (name_bytes a b : List ℕ) → IsNameOf name_bytes a → IsNameOf name_bytes b → a ≡ b
+actor_name_unique name_bytes a b (inl first) (inl second) =
     let cut = last_split_unique 32 a [] b [] (All-nil (λ it. it ≢ 32)) (All-nil (λ it. it ≢ 32)) (sym first ∙ second) in cut.0
-same_name name_bytes a b (inl first) (inr second) = absurd (second.1 a first)
-same_name name_bytes a b (inr first) (inl second) = absurd (first.1 b second)
-same_name name_bytes a b (inr first) (inr second) = sym first.0 ∙ second.0
+actor_name_unique name_bytes a b (inl first) (inr second) = absurd (second.1 a first)
+actor_name_unique name_bytes a b (inr first) (inl second) = absurd (first.1 b second)
+actor_name_unique name_bytes a b (inr first) (inr second) = sym first.0 ∙ second.0
 
-same_tail : (gap a gap' b : List ℕ) → IsGap gap a → IsGap gap' b → gap ++ a ≡ gap' ++ b → a ≡ b
-same_tail gap a gap' b (inl first) (inl second) same =
+gap_append_unique : (gap a gap' b : List ℕ) → IsGap gap a → IsGap gap' b → gap ++ a ≡ gap' ++ b → a ≡ b
+gap_append_unique gap a gap' b (inl first) (inl second) same =
     let joined : 32 ∷ a ≡ 32 ∷ b = sym (ap (λ it. it ++ a) first) ∙ same ∙ ap (λ it. it ++ b) second in cc
-same_tail gap a gap' b (inl first) (inr second) same =
+gap_append_unique gap a gap' b (inl first) (inr second) same =
     absurd (second.1 a (sym (ap (λ it. it ++ b) second.0) ∙ sym same ∙ ap (λ it. it ++ a) first))
-same_tail gap a gap' b (inr first) (inl second) same =
+gap_append_unique gap a gap' b (inr first) (inl second) same =
     absurd (first.1 b (sym (ap (λ it. it ++ a) first.0) ∙ same ∙ ap (λ it. it ++ b) second))
-same_tail gap a gap' b (inr first) (inr second) same =
+gap_append_unique gap a gap' b (inr first) (inr second) same =
     sym (ap (λ it. it ++ a) first.0) ∙ same ∙ ap (λ it. it ++ b) second.0
 
 -- a time byte does not begin the bytes at which a time ends
-goes_on : (byte : ℕ) (time rest after : List ℕ) → AllPass is_time_byte (byte ∷ time) → EndsTime rest → rest ≡ byte ∷ after → ⊥
-goes_on byte time rest after passes ends same =
+time_end_is_no_time_byte : (byte : ℕ) (time rest after : List ℕ) → AllPass is_time_byte (byte ∷ time) → EndsTime rest → rest ≡ byte ∷ after → ⊥
+time_end_is_no_time_byte byte time rest after passes ends same =
     let fails : is_time_byte byte ≡ false = (let P : List ℕ → Type 0 = EndsTime in subst P same ends) in
     true≢false (sym (All-head (λ it. is_time_byte it ≡ true) byte time passes) ∙ fails)
 
-same_time : (a x b y : List ℕ) → AllPass is_time_byte a → AllPass is_time_byte b → EndsTime x → EndsTime y → a ++ x ≡ b ++ y → (a ≡ b) × (x ≡ y)
-same_time [] x [] y pass_a pass_b ends_x ends_y same = (refl, same)
-same_time [] x (byte ∷ b) y pass_a pass_b ends_x ends_y same = absurd (goes_on byte b x (b ++ y) pass_b ends_x same)
-same_time (byte ∷ a) x [] y pass_a pass_b ends_x ends_y same = absurd (goes_on byte a y (a ++ x) pass_a ends_y (sym same))
-same_time (byte ∷ a) x (other ∷ b) y pass_a pass_b ends_x ends_y same =
+time_append_unique : (a x b y : List ℕ) → AllPass is_time_byte a → AllPass is_time_byte b → EndsTime x → EndsTime y → a ++ x ≡ b ++ y → (a ≡ b) × (x ≡ y)
+time_append_unique [] x [] y pass_a pass_b ends_x ends_y same = (refl, same)
+time_append_unique [] x (byte ∷ b) y pass_a pass_b ends_x ends_y same = absurd (time_end_is_no_time_byte byte b x (b ++ y) pass_b ends_x same)
+time_append_unique (byte ∷ a) x [] y pass_a pass_b ends_x ends_y same = absurd (time_end_is_no_time_byte byte a y (a ++ x) pass_a ends_y (sym same))
+time_append_unique (byte ∷ a) x (other ∷ b) y pass_a pass_b ends_x ends_y same =
     let tails : a ++ x ≡ b ++ y = cc same in
     let heads : byte ≡ other = cc same in
     let P : ℕ → Type 0 = λ it. is_time_byte it ≡ true in
-    let rest = same_time a x b y (All-tail P byte a pass_a) (All-tail P other b pass_b) ends_x ends_y tails in
+    let rest = time_append_unique a x b y (All-tail P byte a pass_a) (All-tail P other b pass_b) ends_x ends_y tails in
     (cc (heads, rest.0), rest.1)
 
 pub actor_line_unique : (line name email time rest name' email' time' rest' : List ℕ)
@@ -110,15 +111,15 @@ pub actor_line_unique : (line name email time rest name' email' time' rest' : Li
 actor_line_unique line name email time rest name' email' time' rest' first second =
     let after_less_than = email ++ 62 ∷ (first.gap ++ (time ++ rest)) in
     let split : SplitsAt 60 line first.name_bytes after_less_than =
-    record { joined = first.joined ∙ sym (regrouped first.name_bytes email first.gap time rest); first = first.first } in
-    let cut = after_first line name' email' time' rest' first.name_bytes after_less_than second split in
+    record { joined = first.joined ∙ sym (actor_line_append_assoc first.name_bytes email first.gap time rest); first = first.first } in
+    let cut = actor_line_splits_at_opening_bracket line name' email' time' rest' first.name_bytes after_less_than second split in
     let F : List ℕ → Type 0 = IsByteFree 62 in
     let close = last_split_unique 62 email (first.gap ++ (time ++ rest)) email' (second.gap ++ (time' ++ rest'))
     (subst F (append_assoc first.gap time rest) first.last) (subst F (append_assoc second.gap time' rest') second.last) (sym cut.1) in
-    let tails = same_tail first.gap (time ++ rest) second.gap (time' ++ rest') first.spaced second.spaced close.1 in
-    let times = same_time time rest time' rest' first.timed second.timed first.ends second.ends tails in
+    let tails = gap_append_unique first.gap (time ++ rest) second.gap (time' ++ rest') first.spaced second.spaced close.1 in
+    let times = time_append_unique time rest time' rest' first.timed second.timed first.ends second.ends tails in
     let N : List ℕ → Type 0 = λ it. IsNameOf it name' in (
-      same_name first.name_bytes name name' first.named (subst N cut.0 second.named),
+      actor_name_unique first.name_bytes name name' first.named (subst N cut.0 second.named),
       close.0,
       times.0,
       times.1,

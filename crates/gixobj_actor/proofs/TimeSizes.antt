@@ -20,21 +20,21 @@ abbrev power_of_ten : ℕ → ℕ
 power_of_ten zero = 1
 power_of_ten (suc zeros) = 10 * power_of_ten zeros
 
-positive : (zeros : ℕ) → 0 < power_of_ten zeros
-positive zero = omega arith
-positive (suc zeros) = omega (arith, positive zeros)
+power_of_ten_positive : (zeros : ℕ) → 0 < power_of_ten zeros
+power_of_ten_positive zero = omega arith
+power_of_ten_positive (suc zeros) = omega (arith, power_of_ten_positive zeros)
 
-more_than_zeros : (zeros number : ℕ) → power_of_ten zeros ≤ number → number < 2 ^ 64 → zeros < length (decimal number)
-more_than_zeros zero number large fits = decimal_nonempty number fits
-more_than_zeros (suc zeros) number large fits =
-    let some = positive zeros in
-    let prefix = more_than_zeros zeros (number / 10) (omega arith) (omega arith) in
+zeros_lt_decimal_len : (zeros number : ℕ) → power_of_ten zeros ≤ number → number < 2 ^ 64 → zeros < length (decimal number)
+zeros_lt_decimal_len zero number large fits = decimal_nonempty number fits
+zeros_lt_decimal_len (suc zeros) number large fits =
+    let some = power_of_ten_positive zeros in
+    let prefix = zeros_lt_decimal_len zeros (number / 10) (omega arith) (omega arith) in
     omega (arith, decimal_len_succ number (omega arith) fits)
 
 pub decimal_len_ten : (number : ℕ) → 1000000000 ≤ number → number < 10000000000 → number < 2 ^ 64 → length (decimal number) ≡ 10
 decimal_len_ten number large small fits =
     let most = length-decimal-le 10 number (omega arith) (omega arith) fits in
-    let least = more_than_zeros 9 number large fits in
+    let least = zeros_lt_decimal_len 9 number large fits in
     omega arith
 
 -- an encoded time has a sign if it is negative, its digits, a space, and five bytes of an offset

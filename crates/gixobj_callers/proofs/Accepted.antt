@@ -26,60 +26,60 @@ outcome_or : OutcomeView → Verified → OutcomeView
 outcome_or other (reported it) = it
 outcome_or other it = other
 
-same_outcome : (one two : OutcomeView) → reported one ≡ reported two → one ≡ two
+reported_injective : (one two : OutcomeView) → reported one ≡ reported two → one ≡ two
 unfolding outcome_or
-same_outcome one two same = ap (outcome_or one) same
+reported_injective one two same = ap (outcome_or one) same
 
-first_true : (a b : Bool) → (a && b) ≡ true → a ≡ true
-first_true true b both = refl
-first_true false b both = both
+and_true_first : (a b : Bool) → (a && b) ≡ true → a ≡ true
+and_true_first true b both = refl
+and_true_first false b both = both
 
-second_true : (a b : Bool) → (a && b) ≡ true → b ≡ true
-second_true true b both = both
-second_true false b both = cc
+and_true_second : (a b : Bool) → (a && b) ≡ true → b ≡ true
+and_true_second true b both = both
+and_true_second false b both = cc
 
-good_status : (it : Status) → is_good_status it ≡ true → it ≡ status.Good
-good_status status.Good is = refl
-good_status status.Bad is = cc
-good_status status.Error is = cc
-good_status status.Expired is = cc
-good_status status.ExpiredKey is = cc
-good_status status.RevokedKey is = cc
-good_status status.Unknown is = cc
+status_good_of_test : (it : Status) → is_good_status it ≡ true → it ≡ status.Good
+status_good_of_test status.Good is = refl
+status_good_of_test status.Bad is = cc
+status_good_of_test status.Error is = cc
+status_good_of_test status.Expired is = cc
+status_good_of_test status.ExpiredKey is = cc
+status_good_of_test status.RevokedKey is = cc
+status_good_of_test status.Unknown is = cc
 
-good_output : (begins : Bool) → is_good_status (cond begins status.Good status.Bad) ≡ true → begins ≡ true
-good_output true is = refl
-good_output false is = is
+true_of_cond_good_status : (begins : Bool) → is_good_status (cond begins status.Good status.Bad) ≡ true → begins ≡ true
+true_of_cond_good_status true is = refl
+true_of_cond_good_status false is = is
 
 -- a good status is that of exactly one line
-one_line : (said : List (Status × List ℕ)) → (verdict said).status ≡ status.Good → (rest : List ℕ) × (said ≡ (status.Good, rest) ∷ [])
-one_line [] is = absurd (let never : status.Unknown ≡ status.Good = is in cc)
-one_line (one ∷ []) is = (one.1, ap (λ (it : Status). (it, one.1) ∷ []) is)
-one_line (one ∷ next ∷ more) is = absurd (let never : status.Error ≡ status.Good = is in cc)
+good_verdict_has_one_status : (said : List (Status × List ℕ)) → (verdict said).status ≡ status.Good → (rest : List ℕ) × (said ≡ (status.Good, rest) ∷ [])
+good_verdict_has_one_status [] is = absurd (let never : status.Unknown ≡ status.Good = is in cc)
+good_verdict_has_one_status (one ∷ []) is = (one.1, ap (λ (it : Status). (it, one.1) ∷ []) is)
+good_verdict_has_one_status (one ∷ next ∷ more) is = absurd (let never : status.Error ≡ status.Good = is in cc)
 
 -- ---- OpenPGP and X.509
 
 -- an accepted report of OpenPGP or X.509 has a successful call, a good status and sufficient trust
-good_said : (success : Bool) (format : Format) (by : ProgramView) (output raw : List ℕ)
+gpg_report_good_of_valid : (success : Bool) (format : Format) (by : ProgramView) (output raw : List ℕ)
     → (evaluated success by.minimum (gpg_report format output raw)).valid ≡ true
     → (success ≡ true) × ((gpg_report format output raw).status ≡ status.Good)
     × (is_trusted by.minimum (gpg_report format output raw).trust_level ≡ true)
-good_said success format by output raw valid =
+gpg_report_good_of_valid success format by output raw valid =
     let report = gpg_report format output raw in
-    let both = first_true (success && is_good_status report.status) (is_trusted by.minimum report.trust_level) valid in (
-      first_true success (is_good_status report.status) both,
-      good_status report.status (second_true success (is_good_status report.status) both),
-      second_true (success && is_good_status report.status) (is_trusted by.minimum report.trust_level) valid,
+    let both = and_true_first (success && is_good_status report.status) (is_trusted by.minimum report.trust_level) valid in (
+      and_true_first success (is_good_status report.status) both,
+      status_good_of_test report.status (and_true_second success (is_good_status report.status) both),
+      and_true_second (success && is_good_status report.status) (is_trusted by.minimum report.trust_level) valid,
     )
 
-gpg_accepted : {S : Type 0} (runs : S → CallView → Answer → S → Type 0) (format : Format) (by : ProgramView) (call : CallView) (s t : S)
+gpg_reports_good_of_valid : {S : Type 0} (runs : S → CallView → Answer → S → Type 0) (format : Format) (by : ProgramView) (call : CallView) (s t : S)
     (outcome : OutcomeView)
     → CarriesOut runs (gpg_verify_plan format by call) s (reported outcome) t → outcome.valid ≡ true → ReportsGood runs format by call s outcome t
-gpg_accepted runs format by call s t outcome (ran seen, m, run, (same, end)) valid =
-    let is = same_outcome outcome (evaluated seen.success by.minimum (gpg_report format seen.stderr seen.stdout)) same in
-    let (succeeded, good, trusted) = good_said seen.success format by seen.stderr seen.stdout
+gpg_reports_good_of_valid runs format by call s t outcome (ran seen, m, run, (same, end)) valid =
+    let is = reported_injective outcome (evaluated seen.success by.minimum (gpg_report format seen.stderr seen.stdout)) same in
+    let (succeeded, good, trusted) = gpg_report_good_of_valid seen.success format by seen.stderr seen.stdout
     (sym (ap (λ (it : OutcomeView). it.valid) is) ∙ valid) in
-    let (rest, one) = one_line (filter_map status_of (status_lines seen.stdout)) good in
+    let (rest, one) = good_verdict_has_one_status (filter_map status_of (status_lines seen.stdout)) good in
     record {
       yielded = seen;
       requested = subst (λ (end : _). runs s call (ran seen) end) (sym end) run;
@@ -89,30 +89,30 @@ gpg_accepted runs format by call s t outcome (ran seen, m, run, (same, end)) val
       trusted = trusted;
       reported = is;
     }
-gpg_accepted runs format by call s t outcome (failed why, m, run, (same, end)) valid =
+gpg_reports_good_of_valid runs format by call s t outcome (failed why, m, run, (same, end)) valid =
     absurd (let never : reported outcome ≡ not_run why = same in cc)
-gpg_accepted runs format by call s t outcome (no_memory, m, run, none) valid = absurd none
+gpg_reports_good_of_valid runs format by call s t outcome (no_memory, m, run, none) valid = absurd none
 
 -- ---- SSH
 
 -- an accepted report of SSH has a successful call, a good output and sufficient trust
-ssh_said : (success : Bool) (by : ProgramView) (output : List ℕ) (signer : Option (List ℕ)) (trusted : TrustLevel)
+ssh_report_good_of_valid : (success : Bool) (by : ProgramView) (output : List ℕ) (signer : Option (List ℕ)) (trusted : TrustLevel)
     → (evaluated success by.minimum (ssh_report output signer trusted)).valid ≡ true
     → (success ≡ true) × (starts_with nat_eq output (codes "Good \"git\" signature") ≡ true) × (is_trusted by.minimum trusted ≡ true)
-ssh_said success by output signer trusted valid =
-    let both = first_true (success && is_good_status (ssh_status output)) (is_trusted by.minimum trusted) valid in (
-      first_true success (is_good_status (ssh_status output)) both,
-      good_output (starts_with nat_eq output (codes "Good \"git\" signature")) (second_true success (is_good_status (ssh_status output)) both),
-      second_true (success && is_good_status (ssh_status output)) (is_trusted by.minimum trusted) valid,
+ssh_report_good_of_valid success by output signer trusted valid =
+    let both = and_true_first (success && is_good_status (ssh_status output)) (is_trusted by.minimum trusted) valid in (
+      and_true_first success (is_good_status (ssh_status output)) both,
+      true_of_cond_good_status (starts_with nat_eq output (codes "Good \"git\" signature")) (and_true_second success (is_good_status (ssh_status output)) both),
+      and_true_second (success && is_good_status (ssh_status output)) (is_trusted by.minimum trusted) valid,
     )
 
-none_of_none : (before : List (List ℕ)) (principal : List ℕ) (after : List (List ℕ)) → [] ≡ before ++ principal ∷ after → ⊥
-none_of_none [] principal after is = absurd (let never : [] ≡ principal ∷ after = is in cc)
-none_of_none (one ∷ before) principal after is = absurd (let never : [] ≡ one ∷ (before ++ principal ∷ after) = is in cc)
+nil_ne_append_cons : (before : List (List ℕ)) (principal : List ℕ) (after : List (List ℕ)) → [] ≡ before ++ principal ∷ after → ⊥
+nil_ne_append_cons [] principal after is = absurd (let never : [] ≡ principal ∷ after = is in cc)
+nil_ne_append_cons (one ∷ before) principal after is = absurd (let never : [] ≡ one ∷ (before ++ principal ∷ after) = is in cc)
 
 -- the report of a failed call isn't accepted
-none_said : (by : ProgramView) (it : OutcomeView) → (evaluated false by.minimum it).valid ≡ true → ⊥
-none_said by it valid = let never : false ≡ true = valid in absurd cc
+failed_run_is_not_valid : (by : ProgramView) (it : OutcomeView) → (evaluated false by.minimum it).valid ≡ true → ⊥
+failed_run_is_not_valid by it valid = let never : false ≡ true = valid in absurd cc
 
 -- the calls for the remaining principals; the outcome is that of the last one's output
 record Tries {S : Type 0} (runs : S → CallView → Answer → S → Type 0) (by : ProgramView) (ssh : SshView) (signature signed : List ℕ)
@@ -157,7 +157,7 @@ module _ {S : Type 0} (runs : S → CallView → Answer → S → Type 0) (by : 
     requested = subst (λ (end : S). runs s (principal_call by ssh signature signed principal) (ran seen) end) (sym end) run;
     announced = subst (λ (b : Bool). outcome ≡ evaluated seen.success by.minimum (ssh_report (human seen) (cond b (Some principal) None) trust.Fully))
         (sym is)
-        (same_outcome outcome (evaluated seen.success by.minimum (ssh_report (human seen) (Some principal) trust.Fully)) same);
+        (reported_injective outcome (evaluated seen.success by.minimum (ssh_report (human seen) (Some principal) trust.Fully)) same);
     last = λ rejected. absurd (let never : true ≡ false = sym is ∙ rejected in cc);
   }
   one_tried principal principals seen s m t outcome run more false is went =
@@ -195,10 +195,10 @@ module _ {S : Type 0} (runs : S → CallView → Answer → S → Type 0) (by : 
       → Tries runs by ssh signature signed principals s outcome t ⊎ EndsWith by last principals s outcome t
   unfolding tries
   all_tried [] (Some seen) s t outcome (same, end) valid =
-      inr (refl, end, same_outcome outcome (evaluated seen.success by.minimum (ssh_report (human seen) None trust.Fully)) same)
+      inr (refl, end, reported_injective outcome (evaluated seen.success by.minimum (ssh_report (human seen) None trust.Fully)) same)
   all_tried [] None s t outcome (ran seen, m, run, (same, end)) valid =
-      let is = same_outcome outcome (evaluated false by.minimum (ssh_report (human seen) None trust.Undefined)) same in
-      absurd (none_said by (ssh_report (human seen) None trust.Undefined) (sym (ap (λ (it : OutcomeView). it.valid) is) ∙ valid))
+      let is = reported_injective outcome (evaluated false by.minimum (ssh_report (human seen) None trust.Undefined)) same in
+      absurd (failed_run_is_not_valid by (ssh_report (human seen) None trust.Undefined) (sym (ap (λ (it : OutcomeView). it.valid) is) ∙ valid))
   all_tried [] None s t outcome (failed why, m, run, (same, end)) valid = absurd (let never : reported outcome ≡ not_run why = same in cc)
   all_tried [] None s t outcome (no_memory, m, run, none) valid = absurd none
   all_tried (principal ∷ principals) last s t outcome (ran seen, m, run, went) valid =
@@ -218,14 +218,14 @@ module _ {S : Type 0} (runs : S → CallView → Answer → S → Type 0) (by : 
       elim (all_tried (principals_in named.stdout) None first t outcome went valid) [ inl it ↦ (is, it) | inr never ↦ absurd never ]
   named_some named first t outcome false is went valid =
       elim (all_tried [] None first t outcome went valid)
-      [ inl it ↦ absurd (none_of_none it.before it.principal it.following it.all) | inr never ↦ absurd never ]
+      [ inl it ↦ absurd (nil_ne_append_cons it.before it.principal it.following it.all) | inr never ↦ absurd never ]
 
   ssh_accepted : (s t : S) (outcome : OutcomeView)
       → CarriesOut runs (ssh_verify_plan by ssh signature signed) s (reported outcome) t → outcome.valid ≡ true
       → AcceptsPrincipal runs by ssh signature signed s outcome t
   ssh_accepted s t outcome (ran named, first, run, went) valid =
       let (is_named, it) = named_some named first t outcome named.success refl went valid in
-      let (succeeded, good, trusted) = ssh_said it.yielded.success by (human it.yielded) (cond (accepts it.yielded) (Some it.principal) None)
+      let (succeeded, good, trusted) = ssh_report_good_of_valid it.yielded.success by (human it.yielded) (cond (accepts it.yielded) (Some it.principal) None)
       trust.Fully
       (sym (ap (λ (it : OutcomeView). it.valid) it.announced) ∙ valid) in
       record {
@@ -260,9 +260,9 @@ pub vouches_of_acceptance : {S : Type 0} (runs : S → CallView → Answer → S
     → CarriesOut runs (verify_plan it signature signed format) s (reported outcome) t → outcome.valid ≡ true
     → Vouches runs it signature signed s outcome t
 vouches_of_acceptance runs (by_open_pgp by) signature signed (Some format.OpenPgp) s t outcome went valid =
-    gpg_accepted runs format.OpenPgp by (open_pgp_call by signature signed) s t outcome went valid
+    gpg_reports_good_of_valid runs format.OpenPgp by (open_pgp_call by signature signed) s t outcome went valid
 vouches_of_acceptance runs (by_x509 by) signature signed (Some format.X509) s t outcome went valid =
-    gpg_accepted runs format.X509 by (x509_call by signature signed) s t outcome went valid
+    gpg_reports_good_of_valid runs format.X509 by (x509_call by signature signed) s t outcome went valid
 vouches_of_acceptance runs (by_ssh by ssh) signature signed (Some format.Ssh) s t outcome went valid =
     ssh_accepted runs by ssh signature signed s t outcome went valid
 vouches_of_acceptance runs (by_open_pgp by) signature signed None s t outcome (same, end) valid =

@@ -27,12 +27,13 @@ use Rattle.gixobj_callers.proofs.Alone.{root_alone_files}
 use Rattle.gixobj_callers.proofs.Histories.{history_append, history_congruent, same_files_refl, same_files_sym, same_files_trans}
 
 -- a table that agrees with the objects agrees with their trees
-agrees_with_trees : (T : Table) (objects : Objects) (trees : Trees) → AreTreesOf objects trees → AgreesWithObjects T objects → AgreesWithStore T trees
-agrees_with_trees T objects trees fits agrees = λ id entries requested is. agrees id entries requested ((fits id entries).0 is)
+agrees_with_store_of_objects : (T : Table) (objects : Objects) (trees : Trees) → AreTreesOf objects trees → AgreesWithObjects T objects
+    → AgreesWithStore T trees
+agrees_with_store_of_objects T objects trees fits agrees = λ id entries requested is. agrees id entries requested ((fits id entries).0 is)
 
 -- a table that agrees with pairs has the last pair
-pairs_last : (T : Table) (pairs below : List Pair) (pair : Pair) → pairs ≡ below ++ pair ∷ [] → AgreesWithPairs T pairs → T.tree_at pair.0 ≡ Some pair.1
-pairs_last T pairs below pair is agrees =
+tree_at_last_pair : (T : Table) (pairs below : List Pair) (pair : Pair) → pairs ≡ below ++ pair ∷ [] → AgreesWithPairs T pairs → T.tree_at pair.0 ≡ Some pair.1
+tree_at_last_pair T pairs below pair is agrees =
     let Known : Pair → Type 0 = λ p. T.tree_at p.0 ≡ Some p.1 in
     All-contains Known (below ++ pair ∷ []) pair (subst (λ (ps : List Pair). AgreesWithPairs T ps) is agrees) (Contains-push below pair)
 
@@ -56,13 +57,13 @@ module _ {S E : Type 0} (model : StoreModel S) (answers : Answers E) (trees_of :
         → SameFiles (EditorFiles T n new) (FilesAfter T n (steps_if_done it) (EditorFiles T n old))
     edit_files old new (edit.Upsert path kind id) done agrees =
         let trees = trees_of (model.objects old.store) in (done trees.0 trees.1).files T n
-        (agrees_with_trees T (model.objects old.store) trees.0 trees.1 agrees)
+        (agrees_with_store_of_objects T (model.objects old.store) trees.0 trees.1 agrees)
     edit_files old new (edit.Remove path) done agrees =
         let trees = trees_of (model.objects old.store) in (done trees.0 trees.1).files T n
-        (agrees_with_trees T (model.objects old.store) trees.0 trees.1 agrees)
+        (agrees_with_store_of_objects T (model.objects old.store) trees.0 trees.1 agrees)
     edit_files old new (edit.RemoveLeaf path) done agrees =
         let trees = trees_of (model.objects old.store) in (done trees.0 trees.1).removed.files T n
-        (agrees_with_trees T (model.objects old.store) trees.0 trees.1 agrees)
+        (agrees_with_store_of_objects T (model.objects old.store) trees.0 trees.1 agrees)
     edit_files old new edit.Write done agrees = absurd done
 
     -- accepted edits make the files that their steps make
@@ -82,13 +83,13 @@ module _ {S E : Type 0} (model : StoreModel S) (answers : Answers E) (trees_of :
         → HasBases T (open_dirs old) (open_bases old) → HasBases T (open_dirs new) (open_bases new)
     edit_based old new (edit.Upsert path kind id) done agrees has =
         let trees = trees_of (model.objects old.store) in (done trees.0 trees.1).has_bases T
-        (agrees_with_trees T (model.objects old.store) trees.0 trees.1 agrees) has
+        (agrees_with_store_of_objects T (model.objects old.store) trees.0 trees.1 agrees) has
     edit_based old new (edit.Remove path) done agrees has =
         let trees = trees_of (model.objects old.store) in (done trees.0 trees.1).has_bases T
-        (agrees_with_trees T (model.objects old.store) trees.0 trees.1 agrees) has
+        (agrees_with_store_of_objects T (model.objects old.store) trees.0 trees.1 agrees) has
     edit_based old new (edit.RemoveLeaf path) done agrees has =
         let trees = trees_of (model.objects old.store) in (done trees.0 trees.1).removed.has_bases T
-        (agrees_with_trees T (model.objects old.store) trees.0 trees.1 agrees) has
+        (agrees_with_store_of_objects T (model.objects old.store) trees.0 trees.1 agrees) has
     edit_based old new edit.Write done agrees has = absurd done
 
     -- a table that has the bases before accepted edits has them after
@@ -113,7 +114,7 @@ module _ {S E : Type 0} (model : StoreModel S) (answers : Answers E) (trees_of :
         let own = it.written.own in
         let root : SameFiles (EditorFiles T n it.between) (Files T n own) =
         subst (λ (dirs : DirMap). SameFiles (OpenFiles T n (λ path. map.get dirs path)) (Files T n own)) (sym it.written.dirs) (root_alone_files T n own) in
-        let there : T.tree_at written.id ≡ Some own = pairs_last T written.trees.items it.written.below (written.id, own) it.written.last pairs in
+        let there : T.tree_at written.id ≡ Some own = tree_at_last_pair T written.trees.items it.written.below (written.id, own) it.written.last pairs in
         subst (λ (s : State S). SameFiles (EditorFiles T n s) (NamedFiles T n written.id)) (sym it.rest)
         (same_files_trans _ _ _ root (subst
         (λ (found : Option (List EntryView)). SameFiles (Files T n own) (λ path mode id. MatchOption found ⊥ (λ es. Files T n es path mode id))) (sym there)

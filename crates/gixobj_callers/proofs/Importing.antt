@@ -23,15 +23,16 @@ pub position_of_position_or_len : {X : Type 0} (test : X → Bool) (xs : List X)
     → position test xs ≡ Some (position_or_len test xs)
 position_of_position_or_len test xs low = grind arith
 
-same_place : {E : Type 0} (replies shown : List (Reply E)) (index k : ℕ) → shown ≡ replies → Some index ≡ position is_other shown
+position_or_len_eq_position : {E : Type 0} (replies shown : List (Reply E)) (index k : ℕ) → shown ≡ replies → Some index ≡ position is_other shown
     → position_or_len is_other replies ≡ k → k < length replies → k ≡ index
-same_place replies shown index k same found is low =
+position_or_len_eq_position replies shown index k same found is low =
     let first : position_or_len is_other replies < length replies = rw is low in
     cc (found, ap (position is_other) same, position_of_position_or_len is_other replies first, is)
 
-not_missing : {E : Type 0} (replies shown : List (Reply E)) (k : ℕ) → shown ≡ replies → None ≡ position is_other shown → position_or_len is_other replies ≡ k
+position_ne_none_of_lt : {E : Type 0} (replies shown : List (Reply E)) (k : ℕ) → shown ≡ replies → None ≡ position is_other shown
+    → position_or_len is_other replies ≡ k
     → k < length replies → ⊥
-not_missing replies shown k same found is low =
+position_ne_none_of_lt replies shown k same found is low =
     let first : position_or_len is_other replies < length replies = rw is low in
     cc (found, ap (position is_other) same, position_of_position_or_len is_other replies first)
 
@@ -155,7 +156,7 @@ module _ {S E : Type 0} (model : StoreModel S) (answers : Answers E) where
       → reply.Edit r ≡ get_or replies index (reply.Edit r) → Decides model answers old edits index r new
   decides old new edits commands replies shown index r none is run same found at =
       let it = decided old new edits replies (reply.Edit r) none (subst (λ (cs : List Command). IsRun model answers old cs replies new) is run) in
-      let place : it.0 ≡ index = same_place replies shown index it.0 same found it.1 it.2 in
+      let place : it.0 ≡ index = position_or_len_eq_position replies shown index it.0 same found it.1 it.2 in
       subst (λ (k : ℕ). Decides model answers old edits k r new) place
       (it.3 (subst (λ (k : ℕ). get_or replies k (reply.Edit r) ≡ reply.Edit r) (sym place) (sym at)))
 
@@ -164,7 +165,7 @@ module _ {S E : Type 0} (model : StoreModel S) (answers : Answers E) where
       → IsRun model answers old commands replies new → shown ≡ replies → None ≡ position is_other shown → ⊥
   is_found old new edits commands replies shown none is run same found =
       let it = decided old new edits replies reply.RootSet none (subst (λ (cs : List Command). IsRun model answers old cs replies new) is run) in
-      not_missing replies shown it.0 same found it.1 it.2
+      position_ne_none_of_lt replies shown it.0 same found it.1 it.2
 
   pub is_by_an_edit : (old new : State S) (edits : List Edit) (commands : List Command) (replies shown : List (Reply E)) (index : ℕ) (r : Reply E)
       → (Contains edits edit.Write → ⊥) → commands ≡ edits_and_write edits
@@ -172,5 +173,5 @@ module _ {S E : Type 0} (model : StoreModel S) (answers : Answers E) where
       → ((x : EditReply E) → r ≡ reply.Edit x → ⊥) → ⊥
   is_by_an_edit old new edits commands replies shown index r none is run same found at other =
       let it = decided old new edits replies r none (subst (λ (cs : List Command). IsRun model answers old cs replies new) is run) in
-      let place : it.0 ≡ index = same_place replies shown index it.0 same found it.1 it.2 in
+      let place : it.0 ≡ index = position_or_len_eq_position replies shown index it.0 same found it.1 it.2 in
       by_an_edit old new edits it.0 r other (it.3 (subst (λ (k : ℕ). get_or replies k r ≡ r) (sym place) (sym at)))

@@ -42,33 +42,33 @@ HasFolded lines = (before : Lines) × (line : List ℕ) × (after : Lines) × (l
 has_folded_cons : (line : List ℕ) (lines : Lines) → HasFolded lines → HasFolded (line ∷ lines)
 has_folded_cons line lines (before, one, after, is, folds) = (line ∷ before, one, after, ap (λ (rest : Lines). line ∷ rest) is, folds)
 
-has_folded_by : (b : Bool) (line : List ℕ) (lines : Lines) → is_continuation_line line ≡ b
+has_folded_cons_of_test : (b : Bool) (line : List ℕ) (lines : Lines) → is_continuation_line line ≡ b
     → has_lines (cond b (line ∷ take_while is_continuation_line lines) []) ≡ true
     → HasFolded (line ∷ lines)
-has_folded_by true line lines is some = ([], line, lines, refl, is)
-has_folded_by false line lines is some = absurd (cc some)
+has_folded_cons_of_test true line lines is some = ([], line, lines, refl, is)
+has_folded_cons_of_test false line lines is some = absurd (cc some)
 
-has_folded_first : (lines : Lines) → has_lines (take_while is_continuation_line lines) ≡ true → HasFolded lines
-has_folded_first [] some = absurd (cc some)
-has_folded_first (line ∷ lines) some =
-    has_folded_by (is_continuation_line line) line lines refl (sym (ap has_lines (take_while-cons is_continuation_line line lines)) ∙ some)
+has_folded_of_take_while : (lines : Lines) → has_lines (take_while is_continuation_line lines) ≡ true → HasFolded lines
+has_folded_of_take_while [] some = absurd (cc some)
+has_folded_of_take_while (line ∷ lines) some =
+    has_folded_cons_of_test (is_continuation_line line) line lines refl (sym (ap has_lines (take_while-cons is_continuation_line line lines)) ∙ some)
 
-has_folded_after : (b : Bool) (line : List ℕ) (lines : Lines) → (first_is_folded lines ≡ true → HasFolded lines)
+has_folded_cons_of_cond : (b : Bool) (line : List ℕ) (lines : Lines) → (first_is_folded lines ≡ true → HasFolded lines)
     → cond b (has_lines (take_while is_continuation_line lines)) (first_is_folded lines) ≡ true → HasFolded (line ∷ lines)
-has_folded_after true line lines later is = has_folded_cons line lines (has_folded_first lines is)
-has_folded_after false line lines later is = has_folded_cons line lines (later is)
+has_folded_cons_of_cond true line lines later is = has_folded_cons line lines (has_folded_of_take_while lines is)
+has_folded_cons_of_cond false line lines later is = has_folded_cons line lines (later is)
 
-has_folded : (lines : Lines) → first_is_folded lines ≡ true → HasFolded lines
-has_folded [] is = absurd (cc is)
-has_folded (line ∷ lines) is = has_folded_after (is_trailer_line line) line lines (has_folded lines) is
+has_folded_of_first_is_folded : (lines : Lines) → first_is_folded lines ≡ true → HasFolded lines
+has_folded_of_first_is_folded [] is = absurd (cc is)
+has_folded_of_first_is_folded (line ∷ lines) is = has_folded_cons_of_cond (is_trailer_line line) line lines (has_folded_of_first_is_folded lines) is
 
 -- ---- the remaining lines
 
-last_lines_of_yields : (start : Trailers) (seen : List TrailerRef) (at : Trailers) → Yields NextTrailer start (map (λ it. Ok it) seen) at
+has_last_lines_of_yields : (start : Trailers) (seen : List TrailerRef) (at : Trailers) → Yields NextTrailer start (map (λ it. Ok it) seen) at
     → HasLastLines (remaining_bytes start) (remaining_bytes at)
-last_lines_of_yields start [] at same = record { skipped = []; joined = ap (λ (it : Trailers). lines_of (remaining_bytes it)) same }
-last_lines_of_yields start (one ∷ seen) at (middle, step, more) =
-    let rest = last_lines_of_yields middle seen at more in
+has_last_lines_of_yields start [] at same = record { skipped = []; joined = ap (λ (it : Trailers). lines_of (remaining_bytes it)) same }
+has_last_lines_of_yields start (one ∷ seen) at (middle, step, more) =
+    let rest = has_last_lines_of_yields middle seen at more in
     record {
       skipped = step.3.skipped ++ rest.skipped;
       joined = step.3.joined ∙ ap (λ (lines : Lines). step.3.skipped ++ lines) rest.joined
@@ -78,8 +78,8 @@ last_lines_of_yields start (one ∷ seen) at (middle, step, more) =
 pub has_continued_line : (message : List ℕ) (start : Trailers) (seen : List TrailerRef) (at : Trailers) → HasTrailerBlock message (remaining_bytes start)
     → Yields NextTrailer start (map (λ it. Ok it) seen) at → next_is_folded at ≡ true → HasContinuedLine message
 has_continued_line message start seen at block yields folded =
-    let last = last_lines_of_yields start seen at yields in
-    let it = has_folded (lines_of (remaining_bytes at)) folded in
+    let last = has_last_lines_of_yields start seen at yields in
+    let it = has_folded_of_first_is_folded (lines_of (remaining_bytes at)) folded in
     record {
       block = remaining_bytes start;
       before = last.skipped ++ it.0;

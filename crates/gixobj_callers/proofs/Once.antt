@@ -38,50 +38,56 @@ pub starts_map_under : (P : List ℕ → Type 0) (name : List ℕ) (paths : List
 starts_map_under P name [] is = tt
 starts_map_under P name (path ∷ paths) is = ((name, path, is, refl), starts_map_under P name paths is)
 
-other_under : (name : List ℕ) (path : Path) (paths : List Path) → AllByRecursion (λ (q : Path). path ≢ q) paths
+all_paths_differ_map_under : (name : List ℕ) (path : Path) (paths : List Path) → AllByRecursion (λ (q : Path). path ≢ q) paths
     → AllByRecursion (λ (q : Path). (name ∷ path) ≢ q) (map (under name) paths)
-other_under name path [] others = tt
-other_under name path (q ∷ paths) others = ((λ same. others.0 (cc same)), other_under name path paths others.1)
+all_paths_differ_map_under name path [] others = tt
+all_paths_differ_map_under name path (q ∷ paths) others = ((λ same. others.0 (cc same)), all_paths_differ_map_under name path paths others.1)
 
-once_under : (name : List ℕ) (paths : List Path) → Once paths → Once (map (under name) paths)
-once_under name [] once = tt
-once_under name (path ∷ paths) once = (other_under name path paths once.0, once_under name paths once.1)
+once_map_under : (name : List ℕ) (paths : List Path) → Once paths → Once (map (under name) paths)
+once_map_under name [] once = tt
+once_map_under name (path ∷ paths) once = (all_paths_differ_map_under name path paths once.0, once_map_under name paths once.1)
 
-once_joined : (xs ys : List Path) → Once xs → Once ys → AllByRecursion (λ (x : Path). AllByRecursion (λ (y : Path). x ≢ y) ys) xs → Once (xs ++ ys)
-once_joined [] ys once_x once_y apart = once_y
-once_joined (x ∷ xs) ys once_x once_y apart = (all_joined (λ (y : Path). x ≢ y) xs ys once_x.0 apart.0, once_joined xs ys once_x.1 once_y apart.1)
+once_append : (xs ys : List Path) → Once xs → Once ys → AllByRecursion (λ (x : Path). AllByRecursion (λ (y : Path). x ≢ y) ys) xs → Once (xs ++ ys)
+once_append [] ys once_x once_y apart = once_y
+once_append (x ∷ xs) ys once_x once_y apart = (all_joined (λ (y : Path). x ≢ y) xs ys once_x.0 apart.0, once_append xs ys once_x.1 once_y apart.1)
 
 -- a path that begins with a name differs from each that begins with another
-apart_from : (name : List ℕ) (path : Path) (paths : List Path) → Starts (λ other. other ≢ name) paths → AllByRecursion (λ (q : Path). (name ∷ path) ≢ q) paths
-apart_from name path [] starts = tt
-apart_from name path (q ∷ paths) ((other, rest, differs, is), starts) =
-    ((λ same. let both : name ∷ path ≡ other ∷ rest = same ∙ is in differs (cc both)), apart_from name path paths starts)
+all_paths_differ_of_starts : (name : List ℕ) (path : Path) (paths : List Path) → Starts (λ other. other ≢ name) paths
+    → AllByRecursion (λ (q : Path). (name ∷ path) ≢ q) paths
+all_paths_differ_of_starts name path [] starts = tt
+all_paths_differ_of_starts name path (q ∷ paths) ((other, rest, differs, is), starts) =
+    ((λ same. let both : name ∷ path ≡ other ∷ rest = same ∙ is in differs (cc both)), all_paths_differ_of_starts name path paths starts)
 
-all_apart : (name : List ℕ) (paths others : List Path) → Starts (λ other. other ≢ name) others
+under_paths_differ_of_starts : (name : List ℕ) (paths others : List Path) → Starts (λ other. other ≢ name) others
     → AllByRecursion (λ (x : Path). AllByRecursion (λ (y : Path). x ≢ y) others) (map (under name) paths)
-all_apart name [] others starts = tt
-all_apart name (path ∷ paths) others starts = (apart_from name path others starts, all_apart name paths others starts)
+under_paths_differ_of_starts name [] others starts = tt
+under_paths_differ_of_starts name (path ∷ paths) others starts = (
+  all_paths_differ_of_starts name path others starts,
+  under_paths_differ_of_starts name paths
+      others starts,
+)
 
 -- the paths below a directory of this name, that directory at most once, and the paths below others
 pub once_under_append : (P : List ℕ → Type 0) (name : List ℕ) (low late : List Path) → Once low → Once late → Starts (λ other. other ≢ name) late
     → Once (map (under name) low ++ late)
-once_under_append P name low late once_low once_late starts = once_joined (map (under name) low) late (once_under name low once_low) once_late
-    (all_apart name low late starts)
+once_under_append P name low late once_low once_late starts = once_append (map (under name) low) late (once_map_under name low once_low) once_late
+    (under_paths_differ_of_starts name low late starts)
 
-bare_apart : (P : List ℕ → Type 0) (name : List ℕ) (paths others : List Path) → Starts P paths → Starts (λ other. other ≢ name) others
+under_paths_differ_of_name_and_starts : (P : List ℕ → Type 0) (name : List ℕ) (paths others : List Path) → Starts P paths
+    → Starts (λ other. other ≢ name) others
     → AllByRecursion (λ (x : Path). AllByRecursion (λ (y : Path). x ≢ y) ((name ∷ []) ∷ others)) (map (under name) paths)
-bare_apart P name [] others starts apart = tt
-bare_apart P name (path ∷ paths) others ((first, rest, holds, is), starts) apart = (
-  ((λ same. let bare : path ≡ [] = cc same in let none : first ∷ rest ≡ [] = sym is ∙ bare in cc none), apart_from name path others apart),
-  bare_apart P name paths others starts apart,
+under_paths_differ_of_name_and_starts P name [] others starts apart = tt
+under_paths_differ_of_name_and_starts P name (path ∷ paths) others ((first, rest, holds, is), starts) apart = (
+  ((λ same. let bare : path ≡ [] = cc same in let none : first ∷ rest ≡ [] = sym is ∙ bare in cc none), all_paths_differ_of_starts name path others apart),
+  under_paths_differ_of_name_and_starts P name paths others starts apart,
 )
 
 pub once_under_append_name : (P : List ℕ → Type 0) (name : List ℕ) (low late : List Path) → Once low → Starts P low → Once late
     → Starts (λ other. other ≢ name) late
     → Once (map (under name) low ++ (name ∷ []) ∷ late)
 once_under_append_name P name low late once_low deeper once_late starts =
-    once_joined (map (under name) low) ((name ∷ []) ∷ late) (once_under name low once_low) (apart_from name [] late starts, once_late)
-    (bare_apart P name low late deeper starts)
+    once_append (map (under name) low) ((name ∷ []) ∷ late) (once_map_under name low once_low) (all_paths_differ_of_starts name [] late starts, once_late)
+    (under_paths_differ_of_name_and_starts P name low late deeper starts)
 
 -- the names of later entries differ
 pub entry_name_ne : (e : EntryView) (rest : List EntryView) → AllByRecursion (λ (x : EntryView). e.name ≢ x.name) rest → (name : List ℕ) → IsOf rest name

@@ -19,47 +19,48 @@ use Rattle.gixobj_callers.specs.declared.rebuilder.CompareError.TheVariants as c
 use Rattle.gix_object.specs.Stores.{StoreModel}
 
 -- a prefix of the replies reports the same writes at its indices
-written_prefix : {E : Type 0} (m k : ℕ) (replies : List (Reply E)) → k < m → written_at (take m replies) k ≡ written_at replies k
-written_prefix zero k replies low = absurd (omega (arith, low))
-written_prefix (suc m) k [] low = refl
-written_prefix (suc m) zero (r ∷ replies) low = refl
-written_prefix (suc m) (suc k) (r ∷ replies) low = written_prefix m k replies (omega (arith, low))
+written_at_take : {E : Type 0} (m k : ℕ) (replies : List (Reply E)) → k < m → written_at (take m replies) k ≡ written_at replies k
+written_at_take zero k replies low = absurd (omega (arith, low))
+written_at_take (suc m) k [] low = refl
+written_at_take (suc m) zero (r ∷ replies) low = refl
+written_at_take (suc m) (suc k) (r ∷ replies) low = written_at_take m k replies (omega (arith, low))
 
 -- the write that the reply at an index reports
-at_place : {E : Type 0} (replies : List (Reply E)) (k : ℕ) (r : Reply E) → k < length replies → r ≡ get_or replies k r
+written_at_of_reply : {E : Type 0} (replies : List (Reply E)) (k : ℕ) (r : Reply E) → k < length replies → r ≡ get_or replies k r
     → written_at replies k ≡ written_by r
-at_place [] k r low is = absurd (omega (arith, low))
-at_place (x ∷ replies) zero r low is = ap written_by (sym is)
-at_place (x ∷ replies) (suc k) r low is = at_place replies k r (omega (arith, low)) is
+written_at_of_reply [] k r low is = absurd (omega (arith, low))
+written_at_of_reply (x ∷ replies) zero r low is = ap written_by (sym is)
+written_at_of_reply (x ∷ replies) (suc k) r low is = written_at_of_reply replies k r (omega (arith, low)) is
 
 pub written_at_none_past_end : {E : Type 0} (replies : List (Reply E)) (k : ℕ) → length replies ≤ k → written_at replies k ≡ None
 written_at_none_past_end [] k past = refl
 written_at_none_past_end (x ∷ replies) zero past = absurd (omega (arith, past))
 written_at_none_past_end (x ∷ replies) (suc k) past = written_at_none_past_end replies k (omega (arith, past))
 
-named_by : (seen : Option Written) (id : ObjectId) → Some id ≡ id_named seen → (written : Written) × (seen ≡ Some written) × (written.id ≡ id)
-named_by None id is = absurd (cc is)
-named_by (Some written) id is = (written, refl, cc is)
+written_of_id_named : (seen : Option Written) (id : ObjectId) → Some id ≡ id_named seen → (written : Written) × (seen ≡ Some written) × (written.id ≡ id)
+written_of_id_named None id is = absurd (cc is)
+written_of_id_named (Some written) id is = (written, refl, cc is)
 
-not_named : (seen : Option Written) → None ≡ id_named seen → seen ≡ None
-not_named None is = refl
-not_named (Some written) is = absurd (cc is)
+none_of_id_named_none : (seen : Option Written) → None ≡ id_named seen → seen ≡ None
+none_of_id_named_none None is = refl
+none_of_id_named_none (Some written) is = absurd (cc is)
 
 pub names_written_of_reply : {E : Type 0} (replies : List (Reply E)) (k : ℕ) (r : Reply E) (id : ObjectId) → k < length replies → r ≡ get_or replies k r
     → Some id ≡ id_named (written_by r) → NamesWritten replies k id
-names_written_of_reply replies k r id low is seen = let it = named_by (written_by r) id seen in (it.0, at_place replies k r low is ∙ it.1, it.2)
+names_written_of_reply replies k r id low is seen = let it = written_of_id_named (written_by r) id seen in
+    (it.0, written_at_of_reply replies k r low is ∙ it.1, it.2)
 
 pub written_at_none_of_failure : {E : Type 0} (replies : List (Reply E)) (k : ℕ) (r : Reply E) → k < length replies → r ≡ get_or replies k r
     → None ≡ id_named (written_by r)
     → written_at replies k ≡ None
-written_at_none_of_failure replies k r low is seen = at_place replies k r low is ∙ not_named (written_by r) seen
+written_at_none_of_failure replies k r low is seen = written_at_of_reply replies k r low is ∙ none_of_id_named_none (written_by r) seen
 
 -- a prefix of a prefix is a prefix
-first_of_first : {A : Type 0} (k m : ℕ) (xs : List A) → k < m → take k (take m xs) ≡ take k xs
-first_of_first zero m xs low = refl
-first_of_first (suc k) zero xs low = absurd (omega (arith, low))
-first_of_first (suc k) (suc m) [] low = refl
-first_of_first {A} (suc k) (suc m) (x ∷ xs) low = ap (λ (l : List A). x ∷ l) (first_of_first k m xs (omega (arith, low)))
+take_take : {A : Type 0} (k m : ℕ) (xs : List A) → k < m → take k (take m xs) ≡ take k xs
+take_take zero m xs low = refl
+take_take (suc k) zero xs low = absurd (omega (arith, low))
+take_take (suc k) (suc m) [] low = refl
+take_take {A} (suc k) (suc m) (x ∷ xs) low = ap (λ (l : List A). x ∷ l) (take_take k m xs (omega (arith, low)))
 
 module _ {S E : Type 0} (model : StoreModel S) (commands : List Command) (start : State S) (replies : List (Reply E)) where
   -- in each prefix of the run ids determine files
@@ -69,8 +70,8 @@ module _ {S E : Type 0} (model : StoreModel S) (commands : List Command) (start 
 
   steps_prefix : (m k : ℕ) → k < m → accepted_steps (take k (take m commands)) (take k (take m replies)) ≡ accepted_steps (take k commands)
       (take k replies)
-  steps_prefix m k low = ap (λ (cs : List Command). accepted_steps cs (take k (take m replies))) (first_of_first k m commands low)
-      ∙ ap (λ (rs : List (Reply E)). accepted_steps (take k commands) rs) (first_of_first k m replies low)
+  steps_prefix m k low = ap (λ (cs : List Command). accepted_steps cs (take k (take m replies))) (take_take k m commands low)
+      ∙ ap (λ (rs : List (Reply E)). accepted_steps (take k commands) rs) (take_take k m replies low)
 
   -- ids determine files for the writes at two indices
   known_at : OneId → (T : Table) (k l : ℕ) → IsPlainRun T (model.objects start.store) start (take (up_to k l) commands) (take (up_to k l) replies)
@@ -78,8 +79,8 @@ module _ {S E : Type 0} (model : StoreModel S) (commands : List Command) (start 
       → (first.id ≡ second.id) ↔ SameFiles (files_before k commands replies) (files_before l commands replies)
   known_at one_id T k l plain first second at_first at_second =
       let m = up_to k l in
-      let of_prefix = one_id T m plain k l first second (written_prefix m k replies (omega arith) ∙ at_first)
-      (written_prefix m l replies (omega arith) ∙ at_second) in
+      let of_prefix = one_id T m plain k l first second (written_at_take m k replies (omega arith) ∙ at_first)
+      (written_at_take m l replies (omega arith) ∙ at_second) in
       subst (λ (steps : List Step). (first.id ≡ second.id) ↔ SameFiles (files_before k commands replies) (PlainFilesAfter steps NoFiles))
       (steps_prefix m l (omega arith))
       (subst (λ (steps : List Step). (first.id ≡ second.id) ↔ SameFiles (PlainFilesAfter steps NoFiles)

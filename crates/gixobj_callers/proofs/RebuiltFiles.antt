@@ -26,10 +26,10 @@ use Rattle.gixobj_callers.specs.declared.rebuilder.CompareError.{CompareError}
 use Rattle.gixobj_callers.specs.declared.rebuilder.CompareError.TheVariants as compare
 
 -- the empty tree has no files
-empty_has_no_files : (T : Table) (n : ℕ) → SameFiles (Files T n []) NoFiles
-empty_has_no_files T zero path mode id = ((λ h. absurd h), λ h. absurd h)
-empty_has_no_files T (suc n) [] mode id = ((λ h. absurd h), λ h. absurd h)
-empty_has_no_files T (suc n) (name ∷ path) mode id = ((λ h. absurd h.1), λ h. absurd h)
+files_of_nil : (T : Table) (n : ℕ) → SameFiles (Files T n []) NoFiles
+files_of_nil T zero path mode id = ((λ h. absurd h), λ h. absurd h)
+files_of_nil T (suc n) [] mode id = ((λ h. absurd h), λ h. absurd h)
+files_of_nil T (suc n) (name ∷ path) mode id = ((λ h. absurd h.1), λ h. absurd h)
 
 -- the law that some table agrees with a run
 abbrev SomeTable : {E : Type 0} → List (Reply E) → Type 0
@@ -55,7 +55,7 @@ module _ {S E : Type 0} (model : StoreModel S) (answers : Answers E) (store : S)
       (some_table : SomeTable replies) (writes_agree : WritesAgree replies) where
     without_files : (T : Table) (n : ℕ) → SameFiles (EditorFiles T n start) NoFiles
     without_files T n = same_files_trans _ _ _ (subst (λ (es : List EntryView). SameFiles (EditorFiles T n start) (Files T n es)) is_empty (begun T n))
-        (empty_has_no_files T n)
+        (files_of_nil T n)
 
     files_of_written : (written : Written) → written_at replies place ≡ Some written
         → OfTrees (model.objects store) (λ trees. IsConsistentRun replies trees → HasFilesInTable (model.objects store) commands replies place written.id)
@@ -63,7 +63,8 @@ module _ {S E : Type 0} (model : StoreModel S) (answers : Answers E) (store : S)
         let found = some_table (model.objects store) trees fits consistent.emitted consistent.kept in
         let parts = writes_agree found.0 (model.objects store) place written found.1 at in
         let steps = accepted_steps (take place commands) (take place replies) in
-        let before = subst (λ (s : S). AgreesWithRun found.0 (model.objects s) (take place replies)) (sym (ap (λ (state : State S). state.store) new)) parts.0 in
+        let before = subst (λ (s : S). AgreesWithRun found.0 (model.objects s) (take place replies))
+        (sym (ap (λ (state : State S). state.store) new)) parts.0 in
         record {
           table = found.0;
           agrees = found.1;

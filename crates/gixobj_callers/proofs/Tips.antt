@@ -31,15 +31,15 @@ record LastStep (hash : hash.Kind) (steps : List Step) (earlier : List Imported)
   one_each : length earlier ≡ length before
   commit : IsOfStep hash last tip
 
-last_step : (hash : hash.Kind) (parent : Option ObjectId) (steps : List Step) (earlier : List Imported) (tip : Imported) (final : Objects)
+last_step_of_commits : (hash : hash.Kind) (parent : Option ObjectId) (steps : List Step) (earlier : List Imported) (tip : Imported) (final : Objects)
     → AreCommitsOf hash parent steps (earlier ++ tip ∷ []) final → LastStep hash steps earlier tip
-last_step hash parent [] [] tip final are = absurd are
-last_step hash parent [] (it ∷ earlier) tip final are = absurd are
-last_step hash parent (step ∷ []) [] tip final are =
+last_step_of_commits hash parent [] [] tip final are = absurd are
+last_step_of_commits hash parent [] (it ∷ earlier) tip final are = absurd are
+last_step_of_commits hash parent (step ∷ []) [] tip final are =
     record { before = []; last = step; all = refl; one_each = refl; commit = record { parent = parent; id = are.0.id; decodes = are.0.decodes } }
-last_step hash parent (step ∷ next ∷ steps) [] tip final are = absurd are.1
-last_step hash parent (step ∷ steps) (it ∷ earlier) tip final are =
-    let later = last_step hash (Some it.commit) steps earlier tip final are.1 in
+last_step_of_commits hash parent (step ∷ next ∷ steps) [] tip final are = absurd are.1
+last_step_of_commits hash parent (step ∷ steps) (it ∷ earlier) tip final are =
+    let later = last_step_of_commits hash (Some it.commit) steps earlier tip final are.1 in
     record {
       before = step ∷ later.before;
       last = later.last;
@@ -48,15 +48,15 @@ last_step hash parent (step ∷ steps) (it ∷ earlier) tip final are =
       commit = later.commit;
     }
 
-found_last : (earlier : List Imported) (tip : Imported) → slice_get (earlier ++ tip ∷ []) (length earlier) ≡ Some tip
-found_last [] tip = refl
-found_last (it ∷ earlier) tip = found_last earlier tip
+slice_get_snoc_last : (earlier : List Imported) (tip : Imported) → slice_get (earlier ++ tip ∷ []) (length earlier) ≡ Some tip
+slice_get_snoc_last [] tip = refl
+slice_get_snoc_last (it ∷ earlier) tip = slice_get_snoc_last earlier tip
 
 pub is_tip_of_last_import : (objects final : Objects) (hash : hash.Kind) (steps : List Step) (imported earlier : List Imported) (tip : Imported)
     → imported ≡ earlier ++ tip ∷ [] → AreCommitsOf hash None steps imported final
     → HaveFilesOfNothing objects steps imported → IsTip objects hash steps tip
 is_tip_of_last_import objects final hash steps imported earlier tip is commits files =
-    let last = last_step hash None steps earlier tip final (subst (λ (all : List Imported). AreCommitsOf hash None steps all final) is commits) in
+    let last = last_step_of_commits hash None steps earlier tip final (subst (λ (all : List Imported). AreCommitsOf hash None steps all final) is commits) in
     let count : length steps ≡ suc (length earlier) = ap length last.all ∙ length-append last.before (last.last ∷ []) ∙ omega (arith, last.one_each) in
     record {
       before = last.before;
@@ -68,7 +68,7 @@ is_tip_of_last_import objects final hash steps imported earlier tip is commits f
       files = λ T n agrees.
           subst (λ (ss : List Step). SameFiles (NamedFiles T n tip.written.id) (FilesAfter T n (edits_of ss) NoFiles))
           (take_all (suc (length earlier)) steps (omega (arith, count)))
-          (subst (λ (all : List Imported). HaveFilesOfNothing objects steps all) is files T n agrees (length earlier) tip (found_last earlier tip));
+          (subst (λ (all : List Imported). HaveFilesOfNothing objects steps all) is files T n agrees (length earlier) tip (slice_get_snoc_last earlier tip));
     }
 
 -- the item that was removed from the end of the list, if there was one

@@ -20,18 +20,18 @@ contains_map f xs x (k, low, there) =
     let short : k < length (map f xs) = rw length-map low in
     (k, short, get_or-map f xs k x (f x) low ∙ ap f there)
 
-no_last : (xs : List Pair) (x : Pair) → [] ≡ xs ++ x ∷ [] → ⊥
-no_last [] x is = cc is
-no_last (y ∷ xs) x is = cc is
+nil_ne_snoc : (xs : List Pair) (x : Pair) → [] ≡ xs ++ x ∷ [] → ⊥
+nil_ne_snoc [] x is = cc is
+nil_ne_snoc (y ∷ xs) x is = cc is
 
-last_same : (xs ys : List Pair) (x y : Pair) → xs ++ x ∷ [] ≡ ys ++ y ∷ [] → (xs ≡ ys) × (x ≡ y)
-last_same [] [] x y is = (refl, cc is)
-last_same [] (b ∷ ys) x y is = let rest : [] ≡ ys ++ y ∷ [] = cc is in absurd (no_last ys y rest)
-last_same (a ∷ xs) [] x y is = let rest : [] ≡ xs ++ x ∷ [] = cc is in absurd (no_last xs x rest)
-last_same (a ∷ xs) (b ∷ ys) x y is =
+snoc_injective : (xs ys : List Pair) (x y : Pair) → xs ++ x ∷ [] ≡ ys ++ y ∷ [] → (xs ≡ ys) × (x ≡ y)
+snoc_injective [] [] x y is = (refl, cc is)
+snoc_injective [] (b ∷ ys) x y is = let rest : [] ≡ ys ++ y ∷ [] = cc is in absurd (nil_ne_snoc ys y rest)
+snoc_injective (a ∷ xs) [] x y is = let rest : [] ≡ xs ++ x ∷ [] = cc is in absurd (nil_ne_snoc xs x rest)
+snoc_injective (a ∷ xs) (b ∷ ys) x y is =
     let first : a ≡ b = cc is in
     let rest : xs ++ x ∷ [] ≡ ys ++ y ∷ [] = cc is in
-    let later = last_same xs ys x y rest in
+    let later = snoc_injective xs ys x y rest in
     (cc (first, later.0), later.1)
 
 -- ---- open directories are in open directories
@@ -44,16 +44,16 @@ Closed dirs = (path : Path) (name : List ℕ) (entries : List EntryView) → dir
 abbrev IsOpen : Dirs → Path → Type 0
 IsOpen dirs path = (entries : List EntryView) × (dirs path ≡ Some entries)
 
-has_some : (at : Option (List EntryView)) (e : EntryView) → HasAt at e → (entries : List EntryView) × (at ≡ Some entries)
-has_some None e has = absurd has
-has_some (Some entries) e has = (entries, refl)
+some_of_has_at : (at : Option (List EntryView)) (e : EntryView) → HasAt at e → (entries : List EntryView) × (at ≡ Some entries)
+some_of_has_at None e has = absurd has
+some_of_has_at (Some entries) e has = (entries, refl)
 
-root_open : (path : Path) (dirs : Dirs) (entries : List EntryView) → Closed dirs → dirs path ≡ Some entries → IsOpen dirs []
-root_open [] dirs entries closed is = (entries, is)
-root_open (name ∷ path) dirs entries closed is =
-    let below : IsOpen (in_dir name dirs) [] = root_open path (in_dir name dirs) entries (λ at. closed (name ∷ at)) is in
+root_is_open_of_closed : (path : Path) (dirs : Dirs) (entries : List EntryView) → Closed dirs → dirs path ≡ Some entries → IsOpen dirs []
+root_is_open_of_closed [] dirs entries closed is = (entries, is)
+root_is_open_of_closed (name ∷ path) dirs entries closed is =
+    let below : IsOpen (in_dir name dirs) [] = root_is_open_of_closed path (in_dir name dirs) entries (λ at. closed (name ∷ at)) is in
     let it = closed [] name below.0 below.1 in
-    has_some (dirs []) it.0 it.1
+    some_of_has_at (dirs []) it.0 it.1
 
 -- ---- a directory in a longer list of pairs
 
@@ -140,13 +140,13 @@ AreNamedApart entries = EachLater (λ (x : EntryView) (y : EntryView). x.name �
 abbrev inside : List ℕ → Sent → Sent
 inside name it = record { path = name ∷ it.path; pair = it.pair }
 
-pairs_inside : (name : List ℕ) (sent : List Sent) → map loose_pair_of (map (inside name) sent) ≡ map loose_pair_of sent
-pairs_inside name [] = refl
-pairs_inside name (it ∷ sent) = ap (λ (ps : List Pair). it.pair ∷ ps) (pairs_inside name sent)
+loose_pairs_map_inside : (name : List ℕ) (sent : List Sent) → map loose_pair_of (map (inside name) sent) ≡ map loose_pair_of sent
+loose_pairs_map_inside name [] = refl
+loose_pairs_map_inside name (it ∷ sent) = ap (λ (ps : List Pair). it.pair ∷ ps) (loose_pairs_map_inside name sent)
 
-paths_inside : (name : List ℕ) (sent : List Sent) → map path_of (map (inside name) sent) ≡ map (under name) (map path_of sent)
-paths_inside name [] = refl
-paths_inside name (it ∷ sent) = ap (λ (ps : List Path). (name ∷ it.path) ∷ ps) (paths_inside name sent)
+paths_map_inside : (name : List ℕ) (sent : List Sent) → map path_of (map (inside name) sent) ≡ map (under name) (map path_of sent)
+paths_map_inside name [] = refl
+paths_map_inside name (it ∷ sent) = ap (λ (ps : List Path). (name ∷ it.path) ∷ ps) (paths_map_inside name sent)
 
 -- ---- the directories in one, that one, and those after it
 
@@ -184,7 +184,7 @@ module _ (dirs bases : Dirs) (name : List ℕ) where
 
     all_of_them : pairs ≡ map loose_pair_of (map (inside name) in_it.sent ++ (here ++ after.sent))
     all_of_them =
-        let first : inner ≡ map loose_pair_of (map (inside name) in_it.sent) = in_it.entire ∙ sym (pairs_inside name in_it.sent) in
+        let first : inner ≡ map loose_pair_of (map (inside name) in_it.sent) = in_it.entire ∙ sym (loose_pairs_map_inside name in_it.sent) in
         let apart : map loose_pair_of (map (inside name) in_it.sent ++ (here ++ after.sent)) ≡ map loose_pair_of (map (inside name) in_it.sent)
         ++ (map loose_pair_of here ++ map loose_pair_of after.sent) = simp map-append in
         cc (is, first, after.entire, apart)
@@ -259,7 +259,7 @@ module _ (dirs bases : Dirs) (name : List ℕ) where
     paths_joined =
         let apart : map path_of (map (inside name) in_it.sent ++ (here ++ after.sent)) ≡ map path_of (map (inside name) in_it.sent)
         ++ (map path_of here ++ map path_of after.sent) = simp map-append in
-        apart ∙ ap (λ (ps : List Path). ps ++ (map path_of here ++ map path_of after.sent)) (paths_inside name in_it.sent)
+        apart ∙ ap (λ (ps : List Path). ps ++ (map path_of here ++ map path_of after.sent)) (paths_map_inside name in_it.sent)
 
     once_joined : (e : EntryView) (rest : List EntryView) → e.name ≡ name → AllByRecursion (λ (x : EntryView). e.name ≢ x.name) rest
         → IsPerhaps name (map path_of here) → IsPerhaps name kept
@@ -285,22 +285,22 @@ module _ (dirs bases : Dirs) (name : List ℕ) where
 
 -- ---- all directories of a write
 
-own_here : (dirs bases : Dirs) (name : List ℕ) (inner back : List Pair) (own : List EntryView) (count : ℕ)
+written_tree_in_dir : (dirs bases : Dirs) (name : List ℕ) (inner back : List Pair) (own : List EntryView) (count : ℕ)
     → EmitsBelow (in_dir name dirs) (in_dir name bases) inner own count → IsOwnTree dirs bases (inner ++ back) (name ∷ []) own
-own_here dirs bases name inner back own count it = record { prefix = []; below = inner; back = back; count = count; place = refl; emits = it }
+written_tree_in_dir dirs bases name inner back own count it = record { prefix = []; below = inner; back = back; count = count; place = refl; emits = it }
 
-none_changed : (dirs bases : Dirs) (pairs : List Pair) → All (IsChanged dirs bases pairs) []
-none_changed dirs bases pairs = All-nil (IsChanged dirs bases pairs)
+all_changed_nil : (dirs bases : Dirs) (pairs : List Pair) → All (IsChanged dirs bases pairs) []
+all_changed_nil dirs bases pairs = All-nil (IsChanged dirs bases pairs)
 
-none_unchanged : (dirs bases : Dirs) (pairs : List Pair) → All (IsUnchanged dirs bases pairs) []
-none_unchanged dirs bases pairs = All-nil (IsUnchanged dirs bases pairs)
+all_unchanged_nil : (dirs bases : Dirs) (pairs : List Pair) → All (IsUnchanged dirs bases pairs) []
+all_unchanged_nil dirs bases pairs = All-nil (IsUnchanged dirs bases pairs)
 
-one_changed : (dirs bases : Dirs) (pairs : List Pair) (it : Sent) → IsChanged dirs bases pairs it → All (IsChanged dirs bases pairs) (it ∷ [])
-one_changed dirs bases pairs it changed = All-cons (IsChanged dirs bases pairs) it [] changed (none_changed dirs bases pairs)
+all_changed_singleton : (dirs bases : Dirs) (pairs : List Pair) (it : Sent) → IsChanged dirs bases pairs it → All (IsChanged dirs bases pairs) (it ∷ [])
+all_changed_singleton dirs bases pairs it changed = All-cons (IsChanged dirs bases pairs) it [] changed (all_changed_nil dirs bases pairs)
 
-one_unchanged : (dirs bases : Dirs) (pairs : List Pair) (path : Path) → IsUnchanged dirs bases pairs path
+all_unchanged_singleton : (dirs bases : Dirs) (pairs : List Pair) (path : Path) → IsUnchanged dirs bases pairs path
     → All (IsUnchanged dirs bases pairs) (path ∷ [])
-one_unchanged dirs bases pairs path same = All-cons (IsUnchanged dirs bases pairs) path [] same (none_unchanged dirs bases pairs)
+all_unchanged_singleton dirs bases pairs path same = All-cons (IsUnchanged dirs bases pairs) path [] same (all_unchanged_nil dirs bases pairs)
 
 mutual
   emits_below_parted : (dirs bases : Dirs) (pairs : List Pair) (own : List EntryView) (saved : ℕ) → EmitsBelow dirs bases pairs own saved
@@ -309,7 +309,7 @@ mutual
       let it = walk_parted d b entries below os n walk in (
         it.0,
         λ closed name path there open_there.
-            let first = root_open path (in_dir name d) there (λ at. closed (name ∷ at)) open_there in
+            let first = root_is_open_of_closed path (in_dir name d) there (λ at. closed (name ∷ at)) open_there in
             let (e, has, named) = closed [] name first.0 first.1 in
             let one : ContainsEntry entries e = subst (λ (found : Option (List EntryView)). HasAt found e) is has in
             subst (λ (n : List ℕ). IsSorted d b below it.0.sent it.0.spared (n ∷ path)) named
@@ -330,7 +330,7 @@ mutual
       → (parts : Parts dirs bases pairs saved) × AreParts dirs bases entries pairs saved parts
       × (Formed dirs → AreNamedApart entries → Onces dirs bases (IsOf entries) pairs saved parts)
   walk_parted dirs bases entries pairs own saved (end d b) = (
-    record { sent = []; spared = []; entire = refl; changed = none_changed d b []; same = none_unchanged d b []; count = refl },
+    record { sent = []; spared = []; entire = refl; changed = all_changed_nil d b []; same = all_unchanged_nil d b []; count = refl },
     λ closed e has. absurd has,
     λ formed apart. record { sent = tt; sent_start = tt; spared = tt; spared_start = tt },
   )
@@ -339,7 +339,7 @@ mutual
         it.0,
         λ closed x has path there open_there. ⊎_elim
             (λ same. absurd
-            (let first = root_open path (in_dir x.name d) there (λ at. closed (x.name ∷ at)) open_there in
+            (let first = root_is_open_of_closed path (in_dir x.name d) there (λ at. closed (x.name ∷ at)) open_there in
             let none_at : d (x.name ∷ []) ≡ None = subst (λ (y : EntryView). d (y.name ∷ []) ≡ None) same none in
             let both : Some first.0 ≡ None = sym first.1 ∙ none_at in
             cc both))
@@ -358,12 +358,12 @@ mutual
       let low = emits_below_parted (in_dir e.name d) (in_dir e.name b) inner [] m found in
       let it = walk_parted d b rest below os n walk in
       let sum : m + n ≡ m + (length {A = Path} [] + n) = omega arith in (
-        joined d b e.name (inner ++ below) inner below m n (m + n) [] [] refl sum (none_changed d b (inner ++ below))
-            (none_unchanged d b (inner ++ below)) low.0 it.0,
-        each_joined d b e.name (inner ++ below) inner below m n (m + n) [] [] refl sum (none_changed d b (inner ++ below))
-            (none_unchanged d b (inner ++ below)) low.0 it.0 e rest refl (inr (inr (own_here d b e.name inner below [] m found))) low.1 it.1,
-        λ formed apart. once_joined d b e.name (inner ++ below) inner below m n (m + n) [] [] refl sum (none_changed d b (inner ++ below))
-            (none_unchanged d b (inner ++ below)) low.0 it.0 e rest refl apart.0 (inl refl) (inl refl) (low.2 (λ path. formed (e.name ∷ path)))
+        joined d b e.name (inner ++ below) inner below m n (m + n) [] [] refl sum (all_changed_nil d b (inner ++ below))
+            (all_unchanged_nil d b (inner ++ below)) low.0 it.0,
+        each_joined d b e.name (inner ++ below) inner below m n (m + n) [] [] refl sum (all_changed_nil d b (inner ++ below))
+            (all_unchanged_nil d b (inner ++ below)) low.0 it.0 e rest refl (inr (inr (written_tree_in_dir d b e.name inner below [] m found))) low.1 it.1,
+        λ formed apart. once_joined d b e.name (inner ++ below) inner below m n (m + n) [] [] refl sum (all_changed_nil d b (inner ++ below))
+            (all_unchanged_nil d b (inner ++ below)) low.0 it.0 e rest refl apart.0 (inl refl) (inl refl) (low.2 (λ path. formed (e.name ∷ path)))
             (it.2 formed apart.1),
       )
   walk_parted dirs bases entries pairs own saved (unchanged d b e first rest more inner below os m n found same walk) =
@@ -373,16 +373,16 @@ mutual
       let kept : List Path = (e.name ∷ []) ∷ [] in
       let sum : m + 1 + n ≡ m + (1 + n) = omega arith in
       let its : All (IsUnchanged d b (inner ++ below)) kept =
-      one_unchanged d b (inner ++ below) (e.name ∷ [])
-      (record { tree = tree; own = own_here d b e.name inner below tree m found; filled = λ empty. cc empty; same = same }) in
+      all_unchanged_singleton d b (inner ++ below) (e.name ∷ [])
+      (record { tree = tree; own = written_tree_in_dir d b e.name inner below tree m found; filled = λ empty. cc empty; same = same }) in
       let at = Contains-append_right (map (under e.name) low.0.spared) (kept ++ it.0.spared) (e.name ∷ [])
       (Contains-append_left kept it.0.spared (e.name ∷ []) (0, omega arith, refl)) in (
-        joined d b e.name (inner ++ below) inner below m n (m + 1 + n) [] kept refl sum (none_changed d b (inner ++ below)) its low.0 it.0,
-        each_joined d b e.name (inner ++ below) inner below m n (m + 1 + n) [] kept refl sum (none_changed d b (inner ++ below)) its low.0 it.0 e rest
+        joined d b e.name (inner ++ below) inner below m n (m + 1 + n) [] kept refl sum (all_changed_nil d b (inner ++ below)) its low.0 it.0,
+        each_joined d b e.name (inner ++ below) inner below m n (m + 1 + n) [] kept refl sum (all_changed_nil d b (inner ++ below)) its low.0 it.0 e rest
             refl
             (inr (inl at)) low.1 it.1,
         λ formed apart. once_joined d b e.name (inner ++ below) inner below m n (m + 1 + n) [] kept refl sum
-            (none_changed d b (inner ++ below)) its low.0 it.0
+            (all_changed_nil d b (inner ++ below)) its low.0 it.0
             e rest refl apart.0 (inl refl) (inr refl) (low.2 (λ path. formed (e.name ∷ path))) (it.2 formed apart.1),
       )
   walk_parted dirs bases entries pairs own saved (written d b e first rest more inner below os m n id found other walk) =
@@ -393,30 +393,30 @@ mutual
       let one : Sent = record { path = e.name ∷ []; pair = (id, tree) } in
       let sum : m + n ≡ m + (0 + n) = omega arith in
       let mine : All (IsChanged d b all) (one ∷ []) =
-      one_changed d b all one (record {
-        own = own_here d b e.name inner ((id, tree) ∷ below) tree m found;
+      all_changed_singleton d b all one (record {
+        own = written_tree_in_dir d b e.name inner ((id, tree) ∷ below) tree m found;
         filled = λ empty. cc empty;
         other = other;
       }) in
       let at = Contains-append_right (map (inside e.name) low.0.sent) ((one ∷ []) ++ it.0.sent) one
       (Contains-append_left (one ∷ []) it.0.sent one (0, omega arith, refl)) in (
-        joined d b e.name all inner below m n (m + n) (one ∷ []) [] refl sum mine (none_unchanged d b all) low.0 it.0,
-        each_joined d b e.name all inner below m n (m + n) (one ∷ []) [] refl sum mine (none_unchanged d b all) low.0 it.0 e rest refl
+        joined d b e.name all inner below m n (m + n) (one ∷ []) [] refl sum mine (all_unchanged_nil d b all) low.0 it.0,
+        each_joined d b e.name all inner below m n (m + n) (one ∷ []) [] refl sum mine (all_unchanged_nil d b all) low.0 it.0 e rest refl
             (inl ((id, tree), at)) low.1 it.1,
-        λ formed apart. once_joined d b e.name all inner below m n (m + n) (one ∷ []) [] refl sum mine (none_unchanged d b all) low.0 it.0 e rest refl
+        λ formed apart. once_joined d b e.name all inner below m n (m + n) (one ∷ []) [] refl sum mine (all_unchanged_nil d b all) low.0 it.0 e rest refl
             apart.0
             (inr refl) (inl refl) (low.2 (λ path. formed (e.name ∷ path))) (it.2 formed apart.1),
       )
 
-closed_of : (dirs : Dirs) → IsOpened dirs → Closed dirs
-closed_of dirs is path name entries there = let it = is.above path name entries there in (it.0, it.1, it.2)
+closed_of_is_opened : (dirs : Dirs) → IsOpened dirs → Closed dirs
+closed_of_is_opened dirs is path name entries there = let it = is.above path name entries there in (it.0, it.1, it.2)
 
 -- the emitted pairs of a write, without its own
 pub is_divided_of_walk : (dirs bases : Dirs) (pairs below : List Pair) (saved : ℕ) (id : ObjectId) (own : List EntryView) → Emits dirs bases saved pairs
     → pairs ≡ below ++ (id, own) ∷ [] → IsDivided dirs bases pairs id saved
 is_divided_of_walk dirs bases pairs below saved id own (part, its_id, its_own, (count, goes, saves), full) last =
     let (parts, each, once) = emits_below_parted dirs bases part its_own count goes in
-    let same = last_same part below (its_id, its_own) (id, own) (sym full ∙ last) in
+    let same = snoc_injective part below (its_id, its_own) (id, own) (sym full ∙ last) in
     let its : List Pair = (its_id, its_own) ∷ [] in
     let among : pairs ≡ [] ++ (part ++ its) = full in
     record {
@@ -433,5 +433,5 @@ is_divided_of_walk dirs bases pairs below saved id own (part, its_id, its_own, (
       once = λ opened. let them = once opened.well_formed in (them.sent, them.spared);
       each = λ opened name path entries there.
           sorted_among dirs bases pairs [] part its among parts.sent parts.spared (name ∷ path)
-          (each (closed_of dirs opened) name path entries there);
+          (each (closed_of_is_opened dirs opened) name path entries there);
     }

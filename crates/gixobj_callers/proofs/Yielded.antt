@@ -33,10 +33,10 @@ IsKnown = (kind : Kind) (content : List ℕ) (tag : TagLines) → DecodesToTag k
 
 -- ---- one call, if tokens remain
 
-yielded_on : OneToken → (kind kind' : Kind) (before after : State) (input rest : List ℕ) (token first : TagTokenView) (others : List TagTokenView)
+yields_tokens_tail : OneToken → (kind kind' : Kind) (before after : State) (input rest : List ℕ) (token first : TagTokenView) (others : List TagTokenView)
     → BeginsWithTagToken kind before input token after rest → kind' ≡ kind
     → YieldsTagTokens kind before input (first ∷ others) complete → (token ≡ first) × YieldsTagTokens kind' after rest others complete
-yielded_on one kind kind' before after input rest token first others has same (yields_piece _ following _ remaining _ _ _ comes more) =
+yields_tokens_tail one kind kind' before after input rest token first others has same (yields_piece _ following _ remaining _ _ _ comes more) =
     let it = one kind before input token first after following rest remaining has comes in
     (it.0, rw (same, it.1, it.2) more)
 
@@ -44,12 +44,12 @@ pub first_token_yielded : OneToken → (before after : TagRefIter) (token : Toke
     → NextTagToken before (Some (Ok token)) after → IsToYield before (first ∷ others)
     → (tag_token_view token ≡ first) × IsToYield after others
 first_token_yielded one before after token first others gives is =
-    yielded_on one (tag_reader_state before).kind (tag_reader_state after).kind (tag_reader_state before).state (tag_reader_state after).state
+    yields_tokens_tail one (tag_reader_state before).kind (tag_reader_state after).kind (tag_reader_state before).state (tag_reader_state after).state
     (tag_reader_state before).bytes (tag_reader_state after).bytes (tag_token_view token) first others gives.0 gives.1 is
 
-nothing_yielded : OneRun → (kind : Kind) (before : State) (input : List ℕ) (first : TagTokenView) (others : List TagTokenView) → input ≡ []
+yields_no_tokens_of_nil : OneRun → (kind : Kind) (before : State) (input : List ℕ) (first : TagTokenView) (others : List TagTokenView) → input ≡ []
     → YieldsTagTokens kind before input (first ∷ others) complete → ⊥
-nothing_yielded one kind before input first others bare run =
+yields_no_tokens_of_nil one kind before input first others bare run =
     let here : YieldsTagTokens kind before [] (first ∷ others) complete =
     subst (λ (it : List ℕ). YieldsTagTokens kind before it (first ∷ others) complete) bare run in
     let same : first ∷ others ≡ [] = (one kind before [] (first ∷ others) [] complete complete here (yields_end before)).0 in
@@ -57,22 +57,23 @@ nothing_yielded one kind before input first others bare run =
 
 pub no_end_before_tokens : OneRun → (before after : TagRefIter) (first : TagTokenView) (others : List TagTokenView) → NextTagToken before None after
     → IsToYield before (first ∷ others) → ⊥
-no_end_before_tokens one before after first others gives is = nothing_yielded one (tag_reader_state before).kind (tag_reader_state before).state
+no_end_before_tokens one before after first others gives is = yields_no_tokens_of_nil one (tag_reader_state before).kind (tag_reader_state before).state
     (tag_reader_state before).bytes first others gives.0 is
 
 -- ---- the first tokens of a tag
 
-few_missing : (missing : List TagTokenView) → IsOptionalToken missing → length missing ≤ 2
-few_missing missing misses_nothing = omega arith
-few_missing missing misses_body = omega arith
-few_missing missing misses_tagger_and_body = omega arith
+optional_tokens_len_le_two : (missing : List TagTokenView) → IsOptionalToken missing → length missing ≤ 2
+optional_tokens_len_le_two missing misses_nothing = omega arith
+optional_tokens_len_le_two missing misses_body = omega arith
+optional_tokens_len_le_two missing misses_tagger_and_body = omega arith
 
-first_three : (tokens missing : List TagTokenView) (a b c d e : TagTokenView) → IsOptionalToken missing → tokens ++ missing ≡ a ∷ b ∷ c ∷ d ∷ e ∷ []
+first_three_tokens_exist : (tokens missing : List TagTokenView) (a b c d e : TagTokenView) → IsOptionalToken missing
+    → tokens ++ missing ≡ a ∷ b ∷ c ∷ d ∷ e ∷ []
     → (more : List TagTokenView) × (tokens ≡ a ∷ b ∷ c ∷ more)
-first_three [] missing a b c d e may joined = absurd (omega (arith, few_missing missing may, ap length joined))
-first_three (x ∷ []) missing a b c d e may joined = absurd (omega (arith, few_missing missing may, ap length joined))
-first_three (x ∷ y ∷ []) missing a b c d e may joined = absurd (omega (arith, few_missing missing may, ap length joined))
-first_three (x ∷ y ∷ z ∷ more) missing a b c d e may joined =
+first_three_tokens_exist [] missing a b c d e may joined = absurd (omega (arith, optional_tokens_len_le_two missing may, ap length joined))
+first_three_tokens_exist (x ∷ []) missing a b c d e may joined = absurd (omega (arith, optional_tokens_len_le_two missing may, ap length joined))
+first_three_tokens_exist (x ∷ y ∷ []) missing a b c d e may joined = absurd (omega (arith, optional_tokens_len_le_two missing may, ap length joined))
+first_three_tokens_exist (x ∷ y ∷ z ∷ more) missing a b c d e may joined =
     let one : x ≡ a = cc joined in
     let two : y ≡ b = cc joined in
     let three : z ≡ c = cc joined in
@@ -89,7 +90,7 @@ pub starts_of_decoded_tag : IsKnown → (kind : Kind) (content : List ℕ) (tag 
     → IsAtStartOfTag kind content reader → Starts tag reader
 starts_of_decoded_tag seen kind content tag reader is start =
     let (tokens, run, (missing, may, all), came) = seen kind content tag is in
-    let (more, same) = first_three tokens missing _ _ _ _ _ may all.joined in
+    let (more, same) = first_three_tokens_exist tokens missing _ _ _ _ _ may all.joined in
     let here : IsToYield reader tokens = subst (λ it. YieldsTagTokens it.kind it.state it.bytes tokens complete) (sym start) run in
     record { id = all.id; more = more; hex_of_id = all.hex_of_id; to_yield = subst (IsToYield reader) same here }
 

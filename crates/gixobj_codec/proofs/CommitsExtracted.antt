@@ -31,20 +31,21 @@ use Rattle.gixobj_codec.specs.LineFields.{HasHeaderNames, HasLineFields, IsOneLi
 
 -- ---- headers, one after the other
 
-ends_at_name : (name first more rest : List ℕ) → IsHeaderName name → EndsHeader (((name ++ first) ++ more) ++ rest)
-ends_at_name [] first more rest named = absurd (named.not_empty refl)
-ends_at_name (byte ∷ name) first more rest named = All-head (λ it. it ≢ 32) byte name named.no_space
+ends_header_of_name : (name first more rest : List ℕ) → IsHeaderName name → EndsHeader (((name ++ first) ++ more) ++ rest)
+ends_header_of_name [] first more rest named = absurd (named.not_empty refl)
+ends_header_of_name (byte ∷ name) first more rest named = All-head (λ it. it ≢ 32) byte name named.no_space
 
 pub ends_header_append : (one rest : List ℕ) (header : Header) → DecodesToHeader one header → EndsHeader (one ++ rest)
 ends_header_append one rest header is =
     subst (λ (it : List ℕ). EndsHeader (it ++ rest)) (sym is.joined)
-    (ends_at_name header.name (32 ∷ encode_line is.first) (flat_map encode_continuation is.more) rest is.named)
+    (ends_header_of_name header.name (32 ∷ encode_line is.first) (flat_map encode_continuation is.more) rest is.named)
 
-ends_before : (leading one rest : List ℕ) (headers : List Header) (header : Header) → DecodesToHeaders leading headers → DecodesToHeader one header
+ends_header_before_header : (leading one rest : List ℕ) (headers : List Header) (header : Header) → DecodesToHeaders leading headers
+    → DecodesToHeader one header
     → EndsHeader (leading ++ (one ++ rest))
-ends_before leading one rest [] header none is = subst (λ (it : List ℕ). EndsHeader (it ++ (one ++ rest))) (sym none)
+ends_header_before_header leading one rest [] header none is = subst (λ (it : List ℕ). EndsHeader (it ++ (one ++ rest))) (sym none)
     (ends_header_append one rest header is)
-ends_before leading one rest (h ∷ hs) header (first, more, joined, written, others) is =
+ends_header_before_header leading one rest (h ∷ hs) header (first, more, joined, written, others) is =
     subst (λ (it : List ℕ). EndsHeader (it ++ (one ++ rest))) (sym joined)
     (subst EndsHeader (sym (append_assoc first more (one ++ rest))) (ends_header_append first (more ++ (one ++ rest)) h written))
 
@@ -60,7 +61,7 @@ has_header_before_last leading first more one rest h header hs joined written ot
   encoded = first;
   joined = ap (λ (it : List ℕ). it ++ (one ++ rest)) joined ∙ append_assoc first more (one ++ rest);
   written = written;
-  ends = ends_before more one rest hs header others is;
+  ends = ends_header_before_header more one rest hs header others is;
 }
 
 -- bytes have at most one first header of a name, so all splits into headers have the same one, and leave the same bytes
@@ -75,7 +76,8 @@ signature_split_unique name [] [] p q fp op rp fq oq rq np ap_ wp namep ep nq aq
     (ap (λ (it : List ℕ). it ++ rp) np ∙ e.1 ∙ sym (ap (λ (it : List ℕ). it ++ rq) nq), e.0, e.1)
 signature_split_unique name [] (k ∷ ks) p q fp op rp fq oq rq np ap_ wp namep ep (first, more, joined, written, others) aq wq nameq eq same =
     let e = header_unique (fp ++ (op ++ rp)) p k rp (more ++ (oq ++ rq)) (has_header_last fp op rp p np wp ep)
-    (subst (λ (it : List ℕ). BeginsWithHeader it k (more ++ (oq ++ rq))) (sym same) (has_header_before_last fq first more oq rq k q ks joined written others wq)) in
+    (subst (λ (it : List ℕ). BeginsWithHeader it k (more ++ (oq ++ rq))) (sym same)
+    (has_header_before_last fq first more oq rq k q ks joined written others wq)) in
     absurd (All-head (λ (h : Header). h.name ≢ name) k ks aq (sym (ap (λ (h : Header). h.name) e.0) ∙ namep))
 signature_split_unique name (k ∷ ks) [] p q fp op rp fq oq rq (first, more, joined, written, others) ap_ wp namep ep nq aq wq nameq eq same =
     let e = header_unique (fp ++ (op ++ rp)) k q (more ++ (op ++ rp)) rq (has_header_before_last fp first more op rp k p ks joined written others wp)
@@ -122,8 +124,8 @@ blocks_append name a b x y = record {
 pub blocks_nil : (name : List ℕ) → Blocks name []
 blocks_nil name = record { headers = []; are = refl; others = All-nil (λ (h : Header). h.name ≢ name) }
 
-one_block : (name one : List ℕ) (header : Header) → DecodesToHeader one header → header.name ≢ name → Blocks name one
-one_block name one header is other = record {
+blocks_of_header : (name one : List ℕ) (header : Header) → DecodesToHeader one header → header.name ≢ name → Blocks name one
+blocks_of_header name one header is other = record {
   headers = header ∷ [];
   are = (one, [], sym (append-nil one), is, refl);
   others = All-cons (λ (h : Header). h.name ≢ name) header [] other (All-nil (λ (h : Header). h.name ≢ name));
@@ -131,9 +133,9 @@ one_block name one header is other = record {
 
 -- ---- a field is a header of one line, and no signature
 
-field_is_header : (name value : List ℕ) → IsHeaderName name → IsByteFree newline value
+encode_field_decodes_to_header : (name value : List ℕ) → IsHeaderName name → IsByteFree newline value
     → DecodesToHeader (encode_field name value) (record { name = name; value = value })
-field_is_header name value named free = record {
+encode_field_decodes_to_header name value named free = record {
   first = value;
   more = [];
   joined = sym (append-nil (encode_field name value));
@@ -143,40 +145,40 @@ field_is_header name value named free = record {
   value = refl;
 }
 
-tree_name : IsHeaderName (codes "tree")
-tree_name = record {
+tree_is_header_name : IsHeaderName (codes "tree")
+tree_is_header_name = record {
   not_empty = λ none. cc none;
   no_space = byte_free_of_all_pass space (codes "tree") refl;
   no_newline = byte_free_of_all_pass newline
       (codes "tree") refl;
 }
 
-parent_name : IsHeaderName (codes "parent")
-parent_name = record {
+parent_is_header_name : IsHeaderName (codes "parent")
+parent_is_header_name = record {
   not_empty = λ none. cc none;
   no_space = byte_free_of_all_pass space (codes "parent") refl;
   no_newline = byte_free_of_all_pass newline
       (codes "parent") refl;
 }
 
-author_name : IsHeaderName (codes "author")
-author_name = record {
+author_is_header_name : IsHeaderName (codes "author")
+author_is_header_name = record {
   not_empty = λ none. cc none;
   no_space = byte_free_of_all_pass space (codes "author") refl;
   no_newline = byte_free_of_all_pass newline
       (codes "author") refl;
 }
 
-committer_name : IsHeaderName (codes "committer")
-committer_name = record {
+committer_is_header_name : IsHeaderName (codes "committer")
+committer_is_header_name = record {
   not_empty = λ none. cc none;
   no_space = byte_free_of_all_pass space (codes "committer") refl;
   no_newline = byte_free_of_all_pass newline
       (codes "committer") refl;
 }
 
-encoding_name : IsHeaderName (codes "encoding")
-encoding_name = record {
+encoding_is_header_name : IsHeaderName (codes "encoding")
+encoding_is_header_name = record {
   not_empty = λ none. cc none;
   no_space = byte_free_of_all_pass space (codes "encoding") refl;
   no_newline = byte_free_of_all_pass newline
@@ -198,29 +200,30 @@ signature_field_is_header_name hash.Sha256 = record {
       (codes "gpgsig-sha256") refl;
 }
 
-not_signature : (kind : Kind) (byte : ℕ) (name : List ℕ) → byte ≢ 103 → byte ∷ name ≢ signature_field kind
-not_signature hash.Sha1 byte name other same = other (cc same)
-not_signature hash.Sha256 byte name other same = other (cc same)
+name_ne_signature_field : (kind : Kind) (byte : ℕ) (name : List ℕ) → byte ≢ 103 → byte ∷ name ≢ signature_field kind
+name_ne_signature_field hash.Sha1 byte name other same = other (cc same)
+name_ne_signature_field hash.Sha256 byte name other same = other (cc same)
 
-tree_other : (kind : Kind) → codes "tree" ≢ signature_field kind
-tree_other kind = not_signature kind 116 _ (λ same. grind (arith, same))
+tree_ne_signature_field : (kind : Kind) → codes "tree" ≢ signature_field kind
+tree_ne_signature_field kind = name_ne_signature_field kind 116 _ (λ same. grind (arith, same))
 
-parent_other : (kind : Kind) → codes "parent" ≢ signature_field kind
-parent_other kind = not_signature kind 112 _ (λ same. grind (arith, same))
+parent_ne_signature_field : (kind : Kind) → codes "parent" ≢ signature_field kind
+parent_ne_signature_field kind = name_ne_signature_field kind 112 _ (λ same. grind (arith, same))
 
-author_other : (kind : Kind) → codes "author" ≢ signature_field kind
-author_other kind = not_signature kind 97 _ (λ same. grind (arith, same))
+author_ne_signature_field : (kind : Kind) → codes "author" ≢ signature_field kind
+author_ne_signature_field kind = name_ne_signature_field kind 97 _ (λ same. grind (arith, same))
 
-committer_other : (kind : Kind) → codes "committer" ≢ signature_field kind
-committer_other kind = not_signature kind 99 _ (λ same. grind (arith, same))
+committer_ne_signature_field : (kind : Kind) → codes "committer" ≢ signature_field kind
+committer_ne_signature_field kind = name_ne_signature_field kind 99 _ (λ same. grind (arith, same))
 
-encoding_other : (kind : Kind) → codes "encoding" ≢ signature_field kind
-encoding_other kind = not_signature kind 101 _ (λ same. grind (arith, same))
+encoding_ne_signature_field : (kind : Kind) → codes "encoding" ≢ signature_field kind
+encoding_ne_signature_field kind = name_ne_signature_field kind 101 _ (λ same. grind (arith, same))
 
-field_block : (kind : Kind) (name value : List ℕ) → IsHeaderName name → name ≢ signature_field kind → IsByteFree newline value
+blocks_of_encode_field : (kind : Kind) (name value : List ℕ) → IsHeaderName name → name ≢ signature_field kind → IsByteFree newline value
     → Blocks (signature_field kind) (encode_field name value)
-field_block kind name value named other free = one_block (signature_field kind) (encode_field name value) (record { name = name; value = value })
-    (field_is_header name value named free) other
+blocks_of_encode_field kind name value named other free = blocks_of_header (signature_field kind) (encode_field name value)
+    (record { name = name; value = value })
+    (encode_field_decodes_to_header name value named free) other
 
 -- ---- consumed lines are such headers
 
@@ -229,29 +232,30 @@ abbrev pub IsBlockLine : Kind → List ℕ → State → List ℕ → Type 0
 IsBlockLine kind content next after = ((next ≡ state.End) × ((message : List ℕ) × (content ≡ 10 ∷ message)))
     ⊎ ((one : List ℕ) × (content ≡ one ++ after) × Blocks (signature_field kind) one)
 
-field_line : (kind : Kind) (name content value : List ℕ) (next : State) (after : List ℕ) → IsHeaderName name → name ≢ signature_field kind
+is_block_line_of_field : (kind : Kind) (name content value : List ℕ) (next : State) (after : List ℕ) → IsHeaderName name → name ≢ signature_field kind
     → BeginsWithField name content value after → IsBlockLine kind content next after
-field_line kind name content value next after named other has =
-    inr (encode_field name value, has.joined, field_block kind name value named other has.one_line)
+is_block_line_of_field kind name content value next after named other has =
+    inr (encode_field name value, has.joined, blocks_of_encode_field kind name value named other has.one_line)
 
 pub block_line_of_header : (kind : Kind) (here : State) (content : List ℕ) (line : LineView) (next : State) (after : List ℕ)
     → BeginsWithLine kind here content line next after
     → ¬ IsNamedLine (signature_field kind) line → IsBlockLine kind content next after
-block_line_of_header kind here content line next after (tree_comes _ hex _ has) other = field_line kind (codes "tree") content hex state.Parents after tree_name
-    (tree_other kind) has.0
+block_line_of_header kind here content line next after (tree_comes _ hex _ has) other =
+    is_block_line_of_field kind (codes "tree") content hex state.Parents after tree_is_header_name
+    (tree_ne_signature_field kind) has.0
 block_line_of_header kind here content line next after (parent_comes _ hex _ has) other =
-    field_line kind (codes "parent") content hex state.Parents after parent_name
-    (parent_other kind) has.0
+    is_block_line_of_field kind (codes "parent") content hex state.Parents after parent_is_header_name
+    (parent_ne_signature_field kind) has.0
 block_line_of_header kind here content line next after (author_comes _ actor _ has) other =
-    field_line kind (codes "author") content actor state.Committer after author_name (author_other kind) has.0
+    is_block_line_of_field kind (codes "author") content actor state.Committer after author_is_header_name (author_ne_signature_field kind) has.0
 block_line_of_header kind here content line next after (committer_comes _ actor _ has) other =
-    field_line kind (codes "committer") content actor state.Encoding after committer_name (committer_other kind) has.0
+    is_block_line_of_field kind (codes "committer") content actor state.Encoding after committer_is_header_name (committer_ne_signature_field kind) has.0
 block_line_of_header kind here content line next after (encoding_comes _ encoding _ has) other =
-    field_line kind (codes "encoding") content encoding state.ExtraHeaders after encoding_name (encoding_other kind) has
+    is_block_line_of_field kind (codes "encoding") content encoding state.ExtraHeaders after encoding_is_header_name (encoding_ne_signature_field kind) has
 block_line_of_header kind here content line next after (first_header_comes _ header _ has unlike) other =
-    inr (has.encoded, has.joined, one_block (signature_field kind) has.encoded header has.written other)
+    inr (has.encoded, has.joined, blocks_of_header (signature_field kind) has.encoded header has.written other)
 block_line_of_header kind here content line next after (header_comes _ header _ has) other =
-    inr (has.encoded, has.joined, one_block (signature_field kind) has.encoded header has.written other)
+    inr (has.encoded, has.joined, blocks_of_header (signature_field kind) has.encoded header has.written other)
 block_line_of_header kind here content line next after (first_message_comes _ message is) other = inl (refl, (message, is))
 block_line_of_header kind here content line next after (message_comes _ message is) other = inl (refl, (message, is))
 
@@ -267,45 +271,45 @@ no_line_at_end kind here content line next after is (header_comes _ header _ has
 no_line_at_end kind here content line next after is (first_message_comes _ message same) = cc is
 no_line_at_end kind here content line next after is (message_comes _ message same) = cc is
 
-nothing_after_end : (kind : Kind) (lines : List LineView) (next : State) (after : List ℕ) (before : State) (input : List ℕ) (line : LineView)
+no_line_after_end : (kind : Kind) (lines : List LineView) (next : State) (after : List ℕ) (before : State) (input : List ℕ) (line : LineView)
     (next_state : State) (rest : List ℕ)
     → next ≡ state.End → Passes (BeginsWithLine kind) next after lines before input → BeginsWithLine kind before input line next_state rest → ⊥
-nothing_after_end kind [] next after before input line next_state rest is passes comes = no_line_at_end kind before input line next_state rest
+no_line_after_end kind [] next after before input line next_state rest is passes comes = no_line_at_end kind before input line next_state rest
     (sym passes.0 ∙ is) comes
-nothing_after_end kind (first ∷ lines) next after before input line next_state rest is (n, a, has, more) comes =
+no_line_after_end kind (first ∷ lines) next after before input line next_state rest is (n, a, has, more) comes =
     no_line_at_end kind next after first n a is has
 
 -- the bytes before the signature header are headers of other names
 BlocksBefore : Kind → List ℕ → List ℕ → Type 0
 BlocksBefore kind content input = (leading : List ℕ) × (content ≡ leading ++ input) × Blocks (signature_field kind) leading
 
-with_line : (kind : Kind) (lines : List LineView) (content : List ℕ) (next : State) (after : List ℕ) (before : State) (input : List ℕ)
+blocks_before_snoc : (kind : Kind) (lines : List LineView) (content : List ℕ) (next : State) (after : List ℕ) (before : State) (input : List ℕ)
     (line : LineView)
     (next_state : State) (rest : List ℕ)
     → IsBlockLine kind content next after → Passes (BeginsWithLine kind) next after lines before input → BeginsWithLine kind before input line next_state rest
     → BlocksBefore kind after input → BlocksBefore kind content input
 unfolding BlocksBefore
-with_line kind lines content next after before input line next_state rest (inl (is, (message, same))) passes comes blocks =
-    absurd (nothing_after_end kind lines next after before input line next_state rest is passes comes)
-with_line kind lines content next after before input line next_state rest (inr (one, joined, block)) passes comes (leading, is, blocks) = (
+blocks_before_snoc kind lines content next after before input line next_state rest (inl (is, (message, same))) passes comes blocks =
+    absurd (no_line_after_end kind lines next after before input line next_state rest is passes comes)
+blocks_before_snoc kind lines content next after before input line next_state rest (inr (one, joined, block)) passes comes (leading, is, blocks) = (
   one ++ leading,
   joined ∙ ap (λ (it : List ℕ). one ++ it) is ∙ sym (append_assoc one leading input),
   blocks_append
       (signature_field kind) one leading block blocks,
 )
 
-blocks_before : (kind : Kind) (lines : List LineView) (here : State) (content : List ℕ) (before : State) (input : List ℕ) (line : LineView)
+blocks_before_of_passes : (kind : Kind) (lines : List LineView) (here : State) (content : List ℕ) (before : State) (input : List ℕ) (line : LineView)
     (next_state : State)
     (rest : List ℕ)
     → Passes (BeginsWithLine kind) here content lines before input → All (λ it. ¬ IsNamedLine (signature_field kind) it) lines
     → BeginsWithLine kind before input line next_state rest → BlocksBefore kind content input
 unfolding BlocksBefore
-blocks_before kind [] here content before input line next_state rest passes others comes = ([], passes.1, blocks_nil (signature_field kind))
-blocks_before kind (first ∷ lines) here content before input line next_state rest (next, after, has, more) others comes =
-    with_line kind lines content next after before input line next_state rest
+blocks_before_of_passes kind [] here content before input line next_state rest passes others comes = ([], passes.1, blocks_nil (signature_field kind))
+blocks_before_of_passes kind (first ∷ lines) here content before input line next_state rest (next, after, has, more) others comes =
+    blocks_before_snoc kind lines content next after before input line next_state rest
     (block_line_of_header kind here content first next after has (All-head (λ (it : LineView). ¬ IsNamedLine (signature_field kind) it) first lines others))
     more comes
-    (blocks_before kind lines next after before input line next_state rest more
+    (blocks_before_of_passes kind lines next after before input line next_state rest more
     (All-tail (λ (it : LineView). ¬ IsNamedLine (signature_field kind) it) first lines others) comes)
 
 -- the bytes before a signature header, which are headers of other names
@@ -316,7 +320,7 @@ pub before_header : (kind : Kind) (lines : List LineView) (here : State) (conten
     → BeginsWithLine kind before input line next_state rest → (leading : List ℕ) × (content ≡ leading ++ input) × Blocks (signature_field kind) leading
 unfolding BlocksBefore
 before_header kind lines here content before input line next_state rest passes others comes =
-    blocks_before kind lines here content before input line next_state rest passes others comes
+    blocks_before_of_passes kind lines here content before input line next_state rest passes others comes
 
 pub header_here : (kind : Kind) (before : State) (input : List ℕ) (header : Header) (next_state : State) (rest : List ℕ)
     → BeginsWithLine kind before input (header_line header) next_state rest → BeginsWithHeader input header rest
@@ -331,27 +335,27 @@ AreLines lines = IsByteFree newline lines.0 × All (λ line. IsByteFree newline 
 abbrev no_lines : List (List ℕ)
 no_lines = []
 
-one_free : (t : Bool) (byte : ℕ) → (byte == 10) ≡ t → AreLines (if t then ([], no_lines) else (byte ∷ [], no_lines))
-one_free true byte is = (All-nil (λ (it : ℕ). it ≢ newline), All-nil (λ (line : List ℕ). IsByteFree newline line))
-one_free false byte is = (
+are_lines_of_one_byte : (t : Bool) (byte : ℕ) → (byte == 10) ≡ t → AreLines (if t then ([], no_lines) else (byte ∷ [], no_lines))
+are_lines_of_one_byte true byte is = (All-nil (λ (it : ℕ). it ≢ newline), All-nil (λ (line : List ℕ). IsByteFree newline line))
+are_lines_of_one_byte false byte is = (
   All-cons (λ (it : ℕ). it ≢ newline) byte [] (eqb-false byte 10 is) (All-nil (λ (it : ℕ). it ≢ newline)),
   All-nil
       (λ (line : List ℕ). IsByteFree newline line),
 )
 
-more_free : (t : Bool) (byte : ℕ) (first : List ℕ) (more : List (List ℕ)) → (byte == 10) ≡ t → IsByteFree newline first
+are_lines_cons : (t : Bool) (byte : ℕ) (first : List ℕ) (more : List (List ℕ)) → (byte == 10) ≡ t → IsByteFree newline first
     → All (λ line. IsByteFree newline line) more
     → AreLines (if t then ([], first ∷ more) else (byte ∷ first, more))
-more_free true byte first more is free each =
+are_lines_cons true byte first more is free each =
     (All-nil (λ (it : ℕ). it ≢ newline), All-cons (λ (line : List ℕ). IsByteFree newline line) first more free each)
-more_free false byte first more is free each = (All-cons (λ (it : ℕ). it ≢ newline) byte first (eqb-false byte 10 is) free, each)
+are_lines_cons false byte first more is free each = (All-cons (λ (it : ℕ). it ≢ newline) byte first (eqb-false byte 10 is) free, each)
 
-lines_free : (value : List ℕ) → AreLines (value_lines value)
-lines_free [] = (All-nil (λ (it : ℕ). it ≢ newline), All-nil (λ (line : List ℕ). IsByteFree newline line))
-lines_free (byte ∷ []) = one_free (byte == 10) byte refl
-lines_free (byte ∷ next ∷ rest) =
-    let next_state : AreLines (value_lines (next ∷ rest)) = lines_free (next ∷ rest) in
-    more_free (byte == 10) byte (value_lines (next ∷ rest)).0 (value_lines (next ∷ rest)).1 refl next_state.0 next_state.1
+are_lines_of_value_lines : (value : List ℕ) → AreLines (value_lines value)
+are_lines_of_value_lines [] = (All-nil (λ (it : ℕ). it ≢ newline), All-nil (λ (line : List ℕ). IsByteFree newline line))
+are_lines_of_value_lines (byte ∷ []) = are_lines_of_one_byte (byte == 10) byte refl
+are_lines_of_value_lines (byte ∷ next ∷ rest) =
+    let next_state : AreLines (value_lines (next ∷ rest)) = are_lines_of_value_lines (next ∷ rest) in
+    are_lines_cons (byte == 10) byte (value_lines (next ∷ rest)).0 (value_lines (next ∷ rest)).1 refl next_state.0 next_state.1
 
 -- the header that the encoding of a header decodes to, which has its name
 abbrev pub read_again : Header → Header
@@ -359,7 +363,7 @@ read_again header = record { name = header.name; value = value_of_lines (value_l
 
 pub encode_header_decodes : (header : Header) → IsHeaderName header.name → DecodesToHeader (encode_header header) (read_again header)
 encode_header_decodes header named =
-    let free : AreLines (value_lines header.value) = lines_free header.value in
+    let free : AreLines (value_lines header.value) = are_lines_of_value_lines header.value in
     record {
       first = (value_lines header.value).0;
       more = (value_lines header.value).1;
@@ -377,34 +381,36 @@ unlike_name name header other same =
     let f : true ≡ false = sym e ∙ other in
     cc f
 
-kept_one : (name : List ℕ) (header : Header) (headers : List Header) (t : Bool) → is_header_named name header ≡ t → IsHeaderName header.name
+blocks_of_cond_header : (name : List ℕ) (header : Header) (headers : List Header) (t : Bool) → is_header_named name header ≡ t → IsHeaderName header.name
     → Blocks name (flat_map encode_header headers)
     → Blocks name (flat_map encode_header (cond (not t) (header ∷ headers) headers))
-kept_one name header headers true is named blocks = blocks
-kept_one name header headers false is named blocks =
+blocks_of_cond_header name header headers true is named blocks = blocks
+blocks_of_cond_header name header headers false is named blocks =
     blocks_append name (encode_header header) (flat_map encode_header headers)
-    (one_block name (encode_header header) (read_again header) (encode_header_decodes header named)
+    (blocks_of_header name (encode_header header) (read_again header) (encode_header_decodes header named)
     (unlike_name name header is)) blocks
 
-kept_blocks : (name : List ℕ) (headers : List Header) → All (λ header. IsHeaderName header.name) headers
+blocks_of_other_headers : (name : List ℕ) (headers : List Header) → All (λ header. IsHeaderName header.name) headers
     → Blocks name (flat_map encode_header (filter (λ header. not (is_header_named name header)) headers))
-kept_blocks name [] named = blocks_nil name
-kept_blocks name (header ∷ headers) named =
-    kept_one name header (filter (λ header. not (is_header_named name header)) headers) (is_header_named name header) refl
+blocks_of_other_headers name [] named = blocks_nil name
+blocks_of_other_headers name (header ∷ headers) named =
+    blocks_of_cond_header name header (filter (λ header. not (is_header_named name header)) headers) (is_header_named name header) refl
     (All-head (λ (h : Header). IsHeaderName h.name) header headers named)
-    (kept_blocks name headers (All-tail (λ (h : Header). IsHeaderName h.name) header headers named))
+    (blocks_of_other_headers name headers (All-tail (λ (h : Header). IsHeaderName h.name) header headers named))
 
-parents_blocks : (kind : Kind) (parents : List (List ℕ)) → All (λ hex. IsByteFree newline hex) parents
+blocks_of_parents : (kind : Kind) (parents : List (List ℕ)) → All (λ hex. IsByteFree newline hex) parents
     → Blocks (signature_field kind) (flat_map encode_parent parents)
-parents_blocks kind [] free = blocks_nil (signature_field kind)
-parents_blocks kind (hex ∷ parents) free =
+blocks_of_parents kind [] free = blocks_nil (signature_field kind)
+blocks_of_parents kind (hex ∷ parents) free =
     blocks_append (signature_field kind) (encode_parent hex) (flat_map encode_parent parents)
-    (field_block kind (codes "parent") hex parent_name (parent_other kind) (All-head (λ (it : List ℕ). IsByteFree newline it) hex parents free))
-    (parents_blocks kind parents (All-tail (λ (it : List ℕ). IsByteFree newline it) hex parents free))
+    (blocks_of_encode_field kind (codes "parent") hex parent_is_header_name (parent_ne_signature_field kind)
+    (All-head (λ (it : List ℕ). IsByteFree newline it) hex parents free))
+    (blocks_of_parents kind parents (All-tail (λ (it : List ℕ). IsByteFree newline it) hex parents free))
 
 pub encoding_blocks : (kind : Kind) (encoding : Option (List ℕ)) → IsOneLine encoding → Blocks (signature_field kind) (encode_encoding encoding)
 encoding_blocks kind None free = blocks_nil (signature_field kind)
-encoding_blocks kind (Some encoding) free = field_block kind (codes "encoding") encoding encoding_name (encoding_other kind) free
+encoding_blocks kind (Some encoding) free = blocks_of_encode_field kind (codes "encoding") encoding encoding_is_header_name
+    (encoding_ne_signature_field kind) free
 
 -- the fields of one line
 pub prefix_blocks : (kind : Kind) (commit : CommitLines) → HasLineFields commit → Blocks (signature_field kind) (before_encoding commit)
@@ -412,13 +418,14 @@ prefix_blocks kind commit fields =
     blocks_append (signature_field kind) (encode_ids commit ++ encode_field (codes "author") commit.author) (encode_field (codes "committer") commit.committer)
     (blocks_append (signature_field kind) (encode_ids commit) (encode_field (codes "author") commit.author)
     (blocks_append (signature_field kind) (encode_field (codes "tree") commit.tree) (flat_map encode_parent commit.parents)
-    (field_block kind (codes "tree") commit.tree tree_name (tree_other kind) fields.tree)
-    (parents_blocks kind commit.parents fields.parents))
-    (field_block kind (codes "author") commit.author author_name (author_other kind) fields.author))
-    (field_block kind (codes "committer") commit.committer committer_name (committer_other kind) fields.committer)
+    (blocks_of_encode_field kind (codes "tree") commit.tree tree_is_header_name (tree_ne_signature_field kind) fields.tree)
+    (blocks_of_parents kind commit.parents fields.parents))
+    (blocks_of_encode_field kind (codes "author") commit.author author_is_header_name (author_ne_signature_field kind) fields.author))
+    (blocks_of_encode_field kind (codes "committer") commit.committer committer_is_header_name (committer_ne_signature_field kind) fields.committer)
 
-arranged : (leading headers one message : List ℕ) → (leading ++ (headers ++ (one ++ []))) ++ message ≡ (leading ++ headers) ++ (one ++ message)
-arranged leading headers one message = simp (append_assoc, append-nil)
+signed_commit_append_assoc : (leading headers one message : List ℕ) → (leading ++ (headers ++ (one ++ []))) ++ message
+    ≡ (leading ++ headers) ++ (one ++ message)
+signed_commit_append_assoc leading headers one message = simp (append_assoc, append-nil)
 
 -- ---- the encoding of a signed commit
 
@@ -437,13 +444,13 @@ module _ (kind : Kind) (commit : CommitLines) (bytes : List ℕ) (named : HasHea
       blocks_append (signature_field kind) (before_encoding commit ++ encode_encoding commit.encoding) (flat_map encode_header kept_headers)
       (blocks_append (signature_field kind) (before_encoding commit) (encode_encoding commit.encoding) (prefix_blocks kind commit fields)
       (encoding_blocks kind commit.encoding fields.encoding))
-      (kept_blocks (signature_field kind) commit.extra_headers named)
+      (blocks_of_other_headers (signature_field kind) commit.extra_headers named)
 
   pub signed_payload : encode_commit (with_signature kind bytes commit) ≡ unsigned_prefix ++ (encode_header the_header ++ 10 ∷ commit.message)
   signed_payload =
       ap (λ (it : List ℕ). ((before_encoding commit ++ encode_encoding commit.encoding) ++ it) ++ 10 ∷ commit.message)
       (flat_map-append encode_header kept_headers (the_header ∷ []))
-      ∙ arranged (before_encoding commit ++ encode_encoding commit.encoding) (flat_map encode_header kept_headers) (encode_header the_header)
+      ∙ signed_commit_append_assoc (before_encoding commit ++ encode_encoding commit.encoding) (flat_map encode_header kept_headers) (encode_header the_header)
       (10 ∷ commit.message)
 
   -- the payload that is found is the one that was signed, the signature is that of the header, and the message follows

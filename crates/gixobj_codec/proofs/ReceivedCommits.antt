@@ -31,11 +31,11 @@ use Rattle.gixobj_codec.specs.Received.{HasFirstValue, SignsCommit, without_firs
 
 -- ---- the first header of a name
 
-headers_encode : (bytes : List ℕ) (headers : List Header) → DecodesToHeaders bytes headers → flat_map encode_header headers ≡ bytes
-headers_encode bytes [] none = sym none
-headers_encode bytes (header ∷ headers) (first, rest, joined, one, more) =
+encode_decoded_headers : (bytes : List ℕ) (headers : List Header) → DecodesToHeaders bytes headers → flat_map encode_header headers ≡ bytes
+encode_decoded_headers bytes [] none = sym none
+encode_decoded_headers bytes (header ∷ headers) (first, rest, joined, one, more) =
     ap (λ (it : List ℕ). it ++ flat_map encode_header headers) (header_round_trips first header one)
-    ∙ ap (λ (it : List ℕ). first ++ it) (headers_encode rest headers more)
+    ∙ ap (λ (it : List ℕ). first ++ it) (encode_decoded_headers rest headers more)
     ∙ sym joined
 
 -- the headers are a first one of this name, and others before and after it
@@ -58,10 +58,10 @@ record Splits (name bytes : List ℕ) (headers : List Header) : Type 0 where
 abbrev SplitsOrNot : List ℕ → List ℕ → List Header → Type 0
 SplitsOrNot name bytes headers = Splits name bytes headers ⊎ All (λ h. h.name ≢ name) headers
 
-splits_by_test : (name bytes : List ℕ) (header : Header) (headers : List Header) (first rest : List ℕ) (test : Bool)
+splits_or_not_cons : (name bytes : List ℕ) (header : Header) (headers : List Header) (first rest : List ℕ) (test : Bool)
     → is_header_named name header ≡ test → bytes ≡ first ++ rest → DecodesToHeader first header → DecodesToHeaders rest headers
     → SplitsOrNot name rest headers → SplitsOrNot name bytes (header ∷ headers)
-splits_by_test name bytes header headers first rest true is joined written are more =
+splits_or_not_cons name bytes header headers first rest true is joined written are more =
     inl (record {
       before = [];
       header = header;
@@ -78,7 +78,7 @@ splits_by_test name bytes header headers first rest true is joined written are m
       parts = refl;
       without = ap (λ (test : Bool). if test then headers else (header ∷ without_first name headers)) is;
     })
-splits_by_test name bytes header headers first rest false is joined written are (inl split) =
+splits_or_not_cons name bytes header headers first rest false is joined written are (inl split) =
     inl (record {
       before = header ∷ split.before;
       header = split.header;
@@ -96,13 +96,13 @@ splits_by_test name bytes header headers first rest false is joined written are 
       without = ap (λ (test : Bool). if test then headers else (header ∷ without_first name headers)) is
           ∙ ap (λ (it : List Header). header ∷ it) split.without;
     })
-splits_by_test name bytes header headers first rest false is joined written are (inr none) =
+splits_or_not_cons name bytes header headers first rest false is joined written are (inr none) =
     inr (All-cons (λ (h : Header). h.name ≢ name) header headers (unlike_name name header is) none)
 
 splits_or_not : (name bytes : List ℕ) (headers : List Header) → DecodesToHeaders bytes headers → SplitsOrNot name bytes headers
 splits_or_not name bytes [] none = inr (All-nil (λ (h : Header). h.name ≢ name))
 splits_or_not name bytes (header ∷ headers) (first, rest, joined, written, are) =
-    splits_by_test name bytes header headers first rest (is_header_named name header) refl joined written are (splits_or_not name rest headers are)
+    splits_or_not_cons name bytes header headers first rest (is_header_named name header) refl joined written are (splits_or_not name rest headers are)
 
 -- ---- lines that are no signature
 
@@ -130,9 +130,9 @@ lines_before commit before = tree_line commit.tree
     ∷ (map parent_line commit.parents ++ (author_line commit.author ∷ committer_line commit.committer
     ∷ (encoding_lines commit.encoding ++ map header_line before)))
 
-lines_unnamed : (name : List ℕ) (commit : CommitLines) (before : List Header) → All (λ h. h.name ≢ name) before
+lines_before_are_unnamed : (name : List ℕ) (commit : CommitLines) (before : List Header) → All (λ h. h.name ≢ name) before
     → All (λ it. ¬ IsNamedLine name it) (lines_before commit before)
-lines_unnamed name commit before others =
+lines_before_are_unnamed name commit before others =
     let Other : LineView → Type 0 = λ it. ¬ IsNamedLine name it in
     let last = encoding_lines commit.encoding ++ map header_line before in
     let actors = author_line commit.author ∷ committer_line commit.committer ∷ last in
@@ -143,24 +143,25 @@ lines_unnamed name commit before others =
     (All-append Other (encoding_lines commit.encoding) (map header_line before) (encoding_unnamed name commit.encoding)
     (headers_unnamed name before others)))))
 
-map_split : (before after : List Header) (header : Header) (more : List LineView)
+map_header_line_append : (before after : List Header) (header : Header) (more : List LineView)
     → map header_line (before ++ header ∷ after) ++ more ≡ map header_line before ++ (header_line header ∷ (map header_line after ++ more))
-map_split [] after header more = refl
-map_split (first ∷ before) after header more = ap (λ (it : List LineView). header_line first ∷ it) (map_split before after header more)
+map_header_line_append [] after header more = refl
+map_header_line_append (first ∷ before) after header more = ap (λ (it : List LineView). header_line first ∷ it)
+    (map_header_line_append before after header more)
 
-regrouped_lines : (parents encoding before rest : List LineView) (tree author committer : LineView)
+commit_lines_append_assoc : (parents encoding before rest : List LineView) (tree author committer : LineView)
     → tree ∷ (parents ++ (author ∷ committer ∷ (encoding ++ (before ++ rest))))
     ≡ (tree ∷ (parents ++ (author ∷ committer ∷ (encoding ++ before)))) ++ rest
-regrouped_lines parents encoding before rest tree author committer = sym (simp append_assoc)
+commit_lines_append_assoc parents encoding before rest tree author committer = sym (simp append_assoc)
 
-lines_split : (commit : CommitLines) (before after : List Header) (header : Header) → commit.extra_headers ≡ before ++ header ∷ after
+lines_of_commit_at_header : (commit : CommitLines) (before after : List Header) (header : Header) → commit.extra_headers ≡ before ++ header ∷ after
     → lines_of_commit commit ≡ lines_before commit before ++ header_line header ∷ (map header_line after ++ message_line commit.message ∷ [])
-lines_split commit before after header parts =
+lines_of_commit_at_header commit before after header parts =
     let more = message_line commit.message ∷ [] in
     ap (λ (it : List LineView). tree_line commit.tree
     ∷ (map parent_line commit.parents ++ (author_line commit.author ∷ committer_line commit.committer ∷ (encoding_lines commit.encoding ++ it))))
-    (ap (λ (it : List Header). map header_line it ++ more) parts ∙ map_split before after header more)
-    ∙ regrouped_lines (map parent_line commit.parents) (encoding_lines commit.encoding) (map header_line before)
+    (ap (λ (it : List Header). map header_line it ++ more) parts ∙ map_header_line_append before after header more)
+    ∙ commit_lines_append_assoc (map parent_line commit.parents) (encoding_lines commit.encoding) (map header_line before)
     (header_line header ∷ (map header_line after ++ more)) (tree_line commit.tree) (author_line commit.author) (committer_line commit.committer)
 
 -- a run that yields a line comes to it after the lines before it
@@ -172,11 +173,11 @@ record Comes (kind : Kind) (here : State) (content : List ℕ) (lines : List Lin
   passes : Passes (BeginsWithLine kind) here content lines before input
   comes : BeginsWithLine kind before input line following rest
 
-comes_after : (kind : Kind) (here : State) (content : List ℕ) (all lines : List LineView) (line : LineView) (more : List LineView)
+comes_of_yields : (kind : Kind) (here : State) (content : List ℕ) (all lines : List LineView) (line : LineView) (more : List LineView)
     → all ≡ lines ++ line ∷ more → Yields (BeginsWithLine kind) here content all complete → Comes kind here content lines line
-comes_after kind here content all [] line more same (yields_end _) = cc same
-comes_after kind here content all (first ∷ lines) line more same (yields_end _) = cc same
-comes_after kind here content all [] line more same (yields_piece _ next _ after piece others _ has seen) =
+comes_of_yields kind here content all [] line more same (yields_end _) = cc same
+comes_of_yields kind here content all (first ∷ lines) line more same (yields_end _) = cc same
+comes_of_yields kind here content all [] line more same (yields_piece _ next _ after piece others _ has seen) =
     let e : piece ≡ line = cc same in
     record {
       before = here;
@@ -186,10 +187,10 @@ comes_after kind here content all [] line more same (yields_piece _ next _ after
       passes = (refl, refl);
       comes = subst (λ (it : LineView). BeginsWithLine kind here content it next after) e has;
     }
-comes_after kind here content all (first ∷ lines) line more same (yields_piece _ next _ after piece others _ has seen) =
+comes_of_yields kind here content all (first ∷ lines) line more same (yields_piece _ next _ after piece others _ has seen) =
     let e : piece ≡ first = cc same in
     let tail : others ≡ lines ++ line ∷ more = cc same in
-    let later = comes_after kind next after others lines line more tail seen in
+    let later = comes_of_yields kind next after others lines line more tail seen in
     record {
       before = later.before;
       input = later.input;
@@ -201,16 +202,16 @@ comes_after kind here content all (first ∷ lines) line more same (yields_piece
 
 -- ---- what is signed
 
-arranged_first : (leading prefix one rest message : List ℕ)
+signed_headers_append_assoc : (leading prefix one rest message : List ℕ)
     → (leading ++ (prefix ++ (one ++ rest))) ++ message ≡ (leading ++ prefix) ++ (one ++ (rest ++ message))
-arranged_first leading prefix one rest message = simp append_assoc
+signed_headers_append_assoc leading prefix one rest message = simp append_assoc
 
-arranged_without : (leading prefix rest message : List ℕ) → (leading ++ prefix) ++ (rest ++ message) ≡ (leading ++ (prefix ++ rest)) ++ message
-arranged_without leading prefix rest message = simp append_assoc
+unsigned_headers_append_assoc : (leading prefix rest message : List ℕ) → (leading ++ prefix) ++ (rest ++ message) ≡ (leading ++ (prefix ++ rest)) ++ message
+unsigned_headers_append_assoc leading prefix rest message = simp append_assoc
 
-header_parts : (header : Header) (name value : List ℕ) → header.name ≡ name → value ≡ header.value
+header_eq_of_fields : (header : Header) (name value : List ℕ) → header.name ≡ name → value ≡ header.value
     → header ≡ record { name = name; value = value }
-header_parts header name value named received =
+header_eq_of_fields header name value named received =
     ap (λ (it : List ℕ). record { name = it; value = header.value }) named ∙ ap (λ (it : List ℕ). record { name = name; value = it }) (sym received)
 
 module _ (kind : Kind) (content : List ℕ) (commit : CommitLines) (is : DecodesToCommit kind content commit) where
@@ -237,18 +238,18 @@ module _ (kind : Kind) (content : List ℕ) (commit : CommitLines) (is : Decodes
       let blocks = blocks_append name (leading commit) split.prefix content_blocks others in
       let joined : content ≡ (leading commit ++ split.prefix) ++ (split.one ++ (split.rest ++ 10 ∷ commit.message)) =
       is.joined ∙ ap (λ (it : List ℕ). (leading commit ++ it) ++ 10 ∷ commit.message) split.joined
-      ∙ arranged_first (leading commit) split.prefix split.one split.rest (10 ∷ commit.message) in
+      ∙ signed_headers_append_assoc (leading commit) split.prefix split.one split.rest (10 ∷ commit.message) in
       let once = signature_split_unique name read.2.headers blocks.headers has.header split.header read.0 comes.encoded has.rest
       (leading commit ++ split.prefix) split.one (split.rest ++ 10 ∷ commit.message) read.2.are read.2.others comes.written has.named comes.ends
       blocks.are blocks.others split.written split.named
       (ends_before_tail split.rest (10 ∷ commit.message) split.after split.after_are (λ no. grind (arith, no)))
       (ap (λ (it : List ℕ). read.0 ++ it) (sym comes.joined) ∙ sym read.1 ∙ joined) in
       let is_header : split.header ≡ record { name = name; value = value } =
-      header_parts split.header name value split.named (has.received ∙ ap (λ (it : Header). it.value) once.1) in
+      header_eq_of_fields split.header name value split.named (has.received ∙ ap (λ (it : Header). it.value) once.1) in
       record {
         split = split;
         same = has.remaining ∙ ap (λ (it : List ℕ). it ++ has.rest) prefixes ∙ once.0
-            ∙ arranged_without (leading commit) split.prefix split.rest (10 ∷ commit.message);
+            ∙ unsigned_headers_append_assoc (leading commit) split.prefix split.rest (10 ∷ commit.message);
         first = (
           split.before,
           split.after,
@@ -281,7 +282,7 @@ module _ (kind : Kind) (content : List ℕ) (commit : CommitLines) (is : Decodes
       record {
         value = it.first;
         encoded = it.same ∙ ap (λ (headers : List ℕ). (leading commit ++ headers) ++ 10 ∷ commit.message)
-            (sym (headers_encode bytes (without_first name commit.extra_headers) without));
+            (sym (encode_decoded_headers bytes (without_first name commit.extra_headers) without));
         decoded = λ encoding. record {
           headers_encoding = bytes;
           joined = it.same;
@@ -304,10 +305,10 @@ module _ (kind : Kind) (content : List ℕ) (commit : CommitLines) (is : Decodes
   signature_comes value (before, after, others, parts) =
       let header : Header = record { name = name; value = value } in
       let lines = lines_before commit before in
-      let at = comes_after kind state.Tree content (lines_of_commit commit) lines (header_line header)
-      (map header_line after ++ message_line commit.message ∷ []) (lines_split commit before after header parts)
+      let at = comes_of_yields kind state.Tree content (lines_of_commit commit) lines (header_line header)
+      (map header_line after ++ message_line commit.message ∷ []) (lines_of_commit_at_header commit before after header parts)
       (yields_lines_of_commit kind content commit is) in
-      let none = lines_unnamed name commit before others in
+      let none = lines_before_are_unnamed name commit before others in
       let read = before_header kind lines state.Tree content at.before at.input (header_line header) at.following at.rest at.passes none at.comes in (
         read.0 ++ at.rest,
         record {
@@ -341,15 +342,15 @@ module _ (kind : Kind) (content : List ℕ) (commit : CommitLines) (is : Decodes
           let Other : LineView → Type 0 = λ it. ¬ IsNamedLine name it in
           let more = message_line commit.message ∷ [] in
           subst (All Other)
-          (sym (regrouped_lines (map parent_line commit.parents) (encoding_lines commit.encoding) (map header_line commit.extra_headers) more
+          (sym (commit_lines_append_assoc (map parent_line commit.parents) (encoding_lines commit.encoding) (map header_line commit.extra_headers) more
           (tree_line commit.tree) (author_line commit.author) (committer_line commit.committer)))
-          (All-append Other (lines_before commit commit.extra_headers) more (lines_unnamed name commit commit.extra_headers others)
+          (All-append Other (lines_before commit commit.extra_headers) more (lines_before_are_unnamed name commit commit.extra_headers others)
           (All-cons Other (message_line commit.message) [] (λ no. no) (All-nil Other)))
 
       by_split : SplitsOrNot name is.headers_encoding commit.extra_headers
           → ((value : List ℕ) × (signed : List ℕ) × HasCommitSignature kind content value signed) ⊎ HasNoSignature kind content
       by_split (inl split) =
-          let is_header = header_parts split.header name split.header.value split.named refl in
+          let is_header = header_eq_of_fields split.header name split.header.value split.named refl in
           let found = signature_comes split.header.value (
             split.before,
             split.after,
@@ -361,10 +362,10 @@ module _ (kind : Kind) (content : List ℕ) (commit : CommitLines) (is : Decodes
 
 -- ---- signed commits
 
-after_header : (kind : Kind) (before : State) (input : List ℕ) (header : Header) (following : State) (rest : List ℕ)
+state_after_header : (kind : Kind) (before : State) (input : List ℕ) (header : Header) (following : State) (rest : List ℕ)
     → BeginsWithLine kind before input (header_line header) following rest → following ≡ state.ExtraHeaders
-after_header kind before input header following rest (first_header_comes _ _ _ has unlike) = refl
-after_header kind before input header following rest (header_comes _ _ _ has) = refl
+state_after_header kind before input header following rest (first_header_comes _ _ _ has unlike) = refl
+state_after_header kind before input header following rest (header_comes _ _ _ has) = refl
 
 module _ (kind : Kind) (commit : CommitLines) (bytes : List ℕ) (named : HasHeaderNames commit) (fields : HasLineFields commit) where
   -- in the encoding of a signed commit, if it decodes, the signature is found
@@ -391,10 +392,12 @@ module _ (kind : Kind) (commit : CommitLines) (bytes : List ℕ) (named : HasHea
   decodes_if_found value signed has =
       let content = encode_commit (with_signature kind bytes commit) in
       let rest : has.rest ≡ 10 ∷ commit.message = message_follows kind commit bytes named fields value signed has in
-      let after : has.following ≡ state.ExtraHeaders = after_header kind has.before has.input has.header has.following has.rest has.comes in
+      let after : has.following ≡ state.ExtraHeaders = state_after_header kind has.before has.input has.header has.following has.rest has.comes in
       let passes : Passes (BeginsWithLine kind) state.Tree content (has.passes.0 ++ header_line has.header ∷ []) has.following has.rest =
-      passes_one (BeginsWithLine kind) state.Tree has.before has.following content has.input has.rest has.passes.0 (header_line has.header) has.passes.1 has.comes in
+      passes_one (BeginsWithLine kind) state.Tree has.before has.following content has.input has.rest has.passes.0
+      (header_line has.header) has.passes.1 has.comes in
       let ends : BeginsWithLine kind has.following has.rest (message_line commit.message) state.End [] =
-      subst (λ (it : State). BeginsWithLine kind it has.rest (message_line commit.message) state.End []) (sym after) (message_comes has.rest commit.message rest) in
+      subst (λ (it : State). BeginsWithLine kind it has.rest (message_line commit.message) state.End []) (sym after)
+      (message_comes has.rest commit.message rest) in
       reaches_end kind content state.End [] (reaches_more kind content has.following state.End has.rest []
       (has.passes.0 ++ header_line has.header ∷ [], passes) (message_line commit.message, ends)) refl

@@ -26,12 +26,12 @@ use Rattle.gixobj_codec.specs.Received.{HasSameLines, SignsTag}
 abbrev BeginsWithLines : List ℕ → List ℕ → Type 0
 BeginsWithLines lines signed = (more : List ℕ) × (signed ≡ lines ++ 10 ∷ more)
 
-begins_with_lines : (lines body message signature signed : List ℕ) (own : Option (List ℕ)) (format : Format) → AreAfter lines body
+signed_data_begins_with_lines : (lines body message signature signed : List ℕ) (own : Option (List ℕ)) (format : Format) → AreAfter lines body
     → IsBody body message own → HasTagSignature (lines ++ body) signature signed format → BeginsWithLines lines signed
-begins_with_lines lines body message signature signed own format after (newlines_alone _ are) has =
+signed_data_begins_with_lines lines body message signature signed own format after (newlines_alone _ are) has =
     let past = after has.place format has.is_place.here in
     absurd (no_marker_in_newlines body are _ format (marks_place_after_prefix lines body has.place format past has.is_place.here))
-begins_with_lines lines body message signature signed own format after (after_a_newline _ content _ _ joined more parted) has =
+signed_data_begins_with_lines lines body message signature signed own format after (after_a_newline _ content _ _ joined more parted) has =
     let ahead : AreAfter (lines ++ 10 ∷ []) content =
     also_after lines (10 ∷ []) content (subst (λ (it : List ℕ). AreAfter lines it) joined after) (after_newline_alone content) in
     let flat : (lines ++ 10 ∷ []) ++ content ≡ lines ++ body = append_assoc lines (10 ∷ []) content ∙ ap (λ (it : List ℕ). lines ++ it) (sym joined) in
@@ -43,18 +43,19 @@ begins_with_lines lines body message signature signed own format after (after_a_
 
 -- ---- the same lines
 
-tagger_here : (tagger : Option (List ℕ)) (input body more : List ℕ) → BeginsWithTagger input tagger body
+begins_with_tagger_of_encode_tagger : (tagger : Option (List ℕ)) (input body more : List ℕ) → BeginsWithTagger input tagger body
     → BeginsWithTagger (encode_tagger tagger ++ 10 ∷ more) tagger (10 ∷ more)
-tagger_here None input body more has = (λ rest same. no_tagger more rest same, refl)
+begins_with_tagger_of_encode_tagger None input body more has = (λ rest same. no_tagger more rest same, refl)
   where
     no_tagger : (more rest : List ℕ) → 10 ∷ more ≢ codes "tagger" ++ 32 ∷ rest
     no_tagger more rest same = let first : 10 ≡ 116 = first_bytes_eq 10 116 _ _ same in absurd (omega (arith, first))
-tagger_here (Some line) input body more has = (record { joined = refl; one_line = has.0.one_line }, has.1)
+begins_with_tagger_of_encode_tagger (Some line) input body more has = (record { joined = refl; one_line = has.0.one_line }, has.1)
 
 -- tags whose encodings begin with the same lines have the same lines
-lines_agree : (kind : Kind) (content signed more : List ℕ) (tag read : TagLines) → Reads kind content tag → signed ≡ encode_tag_lines tag ++ 10 ∷ more
+has_same_lines_of_signed_data : (kind : Kind) (content signed more : List ℕ) (tag read : TagLines) → Reads kind content tag
+    → signed ≡ encode_tag_lines tag ++ 10 ∷ more
     → Reads kind signed read → HasSameLines tag read
-lines_agree kind content signed more tag read reads joined again =
+has_same_lines_of_signed_data kind content signed more tag read reads joined again =
     let object = encode_field (codes "object") tag.target in
     let type = encode_field (codes "type") (kind_name tag.target_kind) in
     let name = encode_field (codes "tag") tag.name in
@@ -73,7 +74,7 @@ lines_agree kind content signed more tag read reads joined again =
     (record { joined = refl; one_line = reads.name.0.one_line }) in
     let tagged = tagger_unique after_name read.tagger tag.tagger again.body (10 ∷ more)
     (subst (λ (it : List ℕ). BeginsWithTagger it read.tagger again.body) named.1 again.tagger)
-    (tagger_here tag.tagger reads.after_name reads.body more reads.tagger) in
+    (begins_with_tagger_of_encode_tagger tag.tagger reads.after_name reads.body more reads.tagger) in
     record {
       target = target.0;
       target_kind = kind_keyword_injective read.target_kind tag.target_kind typed.0;
@@ -105,7 +106,7 @@ module _ (kind : Kind) (content : List ℕ) (tag : TagLines) (is : DecodesToTag 
   lines_signed : BeginsWithLines (encode_tag_lines tag) signed
   lines_signed =
       let reads = parts_of_decoded_tag kind content tag is in
-      begins_with_lines (encode_tag_lines tag) reads.body tag.message signature signed tag.signature format (after_lines kind content tag reads)
+      signed_data_begins_with_lines (encode_tag_lines tag) reads.body tag.message signature signed tag.signature format (after_lines kind content tag reads)
       reads.parted
       (subst (λ (it : List ℕ). HasTagSignature it signature signed format) (lines_joined kind content tag reads) has)
 
@@ -126,7 +127,7 @@ module _ (kind : Kind) (content : List ℕ) (tag : TagLines) (is : DecodesToTag 
   )
 
   same_lines : (read : TagLines) → DecodesToTag kind signed read → HasSameLines tag read
-  same_lines read again = lines_agree kind content signed lines_signed.0 tag read (parts_of_decoded_tag kind content tag is) lines_signed.1
+  same_lines read again = has_same_lines_of_signed_data kind content signed lines_signed.0 tag read (parts_of_decoded_tag kind content tag is) lines_signed.1
       (parts_of_decoded_tag kind signed read again)
 
   pub signs_tag : (PreservesBody tag → encode_tag tag ≡ content) → (IsTag kind signed → (read : TagLines) × DecodesToTag kind signed read)

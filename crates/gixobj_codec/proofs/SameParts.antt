@@ -30,14 +30,14 @@ abbrev lines_before_encoding : CommitLines → List LineView
 lines_before_encoding commit = tree_line commit.tree
     ∷ (map parent_line commit.parents ++ (author_line commit.author ∷ committer_line commit.committer ∷ []))
 
-actor_is_one_line : (line : List ℕ) → NamesActor line → IsByteFree newline line
-actor_is_one_line line (name, email, time, is) = is.one_line
+actor_line_newline_free : (line : List ℕ) → NamesActor line → IsByteFree newline line
+actor_line_newline_free line (name, email, time, is) = is.one_line
 
-parents_passed : (kind : Kind) (hexes : List (List ℕ)) (rest : List ℕ) (lines : List LineView) (following : State) (end : List ℕ)
+passes_parent_lines : (kind : Kind) (hexes : List (List ℕ)) (rest : List ℕ) (lines : List LineView) (following : State) (end : List ℕ)
     → All (IsIdHexOfKind kind) hexes → Passes (BeginsWithLine kind) state.Parents rest lines following end
     → Passes (BeginsWithLine kind) state.Parents (flat_map encode_parent hexes ++ rest) (map parent_line hexes ++ lines) following end
-parents_passed kind [] rest lines following end are passes = passes
-parents_passed kind (hex ∷ hexes) rest lines following end are passes =
+passes_parent_lines kind [] rest lines following end are passes = passes
+passes_parent_lines kind (hex ∷ hexes) rest lines following end are passes =
     let P : List ℕ → Type 0 = IsIdHexOfKind kind in
     let one : IsIdHexOfKind kind hex = All-head P hex hexes are in
     let more = flat_map encode_parent hexes ++ rest in
@@ -45,7 +45,7 @@ parents_passed kind (hex ∷ hexes) rest lines following end are passes =
       state.Parents,
       more,
       parent_comes _ hex _ (has_field_of_encode_field (codes "parent") hex more (hex_digits_newline_free hex one.1), one),
-      parents_passed kind hexes rest lines following end (All-tail P hex hexes are) passes,
+      passes_parent_lines kind hexes rest lines following end (All-tail P hex hexes are) passes,
     ) in
     subst (λ (it : List ℕ). Passes (BeginsWithLine kind) state.Parents it (parent_line hex ∷ (map parent_line hexes ++ lines)) following end)
     (sym (append_assoc (encode_parent hex) (flat_map encode_parent hexes) rest)) parts
@@ -66,7 +66,7 @@ module _ (kind : Kind) (content : List ℕ) (commit : CommitLines) (is : Decodes
         state.Encoding,
         rest,
         committer_comes _ commit.committer _ (
-          has_field_of_encode_field (codes "committer") commit.committer rest (actor_is_one_line commit.committer is.committer),
+          has_field_of_encode_field (codes "committer") commit.committer rest (actor_line_newline_free commit.committer is.committer),
           is.committer,
         ),
         (refl, refl),
@@ -76,12 +76,12 @@ module _ (kind : Kind) (content : List ℕ) (commit : CommitLines) (is : Decodes
         state.Committer,
         committer_rest,
         author_comes _ commit.author _ (
-          has_field_of_encode_field (codes "author") commit.author committer_rest (actor_is_one_line commit.author is.author),
+          has_field_of_encode_field (codes "author") commit.author committer_rest (actor_line_newline_free commit.author is.author),
           is.author,
         ),
         committed,
       ) in
-      let parented = parents_passed kind commit.parents author_rest (author_line commit.author ∷ committer_line commit.committer ∷ [])
+      let parented = passes_parent_lines kind commit.parents author_rest (author_line commit.author ∷ committer_line commit.committer ∷ [])
       state.Encoding rest is.parents authored in
       let entire : Passes (BeginsWithLine kind) state.Tree (encode_field (codes "tree") commit.tree ++ parents_rest) (lines_before_encoding commit)
       state.Encoding rest = (
@@ -97,28 +97,28 @@ module _ (kind : Kind) (content : List ℕ) (commit : CommitLines) (is : Decodes
 
 -- ---- the same lines have the same parts
 
-parents_agree : (ps qs : List (List ℕ)) (a b c d : List ℕ) (more others : List LineView)
+parent_lines_injective : (ps qs : List (List ℕ)) (a b c d : List ℕ) (more others : List LineView)
     → map parent_line ps ++ (author_line a ∷ committer_line b ∷ more) ≡ (map parent_line qs ++ (author_line c ∷ committer_line d ∷ [])) ++ others
     → (ps ≡ qs) × (a ≡ c) × (b ≡ d)
-parents_agree [] [] a b c d more others same = (refl, cc same, cc same)
-parents_agree [] (q ∷ qs) a b c d more others same = cc same
-parents_agree (p ∷ ps) [] a b c d more others same = cc same
-parents_agree (p ∷ ps) (q ∷ qs) a b c d more others same =
+parent_lines_injective [] [] a b c d more others same = (refl, cc same, cc same)
+parent_lines_injective [] (q ∷ qs) a b c d more others same = cc same
+parent_lines_injective (p ∷ ps) [] a b c d more others same = cc same
+parent_lines_injective (p ∷ ps) (q ∷ qs) a b c d more others same =
     let first : p ≡ q = cc same in
     let tail : map parent_line ps ++ (author_line a ∷ committer_line b ∷ more) ≡ (map parent_line qs ++ (author_line c ∷ committer_line d ∷ [])) ++ others =
     cc same in
-    let rest = parents_agree ps qs a b c d more others tail in
+    let rest = parent_lines_injective ps qs a b c d more others tail in
     (cc (first, rest.0), rest.1, rest.2)
 
 -- the lines of the read commit begin with these lines
-lines_agree : (commit read : CommitLines) (others : List LineView) → lines_of_commit read ≡ lines_before_encoding commit ++ others
+lines_of_commit_injective : (commit read : CommitLines) (others : List LineView) → lines_of_commit read ≡ lines_before_encoding commit ++ others
     → (read.tree ≡ commit.tree) × (read.parents ≡ commit.parents) × (read.author ≡ commit.author) × (read.committer ≡ commit.committer)
-lines_agree commit read others same =
+lines_of_commit_injective commit read others same =
     let tree : read.tree ≡ commit.tree = cc same in
     let more = encoding_lines read.encoding ++ (map header_line read.extra_headers ++ message_line read.message ∷ []) in
     let tail : map parent_line read.parents ++ (author_line read.author ∷ committer_line read.committer ∷ more)
     ≡ (map parent_line commit.parents ++ (author_line commit.author ∷ committer_line commit.committer ∷ [])) ++ others = cc same in
-    let rest = parents_agree read.parents commit.parents read.author read.committer commit.author commit.committer more others tail in
+    let rest = parent_lines_injective read.parents commit.parents read.author read.committer commit.author commit.committer more others tail in
     (tree, rest.0, rest.1, rest.2)
 
 -- ---- headers, and then a message
@@ -161,8 +161,8 @@ pub line_fields_of_decoded : (kind : Kind) (content : List ℕ) (commit : Commit
 line_fields_of_decoded kind content commit is = record {
   tree = hex_digits_newline_free commit.tree is.tree.1;
   parents = hexes_newline_free kind commit.parents is.parents;
-  author = actor_is_one_line commit.author is.author;
-  committer = actor_is_one_line commit.committer is.committer;
+  author = actor_line_newline_free commit.author is.author;
+  committer = actor_line_newline_free commit.committer is.committer;
   encoding = encoding_is_one_line commit.encoding commit.extra_headers is.encoding;
 }
 
@@ -175,8 +175,8 @@ leading_blocks kind commit fields =
     blocks_append (signature_field kind) (before_encoding commit) (encode_encoding commit.encoding) (prefix_blocks kind commit fields)
     (encoding_blocks kind commit.encoding fields.encoding)
 
-regrouped : (a b c d : List ℕ) → ((a ++ b) ++ c) ++ d ≡ a ++ ((b ++ c) ++ d)
-regrouped a b c d = simp append_assoc
+append_assoc_of_four : (a b c d : List ℕ) → ((a ++ b) ++ c) ++ d ≡ a ++ ((b ++ c) ++ d)
+append_assoc_of_four a b c d = simp append_assoc
 
 -- two commits whose encodings begin with the same lines, and are headers and a message
 module _ (kind : Kind) (content signed : List ℕ) (commit read : CommitLines) (is : DecodesToCommit kind content commit)
@@ -195,11 +195,11 @@ module _ (kind : Kind) (content signed : List ℕ) (commit read : CommitLines) (
   has_same_parts =
       let rest = (encode_encoding commit.encoding ++ encoded) ++ 10 ∷ commit.message in
       let flat : (leading commit ++ encoded) ++ 10 ∷ commit.message ≡ before_encoding commit ++ rest =
-      regrouped (before_encoding commit) (encode_encoding commit.encoding) encoded (10 ∷ commit.message) in
+      append_assoc_of_four (before_encoding commit) (encode_encoding commit.encoding) encoded (10 ∷ commit.message) in
       let passes : Passes (BeginsWithLine kind) state.Tree signed (lines_before_encoding commit) state.Encoding rest =
       subst (λ (it : List ℕ). Passes (BeginsWithLine kind) state.Tree it (lines_before_encoding commit) state.Encoding rest) (sym (joined ∙ flat))
       (begins_passed kind content commit is rest) in
       let at = after_passed (BeginsWithLine kind) (line_unique kind) (no_line_of_nil kind) state.Tree state.Encoding signed rest
       (lines_before_encoding commit) (lines_of_commit read) complete passes (yields_lines_of_commit kind signed read again) in
-      let same = lines_agree commit read at.others at.joined in
+      let same = lines_of_commit_injective commit read at.others at.joined in
       record { tree = same.0; parents = same.1; author = same.2; committer = same.3; message = same_message }

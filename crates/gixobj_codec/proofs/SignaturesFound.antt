@@ -55,7 +55,8 @@ none_there name (k ∷ ks) (j ∷ js) q fp tail fq oq rq (first, more, joined, w
     (first', more', joined', written', rest') wq named
     eq same =
     let e = header_unique (fp ++ tail) k j (more ++ tail) (more' ++ (oq ++ rq)) (comes_here fp first more tail k ks joined written rest ends)
-    (subst (λ (it : List ℕ). BeginsWithHeader it j (more' ++ (oq ++ rq))) (sym same) (has_header_before_last fq first' more' oq rq j q js joined' written' rest' wq))
+    (subst (λ (it : List ℕ). BeginsWithHeader it j (more' ++ (oq ++ rq))) (sym same)
+    (has_header_before_last fq first' more' oq rq j q js joined' written' rest' wq))
     in
     none_there name ks js q more tail more' oq rq rest (All-tail (λ (h : Header). h.name ≢ name) k ks others) ends lacks rest' wq named eq e.1
 
@@ -68,15 +69,15 @@ record InBlocks (kind : Kind) (content : List ℕ) : Type 0 where
   ends : EndsHeader tail
   lacks : BeginsWithNoHeader tail
 
-none_shorter : (n : ℕ) → n < 0 → ⊥
-none_shorter n less = absurd (omega arith)
+not_lt_zero : (n : ℕ) → n < 0 → ⊥
+not_lt_zero n less = absurd (omega arith)
 
-no_header_in_nothing : BeginsWithNoHeader []
-no_header_in_nothing header rest has = none_shorter (length rest) (header_len_lt [] header rest has)
+begins_with_no_header_of_nil : BeginsWithNoHeader []
+begins_with_no_header_of_nil header rest has = not_lt_zero (length rest) (header_len_lt [] header rest has)
 
-of_line : (kind : Kind) (content : List ℕ) (next : State) (after : List ℕ) → IsBlockLine kind content next after → InBlocks kind after
+in_blocks_of_line : (kind : Kind) (content : List ℕ) (next : State) (after : List ℕ) → IsBlockLine kind content next after → InBlocks kind after
     → InBlocks kind content
-of_line kind content next after (inl (is, (message, same))) rest = record {
+in_blocks_of_line kind content next after (inl (is, (message, same))) rest = record {
   prefix = [];
   tail = content;
   joined = refl;
@@ -84,7 +85,7 @@ of_line kind content next after (inl (is, (message, same))) rest = record {
   ends = subst EndsHeader (sym same) (λ other. grind (arith, other));
   lacks = λ header following has. no_header_of_newline content header following message has same;
 }
-of_line kind content next after (inr (one, joined, block)) rest = record {
+in_blocks_of_line kind content next after (inr (one, joined, block)) rest = record {
   prefix = one ++ rest.prefix;
   tail = rest.tail;
   joined = joined ∙ ap (λ (it : List ℕ). one ++ it) rest.joined ∙ sym (append_assoc one rest.prefix rest.tail);
@@ -93,25 +94,25 @@ of_line kind content next after (inr (one, joined, block)) rest = record {
   lacks = rest.lacks;
 }
 
-in_blocks : (kind : Kind) (here : State) (content : List ℕ) (pieces : List LineView) → Yields (BeginsWithLine kind) here content pieces complete
+in_blocks_of_yields : (kind : Kind) (here : State) (content : List ℕ) (pieces : List LineView) → Yields (BeginsWithLine kind) here content pieces complete
     → All (λ it. ¬ IsNamedLine (signature_field kind) it) pieces → InBlocks kind content
-in_blocks kind here content pieces (yields_end _) others =
-    record { prefix = []; tail = []; joined = refl; blocks = blocks_nil (signature_field kind); ends = tt; lacks = no_header_in_nothing }
-in_blocks kind here content pieces (yields_piece _ next _ after piece more _ has seen) others =
-    of_line kind content next after
+in_blocks_of_yields kind here content pieces (yields_end _) others =
+    record { prefix = []; tail = []; joined = refl; blocks = blocks_nil (signature_field kind); ends = tt; lacks = begins_with_no_header_of_nil }
+in_blocks_of_yields kind here content pieces (yields_piece _ next _ after piece more _ has seen) others =
+    in_blocks_of_line kind content next after
     (block_line_of_header kind here content piece next after has (All-head (λ (it : LineView). ¬ IsNamedLine (signature_field kind) it) piece more others))
-    (in_blocks kind next after more seen (All-tail (λ (it : LineView). ¬ IsNamedLine (signature_field kind) it) piece more others))
+    (in_blocks_of_yields kind next after more seen (All-tail (λ (it : LineView). ¬ IsNamedLine (signature_field kind) it) piece more others))
 
 -- bytes that decode to their end have no malformed line
-two_endings : (kind : Kind) (here : State) (content : List ℕ) (ps qs : List LineView) → Yields (BeginsWithLine kind) here content ps complete
+yields_ending_unique : (kind : Kind) (here : State) (content : List ℕ) (ps qs : List LineView) → Yields (BeginsWithLine kind) here content ps complete
     → Yields (BeginsWithLine kind) here content qs broken → ⊥
-two_endings kind here content ps qs (yields_end _) (yields_error _ _ some lacks) = some refl
-two_endings kind here content ps qs (yields_end _) (yields_piece _ next _ after piece more _ has seen) =
+yields_ending_unique kind here content ps qs (yields_end _) (yields_error _ _ some lacks) = some refl
+yields_ending_unique kind here content ps qs (yields_end _) (yields_piece _ next _ after piece more _ has seen) =
     no_line_of_nil kind here [] piece next after refl has
-two_endings kind here content ps qs (yields_piece _ next _ after piece more _ has seen) (yields_error _ _ some lacks) = lacks piece next after has
-two_endings kind here content ps qs (yields_piece _ next _ after piece more _ has seen) (yields_piece _ next' _ after' piece' more' _ has' seen') =
+yields_ending_unique kind here content ps qs (yields_piece _ next _ after piece more _ has seen) (yields_error _ _ some lacks) = lacks piece next after has
+yields_ending_unique kind here content ps qs (yields_piece _ next _ after piece more _ has seen) (yields_piece _ next' _ after' piece' more' _ has' seen') =
     let e = line_unique kind here content piece piece' next next' after after' has has' in
-    two_endings kind next after more more' seen
+    yields_ending_unique kind next after more more' seen
     (subst (λ (s : State). Yields (BeginsWithLine kind) s after more' broken) (sym e.1)
     (subst (λ (it : List ℕ). Yields (BeginsWithLine kind) next' it more' broken) (sym e.2) seen'))
 
@@ -119,7 +120,7 @@ module _ (kind : Kind) (commit : CommitLines) (bytes : List ℕ) (named : HasHea
   pub signature_is_there : HasNoSignature kind (encode_commit (with_signature kind bytes commit)) → ⊥
   signature_is_there (pieces, seen, others) =
       let read : InBlocks kind (encode_commit (with_signature kind bytes commit)) =
-      in_blocks kind state.Tree (encode_commit (with_signature kind bytes commit)) pieces seen others in
+      in_blocks_of_yields kind state.Tree (encode_commit (with_signature kind bytes commit)) pieces seen others in
       let written = written_blocks kind commit bytes named fields in
       none_there (signature_field kind) read.blocks.headers written.headers (read_again (the_header kind commit bytes named fields)) read.prefix
       read.tail
@@ -130,5 +131,5 @@ module _ (kind : Kind) (commit : CommitLines) (bytes : List ℕ) (named : HasHea
 
 pub no_signature_error_of_decoded : (kind : Kind) (content : List ℕ) (read : CommitLines) → DecodesToCommit kind content read
     → IsCommitSignatureError kind content Malformed → ⊥
-no_signature_error_of_decoded kind content read is (pieces, seen, others) = two_endings kind state.Tree content (lines_of_commit read) pieces
+no_signature_error_of_decoded kind content read is (pieces, seen, others) = yields_ending_unique kind state.Tree content (lines_of_commit read) pieces
     (yields_lines_of_commit kind content read is) seen

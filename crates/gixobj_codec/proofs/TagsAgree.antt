@@ -30,55 +30,55 @@ use Rattle.gixobj_codec.specs.Agreeing.{AreTheSame}
 abbrev pub AreAfter : List ℕ → List ℕ → Type 0
 AreAfter leading rest = (place : ℕ) (format : Format) → MarksPlace (leading ++ rest) place format → length leading ≤ place
 
-marker_begins : (format : Format) (marker : List ℕ) → IsMarkerOf format marker → (rest : List ℕ) × (marker ≡ 45 ∷ rest)
-marker_begins _ _ pgp_signature = (codes "----BEGIN PGP SIGNATURE-----", refl)
-marker_begins _ _ pgp_message = (codes "----BEGIN PGP MESSAGE-----", refl)
-marker_begins _ _ signed_message = (codes "----BEGIN SIGNED MESSAGE-----", refl)
-marker_begins _ _ ssh_signature = (codes "----BEGIN SSH SIGNATURE-----", refl)
+marker_begins_with_dash : (format : Format) (marker : List ℕ) → IsMarkerOf format marker → (rest : List ℕ) × (marker ≡ 45 ∷ rest)
+marker_begins_with_dash _ _ pgp_signature = (codes "----BEGIN PGP SIGNATURE-----", refl)
+marker_begins_with_dash _ _ pgp_message = (codes "----BEGIN PGP MESSAGE-----", refl)
+marker_begins_with_dash _ _ signed_message = (codes "----BEGIN SIGNED MESSAGE-----", refl)
+marker_begins_with_dash _ _ ssh_signature = (codes "----BEGIN SSH SIGNATURE-----", refl)
 
 -- bytes that begin with another byte than a marker begin with no marker
-no_marker : (byte : ℕ) (content bytes : List ℕ) (format : Format) → byte ≢ 45 → bytes ≡ byte ∷ content → BeginsWithMarker format bytes → ⊥
-no_marker byte content bytes format other is begins =
-    let (rest, dashes) = marker_begins format begins.marker begins.known in
+no_marker_of_other_byte : (byte : ℕ) (content bytes : List ℕ) (format : Format) → byte ≢ 45 → bytes ≡ byte ∷ content → BeginsWithMarker format bytes → ⊥
+no_marker_of_other_byte byte content bytes format other is begins =
+    let (rest, dashes) = marker_begins_with_dash format begins.marker begins.known in
     let same : byte ∷ content ≡ 45 ∷ (rest ++ begins.rest) = sym is ∙ begins.joined ∙ ap (λ (it : List ℕ). it ++ begins.rest) dashes in
     other (cc same)
 
 -- the first newline comes after a line without one
-line_within : (line lines rest after : List ℕ) → IsByteFree 10 line → line ++ 10 ∷ rest ≡ lines ++ 10 ∷ after → length line ≤ length lines
-line_within [] lines rest after free same = omega arith
-line_within (byte ∷ line) [] rest after free same = absurd (All-head (λ (it : ℕ). it ≢ 10) byte line free (cc same))
-line_within (byte ∷ line) (other ∷ lines) rest after free same =
+line_len_le_lines_len : (line lines rest after : List ℕ) → IsByteFree 10 line → line ++ 10 ∷ rest ≡ lines ++ 10 ∷ after → length line ≤ length lines
+line_len_le_lines_len [] lines rest after free same = omega arith
+line_len_le_lines_len (byte ∷ line) [] rest after free same = absurd (All-head (λ (it : ℕ). it ≢ 10) byte line free (cc same))
+line_len_le_lines_len (byte ∷ line) (other ∷ lines) rest after free same =
     let tail : line ++ 10 ∷ rest ≡ lines ++ 10 ∷ after = cc same in
-    let shorter : length line ≤ length lines = line_within line lines rest after (All-tail (λ (it : ℕ). it ≢ 10) byte line free) tail in
+    let shorter : length line ≤ length lines = line_len_le_lines_len line lines rest after (All-tail (λ (it : ℕ). it ≢ 10) byte line free) tail in
     omega (arith, shorter)
 
 -- a line that begins with another byte than a marker, by the bytes before a position: none, or lines
-line_by_prefix : (byte : ℕ) (line rest leading after : List ℕ) (place : ℕ) (format : Format) → byte ≢ 45 → IsByteFree 10 (byte ∷ line)
+line_len_le_marker_place : (byte : ℕ) (line rest leading after : List ℕ) (place : ℕ) (format : Format) → byte ≢ 45 → IsByteFree 10 (byte ∷ line)
     → (byte ∷ line) ++ 10 ∷ rest ≡ leading ++ after → length leading ≡ place
     → BeginsWithMarker format after → StartsLine leading → length ((byte ∷ line) ++ 10 ∷ []) ≤ place
-line_by_prefix byte line rest leading after place format other free joined as_long begins (inl none) =
-    absurd (no_marker byte (line ++ 10 ∷ rest) after format other (sym (joined ∙ ap (λ (it : List ℕ). it ++ after) none)) begins)
-line_by_prefix byte line rest leading after place format other free joined as_long begins (inr (lines, ends)) =
+line_len_le_marker_place byte line rest leading after place format other free joined as_long begins (inl none) =
+    absurd (no_marker_of_other_byte byte (line ++ 10 ∷ rest) after format other (sym (joined ∙ ap (λ (it : List ℕ). it ++ after) none)) begins)
+line_len_le_marker_place byte line rest leading after place format other free joined as_long begins (inr (lines, ends)) =
     let cut : (byte ∷ line) ++ 10 ∷ rest ≡ lines ++ 10 ∷ after = joined ∙ ap (λ (it : List ℕ). it ++ after) ends
     ∙ append_assoc lines (10 ∷ []) after in
-    let within : length (byte ∷ line) ≤ length lines = line_within (byte ∷ line) lines rest after free cut in
+    let within : length (byte ∷ line) ≤ length lines = line_len_le_lines_len (byte ∷ line) lines rest after free cut in
     let long : length leading ≡ length lines + 1 = ap length ends ∙ length-append lines (10 ∷ []) in
     let longer : length ((byte ∷ line) ++ 10 ∷ []) ≡ length (byte ∷ line) + 1 = length-append (byte ∷ line) (10 ∷ []) in
     omega (arith, within, long, longer, as_long)
 
-after_line : (byte : ℕ) (line rest : List ℕ) → byte ≢ 45 → IsByteFree 10 (byte ∷ line) → AreAfter ((byte ∷ line) ++ 10 ∷ []) rest
-after_line byte line rest other free place format it =
-    line_by_prefix byte line rest it.prefix it.rest place format other free (sym (append_assoc (byte ∷ line) (10 ∷ []) rest) ∙ it.joined) it.as_long
+are_after_line : (byte : ℕ) (line rest : List ℕ) → byte ≢ 45 → IsByteFree 10 (byte ∷ line) → AreAfter ((byte ∷ line) ++ 10 ∷ []) rest
+are_after_line byte line rest other free place format it =
+    line_len_le_marker_place byte line rest it.prefix it.rest place format other free (sym (append_assoc (byte ∷ line) (10 ∷ []) rest) ∙ it.joined) it.as_long
     it.marked
     it.starts
 
-after_field : (byte : ℕ) (name value rest : List ℕ) → byte ≢ 45 → IsByteFree 10 (byte ∷ name) → IsByteFree 10 value
+are_after_field : (byte : ℕ) (name value rest : List ℕ) → byte ≢ 45 → IsByteFree 10 (byte ∷ name) → IsByteFree 10 value
     → AreAfter (encode_field (byte ∷ name) value) rest
-after_field byte name value rest other named one_line =
+are_after_field byte name value rest other named one_line =
     let flat : (byte ∷ (name ++ 32 ∷ value)) ++ 10 ∷ [] ≡ encode_field (byte ∷ name) value = append_assoc (byte ∷ name) (32 ∷ value) (10 ∷ []) in
     let spaced : IsByteFree 10 (32 ∷ value) = All-cons (λ (it : ℕ). it ≢ 10) 32 value (λ same. omega (arith, same)) one_line in
     let free : IsByteFree 10 (byte ∷ (name ++ 32 ∷ value)) = All-append (λ (it : ℕ). it ≢ 10) (byte ∷ name) (32 ∷ value) named spaced in
-    subst (λ (leading : List ℕ). AreAfter leading rest) flat (after_line byte (name ++ 32 ∷ value) rest other free)
+    subst (λ (leading : List ℕ). AreAfter leading rest) flat (are_after_line byte (name ++ 32 ∷ value) rest other free)
 
 pub also_after : (a b rest : List ℕ) → AreAfter a (b ++ rest) → AreAfter b rest → AreAfter (a ++ b) rest
 also_after a b rest after_a after_b place format it =
@@ -90,14 +90,14 @@ also_after a b rest after_a after_b place format it =
 
 -- ---- the lines of a tag
 
-after_tagger : (tagger : Option (List ℕ)) (input body : List ℕ) → BeginsWithTagger input tagger body → AreAfter (encode_tagger tagger) body
-after_tagger None input body has = λ place format it. omega arith
-after_tagger (Some line) input body has = after_field 116 (codes "agger") line body (λ same. omega (arith, same))
+are_after_tagger : (tagger : Option (List ℕ)) (input body : List ℕ) → BeginsWithTagger input tagger body → AreAfter (encode_tagger tagger) body
+are_after_tagger None input body has = λ place format it. omega arith
+are_after_tagger (Some line) input body has = are_after_field 116 (codes "agger") line body (λ same. omega (arith, same))
     (byte_free_of_all_pass 10 (codes "tagger") refl) has.0.one_line
 
-tagger_joined : (tagger : Option (List ℕ)) (input body : List ℕ) → BeginsWithTagger input tagger body → input ≡ encode_tagger tagger ++ body
-tagger_joined None input body has = sym has.1
-tagger_joined (Some line) input body has = has.0.joined
+begins_with_tagger_eq_append : (tagger : Option (List ℕ)) (input body : List ℕ) → BeginsWithTagger input tagger body → input ≡ encode_tagger tagger ++ body
+begins_with_tagger_eq_append None input body has = sym has.1
+begins_with_tagger_eq_append (Some line) input body has = has.0.joined
 
 -- the lines and the body are the encoding
 pub lines_joined : (kind : Kind) (content : List ℕ) (tag : TagLines) → (reads : Reads kind content tag) → content ≡ encode_tag_lines tag ++ reads.body
@@ -110,7 +110,7 @@ lines_joined kind content tag reads =
     reads.target.0.joined
     ∙ ap (λ (rest : List ℕ). object ++ rest)
     (reads.target_kind.joined ∙ ap (λ (rest : List ℕ). type ++ rest)
-    (reads.name.0.joined ∙ ap (λ (rest : List ℕ). name ++ rest) (tagger_joined tag.tagger reads.after_name reads.body reads.tagger)))
+    (reads.name.0.joined ∙ ap (λ (rest : List ℕ). name ++ rest) (begins_with_tagger_eq_append tag.tagger reads.after_name reads.body reads.tagger)))
     ∙ sym flat
 
 pub after_lines : (kind : Kind) (content : List ℕ) (tag : TagLines) → (reads : Reads kind content tag) → AreAfter (encode_tag_lines tag) reads.body
@@ -120,26 +120,26 @@ after_lines kind content tag reads =
     let name = encode_field (codes "tag") tag.name in
     let tagger = encode_tagger tag.tagger in
     let after_object : AreAfter object (type ++ (name ++ (tagger ++ reads.body))) =
-    after_field 111 (codes "bject") tag.target _ (λ same. omega (arith, same)) (byte_free_of_all_pass 10 (codes "object") refl) reads.target.0.one_line in
+    are_after_field 111 (codes "bject") tag.target _ (λ same. omega (arith, same)) (byte_free_of_all_pass 10 (codes "object") refl) reads.target.0.one_line in
     let after_type : AreAfter type (name ++ (tagger ++ reads.body)) =
-    after_field 116 (codes "ype") (kind_name tag.target_kind) _ (λ same. omega (arith, same))
+    are_after_field 116 (codes "ype") (kind_name tag.target_kind) _ (λ same. omega (arith, same))
     (byte_free_of_all_pass 10 (codes "type") refl) reads.target_kind.one_line in
     let name_after : AreAfter name (tagger ++ reads.body) =
-    after_field 116 (codes "ag") tag.name _ (λ same. omega (arith, same)) (byte_free_of_all_pass 10 (codes "tag") refl) reads.name.0.one_line in
+    are_after_field 116 (codes "ag") tag.name _ (λ same. omega (arith, same)) (byte_free_of_all_pass 10 (codes "tag") refl) reads.name.0.one_line in
     also_after ((object ++ type) ++ name) tagger reads.body
     (also_after (object ++ type) name (tagger ++ reads.body) (also_after object type (name ++ (tagger ++ reads.body)) after_object after_type)
     name_after)
-    (after_tagger tag.tagger reads.after_name reads.body reads.tagger)
+    (are_after_tagger tag.tagger reads.after_name reads.body reads.tagger)
 
-newline_by_prefix : (rest leading after : List ℕ) (place : ℕ) (format : Format) → 10 ∷ rest ≡ leading ++ after → length leading ≡ place
+one_le_marker_place : (rest leading after : List ℕ) (place : ℕ) (format : Format) → 10 ∷ rest ≡ leading ++ after → length leading ≡ place
     → BeginsWithMarker format after → StartsLine leading → 1 ≤ place
-newline_by_prefix rest leading after place format joined as_long begins (inl none) =
-    absurd (no_marker 10 rest after format (λ same. omega (arith, same)) (sym (joined ∙ ap (λ (it : List ℕ). it ++ after) none)) begins)
-newline_by_prefix rest leading after place format joined as_long begins (inr (lines, ends)) =
+one_le_marker_place rest leading after place format joined as_long begins (inl none) =
+    absurd (no_marker_of_other_byte 10 rest after format (λ same. omega (arith, same)) (sym (joined ∙ ap (λ (it : List ℕ). it ++ after) none)) begins)
+one_le_marker_place rest leading after place format joined as_long begins (inr (lines, ends)) =
     omega (arith, as_long, ap length ends, length-append lines (10 ∷ []))
 
 pub after_newline_alone : (rest : List ℕ) → AreAfter (10 ∷ []) rest
-after_newline_alone rest place format it = newline_by_prefix rest it.prefix it.rest place format it.joined it.as_long it.marked it.starts
+after_newline_alone rest place format it = one_le_marker_place rest it.prefix it.rest place format it.joined it.as_long it.marked it.starts
 
 -- ---- the marker of the body is that of the encoding
 
@@ -148,16 +148,16 @@ abbrev pub IsFoundIn : List ℕ → Option (List ℕ) → Type 0
 IsFoundIn content None = HasNoMarker content
 IsFoundIn content (Some bytes) = (before : List ℕ) × (format : Format) × HasTagSignature content bytes before format
 
-right_true : (a b : Bool) → (a && b) ≡ true → b ≡ true
-right_true true b both = both
-right_true false b both = cc both
+and_true_second : (a b : Bool) → (a && b) ≡ true → b ≡ true
+and_true_second true b both = both
+and_true_second false b both = cc both
 
 pub no_marker_in_newlines : (body : List ℕ) → IsTrue (are_newlines body) → HasNoMarker body
 no_marker_in_newlines body are place format it =
     let both : (are_newlines it.prefix && are_newlines it.rest) ≡ true = sym (list_all-append (λ byte. byte == 10) it.prefix it.rest)
     ∙ ap are_newlines (sym it.joined) ∙ are in
-    let rest : are_newlines it.rest ≡ true = right_true (are_newlines it.prefix) (are_newlines it.rest) both in
-    let (more, dashes) = marker_begins format it.marked.marker it.marked.known in
+    let rest : are_newlines it.rest ≡ true = and_true_second (are_newlines it.prefix) (are_newlines it.rest) both in
+    let (more, dashes) = marker_begins_with_dash format it.marked.marker it.marked.known in
     let begins : it.rest ≡ 45 ∷ (more ++ it.marked.rest) = it.marked.joined ∙ ap (λ (content : List ℕ). content ++ it.marked.rest) dashes in
     let none : false ≡ true = ap are_newlines (sym begins) ∙ rest in
     cc none
@@ -208,12 +208,12 @@ module _ (lines content : List ℕ) (after : AreAfter (lines ++ 10 ∷ []) conte
     },
   )
 
-body_found : (lines body message : List ℕ) (signature : Option (List ℕ)) → AreAfter lines body → IsBody body message signature
+is_found_in_body : (lines body message : List ℕ) (signature : Option (List ℕ)) → AreAfter lines body → IsBody body message signature
     → IsFoundIn (lines ++ body) signature
-body_found lines body message signature after (newlines_alone _ are) =
+is_found_in_body lines body message signature after (newlines_alone _ are) =
     λ place format it. no_marker_in_newlines body are (place - length lines) format
     (marks_place_after_prefix lines body place format (after place format it) it)
-body_found lines body message signature after (after_a_newline _ content _ _ joined more parted) =
+is_found_in_body lines body message signature after (after_a_newline _ content _ _ joined more parted) =
     let ahead : AreAfter (lines ++ 10 ∷ []) content = also_after lines (10 ∷ []) content (subst (λ (it : List ℕ). AreAfter lines it) joined after)
     (after_newline_alone content) in
     let flat : (lines ++ 10 ∷ []) ++ content ≡ lines ++ body = append_assoc lines (10 ∷ []) content ∙ ap (λ (it : List ℕ). lines ++ it)
@@ -223,7 +223,7 @@ body_found lines body message signature after (after_a_newline _ content _ _ joi
 pub tag_found : (kind : Kind) (content : List ℕ) (tag : TagLines) → Reads kind content tag → IsFoundIn content tag.signature
 tag_found kind content tag reads =
     subst (λ (it : List ℕ). IsFoundIn it tag.signature) (sym (lines_joined kind content tag reads))
-    (body_found (encode_tag_lines tag) reads.body tag.message tag.signature (after_lines kind content tag reads) reads.parted)
+    (is_found_in_body (encode_tag_lines tag) reads.body tag.message tag.signature (after_lines kind content tag reads) reads.parted)
 
 -- ---- both signatures agree
 
@@ -235,28 +235,31 @@ one_signature content signature signature' before before' format format' has has
     (split.1, one.1)
 
 -- the format of a signature that is found is that of the marker at its start
-found_format : (content signature before : List ℕ) (format : Format) → HasTagSignature content signature before format
+signature_begins_with_marker : (content signature before : List ℕ) (format : Format) → HasTagSignature content signature before format
     → BeginsWithMarker format signature
-found_format content signature before format has =
+signature_begins_with_marker content signature before format has =
     let here = has.is_place.here in
     let split = append_split_unique here.prefix here.rest before signature (sym here.joined ∙ has.joined) (here.as_long ∙ sym has.as_long) in
     subst (λ (it : List ℕ). BeginsWithMarker format it) split.1 here.marked
 
-agree : (content : List ℕ) (signature : Option (List ℕ)) (own : Option SignatureRef) (found : Option (SignatureRef × SignedData))
+found_signatures_are_the_same : (content : List ℕ) (signature : Option (List ℕ)) (own : Option SignatureRef) (found : Option (SignatureRef × SignedData))
     → IsFoundIn content signature
     → IsSignature signature own
     → IfSome found (FindsSignatureOfTag content) → IfNone found (HasNoMarker content) → AreTheSame own found
-agree content None None None is own passed none = tt
-agree content None None (Some found) is own passed none = absurd (no_marker_and_marker_place content passed.place found.0.format passed.is_place is)
-agree content None (Some it) found is own passed none = absurd own
-agree content (Some bytes) None found (before, format, has) own passed none = absurd (own format (found_format content bytes before format has))
-agree content (Some bytes) (Some it) None (before, format, has) own passed none = absurd (no_marker_and_marker_place content has.place format has.is_place none)
-agree content (Some bytes) (Some it) (Some found) (before, format, has) own passed none =
+found_signatures_are_the_same content None None None is own passed none = tt
+found_signatures_are_the_same content None None (Some found) is own passed none =
+    absurd (no_marker_and_marker_place content passed.place found.0.format passed.is_place is)
+found_signatures_are_the_same content None (Some it) found is own passed none = absurd own
+found_signatures_are_the_same content (Some bytes) None found (before, format, has) own passed none =
+    absurd (own format (signature_begins_with_marker content bytes before format has))
+found_signatures_are_the_same content (Some bytes) (Some it) None (before, format, has) own passed none =
+    absurd (no_marker_and_marker_place content has.place format has.is_place none)
+found_signatures_are_the_same content (Some bytes) (Some it) (Some found) (before, format, has) own passed none =
     let one = one_signature content (bstr_bytes found.0.bytes) bytes (signed_bytes found.1) before found.0.format format passed has in
-    (one.0 ∙ sym own.0, one.1 ∙ format_of_marker_unique bytes format it.format (found_format content bytes before format has) own.1)
+    (one.0 ∙ sym own.0, one.1 ∙ format_of_marker_unique bytes format it.format (signature_begins_with_marker content bytes before format has) own.1)
 
 pub tag_signatures_are_same : (kind : Kind) (content : List ℕ) (tag : TagLines) (own : Option SignatureRef) (found : Option (SignatureRef × SignedData))
     → DecodesToTag kind content tag → IsSignature tag.signature own
     → IfSome found (FindsSignatureOfTag content) → IfNone found (HasNoMarker content) → AreTheSame own found
-tag_signatures_are_same kind content tag own found is = agree content tag.signature own found
+tag_signatures_are_same kind content tag own found is = found_signatures_are_the_same content tag.signature own found
     (tag_found kind content tag (parts_of_decoded_tag kind content tag is))

@@ -20,18 +20,19 @@ cut (byte ∷ p) bytes (other ∷ head) rest same long =
     let (more, joined, remaining) = cut p bytes head rest tail (omega arith) in
     (more, cc (first, joined), remaining)
 
-nothing_after : (p more : List ℕ) → p ++ more ≡ [] → more ≡ []
-nothing_after [] more same = same
-nothing_after (byte ∷ p) more same = cc same
+suffix_nil_of_append_nil : (p more : List ℕ) → p ++ more ≡ [] → more ≡ []
+suffix_nil_of_append_nil [] more same = same
+suffix_nil_of_append_nil (byte ∷ p) more same = cc same
 
-starts_within : (p more lines : List ℕ) → p ++ more ≡ lines ++ 10 ∷ [] → StartsLine more
-starts_within [] more lines same = inr (lines, same)
-starts_within (byte ∷ p) more [] same = let tail : p ++ more ≡ [] = cc same in inl (nothing_after p more tail)
-starts_within (byte ∷ p) more (other ∷ lines) same = let tail : p ++ more ≡ lines ++ 10 ∷ [] = cc same in starts_within p more lines tail
+starts_line_of_lines_suffix : (p more lines : List ℕ) → p ++ more ≡ lines ++ 10 ∷ [] → StartsLine more
+starts_line_of_lines_suffix [] more lines same = inr (lines, same)
+starts_line_of_lines_suffix (byte ∷ p) more [] same = let tail : p ++ more ≡ [] = cc same in inl (suffix_nil_of_append_nil p more tail)
+starts_line_of_lines_suffix (byte ∷ p) more (other ∷ lines) same = let tail : p ++ more ≡ lines ++ 10 ∷ [] = cc same in
+    starts_line_of_lines_suffix p more lines tail
 
-starts_after : (p more head : List ℕ) → head ≡ p ++ more → StartsLine head → StartsLine more
-starts_after p more head is (inl none) = inl (nothing_after p more (sym is ∙ none))
-starts_after p more head is (inr (lines, ends)) = starts_within p more lines (sym is ∙ ends)
+starts_line_of_suffix : (p more head : List ℕ) → head ≡ p ++ more → StartsLine head → StartsLine more
+starts_line_of_suffix p more head is (inl none) = inl (suffix_nil_of_append_nil p more (sym is ∙ none))
+starts_line_of_suffix p more head is (inr (lines, ends)) = starts_line_of_lines_suffix p more lines (sym is ∙ ends)
 
 -- a marker after a prefix marks a position of the rest
 pub marks_place_after_prefix : (p bytes : List ℕ) (place : ℕ) (format : Format) → length p ≤ place → MarksPlace (p ++ bytes) place format
@@ -43,7 +44,7 @@ marks_place_after_prefix p bytes place format past it =
       rest = it.rest;
       joined = parts.2;
       as_long = omega (arith, ap length parts.1, length-append p parts.0, it.as_long);
-      starts = starts_after p parts.0 it.prefix parts.1 it.starts;
+      starts = starts_line_of_suffix p parts.0 it.prefix parts.1 it.starts;
       marked = it.marked;
     }
 
@@ -57,16 +58,16 @@ append_split_unique (x ∷ a) b (y ∷ c) d same long =
     let rest = append_split_unique a b c d tail (omega arith) in
     (cc (first, rest.0), rest.1)
 
-arranged_tag : (lines message signature : List ℕ) → lines ++ (message ++ 10 ∷ signature) ≡ ((lines ++ (message ++ [])) ++ 10 ∷ []) ++ signature
-arranged_tag lines message signature = simp (append_assoc, append-nil)
+signed_tag_append_assoc : (lines message signature : List ℕ) → lines ++ (message ++ 10 ∷ signature) ≡ ((lines ++ (message ++ [])) ++ 10 ∷ []) ++ signature
+signed_tag_append_assoc lines message signature = simp (append_assoc, append-nil)
 
 pub signed_tag_bytes : (tag : TagLines) (bytes : List ℕ) → encode_tag (signed_as (Some bytes) tag) ≡ payload_of_tag tag ++ bytes
-signed_tag_bytes tag bytes = arranged_tag (encode_tag_lines tag) (encode_message tag.message) bytes
+signed_tag_bytes tag bytes = signed_tag_append_assoc (encode_tag_lines tag) (encode_message tag.message) bytes
 
-at_payload : (unsigned bytes : List ℕ) (place : ℕ) (format own : Format) → BeginsWithMarker own bytes
+marker_place_eq_payload_len : (unsigned bytes : List ℕ) (place : ℕ) (format own : Format) → BeginsWithMarker own bytes
     → ((other_place : ℕ) (other : Format) → MarksPlace bytes other_place other → other_place ≡ 0)
     → IsMarkerPlace ((unsigned ++ 10 ∷ []) ++ bytes) place format → place ≡ length (unsigned ++ 10 ∷ [])
-at_payload unsigned bytes place format own begins one is =
+marker_place_eq_payload_len unsigned bytes place format own begins one is =
     let here : MarksPlace ((unsigned ++ 10 ∷ []) ++ bytes) (length (unsigned ++ 10 ∷ [])) own = record {
       prefix = unsigned ++ 10 ∷ [];
       rest = bytes;
@@ -85,7 +86,8 @@ pub signed_data_is_payload_of_tag : (tag : TagLines) (bytes signature signed : L
 signed_data_is_payload_of_tag tag bytes signature signed format marker has =
     let is : IsMarkerPlace (payload_of_tag tag ++ bytes) has.place format = subst (λ (it : List ℕ). IsMarkerPlace it has.place format)
     (signed_tag_bytes tag bytes) has.is_place in
-    let place : has.place ≡ length (payload_of_tag tag) = at_payload (encode_tag (signed_as None tag)) bytes has.place format marker.format marker.begins
+    let place : has.place ≡ length (payload_of_tag tag) = marker_place_eq_payload_len
+    (encode_tag (signed_as None tag)) bytes has.place format marker.format marker.begins
     marker.one is in
     append_split_unique signed signature (payload_of_tag tag) bytes (sym has.joined ∙ signed_tag_bytes tag bytes) (has.as_long ∙ place)
 

@@ -35,9 +35,9 @@ pub record HasSameParts (commit other : CommitLines) : Type 0 where
   pub committer : other.committer ≡ commit.committer
   pub message : other.message ≡ commit.message
 
--- the signature is the value of the commit's first signature header, and the signed bytes are the encoding of the commit
--- without that header. They decode to that commit, unless a header named `encoding` would then come first. To whichever
--- commit they decode, it has the same parts
+-- the signature is the value of the commit's first signature header, and the signed bytes are the encoding of the
+-- commit without that header. They decode to that commit, unless a header named `encoding` would then come first. To
+-- whichever commit they decode, it has the same parts
 pub record SignsCommit (kind : Kind) (commit : CommitLines) (signature signed : List ℕ) : Type 0 where
   pub value : HasFirstValue (signature_field kind) commit signature
   pub encoded : signed ≡ encode_commit (without_first_header (signature_field kind) commit)

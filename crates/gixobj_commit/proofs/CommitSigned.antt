@@ -27,15 +27,15 @@ begins_plan_of_call runs (run_then call next) s t outcome (answer, m, ran, rest)
 begins_plan_of_call runs no_more s t outcome carried = absurd carried
 
 -- filtering a list and then taking views equals filtering the views
-one_kept : {X Y : Type 0} (view : X → Y) (x : X) (xs : List X) (ys : List Y) (b : Bool) → map view xs ≡ ys
+map_view_cond_cons : {X Y : Type 0} (view : X → Y) (x : X) (xs : List X) (ys : List Y) (b : Bool) → map view xs ≡ ys
     → map view (cond b (x ∷ xs) xs) ≡ cond b (view x ∷ ys) ys
-one_kept view x xs ys true same = ap (λ (rest : List _). view x ∷ rest) same
-one_kept view x xs ys false same = same
+map_view_cond_cons view x xs ys true same = ap (λ (rest : List _). view x ∷ rest) same
+map_view_cond_cons view x xs ys false same = same
 
 pub map_filter_view : {X Y : Type 0} (view : X → Y) (test : Y → Bool) (xs : List X) → map view (filter (λ x. test (view x)) xs) ≡ filter test
     (map view xs)
 map_filter_view view test [] = refl
-map_filter_view view test (x ∷ xs) = one_kept view x (filter (λ y. test (view y)) xs) (filter test (map view xs)) (test (view x))
+map_filter_view view test (x ∷ xs) = map_view_cond_cons view x (filter (λ y. test (view y)) xs) (filter test (map view xs)) (test (view x))
     (map_filter_view view test xs)
 
 -- a commit, and the same commit without its signature headers

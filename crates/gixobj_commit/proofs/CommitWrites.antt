@@ -63,15 +63,17 @@ encode_commit_ids_in_lower_case tree id parents spells =
     ∙ ap (λ (it : List ℕ). encode_field (codes "tree") (encode_id_hex id) ++ it) more
 
 -- the parts after a prefix are regrouped
-regrouped : (prefix encoding headers message : List ℕ) → ((prefix ++ encoding) ++ headers) ++ message ≡ prefix ++ ((encoding ++ headers) ++ message)
-regrouped prefix encoding headers message = simp append_assoc
+commit_parts_append_assoc : (prefix encoding headers message : List ℕ) → ((prefix ++ encoding) ++ headers) ++ message
+    ≡ prefix ++ ((encoding ++ headers) ++ message)
+commit_parts_append_assoc prefix encoding headers message = simp append_assoc
 
 -- the encoding of a borrowed commit, in parts
-borrowed_parts : (commit : CommitRef) (id : ObjectId) → DecodesToId (bstr_bytes commit.tree) id → encode_commit (in_lower_case (commit_lines commit))
+encode_borrowed_commit_in_parts : (commit : CommitRef) (id : ObjectId) → DecodesToId (bstr_bytes commit.tree) id
+    → encode_commit (in_lower_case (commit_lines commit))
     ≡ in_parts (ids_written id hex_parent commit.parents.items) (encode_field (codes "author") (bstr_bytes commit.author))
     (encode_field (codes "committer") (bstr_bytes commit.committer))
     (rest_written commit.encoding borrowed_header commit.extra_headers.items (bstr_bytes commit.message))
-borrowed_parts commit id spells =
+encode_borrowed_commit_in_parts commit id spells =
     let author = encode_field (codes "author") (bstr_bytes commit.author) in
     let committer = encode_field (codes "committer") (bstr_bytes commit.committer) in
     let encoding = encode_encoding (bytes_if_some commit.encoding) in
@@ -79,7 +81,7 @@ borrowed_parts commit id spells =
     let before = encode_ids (in_lower_case (commit_lines commit)) in
     let ids = encode_commit_ids_in_lower_case commit.tree id commit.parents.items spells in
     let headers = flat_map-map encode_header header_of commit.extra_headers.items in
-    regrouped ((before ++ author) ++ committer) encoding (flat_map encode_header (map header_of commit.extra_headers.items)) message
+    commit_parts_append_assoc ((before ++ author) ++ committer) encoding (flat_map encode_header (map header_of commit.extra_headers.items)) message
     ∙ ap (λ (it : List ℕ). ((it ++ author) ++ committer)
     ++ ((encoding ++ flat_map encode_header (map header_of commit.extra_headers.items)) ++ message)) ids
     ∙ ap (λ (it : List ℕ). in_parts (ids_written id hex_parent commit.parents.items) author committer ((encoding ++ it) ++ message)) headers
@@ -93,7 +95,7 @@ pub borrowed_commit_in_parts : (commit : CommitRef) (id : ObjectId) (parents : L
     (ids_written id hex_parent parents) (encode_field (codes "author") author) (encode_field (codes "committer") committer)
     (rest_written commit.encoding borrowed_header headers message)
 borrowed_commit_in_parts commit id parents author committer headers message spells one two three four five = record {
-  joined = borrowed_parts commit id spells
+  joined = encode_borrowed_commit_in_parts commit id spells
       ∙ ap (λ (it : List BStr). in_parts (ids_written id hex_parent it) (encode_field (codes "author") (bstr_bytes commit.author))
       (encode_field (codes "committer") (bstr_bytes commit.committer))
       (rest_written commit.encoding borrowed_header commit.extra_headers.items (bstr_bytes commit.message))) (sym one)
@@ -110,11 +112,11 @@ borrowed_commit_in_parts commit id parents author committer headers message spel
 }
 
 -- the written bytes of a borrowed commit before its message encoding
-borrowed_prefix : (commit : CommitRef) (id : ObjectId) → DecodesToId (bstr_bytes commit.tree) id
+borrowed_before_encoding_in_parts : (commit : CommitRef) (id : ObjectId) → DecodesToId (bstr_bytes commit.tree) id
     → before_encoding (in_lower_case (commit_lines commit))
     ≡ (ids_written id hex_parent commit.parents.items ++ encode_field (codes "author") (bstr_bytes commit.author)) ++ encode_field (codes "committer")
     (bstr_bytes commit.committer)
-borrowed_prefix commit id spells =
+borrowed_before_encoding_in_parts commit id spells =
     ap (λ (it : List ℕ). (it ++ encode_field (codes "author") (bstr_bytes commit.author)) ++ encode_field (codes "committer")
     (bstr_bytes commit.committer))
     (encode_commit_ids_in_lower_case commit.tree id commit.parents.items spells)
@@ -128,27 +130,27 @@ pub borrowed_commit_error_of_part : (commit : CommitRef) (id : ObjectId) (parent
     → IsCommitLinesError (in_lower_case (commit_lines commit)) value
     (((ids_written id hex_parent parents ++ encode_field (codes "author") author) ++ encode_field (codes "committer") committer) ++ parts)
 borrowed_commit_error_of_part commit id parents author committer value parts spells one two three (rejected, nothing) =
-    (rejected, rw (nothing, one, two, three) (append-nil _ ∙ sym (borrowed_prefix commit id spells)))
+    (rejected, rw (nothing, one, two, three) (append-nil _ ∙ sym (borrowed_before_encoding_in_parts commit id spells)))
 
 -- ---- owned commits
 
-owned_ids : (commit : Commit) → encode_ids (owned_commit_lines commit) ≡ ids_written commit.tree owned_parent commit.parents.items
-owned_ids commit = ap (λ (it : List ℕ). encode_field (codes "tree") (encode_id_hex commit.tree) ++ it)
+encode_ids_of_owned : (commit : Commit) → encode_ids (owned_commit_lines commit) ≡ ids_written commit.tree owned_parent commit.parents.items
+encode_ids_of_owned commit = ap (λ (it : List ℕ). encode_field (codes "tree") (encode_id_hex commit.tree) ++ it)
     (flat_map-map encode_parent encode_id_hex commit.parents.items)
 
 -- the encoding of an owned commit, in parts
-owned_parts : (commit : Commit) → encode_commit (owned_commit_lines commit)
+encode_owned_commit_in_parts : (commit : Commit) → encode_commit (owned_commit_lines commit)
     ≡ in_parts (ids_written commit.tree owned_parent commit.parents.items) (encode_field (codes "author") (encode_owned_actor commit.author))
     (encode_field (codes "committer") (encode_owned_actor commit.committer))
     ((encode_encoding (owned_bytes_if_some commit.encoding) ++ flat_map owned_header commit.extra_headers.items) ++ 10 ∷ bstring_bytes commit.message)
-owned_parts commit =
+encode_owned_commit_in_parts commit =
     let author = encode_field (codes "author") (encode_owned_actor commit.author) in
     let committer = encode_field (codes "committer") (encode_owned_actor commit.committer) in
     let encoding = encode_encoding (owned_bytes_if_some commit.encoding) in
     let message : List ℕ = 10 ∷ bstring_bytes commit.message in
     let written = flat_map encode_header (map owned_header_of commit.extra_headers.items) in
-    regrouped ((encode_ids (owned_commit_lines commit) ++ author) ++ committer) encoding written message
-    ∙ ap (λ (it : List ℕ). in_parts it author committer ((encoding ++ written) ++ message)) (owned_ids commit)
+    commit_parts_append_assoc ((encode_ids (owned_commit_lines commit) ++ author) ++ committer) encoding written message
+    ∙ ap (λ (it : List ℕ). in_parts it author committer ((encoding ++ written) ++ message)) (encode_ids_of_owned commit)
     ∙ ap (λ (it : List ℕ). in_parts (ids_written commit.tree owned_parent commit.parents.items) author committer ((encoding ++ it) ++ message))
     (flat_map-map encode_header owned_header_of commit.extra_headers.items)
 
@@ -159,7 +161,7 @@ pub owned_commit_in_parts : (commit : Commit) (parents : List ObjectId) (encodin
     (encode_field (codes "author") (encode_owned_actor commit.author))
     (encode_field (codes "committer") (encode_owned_actor commit.committer)) (rest_written encoding owned_header headers message)
 owned_commit_in_parts commit parents encoding headers message one two three four =
-    record { joined = rw (one, two, three, four) (owned_parts commit) }
+    record { joined = rw (one, two, three, four) (encode_owned_commit_in_parts commit) }
 
 -- an author is rejected after the ids
 pub owned_commit_error_of_author : (commit : Commit) (parents : List ObjectId) (value : RejectedValue) (parts : List ℕ) → parents ≡ commit.parents.items
@@ -170,7 +172,7 @@ owned_commit_error_of_author commit parents value parts one (illegal, is, name) 
       illegal,
       is,
       rw (name, one) (sym (append_assoc (ids_written commit.tree owned_parent commit.parents.items) (codes "author") (32 ∷ []))
-          ∙ ap (λ (it : List ℕ). (it ++ codes "author") ++ 32 ∷ []) (sym (owned_ids commit))),
+          ∙ ap (λ (it : List ℕ). (it ++ codes "author") ++ 32 ∷ []) (sym (encode_ids_of_owned commit))),
     )
 
 -- a committer is rejected after the author
@@ -188,7 +190,7 @@ owned_commit_error_of_committer commit parents value parts one legal (illegal, i
       illegal,
       is,
       rw (name, one) (sym (append_assoc (ids_written commit.tree owned_parent commit.parents.items ++ author) (codes "committer") (32 ∷ []))
-          ∙ ap (λ (it : List ℕ). ((it ++ author) ++ codes "committer") ++ 32 ∷ []) (sym (owned_ids commit))),
+          ∙ ap (λ (it : List ℕ). ((it ++ author) ++ codes "committer") ++ 32 ∷ []) (sym (encode_ids_of_owned commit))),
     )
     )
 
@@ -210,7 +212,7 @@ owned_commit_error_of_encoding commit parents encoding value parts one two autho
       committer,
       (
         subst (λ (it : Option (List ℕ)). IsMessageEncodingError it value) two rejected,
-        rw (nothing, one) (append-nil (prefix (ids_written commit.tree owned_parent commit.parents.items)) ∙ ap prefix (sym (owned_ids commit))),
+        rw (nothing, one) (append-nil (prefix (ids_written commit.tree owned_parent commit.parents.items)) ∙ ap prefix (sym (encode_ids_of_owned commit))),
       ),
     )
     )
@@ -233,7 +235,7 @@ pub borrowed_commit_error_after : (commit : CommitRef) (id : ObjectId) (parents 
     → committer ≡ bstr_bytes commit.committer → IsCommitLinesError (in_lower_case (commit_lines commit)) value parts
     → parts ≡ (ids_written id hex_parent parents ++ encode_field (codes "author") author) ++ encode_field (codes "committer") committer
 borrowed_commit_error_after commit id parents author committer value parts spells one two three (rejected, after) =
-    rw (one, two, three) (after ∙ borrowed_prefix commit id spells)
+    rw (one, two, three) (after ∙ borrowed_before_encoding_in_parts commit id spells)
 
 -- the value that an owned commit rejects: its author after the ids, its committer after the author's line, or its message
 -- encoding after the committer's line
@@ -250,7 +252,7 @@ owned_commit_error_cases commit parents encoding value parts one two (inl (illeg
     inl (
       codes "author" ++ 32 ∷ [],
       (illegal, is, refl),
-      rw one (after ∙ ap (λ (it : List ℕ). (it ++ codes "author") ++ 32 ∷ []) (owned_ids commit)
+      rw one (after ∙ ap (λ (it : List ℕ). (it ++ codes "author") ++ 32 ∷ []) (encode_ids_of_owned commit)
           ∙ append_assoc (ids_written commit.tree owned_parent commit.parents.items) (codes "author") (32 ∷ [])),
     )
 owned_commit_error_cases commit parents encoding value parts one two (inr (inl (legal, illegal, is, after))) =
@@ -259,7 +261,7 @@ owned_commit_error_cases commit parents encoding value parts one two (inr (inl (
       codes "committer" ++ 32 ∷ [],
       legal,
       (illegal, is, refl),
-      rw one (after ∙ ap (λ (it : List ℕ). ((it ++ author) ++ codes "committer") ++ 32 ∷ []) (owned_ids commit)
+      rw one (after ∙ ap (λ (it : List ℕ). ((it ++ author) ++ codes "committer") ++ 32 ∷ []) (encode_ids_of_owned commit)
           ∙ append_assoc (ids_written commit.tree owned_parent commit.parents.items ++ author) (codes "committer") (32 ∷ [])),
     ))
 owned_commit_error_cases commit parents encoding value parts one two (inr (inr (author, committer, (rejected, after)))) =
@@ -268,7 +270,7 @@ owned_commit_error_cases commit parents encoding value parts one two (inr (inr (
       committer,
       (subst (λ (it : Option (List ℕ)). IsMessageEncodingError it value) (sym two) rejected, refl),
       rw one (after ∙ ap (λ (it : List ℕ). (it ++ encode_field (codes "author") (encode_owned_actor commit.author)) ++ encode_field (codes "committer")
-          (encode_owned_actor commit.committer)) (owned_ids commit)),
+          (encode_owned_actor commit.committer)) (encode_ids_of_owned commit)),
     ))
 
 -- nothing is rejected in the ids

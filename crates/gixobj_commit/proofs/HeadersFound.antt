@@ -16,20 +16,22 @@ use Rattle.gixobj_commit.specs.declared.extra_headers.FindAll.{FindAll}
 
 -- ---- values in a list of headers
 
-is_other : (b : Bool) (xs ys : List ℕ) → bytes_eq xs ys ≡ b → xs ≢ ys → bytes_eq xs ys ≡ false
-is_other false xs ys test other = test
-is_other true xs ys test other = absurd (other ((bytes_eq-Decides xs ys).0 test))
+bytes_eq_false_of_ne : (b : Bool) (xs ys : List ℕ) → bytes_eq xs ys ≡ b → xs ≢ ys → bytes_eq xs ys ≡ false
+bytes_eq_false_of_ne false xs ys test other = test
+bytes_eq_false_of_ne true xs ys test other = absurd (other ((bytes_eq-Decides xs ys).0 test))
 
-passed : (name : List ℕ) (others more : List Header) → HasNoHeaderNamed name others → values_named name (others ++ more) ≡ values_named name more
-passed name [] more lacks = refl
-passed name (one ∷ others) more lacks =
-    let other = is_other (bytes_eq one.name name) one.name name refl (All-head (λ it. it.name ≢ name) one others lacks) in
+values_named_append_other : (name : List ℕ) (others more : List Header) → HasNoHeaderNamed name others
+    → values_named name (others ++ more) ≡ values_named name more
+values_named_append_other name [] more lacks = refl
+values_named_append_other name (one ∷ others) more lacks =
+    let other = bytes_eq_false_of_ne (bytes_eq one.name name) one.name name refl (All-head (λ it. it.name ≢ name) one others lacks) in
     let kept = filter (λ it. bytes_eq it.name name) (others ++ more) in
-    ap (λ test. map (λ it. it.value) (cond test (one ∷ kept) kept)) other ∙ passed name others more (All-tail (λ it. it.name ≢ name) one others lacks)
+    ap (λ test. map (λ it. it.value) (cond test (one ∷ kept) kept)) other
+    ∙ values_named_append_other name others more (All-tail (λ it. it.name ≢ name) one others lacks)
 
-taken : (name : List ℕ) (value : BStr) (more : List Header) → values_named name (header_at name value ∷ more) ≡ bstr_bytes value
+values_named_cons_same : (name : List ℕ) (value : BStr) (more : List Header) → values_named name (header_at name value ∷ more) ≡ bstr_bytes value
     ∷ values_named name more
-taken name value more =
+values_named_cons_same name value more =
     let kept = filter (λ it. bytes_eq it.name name) more in
     ap (λ test. map (λ it. it.value) (cond test (header_at name value ∷ kept) kept)) ((bytes_eq-Decides name name).1 refl)
 
@@ -78,14 +80,15 @@ module _ {S : Type 0} (rest : S → List Header) where
   pub none_to_come : (s t : FindAll S) → NextOfAll (YieldsFirstBy pair_of rest) s None t → length (still_to_come s) ≡ 0
   none_to_come s t (same, (received, gave)) =
       let all = all_came s.name.now s.inner t.inner received gave ∙ sym (append-nil (map pair_of received)) in
-      ap (λ it. length (values_named s.name.now it)) all ∙ ap length (passed s.name.now (map pair_of received) [] gave.1)
+      ap (λ it. length (values_named s.name.now it)) all ∙ ap length (values_named_append_other s.name.now (map pair_of received) [] gave.1)
 
   pub one_came : (s : FindAll S) (value : BStr) (t : FindAll S) → NextOfAll (YieldsFirstBy pair_of rest) s (Some value) t
       → still_to_come s ≡ bstr_bytes value ∷ still_to_come t
   one_came s value t (same, (received, gave)) =
       let name = s.name.now in
       let (lacks, all) = first name s.inner t.inner received value gave in
-      ap (values_named name) all ∙ passed name gave.1 (header_at name value ∷ rest t.inner) lacks ∙ taken name value (rest t.inner)
+      ap (values_named name) all ∙ values_named_append_other name gave.1 (header_at name value ∷ rest t.inner) lacks
+      ∙ values_named_cons_same name value (rest t.inner)
       ∙ ap (λ it. bstr_bytes value ∷ values_named it (rest t.inner)) (sym same)
 
   pub all_values : (s : FindAll S) → YieldsList (NextOfAll (YieldsFirstBy pair_of rest)) bstr_bytes s

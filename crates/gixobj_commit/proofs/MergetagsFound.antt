@@ -18,12 +18,13 @@ use Rattle.gixobj_tag.specs.TagViews.{tag_lines}
 use Rattle.gixobj_tag.specs.declared.tag.TagRef.{TagRef}
 
 -- bytes decode as at most one tag
-one_reading : (kind : Kind) (content : List ℕ) (item : Result TagRef Error) (read : Option TagLines) → IsTagOf kind content item → IsTagOrNone kind content read
+tag_if_ok_unique : (kind : Kind) (content : List ℕ) (item : Result TagRef Error) (read : Option TagLines) → IsTagOf kind content item
+    → IsTagOrNone kind content read
     → tag_if_ok item ≡ read
-one_reading kind content (Ok tag) (Some lines) is is' = ap Some (tag_unique kind content (tag_lines tag) lines is is')
-one_reading kind content (Ok tag) None is none = absurd (none (tag_lines tag) is)
-one_reading kind content (Err error) (Some lines) (same, none) is = absurd (none lines is)
-one_reading kind content (Err error) None none none' = refl
+tag_if_ok_unique kind content (Ok tag) (Some lines) is is' = ap Some (tag_unique kind content (tag_lines tag) lines is is')
+tag_if_ok_unique kind content (Ok tag) None is none = absurd (none (tag_lines tag) is)
+tag_if_ok_unique kind content (Err error) (Some lines) (same, none) is = absurd (none lines is)
+tag_if_ok_unique kind content (Err error) None none none' = refl
 
 module _ {S : Type 0} (rest : S → List Header) where
   abbrev Steps : Mergetags S → Option (Result TagRef Error) → Mergetags S → Type 0
@@ -82,7 +83,7 @@ module _ {S : Type 0} (rest : S → List Header) where
         let others : remaining_mergetags rest t ≡ encodings = cc joined in
         let answer : IsTagOf kind content item = subst (λ (of : Kind). IsTagOf of content item) same
         (subst (λ (bytes : List ℕ). IsTagOf (mergetag_kind s) bytes item) value it.is) in
-        (one_reading kind content item one answer is, run_listed kind t encodings read (it.same ∙ same) others all),
+        (tag_if_ok_unique kind content item one answer is, run_listed kind t encodings read (it.same ∙ same) others all),
   )
 
   pub all_listed : (s : Mergetags S) (read : List (Option TagLines)) → AllZip (IsTagOrNone (mergetag_kind s)) (remaining_mergetags rest s) read

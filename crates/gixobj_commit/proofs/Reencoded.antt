@@ -14,21 +14,22 @@ use Rattle.gixobj_line.specs.Commit.{DecodesToHeaders, CommitLines, DecodesToCom
 use Rattle.gixobj_commit.specs.CommitWriting.{IsMessageEncodingError, IsCommitLinesError, encode_commit, in_lower_case}
 use Rattle.gixobj_fields.specs.FieldWriting.{encode_header}
 
-headers_read_back : (bytes : List ℕ) (headers : List Header) → DecodesToHeaders bytes headers → flat_map encode_header headers ≡ bytes
-headers_read_back bytes [] none = sym none
-headers_read_back bytes (header ∷ headers) (first, rest, joined, one, more) =
+encode_decoded_headers : (bytes : List ℕ) (headers : List Header) → DecodesToHeaders bytes headers → flat_map encode_header headers ≡ bytes
+encode_decoded_headers bytes [] none = sym none
+encode_decoded_headers bytes (header ∷ headers) (first, rest, joined, one, more) =
     ap (λ (it : List ℕ). it ++ flat_map encode_header headers) (header_round_trips first header one)
-    ∙ ap (λ (it : List ℕ). first ++ it) (headers_read_back rest headers more)
+    ∙ ap (λ (it : List ℕ). first ++ it) (encode_decoded_headers rest headers more)
     ∙ sym joined
 
 -- ---- a commit
 
-all_stay : (encodings : List (List ℕ)) → All (λ bytes. AllPass is_lower_hex_digit bytes) encodings → map str_to_ascii_lowercase encodings ≡ encodings
-all_stay [] lower = refl
-all_stay (bytes ∷ encodings) lower =
+all_lower_case_of_lower_hex : (encodings : List (List ℕ)) → All (λ bytes. AllPass is_lower_hex_digit bytes) encodings
+    → map str_to_ascii_lowercase encodings ≡ encodings
+all_lower_case_of_lower_hex [] lower = refl
+all_lower_case_of_lower_hex (bytes ∷ encodings) lower =
     let P : List ℕ → Type 0 = λ it. AllPass is_lower_hex_digit it in
     let first = lower_case_of_lower_hex bytes (All-head P bytes encodings lower) in
-    let rest = all_stay encodings (All-tail P bytes encodings lower) in
+    let rest = all_lower_case_of_lower_hex encodings (All-tail P bytes encodings lower) in
     cc (first, rest)
 
 -- the encoding of a commit, from its parts
@@ -43,19 +44,20 @@ pub commit_reencodes_identically : (kind : Kind) (bytes : List ℕ) (commit : Co
 commit_reencodes_identically kind bytes commit it tree parents =
     ap (λ (hex : List ℕ). of_parts hex (map str_to_ascii_lowercase commit.parents) commit (flat_map encode_header commit.extra_headers))
     (lower_case_of_lower_hex commit.tree tree)
-    ∙ ap (λ (hexes : List (List ℕ)). of_parts commit.tree hexes commit (flat_map encode_header commit.extra_headers)) (all_stay commit.parents parents)
+    ∙ ap (λ (hexes : List (List ℕ)). of_parts commit.tree hexes commit (flat_map encode_header commit.extra_headers))
+    (all_lower_case_of_lower_hex commit.parents parents)
     ∙ ap (λ (headers : List ℕ). of_parts commit.tree commit.parents commit headers)
-    (headers_read_back it.headers_encoding commit.extra_headers it.extra_headers)
+    (encode_decoded_headers it.headers_encoding commit.extra_headers it.extra_headers)
     ∙ sym it.joined
 
-encoding_not_rejected : (encoding : Option (List ℕ)) (headers : List Header) → IsEncoding encoding headers → encoding ≢ Some [] → (value : RejectedValue)
+encoding_rejects_nothing : (encoding : Option (List ℕ)) (headers : List Header) → IsEncoding encoding headers → encoding ≢ Some [] → (value : RejectedValue)
     → IsMessageEncodingError encoding value → ⊥
-encoding_not_rejected None headers is some value rejected = rejected
-encoding_not_rejected (Some encoding) headers is some value (inl (none, same)) = some (ap Some none)
-encoding_not_rejected (Some encoding) headers is some value (inr (has, same)) = no_byte_of_byte_free 10 encoding is has
+encoding_rejects_nothing None headers is some value rejected = rejected
+encoding_rejects_nothing (Some encoding) headers is some value (inl (none, same)) = some (ap Some none)
+encoding_rejects_nothing (Some encoding) headers is some value (inr (has, same)) = no_byte_of_byte_free 10 encoding is has
 
 -- the encoder of a decoded commit rejects only an empty message encoding
 pub decoded_commit_rejects_nothing : (kind : Kind) (bytes : List ℕ) (commit : CommitLines) → DecodesToCommit kind bytes commit → commit.encoding ≢ Some []
     → RejectsNothing (IsCommitLinesError (in_lower_case commit))
 decoded_commit_rejects_nothing kind bytes commit it some value parts rejected =
-    encoding_not_rejected commit.encoding commit.extra_headers it.encoding some value rejected.0
+    encoding_rejects_nothing commit.encoding commit.extra_headers it.encoding some value rejected.0

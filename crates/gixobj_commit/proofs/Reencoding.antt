@@ -26,20 +26,20 @@ use Rattle.gixobj_commit.specs.declared.commit.Commit.{Commit}
 
 -- ---- the owned copy
 
-ids_in_lower_case : (hexes : List (List ℕ)) (ids : List ObjectId) → AllZip DecodesToId hexes ids
+encode_decoded_ids_lower_case : (hexes : List (List ℕ)) (ids : List ObjectId) → AllZip DecodesToId hexes ids
     → map encode_id_hex ids ≡ map str_to_ascii_lowercase hexes
-ids_in_lower_case [] [] are = refl
-ids_in_lower_case [] (id ∷ ids) are = absurd are
-ids_in_lower_case (hex ∷ hexes) [] are = absurd are
-ids_in_lower_case (hex ∷ hexes) (id ∷ ids) are = let one = encode_id_hex_lower_case hex id are.0 in let more =
-    ids_in_lower_case hexes ids are.1 in cc (one, more)
+encode_decoded_ids_lower_case [] [] are = refl
+encode_decoded_ids_lower_case [] (id ∷ ids) are = absurd are
+encode_decoded_ids_lower_case (hex ∷ hexes) [] are = absurd are
+encode_decoded_ids_lower_case (hex ∷ hexes) (id ∷ ids) are = let one = encode_id_hex_lower_case hex id are.0 in let more =
+    encode_decoded_ids_lower_case hexes ids are.1 in cc (one, more)
 
 pub owned_parts_are_normalized : (lines : CommitLines) (commit : Commit) → IsOwnedFormOfCommit lines commit
     → AreNormalizedPartsOfCommit lines (owned_commit_lines commit)
 owned_parts_are_normalized lines commit is =
     record {
       tree = encode_id_hex_lower_case lines.tree commit.tree is.tree;
-      parents = ids_in_lower_case lines.parents commit.parents.items is.parents;
+      parents = encode_decoded_ids_lower_case lines.parents commit.parents.items is.parents;
       author = encode_owned_actor_is_canonical lines.author commit.author is.author;
       committer = encode_owned_actor_is_canonical lines.committer commit.committer is.committer;
       encoding = is.encoding;
@@ -50,39 +50,40 @@ owned_parts_are_normalized lines commit is =
 -- ---- errors
 
 -- what is rejected of the message encoding of a decoded commit
-encoding_rejected : (encoding : Option (List ℕ)) (headers : List Header) (value : RejectedValue) → IsEncoding encoding headers
+encoding_error_is_empty_header : (encoding : Option (List ℕ)) (headers : List Header) (value : RejectedValue) → IsEncoding encoding headers
     → IsMessageEncodingError encoding value
     → (value ≡ empty_header) × (encoding ≡ Some [])
-encoding_rejected None headers value is rejected = absurd rejected
-encoding_rejected (Some encoding) headers value is (inl (none, is_empty)) = (is_empty, ap (λ (it : List ℕ). Some it) none)
-encoding_rejected (Some encoding) headers value is (inr (has, is_newline)) = absurd (All-contains (λ (it : ℕ). it ≡ 10 → ⊥) encoding 10 is has refl)
+encoding_error_is_empty_header None headers value is rejected = absurd rejected
+encoding_error_is_empty_header (Some encoding) headers value is (inl (none, is_empty)) = (is_empty, ap (λ (it : List ℕ). Some it) none)
+encoding_error_is_empty_header (Some encoding) headers value is (inr (has, is_newline)) =
+    absurd (All-contains (λ (it : ℕ). it ≡ 10 → ⊥) encoding 10 is has refl)
 
 -- what is rejected of the owned copy of a decoded commit
 abbrev WhatIsRejected : CommitLines → RejectedValue → Type 0
 WhatIsRejected lines value = ((value ≡ illegal_actor) × (IsUnwritable lines.author ⊎ IsUnwritable lines.committer))
     ⊎ ((value ≡ empty_header) × HasEmptyEncoding lines)
 
-what_is_rejected : (kind : Kind) (bytes : List ℕ) (lines : CommitLines) (commit : Commit) (value : RejectedValue) (parts : List ℕ)
+what_is_rejected_of_commit_error : (kind : Kind) (bytes : List ℕ) (lines : CommitLines) (commit : Commit) (value : RejectedValue) (parts : List ℕ)
     → DecodesToCommit kind bytes lines → IsOwnedFormOfCommit lines commit → IsOwnedCommitError commit value parts → WhatIsRejected lines value
-what_is_rejected kind bytes lines commit value parts read own (inl (illegal, is, before)) =
+what_is_rejected_of_commit_error kind bytes lines commit value parts read own (inl (illegal, is, before)) =
     inl (is, inl (is_unwritable_of_error lines.author commit.author own.author illegal))
-what_is_rejected kind bytes lines commit value parts read own (inr (inl (legal, illegal, is, before))) =
+what_is_rejected_of_commit_error kind bytes lines commit value parts read own (inr (inl (legal, illegal, is, before))) =
     inl (is, inr (is_unwritable_of_error lines.committer commit.committer own.committer illegal))
-what_is_rejected kind bytes lines commit value parts read own (inr (inr (legal, other, rejected))) =
-    inr (encoding_rejected lines.encoding lines.extra_headers value read.encoding
+what_is_rejected_of_commit_error kind bytes lines commit value parts read own (inr (inr (legal, other, rejected))) =
+    inr (encoding_error_is_empty_header lines.encoding lines.extra_headers value read.encoding
     (subst (λ (it : Option (List ℕ)). IsMessageEncodingError it value) own.encoding rejected.0))
 
-no_other : (lines : CommitLines) (value : RejectedValue) → WhatIsRejected lines value → (value ≡ illegal_actor → ⊥) → (value ≡ empty_header → ⊥) → ⊥
-no_other lines value (inl (is, actor)) no_actor no_encoding = no_actor is
-no_other lines value (inr (is, encoding)) no_actor no_encoding = no_encoding is
+rejected_value_cases : (lines : CommitLines) (value : RejectedValue) → WhatIsRejected lines value → (value ≡ illegal_actor → ⊥) → (value ≡ empty_header → ⊥) → ⊥
+rejected_value_cases lines value (inl (is, actor)) no_actor no_encoding = no_actor is
+rejected_value_cases lines value (inr (is, encoding)) no_actor no_encoding = no_encoding is
 
-its_actor : (lines : CommitLines) → WhatIsRejected lines illegal_actor → IsUnwritable lines.author ⊎ IsUnwritable lines.committer
-its_actor lines (inl (is, actor)) = actor
-its_actor lines (inr (is, encoding)) = cc
+is_unwritable_of_rejected_actor : (lines : CommitLines) → WhatIsRejected lines illegal_actor → IsUnwritable lines.author ⊎ IsUnwritable lines.committer
+is_unwritable_of_rejected_actor lines (inl (is, actor)) = actor
+is_unwritable_of_rejected_actor lines (inr (is, encoding)) = cc
 
-its_encoding : (lines : CommitLines) → WhatIsRejected lines empty_header → HasEmptyEncoding lines
-its_encoding lines (inl (is, actor)) = cc
-its_encoding lines (inr (is, encoding)) = encoding
+has_empty_encoding_of_rejected : (lines : CommitLines) → WhatIsRejected lines empty_header → HasEmptyEncoding lines
+has_empty_encoding_of_rejected lines (inl (is, actor)) = cc
+has_empty_encoding_of_rejected lines (inr (is, encoding)) = encoding
 
 pub owned_error_is_normalized : (kind : Kind) (content : List ℕ) (lines : CommitLines) (commit : Commit) (before after : SinkView) (error : Error)
     → DecodesToCommit kind content lines → IsOwnedFormOfCommit lines commit
@@ -90,23 +91,27 @@ pub owned_error_is_normalized : (kind : Kind) (content : List ℕ) (lines : Comm
     → IsNormalizedCommitError lines before after (encode_commit (owned_commit_lines commit)) error
 owned_error_is_normalized kind content lines commit before after (encode.Writer cause) read own says = says
 owned_error_is_normalized kind content lines commit before after encode.IllegalActor read own (parts, rejected, inserts) =
-    its_actor lines (what_is_rejected kind content lines commit illegal_actor parts read own rejected)
+    is_unwritable_of_rejected_actor lines (what_is_rejected_of_commit_error kind content lines commit illegal_actor parts read own rejected)
 owned_error_is_normalized kind content lines commit before after encode.EmptyValue read own (parts, rejected, inserts) =
-    its_encoding lines (what_is_rejected kind content lines commit empty_header parts read own rejected)
+    has_empty_encoding_of_rejected lines (what_is_rejected_of_commit_error kind content lines commit empty_header parts read own rejected)
 owned_error_is_normalized kind content lines commit before after (encode.NewlineInHeaderValue value) read own (parts, rejected, inserts) =
-    no_other lines _ (what_is_rejected kind content lines commit (header_with_newline (bstring_bytes value)) parts read own rejected) (λ e. cc)
+    rejected_value_cases lines _ (what_is_rejected_of_commit_error kind content lines commit
+    (header_with_newline (bstring_bytes value)) parts read own rejected) (λ e. cc)
     (λ e. cc)
 owned_error_is_normalized kind content lines commit before after encode.StartsWithDash read own (parts, rejected, inserts) =
-    no_other lines _ (what_is_rejected kind content lines commit name_with_dash parts read own rejected) (λ e. cc) (λ e. cc)
+    rejected_value_cases lines _ (what_is_rejected_of_commit_error kind content lines commit name_with_dash parts read own rejected) (λ e. cc) (λ e. cc)
 owned_error_is_normalized kind content lines commit before after (encode.InvalidRefName fault) read own (parts, rejected, inserts) =
-    no_other lines _ (what_is_rejected kind content lines commit (bad_name fault) parts read own rejected) (λ e. cc) (λ e. cc)
+    rejected_value_cases lines _ (what_is_rejected_of_commit_error kind content lines commit (bad_name fault) parts read own rejected) (λ e. cc) (λ e. cc)
 owned_error_is_normalized kind content lines commit before after (encode.NullbyteInFilename name) read own (parts, rejected, inserts) =
-    no_other lines _ (what_is_rejected kind content lines commit (name_with_zero_byte (bstring_bytes name)) parts read own rejected) (λ e. cc)
+    rejected_value_cases lines _ (what_is_rejected_of_commit_error kind content lines commit
+    (name_with_zero_byte (bstring_bytes name)) parts read own rejected) (λ e. cc)
     (λ e. cc)
 owned_error_is_normalized kind content lines commit before after encode.OutOfMemory read own (value, inl (parts, rejected, inserts)) =
-    no_other lines _ (what_is_rejected kind content lines commit (header_with_newline value) parts read own rejected) (λ e. cc) (λ e. cc)
+    rejected_value_cases lines _ (what_is_rejected_of_commit_error kind content lines commit (header_with_newline value) parts read own rejected) (λ e. cc)
+    (λ e. cc)
 owned_error_is_normalized kind content lines commit before after encode.OutOfMemory read own (value, inr (parts, rejected, inserts)) =
-    no_other lines _ (what_is_rejected kind content lines commit (name_with_zero_byte value) parts read own rejected) (λ e. cc) (λ e. cc)
+    rejected_value_cases lines _ (what_is_rejected_of_commit_error kind content lines commit (name_with_zero_byte value) parts read own rejected) (λ e. cc)
+    (λ e. cc)
 
 -- the actor lines of a decoded commit are valid
 pub no_actor_error_of_decoded : (kind : Kind) (content : List ℕ) (lines : CommitLines) → DecodesToCommit kind content lines

@@ -40,34 +40,34 @@ pub record Stepped (node : Opened) (e : EntryView) (rest : List EntryView) (next
   pub ahead : Ahead node rest after
   pub fewer : (child : Child) → next ≡ Some child → length child.open < length node
 
-every : {X : Type 0} (P : X → Type 0) → ((x : X) → P x) → (xs : List X) → AllByRecursion P xs
-every P all [] = tt
-every P all (x ∷ xs) = (all x, every P all xs)
+all_of_every : {X : Type 0} (P : X → Type 0) → ((x : X) → P x) → (xs : List X) → AllByRecursion P xs
+all_of_every P all [] = tt
+all_of_every P all (x ∷ xs) = (all x, all_of_every P all xs)
 
-at_has : (P : EntryView → Type 0) (es : List EntryView) (x : EntryView) → ContainsEntry es x → AllByRecursion P es → P x
-at_has P [] x h all = absurd h
-at_has P (e ∷ es) x (inl same) all = subst P same all.0
-at_has P (e ∷ es) x (inr h) all = at_has P es x h all.1
+holds_of_contains : (P : EntryView → Type 0) (es : List EntryView) (x : EntryView) → ContainsEntry es x → AllByRecursion P es → P x
+holds_of_contains P [] x h all = absurd h
+holds_of_contains P (e ∷ es) x (inl same) all = subst P same all.0
+holds_of_contains P (e ∷ es) x (inr h) all = holds_of_contains P es x h all.1
 
-tree_after : (name : List ℕ) (e : EntryView) (rest : List EntryView) → name ≢ e.name → has_tree name (e ∷ rest) ≡ true → has_tree name rest ≡ true
-tree_after name e rest other h = rw (same_name_false e.name name (λ q. other (sym q))) at h
+has_tree_in_tail : (name : List ℕ) (e : EntryView) (rest : List EntryView) → name ≢ e.name → has_tree name (e ∷ rest) ≡ true → has_tree name rest ≡ true
+has_tree_in_tail name e rest other h = rw (same_name_false e.name name (λ q. other (sym q))) at h
 
-none_at : (side : Level → List EntryView) (name : List ℕ) (ps : List Part) (path : Path) → AllByRecursion (λ p. p.0 ≢ name) ps
+part_at_of_absent : (side : Level → List EntryView) (name : List ℕ) (ps : List Part) (path : Path) → AllByRecursion (λ p. p.0 ≢ name) ps
     → part_at side name ps path ≡ None
-none_at side name [] path others = refl
-none_at side name (p ∷ ps) path others = rw (same_name_false p.0 name others.0) (none_at side name ps path others.1)
+part_at_of_absent side name [] path others = refl
+part_at_of_absent side name (p ∷ ps) path others = rw (same_name_false p.0 name others.0) (part_at_of_absent side name ps path others.1)
 
 module _ (e : EntryView) (rest : List EntryView) (apart : AllByRecursion (λ y. e.name ≢ y.name) rest)
     (ascending : AllByRecursion (ComesBefore e) rest) where
   all_after : (ps : List Part) → AllByRecursion (λ p. p.0 ≢ e.name) ps → AllByRecursion (λ p. has_tree p.0 (e ∷ rest) ≡ true) ps
       → AllByRecursion (λ p. has_tree p.0 rest ≡ true) ps
   all_after [] others h = tt
-  all_after (p ∷ ps) others h = (tree_after p.0 e rest others.0 h.0, all_after ps others.1 h.1)
+  all_after (p ∷ ps) others h = (has_tree_in_tail p.0 e rest others.0 h.0, all_after ps others.1 h.1)
 
   -- an entry of tree mode with this name is the first entry
   own_tree : (y : EntryView) → ContainsEntry (e ∷ rest) y → y.name ≡ e.name → is_tree_mode y.mode ≡ true → is_tree_mode e.mode ≡ true
   own_tree y (inl same) named tree = ap (λ (x : EntryView). is_tree_mode x.mode) same ∙ tree
-  own_tree y (inr h) named tree = absurd (at_has (λ z. e.name ≢ z.name) rest y h apart (sym named))
+  own_tree y (inr h) named tree = absurd (holds_of_contains (λ z. e.name ≢ z.name) rest y h apart (sym named))
 
   own_key : (name : List ℕ) → name ≡ e.name → has_tree name (e ∷ rest) ≡ true → entry_key e ≡ key_of name true
   own_key name is h = let y = entry_of_has_tree name (e ∷ rest) h in ap (key_of e.name) (own_tree y.0 y.1 (y.2 ∙ is) y.3)
@@ -77,11 +77,11 @@ module _ (e : EntryView) (rest : List EntryView) (apart : AllByRecursion (λ y. 
   -- after the directory of another entry there is none of the first entry
   not_after : (p q : Part) → Before p q → p.0 ≢ e.name → has_tree p.0 (e ∷ rest) ≡ true → has_tree q.0 (e ∷ rest) ≡ true → q.0 ≢ e.name
   not_after p q before other first second same =
-      let x = entry_of_has_tree p.0 rest (tree_after p.0 e rest other first) in
+      let x = entry_of_has_tree p.0 rest (has_tree_in_tail p.0 e rest other first) in
       let key : entry_key x.0 ≡ part_key p = ap (key_of x.0.name) x.3 ∙ ap (λ (n : List ℕ). key_of n true) x.2 in
       let back : Before q p = ap (λ k. slice_cmp nat_cmp k (part_key p)) (sym (own_key q.0 same second)) ∙ ap (slice_cmp nat_cmp (entry_key e))
       (sym key)
-      ∙ at_has (ComesBefore e) rest x.0 x.1 ascending in
+      ∙ holds_of_contains (ComesBefore e) rest x.0 x.1 ascending in
       true≢false (ap is_lt (sym (nat_list_cmp_total.trans (part_key p) (part_key q) (part_key p) before back) ∙ tied_itself nat_list_cmp_total
       (part_key p)))
 
@@ -90,14 +90,14 @@ module _ (e : EntryView) (rest : List EntryView) (apart : AllByRecursion (λ y. 
   all_others p [] before other first above = tt
   all_others p (q ∷ qs) before other first above = (not_after p q before.0 other first above.0, all_others p qs before.1 other first above.1)
 
-step : (node : Opened) (e : EntryView) (rest : List EntryView) (remaining : List Child) → Ahead node (e ∷ rest) remaining
+stepped_cons : (node : Opened) (e : EntryView) (rest : List EntryView) (remaining : List Child) → Ahead node (e ∷ rest) remaining
     → Stepped node e rest (next_child e.name remaining) (pairs_after_next e.name remaining)
-step node e rest [] a = record {
+stepped_cons node e rest [] a = record {
   here = λ side path. (a.same side).0 path;
   ahead = record { same = λ side. (a.same side).1; above = tt; ordered = tt; apart = a.apart.1; ascending = a.ascending.1; fewer = a.fewer };
   fewer = λ child is. absurd (cc is);
 }
-step node e rest (c ∷ cs) a =
+stepped_cons node e rest (c ∷ cs) a =
     elim (same_name (bstring_bytes c.name) e.name) as (λ b. same_name (bstring_bytes c.name) e.name ≡ b
     → Stepped node e rest (cond b (Some c) None) (cond b cs (c ∷ cs))) [
       | true ↦ λ is. let own : bstring_bytes c.name ≡ e.name = (bytes_decides (bstring_bytes c.name) e.name).0 is in record {
@@ -131,7 +131,7 @@ step node e rest (c ∷ cs) a =
       | false ↦ λ is. let other : bstring_bytes c.name ≢ e.name = λ q. true≢false (sym ((bytes_decides (bstring_bytes c.name) e.name).1 q) ∙ is) in
           let others : AllByRecursion (λ q. q.0 ≢ e.name) (parts (c ∷ cs)) =
           (other, all_others e rest a.apart.0 a.ascending.0 (part c) (parts cs) a.ordered.0 other a.above.0 a.above.1) in record {
-            here = λ side path. (a.same side).0 path ∙ none_at side e.name (parts (c ∷ cs)) path others;
+            here = λ side path. (a.same side).0 path ∙ part_at_of_absent side e.name (parts (c ∷ cs)) path others;
             ahead = record {
               same = λ side. (a.same side).1;
               above = all_after e rest a.apart.0 a.ascending.0 (parts (c ∷ cs)) others a.above;
@@ -153,13 +153,13 @@ pub stepped_succ : (node : Opened) (items : List EntryView) (i : ℕ) (e : Entry
     → Stepped node e (drop (i + 1) items) (next_child e.name remaining) (pairs_after_next e.name remaining)
 stepped_succ node items i e remaining low is a =
     let here : drop i items ≡ e ∷ drop (i + 1) items = rw add-one (drop-cons items i e low ∙ ap (λ x. x ∷ drop (suc i) items) (sym is)) in
-    step node e (drop (i + 1) items) remaining (subst (λ es. Ahead node es remaining) here a)
+    stepped_cons node e (drop (i + 1) items) remaining (subst (λ es. Ahead node es remaining) here a)
 
 -- before the first entry all children remain
 pub ahead_of_opened : (node : Opened) (es base : List EntryView) (cs : List Child) → opened es base (parts cs) ≡ node → IsLevel es (parts cs)
     → Ahead node es cs
 ahead_of_opened node es base cs is level = record {
-  same = λ side. every (λ (e : EntryView). (path : Path) → at_side side node (e.name ∷ path) ≡ part_at side e.name (parts cs) path)
+  same = λ side. all_of_every (λ (e : EntryView). (path : Path) → at_side side node (e.name ∷ path) ≡ part_at side e.name (parts cs) path)
       (λ e path. level_at_by side node es base (parts cs) is (level_names_apart level) e.name path) es;
   above = level.above;
   ordered = level.ordered;

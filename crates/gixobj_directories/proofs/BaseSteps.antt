@@ -26,11 +26,11 @@ base_none_where_unopened (d ∷ ds) at none =
     elim (tied at d.0) as (λ b. cond b (Some d.1.0) (dirs_of ds at) ≡ None → cond b (Some d.1.1) (bases_of ds at) ≡ None)
     [ true ↦ λ is. absurd (cc is) | false ↦ λ is. base_none_where_unopened ds at is ] none
 
-no_base_in : (name : List ℕ) (ps : List Part) (at : Path) → in_part name ps at ≡ None → bases_in name ps at ≡ None
-no_base_in name [] at none = refl
-no_base_in name (p ∷ ps) at none =
+bases_in_of_unopened : (name : List ℕ) (ps : List Part) (at : Path) → in_part name ps at ≡ None → bases_in name ps at ≡ None
+bases_in_of_unopened name [] at none = refl
+bases_in_of_unopened name (p ∷ ps) at none =
     elim (same_name p.0 name) as (λ b. cond b (dirs_of p.1 at) (in_part name ps at) ≡ None → cond b (bases_of p.1 at) (bases_in name ps at) ≡ None)
-    [ true ↦ λ is. base_none_where_unopened p.1 at is | false ↦ λ is. no_base_in name ps at is ] none
+    [ true ↦ λ is. base_none_where_unopened p.1 at is | false ↦ λ is. bases_in_of_unopened name ps at is ] none
 
 -- the base of a directory after a change, by what is open there before and after
 abbrev pub OfBase : Type 0
@@ -81,7 +81,7 @@ module _ (g : OfBase) (settles : Settles g) where
             (cond b (next path) (in_part first ps path)) (bases_in first ps path)) [
               | true ↦ λ is. subst (λ n. based path ≡ g (in_part n ps path) (next path) (bases_in n ps path)) ((bytes_decides name first).0 is)
                   (inside path)
-              | false ↦ λ is. settles.same (in_part first ps path) (bases_in first ps path) (no_base_in first ps path)
+              | false ↦ λ is. settles.same (in_part first ps path) (bases_in first ps path) (bases_in_of_unopened first ps path)
             ] refl
 
 -- in a created directory the bases after an edit are those of directories that weren't open
@@ -131,7 +131,7 @@ module _ (g : OfBase) (settles : Settles g) (old : Opened) (es : List EntryView)
       (becomes_of_with_part name inner ps others)
       (with_becomes_by base_side name inner ps others)
       (λ path. inside path ∙ ap (λ o. g o (dirs_of inner path) None) (sym (none path)) ∙ ap (λ b. g (in_part name ps path) (dirs_of inner path) b)
-      (sym (no_base_in name ps path (none path))))
+      (sym (bases_in_of_unopened name ps path (none path))))
 
 pub base_edited_of_dropped : (old : Opened) (es es' : List EntryView) (ps : List Part) {base : List EntryView} → opened es base ps ≡ old
     → EachLater (λ x y. x.0 ≢ y.0) ps → (name : List ℕ) → EachLater (λ x y. x.0 ≢ y.0) (other_parts name ps)

@@ -37,14 +37,14 @@ pub walks_of_count : {dirs bases : Dirs} {entries : List EntryView} {below : Lis
 walks_of_count {dirs} {bases} {entries} {below} {own} m n is walk = subst (EmitsEntries dirs bases entries below own) is walk
 
 -- increments add up
-raised_on : (n first then : ℕ) → raised (raised n first) then ≡ raised n (first + then)
-raised_on n zero then = let is : then ≡ 0 + then = omega arith in ap (λ k. raised n k) is
-raised_on n (suc first) then =
+raised_raised : (n first then : ℕ) → raised (raised n first) then ≡ raised n (first + then)
+raised_raised n zero then = let is : then ≡ 0 + then = omega arith in ap (λ k. raised n k) is
+raised_raised n (suc first) then =
     let is : suc (first + then) ≡ suc first + then = omega arith in
-    raised_on (min (n + 1) max_count) first then ∙ ap (λ k. raised n k) is
+    raised_raised (min (n + 1) max_count) first then ∙ ap (λ k. raised n k) is
 
 pub raised_append : (old between new first then : ℕ) → between ≡ raised old first → new ≡ raised between then → new ≡ raised old (first + then)
-raised_append old between new first then before after = after ∙ ap (λ n. raised n then) before ∙ raised_on old first then
+raised_append old between new first then before after = after ∙ ap (λ n. raised n then) before ∙ raised_raised old first then
 
 pub emits_entry_unopened : (inside based : Dirs) (e : EntryView) → inside [] ≡ None → EmitsEntry inside based e [] (entry_unless_null e e.id) 0
 emits_entry_unopened inside based e none = λ dirs bases is b entries below own more walk. walks_of_count more (0 + more) (omega arith)
@@ -57,10 +57,10 @@ emits_below_of_both dirs bases dirs' bases' is b ps own n found = subst (λ (d :
     (subst (λ (d : Dirs). EmitsBelow dirs d ps own n) b found)
 
 -- what the directory of a name emits is what its open directories emit
-in_it : (inside based : Dirs) (dirs bases : Dirs) (name : List ℕ) → in_dir name dirs ≡ inside → in_dir name bases ≡ based
+emits_below_congruent : (inside based : Dirs) (dirs bases : Dirs) (name : List ℕ) → in_dir name dirs ≡ inside → in_dir name bases ≡ based
     → (inner : List Pair) (own : List EntryView) (saved : ℕ) → EmitsBelow inside based inner own saved
     → EmitsBelow (in_dir name dirs) (in_dir name bases) inner own saved
-in_it inside based dirs bases name is b inner own saved found = subst (λ (d : Dirs). EmitsBelow d (in_dir name bases) inner own saved) (sym is)
+emits_below_congruent inside based dirs bases name is b inner own saved found = subst (λ (d : Dirs). EmitsBelow d (in_dir name bases) inner own saved) (sym is)
     (subst (λ (d : Dirs). EmitsBelow inside d inner own saved) (sym b) found)
 
 pub emits_entry_emptied : (inside based : Dirs) (e : EntryView) (inner : List Pair) (own : List EntryView) (saved : ℕ) → own ≡ []
@@ -68,7 +68,7 @@ pub emits_entry_emptied : (inside based : Dirs) (e : EntryView) (inner : List Pa
 emits_entry_emptied inside based e inner [] saved is found = λ dirs bases same b entries below own more walk. left_out_if_empty dirs bases e entries inner
     below own
     saved more
-    (in_it inside based dirs bases e.name same b inner [] saved found) walk
+    (emits_below_congruent inside based dirs bases e.name same b inner [] saved found) walk
 emits_entry_emptied inside based e inner (x ∷ xs) saved is found = absurd (cc is)
 
 pub emits_entry_written : (inside based : Dirs) (e : EntryView) (inner : List Pair) (tree : List EntryView) (saved : ℕ) (id : ObjectId) → tree ≢ []
@@ -77,7 +77,7 @@ emits_entry_written inside based e inner [] saved id filled changed found = absu
 emits_entry_written inside based e inner (first ∷ rest) saved id filled changed found =
     λ dirs bases same b entries below own more walk. rw append_assoc
     (written dirs bases e first entries rest inner below own saved more id
-    (in_it inside based dirs bases e.name same b inner (first ∷ rest) saved found)
+    (emits_below_congruent inside based dirs bases e.name same b inner (first ∷ rest) saved found)
     (λ is. changed (sym (ap (λ (d : Dirs). d []) b) ∙ is)) walk)
 
 pub emits_entry_unchanged : (inside based : Dirs) (e : EntryView) (inner : List Pair) (tree : List EntryView) (saved : ℕ) → tree ≢ [] → based [] ≡ Some tree
@@ -85,12 +85,12 @@ pub emits_entry_unchanged : (inside based : Dirs) (e : EntryView) (inner : List 
 emits_entry_unchanged inside based e inner [] saved filled is found = absurd (filled refl)
 emits_entry_unchanged inside based e inner (first ∷ rest) saved filled is found =
     λ dirs bases same b entries below own more walk. unchanged dirs bases e first entries rest inner below own saved more
-    (in_it inside based dirs bases e.name same b inner (first ∷ rest) saved found) (ap (λ (d : Dirs). d []) b ∙ is) walk
+    (emits_below_congruent inside based dirs bases e.name same b inner (first ∷ rest) saved found) (ap (λ (d : Dirs). d []) b ∙ is) walk
 
 -- the base is a tree, or it isn't
-base_is : (o : Option (List EntryView)) (tree : List EntryView) → (o ≡ Some tree) ⊎ (o ≢ Some tree)
-base_is None tree = inr (λ is. cc is)
-base_is (Some base) tree = ⊎_elim (λ same. inl (ap Some same)) (λ other. inr (λ is. other (cc is))) (entries_eq_or_ne base tree)
+some_eq_or_ne : (o : Option (List EntryView)) (tree : List EntryView) → (o ≡ Some tree) ⊎ (o ≢ Some tree)
+some_eq_or_ne None tree = inr (λ is. cc is)
+some_eq_or_ne (Some base) tree = ⊎_elim (λ same. inl (ap Some same)) (λ other. inr (λ is. other (cc is))) (entries_eq_or_ne base tree)
 
 -- the entry of a directory emits what the directory emits, and then the directory if it is changed
 pub emits_entry_open : (inside based : Dirs) (e : EntryView) (inner : List Pair) (own : List EntryView) (saved : ℕ)
@@ -112,7 +112,7 @@ emits_entry_open inside based e inner (first ∷ rest) saved found =
       emits_entry_written inside based e inner (first ∷ rest) saved e.id
           (λ q. cc q) other found,
     ))
-    (base_is (based []) (first ∷ rest))
+    (some_eq_or_ne (based []) (first ∷ rest))
 
 pub nil_of_is_empty : {X : Type 0} (xs : List X) → true ≡ (length xs == 0) → xs ≡ []
 nil_of_is_empty [] h = refl
@@ -193,12 +193,12 @@ pub longest : Opened → ℕ
 longest [] = 0
 longest (d ∷ ds) = max (length d.0 + 1) (longest ds)
 
-tied_length : (p q : Path) → tied p q ≡ true → length p ≡ length q
-tied_length [] [] h = refl
-tied_length [] (y ∷ q) h = absurd (true≢false (sym h))
-tied_length (x ∷ p) [] h = absurd (true≢false (sym h))
-tied_length (x ∷ p) (y ∷ q) h = let rest : length p ≡ length q =
-    tied_length p q (second (same_name x y) (tied p q) (sym (tied_cons x y p q) ∙ h)) in omega
+tied_len_eq : (p q : Path) → tied p q ≡ true → length p ≡ length q
+tied_len_eq [] [] h = refl
+tied_len_eq [] (y ∷ q) h = absurd (true≢false (sym h))
+tied_len_eq (x ∷ p) [] h = absurd (true≢false (sym h))
+tied_len_eq (x ∷ p) (y ∷ q) h = let rest : length p ≡ length q =
+    tied_len_eq p q (second (same_name x y) (tied p q) (sym (tied_cons x y p q) ∙ h)) in omega
     (arith, rest)
   where
     second : (a b : Bool) → (a && b) ≡ true → b ≡ true
@@ -210,7 +210,7 @@ unfolding longest
 dirs_none_of_long_path [] path h = refl
 dirs_none_of_long_path (d ∷ ds) path h =
     elim (tied path d.0) as (λ b. tied path d.0 ≡ b → cond b (Some d.1.0) (dirs_of ds path) ≡ None) [
-      | true ↦ λ is. let same : length path ≡ length d.0 = tied_length path d.0 is in absurd (omega (arith, same, h))
+      | true ↦ λ is. let same : length path ≡ length d.0 = tied_len_eq path d.0 is in absurd (omega (arith, same, h))
       | false ↦ λ is. dirs_none_of_long_path ds path (omega (arith, h))
     ] refl
 
@@ -219,27 +219,28 @@ pub walk_exists_of_open : (ds : Opened) (entries : List EntryView) → (below : 
 walk_exists_of_open ds entries = walk_exists (longest ds) (dirs_of ds) (bases_of ds) (dirs_none_of_long_path ds) entries
 
 -- a property of an entry and of the others holds of the list with the entry, if its id isn't null
-kept_all : (P : EntryView → Type 0) (e : EntryView) (id : ObjectId) (os : List EntryView) → P (record { mode = e.mode; name = e.name; id = id })
+all_entry_unless_null : (P : EntryView → Type 0) (e : EntryView) (id : ObjectId) (os : List EntryView) → P (record { mode = e.mode; name = e.name; id = id })
     → AllByRecursion P os → AllByRecursion P (entry_unless_null e id ++ os)
-kept_all P e id os h k = elim (is_null id) as (λ b. AllByRecursion P (cond b [] ((record { mode = e.mode; name = e.name; id = id }) ∷ []) ++ os))
+all_entry_unless_null P e id os h k = elim (is_null id) as (λ b. AllByRecursion P (cond b [] ((record { mode = e.mode; name = e.name; id = id }) ∷ []) ++ os))
     [ true ↦ k | false ↦ (h, k) ]
 
 -- a written tree has names and modes of the entries, in the same order
-walk_all : (P : EntryView → Type 0) → ((e : EntryView) (id : ObjectId) → P e → P (record { mode = e.mode; name = e.name; id = id }))
+all_emitted : (P : EntryView → Type 0) → ((e : EntryView) (id : ObjectId) → P e → P (record { mode = e.mode; name = e.name; id = id }))
     → (dirs bases : Dirs) (entries : List EntryView) (below : List Pair) (own : List EntryView) (n : ℕ)
     → EmitsEntries dirs bases entries below own n → AllByRecursion P entries → AllByRecursion P own
-walk_all P same dirs bases entries below own n (end dirs' b') h = tt
-walk_all P same dirs bases entries below own n (unopened dirs' b' e es ps os m none walk) h =
-    kept_all P e e.id os (same e e.id h.0) (walk_all P same dirs' b' es ps os m walk h.1)
-walk_all P same dirs bases entries below own n (left_out_if_empty dirs' b' e es inner ps os i m found walk) h = walk_all P same dirs' b' es ps os m walk h.1
-walk_all P same dirs bases entries below own n (written dirs' b' e first es rest inner ps os i m id found changed walk) h =
-    kept_all P e id os (same e id h.0) (walk_all P same dirs' b' es ps os m walk h.1)
-walk_all P same dirs bases entries below own n (unchanged dirs' b' e first es rest inner ps os i m found same_base walk) h =
-    kept_all P e e.id os (same e e.id h.0) (walk_all P same dirs' b' es ps os m walk h.1)
+all_emitted P same dirs bases entries below own n (end dirs' b') h = tt
+all_emitted P same dirs bases entries below own n (unopened dirs' b' e es ps os m none walk) h =
+    all_entry_unless_null P e e.id os (same e e.id h.0) (all_emitted P same dirs' b' es ps os m walk h.1)
+all_emitted P same dirs bases entries below own n (left_out_if_empty dirs' b' e es inner ps os i m found walk) h =
+    all_emitted P same dirs' b' es ps os m walk h.1
+all_emitted P same dirs bases entries below own n (written dirs' b' e first es rest inner ps os i m id found changed walk) h =
+    all_entry_unless_null P e id os (same e id h.0) (all_emitted P same dirs' b' es ps os m walk h.1)
+all_emitted P same dirs bases entries below own n (unchanged dirs' b' e first es rest inner ps os i m found same_base walk) h =
+    all_entry_unless_null P e e.id os (same e e.id h.0) (all_emitted P same dirs' b' es ps os m walk h.1)
 
-kept_later : (R : EntryView → EntryView → Type 0) (e : EntryView) (id : ObjectId) (os : List EntryView)
+each_later_entry_unless_null : (R : EntryView → EntryView → Type 0) (e : EntryView) (id : ObjectId) (os : List EntryView)
     → AllByRecursion (R (record { mode = e.mode; name = e.name; id = id })) os → EachLater R os → EachLater R (entry_unless_null e id ++ os)
-kept_later R e id os h k = elim (is_null id) as (λ b. EachLater R (cond b [] ((record { mode = e.mode; name = e.name; id = id }) ∷ []) ++ os))
+each_later_entry_unless_null R e id os h k = elim (is_null id) as (λ b. EachLater R (cond b [] ((record { mode = e.mode; name = e.name; id = id }) ∷ []) ++ os))
     [ true ↦ k | false ↦ (h, k) ]
 
 module _ (R : EntryView → EntryView → Type 0) (remaining : (e y : EntryView) (id : ObjectId) → R e y
@@ -249,46 +250,48 @@ module _ (R : EntryView → EntryView → Type 0) (remaining : (e y : EntryView)
       → EmitsEntries dirs bases es ps os n → AllByRecursion (R e) es → AllByRecursion (R (record { mode = e.mode; name = e.name; id = id })) os
   later_kept_as dirs bases e id es ps os n walk h = all_weaker (R e) (R (record { mode = e.mode; name = e.name; id = id }))
       (λ y r. remaining e y id r) os
-      (walk_all (R e) (λ y other r. right e y other r) dirs bases es ps os n walk h)
+      (all_emitted (R e) (λ y other r. right e y other r) dirs bases es ps os n walk h)
 
   walk_later : (dirs bases : Dirs) (entries : List EntryView) (below : List Pair) (own : List EntryView) (n : ℕ)
       → EmitsEntries dirs bases entries below own n
       → EachLater R entries → EachLater R own
   walk_later dirs bases entries below own n (end dirs' b') h = tt
   walk_later dirs bases entries below own n (unopened dirs' b' e es ps os m none walk) h =
-      kept_later R e e.id os (later_kept_as dirs' b' e e.id es ps os m walk h.0) (walk_later dirs' b' es ps os m walk h.1)
+      each_later_entry_unless_null R e e.id os (later_kept_as dirs' b' e e.id es ps os m walk h.0) (walk_later dirs' b' es ps os m walk h.1)
   walk_later dirs bases entries below own n (left_out_if_empty dirs' b' e es inner ps os i m found walk) h = walk_later dirs' b' es ps os m walk h.1
   walk_later dirs bases entries below own n (written dirs' b' e first es rest inner ps os i m id found changed walk) h =
-      kept_later R e id os (later_kept_as dirs' b' e id es ps os m walk h.0) (walk_later dirs' b' es ps os m walk h.1)
+      each_later_entry_unless_null R e id os (later_kept_as dirs' b' e id es ps os m walk h.0) (walk_later dirs' b' es ps os m walk h.1)
   walk_later dirs bases entries below own n (unchanged dirs' b' e first es rest inner ps os i m found same_base walk) h =
-      kept_later R e e.id os (later_kept_as dirs' b' e e.id es ps os m walk h.0) (walk_later dirs' b' es ps os m walk h.1)
+      each_later_entry_unless_null R e e.id os (later_kept_as dirs' b' e e.id es ps os m walk h.0) (walk_later dirs' b' es ps os m walk h.1)
 
-kept_filled : (e : EntryView) (id : ObjectId) (os : List EntryView) → AllByRecursion (λ x. IsFalse (is_null x.id)) os
+all_not_null_entry_unless_null : (e : EntryView) (id : ObjectId) (os : List EntryView) → AllByRecursion (λ x. IsFalse (is_null x.id)) os
     → AllByRecursion (λ x. IsFalse (is_null x.id)) (entry_unless_null e id ++ os)
-kept_filled e id os k = elim (is_null id) as
+all_not_null_entry_unless_null e id os k = elim (is_null id) as
     (λ b. is_null id ≡ b → AllByRecursion (λ x. IsFalse (is_null x.id)) (cond b [] ((record { mode = e.mode; name = e.name; id = id }) ∷ []) ++ os))
     [ true ↦ λ is. k | false ↦ λ is. (is, k) ] refl
 
-walk_filled : (dirs bases : Dirs) (entries : List EntryView) (below : List Pair) (own : List EntryView) (n : ℕ) → EmitsEntries dirs bases entries below own n
+all_emitted_not_null : (dirs bases : Dirs) (entries : List EntryView) (below : List Pair) (own : List EntryView) (n : ℕ)
+    → EmitsEntries dirs bases entries below own n
     → AllByRecursion (λ x. IsFalse (is_null x.id)) own
-walk_filled dirs bases entries below own n (end dirs' b') = tt
-walk_filled dirs bases entries below own n (unopened dirs' b' e es ps os m none walk) = kept_filled e e.id os (walk_filled dirs' b' es ps os m walk)
-walk_filled dirs bases entries below own n (left_out_if_empty dirs' b' e es inner ps os i m found walk) = walk_filled dirs' b' es ps os m walk
-walk_filled dirs bases entries below own n (written dirs' b' e first es rest inner ps os i m id found changed walk) =
-    kept_filled e id os (walk_filled dirs' b' es ps os m walk)
-walk_filled dirs bases entries below own n (unchanged dirs' b' e first es rest inner ps os i m found same_base walk) =
-    kept_filled e e.id os (walk_filled dirs' b' es ps os m walk)
+all_emitted_not_null dirs bases entries below own n (end dirs' b') = tt
+all_emitted_not_null dirs bases entries below own n (unopened dirs' b' e es ps os m none walk) =
+    all_not_null_entry_unless_null e e.id os (all_emitted_not_null dirs' b' es ps os m walk)
+all_emitted_not_null dirs bases entries below own n (left_out_if_empty dirs' b' e es inner ps os i m found walk) = all_emitted_not_null dirs' b' es ps os m walk
+all_emitted_not_null dirs bases entries below own n (written dirs' b' e first es rest inner ps os i m id found changed walk) =
+    all_not_null_entry_unless_null e id os (all_emitted_not_null dirs' b' es ps os m walk)
+all_emitted_not_null dirs bases entries below own n (unchanged dirs' b' e first es rest inner ps os i m found same_base walk) =
+    all_not_null_entry_unless_null e e.id os (all_emitted_not_null dirs' b' es ps os m walk)
 
 pub written_is_storable : (dirs bases : Dirs) (entries : List EntryView) (below : List Pair) (own : List EntryView) (n : ℕ)
     → EmitsEntries dirs bases entries below own n
     → IsWellFormed entries → IsStorable own
 written_is_storable dirs bases entries below own n walk formed = record {
   well_formed = record {
-    names = walk_all (λ e. IsEntryName e.name) (λ e id h. h) dirs bases entries below own n walk formed.names;
+    names = all_emitted (λ e. IsEntryName e.name) (λ e id h. h) dirs bases entries below own n walk formed.names;
     apart = walk_later (λ x y. x.name ≢ y.name) (λ e y id h. h) (λ x e id h. h) dirs bases entries below own n walk formed.apart;
     ascending = walk_later ComesBefore (λ e y id h. h) (λ x e id h. h) dirs bases entries below own n walk formed.ascending;
   };
-  no_nulls = All-from_recursion (λ (e : EntryView). IsFalse (is_null e.id)) own (walk_filled dirs bases entries below own n walk);
+  no_nulls = All-from_recursion (λ (e : EntryView). IsFalse (is_null e.id)) own (all_emitted_not_null dirs bases entries below own n walk);
 }
 
 -- an error that `?` returns

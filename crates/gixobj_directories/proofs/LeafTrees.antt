@@ -32,42 +32,43 @@ use Rattle.gixobj_files.proofs.SameTrees.{same_tree_false_ne}
 abbrev own_leaf_tree : Bool → Level → List (List EntryView)
 own_leaf_tree above level = cond (not above && is_leaf_tree level) (level.0 ∷ []) []
 
-above_under : (name : List ℕ) (path : Path) (ds : Opened) → is_above (name ∷ path) (under name ds) ≡ is_above path ds
-above_under name path [] = refl
-above_under name path (d ∷ ds) = ap (λ b. b && is_at_or_below path d.0) (same_name_refl name)
+is_above_under : (name : List ℕ) (path : Path) (ds : Opened) → is_above (name ∷ path) (under name ds) ≡ is_above path ds
+is_above_under name path [] = refl
+is_above_under name path (d ∷ ds) = ap (λ b. b && is_at_or_below path d.0) (same_name_refl name)
 
-above_rest : (name : List ℕ) (path : Path) (other : List ℕ) (ds rest : Opened) → other ≢ name → is_above (name ∷ path) rest ≡ false
+is_above_under_append : (name : List ℕ) (path : Path) (other : List ℕ) (ds rest : Opened) → other ≢ name → is_above (name ∷ path) rest ≡ false
     → is_above (name ∷ path) (under other ds ++ rest) ≡ false
-above_rest name path other [] rest differ none = none
-above_rest name path other (d ∷ ds) rest differ none = ap (λ b. b && is_at_or_below path d.0) (same_name_false other name differ)
+is_above_under_append name path other [] rest differ none = none
+is_above_under_append name path other (d ∷ ds) rest differ none = ap (λ b. b && is_at_or_below path d.0) (same_name_false other name differ)
 
 -- no directory that is open in directories of other names is open in this one
-none_above : (name : List ℕ) (path : Path) (ps : List Part) → AllByRecursion (λ p. name ≢ p.0) ps → is_above (name ∷ path) (below ps) ≡ false
-none_above name path [] others = refl
-none_above name path (p ∷ ps) others = above_rest name path p.0 p.1 (below ps) (λ is. others.0 (sym is)) (none_above name path ps others.1)
+not_is_above_below : (name : List ℕ) (path : Path) (ps : List Part) → AllByRecursion (λ p. name ≢ p.0) ps → is_above (name ∷ path) (below ps) ≡ false
+not_is_above_below name path [] others = refl
+not_is_above_below name path (p ∷ ps) others = is_above_under_append name path p.0 p.1 (below ps) (λ is. others.0 (sym is))
+    (not_is_above_below name path ps others.1)
 
 -- the leaf trees of the first name come first
-leaf_trees_first : (name : List ℕ) (ds : Opened) (rest : Opened) → ((path : Path) → is_above (name ∷ path) rest ≡ false)
+leaf_trees_under_append : (name : List ℕ) (ds : Opened) (rest : Opened) → ((path : Path) → is_above (name ∷ path) rest ≡ false)
     → leaf_trees (under name ds ++ rest) ≡ leaf_trees ds ++ leaf_trees rest
-leaf_trees_first name [] rest none = refl
-leaf_trees_first name (d ∷ []) rest none = ap (λ b. own_leaf_tree b d.1 ++ leaf_trees rest) (none d.0)
+leaf_trees_under_append name [] rest none = refl
+leaf_trees_under_append name (d ∷ []) rest none = ap (λ b. own_leaf_tree b d.1 ++ leaf_trees rest) (none d.0)
     ∙ sym (append_assoc (own_leaf_tree false d.1) [] (leaf_trees rest))
-leaf_trees_first name (d ∷ e ∷ ds) rest none =
-    ap (λ b. own_leaf_tree b d.1 ++ leaf_trees (under name (e ∷ ds) ++ rest)) (above_under name d.0 (e ∷ ds))
-    ∙ ap (λ ts. own_leaf_tree (is_above d.0 (e ∷ ds)) d.1 ++ ts) (leaf_trees_first name (e ∷ ds) rest none)
+leaf_trees_under_append name (d ∷ e ∷ ds) rest none =
+    ap (λ b. own_leaf_tree b d.1 ++ leaf_trees (under name (e ∷ ds) ++ rest)) (is_above_under name d.0 (e ∷ ds))
+    ∙ ap (λ ts. own_leaf_tree (is_above d.0 (e ∷ ds)) d.1 ++ ts) (leaf_trees_under_append name (e ∷ ds) rest none)
     ∙ sym (append_assoc (own_leaf_tree (is_above d.0 (e ∷ ds)) d.1) (leaf_trees (e ∷ ds)) (leaf_trees rest))
 
 pub leaf_trees_below_cons : (p : Part) (ps : List Part) → AllByRecursion (λ q. p.0 ≢ q.0) ps → leaf_trees (below (p ∷ ps)) ≡ leaf_trees p.1 ++ leaf_trees
     (below ps)
-leaf_trees_below_cons p ps others = leaf_trees_first p.0 p.1 (below ps) (λ path. none_above p.0 path ps others)
+leaf_trees_below_cons p ps others = leaf_trees_under_append p.0 p.1 (below ps) (λ path. not_is_above_below p.0 path ps others)
 
-prefix_all : {X : Type 0} (P : X → Type 0) (xs : List X) (x : X) → AllByRecursion P (xs ++ x ∷ []) → AllByRecursion P xs
-prefix_all P [] x h = tt
-prefix_all P (y ∷ ys) x h = (h.0, prefix_all P ys x h.1)
+all_prefix : {X : Type 0} (P : X → Type 0) (xs : List X) (x : X) → AllByRecursion P (xs ++ x ∷ []) → AllByRecursion P xs
+all_prefix P [] x h = tt
+all_prefix P (y ∷ ys) x h = (h.0, all_prefix P ys x h.1)
 
 pub each_later_prefix : {X : Type 0} (R : X → X → Type 0) (xs : List X) (x : X) → EachLater R (xs ++ x ∷ []) → EachLater R xs
 each_later_prefix R [] x h = tt
-each_later_prefix R (y ∷ ys) x h = (prefix_all (R y) ys x h.0, each_later_prefix R ys x h.1)
+each_later_prefix R (y ∷ ys) x h = (all_prefix (R y) ys x h.0, each_later_prefix R ys x h.1)
 
 -- the leaf trees of the last name come last
 pub leaf_trees_below_snoc : (ps : List Part) (p : Part) → EachLater (λ x y. x.0 ≢ y.0) (ps ++ p ∷ []) → leaf_trees (below (ps ++ p ∷ [])) ≡ leaf_trees
@@ -77,20 +78,20 @@ leaf_trees_below_snoc (q ∷ qs) p apart =
     leaf_trees_below_cons q (qs ++ p ∷ []) apart.0
     ∙ ap (λ ts. leaf_trees q.1 ++ ts) (leaf_trees_below_snoc qs p apart.1)
     ∙ sym (append_assoc (leaf_trees q.1) (leaf_trees (below qs)) (leaf_trees p.1))
-    ∙ ap (λ ts. ts ++ leaf_trees p.1) (sym (leaf_trees_below_cons q qs (prefix_all (λ x. q.0 ≢ x.0) qs p apart.0)))
+    ∙ ap (λ ts. ts ++ leaf_trees p.1) (sym (leaf_trees_below_cons q qs (all_prefix (λ x. q.0 ≢ x.0) qs p apart.0)))
 
 -- pairs that are filled one after the other are filled as appended lists
-fills_then : (qs : List Pair) (ts : List (List EntryView)) (ps qs' : List Pair) (ts' : List (List EntryView)) (ps' : List Pair) → Fills qs ts ps
+fills_append : (qs : List Pair) (ts : List (List EntryView)) (ps qs' : List Pair) (ts' : List (List EntryView)) (ps' : List Pair) → Fills qs ts ps
     → Fills qs' ts' ps' → Fills (qs ++ qs') (ts ++ ts') (ps ++ ps')
-fills_then [] ts ps qs' ts' ps' h k = subst (λ us. Fills qs' us (ps ++ ps')) (ap (λ us. us ++ ts') (sym h.0))
+fills_append [] ts ps qs' ts' ps' h k = subst (λ us. Fills qs' us (ps ++ ps')) (ap (λ us. us ++ ts') (sym h.0))
     (subst (λ us. Fills qs' ts' us) (ap (λ us. us ++ ps') (sym h.1)) k)
-fills_then (q ∷ qs) ts ps qs' ts' ps' (inl h) k = inl (h.0 ++ ps', h.1, ap (λ us. us ++ ps') h.2, fills_then qs ts h.0 qs' ts' ps' h.3 k)
-fills_then (q ∷ qs) ts ps qs' ts' ps' (inr h) k =
-    inr (h.0, h.1 ++ ts', h.2 ++ ps', h.3, ap (λ us. us ++ ts') h.4, ap (λ us. us ++ ps') h.5, fills_then qs h.1 h.2 qs' ts' ps' h.6 k)
+fills_append (q ∷ qs) ts ps qs' ts' ps' (inl h) k = inl (h.0 ++ ps', h.1, ap (λ us. us ++ ps') h.2, fills_append qs ts h.0 qs' ts' ps' h.3 k)
+fills_append (q ∷ qs) ts ps qs' ts' ps' (inr h) k =
+    inr (h.0, h.1 ++ ts', h.2 ++ ps', h.3, ap (λ us. us ++ ts') h.4, ap (λ us. us ++ ps') h.5, fills_append qs h.1 h.2 qs' ts' ps' h.6 k)
 
 pub adds_append : (a b c : List Pair) (ts : List (List EntryView)) (ps : List Pair) (ts' : List (List EntryView)) (ps' : List Pair) → Adds a b ts ps
     → Adds b c ts' ps' → Adds a c (ts ++ ts') (ps ++ ps')
-adds_append a b c ts ps ts' ps' h k = (h.0 ++ k.0, k.1 ∙ ap (λ l. l ++ k.0) h.1 ∙ append_assoc a h.0 k.0, fills_then h.0 ts ps k.0 ts' ps' h.2 k.2)
+adds_append a b c ts ps ts' ps' h k = (h.0 ++ k.0, k.1 ∙ ap (λ l. l ++ k.0) h.1 ∙ append_assoc a h.0 k.0, fills_append h.0 ts ps k.0 ts' ps' h.2 k.2)
 
 pub adds_nil : (a : List Pair) → Adds a a [] []
 adds_nil a = ([], sym (append-nil a), (refl, refl))
@@ -155,35 +156,37 @@ pub record Goes (ds : Opened) (tree base : List EntryView) : Type 0 where
   pub found : EmitsBelow (dirs_of ds) (bases_of ds) [] tree 0
   pub adds : leaf_trees ds ≡ tree ∷ []
 
-not_true : (b : Bool) → not b ≡ true → b ≡ false
-not_true true h = absurd (true≢false (sym h))
-not_true false h = refl
+false_of_not_true : (b : Bool) → not b ≡ true → b ≡ false
+false_of_not_true true h = absurd (true≢false (sym h))
+false_of_not_true false h = refl
 
-all_filled : (es : List EntryView) → AllByRecursion (λ e. not (is_null e.id) ≡ true) es → AllByRecursion (λ e. IsFalse (is_null e.id)) es
-all_filled es h = all_weaker (λ (e : EntryView). not (is_null e.id) ≡ true) (λ (e : EntryView). IsFalse (is_null e.id))
-    (λ e k. not_true (is_null e.id) k) es h
+all_not_null_of_tests : (es : List EntryView) → AllByRecursion (λ e. not (is_null e.id) ≡ true) es → AllByRecursion (λ e. IsFalse (is_null e.id)) es
+all_not_null_of_tests es h = all_weaker (λ (e : EntryView). not (is_null e.id) ≡ true) (λ (e : EntryView). IsFalse (is_null e.id))
+    (λ e k. false_of_not_true (is_null e.id) k) es h
 
-entire_walk : (ds : Opened) (tree base : List EntryView) → ds ≡ opened tree base [] → (es : List EntryView)
+emits_entries_of_childless : (ds : Opened) (tree base : List EntryView) → ds ≡ opened tree base [] → (es : List EntryView)
     → AllByRecursion (λ e. IsFalse (is_null e.id)) es
     → EmitsEntries (dirs_of ds) (bases_of ds) es [] es 0
-entire_walk ds tree base is [] filled = end (dirs_of ds) (bases_of ds)
-entire_walk ds tree base is (e ∷ es) filled =
+emits_entries_of_childless ds tree base is [] filled = end (dirs_of ds) (bases_of ds)
+emits_entries_of_childless ds tree base is (e ∷ es) filled =
     subst (λ own. EmitsEntries (dirs_of ds) (bases_of ds) (e ∷ es) [] own 0) (ap (λ b. cond b [] (e ∷ []) ++ es) filled.0)
-    (unopened (dirs_of ds) (bases_of ds) e es [] es 0 (ap (λ (d : Opened). dirs_of d (e.name ∷ [])) is) (entire_walk ds tree base is es filled.1))
+    (unopened (dirs_of ds) (bases_of ds) e es [] es 0 (ap (λ (d : Opened). dirs_of d (e.name ∷ [])) is)
+    (emits_entries_of_childless ds tree base is es filled.1))
 
 pub leaf_tree_has_base_or_is_emitted : (ds : Opened) (tree base : List EntryView) → ds ≡ opened tree base [] → is_leaf_tree (tree, base) ≡ true
     → Goes ds tree base
 leaf_tree_has_base_or_is_emitted ds tree base is entire =
     let parts = and_parts _ _ entire in
     let first = and_parts _ _ parts.0 in
-    let filled = all_filled tree
+    let filled = all_not_null_of_tests tree
     (recursion_from_All (λ (e : EntryView). not (is_null e.id) ≡ true) tree
     (AllPass-from_list_all (λ (e : EntryView). not (is_null e.id)) tree first.1)) in record {
-      filled = not_nil_of_not_empty tree (sym (not_true (length tree == 0) first.0));
-      changed = same_tree_false_ne tree base (not_true (same_tree tree base) parts.1);
+      filled = not_nil_of_not_empty tree (sym (false_of_not_true (length tree == 0) first.0));
+      changed = same_tree_false_ne tree base (false_of_not_true (same_tree tree base) parts.1);
       storing = filled;
       based = ap (λ (d : Opened). bases_of d []) is;
-      found = of_entries (dirs_of ds) (bases_of ds) tree [] tree 0 (ap (λ (d : Opened). dirs_of d []) is) (entire_walk ds tree base is tree filled);
+      found = of_entries (dirs_of ds) (bases_of ds) tree [] tree 0 (ap (λ (d : Opened). dirs_of d []) is)
+          (emits_entries_of_childless ds tree base is tree filled);
       adds = ap leaf_trees is ∙ leaf_trees_of_childless tree base true entire;
     }
 
@@ -211,9 +214,9 @@ pub not_fills_nil : (q : Pair) (rest ps : List Pair) (ts : List (List EntryView)
 not_fills_nil q rest ps ts blank none (inl h) = h.1 blank
 not_fills_nil q rest ps ts blank none (inr h) = let both : h.0 ∷ h.1 ≡ [] = sym h.4 ∙ none in cc both
 
-below_last : (ps : List Part) (p : Part) → length (below (ps ++ p ∷ [])) ≡ length (below ps) + length p.1
-below_last [] p = omega (arith, length-append (under p.0 p.1) [], length-under p.0 p.1)
-below_last (q ∷ qs) p = omega (arith, length-append (under q.0 q.1) (below (qs ++ p ∷ [])), length-append (under q.0 q.1) (below qs), below_last qs p)
+below_snoc_len : (ps : List Part) (p : Part) → length (below (ps ++ p ∷ [])) ≡ length (below ps) + length p.1
+below_snoc_len [] p = omega (arith, length-append (under p.0 p.1) [], length-under p.0 p.1)
+below_snoc_len (q ∷ qs) p = omega (arith, length-append (under q.0 q.1) (below (qs ++ p ∷ [])), length-append (under q.0 q.1) (below qs), below_snoc_len qs p)
 
 -- the children without the last one
 pub record TakenOff (old new : List Child) (c : Child) : Type 0 where
@@ -227,5 +230,5 @@ taken_off_of_parts old new c is apart =
     let both : EachLater (λ x y. x.0 ≢ y.0) (parts new ++ part c ∷ []) = subst (EachLater (λ x y. x.0 ≢ y.0)) split apart in record {
       last = ap (λ ps. leaf_trees (below ps)) split ∙ leaf_trees_below_snoc (parts new) (part c) both;
       apart = each_later_prefix (λ x y. x.0 ≢ y.0) (parts new) (part c) both;
-      fewer = ap (λ ps. length (below ps)) split ∙ below_last (parts new) (part c);
+      fewer = ap (λ ps. length (below ps)) split ∙ below_snoc_len (parts new) (part c);
     }

@@ -43,18 +43,18 @@ pub false_of_cond_none : (b : Bool) (k : ℕ) → None ≡ cond b (Some k) None 
 false_of_cond_none true k e = absurd (cc)
 false_of_cond_none false k e = refl
 
-twice : {X : Type 0} (b : Bool) (x y z : X) → cond b x z ≡ cond b x (cond b y z)
-twice true x y z = refl
-twice false x y z = refl
+cond_cond_same : {X : Type 0} (b : Bool) (x y z : X) → cond b x z ≡ cond b x (cond b y z)
+cond_cond_same true x y z = refl
+cond_cond_same false x y z = refl
 
-crossed : {X : Type 0} (a b : Bool) (x y z : X) → (a ≡ true → b ≡ true → ⊥) → cond a x (cond b y z) ≡ cond b y (cond a x z)
-crossed true true x y z apart = absurd (apart refl refl)
-crossed true false x y z apart = refl
-crossed false b x y z apart = refl
+cond_swap_of_disjoint : {X : Type 0} (a b : Bool) (x y z : X) → (a ≡ true → b ≡ true → ⊥) → cond a x (cond b y z) ≡ cond b y (cond a x z)
+cond_swap_of_disjoint true true x y z apart = absurd (apart refl refl)
+cond_swap_of_disjoint true false x y z apart = refl
+cond_swap_of_disjoint false b x y z apart = refl
 
 -- a name equals at most one of two names that differ
-apart_names : (x y first : List ℕ) → same_name x y ≡ false → same_name x first ≡ true → same_name y first ≡ true → ⊥
-apart_names x y first differ p q = true≢false (sym ((bytes_decides x y).1 ((bytes_decides x first).0 p ∙ sym ((bytes_decides y first).0 q))) ∙ differ)
+not_same_name_of_both : (x y first : List ℕ) → same_name x y ≡ false → same_name x first ≡ true → same_name y first ≡ true → ⊥
+not_same_name_of_both x y first differ p q = true≢false (sym ((bytes_decides x y).1 ((bytes_decides x first).0 p ∙ sym ((bytes_decides y first).0 q))) ∙ differ)
 
 -- the directory of one name is replaced or removed; those of other names are unchanged
 pub record BecomesBy (side : Level → List EntryView) (name : List ℕ) (next : Dirs) (old new : List Part) : Type 0 where
@@ -150,10 +150,10 @@ module _ (side : Level → List EntryView) where
       → part_at side first (parts (set (c ∷ cs) (cond (not b) (1 + position_or_len (called name) cs) 0) child)) path ≡ cond (same_name name first)
       (at_side side child.open path) (cond (same_name (bstring_bytes c.name) first) (at_side side c.open path) (part_at side first (parts cs) path))) [
         | true ↦ λ is l n. let own : bstring_bytes c.name ≡ name = (bytes_decides (bstring_bytes c.name) name).0 is in
-            rw (n, own) (twice (same_name name first) _ _ _)
+            rw (n, own) (cond_cond_same (same_name name first) _ _ _)
         | false ↦ λ is l n. let rest = set_first name cs d child first path (omega (arith, l)) (rw one-add at n) in
-            rw (one-add, rest) (crossed (same_name (bstring_bytes c.name) first) (same_name name first) _ _ _
-            (apart_names (bstring_bytes c.name) name first is))
+            rw (one-add, rest) (cond_swap_of_disjoint (same_name (bstring_bytes c.name) first) (same_name name first) _ _ _
+            (not_same_name_of_both (bstring_bytes c.name) name first is))
       ] refl low named
 
   pub set_becomes_by : (name : List ℕ) (cs l : List Child) (i : ℕ) (child next : Child) → l ≡ cs → Some i ≡ position (called name) l
@@ -183,9 +183,9 @@ module _ (side : Level → List EntryView) where
       (λ b. same_name p.0 name ≡ b → part_at side first (cond (not b) (p ∷ other_parts name ps) (other_parts name ps)) path ≡ cond
       (same_name name first) None (cond (same_name p.0 first) (at_side side p.1 path) (part_at side first ps path))) [
         | true ↦ λ is. let own : p.0 ≡ name =
-            (bytes_decides p.0 name).0 is in rw own (others_first name ps first path ∙ twice (same_name name first) _ _ _)
+            (bytes_decides p.0 name).0 is in rw own (others_first name ps first path ∙ cond_cond_same (same_name name first) _ _ _)
         | false ↦ λ is. rw (others_first name ps first path)
-            (crossed (same_name p.0 first) (same_name name first) _ _ _ (apart_names p.0 name first is))
+            (cond_swap_of_disjoint (same_name p.0 first) (same_name name first) _ _ _ (not_same_name_of_both p.0 name first is))
       ] refl
 
   pub others_becomes_by : (name : List ℕ) (ps : List Part) → BecomesBy side name (λ _. None) ps (other_parts name ps)
@@ -198,7 +198,8 @@ module _ (side : Level → List EntryView) where
       elim (is_part_before p (name, ds)) as (λ b. part_at side first (cond b (p ∷ with_part (name, ds) ps) ((name, ds) ∷ p ∷ ps)) path ≡ cond
       (same_name name first) (at_side side ds path) (cond (same_name p.0 first) (at_side side p.1 path) (part_at side first ps path))) [
         | true ↦ rw (with_first name ds ps others.1 first path)
-            (crossed (same_name p.0 first) (same_name name first) _ _ _ (apart_names p.0 name first (same_name_false p.0 name others.0)))
+            (cond_swap_of_disjoint (same_name p.0 first) (same_name name first) _ _ _
+            (not_same_name_of_both p.0 name first (same_name_false p.0 name others.0)))
         | false ↦ refl
       ]
 
@@ -257,17 +258,21 @@ pub becomes_of_with_part : (name : List ℕ) (ds : Opened) (ps : List Part) → 
 becomes_of_with_part = with_becomes_by entries_side
 
 -- a level remains one after a child is replaced by one of the same name
-all_set : (P : List ℕ → Type 0) (cs : List Child) (i : ℕ) (next : Child) → AllByRecursion (λ p. P p.0) (parts cs)
+all_parts_set : (P : List ℕ → Type 0) (cs : List Child) (i : ℕ) (next : Child) → AllByRecursion (λ p. P p.0) (parts cs)
     → bstring_bytes next.name ≡ bstring_bytes (get_or cs i next).name → AllByRecursion (λ p. P p.0) (parts (set cs i next))
-all_set P [] i next h named = h
-all_set P (c ∷ cs) zero next h named = (subst P (sym named) h.0, h.1)
-all_set P (c ∷ cs) (suc i) next h named = (h.0, all_set P cs i next h.1 named)
+all_parts_set P [] i next h named = h
+all_parts_set P (c ∷ cs) zero next h named = (subst P (sym named) h.0, h.1)
+all_parts_set P (c ∷ cs) (suc i) next h named = (h.0, all_parts_set P cs i next h.1 named)
 
-later_set : (R : List ℕ → List ℕ → Type 0) (cs : List Child) (i : ℕ) (next : Child) → EachLater (λ x y. R x.0 y.0) (parts cs)
+each_later_parts_set : (R : List ℕ → List ℕ → Type 0) (cs : List Child) (i : ℕ) (next : Child) → EachLater (λ x y. R x.0 y.0) (parts cs)
     → bstring_bytes next.name ≡ bstring_bytes (get_or cs i next).name → EachLater (λ x y. R x.0 y.0) (parts (set cs i next))
-later_set R [] i next h named = h
-later_set R (c ∷ cs) zero next h named = (subst (λ n. AllByRecursion (λ p. R n p.0) (parts cs)) (sym named) h.0, h.1)
-later_set R (c ∷ cs) (suc i) next h named = (all_set (R (bstring_bytes c.name)) cs i next h.0 named, later_set R cs i next h.1 named)
+each_later_parts_set R [] i next h named = h
+each_later_parts_set R (c ∷ cs) zero next h named = (subst (λ n. AllByRecursion (λ p. R n p.0) (parts cs)) (sym named) h.0, h.1)
+each_later_parts_set R (c ∷ cs) (suc i) next h named = (
+  all_parts_set (R (bstring_bytes c.name)) cs i next h.0 named,
+  each_later_parts_set R cs i next h.1
+      named,
+)
 
 pub is_level_set : (es : List EntryView) (cs : List Child) (i : ℕ) (child next : Child) → child ≡ get_or cs i child
     → bstring_bytes next.name ≡ bstring_bytes child.name → IsLevel es (parts cs) → IsLevel es (parts (set cs i next))
@@ -275,8 +280,8 @@ is_level_set es cs i child next is named level =
     let own : bstring_bytes next.name ≡ bstring_bytes (get_or cs i next).name = own_name cs i child next is named in
     record {
       formed = level.formed;
-      ordered = later_set (λ x y. slice_cmp nat_cmp (key_of x true) (key_of y true) ≡ Less) cs i next level.ordered own;
-      above = all_set (λ n. has_tree n es ≡ true) cs i next level.above own;
+      ordered = each_later_parts_set (λ x y. slice_cmp nat_cmp (key_of x true) (key_of y true) ≡ Less) cs i next level.ordered own;
+      above = all_parts_set (λ n. has_tree n es ≡ true) cs i next level.above own;
     }
   where
     own_name : (cs : List Child) (i : ℕ) (child next : Child) → child ≡ get_or cs i child → bstring_bytes next.name ≡ bstring_bytes child.name
@@ -302,9 +307,9 @@ parts_filter_other name (c ∷ cs) =
       | false ↦ ap (λ ps. part c ∷ ps) (parts_filter_other name cs)
     ]
 
-once : (name : List ℕ) (cs : List Child) → EachLater (λ x y. x.0 ≢ y.0) (parts cs) → PassOnce (called name) cs
-once name [] h = tt
-once name (c ∷ cs) h = (all_differ cs h.0, once name cs h.1)
+pass_once_of_names_differ : (name : List ℕ) (cs : List Child) → EachLater (λ x y. x.0 ≢ y.0) (parts cs) → PassOnce (called name) cs
+pass_once_of_names_differ name [] h = tt
+pass_once_of_names_differ name (c ∷ cs) h = (all_differ cs h.0, pass_once_of_names_differ name cs h.1)
   where
     all_differ : (ds : List Child) → AllByRecursion (λ p. bstring_bytes c.name ≢ p.0) (parts ds)
         → AllByRecursion (λ d. called name c ≡ true → called name d ≡ false) ds
@@ -321,7 +326,7 @@ parts_remove name cs l i same found_at apart =
     let at : Some i ≡ position (called name) cs = subst (λ (m : List Child). Some i ≡ position (called name) m) same found_at in
     let place : ℕ = position_or_len (called name) cs in
     let chose = true_of_cond_some (nat_lt place (length cs)) place i at in
-    ap (λ k. parts (remove cs k)) (sym chose.1) ∙ ap parts (first_removed (called name) cs (once name cs apart) (ltb-true _ _ chose.0))
+    ap (λ k. parts (remove cs k)) (sym chose.1) ∙ ap parts (first_removed (called name) cs (pass_once_of_names_differ name cs apart) (ltb-true _ _ chose.0))
     ∙ parts_filter_other name cs
 
 pub other_parts_of_absent : (name : List ℕ) (cs l : List Child) → l ≡ cs → None ≡ position (called name) l → parts cs ≡ other_parts name (parts cs)
@@ -344,14 +349,14 @@ all_names_differ name cs l same found_at =
           | false ↦ λ is h. ((λ q. true≢false (sym ((bytes_decides (bstring_bytes d.name) name).1 q) ∙ is)), each ds (omega (arith, h)))
         ] refl high
 
-others_above : (name : List ℕ) (next es : List EntryView) (ps : List Part) → ((n : List ℕ) → n ≢ name → has_tree n es ≡ true → has_tree n next ≡ true)
+other_parts_have_trees : (name : List ℕ) (next es : List EntryView) (ps : List Part) → ((n : List ℕ) → n ≢ name → has_tree n es ≡ true → has_tree n next ≡ true)
     → AllByRecursion (λ p. has_tree p.0 es ≡ true) ps → AllByRecursion (λ p. has_tree p.0 next ≡ true) (other_parts name ps)
-others_above name next es [] keeps h = tt
-others_above name next es (p ∷ ps) keeps h =
+other_parts_have_trees name next es [] keeps h = tt
+other_parts_have_trees name next es (p ∷ ps) keeps h =
     elim (same_name p.0 name) as
     (λ b. same_name p.0 name ≡ b → AllByRecursion (λ q. has_tree q.0 next ≡ true) (cond (not b) (p ∷ other_parts name ps) (other_parts name ps))) [
-      | true ↦ λ is. others_above name next es ps keeps h.1
-      | false ↦ λ is. (keeps p.0 (λ q. true≢false (sym ((bytes_decides p.0 name).1 q) ∙ is)) h.0, others_above name next es ps keeps h.1)
+      | true ↦ λ is. other_parts_have_trees name next es ps keeps h.1
+      | false ↦ λ is. (keeps p.0 (λ q. true≢false (sym ((bytes_decides p.0 name).1 q) ∙ is)) h.0, other_parts_have_trees name next es ps keeps h.1)
     ] refl
 
 -- a level remains one after an edit of its entries
@@ -360,14 +365,14 @@ pub is_level_with_entry : (x : EntryView) (es : List EntryView) (ps : List Part)
 is_level_with_entry x es ps is_name level = record {
   formed = is_well_formed_with_entry x es level.formed is_name;
   ordered = later_kept (λ p q. slice_cmp nat_cmp (part_key p) (part_key q) ≡ Less) (λ p. not (same_name p.0 x.name)) ps level.ordered;
-  above = others_above x.name (with_entry x es) es ps (λ n differ h. has_tree_with_entry n x es differ h) level.above;
+  above = other_parts_have_trees x.name (with_entry x es) es ps (λ n differ h. has_tree_with_entry n x es differ h) level.above;
 }
 
 pub is_level_without : (name : List ℕ) (es : List EntryView) (ps : List Part) → IsLevel es ps → IsLevel (without name es) (other_parts name ps)
 is_level_without name es ps level = record {
   formed = is_well_formed_without name es level.formed;
   ordered = later_kept (λ p q. slice_cmp nat_cmp (part_key p) (part_key q) ≡ Less) (λ p. not (same_name p.0 name)) ps level.ordered;
-  above = others_above name (without name es) es ps (λ n differ h. has_tree_without_other n name es differ h) level.above;
+  above = other_parts_have_trees name (without name es) es ps (λ n differ h. has_tree_without_other n name es differ h) level.above;
 }
 
 pub is_level_with_directory : (name : List ℕ) (null : ObjectId) (ds : Opened) (es : List EntryView) (ps : List Part) → IsEntryName name
@@ -381,14 +386,14 @@ is_level_with_directory name null ds es ps is_name others level = record {
 }
 
 -- the open directory of a name has an entry of tree mode
-above_first : (es : List EntryView) (name : List ℕ) (cs : List Child) → position_or_len (called name) cs < length cs
+has_tree_of_position : (es : List EntryView) (name : List ℕ) (cs : List Child) → position_or_len (called name) cs < length cs
     → AllByRecursion (λ p. has_tree p.0 es ≡ true) (parts cs) → has_tree name es ≡ true
-above_first es name [] low above = absurd (omega (arith, low))
-above_first es name (c ∷ cs) low above =
+has_tree_of_position es name [] low above = absurd (omega (arith, low))
+has_tree_of_position es name (c ∷ cs) low above =
     elim (called name c) as (λ b. called name c ≡ b → cond (not b) (1 + position_or_len (called name) cs) 0 < length (c ∷ cs)
     → has_tree name es ≡ true) [
       | true ↦ λ is l. subst (λ n. has_tree n es ≡ true) ((bytes_decides (bstring_bytes c.name) name).0 is) above.0
-      | false ↦ λ is l. above_first es name cs (omega (arith, l)) above.1
+      | false ↦ λ is l. has_tree_of_position es name cs (omega (arith, l)) above.1
     ] refl low
 
 pub child_has_tree : (es : List EntryView) (name : List ℕ) (cs l : List Child) (i : ℕ) → l ≡ cs → Some i ≡ position (called name) l
@@ -396,7 +401,7 @@ pub child_has_tree : (es : List EntryView) (name : List ℕ) (cs l : List Child)
 child_has_tree es name cs l i same found_at above =
     let at : Some i ≡ position (called name) cs = subst (λ (m : List Child). Some i ≡ position (called name) m) same found_at in
     let place : ℕ = position_or_len (called name) cs in
-    above_first es name cs (ltb-true _ _ (true_of_cond_some (nat_lt place (length cs)) place i at).0) above
+    has_tree_of_position es name cs (ltb-true _ _ (true_of_cond_some (nat_lt place (length cs)) place i at).0) above
 
 -- a level remains one with a directory more, if the directory has an entry of tree mode
 pub is_level_with_part : (name : List ℕ) (ds : Opened) (es : List EntryView) (ps : List Part) → has_tree name es ≡ true → AllByRecursion (λ p. p.0 ≢ name) ps

@@ -19,8 +19,8 @@ use Rattle.gixobj_directories.specs.LookedUp.{IsDirectoryIn, IsFileIn, IsLookedU
 use Rattle.gixobj_directories.specs.Openings.{AreTreesOf}
 
 -- no entry begins with no bytes
-nothing : (kind : Kind) (e : EntryView) (rest : List ℕ) → BeginsWithEntry kind [] e rest → ⊥
-nothing kind e rest (content, joined, is) =
+nil_begins_with_no_entry : (kind : Kind) (e : EntryView) (rest : List ℕ) → BeginsWithEntry kind [] e rest → ⊥
+nil_begins_with_no_entry kind e rest (content, joined, is) =
     omega (
       arith,
       ap length joined,
@@ -32,21 +32,24 @@ nothing kind e rest (content, joined, is) =
     )
 
 -- an entry that comes after others is one of those that the iterator yields
-passed_has : (kind : Kind) (content here rest : List ℕ) (entries passed : List EntryView) (e : EntryView) → YieldsEntries kind content entries complete
+contains_entry_after_consumed : (kind : Kind) (content here rest : List ℕ) (entries passed : List EntryView) (e : EntryView)
+    → YieldsEntries kind content entries complete
     → runs.Passes (EntryStep kind) tt content passed tt here → BeginsWithEntry kind here e rest → ContainsEntry entries e
-passed_has kind content here rest entries [] e (yields_end _) (_, same) has =
-    absurd (nothing kind e rest (subst (λ (at : List ℕ). BeginsWithEntry kind at e rest) (sym same) has))
-passed_has kind content here rest entries [] e (yields_piece _ _ _ following x more _ first on) (_, same) has =
+contains_entry_after_consumed kind content here rest entries [] e (yields_end _) (_, same) has =
+    absurd (nil_begins_with_no_entry kind e rest (subst (λ (at : List ℕ). BeginsWithEntry kind at e rest) (sym same) has))
+contains_entry_after_consumed kind content here rest entries [] e (yields_piece _ _ _ following x more _ first on) (_, same) has =
     inl (entry_unique kind content x e following rest first (subst (λ (at : List ℕ). BeginsWithEntry kind at e rest) (sym same) has)).0
-passed_has kind content here rest entries (p ∷ passed) e (yields_end _) (_, after, first, on) has = absurd (nothing kind p after first)
-passed_has kind content here rest entries (p ∷ passed) e (yields_piece _ _ _ following x more _ first on) (_, after, other, way) has =
+contains_entry_after_consumed kind content here rest entries (p ∷ passed) e (yields_end _) (_, after, first, on) has =
+    absurd (nil_begins_with_no_entry kind p after first)
+contains_entry_after_consumed kind content here rest entries (p ∷ passed) e (yields_piece _ _ _ following x more _ first on) (_, after, other, way) has =
     let same = (entry_unique kind content p x after following other first).1 in
-    inr (passed_has kind following here rest more passed e on (subst (λ (at : List ℕ). runs.Passes (EntryStep kind) tt at passed tt here) same way) has)
+    inr (contains_entry_after_consumed kind following here rest more passed e on
+    (subst (λ (at : List ℕ). runs.Passes (EntryStep kind) tt at passed tt here) same way) has)
 
-first_has : (kind : Kind) (content : List ℕ) (entries : List EntryView) (name : Name) (e : EntryView) → DecodesToTree kind content entries
+contains_entry_of_first_named : (kind : Kind) (content : List ℕ) (entries : List EntryView) (name : Name) (e : EntryView) → DecodesToTree kind content entries
     → HasFirstNamed kind content name e → ContainsEntry entries e × (e.name ≡ name)
-first_has kind content entries name e is ((_, _, here, rest, (passed, on, none), has), said) =
-    (passed_has kind content here rest entries passed e (yields_entries_iff kind content entries is) on has, said)
+contains_entry_of_first_named kind content entries name e is ((_, _, here, rest, (passed, on, none), has), said) =
+    (contains_entry_after_consumed kind content here rest entries passed e (yields_entries_iff kind content entries is) on has, said)
 
 module _ (objects : Objects) (trees : Trees) (fits : AreTreesOf objects trees) (T : Table) (agrees : AgreesWithStore T trees) where
   filled : (id : ObjectId) → (is_null id ≡ true → ⊥) → IsFalse (is_null id)
@@ -68,7 +71,7 @@ module _ (objects : Objects) (trees : Trees) (fits : AreTreesOf objects trees) (
   file_there first root [] [] e is path dirs file = absurd path
   file_there first root [] (b ∷ before) e is path dirs file = absurd path
   file_there first root (name ∷ []) [] e is path dirs file =
-      let (has, said) = first_has first.object_hash first.bytes root name e is path.0.1 in (
+      let (has, said) = contains_entry_of_first_named first.object_hash first.bytes root name e is path.0.1 in (
         e,
         has,
         said,
@@ -80,7 +83,7 @@ module _ (objects : Objects) (trees : Trees) (fits : AreTreesOf objects trees) (
       )
   file_there first root (name ∷ other ∷ more) [] e is path dirs file = absurd path.1
   file_there first root (name ∷ more) (b ∷ before) e is path dirs file =
-      let (has, said) = first_has first.object_hash first.bytes root name b is path.0.1 in
+      let (has, said) = contains_entry_of_first_named first.object_hash first.bytes root name b is path.0.1 in
       let directory = All-head (IsDirectoryIn objects) b before dirs in
       let ((kept, names, kind, content), well) = directory.named in
       let on : IsPath objects (Some kept) more (before ++ e ∷ []) =

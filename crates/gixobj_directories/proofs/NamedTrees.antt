@@ -21,8 +21,8 @@ IsTreeAt objects id found = (entries : List EntryView) → (found ≡ Some entri
 abbrev TreeAt : Objects → ObjectId → Type 0
 TreeAt objects id = (found : Option (List EntryView)) × IsTreeAt objects id found
 
-no_tree_at : (objects : Objects) (id : ObjectId) → ((entries : List EntryView) → NamesTree objects id entries → ⊥) → TreeAt objects id
-no_tree_at objects id none = (None, λ entries. (λ is. cc is, λ names. absurd (none entries names)))
+tree_at_of_unnamed : (objects : Objects) (id : ObjectId) → ((entries : List EntryView) → NamesTree objects id entries → ⊥) → TreeAt objects id
+tree_at_of_unnamed objects id none = (None, λ entries. (λ is. cc is, λ names. absurd (none entries names)))
 
 -- the tree of an object that the id names
 module _ (objects : Objects) (id : ObjectId) (kept : StoredObject) (named_so : named objects id ≡ Some kept) where
@@ -49,27 +49,27 @@ module _ (objects : Objects) (id : ObjectId) (kept : StoredObject) (named_so : n
 
   malformed_at : (entries : List EntryView) → DecodesToTree kept.object_hash kept.bytes entries → (IsWellFormed entries → ⊥) → TreeAt objects id
   malformed_at entries content malformed =
-      no_tree_at objects id (λ others names. malformed
+      tree_at_of_unnamed objects id (λ others names. malformed
       (subst IsWellFormed (tree_unique kept.object_hash kept.bytes others entries (bytes_there others names) content) names.1))
 
   bytes_at : kept.kind ≡ Tree → TreeAt objects id
   bytes_at kind =
       ⊎_elim (λ is. ⊎_elim (formed_at kind is.0 is.1) (malformed_at is.0 is.1) (is_well_formed_or_not is.0))
-      (λ none. no_tree_at objects id (λ entries names. none entries (bytes_there entries names)))
+      (λ none. tree_at_of_unnamed objects id (λ entries names. none entries (bytes_there entries names)))
       (decodes_to_tree_or_malformed kept.object_hash kept.bytes)
 
   kind_at : (kind : Kind) → kept.kind ≡ kind → TreeAt objects id
   kind_at Tree is = bytes_at is
-  kind_at Blob is = no_tree_at objects id (no_other_kind Blob is (λ same. cc same))
-  kind_at Commit is = no_tree_at objects id (no_other_kind Commit is (λ same. cc same))
-  kind_at Tag is = no_tree_at objects id (no_other_kind Tag is (λ same. cc same))
+  kind_at Blob is = tree_at_of_unnamed objects id (no_other_kind Blob is (λ same. cc same))
+  kind_at Commit is = tree_at_of_unnamed objects id (no_other_kind Commit is (λ same. cc same))
+  kind_at Tag is = tree_at_of_unnamed objects id (no_other_kind Tag is (λ same. cc same))
 
-found_at : (objects : Objects) (id : ObjectId) (found : Option StoredObject) → named objects id ≡ found → TreeAt objects id
-found_at objects id None none = no_tree_at objects id (λ entries names. cc (none, names.0.1))
-found_at objects id (Some kept) some = kind_at objects id kept some kept.kind refl
+tree_at_of_named : (objects : Objects) (id : ObjectId) (found : Option StoredObject) → named objects id ≡ found → TreeAt objects id
+tree_at_of_named objects id None none = tree_at_of_unnamed objects id (λ entries names. cc (none, names.0.1))
+tree_at_of_named objects id (Some kept) some = kind_at objects id kept some kept.kind refl
 
-tree_at : (objects : Objects) (id : ObjectId) → TreeAt objects id
-tree_at objects id = found_at objects id (named objects id) refl
+tree_at_exists : (objects : Objects) (id : ObjectId) → TreeAt objects id
+tree_at_exists objects id = tree_at_of_named objects id (named objects id) refl
 
 pub trees_of_objects_exist : (objects : Objects) → (trees : Trees) × AreTreesOf objects trees
-trees_of_objects_exist objects = (λ id. (tree_at objects id).0, λ id. (tree_at objects id).1)
+trees_of_objects_exist objects = (λ id. (tree_at_exists objects id).0, λ id. (tree_at_exists objects id).1)

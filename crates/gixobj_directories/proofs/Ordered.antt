@@ -24,18 +24,18 @@ abbrev pub Before : Part → Part → Type 0
 Before p q = slice_cmp nat_cmp (part_key p) (part_key q) ≡ Less
 
 -- a key has one name
-same_part : (p q : Part) → slice_cmp nat_cmp (part_key p) (part_key q) ≡ Equal → p.0 ≡ q.0
-same_part p q tie = append_cancel_right p.0 q.0 (47 ∷ []) (eq_of_slice_cmp_equal (part_key p) (part_key q) tie)
+part_name_eq_of_equal_keys : (p q : Part) → slice_cmp nat_cmp (part_key p) (part_key q) ≡ Equal → p.0 ≡ q.0
+part_name_eq_of_equal_keys p q tie = append_cancel_right p.0 q.0 (47 ∷ []) (eq_of_slice_cmp_equal (part_key p) (part_key q) tie)
 
 pub names_differ : (p q : Part) → Before p q → p.0 ≢ q.0
 names_differ p q before same = true≢false (ap is_lt (sym before ∙ slice_cmp_equal_of_eq (part_key p) (part_key q) (ap (λ (n : List ℕ). key_of n true) same)))
 
 -- of two different names, if the second doesn't come before the first, the first comes before the second
-later : (p q : Part) → is_part_before q p ≡ false → q.0 ≢ p.0 → Before p q
-later p q fails other =
+before_of_not_is_part_before : (p q : Part) → is_part_before q p ≡ false → q.0 ≢ p.0 → Before p q
+before_of_not_is_part_before p q fails other =
     elim (slice_cmp nat_cmp (part_key q) (part_key p)) as (λ o. slice_cmp nat_cmp (part_key q) (part_key p) ≡ o → is_lt o ≡ false → Before p q) [
       | Less ↦ λ is f. absurd (true≢false f)
-      | Equal ↦ λ is f. absurd (other (same_part q p is))
+      | Equal ↦ λ is f. absurd (other (part_name_eq_of_equal_keys q p is))
       | Greater ↦ λ is f. nat_list_cmp_total.antisymm (part_key p) (part_key q) ∙ ap ordering_reverse is
     ] refl fails
 
@@ -63,7 +63,7 @@ are_ordered_with_part p (q ∷ qs) others up =
             others.1 up.1,
       )
       | false ↦ λ is. let here =
-          later p q is others.0 in (
+          before_of_not_is_part_before p q is others.0 in (
             (
               here,
               all_weaker (Before q) (Before p) (λ r before. nat_list_cmp_total.trans (part_key p) (part_key q) (part_key r) here before) qs

@@ -23,17 +23,18 @@ use Rattle.gixobj_editor.specs.Upserts.{IsAfterFailedEdit, IsLookupError, IsUpse
 use Rattle.gixobj_editor.specs.declared.editor.error.Error.{Error}
 
 -- if each open directory is still open, this one is
-kept_open : (old new : Dirs) (at : Path) → ((entries : List EntryView) → old at ≡ Some entries → new at ≡ Some entries) → old at ≢ None → new at ≢ None
-kept_open old new at keeps there none =
+open_of_unchanged_at : (old new : Dirs) (at : Path) → ((entries : List EntryView) → old at ≡ Some entries → new at ≡ Some entries) → old at ≢ None
+    → new at ≢ None
+open_of_unchanged_at old new at keeps there none =
     elim (old at) as (λ o. old at ≡ o → ⊥) [
       | None ↦ λ is. there is
       | Some entries ↦ λ is. let bad : Some entries ≡ None = sym (keeps entries is) ∙ none in cc bad
     ] refl
 
-opened_still : {StopsBefore : EntryView → Type 0} (trees : Trees) (path : Path) (old new : Dirs) (queries : List ObjectId)
+opens_keeps_open : {StopsBefore : EntryView → Type 0} (trees : Trees) (path : Path) (old new : Dirs) (queries : List ObjectId)
     → Opens StopsBefore trees path old new queries
     → (at : Path) → old at ≢ None → new at ≢ None
-opened_still trees path old new queries opens at there = kept_open old new at (opens_keeps_open_lists trees path old new queries opens at) there
+opens_keeps_open trees path old new queries opens at there = open_of_unchanged_at old new at (opens_keeps_open_lists trees path old new queries opens at) there
 
 -- the directory at the prefix is open
 abbrev pub IsAtPrefix : {S : Type 0} → State S → Type 0
@@ -43,36 +44,40 @@ IsAtPrefix state = open_dirs state state.prefix ≢ None
 abbrev pub Stays : {S : Type 0} → State S → State S → Type 0
 Stays old new = (new.prefix ≡ old.prefix) × (IsAtPrefix old → IsAtPrefix new)
 
-stays : {S : Type 0} (old new : State S) → new.prefix ≡ old.prefix → (open_dirs old old.prefix ≢ None → open_dirs new old.prefix ≢ None) → Stays old new
-stays old new same kept = (same, λ there. subst (λ (p : Path). open_dirs new p ≢ None) (sym same) (kept there))
+stays_of_open_prefix : {S : Type 0} (old new : State S) → new.prefix ≡ old.prefix → (open_dirs old old.prefix ≢ None → open_dirs new old.prefix ≢ None)
+    → Stays old new
+stays_of_open_prefix old new same kept = (same, λ there. subst (λ (p : Path). open_dirs new p ≢ None) (sym same) (kept there))
 
-upserted_open : {S : Type 0} (trees : Trees) (old new : State S) (prefix path : Path) (mode : ℕ) (id : ObjectId)
+upserted_keeps_prefix_open : {S : Type 0} (trees : Trees) (old new : State S) (prefix path : Path) (mode : ℕ) (id : ObjectId)
     → IsUpserted trees old (from_root prefix path) mode id new → open_dirs old prefix ≢ None → open_dirs new prefix ≢ None
-upserted_open trees old new prefix [] mode id h there = λ none. opened_still trees [] (open_dirs old) h.opened h.looked_up h.opens prefix there
+upserted_keeps_prefix_open trees old new prefix [] mode id h there = λ none. opens_keeps_open trees [] (open_dirs old) h.opened h.looked_up h.opens prefix there
     (sym (h.dirs prefix) ∙ none)
-upserted_open trees old new prefix (name ∷ path) mode id h there = λ none. upserted_dirs_keep_prefix prefix name path mode id (null_id old.object_hash) h.opened
+upserted_keeps_prefix_open trees old new prefix (name ∷ path) mode id h there =
+    λ none. upserted_dirs_keep_prefix prefix name path mode id (null_id old.object_hash) h.opened
     (sym (h.dirs prefix) ∙ none)
 
-removed_open : {S : Type 0} {StopsBefore : EntryView → Type 0} (trees : Trees) (old new : State S) (prefix path : Path)
+removed_keeps_prefix_open : {S : Type 0} {StopsBefore : EntryView → Type 0} (trees : Trees) (old new : State S) (prefix path : Path)
     → IsRemoved StopsBefore trees old (from_root prefix path) new → open_dirs old prefix ≢ None → open_dirs new prefix ≢ None
-removed_open trees old new prefix [] h there = λ none. opened_still trees [] (open_dirs old) h.opened h.looked_up h.opens prefix there
+removed_keeps_prefix_open trees old new prefix [] h there = λ none. opens_keeps_open trees [] (open_dirs old) h.opened h.looked_up h.opens prefix there
     (sym (h.dirs prefix) ∙ none)
-removed_open trees old new prefix (name ∷ path) h there =
+removed_keeps_prefix_open trees old new prefix (name ∷ path) h there =
     λ none. removed_dirs_keep_prefix prefix name path h.opened
-    (opened_still trees (directory_of (prefix ++ name ∷ path)) (open_dirs old) h.opened h.looked_up h.opens prefix there) (sym (h.dirs prefix) ∙ none)
+    (opens_keeps_open trees (directory_of (prefix ++ name ∷ path)) (open_dirs old) h.opened h.looked_up h.opens prefix there) (sym (h.dirs prefix) ∙ none)
 
 pub stays_upserted : {S : Type 0} (trees : Trees) (old new : State S) (path : Path) (mode : ℕ) (id : ObjectId)
     → IsUpserted trees old (from_root old.prefix path) mode id new → Stays old new
-stays_upserted {S} trees old new path mode id h = stays old new (ap (λ (o : State S). o.prefix) h.rest) (upserted_open trees old new old.prefix path mode id h)
+stays_upserted {S} trees old new path mode id h = stays_of_open_prefix old new (ap (λ (o : State S). o.prefix) h.rest)
+    (upserted_keeps_prefix_open trees old new old.prefix path mode id h)
 
 pub stays_removed : {S : Type 0} {StopsBefore : EntryView → Type 0} (trees : Trees) (old new : State S) (path : Path)
     → IsRemoved StopsBefore trees old (from_root old.prefix path) new → Stays old new
-stays_removed {S} trees old new path h = stays old new (ap (λ (o : State S). o.prefix) h.rest) (removed_open trees old new old.prefix path h)
+stays_removed {S} trees old new path h = stays_of_open_prefix old new (ap (λ (o : State S). o.prefix) h.rest)
+    (removed_keeps_prefix_open trees old new old.prefix path h)
 
 pub stays_failed : {S : Type 0} (model : StoreModel S) (trees : Trees) (old new : State S) (path : Path) (failure : Error)
     → IsAfterFailedEdit model trees old path failure new → Stays old new
-stays_failed {S} model trees old new path failure h = stays old new (ap (λ (o : State S). o.prefix) h.rest)
-    (kept_open (open_dirs old) (open_dirs new) old.prefix (h.stays old.prefix))
+stays_failed {S} model trees old new path failure h = stays_of_open_prefix old new (ap (λ (o : State S). o.prefix) h.rest)
+    (open_of_unchanged_at (open_dirs old) (open_dirs new) old.prefix (h.stays old.prefix))
 
 -- an edit of the editor, accepted or failed
 pub known_of_either : {W X : Type 0} (result : Result W X) (objects : Objects) (Known : Type 0) (Accepted : Trees → Type 0) (Refused : X → Trees → Type 0)

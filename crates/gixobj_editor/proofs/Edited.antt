@@ -98,9 +98,9 @@ only_edited_bases_of_map ds ds' then at =
     (sym (map_bases_at ds at))
 
 -- the bases of an unchanged editor, as after an opening and an edit that change nothing
-idle_map : (ds : Opened) (at : Path) → map_bases ds at ≡ edited_bases (map_dirs ds) (map_dirs ds)
+map_bases_eq_edited_bases : (ds : Opened) (at : Path) → map_bases ds at ≡ edited_bases (map_dirs ds) (map_dirs ds)
     (opened_bases (map_dirs ds) (map_dirs ds) (map_bases ds)) at
-idle_map ds at =
+map_bases_eq_edited_bases ds at =
     let none : map_dirs ds at ≡ None → map_bases ds at ≡ None = λ closed. map_bases_at ds at
     ∙ base_none_where_unopened ds at (sym (map_dirs_at ds at) ∙ closed) in
     let same = when_opened.same (map_dirs ds at) (map_bases ds at) none in
@@ -113,10 +113,10 @@ pub edited_bases_idle : {S : Type 0} (store : S) (hash : Kind) (prefix : Path) (
 edited_bases_idle {S} store hash prefix ds n old view at =
     subst (λ (o : State S). open_bases o at ≡ edited_bases (open_dirs o) (open_dirs o) (opened_bases (open_dirs o) (open_dirs o) (open_bases o)) at)
     view
-    (idle_map ds at)
+    (map_bases_eq_edited_bases ds at)
 
-unopened_map : (ds : Opened) (at : Path) → map_bases ds at ≡ opened_bases (map_dirs ds) (map_dirs ds) (map_bases ds) at
-unopened_map ds at = when_opened.same (map_dirs ds at) (map_bases ds at) (λ closed. map_bases_at ds at
+map_bases_eq_opened_bases : (ds : Opened) (at : Path) → map_bases ds at ≡ opened_bases (map_dirs ds) (map_dirs ds) (map_bases ds) at
+map_bases_eq_opened_bases ds at = when_opened.same (map_dirs ds at) (map_bases ds at) (λ closed. map_bases_at ds at
     ∙ base_none_where_unopened ds at (sym (map_dirs_at ds at) ∙ closed))
 
 pub opened_bases_unchanged : {S : Type 0} (store : S) (hash : Kind) (prefix : Path) (ds : Opened) (n : ℕ) (old : State S)
@@ -124,7 +124,7 @@ pub opened_bases_unchanged : {S : Type 0} (store : S) (hash : Kind) (prefix : Pa
     → (at : Path) → open_bases old at ≡ opened_bases (open_dirs old) (open_dirs old) (open_bases old) at
 opened_bases_unchanged {S} store hash prefix ds n old view at =
     subst (λ (o : State S). open_bases o at ≡ opened_bases (open_dirs o) (open_dirs o) (open_bases o) at) view
-    (unopened_map ds at)
+    (map_bases_eq_opened_bases ds at)
 
 -- an editor in which nothing is opened and nothing edited
 pub opened_so_refl : (ds : Opened) → OpenedSo ds ds
@@ -335,13 +335,15 @@ module _ {S : Type 0} (store : S) (hash : Kind) (prefix : Path) (trees : Trees) 
   stay_at model it ds ds' n m old view path failure so was first = subst (λ (o : State S). IsAfterFailedEdit model trees o path failure (made ds' m)) view
       (stay model it ds ds' n m path failure so was first)
 
-  pub unchanged_at : (model : StoreModel S) (ds : Opened) (n : ℕ) (old : State S) → made ds n ≡ old → (path : Path) (failure : Error) → (¬ IsLookupError failure)
+  pub unchanged_at : (model : StoreModel S) (ds : Opened) (n : ℕ) (old : State S) → made ds n ≡ old → (path : Path) (failure : Error)
+      → (¬ IsLookupError failure)
       → OpenedOn ds → IsAfterFailedEdit model trees old path failure old
   unchanged_at model ds n old view path failure other was = subst (λ (o : State S). IsAfterFailedEdit model trees o path failure o) view
       (stay model not_looked_up.Opened ds ds n n path failure
       (none_in_part (model.objects store) (model.may_fail store) trees path (dirs_of ds) n failure other) was (opened_so_refl ds))
 
-  pub halted_so : (model : StoreModel S) (ds ds' : Opened) (n m : ℕ) (old : State S) → made ds n ≡ old → (path head : Path) (last : List ℕ) → path ≡ head ++ last ∷ []
+  pub halted_so : (model : StoreModel S) (ds ds' : Opened) (n m : ℕ) (old : State S) → made ds n ≡ old → (path head : Path) (last : List ℕ)
+      → path ≡ head ++ last ∷ []
       → (queries : List ObjectId) (failed_lookup : Option ObjectId) → StopsOpening IsNoTree trees head (dirs_of ds) (dirs_of ds') queries failed_lookup
       → m ≡ counted n queries → (why : directory.Error) → IsOpenErrorAt (model.objects store) (model.may_fail store) failed_lookup why
       → OpenedOn ds → OpenedSo ds ds' → IsAfterFailedEdit model trees old path (edit_error why) (made ds' m)

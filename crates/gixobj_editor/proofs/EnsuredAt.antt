@@ -58,8 +58,8 @@ unopened_of_no_tree trees path old new queries opens at none =
     ] refl
 
 -- below a directory that isn't open none is open
-unopened_below : (path : Path) (dirs : Dirs) → IsOpened dirs → (place more : Path) → path ≡ place ++ more → dirs place ≡ None → dirs path ≡ None
-unopened_below path dirs all place more is none =
+dirs_none_below_unopened : (path : Path) (dirs : Dirs) → IsOpened dirs → (place more : Path) → path ≡ place ++ more → dirs place ≡ None → dirs path ≡ None
+dirs_none_below_unopened path dirs all place more is none =
     elim (dirs path) as (λ o. dirs path ≡ o → o ≡ None) [
       | None ↦ λ _. refl
       | Some entries ↦ λ there. absurd
@@ -141,7 +141,7 @@ module _ {S : Type 0} (store : S) (hash : Kind) (prefix : Path) (trees : Trees) 
       above v h it some = (halted_at trees path [] [] (dirs_of ds) (dirs_of ds') queries v h it some).0
 
       unopened_at : IsUnopenedOnPath IsNoTree trees (dirs_of ds) (in_directory path) → dirs_of ds path ≡ None
-      unopened_at h = let begins = prefix_extends path [] h.place h.above.2 h.above.3 h.above.5 in unopened_below path
+      unopened_at h = let begins = prefix_extends path [] h.place h.above.2 h.above.3 h.above.5 in dirs_none_below_unopened path
           (dirs_of ds) all h.place begins.0 begins.1 h.not_open
 
       by_cause : (why : directory.Error) (v : Option ObjectId) → StopsOpening IsNoTree trees path (dirs_of ds) (dirs_of ds') queries v

@@ -17,15 +17,16 @@ use Rattle.gixobj_editor.specs.Upserts.{IsErrorAfterLookup, IsLookupError, Opens
 use Rattle.gixobj_editor.specs.declared.editor.error.Error.{Error}
 
 -- the next directory on a path is the next on each longer path
-next_after : (trees : Trees) (dirs : Dirs) (head more after : Path) (it : ObjectId) → IsNextUnopened trees dirs head more it
+is_next_unopened_append : (trees : Trees) (dirs : Dirs) (head more after : Path) (it : ObjectId) → IsNextUnopened trees dirs head more it
     → IsNextUnopened trees dirs head (more ++ after) it
-next_after trees dirs head more after it (name, rest, e, is, unopened, seen, named) = (name, rest ++ after, e, ap (λ p. p ++ after) is, unopened, seen, named)
+is_next_unopened_append trees dirs head more after it (name, rest, e, is, unopened, seen, named) =
+    (name, rest ++ after, e, ap (λ p. p ++ after) is, unopened, seen, named)
 
 -- the error of an opening that halts, by the lookup that failed
-cause_of : (objects : Objects) (may_fail : ObjectId → Bool) (failed_lookup : Option ObjectId) (why : directory.Error)
+error_after_lookup_of_open_error : (objects : Objects) (may_fail : ObjectId → Bool) (failed_lookup : Option ObjectId) (why : directory.Error)
     → IsOpenErrorAt objects may_fail failed_lookup why → IsErrorAfterLookup objects may_fail (failed_ids failed_lookup) (edit_error why)
-cause_of objects may_fail None why at = subst (λ (e : directory.Error). IsLookupError (edit_error e) → ⊥) (sym at) (λ it. it)
-cause_of objects may_fail (Some id) why at = (why, at, refl)
+error_after_lookup_of_open_error objects may_fail None why at = subst (λ (e : directory.Error). IsLookupError (edit_error e) → ⊥) (sym at) (λ it. it)
+error_after_lookup_of_open_error objects may_fail (Some id) why at = (why, at, refl)
 
 module _ {StopsBefore : EntryView → Type 0} (objects : Objects) (may_fail : ObjectId → Bool) (trees : Trees) where
   -- nothing was opened
@@ -83,8 +84,9 @@ module _ {StopsBefore : EntryView → Type 0} (objects : Objects) (may_fail : Ob
         looked_up = came.2;
         opens = came.5;
         failed_lookup = came.3;
-        cause = subst (λ ids. IsErrorAfterLookup objects may_fail ids (edit_error why)) (sym came.7) (cause_of objects may_fail failed_lookup why at);
-        next = λ it is. next_after trees old came.0 came.1 (last ∷ after) it (came.8 it is);
+        cause = subst (λ ids. IsErrorAfterLookup objects may_fail ids (edit_error why)) (sym came.7)
+            (error_after_lookup_of_open_error objects may_fail failed_lookup why at);
+        next = λ it is. is_next_unopened_append trees old came.0 came.1 (last ∷ after) it (came.8 it is);
         lookups = count ∙ ap (counted n) came.6;
         at_most_unopened = subst (λ ids. length ids ≤ unopened_count trees old path) came.6
             (subst (λ p. length queries ≤ unopened_count trees old p) (sym is) (halted_count trees head last after old new queries failed_lookup halts));

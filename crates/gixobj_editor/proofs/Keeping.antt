@@ -22,11 +22,11 @@ pub agrees_with_suffix : (T : Table) (first then : List Pair) → AgreesWithPair
 agrees_with_suffix T = all_then (λ pair. T.tree_at pair.0 ≡ Some pair.1)
 
 -- each prefix of a prefix is a prefix of the entire list
-take_within : (xs ys : List Pair) (count : ℕ) → (some : ℕ) × (take some (xs ++ ys) ≡ take count xs)
-take_within [] ys zero = (zero, refl)
-take_within [] ys (suc count) = (zero, refl)
-take_within (x ∷ xs) ys zero = (zero, refl)
-take_within (x ∷ xs) ys (suc count) = let later = take_within xs ys count in (suc later.0, ap (λ (rest : List Pair). x ∷ rest) later.1)
+take_is_take_of_append : (xs ys : List Pair) (count : ℕ) → (some : ℕ) × (take some (xs ++ ys) ≡ take count xs)
+take_is_take_of_append [] ys zero = (zero, refl)
+take_is_take_of_append [] ys (suc count) = (zero, refl)
+take_is_take_of_append (x ∷ xs) ys zero = (zero, refl)
+take_is_take_of_append (x ∷ xs) ys (suc count) = let later = take_is_take_of_append xs ys count in (suc later.0, ap (λ (rest : List Pair). x ∷ rest) later.1)
 
 -- the table agrees with the store after each number of these trees is kept
 abbrev pub AgreesThroughout : Table → List Pair → Objects → Type 0
@@ -35,7 +35,7 @@ AgreesThroughout T pairs objects = (count : ℕ) → AgreesWithObjects T (with_t
 pub agrees_throughout_prefix : (T : Table) (first then : List Pair) (objects : Objects) → AgreesThroughout T (first ++ then) objects
     → AgreesThroughout T first objects
 agrees_throughout_prefix T first then objects agrees count =
-    let some = take_within first then count in
+    let some = take_is_take_of_append first then count in
     subst (λ (pairs : List Pair). AgreesWithObjects T (with_trees pairs objects)) some.1 (agrees some.0)
 
 pub agrees_throughout_suffix : (T : Table) (first then : List Pair) (old new : Objects) → new ≡ with_trees first old → AgreesThroughout T (first ++ then) old

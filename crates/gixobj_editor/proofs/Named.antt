@@ -31,30 +31,30 @@ use Rattle.gixobj_files.proofs.Histories.{history_append_same_files}
 use Rattle.gixobj_editor.proofs.Keeping.{AgreesThroughout, agrees_with_prefix, agrees_with_suffix, with_trees_append_stored, agrees_throughout_prefix, agrees_throughout_suffix}
 
 -- a store has trees, so that what holds for its trees holds for some
-of_some : (objects : Objects) (P : Trees → Type 0) → OfTrees objects P → (trees : Trees) × AreTreesOf objects trees × P trees
-of_some objects P says = let it = trees_of_objects_exist objects in (it.0, it.1, says it.0 it.1)
+trees_exist_of_objects : (objects : Objects) (P : Trees → Type 0) → OfTrees objects P → (trees : Trees) × AreTreesOf objects trees × P trees
+trees_exist_of_objects objects P says = let it = trees_of_objects_exist objects in (it.0, it.1, says it.0 it.1)
 
 -- the pairs of a write are those of its reply
-pairs_are : {E : Type 0} (its_reply : Reply E) (written : Written) → written_by its_reply ≡ Some written → pairs_of its_reply ≡ written.trees.items
-pairs_are (reply.Edit it) written is = ap pairs_of_write is
-pairs_are (reply.At replies) written is = absurd (cc is)
-pairs_are (reply.AtRefused error) written is = absurd (cc is)
-pairs_are reply.RootSet written is = absurd (cc is)
-pairs_are reply.RootRefused written is = absurd (cc is)
+pairs_of_written_reply : {E : Type 0} (its_reply : Reply E) (written : Written) → written_by its_reply ≡ Some written → pairs_of its_reply ≡ written.trees.items
+pairs_of_written_reply (reply.Edit it) written is = ap pairs_of_write is
+pairs_of_written_reply (reply.At replies) written is = absurd (cc is)
+pairs_of_written_reply (reply.AtRefused error) written is = absurd (cc is)
+pairs_of_written_reply reply.RootSet written is = absurd (cc is)
+pairs_of_written_reply reply.RootRefused written is = absurd (cc is)
 
 -- what a list yields begins with what its prefix yields
-fronted : {A B : Type 0} (f : A → List B) (k : ℕ) (xs : List A) → (rest : List B) × (flat_map f xs ≡ flat_map f (take k xs) ++ rest)
-fronted f zero xs = (flat_map f xs, refl)
-fronted f (suc k) [] = ([], refl)
-fronted f (suc k) (x ∷ xs) = let more =
-    fronted f k xs in (more.0, ap (λ l. f x ++ l) more.1 ∙ sym (append_assoc (f x) (flat_map f (take k xs)) more.0))
+flat_map_take_is_prefix : {A B : Type 0} (f : A → List B) (k : ℕ) (xs : List A) → (rest : List B) × (flat_map f xs ≡ flat_map f (take k xs) ++ rest)
+flat_map_take_is_prefix f zero xs = (flat_map f xs, refl)
+flat_map_take_is_prefix f (suc k) [] = ([], refl)
+flat_map_take_is_prefix f (suc k) (x ∷ xs) = let more =
+    flat_map_take_is_prefix f k xs in (more.0, ap (λ l. f x ++ l) more.1 ∙ sym (append_assoc (f x) (flat_map f (take k xs)) more.0))
 
 -- a table that agrees with a run agrees with each prefix of its replies, and with the pairs of each of its writes
 pub agrees_with_run_prefix : {E : Type 0} (T : Table) (objects : Objects) (k : ℕ) (replies : List (Reply E)) → AgreesWithRun T objects replies
     → AgreesWithRun T objects (take k replies)
 agrees_with_run_prefix T objects k replies agrees =
-    let passed = fronted pairs_of k replies in
-    let kept = fronted kept_of k replies in
+    let passed = flat_map_take_is_prefix pairs_of k replies in
+    let kept = flat_map_take_is_prefix kept_of k replies in
     record {
       writes = agrees_with_prefix T (emitted_pairs (take k replies)) passed.0 (subst (λ (ps : List Pair). AgreesWithPairs T ps) passed.1 agrees.writes);
       stores = agrees_throughout_prefix T (kept_pairs (take k replies)) kept.0 objects
@@ -64,7 +64,7 @@ agrees_with_run_prefix T objects k replies agrees =
 pub agrees_with_written_pairs : {E : Type 0} (T : Table) (replies : List (Reply E)) → AgreesWithPairs T (emitted_pairs replies) → (k : ℕ) (written : Written)
     → written_at replies k ≡ Some written → AgreesWithPairs T written.trees.items
 agrees_with_written_pairs T [] agrees k written is = absurd (cc is)
-agrees_with_written_pairs T (r ∷ replies) agrees zero written is = subst (λ (ps : List Pair). AgreesWithPairs T ps) (pairs_are r written is)
+agrees_with_written_pairs T (r ∷ replies) agrees zero written is = subst (λ (ps : List Pair). AgreesWithPairs T ps) (pairs_of_written_reply r written is)
     (agrees_with_prefix T (pairs_of r) (emitted_pairs replies) agrees)
 agrees_with_written_pairs T (r ∷ replies) agrees (suc k) written is =
     agrees_with_written_pairs T replies (agrees_with_suffix T (pairs_of r) (emitted_pairs replies) agrees) k written is
@@ -73,16 +73,16 @@ module _ {S E : Type 0} (model : StoreModel S) (answers : Answers E) where
   pub edit_keeps : (place : Place) (old new : State S) (it : Edit) (its_reply : EditReply E) → IsEditReply model answers place old it its_reply new
       → model.objects new.store ≡ with_trees (kept_of_edit its_reply) (model.objects old.store)
   edit_keeps place old new (edit.Upsert path kind id) edit_reply.Done h = let it =
-      of_some _ _ h in ap (λ (s : State S). model.objects s.store) it.2.rest
+      trees_exist_of_objects _ _ h in ap (λ (s : State S). model.objects s.store) it.2.rest
   edit_keeps place old new (edit.Upsert path kind id) (edit_reply.Refused error) h = let it =
-      of_some _ _ h.0.effect in ap (λ (s : State S). model.objects s.store) it.2.rest
-  edit_keeps place old new (edit.Remove path) edit_reply.Done h = let it = of_some _ _ h in ap (λ (s : State S). model.objects s.store) it.2.rest
+      trees_exist_of_objects _ _ h.0.effect in ap (λ (s : State S). model.objects s.store) it.2.rest
+  edit_keeps place old new (edit.Remove path) edit_reply.Done h = let it = trees_exist_of_objects _ _ h in ap (λ (s : State S). model.objects s.store) it.2.rest
   edit_keeps place old new (edit.Remove path) (edit_reply.Refused error) h = let it =
-      of_some _ _ h.effect in ap (λ (s : State S). model.objects s.store) it.2.rest
+      trees_exist_of_objects _ _ h.effect in ap (λ (s : State S). model.objects s.store) it.2.rest
   edit_keeps place old new (edit.RemoveLeaf path) edit_reply.Done h = let it =
-      of_some _ _ h in ap (λ (s : State S). model.objects s.store) it.2.removed.rest
+      trees_exist_of_objects _ _ h in ap (λ (s : State S). model.objects s.store) it.2.removed.rest
   edit_keeps place old new (edit.RemoveLeaf path) (edit_reply.Refused error) h = let it =
-      of_some _ _ h.effect in ap (λ (s : State S). model.objects s.store) it.2.rest
+      trees_exist_of_objects _ _ h.effect in ap (λ (s : State S). model.objects s.store) it.2.rest
   edit_keeps place old new edit.Write (edit_reply.Written written) h = h.stored.0
   edit_keeps place old new edit.Write (edit_reply.NotKept written count error) h = h.stored.stored
   edit_keeps place old new edit.Write (edit_reply.WriteRefused error) h = ap (λ (s : State S). model.objects s.store) h.unchanged
@@ -102,7 +102,7 @@ module _ {S E : Type 0} (model : StoreModel S) (answers : Answers E) where
 
   pub ensured_keeps : (prefix : Path) (old new : State S) → OfTrees (model.objects old.store) (λ trees. IsEnsured trees old prefix new)
       → model.objects new.store ≡ model.objects old.store
-  ensured_keeps prefix old new h = let it = of_some _ _ h in ap (λ (s : State S). model.objects s.store) it.2.rest
+  ensured_keeps prefix old new h = let it = trees_exist_of_objects _ _ h in ap (λ (s : State S). model.objects s.store) it.2.rest
 
   at_keeps : (prefix : Path) (old new : State S) (edits : List Edit) (its_reply : Reply E) → IsReplyAt model answers prefix old edits its_reply new
       → model.objects new.store ≡ with_trees (kept_of its_reply) (model.objects old.store)
@@ -111,7 +111,7 @@ module _ {S E : Type 0} (model : StoreModel S) (answers : Answers E) where
       (ensured_keeps prefix old between ensured)
       (edits_keep (at_cursor prefix) between new edits replies.items rest)
   at_keeps prefix old new edits (reply.AtRefused error) h = ⊎_elim (λ wanting. ap (λ (s : State S). model.objects s.store) wanting.1)
-      (λ rejected. let it = of_some _ _ rejected.0.effect in ap (λ (s : State S). model.objects s.store) it.2.rest) h
+      (λ rejected. let it = trees_exist_of_objects _ _ rejected.0.effect in ap (λ (s : State S). model.objects s.store) it.2.rest) h
   at_keeps prefix old new edits its_reply h = absurd h
 
   -- the store changes by the trees that the reply reports as kept
@@ -139,7 +139,7 @@ module _ {S E : Type 0} (model : StoreModel S) (answers : Answers E) where
         → (trees : Trees)
         × AgreesWithStore T trees × P trees
     agreed old P agrees says = let it =
-        of_some (model.objects old.store) P says in (it.0, (λ id entries other is. agrees id entries other ((it.1 id entries).0 is)), it.2)
+        trees_exist_of_objects (model.objects old.store) P says in (it.0, (λ id entries other is. agrees id entries other ((it.1 id entries).0 is)), it.2)
 
     unchanged : (old new : State S) → new ≡ old → SameFiles (EditorFiles T n new) (EditorFiles T n old)
     unchanged old new same = subst (λ (s : State S). SameFiles (EditorFiles T n s) (EditorFiles T n old)) (sym same) (same_files_refl (EditorFiles T n old))
@@ -332,7 +332,7 @@ module _ {S E : Type 0} (model : StoreModel S) (answers : Answers E) where
     names_history start last [] (r ∷ replies) run k written is agrees pairs has = absurd run
     names_history start last (c ∷ commands) [] run k written is agrees pairs has = absurd run
     names_history start last (c ∷ commands) (r ∷ replies) (between, first, run) zero written is agrees pairs has =
-        write_names start between c r written first is (subst (λ (ps : List Pair). AgreesWithPairs T ps) (sym (pairs_are r written is)) pairs) has
+        write_names start between c r written first is (subst (λ (ps : List Pair). AgreesWithPairs T ps) (sym (pairs_of_written_reply r written is)) pairs) has
     names_history start last (c ∷ commands) (r ∷ replies) (between, first, run) (suc k) written is agrees pairs has =
         let stores = agrees_throughout_prefix T (kept_of r) (kept_pairs (take k replies)) (model.objects start.store) agrees.stores in
         history_append_same_files T n (steps_of c r) (accepted_steps (take k commands) (take k replies)) (EditorFiles T n start) (EditorFiles T n between)

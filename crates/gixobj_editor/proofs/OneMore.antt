@@ -9,9 +9,9 @@ use Rattle.gixobj_editor.specs.declared.reply.EditReply.{EditReply}
 use Rattle.gixobj_editor.specs.declared.reply.Reply.{Reply}
 use Rattle.gixobj_store.specs.Stores.{StoreModel}
 
-none_remaining : {X : Type 0} (xs : List X) → length xs ≡ 0 → xs ≡ []
-none_remaining [] e = refl
-none_remaining (x ∷ xs) e = absurd (omega arith)
+nil_of_len_zero : {X : Type 0} (xs : List X) → length xs ≡ 0 → xs ≡ []
+nil_of_len_zero [] e = refl
+nil_of_len_zero (x ∷ xs) e = absurd (omega arith)
 
 module _ {S E : Type 0} (model : StoreModel S) (answers : Answers E) where
   -- if each completion of the rest completes all commands, then so does each completion after one more command
@@ -26,7 +26,7 @@ module _ {S E : Type 0} (model : StoreModel S) (answers : Answers E) where
   pub no_more : (old first : State S) (all rest : List Command) (seen : List (Reply E)) → length rest ≡ 0
       → ((rs : List (Reply E)) (s : State S) → IsRun model answers old rest rs s → IsRun model answers first all (seen ++ rs) s)
       → IsRun model answers first all seen old
-  no_more old first all rest seen none entire = rw append-nil at (entire [] old (rw (none_remaining rest none) refl))
+  no_more old first all rest seen none entire = rw append-nil at (entire [] old (rw (nil_of_len_zero rest none) refl))
 
   pub one_more_edit : (place : Place) (old between first new : State S) (edit : Edit) (all rest edits : List Edit) (reply : EditReply E)
       (seen seen' replies : List (EditReply E))
@@ -41,4 +41,4 @@ module _ {S E : Type 0} (model : StoreModel S) (answers : Answers E) where
       → ((rs : List (EditReply E)) (s : State S) → AreEditReplies model answers place old rest rs s → AreEditReplies model answers place first all
       (seen ++ rs) s)
       → AreEditReplies model answers place first all seen old
-  no_more_edits place old first all rest seen none entire = rw append-nil at (entire [] old (rw (none_remaining rest none) refl))
+  no_more_edits place old first all rest seen none entire = rw append-nil at (entire [] old (rw (nil_of_len_zero rest none) refl))

@@ -30,19 +30,20 @@ use Rattle.gixobj_editor.proofs.RootAlone.{root_alone_is_opened}
 use Rattle.gixobj_editor.proofs.WrittenBelow.{is_opened_after_write}
 
 -- the bases after directories were opened, and then edited
-both_so : (ds mid ds' : Opened) → OpenedSo ds mid → EditedSo mid ds' → (at : Path)
+bases_of_opened_then_edited : (ds mid ds' : Opened) → OpenedSo ds mid → EditedSo mid ds' → (at : Path)
     → bases_of ds' at ≡ edited_bases (dirs_of mid) (dirs_of ds') (opened_bases (dirs_of ds) (dirs_of mid) (bases_of ds)) at
-both_so ds mid ds' first then at = then at ∙ ap (λ b. base_edited (dirs_of mid at) (dirs_of ds' at) b) (first at)
+bases_of_opened_then_edited ds mid ds' first then at = then at ∙ ap (λ b. base_edited (dirs_of mid at) (dirs_of ds' at) b) (first at)
 
 -- the root alone is open
-no_bases : (root base : List EntryView) (name : List ℕ) (path : Path) → bases_of (opened root base []) (name ∷ path) ≡ None
-no_bases root base name path = base_none_where_unopened (opened root base []) (name ∷ path) (ap (λ (d : Dirs). d (name ∷ path)) (dirs_of_childless root))
+bases_of_opened_below_root : (root base : List EntryView) (name : List ℕ) (path : Path) → bases_of (opened root base []) (name ∷ path) ≡ None
+bases_of_opened_below_root root base name path = base_none_where_unopened (opened root base []) (name ∷ path)
+    (ap (λ (d : Dirs). d (name ∷ path)) (dirs_of_childless root))
 
 pub root_opened_on : (ds : Opened) (root base : List EntryView) → ds ≡ opened root base [] → IsWellFormed root → OpenedOn ds
 root_opened_on ds root base is formed =
     subst OpenedOn (sym is) (record {
       opened = root_alone_is_opened (opened root [] []) root refl formed;
-      null_based = are_null_based_of_none (dirs_of (opened root base [])) (bases_of (opened root base [])) (no_bases root base);
+      null_based = are_null_based_of_none (dirs_of (opened root base [])) (bases_of (opened root base [])) (bases_of_opened_below_root root base);
     })
 
 module _ (trees : Trees) (ds mid : Opened) (first : OpenedSo ds mid) (was : OpenedOn ds) where
@@ -73,7 +74,7 @@ module _ (trees : Trees) (ds mid : Opened) (first : OpenedSo ds mid) (was : Open
       opened = is_opened_after_upsert path mode id (null_id kind) mid ds' (recursion_from_All IsEntryName path names)
           (opened_on head queries opens).opened insert_entry;
       null_based = upserted_null_based trees kind (dirs_of ds) (bases_of ds) (dirs_of ds') (bases_of ds') was head last mode id (dirs_of mid) queries opens
-          (λ at. insert_entry at ∙ ap (λ p. upserted_dirs p mode id (null_id kind) (dirs_of mid) at) is) (both_so ds mid ds' first then);
+          (λ at. insert_entry at ∙ ap (λ p. upserted_dirs p mode id (null_id kind) (dirs_of mid) at) is) (bases_of_opened_then_edited ds mid ds' first then);
     }
 
     pub ensured_on : (kind : Kind) (path : Path) → AreNames path → (queries : List ObjectId) → Opens IsNoTree trees path (dirs_of ds) (dirs_of mid) queries
@@ -81,7 +82,7 @@ module _ (trees : Trees) (ds mid : Opened) (first : OpenedSo ds mid) (was : Open
     ensured_on kind path names queries opens ensured = record {
       opened = is_opened_after_ensured path (null_id kind) mid ds' (recursion_from_All IsEntryName path names) (opened_on path queries opens).opened ensured;
       null_based = ensured_null_based trees kind (dirs_of ds) (bases_of ds) (dirs_of ds') (bases_of ds') was path (dirs_of mid) queries opens ensured
-          (both_so ds mid ds' first then);
+          (bases_of_opened_then_edited ds mid ds' first then);
     }
 
     pub taken_on : {StopsBefore : EntryView → Type 0} (head path : Path) (queries : List ObjectId)
@@ -90,7 +91,7 @@ module _ (trees : Trees) (ds mid : Opened) (first : OpenedSo ds mid) (was : Open
     taken_on head path queries opens taken = record {
       opened = is_opened_after_removal path mid ds' (opened_on head queries opens).opened taken;
       null_based = removed_null_based trees hash.Sha1 (dirs_of ds) (bases_of ds) (dirs_of ds') (bases_of ds') was head path (dirs_of mid) queries opens taken
-          (both_so ds mid ds' first then);
+          (bases_of_opened_then_edited ds mid ds' first then);
     }
 
 -- the invariant after a write

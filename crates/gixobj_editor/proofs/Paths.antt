@@ -21,22 +21,26 @@ directory_is_prefix (name ∷ next ∷ rest) = let deeper = directory_is_prefix 
 pub names_of_snoc : (path rest : List BString) (last : BString) → path ≡ rest ++ last ∷ [] → names_of path ≡ names_of rest ++ bstring_bytes last ∷ []
 names_of_snoc path rest last is = ap names_of is ∙ map-append bstring_bytes rest (last ∷ [])
 
-first_of : (x y : List ℕ) (xs ys : Path) → x ∷ xs ≡ y ∷ ys → x ≡ y
-first_of x y xs ys is = cc is
+cons_injective_head : (x y : List ℕ) (xs ys : Path) → x ∷ xs ≡ y ∷ ys → x ≡ y
+cons_injective_head x y xs ys is = cc is
 
-others_of : (x y : List ℕ) (xs ys : Path) → x ∷ xs ≡ y ∷ ys → xs ≡ ys
-others_of x y xs ys is = cc is
+cons_injective_tail : (x y : List ℕ) (xs ys : Path) → x ∷ xs ≡ y ∷ ys → xs ≡ ys
+cons_injective_tail x y xs ys is = cc is
 
 -- of two splits of one path, the second is within the first part, at the same position, or after it
 pub snoc_prefix_cases : (prefix : Path) (last : List ℕ) (after place : Path) (next : List ℕ) (rest : Path) → prefix ++ last ∷ after ≡ place ++ next ∷ rest
     → ((more : Path) × (prefix ≡ place ++ next ∷ more)) ⊎ ((prefix ≡ place) × (last ≡ next) × (after ≡ rest))
     ⊎ ((more : Path) × (place ≡ prefix ++ last ∷ more))
 snoc_prefix_cases [] last after [] next rest is = inr (inl (refl, cc is, cc is))
-snoc_prefix_cases [] last after (p ∷ place) next rest is = inr (inr (place, ap (λ x. x ∷ place) (first_of p last (place ++ next ∷ rest) after (sym is))))
-snoc_prefix_cases (f ∷ prefix) last after [] next rest is = inl (prefix, ap (λ x. x ∷ prefix) (first_of f next (prefix ++ last ∷ after) rest is))
+snoc_prefix_cases [] last after (p ∷ place) next rest is = inr (inr (
+  place,
+  ap (λ x. x ∷ place)
+      (cons_injective_head p last (place ++ next ∷ rest) after (sym is)),
+))
+snoc_prefix_cases (f ∷ prefix) last after [] next rest is = inl (prefix, ap (λ x. x ∷ prefix) (cons_injective_head f next (prefix ++ last ∷ after) rest is))
 snoc_prefix_cases (f ∷ prefix) last after (p ∷ place) next rest is =
-    let same = first_of f p (prefix ++ last ∷ after) (place ++ next ∷ rest) is in
-    elim (snoc_prefix_cases prefix last after place next rest (others_of f p (prefix ++ last ∷ after) (place ++ next ∷ rest) is)) [
+    let same = cons_injective_head f p (prefix ++ last ∷ after) (place ++ next ∷ rest) is in
+    elim (snoc_prefix_cases prefix last after place next rest (cons_injective_tail f p (prefix ++ last ∷ after) (place ++ next ∷ rest) is)) [
       | inl within ↦ inl (within.0, ap (λ x. x ∷ prefix) same ∙ ap (λ q. p ∷ q) within.1)
       | inr (inl at) ↦ inr (inl (ap (λ x. x ∷ prefix) same ∙ ap (λ q. p ∷ q) at.0, at.1, at.2))
       | inr (inr after_it) ↦ inr (inr (after_it.0, ap (λ x. x ∷ place) (sym same) ∙ ap (λ q. f ∷ q) after_it.1))

@@ -39,8 +39,8 @@ use Rattle.gixobj_editor.proofs.Removing.{path_nil_or_snoc}
 abbrev no_trees : Trees
 no_trees = λ id. None
 
-clean_of : (entries : List EntryView) → IsStorable entries → IsClean entries
-clean_of entries storable =
+is_clean_of_is_storable : (entries : List EntryView) → IsStorable entries → IsClean entries
+is_clean_of_is_storable entries storable =
     record { formed = storable.well_formed; filled = each entries (recursion_from_All (λ (e : EntryView). IsFalse (is_null e.id)) entries storable.no_nulls) }
   where
     each : (es : List EntryView) → AllByRecursion (λ e. IsFalse (is_null e.id)) es → (e : EntryView) → ContainsEntry es e → is_null e.id ≡ false
@@ -49,24 +49,24 @@ clean_of entries storable =
     each (x ∷ es) all e (inr h) = each es all.1 e h
 
 -- the last trees of two equal lists of pairs are equal
-last_own : (head back : List Pair) (x y : ObjectId) (own other : List EntryView) → head ++ (x, own) ∷ [] ≡ back ++ (y, other) ∷ [] → own ≡ other
-last_own [] [] x y own other is = let same : ◌≡◌ {A = Pair} (x, own) (y, other) = cc is in ap (λ (p : Pair). p.1) same
-last_own [] (b ∷ []) x y own other is = absurd (cc is)
-last_own [] (b ∷ c ∷ back) x y own other is = absurd (cc is)
-last_own (a ∷ []) [] x y own other is = absurd (cc is)
-last_own (a ∷ c ∷ head) [] x y own other is = absurd (cc is)
-last_own (a ∷ head) (b ∷ back) x y own other is = last_own head back x y own other (cc is)
+last_tree_unique : (head back : List Pair) (x y : ObjectId) (own other : List EntryView) → head ++ (x, own) ∷ [] ≡ back ++ (y, other) ∷ [] → own ≡ other
+last_tree_unique [] [] x y own other is = let same : ◌≡◌ {A = Pair} (x, own) (y, other) = cc is in ap (λ (p : Pair). p.1) same
+last_tree_unique [] (b ∷ []) x y own other is = absurd (cc is)
+last_tree_unique [] (b ∷ c ∷ back) x y own other is = absurd (cc is)
+last_tree_unique (a ∷ []) [] x y own other is = absurd (cc is)
+last_tree_unique (a ∷ c ∷ head) [] x y own other is = absurd (cc is)
+last_tree_unique (a ∷ head) (b ∷ back) x y own other is = last_tree_unique head back x y own other (cc is)
 
 -- a directory that emits is open
-open_there : (prefix : Path) (dirs bases : Dirs) (below : List Pair) (own : List EntryView) (saved : ℕ)
+prefix_open_of_emits_below : (prefix : Path) (dirs bases : Dirs) (below : List Pair) (own : List EntryView) (saved : ℕ)
     → EmitsBelow (in_path prefix dirs) (in_path prefix bases) below own saved → dirs prefix ≢ None
-open_there prefix dirs bases below own saved (of_entries d b entries ps os n is walk) none = let bad : Some entries ≡ None = sym is
+prefix_open_of_emits_below prefix dirs bases below own saved (of_entries d b entries ps os n is walk) none = let bad : Some entries ≡ None = sym is
     ∙ ap dirs (append-nil prefix)
     ∙ none in cc bad
 
-alone_at : (es : List EntryView) (at : Path) → map.get (root_alone es) at ≡ only_open es at
-alone_at es [] = root_alone_at_root es
-alone_at es (name ∷ path) = root_alone_below_root es name path
+root_alone_get : (es : List EntryView) (at : Path) → map.get (root_alone es) at ≡ only_open es at
+root_alone_get es [] = root_alone_at_root es
+root_alone_get es (name ∷ path) = root_alone_below_root es name path
 
 module _ (T : Table) (pairs : List Pair) (known : AgreesWithPairs T pairs) where
   abbrev pub IsPlainState : {S : Type 0} → State S → Type 0
@@ -152,7 +152,7 @@ module _ (T : Table) (pairs : List Pair) (known : AgreesWithPairs T pairs) where
 
   goes_out : (ps : List Pair) → Within ps → AllByRecursion (λ pair. IsStorable pair.1) ps → AllByRecursion (IsEmitted pairs) ps
   goes_out [] within storable = tt
-  goes_out (pair ∷ ps) within storable = ((within.0, clean_of pair.1 storable.0), goes_out ps within.1 storable.1)
+  goes_out (pair ∷ ps) within storable = ((within.0, is_clean_of_is_storable pair.1 storable.0), goes_out ps within.1 storable.1)
 
   went : {S : Type 0} (old new : State S) (prefix : Path) (below : List Pair) (id : ObjectId) (own : List EntryView) (saved : ℕ) → IsPlainState old
       → EmitsBelow (in_path prefix (open_dirs old)) (in_path prefix (open_bases old)) below own saved
@@ -170,7 +170,8 @@ module _ (T : Table) (pairs : List Pair) (known : AgreesWithPairs T pairs) where
             (subst (λ (d : Dirs). (at : Path) → open_bases new at ≡ edited_bases (open_dirs old) d (open_bases old) at) (λ i at. dirs_are at i) bases_are)
             (everywhere_written (Plain pairs) no_trees (null_id old.object_hash)
             (plain_lasts T pairs known no_trees (null_id old.object_hash) (λ it entries searched is. absurd (cc is))) prefix own (open_dirs old)
-            (open_bases old) (open_there prefix (open_dirs old) (open_bases old) below own saved going) (is_plain_of_rests_on pairs own it.0) holds.1),
+            (open_bases old) (prefix_open_of_emits_below prefix (open_dirs old) (open_bases old) below own saved going)
+            (is_plain_of_rests_on pairs own it.0) holds.1),
         all_joined (HasBuilt pairs) below ((id, own) ∷ []) it.1 (is_built_of_rests_on pairs own (mine.0.1) it.0, tt),
       )
 
@@ -178,7 +179,7 @@ module _ (T : Table) (pairs : List Pair) (known : AgreesWithPairs T pairs) where
       → IsWrittenBelow gave queries old prefix it new answered → Within it.trees.items → IsPlainState new × AreBuilt it.trees.items
   plain_below gave queries answered old new prefix it holds h within =
       let out = h.emitted in
-      let own : h.own ≡ out.2 = last_own h.below (out.0) it.id (out.1) h.own (out.2) (sym h.last ∙ out.4) in
+      let own : h.own ≡ out.2 = last_tree_unique h.below (out.0) it.id (out.1) h.own (out.2) (sym h.last ∙ out.4) in
       let remaining = went old new prefix out.0 out.1 out.2 out.3.0 holds out.3.1 (subst Within out.4 within)
       (subst (λ (l : List Pair). AllByRecursion (λ pair. IsStorable pair.1) l) out.4
       (recursion_from_All (λ (pair : Pair). IsStorable pair.1) it.trees.items h.storable))
@@ -189,10 +190,10 @@ module _ (T : Table) (pairs : List Pair) (known : AgreesWithPairs T pairs) where
       → IsWrittenEditor gave queries old it new answered → Within it.trees.items → IsPlainState new × AreBuilt it.trees.items
   plain_root gave queries answered old new it holds h within =
       let out = h.emitted in
-      let own : h.own ≡ out.2 = last_own h.below (out.0) it.id (out.1) h.own (out.2) (sym h.last ∙ out.4) in
+      let own : h.own ≡ out.2 = last_tree_unique h.below (out.0) it.id (out.1) h.own (out.2) (sym h.last ∙ out.4) in
       let storable = subst (λ (l : List Pair). AllByRecursion (λ pair. IsStorable pair.1) l) out.4
       (recursion_from_All (λ (pair : Pair). IsStorable pair.1) it.trees.items h.storable) in
-      let alone : (at : Path) → open_dirs new at ≡ only_open out.2 at = λ at. ap (λ (m : DirMap). map.get m at) h.dirs ∙ alone_at h.own at
+      let alone : (at : Path) → open_dirs new at ≡ only_open out.2 at = λ at. ap (λ (m : DirMap). map.get m at) h.dirs ∙ root_alone_get h.own at
       ∙ ap (λ (l : List EntryView). only_open l at) own in
       let remaining = went old new [] out.0 out.1 out.2 out.3.0 holds out.3.1 (subst Within out.4 within) storable alone h.bases in (
         (

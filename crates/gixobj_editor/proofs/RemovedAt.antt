@@ -32,12 +32,12 @@ use Rattle.gixobj_editor.proofs.InPart.{prefix_in_part}
 use Rattle.gixobj_editor.proofs.Paths.{directory_is_prefix, directory_of_snoc}
 use Rattle.gixobj_editor.proofs.Removing.{IsOpenedFor, path_nil_or_snoc}
 
-nothing_requested : {StopsBefore : EntryView → Type 0} (trees : Trees) (p : Path) → p ≡ [] → (old new : Dirs) (queries : List ObjectId)
+no_queries_of_nil_path : {StopsBefore : EntryView → Type 0} (trees : Trees) (p : Path) → p ≡ [] → (old new : Dirs) (queries : List ObjectId)
     → Opens StopsBefore trees p old new queries → length queries ≡ 0
-nothing_requested trees p none old new queries (arrived d) = refl
-nothing_requested trees p none old new queries (stops name rest d other unopened) = refl
-nothing_requested trees p none old new queries (down name rest d inner e entries more has named is below) = absurd (cc none)
-nothing_requested trees p none old new queries (found name rest d inner e entries first more entry tree free unopened finds below) = absurd (cc none)
+no_queries_of_nil_path trees p none old new queries (arrived d) = refl
+no_queries_of_nil_path trees p none old new queries (stops name rest d other unopened) = refl
+no_queries_of_nil_path trees p none old new queries (down name rest d inner e entries more has named is below) = absurd (cc none)
+no_queries_of_nil_path trees p none old new queries (found name rest d inner e entries first more entry tree free unopened finds below) = absurd (cc none)
 
 pub is_opened_after_removal : (path : Path) (mid ds : Opened) → IsOpened (dirs_of mid) → ((at : Path) → dirs_of ds at ≡ removed_dirs path (dirs_of mid) at)
     → IsOpened (dirs_of ds)
@@ -55,7 +55,7 @@ module _ {StopsBefore : EntryView → Type 0} (idle : IsIdle StopsBefore) (trees
 
   count_above : length queries ≡ unopened_count trees old path
   count_above = elim (path_nil_or_snoc path) [
-    | inl none ↦ nothing_requested trees (directory_of path) (ap directory_of none) old new queries opens ∙ sym (ap (unopened_count trees old) none)
+    | inl none ↦ no_queries_of_nil_path trees (directory_of path) (ap directory_of none) old new queries opens ∙ sym (ap (unopened_count trees old) none)
     | inr ends ↦ requested_count trees idle ends.0 ends.1 old new queries (along ends.0 ends.1 ends.2) ∙ ap (unopened_count trees old) (sym ends.2)
   ]
 

@@ -42,15 +42,15 @@ path_nil_or_snoc (name ∷ path) = elim (path_nil_or_snoc path) [
   | inr ends ↦ inr (name ∷ ends.0, ends.1, ap (λ p. name ∷ p) ends.2)
 ]
 
-directory_deeper : (prefix : Path) (name : List ℕ) (back : Path) → directory_of (prefix ++ name ∷ back) ≡ prefix ++ directory_of (name ∷ back)
-directory_deeper [] name back = refl
-directory_deeper (first ∷ []) name back = refl
-directory_deeper (first ∷ second ∷ prefix) name back = ap (λ p. first ∷ p) (directory_deeper (second ∷ prefix) name back)
+directory_of_append : (prefix : Path) (name : List ℕ) (back : Path) → directory_of (prefix ++ name ∷ back) ≡ prefix ++ directory_of (name ∷ back)
+directory_of_append [] name back = refl
+directory_of_append (first ∷ []) name back = refl
+directory_of_append (first ∷ second ∷ prefix) name back = ap (λ p. first ∷ p) (directory_of_append (second ∷ prefix) name back)
 
 -- a split path is empty, or has a name after those that are opened
-after_names : (path names rejected : Path) → SplitsAtFirstInvalid path names rejected → ((path ≡ []) × (names ≡ []))
+splits_at_first_invalid_cases : (path names rejected : Path) → SplitsAtFirstInvalid path names rejected → ((path ≡ []) × (names ≡ []))
     ⊎ ((last : List ℕ) × (following : Path) × (path ≡ names ++ last ∷ following) × AreNames names)
-after_names path names [] splits = elim (path_nil_or_snoc path) [
+splits_at_first_invalid_cases path names [] splits = elim (path_nil_or_snoc path) [
   | inl none ↦ inl (none, splits.1 ∙ ap directory_of none)
   | inr ends ↦
       let prefix : names ≡ ends.0 = splits.1 ∙ ap directory_of ends.2 ∙ directory_of_snoc ends.0 ends.1 in
@@ -62,7 +62,7 @@ after_names path names [] splits = elim (path_nil_or_snoc path) [
             (are_names_prefix ends.0 (ends.1 ∷ []) (subst AreNames ends.2 splits.0)),
       )
 ]
-after_names path names (name ∷ rest) splits = inr (name, rest, splits.2, splits.0)
+splits_at_first_invalid_cases path names (name ∷ rest) splits = inr (name, rest, splits.2, splits.0)
 
 pub no_halt : {StopsBefore : EntryView → Type 0} (trees : Trees) (path : Path) → path ≡ []
     → (old new : Dirs) (requested : List ObjectId) (failed_lookup : Option ObjectId)
@@ -116,13 +116,14 @@ module _ {StopsBefore : EntryView → Type 0} (idle : IsIdle StopsBefore) (objec
       → (old new : Dirs) (requested : List ObjectId) (failed_lookup : Option ObjectId)
       → StopsOpening StopsBefore trees names old new requested failed_lookup → (cause : directory.Error) → IsOpenErrorAt objects may_fail failed_lookup cause
       → (n m : ℕ) → m ≡ counted n requested → IsRejectedSo StopsBefore objects may_fail trees path old new n m (edit_error cause)
-  halted_removal path names rejected splits old new requested failed_lookup halts cause at n m count = elim (after_names path names rejected splits) [
-    | inl none ↦ absurd (no_halt trees names none.1 old new requested failed_lookup halts)
-    | inr remaining ↦ (
-      halted_in_part objects may_fail trees path names remaining.0 remaining.1 remaining.2 old new requested failed_lookup halts n m count cause at,
-      stopped_opening_fails path names remaining.0 remaining.1 remaining.2 remaining.3 old new requested failed_lookup halts cause at,
-    )
-  ]
+  halted_removal path names rejected splits old new requested failed_lookup halts cause at n m count =
+      elim (splits_at_first_invalid_cases path names rejected splits) [
+        | inl none ↦ absurd (no_halt trees names none.1 old new requested failed_lookup halts)
+        | inr remaining ↦ (
+          halted_in_part objects may_fail trees path names remaining.0 remaining.1 remaining.2 old new requested failed_lookup halts n m count cause at,
+          stopped_opening_fails path names remaining.0 remaining.1 remaining.2 remaining.3 old new requested failed_lookup halts cause at,
+        )
+      ]
 
   -- a name is invalid
   first_failed : (path names : Path) (name : List ℕ) (rest : Path) → AreNames names → path ≡ names ++ name ∷ rest → (old new : Dirs) (requested : List ObjectId)
@@ -164,7 +165,7 @@ is_opened_for_of_opens {StopsBefore = StopsBefore} idle trees path names [] spli
 is_opened_for_of_opens {StopsBefore = StopsBefore} idle trees path names (bad ∷ rest) splits old new root requested opens (inr good) =
     absurd (splits.1 (All-head IsEntryName bad rest good))
 is_opened_for_of_opens {StopsBefore = StopsBefore} idle trees path names (bad ∷ rest) splits old new root requested opens (inl ended) = (
-  subst (λ p. Opens StopsBefore trees p old new requested) (sym (ap directory_of splits.2 ∙ directory_deeper names bad rest))
+  subst (λ p. Opens StopsBefore trees p old new requested) (sym (ap directory_of splits.2 ∙ directory_of_append names bad rest))
       (opens_of_longer_path trees names (directory_of (bad ∷ rest)) old new requested opens root ended),
   λ name it. elim (snoc_prefix_cases names bad rest it.0 name it.1 (sym splits.2 ∙ it.2)) [
     | inl within ↦ is_entry_name_of_member it.0 name within.0 (subst AreNames within.1 splits.0)

@@ -34,7 +34,8 @@ module _ {S E : Type 0} (model : StoreModel S) (answers : Answers E) (place : Pl
   abbrev Of : (Trees → Type 0) → Type 0
   Of = OfTrees (model.objects old.store)
 
-  failed_reply : (error : Error) (Rejects : List BString → Trees → Type 0) → Of (λ trees. IsAfterFailedEdit model trees old (path_at place (names_of lent)) error new)
+  failed_reply : (error : Error) (Rejects : List BString → Trees → Type 0)
+      → Of (λ trees. IsAfterFailedEdit model trees old (path_at place (names_of lent)) error new)
       → Of (Rejects lent) → IsFailedEdit model (Rejects path.items) old (path_at place (names_of path.items)) error new
   failed_reply error Rejects pending failure = subst (λ (l : List BString). IsFailedEdit model (Rejects l) old (path_at place (names_of l)) error new) is
       (record { effect = pending; cause = failure })
@@ -59,17 +60,20 @@ module _ {S E : Type 0} (model : StoreModel S) (answers : Answers E) (place : Pl
       → IsEditReply model answers place old (edit.Upsert path kind id) (reply_to done) new
   upsert_replied kind id (Ok it) upserted pending failure not_looked_up =
       subst (λ (l : List BString). Of (λ trees. IsUpserted trees old (path_at place (names_of l)) (mode_of_kind kind) id new)) is upserted
-  upsert_replied kind id (Err error) upserted pending failure not_looked_up = (failed_reply error (λ l trees. Upserts l error trees) pending failure, not_looked_up)
+  upsert_replied kind id (Err error) upserted pending failure not_looked_up =
+      (failed_reply error (λ l trees. Upserts l error trees) pending failure, not_looked_up)
 
   pub removal_replied : (done : Result (Unit {0}) Error) → OnOk done (Of (λ trees. IsRemoved IsNoTree trees old (path_at place (names_of lent)) new))
-      → IfErr done (λ error. Of (λ trees. IsAfterFailedEdit model trees old (path_at place (names_of lent)) error new)) → IfErr done (λ error. Of (Removes lent error))
+      → IfErr done (λ error. Of (λ trees. IsAfterFailedEdit model trees old (path_at place (names_of lent)) error new))
+      → IfErr done (λ error. Of (Removes lent error))
       → IsEditReply model answers place old (edit.Remove path) (reply_to done) new
   removal_replied (Ok it) removed pending failure = subst (λ (l : List BString). Of (λ trees. IsRemoved IsNoTree trees old (path_at place (names_of l)) new)) is
       removed
   removal_replied (Err error) removed pending failure = failed_reply error (λ l trees. Removes l error trees) pending failure
 
   pub leaf_removal_replied : (done : Result (Unit {0}) Error) → OnOk done (Of (λ trees. IsLeafRemoved trees old (path_at place (names_of lent)) new))
-      → IfErr done (λ error. Of (λ trees. IsAfterFailedEdit model trees old (path_at place (names_of lent)) error new)) → IfErr done (λ error. Of (RemovesLeaf lent error))
+      → IfErr done (λ error. Of (λ trees. IsAfterFailedEdit model trees old (path_at place (names_of lent)) error new))
+      → IfErr done (λ error. Of (RemovesLeaf lent error))
       → IsEditReply model answers place old (edit.RemoveLeaf path) (reply_to done) new
   leaf_removal_replied (Ok it) removed pending failure = subst (λ (l : List BString). Of (λ trees. IsLeafRemoved trees old (path_at place (names_of l)) new)) is
       removed

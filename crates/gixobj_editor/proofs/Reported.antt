@@ -73,9 +73,9 @@ module _ (T : Table) (pairs : List Pair) (known : AgreesWithPairs T pairs) where
   )
 
 -- no step of a plain run inserts a tree
-steps_joined : (xs ys : List Step) → AllByRecursion HasNoTree xs → AllByRecursion HasNoTree ys → AllByRecursion HasNoTree (xs ++ ys)
-steps_joined [] ys h k = k
-steps_joined (x ∷ xs) ys h k = (h.0, steps_joined xs ys h.1 k)
+all_have_no_tree_append : (xs ys : List Step) → AllByRecursion HasNoTree xs → AllByRecursion HasNoTree ys → AllByRecursion HasNoTree (xs ++ ys)
+all_have_no_tree_append [] ys h k = k
+all_have_no_tree_append (x ∷ xs) ys h k = (h.0, all_have_no_tree_append xs ys h.1 k)
 
 module _ {E : Type 0} where
   edit_steps : (place : Place) (it : Edit) (its_reply : EditReply E) → InsertsNoTree it → AllByRecursion HasNoTree (steps_of_edit place it its_reply)
@@ -86,7 +86,7 @@ module _ {E : Type 0} where
 
   edits_steps : (place : Place) (edits : List Edit) (replies : List (EditReply E)) → AllByRecursion InsertsNoTree edits
       → AllByRecursion HasNoTree (steps_of_edits place edits replies)
-  edits_steps place (it ∷ edits) (its_reply ∷ replies) other = steps_joined (steps_of_edit place it its_reply) (steps_of_edits place edits replies)
+  edits_steps place (it ∷ edits) (its_reply ∷ replies) other = all_have_no_tree_append (steps_of_edit place it its_reply) (steps_of_edits place edits replies)
       (edit_steps place it its_reply other.0) (edits_steps place edits replies other.1)
   edits_steps place edits replies other = tt
 
@@ -103,7 +103,7 @@ module _ {E : Type 0} where
   steps_before (suc k) [] replies other = tt
   steps_before (suc k) (it ∷ commands) [] other = tt
   steps_before (suc k) (it ∷ commands) (its_reply ∷ replies) other =
-      steps_joined (steps_of it its_reply) (accepted_steps (take k commands) (take k replies)) (command_steps it its_reply other.0)
+      all_have_no_tree_append (steps_of it its_reply) (accepted_steps (take k commands) (take k replies)) (command_steps it its_reply other.0)
       (steps_before k commands replies other.1)
 
 -- a set that equals a set of files of at most n names has files of at most n names

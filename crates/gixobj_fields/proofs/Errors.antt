@@ -8,24 +8,24 @@ use Rattle.gixobj_fields.specs.declared.encode.Error.TheVariants as error
 use Rattle.gixobj_fields.specs.Writing.{FailsAsSink, IsEncodingError, IsWritingError, LacksRoom, RejectedValue, RejectsNothing, StopsAt}
 use Rattle.gixobj_fields.proofs.Appends.{prefix_with_more_room, appends_prefix_middle, appends_all_append, appends_with_more_room}
 
-stops_after : (R Q : RejectedValue → List ℕ → Type 0) (a b c : SinkView) (prefix : List ℕ) → AppendsAll a b prefix
+stops_at_append : (R Q : RejectedValue → List ℕ → Type 0) (a b c : SinkView) (prefix : List ℕ) → AppendsAll a b prefix
     → ((value : RejectedValue) (parts : List ℕ) → R value parts → Q value (prefix ++ parts)) → (value : RejectedValue) → StopsAt R b c value
     → StopsAt Q a c value
-stops_after R Q a b c prefix p step value s = (prefix ++ s.0, step value s.0 s.1, appends_all_append a b c prefix s.0 p s.2)
+stops_at_append R Q a b c prefix p step value s = (prefix ++ s.0, step value s.0 s.1, appends_all_append a b c prefix s.0 p s.2)
 
 -- the error of a part after a written prefix is an error of the entire encoding
 pub writing_error_append : (R Q : RejectedValue → List ℕ → Type 0) (a b c : SinkView) (prefix part entire : List ℕ) → AppendsAll a b prefix
     → ((value : RejectedValue) (parts : List ℕ) → R value parts → Q value (prefix ++ parts)) → (AppendsPrefix b c part → AppendsPrefix a c entire)
     → (e : Error) → IsWritingError R b c part e → IsWritingError Q a c entire e
 writing_error_append R Q a b c prefix part entire p step fails (error.Writer cause) s = fails s
-writing_error_append R Q a b c prefix part entire p step fails (error.NewlineInHeaderValue value) s = stops_after R Q a b c prefix p step _ s
-writing_error_append R Q a b c prefix part entire p step fails error.EmptyValue s = stops_after R Q a b c prefix p step _ s
-writing_error_append R Q a b c prefix part entire p step fails error.StartsWithDash s = stops_after R Q a b c prefix p step _ s
-writing_error_append R Q a b c prefix part entire p step fails (error.InvalidRefName fault) s = stops_after R Q a b c prefix p step _ s
-writing_error_append R Q a b c prefix part entire p step fails (error.NullbyteInFilename name) s = stops_after R Q a b c prefix p step _ s
-writing_error_append R Q a b c prefix part entire p step fails error.IllegalActor s = stops_after R Q a b c prefix p step _ s
-writing_error_append R Q a b c prefix part entire p step fails error.OutOfMemory (value, inl s) = (value, inl (stops_after R Q a b c prefix p step _ s))
-writing_error_append R Q a b c prefix part entire p step fails error.OutOfMemory (value, inr s) = (value, inr (stops_after R Q a b c prefix p step _ s))
+writing_error_append R Q a b c prefix part entire p step fails (error.NewlineInHeaderValue value) s = stops_at_append R Q a b c prefix p step _ s
+writing_error_append R Q a b c prefix part entire p step fails error.EmptyValue s = stops_at_append R Q a b c prefix p step _ s
+writing_error_append R Q a b c prefix part entire p step fails error.StartsWithDash s = stops_at_append R Q a b c prefix p step _ s
+writing_error_append R Q a b c prefix part entire p step fails (error.InvalidRefName fault) s = stops_at_append R Q a b c prefix p step _ s
+writing_error_append R Q a b c prefix part entire p step fails (error.NullbyteInFilename name) s = stops_at_append R Q a b c prefix p step _ s
+writing_error_append R Q a b c prefix part entire p step fails error.IllegalActor s = stops_at_append R Q a b c prefix p step _ s
+writing_error_append R Q a b c prefix part entire p step fails error.OutOfMemory (value, inl s) = (value, inl (stops_at_append R Q a b c prefix p step _ s))
+writing_error_append R Q a b c prefix part entire p step fails error.OutOfMemory (value, inr s) = (value, inr (stops_at_append R Q a b c prefix p step _ s))
 
 -- the error of a part between a written prefix and the rest is an error of all three
 pub writing_error_within : (R Q : RejectedValue → List ℕ → Type 0) (a b c : SinkView) (prefix part rest : List ℕ) → AppendsAll a b prefix
@@ -46,22 +46,22 @@ writing_error_longer R a b part entire fails (error.NullbyteInFilename name) s =
 writing_error_longer R a b part entire fails error.IllegalActor s = s
 writing_error_longer R a b part entire fails error.OutOfMemory s = s
 
-stops_with_more_room : (R : RejectedValue → List ℕ → Type 0) (a b c : SinkView) → a.held ≡ b.held → a.room ≤ b.room → (value : RejectedValue)
+stops_at_of_more_room : (R : RejectedValue → List ℕ → Type 0) (a b c : SinkView) → a.held ≡ b.held → a.room ≤ b.room → (value : RejectedValue)
     → StopsAt R b c value → StopsAt R a c value
-stops_with_more_room R a b c same less value s = (s.0, s.1, appends_with_more_room a b c s.0 same less s.2)
+stops_at_of_more_room R a b c same less value s = (s.0, s.1, appends_with_more_room a b c s.0 same less s.2)
 
 -- the error of a write to a sink with more room is an error of the sink before it had that room
 pub rejects_with_more_room : (R : RejectedValue → List ℕ → Type 0) (a b c : SinkView) (bytes : List ℕ) → a.held ≡ b.held → a.room ≤ b.room → (e : Error)
     → IsWritingError R b c bytes e → IsWritingError R a c bytes e
 rejects_with_more_room R a b c bytes same less (error.Writer cause) s = prefix_with_more_room a b c bytes same less s
-rejects_with_more_room R a b c bytes same less (error.NewlineInHeaderValue value) s = stops_with_more_room R a b c same less _ s
-rejects_with_more_room R a b c bytes same less error.EmptyValue s = stops_with_more_room R a b c same less _ s
-rejects_with_more_room R a b c bytes same less error.StartsWithDash s = stops_with_more_room R a b c same less _ s
-rejects_with_more_room R a b c bytes same less (error.InvalidRefName fault) s = stops_with_more_room R a b c same less _ s
-rejects_with_more_room R a b c bytes same less (error.NullbyteInFilename name) s = stops_with_more_room R a b c same less _ s
-rejects_with_more_room R a b c bytes same less error.IllegalActor s = stops_with_more_room R a b c same less _ s
-rejects_with_more_room R a b c bytes same less error.OutOfMemory (value, inl s) = (value, inl (stops_with_more_room R a b c same less _ s))
-rejects_with_more_room R a b c bytes same less error.OutOfMemory (value, inr s) = (value, inr (stops_with_more_room R a b c same less _ s))
+rejects_with_more_room R a b c bytes same less (error.NewlineInHeaderValue value) s = stops_at_of_more_room R a b c same less _ s
+rejects_with_more_room R a b c bytes same less error.EmptyValue s = stops_at_of_more_room R a b c same less _ s
+rejects_with_more_room R a b c bytes same less error.StartsWithDash s = stops_at_of_more_room R a b c same less _ s
+rejects_with_more_room R a b c bytes same less (error.InvalidRefName fault) s = stops_at_of_more_room R a b c same less _ s
+rejects_with_more_room R a b c bytes same less (error.NullbyteInFilename name) s = stops_at_of_more_room R a b c same less _ s
+rejects_with_more_room R a b c bytes same less error.IllegalActor s = stops_at_of_more_room R a b c same less _ s
+rejects_with_more_room R a b c bytes same less error.OutOfMemory (value, inl s) = (value, inl (stops_at_of_more_room R a b c same less _ s))
+rejects_with_more_room R a b c bytes same less error.OutOfMemory (value, inr s) = (value, inr (stops_at_of_more_room R a b c same less _ s))
 
 -- a sink that lacks room also lacked it before it had more
 pub lacks_room_with_more_room : (R : RejectedValue → List ℕ → Type 0) (a b : SinkView) → a.room ≤ b.room → (e : Error) → LacksRoom R b e → LacksRoom R a e
@@ -120,22 +120,22 @@ lacks_room_of_fewer R Q a fewer (error.NullbyteInFilename name) short = tt
 lacks_room_of_fewer R Q a fewer error.IllegalActor short = tt
 lacks_room_of_fewer R Q a fewer error.OutOfMemory short = tt
 
-none_stops : (R : RejectedValue → List ℕ → Type 0) (a b : SinkView) (value : RejectedValue) → RejectsNothing R → StopsAt R a b value → ⊥
-none_stops R a b value nothing s = nothing value s.0 s.1
+no_stop_of_rejects_nothing : (R : RejectedValue → List ℕ → Type 0) (a b : SinkView) (value : RejectedValue) → RejectsNothing R → StopsAt R a b value → ⊥
+no_stop_of_rejects_nothing R a b value nothing s = nothing value s.0 s.1
 
 -- a writer that rejects no value fails as its sink does
 pub fails_as_sink_of_error : (R : RejectedValue → List ℕ → Type 0) (a b : SinkView) (bytes : List ℕ) (e : Error) → RejectsNothing R
     → IsWritingError R a b bytes e
     → FailsAsSink a b bytes e
 fails_as_sink_of_error R a b bytes (error.Writer cause) nothing s = s
-fails_as_sink_of_error R a b bytes (error.NewlineInHeaderValue value) nothing s = none_stops R a b _ nothing s
-fails_as_sink_of_error R a b bytes error.EmptyValue nothing s = none_stops R a b _ nothing s
-fails_as_sink_of_error R a b bytes error.StartsWithDash nothing s = none_stops R a b _ nothing s
-fails_as_sink_of_error R a b bytes (error.InvalidRefName fault) nothing s = none_stops R a b _ nothing s
-fails_as_sink_of_error R a b bytes (error.NullbyteInFilename name) nothing s = none_stops R a b _ nothing s
-fails_as_sink_of_error R a b bytes error.IllegalActor nothing s = none_stops R a b _ nothing s
-fails_as_sink_of_error R a b bytes error.OutOfMemory nothing (value, inl s) = none_stops R a b _ nothing s
-fails_as_sink_of_error R a b bytes error.OutOfMemory nothing (value, inr s) = none_stops R a b _ nothing s
+fails_as_sink_of_error R a b bytes (error.NewlineInHeaderValue value) nothing s = no_stop_of_rejects_nothing R a b _ nothing s
+fails_as_sink_of_error R a b bytes error.EmptyValue nothing s = no_stop_of_rejects_nothing R a b _ nothing s
+fails_as_sink_of_error R a b bytes error.StartsWithDash nothing s = no_stop_of_rejects_nothing R a b _ nothing s
+fails_as_sink_of_error R a b bytes (error.InvalidRefName fault) nothing s = no_stop_of_rejects_nothing R a b _ nothing s
+fails_as_sink_of_error R a b bytes (error.NullbyteInFilename name) nothing s = no_stop_of_rejects_nothing R a b _ nothing s
+fails_as_sink_of_error R a b bytes error.IllegalActor nothing s = no_stop_of_rejects_nothing R a b _ nothing s
+fails_as_sink_of_error R a b bytes error.OutOfMemory nothing (value, inl s) = no_stop_of_rejects_nothing R a b _ nothing s
+fails_as_sink_of_error R a b bytes error.OutOfMemory nothing (value, inr s) = no_stop_of_rejects_nothing R a b _ nothing s
 
 -- an error of a writer to a list that is empty and has allocated nothing
 pub encoding_error_of_list : (Rejects : RejectedValue → List ℕ → Type 0) (bytes items : List ℕ) (room : ℕ) (after : SinkView) (e : Error)

@@ -36,38 +36,38 @@ free-tail : (byte : ℕ) (bytes : List ℕ) → IsByteFree 10 (byte ∷ bytes) �
 free-tail byte bytes free = All-tail (λ it. it ≢ 10) byte bytes free
 
 -- the encoding of a value follows from its lines
-written_so : (value first : List ℕ) (more : List (List ℕ)) → value_lines value ≡ (first, more)
+folded_of_value_lines : (value first : List ℕ) (more : List (List ℕ)) → value_lines value ≡ (first, more)
     → folded value ≡ encode_line first ++ flat_map encode_continuation more
-written_so value first more cut = ap (λ (lines : List ℕ × List (List ℕ)). encode_line lines.0 ++ flat_map encode_continuation lines.1) cut
+folded_of_value_lines value first more cut = ap (λ (lines : List ℕ × List (List ℕ)). encode_line lines.0 ++ flat_map encode_continuation lines.1) cut
 
-lines_of_one : (value : List ℕ) → IsByteFree 10 value → value_lines value ≡ (value, [])
-lines_of_one [] free = refl
-lines_of_one (byte ∷ []) free = rw (other-head byte [] free) refl
-lines_of_one (byte ∷ next ∷ rest) free =
+value_lines_of_newline_free : (value : List ℕ) → IsByteFree 10 value → value_lines value ≡ (value, [])
+value_lines_of_newline_free [] free = refl
+value_lines_of_newline_free (byte ∷ []) free = rw (other-head byte [] free) refl
+value_lines_of_newline_free (byte ∷ next ∷ rest) free =
     rw (other-head byte (next ∷ rest) free)
-    (ap (λ (lines : List ℕ × List (List ℕ)). (byte ∷ lines.0, lines.1)) (lines_of_one (next ∷ rest) (free-tail byte (next ∷ rest) free)))
+    (ap (λ (lines : List ℕ × List (List ℕ)). (byte ∷ lines.0, lines.1)) (value_lines_of_newline_free (next ∷ rest) (free-tail byte (next ∷ rest) free)))
 
-lines_of_ended : (line : List ℕ) → IsByteFree 10 line → value_lines (line ++ 10 ∷ []) ≡ (line, [])
-lines_of_ended [] free = refl
-lines_of_ended (byte ∷ []) free = rw (other-head byte [] free) refl
-lines_of_ended (byte ∷ next ∷ rest) free =
+value_lines_of_ended_line : (line : List ℕ) → IsByteFree 10 line → value_lines (line ++ 10 ∷ []) ≡ (line, [])
+value_lines_of_ended_line [] free = refl
+value_lines_of_ended_line (byte ∷ []) free = rw (other-head byte [] free) refl
+value_lines_of_ended_line (byte ∷ next ∷ rest) free =
     rw (other-head byte (next ∷ rest) free)
-    (ap (λ (lines : List ℕ × List (List ℕ)). (byte ∷ lines.0, lines.1)) (lines_of_ended (next ∷ rest) (free-tail byte (next ∷ rest) free)))
+    (ap (λ (lines : List ℕ × List (List ℕ)). (byte ∷ lines.0, lines.1)) (value_lines_of_ended_line (next ∷ rest) (free-tail byte (next ∷ rest) free)))
 
-lines_of_more : (line : List ℕ) (byte : ℕ) (after : List ℕ) → IsByteFree 10 line
+value_lines_append : (line : List ℕ) (byte : ℕ) (after : List ℕ) → IsByteFree 10 line
     → value_lines (line ++ 10 ∷ byte ∷ after) ≡ (line, (value_lines (byte ∷ after)).0 ∷ (value_lines (byte ∷ after)).1)
-lines_of_more [] byte after free = refl
-lines_of_more (first ∷ []) byte after free = rw (other-head first [] free) refl
-lines_of_more (first ∷ next ∷ rest) byte after free =
+value_lines_append [] byte after free = refl
+value_lines_append (first ∷ []) byte after free = rw (other-head first [] free) refl
+value_lines_append (first ∷ next ∷ rest) byte after free =
     rw (other-head first (next ∷ rest) free)
     (ap (λ (lines : List ℕ × List (List ℕ)). (first ∷ lines.0, lines.1))
-    (lines_of_more (next ∷ rest) byte after (free-tail first (next ∷ rest) free)))
+    (value_lines_append (next ∷ rest) byte after (free-tail first (next ∷ rest) free)))
 
 pub folded_of_newline_free : (value : List ℕ) → IsByteFree 10 value → folded value ≡ value ++ 10 ∷ []
-folded_of_newline_free value free = written_so value value [] (lines_of_one value free) ∙ append-nil (encode_line value)
+folded_of_newline_free value free = folded_of_value_lines value value [] (value_lines_of_newline_free value free) ∙ append-nil (encode_line value)
 
 pub folded_of_one_line : (line : List ℕ) → IsByteFree 10 line → folded (line ++ 10 ∷ []) ≡ line ++ 10 ∷ []
-folded_of_one_line line free = written_so (line ++ 10 ∷ []) line [] (lines_of_ended line free) ∙ append-nil (encode_line line)
+folded_of_one_line line free = folded_of_value_lines (line ++ 10 ∷ []) line [] (value_lines_of_ended_line line free) ∙ append-nil (encode_line line)
 
 -- a last line is its own encoding if its last byte is a newline
 pub folded_of_last_line : (value : List ℕ) → IsLastLine value → slice_get value (length value - 1) ≡ Some 10 → folded value ≡ value
@@ -87,18 +87,18 @@ folded_of_open_line value (inr (line, is, free)) last ends other =
     let is_at : get_or value (length line) 0 ≡ 10 = ap (λ (it : List ℕ). get_or it (length line) 0) is ∙ get_or-append_seam line 10 [] 0 in
     absurd (other (sym found ∙ is_at))
 
-folded_lines : (line : List ℕ) (byte : ℕ) (after : List ℕ) → IsByteFree 10 line → folded (line ++ 10 ∷ byte ∷ after) ≡ line ++ 10 ∷ 32 ∷ folded
+folded_append : (line : List ℕ) (byte : ℕ) (after : List ℕ) → IsByteFree 10 line → folded (line ++ 10 ∷ byte ∷ after) ≡ line ++ 10 ∷ 32 ∷ folded
     (byte ∷ after)
-folded_lines line byte after free =
+folded_append line byte after free =
     let rest = value_lines (byte ∷ after) in
     let flat : encode_line line ++ flat_map encode_continuation (rest.0 ∷ rest.1) ≡ line ++ 10 ∷ 32
     ∷ (encode_line rest.0 ++ flat_map encode_continuation rest.1) = simp append_assoc in
-    written_so (line ++ 10 ∷ byte ∷ after) line (rest.0 ∷ rest.1) (lines_of_more line byte after free) ∙ flat
+    folded_of_value_lines (line ++ 10 ∷ byte ∷ after) line (rest.0 ∷ rest.1) (value_lines_append line byte after free) ∙ flat
 
 pub folded_cons_line : (line after : List ℕ) → IsByteFree 10 line → (length after == 0) ≡ false
     → folded (line ++ 10 ∷ after) ≡ line ++ 10 ∷ 32 ∷ folded after
 folded_cons_line line [] free some = absurd (true≢false some)
-folded_cons_line line (byte ∷ after) free some = folded_lines line byte after free
+folded_cons_line line (byte ∷ after) free some = folded_append line byte after free
 
 pub folded_split_at_newline : (value line after : List ℕ) → SplitsAt 10 value line after → (length after == 0) ≡ false
     → folded value ≡ line ++ 10 ∷ 32 ∷ folded after
@@ -107,12 +107,12 @@ folded_split_at_newline value line after cut some = ap folded cut.joined ∙ fol
 pub rest_after_newline_len_lt : (value line after : List ℕ) → SplitsAt 10 value line after → length after < length value
 rest_after_newline_len_lt value line after cut = omega (arith, ap length cut.joined, length-append line (10 ∷ after))
 
-nothing_after : (after : List ℕ) → (length after == 0) ≡ true → after ≡ []
-nothing_after [] none = refl
-nothing_after (byte ∷ after) none = absurd (let none' : suc (length after) ≡ 0 = eqb-true (suc (length after)) 0 none in omega (arith, none'))
+nil_of_zero_length : (after : List ℕ) → (length after == 0) ≡ true → after ≡ []
+nil_of_zero_length [] none = refl
+nil_of_zero_length (byte ∷ after) none = absurd (let none' : suc (length after) ≡ 0 = eqb-true (suc (length after)) 0 none in omega (arith, none'))
 
 pub is_last_line_of_split : (value line after : List ℕ) → SplitsAt 10 value line after → (length after == 0) ≡ true → IsLastLine value
-is_last_line_of_split value line after cut none = inr (line, cut.joined ∙ ap (λ (it : List ℕ). line ++ 10 ∷ it) (nothing_after after none), cut.first)
+is_last_line_of_split value line after cut none = inr (line, cut.joined ∙ ap (λ (it : List ℕ). line ++ 10 ∷ it) (nil_of_zero_length after none), cut.first)
 
 pub folded_prefix_append : (value prefix rest line after : List ℕ) → folded value ≡ prefix ++ folded rest → folded rest ≡ line ++ 10 ∷ 32 ∷ folded after
     → folded value ≡ (prefix ++ (line ++ 10 ∷ 32 ∷ [])) ++ folded after

@@ -19,38 +19,38 @@ pub newlines_take_succ : (content : List ℕ) (i byte : ℕ) → i < length cont
 newlines_take_succ content i byte within is =
     sum_by_more (λ (it : ℕ). cond (it == 10) 1 0) content i byte within ∙ ap (λ (it : ℕ). newlines (take i content) + cond (it == 10) 1 0) (sym is)
 
-newlines_first : (byte : ℕ) (rest : List ℕ) → newlines (byte ∷ rest) ≡ cond (byte == 10) 1 0 + newlines rest
-newlines_first byte rest = sum_by-cons (λ (it : ℕ). cond (it == 10) 1 0) byte rest
+newlines_cons : (byte : ℕ) (rest : List ℕ) → newlines (byte ∷ rest) ≡ cond (byte == 10) 1 0 + newlines rest
+newlines_cons byte rest = sum_by-cons (λ (it : ℕ). cond (it == 10) 1 0) byte rest
 
 -- the length of these lines, encoded
 abbrev written_len : List ℕ × List (List ℕ) → ℕ
 written_len lines = length (encode_line lines.0 ++ flat_map encode_continuation lines.1)
 
-byte_first : (is_newline : Bool) (byte : ℕ) (lines : List ℕ × List (List ℕ))
+written_len_cons : (is_newline : Bool) (byte : ℕ) (lines : List ℕ × List (List ℕ))
     → written_len (if is_newline then ([], lines.0 ∷ lines.1) else (byte ∷ lines.0, lines.1)) ≡ 1 + cond is_newline 1 0 + written_len lines
-byte_first true byte lines = omega arith
-byte_first false byte lines = omega arith
+written_len_cons true byte lines = omega arith
+written_len_cons false byte lines = omega arith
 
-byte_last : (is_newline : Bool) (byte : ℕ) → written_len (if is_newline then ([], []) else (byte ∷ [], [])) ≡ 1 + cond is_newline 0 1
-byte_last true byte = refl
-byte_last false byte = refl
+written_len_of_last_byte : (is_newline : Bool) (byte : ℕ) → written_len (if is_newline then ([], []) else (byte ∷ [], [])) ≡ 1 + cond is_newline 0 1
+written_len_of_last_byte true byte = refl
+written_len_of_last_byte false byte = refl
 
-folded_len : (before : List ℕ) (last : ℕ) → length (folded (before ++ last ∷ [])) ≡ length before + 1 + newlines before + cond (last == 10) 0 1
-folded_len [] last = byte_last (last == 10) last
-folded_len (byte ∷ []) last =
-    omega (arith, byte_first (byte == 10) byte (value_lines (last ∷ [])), byte_last (last == 10) last, newlines_first byte [])
-folded_len (byte ∷ next ∷ rest) last =
+folded_len_snoc : (before : List ℕ) (last : ℕ) → length (folded (before ++ last ∷ [])) ≡ length before + 1 + newlines before + cond (last == 10) 0 1
+folded_len_snoc [] last = written_len_of_last_byte (last == 10) last
+folded_len_snoc (byte ∷ []) last =
+    omega (arith, written_len_cons (byte == 10) byte (value_lines (last ∷ [])), written_len_of_last_byte (last == 10) last, newlines_cons byte [])
+folded_len_snoc (byte ∷ next ∷ rest) last =
     omega (
       arith,
-      byte_first (byte == 10) byte (value_lines (next ∷ rest ++ last ∷ [])),
-      folded_len (next ∷ rest) last,
-      newlines_first byte
+      written_len_cons (byte == 10) byte (value_lines (next ∷ rest ++ last ∷ [])),
+      folded_len_snoc (next ∷ rest) last,
+      newlines_cons byte
           (next ∷ rest),
     )
 
-flag_of_other : (is : Bool) → bool_byte (not is) ≡ cond is 0 1
-flag_of_other true = refl
-flag_of_other false = refl
+bool_byte_of_not : (is : Bool) → bool_byte (not is) ≡ cond is 0 1
+bool_byte_of_not true = refl
+bool_byte_of_not false = refl
 
 -- the length of an encoded value by the newlines before its last byte, and by that byte
 pub folded_len_split : (value : List ℕ) → 1 ≤ length value
@@ -65,7 +65,7 @@ folded_len_split value some =
       ap (λ (it : List ℕ). length (folded it)) cut,
       ap length cut,
       length-append before (last ∷ []),
-      folded_len before last,
-      flag_of_other
+      folded_len_snoc before last,
+      bool_byte_of_not
           (eqb last 10),
     )

@@ -35,8 +35,8 @@ strip_prefix_match input prefix result is = strip_prefix_is Decides-eqb input pr
 
 -- ---- a field of one line
 
-flat_field : (name value rest : List ℕ) → encode_field name value ++ rest ≡ name ++ 32 ∷ (value ++ 10 ∷ rest)
-flat_field name value rest = simp append_assoc
+encode_field_append : (name value rest : List ℕ) → encode_field name value ++ rest ≡ name ++ 32 ∷ (value ++ 10 ∷ rest)
+encode_field_append name value rest = simp append_assoc
 
 -- a name that no space follows is not the name of a field
 pub not_name_and_space : (input name following : List ℕ) → input ≡ name ++ following → EndsHeader following → (rest : List ℕ) → input ≢ name ++ 32 ∷ rest
@@ -46,24 +46,26 @@ not_name_and_space input name following joined ends rest same =
 
 pub has_field_of_parts : (name input line value rest : List ℕ) → input ≡ name ++ 32 ∷ line → SplitsAt 10 line value rest → BeginsWithField name input value rest
 has_field_of_parts name input line value rest joined split =
-    record { joined = joined ∙ ap (λ (it : List ℕ). name ++ 32 ∷ it) split.joined ∙ sym (flat_field name value rest); one_line = split.first }
+    record { joined = joined ∙ ap (λ (it : List ℕ). name ++ 32 ∷ it) split.joined ∙ sym (encode_field_append name value rest); one_line = split.first }
 
 pub no_field_without_name : (name input : List ℕ) → ((rest : List ℕ) → input ≢ name ++ 32 ∷ rest) → BeginsWithNoField name input
-no_field_without_name name input without value rest field = without (value ++ 10 ∷ rest) (field.joined ∙ flat_field name value rest)
+no_field_without_name name input without value rest field = without (value ++ 10 ∷ rest) (field.joined ∙ encode_field_append name value rest)
 
 -- the bytes after the name of a field are its value, a newline and the rest
-name_after : (name input line value rest : List ℕ) → input ≡ name ++ 32 ∷ line → BeginsWithField name input value rest → line ≡ value ++ 10 ∷ rest
-name_after name input line value rest joined field =
+field_line_is_value_and_rest : (name input line value rest : List ℕ) → input ≡ name ++ 32 ∷ line → BeginsWithField name input value rest
+    → line ≡ value ++ 10 ∷ rest
+field_line_is_value_and_rest name input line value rest joined field =
     let e : 32 ∷ line ≡ 32 ∷ (value ++ 10 ∷ rest) = append_cancel_left name (32 ∷ line) (32 ∷ (value ++ 10 ∷ rest))
-    (sym joined ∙ field.joined ∙ flat_field name value rest) in cc
+    (sym joined ∙ field.joined ∙ encode_field_append name value rest) in cc
 
 pub no_field_without_newline : (name input line : List ℕ) → input ≡ name ++ 32 ∷ line → IsByteFree 10 line → BeginsWithNoField name input
 no_field_without_newline name input line joined free value rest field =
-    no_split_of_byte_free 10 value rest (subst (IsByteFree 10) (name_after name input line value rest joined field) free)
+    no_split_of_byte_free 10 value rest (subst (IsByteFree 10) (field_line_is_value_and_rest name input line value rest joined field) free)
 
 pub field_unique : (name input a x b y : List ℕ) → BeginsWithField name input a x → BeginsWithField name input b y → (a ≡ b) × (x ≡ y)
 field_unique name input a x b y first second =
-    split_parts_unique 10 a x b y first.one_line second.one_line (name_after name input (a ++ 10 ∷ x) b y (first.joined ∙ flat_field name a x) second)
+    split_parts_unique 10 a x b y first.one_line second.one_line (field_line_is_value_and_rest name input (a ++ 10 ∷ x) b y (first.joined
+    ∙ encode_field_append name a x) second)
 
 -- a field at the beginning of an input is a field by itself
 pub has_field_of_encoded : (name input value rest : List ℕ) → BeginsWithField name input value rest → BeginsWithField name (encode_field name value) value []
@@ -77,17 +79,18 @@ pub is_id_hex_of_decoded : (kind : Kind) (hex : List ℕ) → IsIdHexOfKind kind
 is_id_hex_of_decoded hash.Sha1 hex (is, digits) = (inl is, digits)
 is_id_hex_of_decoded hash.Sha256 hex (is, digits) = (inr is, digits)
 
-hex_digit_is_no_newline : (byte : ℕ) → is_hex_digit byte ≡ true → byte ≢ 10
-hex_digit_is_no_newline byte digit same = true≢false (sym digit ∙ ap is_hex_digit same)
+hex_digit_ne_newline : (byte : ℕ) → is_hex_digit byte ≡ true → byte ≢ 10
+hex_digit_ne_newline byte digit same = true≢false (sym digit ∙ ap is_hex_digit same)
 
 pub hex_digits_newline_free : (bytes : List ℕ) → AllPass is_hex_digit bytes → IsByteFree 10 bytes
 hex_digits_newline_free [] digits = All-nil (λ it. it ≢ 10)
 hex_digits_newline_free (byte ∷ bytes) digits =
     let P : ℕ → Type 0 = λ it. is_hex_digit it ≡ true in
-    All-cons (λ it. it ≢ 10) byte bytes (hex_digit_is_no_newline byte (All-head P byte bytes digits))
+    All-cons (λ it. it ≢ 10) byte bytes (hex_digit_ne_newline byte (All-head P byte bytes digits))
     (hex_digits_newline_free bytes (All-tail P byte bytes digits))
 
-pub no_kind_of_unknown_name : (name input value rest : List ℕ) → BeginsWithField name input value rest → IsUnknownKindName value → BeginsWithNoKindField name input
+pub no_kind_of_unknown_name : (name input value rest : List ℕ) → BeginsWithField name input value rest → IsUnknownKindName value
+    → BeginsWithNoKindField name input
 no_kind_of_unknown_name name input value rest field bad kind following second =
     bad kind (field_unique name input value rest (kind_name kind) following field second).0
 
@@ -96,12 +99,12 @@ no_kind_of_unknown_name name input value rest field bad kind following second =
 pub no_id_without_newline : (name : List ℕ) (kind : Kind) (input line : List ℕ) (len : ℕ) → input ≡ name ++ 32 ∷ line → len ≡ 2 * hash_len kind
     → get_or line len 0 ≢ 10 → BeginsWithNoIdField name kind input
 no_id_without_newline name kind input line len joined long other hex rest has =
-    let cut : line ≡ hex ++ 10 ∷ rest = name_after name input line hex rest joined has.0 in
+    let cut : line ≡ hex ++ 10 ∷ rest = field_line_is_value_and_rest name input line hex rest joined has.0 in
     let placed : len ≡ length hex = long ∙ sym has.1.0 in
     other (ap (λ (it : List ℕ). get_or it len 0) cut ∙ ap (λ (it : ℕ). get_or (hex ++ 10 ∷ rest) it 0) placed ∙ get_or-append_seam hex 10 rest 0)
 
-same_prefix : (a x b y : List ℕ) → a ++ x ≡ b ++ y → length a ≡ length b → a ≡ b
-same_prefix a x b y same long =
+prefix_unique_of_length : (a x b y : List ℕ) → a ++ x ≡ b ++ y → length a ≡ length b → a ≡ b
+prefix_unique_of_length a x b y same long =
     sym (take-append_seam a x) ∙ ap (take (length a)) same ∙ ap (λ (it : ℕ). take it (b ++ y)) long ∙ take-append_seam b y
 
 pub no_id_of_other_hex : (name : List ℕ) (kind : Kind) (input line value rest : List ℕ) (len : ℕ) → input ≡ name ++ 32 ∷ line
@@ -109,7 +112,8 @@ pub no_id_of_other_hex : (name : List ℕ) (kind : Kind) (input line value rest 
     → line ≡ value ++ 10 ∷ rest → length value ≡ len
     → (IsIdHexOfKind kind value → ⊥) → BeginsWithNoIdField name kind input
 no_id_of_other_hex name kind input line value rest len joined long cut placed bad hex following has =
-    let same : hex ≡ value = same_prefix hex (10 ∷ following) value (10 ∷ rest) (sym (name_after name input line hex following joined has.0) ∙ cut)
+    let same : hex ≡ value = prefix_unique_of_length hex (10 ∷ following) value (10 ∷ rest)
+    (sym (field_line_is_value_and_rest name input line hex following joined has.0) ∙ cut)
     (has.1.0 ∙ sym (placed ∙ long)) in
     bad (subst (IsIdHexOfKind kind) same has.1)
 
@@ -124,12 +128,12 @@ take_cons_drop bytes place byte within is =
 
 -- ---- continuation lines
 
-one_following : (line rest : List ℕ) (more : List (List ℕ))
+continuations_cons_append : (line rest : List ℕ) (more : List (List ℕ))
     → flat_map encode_continuation (line ∷ more) ++ rest ≡ 32 ∷ (line ++ 10 ∷ (flat_map encode_continuation more ++ rest))
-one_following line rest more = simp append_assoc
+continuations_cons_append line rest more = simp append_assoc
 
-not_space : (rest following : List ℕ) → EndsHeader rest → rest ≡ 32 ∷ following → ⊥
-not_space rest following ends same = (let k : EndsHeader (32 ∷ following) = subst EndsHeader same ends in k refl)
+ends_header_has_no_space : (rest following : List ℕ) → EndsHeader rest → rest ≡ 32 ∷ following → ⊥
+ends_header_has_no_space rest following ends same = (let k : EndsHeader (32 ∷ following) = subst EndsHeader same ends in k refl)
 
 -- continuation lines decode uniquely
 pub run_unique : (a b : List (List ℕ)) (x y : List ℕ) → All (λ line. IsByteFree 10 line) a → All (λ line. IsByteFree 10 line) b → EndsHeader x
@@ -137,13 +141,13 @@ pub run_unique : (a b : List (List ℕ)) (x y : List ℕ) → All (λ line. IsBy
     → flat_map encode_continuation a ++ x ≡ flat_map encode_continuation b ++ y → (a ≡ b) × (x ≡ y)
 run_unique [] [] x y free_a free_b ends_x ends_y same = (refl, same)
 run_unique [] (line ∷ b) x y free_a free_b ends_x ends_y same =
-    absurd (not_space x (line ++ 10 ∷ (flat_map encode_continuation b ++ y)) ends_x (same ∙ one_following line y b))
+    absurd (ends_header_has_no_space x (line ++ 10 ∷ (flat_map encode_continuation b ++ y)) ends_x (same ∙ continuations_cons_append line y b))
 run_unique (line ∷ a) [] x y free_a free_b ends_x ends_y same =
-    absurd (not_space y (line ++ 10 ∷ (flat_map encode_continuation a ++ x)) ends_y (sym same ∙ one_following line x a))
+    absurd (ends_header_has_no_space y (line ++ 10 ∷ (flat_map encode_continuation a ++ x)) ends_y (sym same ∙ continuations_cons_append line x a))
 run_unique (line ∷ a) (other ∷ b) x y free_a free_b ends_x ends_y same =
     let P : List ℕ → Type 0 = IsByteFree 10 in
     let entire : 32 ∷ (line ++ 10 ∷ (flat_map encode_continuation a ++ x)) ≡ 32 ∷ (other ++ 10 ∷ (flat_map encode_continuation b ++ y)) =
-    sym (one_following line x a) ∙ same ∙ one_following other y b in
+    sym (continuations_cons_append line x a) ∙ same ∙ continuations_cons_append other y b in
     let tails : line ++ 10 ∷ (flat_map encode_continuation a ++ x) ≡ other ++ 10 ∷ (flat_map encode_continuation b ++ y) = cc in
     let cut = split_parts_unique 10 line (flat_map encode_continuation a ++ x) other (flat_map encode_continuation b ++ y) (All-head P line a free_a)
     (All-head P other b free_b) tails in
@@ -155,17 +159,18 @@ pub no_run_of_unindented : (a b : List (List ℕ)) (following y : List ℕ) → 
     → IsByteFree 10 following
     → EndsHeader y
     → flat_map encode_continuation a ++ 32 ∷ following ≡ flat_map encode_continuation b ++ y → ⊥
-no_run_of_unindented [] [] following y free_a free_b free ends same = not_space y following ends (sym same)
+no_run_of_unindented [] [] following y free_a free_b free ends same = ends_header_has_no_space y following ends (sym same)
 no_run_of_unindented [] (line ∷ b) following y free_a free_b free ends same =
-    let entire : 32 ∷ following ≡ 32 ∷ (line ++ 10 ∷ (flat_map encode_continuation b ++ y)) = same ∙ one_following line y b in
+    let entire : 32 ∷ following ≡ 32 ∷ (line ++ 10 ∷ (flat_map encode_continuation b ++ y)) = same ∙ continuations_cons_append line y b in
     let tails : following ≡ line ++ 10 ∷ (flat_map encode_continuation b ++ y) = cc in
     no_split_of_byte_free 10 line (flat_map encode_continuation b ++ y) (subst (IsByteFree 10) tails free)
-no_run_of_unindented (line ∷ a) [] following y free_a free_b free ends same = not_space y (line ++ 10 ∷ (flat_map encode_continuation a ++ 32 ∷ following)) ends
-    (sym same ∙ one_following line (32 ∷ following) a)
+no_run_of_unindented (line ∷ a) [] following y free_a free_b free ends same =
+    ends_header_has_no_space y (line ++ 10 ∷ (flat_map encode_continuation a ++ 32 ∷ following)) ends
+    (sym same ∙ continuations_cons_append line (32 ∷ following) a)
 no_run_of_unindented (line ∷ a) (other ∷ b) following y free_a free_b free ends same =
     let P : List ℕ → Type 0 = IsByteFree 10 in
     let entire : 32 ∷ (line ++ 10 ∷ (flat_map encode_continuation a ++ 32 ∷ following)) ≡ 32 ∷ (other ++ 10 ∷ (flat_map encode_continuation b ++ y)) =
-    sym (one_following line (32 ∷ following) a) ∙ same ∙ one_following other y b in
+    sym (continuations_cons_append line (32 ∷ following) a) ∙ same ∙ continuations_cons_append other y b in
     let tails : line ++ 10 ∷ (flat_map encode_continuation a ++ 32 ∷ following) ≡ other ++ 10 ∷ (flat_map encode_continuation b ++ y) = cc in
     let cut = split_parts_unique 10 line (flat_map encode_continuation a ++ 32 ∷ following) other (flat_map encode_continuation b ++ y)
     (All-head P line a free_a)
@@ -188,7 +193,7 @@ pub unfolding_append : (first input value rest following line after : List ℕ) 
     → Unfolding first input ((value ++ line) ++ 10 ∷ []) after
 unfolding_append first input value rest following line after so_far space split =
     let one : rest ≡ flat_map encode_continuation (line ∷ []) ++ after = space ∙ ap (λ (it : List ℕ). 32 ∷ it) split.joined
-    ∙ sym (one_following line after []) in
+    ∙ sym (continuations_cons_append line after []) in
     let regrouped : flat_map encode_continuation so_far.more ++ (flat_map encode_continuation (line ∷ []) ++ after) ≡ flat_map encode_continuation
     (so_far.more ++ line ∷ []) ++ after =
     sym (append_assoc (flat_map encode_continuation so_far.more) (flat_map encode_continuation (line ∷ [])) after) ∙ ap (λ (it : List ℕ). it ++ after)
@@ -225,10 +230,10 @@ unfolding_len_lt rest following line after space split = omega (arith, ap length
 
 -- ---- a header
 
-flat_header : (name first rest : List ℕ) (more : List (List ℕ)) → (name ++ 32 ∷ encode_line first ++ flat_map encode_continuation more) ++ rest ≡ name
+encode_header_append : (name first rest : List ℕ) (more : List (List ℕ)) → (name ++ 32 ∷ encode_line first ++ flat_map encode_continuation more) ++ rest ≡ name
     ++ 32
     ∷ (first ++ 10 ∷ (flat_map encode_continuation more ++ rest))
-flat_header name first rest more = simp append_assoc
+encode_header_append name first rest more = simp append_assoc
 
 -- the parts of a header, split from left to right
 pub record HeaderParts (input name following first after : List ℕ) : Type 0 where
@@ -236,15 +241,15 @@ pub record HeaderParts (input name following first after : List ℕ) : Type 0 wh
   pub named : (name ≢ []) × IsByteFree 10 name
   pub line : SplitsAt 10 following first after
 
-parts_joined : (input name following first after rest : List ℕ) (more : List (List ℕ)) → HeaderParts input name following first after
+input_of_header_parts : (input name following first after rest : List ℕ) (more : List (List ℕ)) → HeaderParts input name following first after
     → after ≡ flat_map encode_continuation more ++ rest
     → input ≡ (name ++ 32 ∷ encode_line first ++ flat_map encode_continuation more) ++ rest
-parts_joined input name following first after rest more parts same =
+input_of_header_parts input name following first after rest more parts same =
     parts.split_parts.joined ∙ ap (λ (it : List ℕ). name ++ 32 ∷ it) (parts.line.joined ∙ ap (λ (it : List ℕ). first ++ 10 ∷ it) same)
-    ∙ sym (flat_header name first rest more)
+    ∙ sym (encode_header_append name first rest more)
 
-name_of_parts : (input name following first after : List ℕ) → HeaderParts input name following first after → IsHeaderName name
-name_of_parts input name following first after parts =
+header_name_of_parts : (input name following first after : List ℕ) → HeaderParts input name following first after → IsHeaderName name
+header_name_of_parts input name following first after parts =
     record { not_empty = parts.named.0; no_space = parts.split_parts.first; no_newline = parts.named.1 }
 
 pub has_header_of_one_line : (input name following first after : List ℕ) → SplitsAt 32 input name following → (name ≢ []) × IsByteFree 10 name
@@ -254,24 +259,24 @@ has_header_of_one_line input name following first after cut named line ends =
     let parts : HeaderParts input name following first after = record { split_parts = cut; named = named; line = line } in
     record {
       encoded = name ++ 32 ∷ encode_line first ++ flat_map encode_continuation [];
-      joined = parts_joined input name following first after after [] parts refl;
+      joined = input_of_header_parts input name following first after after [] parts refl;
       ends = ends;
       written = record {
         first = first;
         more = [];
         joined = refl;
-        named = name_of_parts input name following first after parts;
+        named = header_name_of_parts input name following first after parts;
         one_line = line.first;
         each_one_line = All-nil (λ (it : List ℕ). IsByteFree 10 it);
         value = refl;
       };
     }
 
-several : (first after rest value : List ℕ) (more : List (List ℕ)) → after ≡ flat_map encode_continuation more ++ rest → EndsHeader rest
+value_of_lines_of_several : (first after rest value : List ℕ) (more : List (List ℕ)) → after ≡ flat_map encode_continuation more ++ rest → EndsHeader rest
     → (EndsHeader after → ⊥)
     → value ≡ flat_map encode_line (first ∷ more) → value ≡ value_of_lines first more
-several first after rest value [] same ends goes_on is = absurd (goes_on (subst EndsHeader (sym same) ends))
-several first after rest value (second ∷ more) same ends goes_on is = is
+value_of_lines_of_several first after rest value [] same ends goes_on is = absurd (goes_on (subst EndsHeader (sym same) ends))
+value_of_lines_of_several first after rest value (second ∷ more) same ends goes_on is = is
 
 pub has_header_of_lines : (input name following first after value rest : List ℕ) → SplitsAt 32 input name following → (name ≢ []) × IsByteFree 10 name
     → SplitsAt 10 following first after
@@ -280,68 +285,68 @@ has_header_of_lines input name following first after value rest cut named line g
     let parts : HeaderParts input name following first after = record { split_parts = cut; named = named; line = line } in
     record {
       encoded = name ++ 32 ∷ encode_line first ++ flat_map encode_continuation more;
-      joined = parts_joined input name following first after rest more parts lines.joined;
+      joined = input_of_header_parts input name following first after rest more parts lines.joined;
       ends = lines.ends;
       written = record {
         first = first;
         more = more;
         joined = refl;
-        named = name_of_parts input name following first after parts;
+        named = header_name_of_parts input name following first after parts;
         one_line = line.first;
         each_one_line = lines.each_one_line;
-        value = several first after rest value more lines.joined lines.ends goes_on is;
+        value = value_of_lines_of_several first after rest value more lines.joined lines.ends goes_on is;
       };
     }
 
 -- the input is the name, a space, the first line, the continuation lines and the rest
-flat_of : (input : List ℕ) (h : Header) (rest : List ℕ) (it : BeginsWithHeader input h rest)
+input_of_begins_with_header : (input : List ℕ) (h : Header) (rest : List ℕ) (it : BeginsWithHeader input h rest)
     → input ≡ h.name ++ 32 ∷ (it.written.first ++ 10 ∷ (flat_map encode_continuation it.written.more ++ rest))
-flat_of input h rest it = it.joined ∙ ap (λ (bytes : List ℕ). bytes ++ rest) it.written.joined
-    ∙ flat_header h.name it.written.first rest it.written.more
+input_of_begins_with_header input h rest it = it.joined ∙ ap (λ (bytes : List ℕ). bytes ++ rest) it.written.joined
+    ∙ encode_header_append h.name it.written.first rest it.written.more
 
 pub no_header_without_space : (input : List ℕ) → IsByteFree 32 input → BeginsWithNoHeader input
 no_header_without_space input free h rest it =
     no_split_of_byte_free 32 h.name (it.written.first ++ 10 ∷ (flat_map encode_continuation it.written.more ++ rest))
-    (subst (IsByteFree 32) (flat_of input h rest it) free)
+    (subst (IsByteFree 32) (input_of_begins_with_header input h rest it) free)
 
 -- the first space of a header splits its name from its lines
-name_cut : (input name following : List ℕ) (h : Header) (rest : List ℕ) → SplitsAt 32 input name following → (it : BeginsWithHeader input h rest)
+header_name_unique : (input name following : List ℕ) (h : Header) (rest : List ℕ) → SplitsAt 32 input name following → (it : BeginsWithHeader input h rest)
     → (name ≡ h.name) × (following ≡ it.written.first ++ 10 ∷ (flat_map encode_continuation it.written.more ++ rest))
-name_cut input name following h rest cut it =
+header_name_unique input name following h rest cut it =
     split_parts_unique 32 name following h.name (it.written.first ++ 10 ∷ (flat_map encode_continuation it.written.more ++ rest)) cut.first
     it.written.named.no_space
-    (sym cut.joined ∙ flat_of input h rest it)
+    (sym cut.joined ∙ input_of_begins_with_header input h rest it)
 
 pub no_header_of_empty_name : (input name following : List ℕ) → SplitsAt 32 input name following → (IsHeaderName name → ⊥) → BeginsWithNoHeader input
 no_header_of_empty_name input name following cut bad h rest it =
-    bad (subst IsHeaderName (sym (name_cut input name following h rest cut it).0) it.written.named)
+    bad (subst IsHeaderName (sym (header_name_unique input name following h rest cut it).0) it.written.named)
 
 pub no_header_without_newline : (input name following : List ℕ) → SplitsAt 32 input name following → IsByteFree 10 following → BeginsWithNoHeader input
 no_header_without_newline input name following cut free h rest it =
     no_split_of_byte_free 10 it.written.first (flat_map encode_continuation it.written.more ++ rest)
-    (subst (IsByteFree 10) (name_cut input name following h rest cut it).1 free)
+    (subst (IsByteFree 10) (header_name_unique input name following h rest cut it).1 free)
 
 -- the first newline of a header's lines splits the first line from the continuation lines
-line_cut : (input name following first after : List ℕ) (h : Header) (rest : List ℕ) → SplitsAt 32 input name following
+header_first_line_unique : (input name following first after : List ℕ) (h : Header) (rest : List ℕ) → SplitsAt 32 input name following
     → SplitsAt 10 following first after
     → (it : BeginsWithHeader input h rest)
     → (first ≡ it.written.first) × (after ≡ flat_map encode_continuation it.written.more ++ rest)
-line_cut input name following first after h rest cut line it =
+header_first_line_unique input name following first after h rest cut line it =
     split_parts_unique 10 first after it.written.first (flat_map encode_continuation it.written.more ++ rest) line.first it.written.one_line
-    (sym line.joined ∙ (name_cut input name following h rest cut it).1)
+    (sym line.joined ∙ (header_name_unique input name following h rest cut it).1)
 
 pub no_header_without_lines : (input name following first after : List ℕ) → SplitsAt 32 input name following → SplitsAt 10 following first after
     → BeginsWithNoContinuations after → BeginsWithNoHeader input
 no_header_without_lines input name following first after cut line bad h rest it =
     bad it.written.more rest (record {
-      joined = (line_cut input name following first after h rest cut line it).1;
+      joined = (header_first_line_unique input name following first after h rest cut line it).1;
       each_one_line = it.written.each_one_line;
       ends = it.ends;
     })
 
-goes_with_space : (after : List ℕ) → (EndsHeader after → ⊥) → (rest : List ℕ) × (after ≡ 32 ∷ rest)
-goes_with_space [] goes_on = absurd (goes_on tt)
-goes_with_space (byte ∷ rest) goes_on = (rest, grind (arith, goes_on))
+begins_with_space_of_no_header_end : (after : List ℕ) → (EndsHeader after → ⊥) → (rest : List ℕ) × (after ≡ 32 ∷ rest)
+begins_with_space_of_no_header_end [] goes_on = absurd (goes_on tt)
+begins_with_space_of_no_header_end (byte ∷ rest) goes_on = (rest, grind (arith, goes_on))
 
 pub begins_several_of_indented : (input name following first after tail : List ℕ) → SplitsAt 32 input name following → (name ≢ []) × IsByteFree 10 name
     → SplitsAt 10 following first after → after ≡ 32 ∷ tail → BeginsWithSeveralLines input
@@ -351,7 +356,7 @@ begins_several_of_indented input name following first after tail cut named line 
       first = first;
       rest = tail;
       joined = cut.joined ∙ ap (λ (it : List ℕ). name ++ 32 ∷ it) (line.joined ∙ ap (λ (it : List ℕ). first ++ 10 ∷ it) space)
-          ∙ sym (flat_field name first (32 ∷ tail));
+          ∙ sym (encode_field_append name first (32 ∷ tail));
       named = record { not_empty = named.0; no_space = cut.first; no_newline = named.1 };
       one_line = line.first;
     }
@@ -359,8 +364,8 @@ begins_several_of_indented input name following first after tail cut named line 
 abbrev header_from : List ℕ → List ℕ → Header
 header_from name value = record { name = name; value = value }
 
-same_header : (a b : Header) → a.name ≡ b.name → a.value ≡ b.value → a ≡ b
-same_header a b name value = ap (λ (it : List ℕ). header_from it a.value) name ∙ ap (header_from b.name) value
+header_eq_of_fields : (a b : Header) → a.name ≡ b.name → a.value ≡ b.value → a ≡ b
+header_eq_of_fields a b name value = ap (λ (it : List ℕ). header_from it a.value) name ∙ ap (header_from b.name) value
 
 -- an error of the continuation lines is an error of the header
 pub header_error_of_lines : (input name following first after tail : List ℕ) (f e : Error) → f ≡ e → SplitsAt 32 input name following → (name ≢ [])
@@ -376,14 +381,14 @@ header_error_of_lines input name following first after tail f OutOfMemory same c
 pub header_unique : (input : List ℕ) (h k : Header) (x y : List ℕ) → BeginsWithHeader input h x → BeginsWithHeader input k y → (h ≡ k) × (x ≡ y)
 header_unique input h k x y first second =
     let cut : SplitsAt 32 input h.name (first.written.first ++ 10 ∷ (flat_map encode_continuation first.written.more ++ x)) =
-    record { joined = flat_of input h x first; first = first.written.named.no_space } in
+    record { joined = input_of_begins_with_header input h x first; first = first.written.named.no_space } in
     let line : SplitsAt 10 (first.written.first ++ 10 ∷ (flat_map encode_continuation first.written.more ++ x)) first.written.first
     (flat_map encode_continuation first.written.more ++ x) = record { joined = refl; first = first.written.one_line } in
-    let names = name_cut input h.name _ k y cut second in
-    let lines = line_cut input h.name _ first.written.first _ k y cut line second in
+    let names = header_name_unique input h.name _ k y cut second in
+    let lines = header_first_line_unique input h.name _ first.written.first _ k y cut line second in
     let run = run_unique first.written.more second.written.more x y first.written.each_one_line second.written.each_one_line first.ends second.ends
     lines.1 in (
-      same_header h k names.0 (first.written.value ∙ ap (λ (it : List ℕ). value_of_lines it first.written.more) lines.0
+      header_eq_of_fields h k names.0 (first.written.value ∙ ap (λ (it : List ℕ). value_of_lines it first.written.more) lines.0
           ∙ ap (value_of_lines second.written.first) run.0 ∙ sym second.written.value),
       run.1,
     )

@@ -12,20 +12,21 @@ flat_map_take_succ bytes items i e h is =
     rw (take_more items i e h, ← is) (flat_map-append bytes (take i items) (e ∷ []) ∙ ap (λ (xs : List ℕ). flat_map bytes (take i items) ++ xs)
     (append-nil (bytes e)))
 
-cut_at : {X : Type 0} (items : List X) (i : ℕ) (e : X) → i < length items → e ≡ get_or items i e → items ≡ take i items ++ e ∷ drop (i + 1) items
-cut_at {X} items i e h is =
+take_item_drop : {X : Type 0} (items : List X) (i : ℕ) (e : X) → i < length items → e ≡ get_or items i e → items ≡ take i items ++ e ∷ drop (i + 1) items
+take_item_drop {X} items i e h is =
     let rest : drop i items ≡ e ∷ drop (i + 1) items = drop_more items i e h ∙ ap (λ (x : X). x ∷ drop (i + 1) items) (sym is) in
     sym (take-append-drop i items) ∙ ap (λ (xs : List X). take i items ++ xs) rest
 
-joined_at : {X : Type 0} (bytes : X → List ℕ) (items : List X) (i : ℕ) (e : X) → i < length items → e ≡ get_or items i e
+flat_map_take_item_drop : {X : Type 0} (bytes : X → List ℕ) (items : List X) (i : ℕ) (e : X) → i < length items → e ≡ get_or items i e
     → flat_map bytes items ≡ flat_map bytes (take i items) ++ (bytes e ++ flat_map bytes (drop (i + 1) items))
-joined_at bytes items i e h is = ap (flat_map bytes) (cut_at items i e h is) ∙ flat_map-append bytes (take i items) (e ∷ drop (i + 1) items)
+flat_map_take_item_drop bytes items i e h is = ap (flat_map bytes) (take_item_drop items i e h is)
+    ∙ flat_map-append bytes (take i items) (e ∷ drop (i + 1) items)
 
 -- a proper prefix of an item, after the items before it, is a proper prefix of all items
 pub appends_prefix_of_item : {X : Type 0} (bytes : X → List ℕ) (a b c : SinkView) (items : List X) (i : ℕ) (e : X) → i < length items → e ≡ get_or items i e
     → AppendsAll a b (flat_map bytes (take i items)) → AppendsPrefix b c (bytes e) → AppendsPrefix a c (flat_map bytes items)
 appends_prefix_of_item bytes a b c items i e h is write_bytes part =
-    rw (joined_at bytes items i e h is) (appends_prefix_middle a b c (flat_map bytes (take i items)) (bytes e)
+    rw (flat_map_take_item_drop bytes items i e h is) (appends_prefix_middle a b c (flat_map bytes (take i items)) (bytes e)
     (flat_map bytes (drop (i + 1) items)) write_bytes part)
 
 -- all items are too long if the first of them are
@@ -36,7 +37,7 @@ no_overflow_of_joined bytes items i e start n h is len over short =
       arith,
       short,
       len,
-      ap length (joined_at bytes items i e h is),
+      ap length (flat_map_take_item_drop bytes items i e h is),
       length-append (flat_map bytes (take i items))
           (bytes e ++ flat_map bytes (drop (i + 1) items)),
       length-append (bytes e) (flat_map bytes (drop (i + 1) items)),

@@ -18,14 +18,14 @@ use Rattle.gixobj_fields.specs.StreamHash.{AddsBytes, ReadsExactly, ReadsPrefix,
 
 -- ---- one piece
 
-nothing_read : (before after : Option (List ℕ)) (most : ℕ) → Keeps before after → 0 < most → ReadsPrefix before after most
-nothing_read before after most kept some =
+reads_prefix_nil : (before after : Option (List ℕ)) (most : ℕ) → Keeps before after → 0 < most → ReadsPrefix before after most
+reads_prefix_nil before after most kept some =
     record { prefix = []; consumed = Consumes-kept before before after [] (Consumes-nil before) kept; missing = some }
 
 -- a failed read has read nothing
 pub stream_error_of_read : (may_fail : Type 0) (before after : Option (List ℕ)) (most : ℕ) (cause : io.Error) → may_fail → Keeps before after → 0 < most
     → IsStreamError may_fail before after most (Io cause)
-stream_error_of_read may_fail before after most cause may kept some = (may, nothing_read before after most kept some)
+stream_error_of_read may_fail before after most cause may kept some = (may, reads_prefix_nil before after most kept some)
 
 -- a read of no byte is a read at the end
 pub stream_error_of_end : (may_fail : Type 0) (before after : Option (List ℕ)) (most count : ℕ) (piece : List ℕ) → count ≡ 0
@@ -76,10 +76,10 @@ digesting_complete first now before here len missing so_far none =
     (so_far.prefix, record { consumed = so_far.consumed; counted = omega (arith, so_far.counted, none) }, so_far.adds)
 
 -- the bytes that were read and a proper prefix of the missing bytes are a proper prefix of all
-prefix_after : (first now : Hasher) (before here after : Option (List ℕ)) (len missing : ℕ) → Digesting first now before here len missing
+reads_prefix_after_digesting : (first now : Hasher) (before here after : Option (List ℕ)) (len missing : ℕ) → Digesting first now before here len missing
     → ReadsPrefix here after missing
     → ReadsPrefix before after len
-prefix_after first now before here after len missing so_far part =
+reads_prefix_after_digesting first now before here after len missing so_far part =
     record {
       prefix = so_far.prefix ++ part.prefix;
       consumed = Consumes-trans before here after so_far.prefix part.prefix so_far.consumed part.consumed;
@@ -91,9 +91,9 @@ pub stream_error_after_piece : (may_fail may_fail' : Type 0) (first now : Hasher
     → Digesting first now before here len missing → (may_fail' → may_fail) → IsStreamError may_fail' here after missing error
     → IsStreamError may_fail before after len error
 stream_error_after_piece may_fail may_fail' first now before here after len missing (Io cause) so_far lasting (may, part) =
-    (lasting may, prefix_after first now before here after len missing so_far part)
+    (lasting may, reads_prefix_after_digesting first now before here after len missing so_far part)
 stream_error_after_piece may_fail may_fail' first now before here after len missing UnexpectedEof so_far lasting (part, ended) =
-    (prefix_after first now before here after len missing so_far part, ended)
+    (reads_prefix_after_digesting first now before here after len missing so_far part, ended)
 
 -- the digest of the header and then of the content is the id
 pub reads_object_of_digest : (hash : Kind) (kind : object.Kind) (before after : Option (List ℕ)) (len : ℕ) (start end : Hasher) (id : ObjectId)
@@ -128,9 +128,9 @@ pub skipping_complete : (before here : Option (List ℕ)) (len missing : ℕ) �
 skipping_complete before here len missing so_far none =
     (so_far.prefix, record { consumed = so_far.consumed; counted = omega (arith, so_far.counted, none) })
 
-prefix_of_all : (before here after : Option (List ℕ)) (len missing : ℕ) → Skipping before here len missing → ReadsPrefix here after missing
+reads_prefix_after_skipping : (before here after : Option (List ℕ)) (len missing : ℕ) → Skipping before here len missing → ReadsPrefix here after missing
     → ReadsPrefix before after len
-prefix_of_all before here after len missing so_far part =
+reads_prefix_after_skipping before here after len missing so_far part =
     record {
       prefix = so_far.prefix ++ part.prefix;
       consumed = Consumes-trans before here after so_far.prefix part.prefix so_far.consumed part.consumed;
@@ -142,9 +142,9 @@ pub skipping_error_is_stream_error : (may_fail may_fail' : Type 0) (before here 
     → (may_fail' → may_fail) → IsStreamError may_fail' here after missing error
     → IsStreamError may_fail before after len error
 skipping_error_is_stream_error may_fail may_fail' before here after len missing (Io cause) so_far lasting (may, part) =
-    (lasting may, prefix_of_all before here after len missing so_far part)
+    (lasting may, reads_prefix_after_skipping before here after len missing so_far part)
 skipping_error_is_stream_error may_fail may_fail' before here after len missing UnexpectedEof so_far lasting (part, ended) =
-    (prefix_of_all before here after len missing so_far part, ended)
+    (reads_prefix_after_skipping before here after len missing so_far part, ended)
 
 -- ---- a slice
 

@@ -29,7 +29,8 @@ BeginsWithNoIdField name kind input = (hex rest : List ℕ) → ¬ BeginsWithIdF
 
 -- the input does not begin with a field of this name whose value names a kind of objects
 abbrev pub BeginsWithNoKindField : List ℕ → List ℕ → Type 0
-BeginsWithNoKindField name input = (kind : object.Kind) (rest : List ℕ) → ¬ BeginsWithField name input (kind_name kind) rest
+BeginsWithNoKindField name input =
+    (kind : object.Kind) (rest : List ℕ) → ¬ BeginsWithField name input (kind_name kind) rest
 
 -- the header of a borrowed name and a value that may be borrowed
 abbrev pub header_of : BStr × CowSlice ℕ Global → Header

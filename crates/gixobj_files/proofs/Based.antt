@@ -34,10 +34,10 @@ based_is_lasting T trees null agrees nothing = record {
 abbrev pub NullBased : OfEntry
 NullBased e here base = (list : List EntryView) → base ≡ Some list → is_null e.id ≡ true → list ≡ []
 
-found_empty : (trees : Trees) (id : ObjectId) (entries : List EntryView) (looked_up : List ObjectId) → Finds trees id entries looked_up
+entries_nil_of_null_id : (trees : Trees) (id : ObjectId) (entries : List EntryView) (looked_up : List ObjectId) → Finds trees id entries looked_up
     → is_null id ≡ true → entries ≡ []
-found_empty trees id entries looked_up (formed, inl (is, empty, none)) null = empty
-found_empty trees id entries looked_up (formed, inr (filled, is, requests)) null = absurd (filled (inl null))
+entries_nil_of_null_id trees id entries looked_up (formed, inl (is, empty, none)) null = empty
+entries_nil_of_null_id trees id entries looked_up (formed, inr (filled, is, requests)) null = absurd (filled (inl null))
 
 pub null_based_is_lasting : (trees : Trees) (null : ObjectId) → Lasts NullBased trees null
 null_based_is_lasting trees null = record {
@@ -45,7 +45,7 @@ null_based_is_lasting trees null = record {
   still = λ e was now base p. p;
   made = λ name now list is nothing. sym (some_list_unique [] list is);
   opened = λ e base entries looked_up p tree finds. (
-    (λ list is nothing. sym (some_list_unique entries list is) ∙ found_empty trees e.id entries looked_up finds nothing),
+    (λ list is nothing. sym (some_list_unique entries list is) ∙ entries_nil_of_null_id trees e.id entries looked_up finds nothing),
     λ x h list is. absurd (cc is),
   );
 }

@@ -18,9 +18,9 @@ pub list_at_open_prefix : (here : Option (List EntryView)) → here ≢ None →
 list_at_open_prefix None some = absurd (some refl)
 list_at_open_prefix (Some es) some = (es, refl)
 
-is_open : (here : Option (List EntryView)) (e : EntryView) → HasAt here e → here ≢ None
-is_open None e has = absurd has
-is_open (Some es) e has = λ none. cc none
+open_of_has_at : (here : Option (List EntryView)) (e : EntryView) → HasAt here e → here ≢ None
+open_of_has_at None e has = absurd has
+open_of_has_at (Some es) e has = λ none. cc none
 
 -- each parent directory of an open path is open
 pub open_of_longer_open : (dirs : Dirs) → IsOpened dirs → (head back : Path) → dirs (head ++ back) ≢ None → dirs head ≢ None
@@ -29,7 +29,7 @@ open_of_longer_open dirs all head (name ∷ back) there =
     let next = list_at_open_prefix (dirs (head ++ name ∷ []))
     (open_of_longer_open dirs all (head ++ name ∷ []) back (subst (λ p. dirs p ≢ None) (sym (append_assoc head (name ∷ []) back)) there)) in
     let e = all.above head name next.0 next.1 in
-    is_open (dirs head) e.0 e.1
+    open_of_has_at (dirs head) e.0 e.1
 
 -- the directories at and below an open one satisfy the invariant of open directories
 pub is_opened_in_path : (prefix : Path) (dirs : Dirs) → IsOpened dirs → dirs prefix ≢ None → IsOpened (in_path prefix dirs)
@@ -44,37 +44,37 @@ abbrev IsOnTheWay : List ℕ → Dirs → Type 0
 IsOnTheWay name dirs = (es : List EntryView) × (dirs (name ∷ []) ≡ Some es)
     × ((e : EntryView) × HasAt (dirs []) e × (e.name ≡ name) × IsTrue (is_tree_mode e.mode))
 
-on_the_way : (name : List ℕ) (rest : Path) (dirs : Dirs) → IsOpened dirs → dirs (name ∷ rest) ≢ None → IsOnTheWay name dirs
-on_the_way name rest dirs all there =
+is_on_the_way_of_open : (name : List ℕ) (rest : Path) (dirs : Dirs) → IsOpened dirs → dirs (name ∷ rest) ≢ None → IsOnTheWay name dirs
+is_on_the_way_of_open name rest dirs all there =
     let next = list_at_open_prefix (dirs (name ∷ [])) (open_of_longer_open dirs all (name ∷ []) rest there) in
     (next.0, next.1, all.above [] name next.0 next.1)
 
 -- a path adds its number of names to the depth
-no_deeper : (n : ℕ) (path : Path) → path ≡ [] → n ≡ n + length path
-no_deeper n path is = rw is (omega arith)
+add_len_nil : (n : ℕ) (path : Path) → path ≡ [] → n ≡ n + length path
+add_len_nil n path is = rw is (omega arith)
 
-one_deeper : (n : ℕ) (name : List ℕ) (rest : Path) → suc (n + length rest) ≡ n + length (name ∷ rest)
-one_deeper n name rest = omega arith
+add_len_cons : (n : ℕ) (name : List ℕ) (rest : Path) → suc (n + length rest) ≡ n + length (name ∷ rest)
+add_len_cons n name rest = omega arith
 
 -- the files of the directories at and below an open one are the files below its path
 pub files_in_path : (T : Table) (n : ℕ) (prefix : Path) (dirs : Dirs) → IsOpened dirs → dirs prefix ≢ None
     → SameFiles (OpenFiles T n (in_path prefix dirs))
     (λ path. OpenFiles T (n + length prefix) dirs (prefix ++ path))
 files_in_path T n [] dirs all there path mode id =
-    subst (λ k. OpenFiles T n dirs path mode id ↔ OpenFiles T k dirs path mode id) (no_deeper n [] refl) (same_files_refl (OpenFiles T n dirs) path mode id)
+    subst (λ k. OpenFiles T n dirs path mode id ↔ OpenFiles T k dirs path mode id) (add_len_nil n [] refl) (same_files_refl (OpenFiles T n dirs) path mode id)
 files_in_path T n (name ∷ rest) dirs all there path mode id =
-    let down = on_the_way name rest dirs all there in
+    let down = is_on_the_way_of_open name rest dirs all there in
     let k : ℕ = n + length rest in
     let step = files_in_path T n rest (in_dir name dirs) (is_opened_in_dir name dirs down.0 down.1 all) there path mode id in
-    subst (λ m. OpenFiles T n (in_path (name ∷ rest) dirs) path mode id ↔ OpenFiles T m dirs (name ∷ (rest ++ path)) mode id) (one_deeper n name rest) (
+    subst (λ m. OpenFiles T n (in_path (name ∷ rest) dirs) path mode id ↔ OpenFiles T m dirs (name ∷ (rest ++ path)) mode id) (add_len_cons n name rest) (
       (λ h. open_files_of_open T k dirs name down.0 (down.2.0) (down.2.1) (down.2.2) down.1 (rest ++ path) mode id (step.0 h)),
       λ h. step.1 (open_files_into_open T k dirs name down.0 down.1 (rest ++ path) mode id h),
     )
 
 -- the root is open, whatever replaces a directory
-root_stays : (prefix : Path) (inner dirs : Dirs) → dirs [] ≢ None → inner [] ≢ None → with_path prefix inner dirs [] ≢ None
-root_stays [] inner dirs root full = full
-root_stays (name ∷ rest) inner dirs root full = root
+with_path_keeps_root_open : (prefix : Path) (inner dirs : Dirs) → dirs [] ≢ None → inner [] ≢ None → with_path prefix inner dirs [] ≢ None
+with_path_keeps_root_open [] inner dirs root full = full
+with_path_keeps_root_open (name ∷ rest) inner dirs root full = root
 
 -- directories with the files of those that they replace change no file
 pub files_with_same_inner : (T : Table) (prefix : Path) (inner dirs : Dirs) → IsOpened dirs → dirs prefix ≢ None → inner [] ≢ None
@@ -85,9 +85,9 @@ files_with_same_inner T (name ∷ rest) inner dirs all there full same zero = λ
 files_with_same_inner T (name ∷ rest) inner dirs all there full same (suc k) =
     let below : Dirs = with_path rest inner (in_dir name dirs) in
     let new : Dirs = with_path (name ∷ rest) inner dirs in
-    let down = on_the_way name rest dirs all there in
+    let down = is_on_the_way_of_open name rest dirs all there in
     let lower = is_opened_in_dir name dirs down.0 down.1 all in
-    let root = list_at_open_prefix (below []) (root_stays rest inner (in_dir name dirs) lower.root full) in
+    let root = list_at_open_prefix (below []) (with_path_keeps_root_open rest inner (in_dir name dirs) lower.root full) in
     let inside : in_dir name new ≡ below = with_dir_in_dir name below dirs in
     let is_new : new (name ∷ []) ≡ Some root.0 = ap (λ (d : Dirs). d []) inside ∙ root.1 in
     with_dir_files_of_level T k name below dirs (λ path mode id.
@@ -103,7 +103,7 @@ pub is_opened_with_path : (prefix : Path) (inner dirs : Dirs) → IsOpened dirs 
     → IsOpened (with_path prefix inner dirs)
 is_opened_with_path [] inner dirs all there within = within
 is_opened_with_path (name ∷ rest) inner dirs all there within =
-    let down = on_the_way name rest dirs all there in
+    let down = is_on_the_way_of_open name rest dirs all there in
     is_opened_with_dir name (with_path rest inner (in_dir name dirs)) dirs
     (is_opened_with_path rest inner (in_dir name dirs) (is_opened_in_dir name dirs down.0 down.1 all) there within) all down.2
 

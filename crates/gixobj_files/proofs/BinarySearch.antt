@@ -71,11 +71,11 @@ module _ {X : Type 0} (R : X → X → Type 0) where
   later_at (x ∷ xs) h (suc i) (suc j) d a b = later_at xs h.1 i j d (omega arith) (omega arith)
 
 -- one order excludes the others
-less_only : (o : Ordering) → o ≡ Less → o ≢ Equal
-less_only o is tie = true≢false (ap is_lt (sym is ∙ tie))
+less_ne_equal : (o : Ordering) → o ≡ Less → o ≢ Equal
+less_ne_equal o is tie = true≢false (ap is_lt (sym is ∙ tie))
 
-greater_only : (o : Ordering) → o ≡ Greater → o ≢ Equal
-greater_only o is tie = true≢false (ap is_eq (sym tie ∙ is))
+greater_ne_equal : (o : Ordering) → o ≡ Greater → o ≢ Equal
+greater_ne_equal o is tie = true≢false (ap is_eq (sym tie ∙ is))
 
 pub less_of_compare : (o : Ordering) → is_lt o ≡ true → o ≡ Less
 less_of_compare Less h = refl
@@ -164,8 +164,8 @@ module _ {X : Type 0} (key : X → List ℕ) where
       let split = is (searchable_from_sorted nat_list_cmp_total key xs searched (sorted xs up)) in
       let tie : slice_cmp nat_cmp (key (get_or xs k d)) searched ≡ Equal = slice_cmp_equal_of_eq (key (get_or xs k d)) searched same in
       elim (leb_tells i k) [
-        | inl after ↦ greater_only _ (split.1 k d after.1 low) tie
-        | inr ahead ↦ less_only _ (split.0 k d (omega arith) ahead.1) tie
+        | inl after ↦ greater_ne_equal _ (split.1 k d after.1 low) tie
+        | inr ahead ↦ less_ne_equal _ (split.0 k d (omega arith) ahead.1) tie
       ]
 
   pub halved_place : (xs : List X) → Ascends xs → (searched : List ℕ) (r : Result ℕ ℕ) → IsSearchInRange r (length xs)

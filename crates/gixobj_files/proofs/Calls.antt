@@ -22,22 +22,23 @@ null_id_is_null hash.Sha1 = refl
 null_id_is_null hash.Sha256 = refl
 
 -- a property of all entries depends on the directories and bases at each path alone
-carried : (P : OfEntry) (dirs bases new remaining : Dirs) → ((at : Path) → new at ≡ dirs at) → ((at : Path) → remaining at ≡ bases at) → Everywhere P dirs bases
+everywhere_congruent : (P : OfEntry) (dirs bases new remaining : Dirs) → ((at : Path) → new at ≡ dirs at) → ((at : Path) → remaining at ≡ bases at)
+    → Everywhere P dirs bases
     → Everywhere P new remaining
-carried P dirs bases new remaining same same_bases all = subst (λ (b : Dirs). Everywhere P new b) (sym (λ i at. same_bases at i))
+everywhere_congruent P dirs bases new remaining same same_bases all = subst (λ (b : Dirs). Everywhere P new b) (sym (λ i at. same_bases at i))
     (subst (λ (d : Dirs). Everywhere P d bases) (sym (λ i at. same at i)) all)
 
 -- if the root alone is open, no base is below it
-no_base_below : (bases : Dirs) → ((name : List ℕ) (path : Path) → bases (name ∷ path) ≡ None) → (base : List EntryView) (path : Path) (name : List ℕ)
+no_base_at_snoc : (bases : Dirs) → ((name : List ℕ) (path : Path) → bases (name ∷ path) ≡ None) → (base : List EntryView) (path : Path) (name : List ℕ)
     → bases (path ++ name ∷ []) ≡ Some base → ⊥
-no_base_below bases none base [] name is = let bad : None ≡ Some base = sym (none name []) ∙ is in cc bad
-no_base_below bases none base (first ∷ path) name is = let bad : None ≡ Some base = sym (none first (path ++ name ∷ [])) ∙ is in cc bad
+no_base_at_snoc bases none base [] name is = let bad : None ≡ Some base = sym (none name []) ∙ is in cc bad
+no_base_at_snoc bases none base (first ∷ path) name is = let bad : None ≡ Some base = sym (none first (path ++ name ∷ [])) ∙ is in cc bad
 
 pub has_bases_of_none : (T : Table) (dirs bases : Dirs) → ((name : List ℕ) (path : Path) → bases (name ∷ path) ≡ None) → HasBases T dirs bases
-has_bases_of_none T dirs bases none path e base has is filled = absurd (no_base_below bases none base path e.name is)
+has_bases_of_none T dirs bases none path e base has is filled = absurd (no_base_at_snoc bases none base path e.name is)
 
 pub are_null_based_of_none : (dirs bases : Dirs) → ((name : List ℕ) (path : Path) → bases (name ∷ path) ≡ None) → AreNullBased dirs bases
-are_null_based_of_none dirs bases none path e base has is null = absurd (no_base_below bases none base path e.name is)
+are_null_based_of_none dirs bases none path e base has is null = absurd (no_base_at_snoc bases none base path e.name is)
 
 pub root_alone_has_bases : (T : Table) (dirs : Dirs) → HasBases T dirs (λ path. map.get (root_alone []) path)
 root_alone_has_bases T dirs = has_bases_of_none T dirs (λ path. map.get (root_alone []) path) (λ name path. root_alone_below_root [] name path)
@@ -54,7 +55,7 @@ module _ (P : OfEntry) (trees : Trees) (kind : Kind) (lasts : Lasts P trees (nul
   edited_so opened made dirs_are bases_are holds =
       let remaining_is : (at : Path) → remaining at ≡ edited_bases opened made (opened_bases old opened bases) at =
       subst (λ (d : Dirs). (at : Path) → remaining at ≡ edited_bases opened d (opened_bases old opened bases) at) (λ i at. dirs_are at i) bases_are in
-      carried P made (edited_bases opened made (opened_bases old opened bases)) new remaining dirs_are remaining_is holds
+      everywhere_congruent P made (edited_bases opened made (opened_bases old opened bases)) new remaining dirs_are remaining_is holds
 
   after_upsert : (head : Path) (last : List ℕ) (mode : ℕ) (id : ObjectId) (opened : Dirs) (looked_up : List ObjectId)
       → Opens IsNoTree trees head old opened looked_up
@@ -80,7 +81,7 @@ module _ (P : OfEntry) (trees : Trees) (kind : Kind) (lasts : Lasts P trees (nul
   after_opening : {StopsBefore : EntryView → Type 0} (path : Path) (looked_up : List ObjectId) → Opens StopsBefore trees path old new looked_up
       → ((at : Path) → remaining at ≡ opened_bases old new bases at) → Everywhere P new remaining
   after_opening path looked_up opens bases_are =
-      carried P new (opened_bases old new bases) new remaining (λ at. refl) bases_are
+      everywhere_congruent P new (opened_bases old new bases) new remaining (λ at. refl) bases_are
       (everywhere_opened P trees (null_id kind) lasts path old new looked_up opens bases all)
 
   after_write : (prefix : Path) (own : List EntryView) → old prefix ≢ None → ((e : EntryView) → ContainsEntry own e → P e None None)
@@ -90,7 +91,7 @@ module _ (P : OfEntry) (trees : Trees) (kind : Kind) (lasts : Lasts P trees (nul
       let made : Dirs = with_path prefix (only_open own) old in
       let remaining_is : (at : Path) → remaining at ≡ edited_bases old made bases at =
       subst (λ (d : Dirs). (at : Path) → remaining at ≡ edited_bases old d bases at) (λ i at. dirs_are at i) bases_are in
-      carried P made (edited_bases old made bases) new remaining dirs_are remaining_is
+      everywhere_congruent P made (edited_bases old made bases) new remaining dirs_are remaining_is
       (lasts_written P trees (null_id kind) lasts old bases is_opened all prefix own there each)
 
 -- each base agrees with every table that agrees with the store

@@ -16,50 +16,55 @@ use Rattle.gixobj_files.proofs.OpenedFiles.{files_below_of_table}
 use Rattle.gixobj_tree.proofs.WellFormed.{comes_before_trans}
 
 -- an entry comes before those after it, and never before itself
-later_has : (x : EntryView) (ys : List EntryView) (y : EntryView) → AllByRecursion (ComesBefore x) ys → ContainsEntry ys y → ComesBefore x y
-later_has x [] y h k = absurd k
-later_has x (z ∷ zs) y h (inl same) = subst (ComesBefore x) same h.0
-later_has x (z ∷ zs) y h (inr k) = later_has x zs y h.1 k
+comes_before_of_contains : (x : EntryView) (ys : List EntryView) (y : EntryView) → AllByRecursion (ComesBefore x) ys → ContainsEntry ys y → ComesBefore x y
+comes_before_of_contains x [] y h k = absurd k
+comes_before_of_contains x (z ∷ zs) y h (inl same) = subst (ComesBefore x) same h.0
+comes_before_of_contains x (z ∷ zs) y h (inr k) = comes_before_of_contains x zs y h.1 k
 
-never_before_itself : (x : EntryView) → ComesBefore x x → ⊥
-never_before_itself x h = let back = nat_list_cmp_total.antisymm (entry_key x) (entry_key x) in cc (h, back)
+comes_before_irreflexive : (x : EntryView) → ComesBefore x x → ⊥
+comes_before_irreflexive x h = let back = nat_list_cmp_total.antisymm (entry_key x) (entry_key x) in cc (h, back)
 
 -- ascending lists with the same entries are equal
-same_lists : (xs ys : List EntryView) → EachLater ComesBefore xs → EachLater ComesBefore ys → ((e : EntryView) → ContainsEntry xs e → ContainsEntry ys e)
+ordered_entries_unique : (xs ys : List EntryView) → EachLater ComesBefore xs → EachLater ComesBefore ys
+    → ((e : EntryView) → ContainsEntry xs e → ContainsEntry ys e)
     → ((e : EntryView) → ContainsEntry ys e → ContainsEntry xs e) → xs ≡ ys
-same_lists [] [] a b f g = refl
-same_lists [] (y ∷ ys) a b f g = absurd (g y (inl refl))
-same_lists (x ∷ xs) [] a b f g = absurd (f x (inl refl))
-same_lists (x ∷ xs) (y ∷ ys) a b f g =
+ordered_entries_unique [] [] a b f g = refl
+ordered_entries_unique [] (y ∷ ys) a b f g = absurd (g y (inl refl))
+ordered_entries_unique (x ∷ xs) [] a b f g = absurd (f x (inl refl))
+ordered_entries_unique (x ∷ xs) (y ∷ ys) a b f g =
     let head : x ≡ y = ⊎_elim (λ s. sym s)
-    (λ k. ⊎_elim (λ s. s) (λ l. absurd (never_before_itself x (comes_before_trans x y x (later_has x xs y a.0 l) (later_has y ys x b.0 k)))) (g y (inl refl)))
+    (λ k. ⊎_elim (λ s. s) (λ l. absurd (comes_before_irreflexive x (comes_before_trans x y x (comes_before_of_contains x xs y a.0 l)
+    (comes_before_of_contains y ys x b.0 k)))) (g y (inl refl)))
     (f x (inl refl)) in
-    let rest : xs ≡ ys = same_lists xs ys a.1 b.1
-    (λ e h. ⊎_elim (λ s. absurd (never_before_itself x (subst (ComesBefore x) (sym s ∙ sym head) (later_has x xs e a.0 h)))) (λ k. k) (f e (inr h)))
-    (λ e h. ⊎_elim (λ s. absurd (never_before_itself y (subst (ComesBefore y) (sym s ∙ head) (later_has y ys e b.0 h)))) (λ k. k) (g e (inr h))) in
+    let rest : xs ≡ ys = ordered_entries_unique xs ys a.1 b.1
+    (λ e h. ⊎_elim (λ s. absurd (comes_before_irreflexive x (subst (ComesBefore x) (sym s ∙ sym head) (comes_before_of_contains x xs e a.0 h)))) (λ k. k)
+    (f e (inr h)))
+    (λ e h. ⊎_elim (λ s. absurd (comes_before_irreflexive y (subst (ComesBefore y) (sym s ∙ head) (comes_before_of_contains y ys e b.0 h)))) (λ k. k)
+    (g e (inr h))) in
     cc (head, rest)
 
 -- entries of one name in a list are equal, since the names in it differ
-differs : (x : EntryView) (ys : List EntryView) (y : EntryView) → AllByRecursion (λ z. x.name ≢ z.name) ys → ContainsEntry ys y → x.name ≢ y.name
-differs x [] y h k = absurd k
-differs x (z ∷ ys) y h (inl same) = λ q. h.0 (q ∙ ap (λ (w : EntryView). w.name) (sym same))
-differs x (z ∷ ys) y h (inr k) = differs x ys y h.1 k
+names_differ_of_contains : (x : EntryView) (ys : List EntryView) (y : EntryView) → AllByRecursion (λ z. x.name ≢ z.name) ys → ContainsEntry ys y
+    → x.name ≢ y.name
+names_differ_of_contains x [] y h k = absurd k
+names_differ_of_contains x (z ∷ ys) y h (inl same) = λ q. h.0 (q ∙ ap (λ (w : EntryView). w.name) (sym same))
+names_differ_of_contains x (z ∷ ys) y h (inr k) = names_differ_of_contains x ys y h.1 k
 
 pub entry_of_name_unique : (es : List EntryView) → EachLater (λ x y. x.name ≢ y.name) es → (x y : EntryView) → ContainsEntry es x → ContainsEntry es y
     → x.name ≡ y.name → x ≡ y
 entry_of_name_unique [] apart x y h k q = absurd h
 entry_of_name_unique (e ∷ es) apart x y (inl s) (inl t) q = sym s ∙ t
-entry_of_name_unique (e ∷ es) apart x y (inl s) (inr k) q = absurd (differs e es y apart.0 k (ap (λ (w : EntryView). w.name) s ∙ q))
-entry_of_name_unique (e ∷ es) apart x y (inr h) (inl t) q = absurd (differs e es x apart.0 h (ap (λ (w : EntryView). w.name) t ∙ sym q))
+entry_of_name_unique (e ∷ es) apart x y (inl s) (inr k) q = absurd (names_differ_of_contains e es y apart.0 k (ap (λ (w : EntryView). w.name) s ∙ q))
+entry_of_name_unique (e ∷ es) apart x y (inr h) (inl t) q = absurd (names_differ_of_contains e es x apart.0 h (ap (λ (w : EntryView). w.name) t ∙ sym q))
 entry_of_name_unique (e ∷ es) apart x y (inr h) (inr k) q = entry_of_name_unique es apart.1 x y h k q
 
 -- entries with the same mode, name and id are equal
-same_entry : (mode other : ℕ) (name its_name : List ℕ) (id its_id : ObjectId) → mode ≡ other → name ≡ its_name → id ≡ its_id
+entry_of_congruent : (mode other : ℕ) (name its_name : List ℕ) (id its_id : ObjectId) → mode ≡ other → name ≡ its_name → id ≡ its_id
     → entry_of mode name id ≡ entry_of other its_name its_id
-same_entry mode other name its_name id its_id m n i = cc (m, n, i)
+entry_of_congruent mode other name its_name id its_id m n i = cc (m, n, i)
 
 pub entries_named_alike_eq : (x y : EntryView) → x.mode ≡ y.mode → x.name ≡ y.name → x.id ≡ y.id → x ≡ y
-entries_named_alike_eq x y m n i = same_entry x.mode y.mode x.name y.name x.id y.id m n i
+entries_named_alike_eq x y m n i = entry_of_congruent x.mode y.mode x.name y.name x.id y.id m n i
 
 -- a well-formed list without null ids
 pub record IsClean (entries : List EntryView) : Type 0 where
@@ -184,7 +189,7 @@ module _ (T : Table) (pairs : List Pair) (known : AgreesWithPairs T pairs) where
       let meet : (x y : EntryView) → ContainsEntry xs x → ContainsEntry ys y → x.name ≡ y.name → x ≡ y =
       λ x y hx hy called. both one xs ys cx cy same x y hx hy called (mx x hx) (my y hy) (tx x hx) (nx x hx) (ty y hy) (ny y hy)
       (λ t u. same_trees one (tx x hx t) (dx x hx t) (ty y hy u) (dy y hy u)) in
-      same_lists xs ys cx.formed.ascending cy.formed.ascending
+      ordered_entries_unique xs ys cx.formed.ascending cy.formed.ascending
       (λ x hx. let f = has_file_at xs x_built x hx in let g = (same (suc f.0) (x.name ∷ f.1) f.2 f.3).0 f.4 in subst (ContainsEntry ys)
       (sym (meet x g.0 hx g.1 (sym g.2))) g.1)
       (λ y hy. let f = has_file_at ys y_built y hy in let g = (same (suc f.0) (y.name ∷ f.1) f.2 f.3).1 f.4 in

@@ -29,11 +29,12 @@ ensured_dirs_files T trees agrees path null old mid looked_up opens n =
     (ensured_congruent path (OpenFiles T n mid) (OpenFiles T n old) (opens_keeps_files T trees agrees path old mid looked_up opens n))
 
 -- the written tree of the directory at a path has the files of the directories at and below it
-own_files : (T : Table) (prefix : Path) (dirs bases : Dirs) (below : List Pair) (own : List EntryView) (saved : ℕ) (id : ObjectId) → IsOpened dirs
+written_tree_files_at_prefix : (T : Table) (prefix : Path) (dirs bases : Dirs) (below : List Pair) (own : List EntryView) (saved : ℕ) (id : ObjectId)
+    → IsOpened dirs
     → Everywhere (Based T) dirs bases → dirs prefix ≢ None → EmitsBelow (in_path prefix dirs) (in_path prefix bases) below own saved
     → AgreesWithPairs T (below ++ (id, own) ∷ [])
     → (n : ℕ) → SameFiles (Files T n own) (OpenFiles T n (in_path prefix dirs))
-own_files T prefix dirs bases below own saved id all based there going agrees =
+written_tree_files_at_prefix T prefix dirs bases below own saved id all based there going agrees =
     emits_below_files T (in_path prefix dirs) (in_path prefix bases) below own saved going
     (are_trees_of_opened (in_path prefix dirs) (is_opened_in_path prefix dirs all there))
     (everywhere_in_path (Based T) prefix dirs bases based)
@@ -51,7 +52,7 @@ written_id_files_below_prefix T n prefix dirs bases below own saved id all based
     (known_append_right T below ((id, own) ∷ []) (recursion_from_All (λ (p : Pair). T.tree_at p.0 ≡ Some p.1) (below ++ (id, own) ∷ []) agrees)).0 in
     let files : SameFiles (NamedFiles T n id) (OpenFiles T n inner) =
     subst (λ (o : Option (List EntryView)). SameFiles (λ path mode it. MatchOption o ⊥ (λ es. Files T n es path mode it)) (OpenFiles T n inner)) (sym named)
-    (own_files T prefix dirs bases below own saved id all based there going agrees n) in
+    (written_tree_files_at_prefix T prefix dirs bases below own saved id all based there going agrees n) in
     same_files_trans _ _ _ files (files_in_path T n prefix dirs all there)
 
 -- a write leaves open directories with the same files
@@ -62,4 +63,4 @@ pub write_keeps_files : (T : Table) (n : ℕ) (prefix : Path) (dirs bases : Dirs
 write_keeps_files T n prefix dirs bases below own saved id all based there going agrees =
     files_with_same_inner T prefix (only_open own) dirs all there (λ none. cc none)
     (λ k. same_files_trans _ _ _ (open_files_of_root_alone T k (only_open own) own refl (λ name. refl))
-    (own_files T prefix dirs bases below own saved id all based there going agrees k)) n
+    (written_tree_files_at_prefix T prefix dirs bases below own saved id all based there going agrees k)) n

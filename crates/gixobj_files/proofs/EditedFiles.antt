@@ -57,9 +57,9 @@ has_without_other name es e h n = Has-keeps (λ y. not (same_name y.name name)) 
     apart true f = absurd (f refl)
     apart false f = refl
 
-either : (b : Bool) → (b ≡ true) ⊎ (not b ≡ true)
-either true = inl refl
-either false = inr refl
+true_or_not_true : (b : Bool) → (b ≡ true) ⊎ (not b ≡ true)
+true_or_not_true true = inl refl
+true_or_not_true false = inr refl
 
 -- after an insertion the list has the inserted entry, and those of other names
 pub has_of_with_entry : (x : EntryView) (es : List EntryView) (e : EntryView) → ContainsEntry (with_entry x es) e
@@ -81,7 +81,7 @@ has_with_entry_other x es e h n =
     (Has-keeps (λ y. comes_before y x) (without x.name es) e remaining l))
     (λ g. has_append_right (filter (λ y. comes_before y x) (without x.name es)) _ e
     (inr (Has-keeps (λ y. not (comes_before y x)) (without x.name es) e remaining g)))
-    (either (comes_before e x))
+    (true_or_not_true (comes_before e x))
 
 pub sub_len_one : (n : ℕ) (name : List ℕ) → suc n - length (name ∷ []) ≡ n
 sub_len_one n name = omega arith

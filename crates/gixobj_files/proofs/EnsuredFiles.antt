@@ -18,9 +18,13 @@ IsOpenAlong (name ∷ rest) dirs =
     (((e : EntryView) → HasAt (dirs []) e → e.name ≡ name → is_tree_mode e.mode ≡ false) × ((path : Path) → dirs (name ∷ path) ≡ None))
     ⊎ (((e : EntryView) × HasAt (dirs []) e × (e.name ≡ name)) × ((es : List EntryView) × (dirs (name ∷ []) ≡ Some es)) × IsOpenAlong rest (in_dir name dirs))
 
-open_nowhere : (path : Path) (dirs : Dirs) → ((at : Path) → dirs at ≡ None) → IsOpenAlong path dirs
-open_nowhere [] dirs none = tt
-open_nowhere (name ∷ rest) dirs none = inl ((λ e h named. absurd (subst (λ (o : Option (List EntryView)). HasAt o e) (none []) h)), λ path. none (name ∷ path))
+is_open_along_of_unopened : (path : Path) (dirs : Dirs) → ((at : Path) → dirs at ≡ None) → IsOpenAlong path dirs
+is_open_along_of_unopened [] dirs none = tt
+is_open_along_of_unopened (name ∷ rest) dirs none = inl (
+  (λ e h named. absurd (subst (λ (o : Option (List EntryView)). HasAt o e) (none []) h)),
+  λ path. none
+      (name ∷ path),
+)
 
 -- an opening leaves the directories on its path open
 pub is_open_along_of_opens : (trees : Trees) (path : Path) (dirs new : Dirs) (looked_up : List ObjectId) → Opens IsNoTree trees path dirs new looked_up
@@ -55,28 +59,30 @@ pub ensured_dirs_in_other_dir : (name first : List ℕ) (rest : Path) (null : Ob
 ensured_dirs_in_other_dir name first rest null dirs differ = ap (λ b path. cond b (ensured_dirs rest null (in_dir name dirs) path) (dirs (first ∷ path)))
     (same_name_false name first differ)
 
-ensured_root : (path : Path) (null : ObjectId) (dirs : Dirs) → (es : List EntryView) × (ensured_dirs path null dirs [] ≡ Some es)
-ensured_root [] null dirs = (or_empty (dirs []), refl)
-ensured_root (name ∷ rest) null dirs = (with_directory name null (or_empty (dirs [])), refl)
+ensured_dirs_root_open : (path : Path) (null : ObjectId) (dirs : Dirs) → (es : List EntryView) × (ensured_dirs path null dirs [] ≡ Some es)
+ensured_dirs_root_open [] null dirs = (or_empty (dirs []), refl)
+ensured_dirs_root_open (name ∷ rest) null dirs = (with_directory name null (or_empty (dirs [])), refl)
 
 -- the files without those at a path and at paths of its parent directories
-was_file : (path : Path) (files : FileSet) (at : Path) (mode : ℕ) (id : ObjectId) → Ensured path files at mode id → files at mode id
-was_file [] files at mode id h = h
-was_file (name ∷ rest) files at mode id h = h.0
+file_of_ensured : (path : Path) (files : FileSet) (at : Path) (mode : ℕ) (id : ObjectId) → Ensured path files at mode id → files at mode id
+file_of_ensured [] files at mode id h = h
+file_of_ensured (name ∷ rest) files at mode id h = h.0
 
-still_file : (path : Path) (files : FileSet) (at : Path) (mode : ℕ) (id : ObjectId) → files at mode id → (Begins at path → ⊥) → Ensured path files at mode id
-still_file [] files at mode id h apart = h
-still_file (name ∷ rest) files at mode id h apart = (h, apart)
+ensured_of_file : (path : Path) (files : FileSet) (at : Path) (mode : ℕ) (id : ObjectId) → files at mode id → (Begins at path → ⊥)
+    → Ensured path files at mode id
+ensured_of_file [] files at mode id h apart = h
+ensured_of_file (name ∷ rest) files at mode id h apart = (h, apart)
 
-no_file_here : (T : Table) (k : ℕ) (dirs : Dirs) (mode : ℕ) (id : ObjectId) → OpenFiles T k dirs [] mode id → ⊥
-no_file_here T zero dirs mode id h = h
-no_file_here T (suc k) dirs mode id h = h
+no_open_file_at_root : (T : Table) (k : ℕ) (dirs : Dirs) (mode : ℕ) (id : ObjectId) → OpenFiles T k dirs [] mode id → ⊥
+no_open_file_at_root T zero dirs mode id h = h
+no_open_file_at_root T (suc k) dirs mode id h = h
 
-not_above : (T : Table) (k : ℕ) (path : Path) (dirs : Dirs) (at : Path) (mode : ℕ) (id : ObjectId) → Ensured path (OpenFiles T k dirs) at mode id
+ensured_file_not_above_path : (T : Table) (k : ℕ) (path : Path) (dirs : Dirs) (at : Path) (mode : ℕ) (id : ObjectId)
+    → Ensured path (OpenFiles T k dirs) at mode id
     → Begins at path → ⊥
-not_above T k [] dirs [] mode id h b = no_file_here T k dirs mode id h
-not_above T k [] dirs (name ∷ at) mode id h b = cc (b.1)
-not_above T k (name ∷ rest) dirs at mode id h b = h.1 b
+ensured_file_not_above_path T k [] dirs [] mode id h b = no_open_file_at_root T k dirs mode id h
+ensured_file_not_above_path T k [] dirs (name ∷ at) mode id h b = cc (b.1)
+ensured_file_not_above_path T k (name ∷ rest) dirs at mode id h b = h.1 b
 
 pub ensured_dirs_files_of_open : (T : Table) (n : ℕ) (path : Path) (null : ObjectId) (dirs : Dirs) → IsOpenAlong path dirs
     → SameFiles (OpenFiles T n (ensured_dirs path null dirs)) (Ensured path (OpenFiles T n dirs))
@@ -96,7 +102,7 @@ ensured_dirs_files_of_open T (suc k) (name ∷ rest) null dirs along (first ∷ 
       | inl same ↦ subst (λ f. (OpenFiles T (suc k) new (f ∷ path) mode id → Ensured (name ∷ rest) old (f ∷ path) mode id)
           × (Ensured (name ∷ rest) old (f ∷ path) mode id → OpenFiles T (suc k) new (f ∷ path) mode id)) same
           (let inside : in_dir name new ≡ below = ensured_dirs_in_dir name rest null dirs in
-          let root = ensured_root rest null (in_dir name dirs) in
+          let root = ensured_dirs_root_open rest null (in_dir name dirs) in
           let is_open : new (name ∷ []) ≡ Some root.0 = ap (λ (d : Dirs). d []) inside ∙ root.1 in
           let entry = has_made_directory name null (or_empty (dirs [])) in
           let into : OpenFiles T (suc k) new (name ∷ path) mode id → OpenFiles T k below path mode id =
@@ -107,9 +113,10 @@ ensured_dirs_files_of_open T (suc k) (name ∷ rest) null dirs along (first ∷ 
           elim along [
             | inl unopened ↦
                 let none : (at : Path) → in_dir name dirs at ≡ None = unopened.1 in
-                let step = ensured_dirs_files_of_open T k rest null (in_dir name dirs) (open_nowhere rest (in_dir name dirs) none) path mode id in (
+                let step = ensured_dirs_files_of_open T k rest null (in_dir name dirs)
+                (is_open_along_of_unopened rest (in_dir name dirs) none) path mode id in (
                   (λ h. absurd (no_open_files_of_none T k (in_dir name dirs) (none []) path mode id
-                      (was_file rest (OpenFiles T k (in_dir name dirs)) path mode id (step.0 (into h))))),
+                      (file_of_ensured rest (OpenFiles T k (in_dir name dirs)) path mode id (step.0 (into h))))),
                   λ h. let s = open_files_into_unopened T k dirs name (none []) path mode id h.0 in
                       let short : path ≡ [] = path_nil_below_file T (Files T k) (s.0.mode) (s.0.id) (unopened.0 s.0 s.1 s.2) path mode id s.3 in
                       absurd (h.1 (rest, subst (λ p. name ∷ rest ≡ (name ∷ p) ++ rest) (sym short) refl)),
@@ -118,10 +125,10 @@ ensured_dirs_files_of_open T (suc k) (name ∷ rest) null dirs along (first ∷ 
                 let step = ensured_dirs_files_of_open T k rest null (in_dir name dirs) opened.2 path mode id in (
                   (λ h. let l = step.0 (into h) in (
                     open_files_of_open T k dirs name (opened.1.0) (opened.0.0) (opened.0.1) (opened.0.2) (opened.1.1) path mode id
-                        (was_file rest (OpenFiles T k (in_dir name dirs)) path mode id l),
-                    λ b. not_above T k rest (in_dir name dirs) path mode id l (begins_of_cons name path rest b),
+                        (file_of_ensured rest (OpenFiles T k (in_dir name dirs)) path mode id l),
+                    λ b. ensured_file_not_above_path T k rest (in_dir name dirs) path mode id l (begins_of_cons name path rest b),
                   )),
-                  λ h. back (step.1 (still_file rest (OpenFiles T k (in_dir name dirs)) path mode id
+                  λ h. back (step.1 (ensured_of_file rest (OpenFiles T k (in_dir name dirs)) path mode id
                       (open_files_into_open T k dirs name (opened.1.0) (opened.1.1) path mode id h.0) (λ b. h.1 (begins_cons name path rest b)))),
                 )
           ])

@@ -25,23 +25,24 @@ pub record Sifts (e : EntryView) (rest remaining : List EntryView) (id : ObjectI
   pub is_filtered : IsFilteredTree following rest
   pub filled : AreFilled following
 
-head_is : (x y : EntryView) (xs ys : List EntryView) → x ∷ xs ≡ y ∷ ys → x ≡ y
-head_is x y xs ys is = cc is
+cons_injective_head : (x y : EntryView) (xs ys : List EntryView) → x ∷ xs ≡ y ∷ ys → x ≡ y
+cons_injective_head x y xs ys is = cc is
 
-tail_is : (x y : EntryView) (xs ys : List EntryView) → x ∷ xs ≡ y ∷ ys → xs ≡ ys
-tail_is x y xs ys is = cc is
+cons_injective_tail : (x y : EntryView) (xs ys : List EntryView) → x ∷ xs ≡ y ∷ ys → xs ≡ ys
+cons_injective_tail x y xs ys is = cc is
 
 -- the first filtered entry has the name of an entry
-first_named : (name : List ℕ) (x : EntryView) (xs es : List EntryView) → IsFilteredTree (x ∷ xs) es → AllByRecursion (λ y. name ≢ y.name) es → name ≢ x.name
-first_named name x xs [] h others is = cc h
-first_named name x xs (e ∷ es) (inl h) others is = first_named name x xs es h others.1 is
-first_named name x xs (e ∷ es) (inr h) others is = others.0 (is ∙ ap (λ (y : EntryView). y.name) (head_is x (with_id e h.0) xs h.1 h.2))
+filtered_head_name_ne : (name : List ℕ) (x : EntryView) (xs es : List EntryView) → IsFilteredTree (x ∷ xs) es → AllByRecursion (λ y. name ≢ y.name) es
+    → name ≢ x.name
+filtered_head_name_ne name x xs [] h others is = cc h
+filtered_head_name_ne name x xs (e ∷ es) (inl h) others is = filtered_head_name_ne name x xs es h others.1 is
+filtered_head_name_ne name x xs (e ∷ es) (inr h) others is = others.0 (is ∙ ap (λ (y : EntryView). y.name) (cons_injective_head x (with_id e h.0) xs h.1 h.2))
 
-kept_one : (x : EntryView) → IsFalse (is_null x.id) → non_null_entries (x ∷ []) ≡ x ∷ []
-kept_one x filled = ap (λ b. cond (not b) (x ∷ []) []) filled
+non_null_entries_singleton : (x : EntryView) → IsFalse (is_null x.id) → non_null_entries (x ∷ []) ≡ x ∷ []
+non_null_entries_singleton x filled = ap (λ b. cond (not b) (x ∷ []) []) filled
 
-same_with : (e x : EntryView) (id : ObjectId) → x ≡ with_id e id → with_id e x.id ≡ x
-same_with e x id is = ap (λ (y : EntryView). with_id e y.id) is ∙ sym is
+with_id_of_with_id : (e x : EntryView) (id : ObjectId) → x ≡ with_id e id → with_id e x.id ≡ x
+with_id_of_with_id e x id is = ap (λ (y : EntryView). with_id e y.id) is ∙ sym is
 
 pub filters_step : (e : EntryView) (rest remaining : List EntryView) → AllByRecursion (λ y. e.name ≢ y.name) rest → AreFilled remaining
     → IsFilteredTree remaining (e ∷ rest) → Sifts e rest remaining (id_among e.name remaining) (filtered_out e.name remaining)
@@ -49,37 +50,42 @@ filters_step e rest [] apart filled (inl h) = record { here = refl; is_filtered 
 filters_step e rest [] apart filled (inr h) = absurd (cc h.2)
 filters_step e rest (x ∷ xs) apart filled h =
     elim (same_name x.name e.name) as (λ b. same_name x.name e.name ≡ b → Sifts e rest (x ∷ xs) (cond b x.id (null_id Sha1)) (cond b xs (x ∷ xs))) [
-      | true ↦ λ is. ⊎_elim (λ following. absurd (first_named e.name x xs rest following apart (sym ((bytes_decides x.name e.name).0 is))))
+      | true ↦ λ is. ⊎_elim (λ following. absurd (filtered_head_name_ne e.name x xs rest following apart (sym ((bytes_decides x.name e.name).0 is))))
           (λ (here : (id : ObjectId) × (more : List EntryView) × (x ∷ xs ≡ with_id e id ∷ more) × IsFilteredTree more rest). record {
-            here = ap (λ (y : EntryView). non_null_entries (y ∷ []) ++ xs) (same_with e x here.0 (head_is x (with_id e here.0) xs here.1 here.2))
-                ∙ ap (λ ys. ys ++ xs) (kept_one x filled.0);
-            is_filtered = subst (λ ys. IsFilteredTree ys rest) (sym (tail_is x (with_id e here.0) xs here.1 here.2)) here.3;
+            here = ap (λ (y : EntryView). non_null_entries (y ∷ []) ++ xs)
+                (with_id_of_with_id e x here.0 (cons_injective_head x (with_id e here.0) xs here.1 here.2))
+                ∙ ap (λ ys. ys ++ xs) (non_null_entries_singleton x filled.0);
+            is_filtered = subst (λ ys. IsFilteredTree ys rest) (sym (cons_injective_tail x (with_id e here.0) xs here.1 here.2)) here.3;
             filled = filled.1;
           }) h
       | false ↦ λ is. ⊎_elim (λ following. record { here = refl; is_filtered = following; filled = filled })
           (λ (here : (id : ObjectId) × (more : List EntryView) × (x ∷ xs ≡ with_id e id ∷ more) × IsFilteredTree more rest).
-          absurd (true≢false (sym ((bytes_decides x.name e.name).1 (ap (λ (y : EntryView). y.name) (head_is x (with_id e here.0) xs here.1 here.2))) ∙ is))) h
+          absurd (true≢false (sym ((bytes_decides x.name e.name).1 (ap (λ (y : EntryView). y.name)
+          (cons_injective_head x (with_id e here.0) xs here.1 here.2))) ∙ is))) h
     ] refl
 
-filtered_with : (e : EntryView) (id : ObjectId) (os es : List EntryView) → IsFilteredTree os es → IsFilteredTree (entry_unless_null e id ++ os) (e ∷ es)
-filtered_with e id os es h = elim (is_null id) as (λ b. IsFilteredTree (cond b [] (with_id e id ∷ []) ++ os) (e ∷ es))
+is_filtered_tree_cons : (e : EntryView) (id : ObjectId) (os es : List EntryView) → IsFilteredTree os es → IsFilteredTree (entry_unless_null e id ++ os) (e ∷ es)
+is_filtered_tree_cons e id os es h = elim (is_null id) as (λ b. IsFilteredTree (cond b [] (with_id e id ∷ []) ++ os) (e ∷ es))
     [ true ↦ inl h | false ↦ inr (id, os, refl, h) ]
 
-walk_filtered : (dirs bases : Dirs) (es : List EntryView) (ps : List Pair) (own : List EntryView) (n : ℕ) → EmitsEntries dirs bases es ps own n
+is_filtered_tree_of_emits : (dirs bases : Dirs) (es : List EntryView) (ps : List Pair) (own : List EntryView) (n : ℕ) → EmitsEntries dirs bases es ps own n
     → IsFilteredTree own es
-walk_filtered dirs bases es ps own n (end d b) = refl
-walk_filtered dirs bases es ps own n (unopened d b e rest below os m none walk) = filtered_with e e.id os rest (walk_filtered d b rest below os m walk)
-walk_filtered dirs bases es ps own n (left_out_if_empty d b e rest inner below os i m found walk) = inl (walk_filtered d b rest below os m walk)
-walk_filtered dirs bases es ps own n (unchanged d b e first rest more inner below os i m found same walk) =
-    filtered_with e e.id os rest (walk_filtered d b rest below os m walk)
-walk_filtered dirs bases es ps own n (written d b e first rest more inner below os i m id found changed walk) =
-    filtered_with e id os rest (walk_filtered d b rest below os m walk)
+is_filtered_tree_of_emits dirs bases es ps own n (end d b) = refl
+is_filtered_tree_of_emits dirs bases es ps own n (unopened d b e rest below os m none walk) =
+    is_filtered_tree_cons e e.id os rest (is_filtered_tree_of_emits d b rest below os m walk)
+is_filtered_tree_of_emits dirs bases es ps own n (left_out_if_empty d b e rest inner below os i m found walk) =
+    inl (is_filtered_tree_of_emits d b rest below os m walk)
+is_filtered_tree_of_emits dirs bases es ps own n (unchanged d b e first rest more inner below os i m found same walk) =
+    is_filtered_tree_cons e e.id os rest (is_filtered_tree_of_emits d b rest below os m walk)
+is_filtered_tree_of_emits dirs bases es ps own n (written d b e first rest more inner below os i m id found changed walk) =
+    is_filtered_tree_cons e id os rest (is_filtered_tree_of_emits d b rest below os m walk)
 
-some_is : (xs ys : List EntryView) → Some xs ≡ Some ys → xs ≡ ys
-some_is xs ys is = cc is
+some_injective : (xs ys : List EntryView) → Some xs ≡ Some ys → xs ≡ ys
+some_injective xs ys is = cc is
 
 -- the written tree of a directory has some of its entries
 pub is_filtered_tree_of_walk : (dirs bases : Dirs) (ps : List Pair) (own : List EntryView) (n : ℕ) (es : List EntryView) → EmitsBelow dirs bases ps own n
     → dirs [] ≡ Some es → IsFilteredTree own es
-is_filtered_tree_of_walk dirs bases ps own n es (of_entries d b items below os m is walk) there = subst (IsFilteredTree own) (some_is items es (sym is ∙ there))
-    (walk_filtered d b items below own m walk)
+is_filtered_tree_of_walk dirs bases ps own n es (of_entries d b items below os m is walk) there =
+    subst (IsFilteredTree own) (some_injective items es (sym is ∙ there))
+    (is_filtered_tree_of_emits d b items below own m walk)

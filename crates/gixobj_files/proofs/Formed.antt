@@ -82,36 +82,36 @@ module _ (x : EntryView) (es : List EntryView) (formed : IsWellFormed es) (name 
   inserted_formed : IsWellFormed (lower ++ x ∷ upper)
   inserted_formed = record { names = inserted_names; apart = inserted_apart; ascending = inserted_ascending }
 
-other_names : (name : List ℕ) (es : List EntryView) → AllByRecursion (λ e. e.name ≢ name) (without name es)
-other_names name es =
+without_names_ne : (name : List ℕ) (es : List EntryView) → AllByRecursion (λ e. e.name ≢ name) (without name es)
+without_names_ne name es =
     all_weaker (λ (e : EntryView). not (same_name e.name name) ≡ true) (λ (e : EntryView). e.name ≢ name)
     (λ e passes same. true≢false (sym passes ∙ ap not ((bytes_decides e.name name).1 same))) (without name es) (all_pass (λ e. not (same_name e.name name)) es)
 
 pub is_well_formed_with_entry : (x : EntryView) (es : List EntryView) → IsWellFormed es → IsEntryName x.name → IsWellFormed (with_entry x es)
-is_well_formed_with_entry x es formed name = inserted_formed x (without x.name es) (is_well_formed_without x.name es formed) name (other_names x.name es)
+is_well_formed_with_entry x es formed name = inserted_formed x (without x.name es) (is_well_formed_without x.name es formed) name (without_names_ne x.name es)
 
 -- the open directories if the root alone is open
 abbrev only_at_root : Path → List EntryView → Option (List EntryView)
 only_at_root path es = cond (is_eq (slice_cmp (slice_cmp nat_cmp) path [])) (Some es) None
 
-root_alone_at : (es : List EntryView) (path : Path) → map.get (root_alone es) path ≡ only_at_root path es
-root_alone_at es path =
+root_alone_get : (es : List EntryView) (path : Path) → map.get (root_alone es) path ≡ only_at_root path es
+root_alone_get es path =
     map.get-insert (lists_total nat_list_cmp_total) map.empty [] es path
     ∙ ap (λ (o : Option (List EntryView)). cond (is_eq (slice_cmp (slice_cmp nat_cmp) path [])) (Some es) o)
     (map.get-empty (slice_cmp (slice_cmp nat_cmp)) path)
 
-only_root : (path : Path) (es entries : List EntryView) → only_at_root path es ≡ Some entries → (path ≡ []) × (es ≡ entries)
-only_root [] es entries e = (refl, cc e)
-only_root (name ∷ path) es entries e = absurd (cc e)
+root_of_only_at_root : (path : Path) (es entries : List EntryView) → only_at_root path es ≡ Some entries → (path ≡ []) × (es ≡ entries)
+root_of_only_at_root [] es entries e = (refl, cc e)
+root_of_only_at_root (name ∷ path) es entries e = absurd (cc e)
 
-not_empty : (path : Path) (name : List ℕ) → path ++ name ∷ [] ≢ []
-not_empty [] name e = cc e
-not_empty (first ∷ path) name e = cc e
+snoc_ne_nil : (path : Path) (name : List ℕ) → path ++ name ∷ [] ≢ []
+snoc_ne_nil [] name e = cc e
+snoc_ne_nil (first ∷ path) name e = cc e
 
 pub root_alone_is_opened : (es : List EntryView) → IsWellFormed es → IsOpened (λ path. map.get (root_alone es) path)
 root_alone_is_opened es formed = record {
-  root = λ none. cc (sym (root_alone_at es []) ∙ none);
-  well_formed = λ path entries opened. subst IsWellFormed (only_root path es entries (sym (root_alone_at es path) ∙ opened)).1 formed;
+  root = λ none. cc (sym (root_alone_get es []) ∙ none);
+  well_formed = λ path entries opened. subst IsWellFormed (root_of_only_at_root path es entries (sym (root_alone_get es path) ∙ opened)).1 formed;
   above = λ path name entries opened. absurd
-      (not_empty path name (only_root (path ++ name ∷ []) es entries (sym (root_alone_at es (path ++ name ∷ [])) ∙ opened)).0);
+      (snoc_ne_nil path name (root_of_only_at_root (path ++ name ∷ []) es entries (sym (root_alone_get es (path ++ name ∷ [])) ∙ opened)).0);
 }

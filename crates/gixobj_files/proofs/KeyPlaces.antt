@@ -26,11 +26,11 @@ use Rattle.gixobj_mode.specs.Mode.{is_tree_mode}
 use Rattle.gixobj_files.proofs.BinarySearch.{IsNarrowed, compared, element_at, greater_from, halved_key, halved_place, is_before, later_at, less_to, less_of_compare, narrowed_none, position_at, position_none}
 
 -- a key has one name and one kind
-same_parts : (xs : List ℕ) (t : Bool) (ys : List ℕ) (u : Bool) → IsByteFree 47 xs → IsByteFree 47 ys → key_of xs t ≡ key_of ys u → (xs ≡ ys) × (t ≡ u)
-same_parts xs true ys true a b e = (append_cancel_right xs ys (47 ∷ []) e, refl)
-same_parts xs false ys false a b e = (e, refl)
-same_parts xs true ys false a b e = absurd (no_slash_at_end xs (subst (IsByteFree 47) (sym e) b))
-same_parts xs false ys true a b e = absurd (no_slash_at_end ys (subst (IsByteFree 47) e a))
+key_of_injective : (xs : List ℕ) (t : Bool) (ys : List ℕ) (u : Bool) → IsByteFree 47 xs → IsByteFree 47 ys → key_of xs t ≡ key_of ys u → (xs ≡ ys) × (t ≡ u)
+key_of_injective xs true ys true a b e = (append_cancel_right xs ys (47 ∷ []) e, refl)
+key_of_injective xs false ys false a b e = (e, refl)
+key_of_injective xs true ys false a b e = absurd (no_slash_at_end xs (subst (IsByteFree 47) (sym e) b))
+key_of_injective xs false ys true a b e = absurd (no_slash_at_end ys (subst (IsByteFree 47) e a))
 
 -- whether an entry of tree mode was found
 pub search_is_ok_eq_has_tree : (name : List ℕ) (es : List EntryView) (r : Result ℕ ℕ)
@@ -49,20 +49,20 @@ search_is_ok_eq_has_tree name es (Err i) place kind none =
     none (get_or es k d, Contains-get_or es k d low, ap (key_of (get_or es k d).name) parts.1 ∙ ap (λ (n : List ℕ). key_of n true) named))))
 
 -- the key of a file is less than that of a directory of its name
-shorter : (name : List ℕ) → slice_cmp nat_cmp name (name ++ 47 ∷ []) ≡ Less
-shorter [] = refl
-shorter (x ∷ xs) = rw (sym (nat_cmp_is x x Equal refl)) (shorter xs)
+name_less_append_slash : (name : List ℕ) → slice_cmp nat_cmp name (name ++ 47 ∷ []) ≡ Less
+name_less_append_slash [] = refl
+name_less_append_slash (x ∷ xs) = rw (sym (nat_cmp_is x x Equal refl)) (name_less_append_slash xs)
 
 -- a key that isn't less than that of a directory of the name is greater than that of a file of it
-above : (name key : List ℕ) → is_lt (slice_cmp nat_cmp key (name ++ 47 ∷ [])) ≡ false → slice_cmp nat_cmp key name ≡ Greater
-above name key fails =
+key_greater_of_not_lt_slash : (name key : List ℕ) → is_lt (slice_cmp nat_cmp key (name ++ 47 ∷ [])) ≡ false → slice_cmp nat_cmp key name ≡ Greater
+key_greater_of_not_lt_slash name key fails =
     let long : List ℕ = name ++ 47 ∷ [] in
     nat_list_cmp_total.antisymm key name
     ∙ ap ordering_reverse
     (elim (slice_cmp nat_cmp key long) as (λ o. slice_cmp nat_cmp key long ≡ o → is_lt o ≡ false → slice_cmp nat_cmp name key ≡ Less) [
       | Less ↦ λ is f. absurd (true≢false f)
-      | Equal ↦ λ is f. subst (λ (k : List ℕ). slice_cmp nat_cmp name k ≡ Less) (sym (eq_of_slice_cmp_equal key long is)) (shorter name)
-      | Greater ↦ λ is f. nat_list_cmp_total.trans name long key (shorter name) (nat_list_cmp_total.antisymm long key ∙ ap ordering_reverse is)
+      | Equal ↦ λ is f. subst (λ (k : List ℕ). slice_cmp nat_cmp name k ≡ Less) (sym (eq_of_slice_cmp_equal key long is)) (name_less_append_slash name)
+      | Greater ↦ λ is f. nat_list_cmp_total.trans name long key (name_less_append_slash name) (nat_list_cmp_total.antisymm long key ∙ ap ordering_reverse is)
     ] refl fails)
 
 module _ (es : List EntryView) (formed : IsWellFormed es) (name : List ℕ) where
@@ -103,7 +103,7 @@ module _ (es : List EntryView) (formed : IsWellFormed es) (name : List ℕ) wher
       let none : IsNarrowed entry_key es (key_of name true) place place = record {
         prefix = λ k d l. nat_list_cmp_total.trans (entry_key (get_or es k d)) name (key_of name true)
             (less_of_compare (compared entry_key name (get_or es k d)) (prefix_len_passes (is_before entry_key name) es k d (omega (arith, is, l))))
-            (shorter name);
+            (name_less_append_slash name);
         back = λ k d from_place l. greater_from entry_key es formed.ascending (key_of name true) place
             (next (omega (arith, from_place, l))) k d from_place l;
       } in
@@ -118,7 +118,7 @@ module _ (es : List EntryView) (formed : IsWellFormed es) (name : List ℕ) wher
       let long : List ℕ = key_of name true in
       let short : place ≤ length es = omega (arith, is, prefix_len-le-length (is_before entry_key long) es) in
       let stops : place < length es → HoldsAt (λ e. compared entry_key name e ≡ Greater) es place = λ l d.
-      above name (entry_key (get_or es place d))
+      key_greater_of_not_lt_slash name (entry_key (get_or es place d))
       (subst (λ (i : ℕ). is_before entry_key long (get_or es i d) ≡ false) (sym is)
       (prefix_len_stops (is_before entry_key long) es d (omega (arith, is, l)))) in
       let none : IsNarrowed entry_key es name place place = record {
@@ -161,7 +161,7 @@ module _ (es : List EntryView) (formed : IsWellFormed es) (name : List ℕ) wher
     -- the entry that was found has the name and the kind
     at_key : (i : ℕ) (d : EntryView) → i < length es → HoldsAt (λ e. by_key e ≡ Equal) es i → ((get_or es i d).name ≡ name)
         × (is_tree_mode (get_or es i d).mode ≡ t)
-    at_key i d low held = same_parts (get_or es i d).name (is_tree_mode (get_or es i d).mode) name t (free_at i d low) free
+    at_key i d low held = key_of_injective (get_or es i d).name (is_tree_mode (get_or es i d).mode) name t (free_at i d low) free
         (halved_key entry_key es (key_of name t) i d held)
 
     pub found_place : (r : Result ℕ ℕ) → IsSearchInRange r (length es) → IsBinarySearchResult by_key es r

@@ -16,17 +16,17 @@ use Rattle.gixobj_files.specs.Tables.{AgreesWithPairs, AgreesWithStore, IsConsis
 use Rattle.gixobj_hash.proofs.SameIds.{id_eq_or_ne}
 
 -- the ids of the empty tree, as digests, aren't null
-sha1_not_null : is_null (id_of hash.Sha1 Tree []) ≡ false
+sha1_empty_tree_id_not_null : is_null (id_of hash.Sha1 Tree []) ≡ false
 unfolding digits sha1.first_words sha1.schedule sha1.rounds sha1.compress sha1.hash_after sha1.digest_bytes sha1.sha1
-sha1_not_null = refl
+sha1_empty_tree_id_not_null = refl
 
-sha256_not_null : is_null (id_of hash.Sha256 Tree []) ≡ false
+sha256_empty_tree_id_not_null : is_null (id_of hash.Sha256 Tree []) ≡ false
 unfolding digits sha256.first_words sha256.schedule sha256.rounds sha256.compress sha256.hash_after sha256.digest_bytes sha256.sha256
-sha256_not_null = refl
+sha256_empty_tree_id_not_null = refl
 
-empty_not_null : (hash : Kind) → is_null (id_of hash Tree []) ≡ false
-empty_not_null hash.Sha1 = sha1_not_null
-empty_not_null hash.Sha256 = sha256_not_null
+empty_tree_id_not_null : (hash : Kind) → is_null (id_of hash Tree []) ≡ false
+empty_tree_id_not_null hash.Sha1 = sha1_empty_tree_id_not_null
+empty_tree_id_not_null hash.Sha256 = sha256_empty_tree_id_not_null
 
 abbrev IsEmpty : ObjectId → Type 0
 IsEmpty it = (hash : Kind) × (it ≡ id_of hash Tree [])
@@ -34,14 +34,14 @@ IsEmpty it = (hash : Kind) × (it ≡ id_of hash Tree [])
 abbrev IsFilled : ObjectId → Type 0
 IsFilled it = (hash : Kind) → it ≢ id_of hash Tree []
 
-filled : (it : ObjectId) → it ≢ id_of hash.Sha1 Tree [] → it ≢ id_of hash.Sha256 Tree [] → IsFilled it
-filled it one other hash.Sha1 = one
-filled it one other hash.Sha256 = other
+is_filled_of_ne_empty_ids : (it : ObjectId) → it ≢ id_of hash.Sha1 Tree [] → it ≢ id_of hash.Sha256 Tree [] → IsFilled it
+is_filled_of_ne_empty_ids it one other hash.Sha1 = one
+is_filled_of_ne_empty_ids it one other hash.Sha256 = other
 
-empty_or_filled : (it : ObjectId) → IsEmpty it ⊎ IsFilled it
-empty_or_filled it =
+is_empty_or_is_filled : (it : ObjectId) → IsEmpty it ⊎ IsFilled it
+is_empty_or_is_filled it =
     ⊎_elim (λ is. inl (hash.Sha1, is))
-    (λ one. ⊎_elim (λ is. inl (hash.Sha256, is)) (λ other. inr (filled it one other)) (id_eq_or_ne it (id_of hash.Sha256 Tree [])))
+    (λ one. ⊎_elim (λ is. inl (hash.Sha256, is)) (λ other. inr (is_filled_of_ne_empty_ids it one other)) (id_eq_or_ne it (id_of hash.Sha256 Tree [])))
     (id_eq_or_ne it (id_of hash.Sha1 Tree []))
 
 -- a table of chosen trees; the null ids and those of the empty tree are as in every table
@@ -52,7 +52,7 @@ module _ (choose : Trees) where
 
   abbrev chosen_at : ObjectId → Bool → Option (List EntryView)
   chosen_at it true = None
-  chosen_at it false = chosen it (empty_or_filled it)
+  chosen_at it false = chosen it (is_empty_or_is_filled it)
 
   chosen_empty : (hash : Kind) (which : IsEmpty (id_of hash Tree []) ⊎ IsFilled (id_of hash Tree [])) → chosen (id_of hash Tree []) which ≡ Some []
   chosen_empty hash (inl is) = refl
@@ -66,59 +66,64 @@ module _ (choose : Trees) where
   chosen_table = record {
     tree_at = λ it. chosen_at it (is_null it);
     nothing_by_null = λ it null. ap (chosen_at it) null;
-    none_in_empty = λ hash. ap (chosen_at (id_of hash Tree [])) (empty_not_null hash) ∙ chosen_empty hash (empty_or_filled (id_of hash Tree []));
+    none_in_empty = λ hash. ap (chosen_at (id_of hash Tree [])) (empty_tree_id_not_null hash) ∙ chosen_empty hash (is_empty_or_is_filled (id_of hash Tree []));
   }
 
   chooses : (it : ObjectId) → is_null it ≡ false → IsFilled it → chosen_table.tree_at it ≡ choose it
-  chooses it some other = ap (chosen_at it) some ∙ chosen_filled it other (empty_or_filled it)
+  chooses it some other = ap (chosen_at it) some ∙ chosen_filled it other (is_empty_or_is_filled it)
 
-first_of : (pairs : List Pair) (it : ObjectId) → (found : Option (List EntryView)) × IsFirst pairs it found
-first_of [] it = (None, refl)
-first_of (pair ∷ pairs) it = ⊎_elim (λ same. (Some pair.1, inl (same, refl))) (λ other. let rest = first_of pairs it in (rest.0, inr (other, rest.1)))
+first_in_pairs_exists : (pairs : List Pair) (it : ObjectId) → (found : Option (List EntryView)) × IsFirst pairs it found
+first_in_pairs_exists [] it = (None, refl)
+first_in_pairs_exists (pair ∷ pairs) it = ⊎_elim (λ same. (Some pair.1, inl (same, refl))) (λ other. let rest = first_in_pairs_exists pairs it in
+    (rest.0, inr (other, rest.1)))
     (id_eq_or_ne pair.0 it)
 
 pub table_of_pairs_exists : (pairs : List Pair) → (T : Table) × IsTableOf T pairs
 table_of_pairs_exists pairs =
-    let choose : Trees = λ it. (first_of pairs it).0 in
-    (chosen_table choose, λ it some other. subst (IsFirst pairs it) (sym (chooses choose it some other)) (first_of pairs it).1)
+    let choose : Trees = λ it. (first_in_pairs_exists pairs it).0 in
+    (chosen_table choose, λ it some other. subst (IsFirst pairs it) (sym (chooses choose it some other)) (first_in_pairs_exists pairs it).1)
 
 -- an id that is looked up isn't null
-filled_id : (it : ObjectId) → (IsNeverLookedUp it → ⊥) → is_null it ≡ false
-filled_id it searched = elim (is_null it) as (λ b. is_null it ≡ b → b ≡ false) [ true ↦ λ null. absurd (searched (inl null)) | false ↦ λ some. refl ] refl
+not_null_of_looked_up : (it : ObjectId) → (IsNeverLookedUp it → ⊥) → is_null it ≡ false
+not_null_of_looked_up it searched = elim (is_null it) as (λ b. is_null it ≡ b → b ≡ false) [
+  | true ↦ λ null. absurd (searched (inl null))
+  | false ↦
+      λ some. refl
+] refl
 
-kind_of_empty : (hash : Kind) → id_kind (id_of hash Tree []) ≡ hash
-kind_of_empty hash.Sha1 = refl
-kind_of_empty hash.Sha256 = refl
+empty_tree_id_kind : (hash : Kind) → id_kind (id_of hash Tree []) ≡ hash
+empty_tree_id_kind hash.Sha1 = refl
+empty_tree_id_kind hash.Sha256 = refl
 
-no_empty_id : (it : ObjectId) → (IsNeverLookedUp it → ⊥) → IsFilled it
-no_empty_id it searched hash is = searched (inr (is ∙ ap (λ (h : Kind). id_of h Tree []) (sym (ap id_kind is ∙ kind_of_empty hash))))
+is_filled_of_looked_up : (it : ObjectId) → (IsNeverLookedUp it → ⊥) → IsFilled it
+is_filled_of_looked_up it searched hash is = searched (inr (is ∙ ap (λ (h : Kind). id_of h Tree []) (sym (ap id_kind is ∙ empty_tree_id_kind hash))))
 
 pub table_of_store_exists : (trees : Trees) → (T : Table) × IsTableOfStore T trees
-table_of_store_exists trees = (chosen_table trees, λ it searched. chooses trees it (filled_id it searched) (no_empty_id it searched))
+table_of_store_exists trees = (chosen_table trees, λ it searched. chooses trees it (not_null_of_looked_up it searched) (is_filled_of_looked_up it searched))
 
 -- the pair is in the list
 abbrev IsIn : List Pair → Pair → Type 0
 IsIn [] pair = ⊥
 IsIn (first ∷ pairs) pair = (first ≡ pair) ⊎ IsIn pairs pair
 
-of_each : (P : Pair → Type 0) (pairs : List Pair) → AllByRecursion P pairs → (pair : Pair) → IsIn pairs pair → P pair
-of_each P [] all pair h = absurd h
-of_each P (first ∷ pairs) all pair (inl same) = subst P same all.0
-of_each P (first ∷ pairs) all pair (inr h) = of_each P pairs all.1 pair h
+holds_of_all_pairs : (P : Pair → Type 0) (pairs : List Pair) → AllByRecursion P pairs → (pair : Pair) → IsIn pairs pair → P pair
+holds_of_all_pairs P [] all pair h = absurd h
+holds_of_all_pairs P (first ∷ pairs) all pair (inl same) = subst P same all.0
+holds_of_all_pairs P (first ∷ pairs) all pair (inr h) = holds_of_all_pairs P pairs all.1 pair h
 
-each_of : (P : Pair → Type 0) (pairs : List Pair) → ((pair : Pair) → IsIn pairs pair → P pair) → AllByRecursion P pairs
-each_of P [] all = tt
-each_of P (first ∷ pairs) all = (all first (inl refl), each_of P pairs (λ pair h. all pair (inr h)))
+all_pairs_of_each : (P : Pair → Type 0) (pairs : List Pair) → ((pair : Pair) → IsIn pairs pair → P pair) → AllByRecursion P pairs
+all_pairs_of_each P [] all = tt
+all_pairs_of_each P (first ∷ pairs) all = (all first (inl refl), all_pairs_of_each P pairs (λ pair h. all pair (inr h)))
 
 -- the tree of the first pair of an id is that of some pair of the id
 abbrev IsKnown : List Pair → ObjectId → Option (List EntryView) → Type 0
 IsKnown pairs it found = ((found ≡ None) × ((pair : Pair) → IsIn pairs pair → pair.0 ≢ it))
     ⊎ ((pair : Pair) × IsIn pairs pair × (pair.0 ≡ it) × (found ≡ Some pair.1))
 
-first_in_pairs : (pairs : List Pair) (it : ObjectId) (found : Option (List EntryView)) → IsFirst pairs it found → IsKnown pairs it found
-first_in_pairs [] it found none = inl (none, λ pair h. absurd h)
-first_in_pairs (first ∷ pairs) it found (inl is) = inr (first, inl refl, is.0, is.1)
-first_in_pairs (first ∷ pairs) it found (inr (other, rest)) = in_rest (first_in_pairs pairs it found rest)
+is_known_of_first : (pairs : List Pair) (it : ObjectId) (found : Option (List EntryView)) → IsFirst pairs it found → IsKnown pairs it found
+is_known_of_first [] it found none = inl (none, λ pair h. absurd h)
+is_known_of_first (first ∷ pairs) it found (inl is) = inr (first, inl refl, is.0, is.1)
+is_known_of_first (first ∷ pairs) it found (inr (other, rest)) = in_rest (is_known_of_first pairs it found rest)
   where
     differs : ((pair : Pair) → IsIn pairs pair → pair.0 ≢ it) → (pair : Pair) → IsIn (first ∷ pairs) pair → pair.0 ≢ it
     differs none pair (inl same) = λ is. other (ap (λ (p : Pair). p.0) same ∙ is)
@@ -134,23 +139,23 @@ module _ (pairs : List Pair) (trees : Trees) (fits : IsConsistentWith pairs tree
   or_the_store it (Some entries) = Some entries
 
   abbrev either : Trees
-  either it = or_the_store it (first_of pairs it).0
+  either it = or_the_store it (first_in_pairs_exists pairs it).0
 
   filled_pair : (pair : Pair) → IsIn pairs pair → is_null pair.0 ≡ false
-  filled_pair = of_each (λ pair. is_null pair.0 ≡ false) pairs (recursion_from_All (λ pair. is_null pair.0 ≡ false) pairs fits.filled)
+  filled_pair = holds_of_all_pairs (λ pair. is_null pair.0 ≡ false) pairs (recursion_from_All (λ pair. is_null pair.0 ≡ false) pairs fits.filled)
 
   empty_pair : (pair : Pair) → IsIn pairs pair → (hash : Kind) → pair.0 ≡ id_of hash Tree [] → pair.1 ≡ []
-  empty_pair = of_each (λ pair. (hash : Kind) → pair.0 ≡ id_of hash Tree [] → pair.1 ≡ []) pairs
+  empty_pair = holds_of_all_pairs (λ pair. (hash : Kind) → pair.0 ≡ id_of hash Tree [] → pair.1 ≡ []) pairs
       (recursion_from_All (λ pair. (hash : Kind) → pair.0 ≡ id_of hash Tree [] → pair.1 ≡ []) pairs fits.empty)
 
   same_tree : (pair : Pair) → IsIn pairs pair → (other : Pair) → IsIn pairs other → other.0 ≡ pair.0 → other.1 ≡ pair.1
   same_tree pair h other =
-      of_each (λ other. other.0 ≡ pair.0 → other.1 ≡ pair.1) pairs (recursion_from_All (λ other. other.0 ≡ pair.0 → other.1 ≡ pair.1) pairs
-      (of_each (λ (pair : Pair). All (λ other. other.0 ≡ pair.0 → other.1 ≡ pair.1) pairs) pairs
+      holds_of_all_pairs (λ other. other.0 ≡ pair.0 → other.1 ≡ pair.1) pairs (recursion_from_All (λ other. other.0 ≡ pair.0 → other.1 ≡ pair.1) pairs
+      (holds_of_all_pairs (λ (pair : Pair). All (λ other. other.0 ≡ pair.0 → other.1 ≡ pair.1) pairs) pairs
       (recursion_from_All (λ (pair : Pair). All (λ other. other.0 ≡ pair.0 → other.1 ≡ pair.1) pairs) pairs fits.one_tree) pair h)) other
 
   store_tree : (pair : Pair) → IsIn pairs pair → (entries : List EntryView) → trees pair.0 ≡ Some entries → entries ≡ pair.1
-  store_tree = of_each (λ pair. (entries : List EntryView) → trees pair.0 ≡ Some entries → entries ≡ pair.1) pairs
+  store_tree = holds_of_all_pairs (λ pair. (entries : List EntryView) → trees pair.0 ≡ Some entries → entries ≡ pair.1) pairs
       (recursion_from_All (λ pair. (entries : List EntryView) → trees pair.0 ≡ Some entries → entries ≡ pair.1) pairs fits.of_the_store)
 
   -- the table has the tree of each pair at its id
@@ -166,14 +171,15 @@ module _ (pairs : List Pair) (trees : Trees) (fits : IsConsistentWith pairs tree
 
   at_pair : (pair : Pair) → IsIn pairs pair → (which : IsEmpty pair.0 ⊎ IsFilled pair.0) → (chosen_table either).tree_at pair.0 ≡ Some pair.1
   at_pair pair h (inl is) = ap (chosen_table either).tree_at is.1 ∙ (chosen_table either).none_in_empty is.0 ∙ ap Some (sym (empty_pair pair h is.0 is.1))
-  at_pair pair h (inr other) = chooses either pair.0 (filled_pair pair h) other ∙ either_pair pair h (first_of pairs pair.0).0
-      (first_in_pairs pairs pair.0 (first_of pairs pair.0).0 (first_of pairs pair.0).1)
+  at_pair pair h (inr other) = chooses either pair.0 (filled_pair pair h) other ∙ either_pair pair h (first_in_pairs_exists pairs pair.0).0
+      (is_known_of_first pairs pair.0 (first_in_pairs_exists pairs pair.0).0 (first_in_pairs_exists pairs pair.0).1)
 
   pub fitting_table : (T : Table) × AgreesWithStore T trees × AgreesWithPairs T pairs
   fitting_table = (
     chosen_table either,
-    (λ it entries searched is. chooses either it (filled_id it searched) (no_empty_id it searched) ∙ either_store it entries is (first_of pairs it).0
-        (first_in_pairs pairs it (first_of pairs it).0 (first_of pairs it).1)),
+    (λ it entries searched is. chooses either it (not_null_of_looked_up it searched) (is_filled_of_looked_up it searched)
+        ∙ either_store it entries is (first_in_pairs_exists pairs it).0
+        (is_known_of_first pairs it (first_in_pairs_exists pairs it).0 (first_in_pairs_exists pairs it).1)),
     All-from_recursion (λ pair. (chosen_table either).tree_at pair.0 ≡ Some pair.1) pairs
-        (each_of (λ pair. (chosen_table either).tree_at pair.0 ≡ Some pair.1) pairs (λ pair h. at_pair pair h (empty_or_filled pair.0))),
+        (all_pairs_of_each (λ pair. (chosen_table either).tree_at pair.0 ≡ Some pair.1) pairs (λ pair h. at_pair pair h (is_empty_or_is_filled pair.0))),
   )

@@ -35,23 +35,23 @@ module _ {X : Type 0} (p : X → Bool) where
         | false ↦ λ l. ap (λ ys. x ∷ ys) (none_passes xs (omega (arith, l)))
       ] high
 
-named_once : (name : List ℕ) (es : List EntryView) → EachLater (λ x y. x.name ≢ y.name) es → PassOnce (λ e. same_name e.name name) es
-named_once name [] apart = tt
-named_once name (e ∷ es) apart = (
+pass_once_of_names_differ : (name : List ℕ) (es : List EntryView) → EachLater (λ x y. x.name ≢ y.name) es → PassOnce (λ e. same_name e.name name) es
+pass_once_of_names_differ name [] apart = tt
+pass_once_of_names_differ name (e ∷ es) apart = (
   all_weaker (λ y. e.name ≢ y.name) (λ y. same_name e.name name ≡ true → same_name y.name name ≡ false)
       (λ y other same. false_from_ne_true (same_name y.name name)
       (λ too. other ((bytes_decides e.name name).0 same ∙ sym ((bytes_decides y.name name).0 too))))
       es apart.0,
-  named_once name es apart.1,
+  pass_once_of_names_differ name es apart.1,
 )
 
-chosen : (b : Bool) (k i : ℕ) → cond b (Some k) None ≡ Some i → (b ≡ true) × (k ≡ i)
-chosen true k i e = (refl, cc)
-chosen false k i e = absurd (cc)
+true_of_cond_some : (b : Bool) (k i : ℕ) → cond b (Some k) None ≡ Some i → (b ≡ true) × (k ≡ i)
+true_of_cond_some true k i e = (refl, cc)
+true_of_cond_some false k i e = absurd (cc)
 
-unchosen : (b : Bool) (k : ℕ) → cond b (Some k) None ≡ None → b ≡ false
-unchosen true k e = absurd (cc)
-unchosen false k e = refl
+false_of_cond_none : (b : Bool) (k : ℕ) → cond b (Some k) None ≡ None → b ≡ false
+false_of_cond_none true k e = absurd (cc)
+false_of_cond_none false k e = refl
 
 -- the removal of the entry at the name's position leaves the entries of other names
 pub remove_eq_without : (name : List ℕ) (es : List EntryView) (i : ℕ) → Some i ≡ position (λ e. same_name e.name name) es
@@ -59,11 +59,11 @@ pub remove_eq_without : (name : List ℕ) (es : List EntryView) (i : ℕ) → So
     → remove es i ≡ without name es
 remove_eq_without name es i e apart =
     let place : ℕ = position_or_len (λ e. same_name e.name name) es in
-    let at = chosen (nat_lt place (length es)) place i (sym e) in
-    rw (sym at.1) (first_removed (λ e. same_name e.name name) es (named_once name es apart) (ltb-true _ _ at.0))
+    let at = true_of_cond_some (nat_lt place (length es)) place i (sym e) in
+    rw (sym at.1) (first_removed (λ e. same_name e.name name) es (pass_once_of_names_differ name es apart) (ltb-true _ _ at.0))
 
 -- if no entry has the name, all entries are of other names
 pub without_absent_name : (name : List ℕ) (es : List EntryView) → None ≡ position (λ e. same_name e.name name) es → without name es ≡ es
 without_absent_name name es e =
     let place : ℕ = position_or_len (λ e. same_name e.name name) es in
-    none_passes (λ e. same_name e.name name) es (ltb-false _ _ (unchosen (nat_lt place (length es)) place (sym e)))
+    none_passes (λ e. same_name e.name name) es (ltb-false _ _ (false_of_cond_none (nat_lt place (length es)) place (sym e)))

@@ -90,28 +90,28 @@ opens_keeps_files T trees agrees path dirs new looked_up (found name rest d inne
     ))
 
 -- after an opening an entry may be upserted at a name after the path
-ready_more : (name : List ℕ) (q : Path) (dirs : Dirs) → (((e : EntryView) → HasAt (dirs []) e → e.name ≡ name → is_tree_mode e.mode ≡ false)
+is_ready_cons_unopened : (name : List ℕ) (q : Path) (dirs : Dirs) → (((e : EntryView) → HasAt (dirs []) e → e.name ≡ name → is_tree_mode e.mode ≡ false)
     × ((path : Path) → dirs (name ∷ path) ≡ None)) → IsReady (name ∷ q) dirs
-ready_more name [] dirs unopened = tt
-ready_more name (next ∷ rest) dirs unopened = inl unopened
+is_ready_cons_unopened name [] dirs unopened = tt
+is_ready_cons_unopened name (next ∷ rest) dirs unopened = inl unopened
 
-ready_down : (name : List ℕ) (q : Path) (dirs : Dirs) → ((e : EntryView) × HasAt (dirs []) e × (e.name ≡ name))
+is_ready_cons_open : (name : List ℕ) (q : Path) (dirs : Dirs) → ((e : EntryView) × HasAt (dirs []) e × (e.name ≡ name))
     → ((es : List EntryView) × (dirs (name ∷ []) ≡ Some es)) → IsReady q (in_dir name dirs) → IsReady (name ∷ q) dirs
-ready_down name [] dirs entry is ready = tt
-ready_down name (next ∷ rest) dirs entry is ready = inr (entry, is, ready)
+is_ready_cons_open name [] dirs entry is ready = tt
+is_ready_cons_open name (next ∷ rest) dirs entry is ready = inr (entry, is, ready)
 
 pub opens_makes_ready : (trees : Trees) (path : Path) (last : List ℕ) (dirs new : Dirs) (looked_up : List ObjectId)
     → Opens IsNoTree trees path dirs new looked_up
     → IsReady (path ++ last ∷ []) new
 opens_makes_ready trees path last dirs new looked_up (arrived d) = tt
-opens_makes_ready trees path last dirs new looked_up (stops name rest d other none) = ready_more name (rest ++ last ∷ []) d (other, none)
+opens_makes_ready trees path last dirs new looked_up (stops name rest d other none) = is_ready_cons_unopened name (rest ++ last ∷ []) d (other, none)
 opens_makes_ready trees path last dirs new looked_up (down name rest d inner e entries more has named is opens) =
     let inside = with_dir_in_dir name inner d in
-    ready_down name (rest ++ last ∷ []) (with_dir name inner d) (e, has, named)
+    is_ready_cons_open name (rest ++ last ∷ []) (with_dir name inner d) (e, has, named)
     (entries, ap (λ (x : Dirs). x []) inside ∙ opens_keeps_root trees rest (in_dir name d) inner more opens ∙ is)
     (subst (IsReady (rest ++ last ∷ [])) (sym inside) (opens_makes_ready trees rest last (in_dir name d) inner more opens))
 opens_makes_ready trees path last dirs new looked_up (found name rest d inner e entries first more entry tree free none finds opens) =
     let inside = with_dir_in_dir name inner d in
-    ready_down name (rest ++ last ∷ []) (with_dir name inner d) (e, entry.0, entry.1)
+    is_ready_cons_open name (rest ++ last ∷ []) (with_dir name inner d) (e, entry.0, entry.1)
     (entries, ap (λ (x : Dirs). x []) inside ∙ opens_keeps_root trees rest (only_open entries) inner more opens)
     (subst (IsReady (rest ++ last ∷ [])) (sym inside) (opens_makes_ready trees rest last (only_open entries) inner more opens))

@@ -14,31 +14,31 @@ use Rattle.gixobj_files.proofs.KeyOrder.{comes_before_of_true}
 use Rattle.gixobj_files.proofs.Sublists.{all_kept, all_weaker, later_kept}
 use Rattle.gixobj_tree.proofs.WellFormed.{comes_before_trans}
 
-none_before : (x e : EntryView) (es : List EntryView) → comes_before e x ≡ false → AllByRecursion (ComesBefore e) es
+filters_of_none_before : (x e : EntryView) (es : List EntryView) → comes_before e x ≡ false → AllByRecursion (ComesBefore e) es
     → (filter (λ y. comes_before y x) es ≡ []) × (filter (λ y. not (comes_before y x)) es ≡ es)
-none_before x e [] fails above = (refl, refl)
-none_before x e (y ∷ ys) fails above =
+filters_of_none_before x e [] fails above = (refl, refl)
+filters_of_none_before x e (y ∷ ys) fails above =
     let also : comes_before y x ≡ false =
     false_from_ne_true (comes_before y x) (λ passes. true≢false (sym (ap is_lt (comes_before_trans e y x above.0 (comes_before_of_true y x passes))) ∙ fails))
     in
-    let rest = none_before x e ys fails above.1 in
+    let rest = filters_of_none_before x e ys fails above.1 in
     (rw also rest.0, rw also (ap (λ l. y ∷ l) rest.1))
 
 -- in ascending order the entries that come before an entry are the first ones
-parted : (x : EntryView) (es : List EntryView) → EachLater ComesBefore es
+insert_eq_filter_append : (x : EntryView) (es : List EntryView) → EachLater ComesBefore es
     → insert es (prefix_len (λ y. comes_before y x) es) x ≡ filter (λ y. comes_before y x) es ++ x ∷ filter (λ y. not (comes_before y x)) es
-parted x [] up = refl
-parted x (e ∷ es) up =
+insert_eq_filter_append x [] up = refl
+insert_eq_filter_append x (e ∷ es) up =
     elim (comes_before e x) as (λ b. comes_before e x ≡ b → insert (e ∷ es) (cond b (1 + prefix_len (λ y. comes_before y x) es) 0) x
     ≡ cond b (e ∷ filter (λ y. comes_before y x) es) (filter (λ y. comes_before y x) es) ++ x ∷ cond (not b) (e ∷ filter (λ y. not (comes_before y x)) es)
     (filter (λ y. not (comes_before y x)) es)) [
-      | true ↦ λ passes. rw one-add (ap (λ l. e ∷ l) (parted x es up.1))
-      | false ↦ λ fails. let rest = none_before x e es fails up.0 in rw (rest.0, rest.1) refl
+      | true ↦ λ passes. rw one-add (ap (λ l. e ∷ l) (insert_eq_filter_append x es up.1))
+      | false ↦ λ fails. let rest = filters_of_none_before x e es fails up.0 in rw (rest.0, rest.1) refl
     ] refl
 
 pub insert_eq_with_entry : (x : EntryView) (old es l : List EntryView) (place : ℕ) → EachLater ComesBefore old → es ≡ without x.name old → l ≡ es
     → place ≡ prefix_len (λ y. comes_before y x) l → insert es place x ≡ with_entry x old
-insert_eq_with_entry x old es l place up p q r = rw (r, q, p) (parted x (without x.name old)
+insert_eq_with_entry x old es l place up p q r = rw (r, q, p) (insert_eq_filter_append x (without x.name old)
     (later_kept ComesBefore (λ e. not (same_name e.name x.name)) old up))
 
 pub prefix_len_le : {X : Type 0} (p : X → Bool) (xs : List X) → prefix_len p xs ≤ length xs

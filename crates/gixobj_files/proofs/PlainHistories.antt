@@ -15,9 +15,9 @@ use Rattle.gixobj_files.proofs.OpenedFiles.{no_open_files_of_no_entries}
 abbrev pub IsUpTo : ℕ → FileSet → FileSet → Type 0
 IsUpTo n A B = (path : Path) (mode : ℕ) (id : ObjectId) → A path mode id ↔ ((length path ≤ n) × B path mode id)
 
-joined_none : (p : Path) → p ++ [] ≡ p
-joined_none [] = refl
-joined_none (name ∷ p) = ap (λ (l : Path). name ∷ l) (joined_none p)
+append_nil : (p : Path) → p ++ [] ≡ p
+append_nil [] = refl
+append_nil (name ∷ p) = ap (λ (l : Path). name ∷ l) (append_nil p)
 
 module _ (T : Table) where
   -- the files of an entry that isn't of tree mode: the entry itself, unless its id is null
@@ -32,12 +32,12 @@ module _ (T : Table) where
   placed_file n p m named other path mode id = (
     (λ h.
         let it = (below_file (Files T (n - length p)) m named other h.1 mode id).0 h.3 in
-        let is : path ≡ p = h.2 ∙ ap (λ (l : Path). p ++ l) it.1.0 ∙ joined_none p in
+        let is : path ≡ p = h.2 ∙ ap (λ (l : Path). p ++ l) it.1.0 ∙ append_nil p in
         (subst (λ (l : Path). length l ≤ n) (sym is) h.0, it.0, is, it.1.1, it.1.2)),
     λ h. (
       subst (λ (l : Path). length l ≤ n) h.2 h.0,
       [],
-      h.2 ∙ sym (joined_none p),
+      h.2 ∙ sym (append_nil p),
       (below_file (Files T (n - length p)) m named other [] mode id).1
           (h.1, (refl, h.3, h.4)),
     ),

@@ -12,10 +12,10 @@ use Rattle.gixobj_files.proofs.UpsertedFiles.{upserted_dirs_in_dir, upserted_dir
 use Rattle.gixobj_files.proofs.ReachedDirectories.{entry_at_in_dir}
 
 -- an upsert below a name is one in the directories of that name
-upserted_below : (first : List ℕ) (rest : Path) (name : List ℕ) (path : Path) (mode : ℕ) (id null : ObjectId) (dirs : Dirs)
+upserted_dirs_in_first_dir : (first : List ℕ) (rest : Path) (name : List ℕ) (path : Path) (mode : ℕ) (id null : ObjectId) (dirs : Dirs)
     → in_dir first (upserted_dirs (first ∷ (rest ++ name ∷ path)) mode id null dirs) ≡ upserted_dirs (rest ++ name ∷ path) mode id null (in_dir first dirs)
-upserted_below first [] name path mode id null dirs = upserted_dirs_in_dir first name path mode id null dirs
-upserted_below first (next ∷ rest) name path mode id null dirs = upserted_dirs_in_dir first next (rest ++ name ∷ path) mode id null dirs
+upserted_dirs_in_first_dir first [] name path mode id null dirs = upserted_dirs_in_dir first name path mode id null dirs
+upserted_dirs_in_first_dir first (next ∷ rest) name path mode id null dirs = upserted_dirs_in_dir first next (rest ++ name ∷ path) mode id null dirs
 
 -- an upsert below a directory leaves the directory open
 pub upserted_dirs_keep_prefix : (prefix : Path) (name : List ℕ) (path : Path) (mode : ℕ) (id null : ObjectId) (dirs : Dirs)
@@ -25,20 +25,21 @@ upserted_dirs_keep_prefix [] name path mode id null dirs = λ none. let root = u
     sym root.1 ∙ none in cc bad
 upserted_dirs_keep_prefix (first ∷ rest) name path mode id null dirs =
     λ none. upserted_dirs_keep_prefix rest name path mode id null (in_dir first dirs)
-    (sym (ap (λ (d : Dirs). d rest) (upserted_below first rest name path mode id null dirs)) ∙ none)
+    (sym (ap (λ (d : Dirs). d rest) (upserted_dirs_in_first_dir first rest name path mode id null dirs)) ∙ none)
 
 -- a removal below a name is one in the directories of that name
-removed_below : (first : List ℕ) (rest : Path) (name : List ℕ) (path : Path) (dirs : Dirs)
+removed_dirs_in_first_dir : (first : List ℕ) (rest : Path) (name : List ℕ) (path : Path) (dirs : Dirs)
     → in_dir first (removed_dirs (first ∷ (rest ++ name ∷ path)) dirs) ≡ removed_dirs (rest ++ name ∷ path) (in_dir first dirs)
-removed_below first [] name path dirs = removed_dirs_in_dir first name path dirs
-removed_below first (next ∷ rest) name path dirs = removed_dirs_in_dir first next (rest ++ name ∷ path) dirs
+removed_dirs_in_first_dir first [] name path dirs = removed_dirs_in_dir first name path dirs
+removed_dirs_in_first_dir first (next ∷ rest) name path dirs = removed_dirs_in_dir first next (rest ++ name ∷ path) dirs
 
 -- a removal below an open directory leaves the directory open
 pub removed_dirs_keep_prefix : (prefix : Path) (name : List ℕ) (path : Path) (dirs : Dirs) → dirs prefix ≢ None
     → removed_dirs (prefix ++ name ∷ path) dirs prefix ≢ None
 removed_dirs_keep_prefix [] name path dirs there = removed_dirs_keep_root (name ∷ path) dirs there
 removed_dirs_keep_prefix (first ∷ rest) name path dirs there =
-    λ none. removed_dirs_keep_prefix rest name path (in_dir first dirs) there (sym (ap (λ (d : Dirs). d rest) (removed_below first rest name path dirs)) ∙ none)
+    λ none. removed_dirs_keep_prefix rest name path (in_dir first dirs) there
+    (sym (ap (λ (d : Dirs). d rest) (removed_dirs_in_first_dir first rest name path dirs)) ∙ none)
 
 -- an ensured directory is open
 pub ensured_dirs_open_path : (path : Path) (null : ObjectId) (dirs : Dirs) → ensured_dirs path null dirs path ≢ None

@@ -14,16 +14,16 @@ use Rattle.gixobj_files.proofs.RemovedFiles.{IsBare, IsReached}
 use Rattle.gixobj_files.proofs.UnopenedCounts.{IsIdle, has_at_of_entry_at, found_below, first_entry_of_has_at, known_nowhere, known_open}
 
 -- if no directory is open there is no entry
-entry_nowhere : (path : Path) (dirs : Dirs) → ((at : Path) → dirs at ≡ None) → entry_at path dirs ≡ None
-entry_nowhere [] dirs none = refl
-entry_nowhere (name ∷ []) dirs none = ap (first_entry_of name) (none [])
-entry_nowhere (name ∷ next ∷ rest) dirs none = entry_nowhere (next ∷ rest) (in_dir name dirs) (λ at. none (name ∷ at))
+entry_at_of_unopened : (path : Path) (dirs : Dirs) → ((at : Path) → dirs at ≡ None) → entry_at path dirs ≡ None
+entry_at_of_unopened [] dirs none = refl
+entry_at_of_unopened (name ∷ []) dirs none = ap (first_entry_of name) (none [])
+entry_at_of_unopened (name ∷ next ∷ rest) dirs none = entry_at_of_unopened (next ∷ rest) (in_dir name dirs) (λ at. none (name ∷ at))
 
 -- there is no entry below a name that isn't open
-entry_below : (name : List ℕ) (rest : Path) (last : List ℕ) (following : Path) (dirs : Dirs) → ((path : Path) → dirs (name ∷ path) ≡ None)
+entry_at_below_unopened : (name : List ℕ) (rest : Path) (last : List ℕ) (following : Path) (dirs : Dirs) → ((path : Path) → dirs (name ∷ path) ≡ None)
     → entry_at (name ∷ (rest ++ last ∷ following)) dirs ≡ None
-entry_below name [] last following dirs none = entry_nowhere (last ∷ following) (in_dir name dirs) none
-entry_below name (next ∷ rest) last following dirs none = entry_nowhere (next ∷ (rest ++ last ∷ following)) (in_dir name dirs) none
+entry_at_below_unopened name [] last following dirs none = entry_at_of_unopened (last ∷ following) (in_dir name dirs) none
+entry_at_below_unopened name (next ∷ rest) last following dirs none = entry_at_of_unopened (next ∷ (rest ++ last ∷ following)) (in_dir name dirs) none
 
 pub entry_at_in_dir : (name : List ℕ) (rest : Path) (last : List ℕ) (following : Path) (dirs : Dirs)
     → entry_at (name ∷ (rest ++ last ∷ following)) dirs ≡ entry_at
@@ -32,9 +32,9 @@ entry_at_in_dir name [] last following dirs = refl
 entry_at_in_dir name (next ∷ rest) last following dirs = refl
 
 -- a path has a name after each of its directories
-a_name : (rest : Path) (last : List ℕ) (following : Path) → (next : List ℕ) × (more : Path) × (rest ++ last ∷ following ≡ next ∷ more)
-a_name [] last following = (last, following, refl)
-a_name (next ∷ rest) last following = (next, rest ++ last ∷ following, refl)
+append_cons_head_exists : (rest : Path) (last : List ℕ) (following : Path) → (next : List ℕ) × (more : Path) × (rest ++ last ∷ following ≡ next ∷ more)
+append_cons_head_exists [] last following = (last, following, refl)
+append_cons_head_exists (next ∷ rest) last following = (next, rest ++ last ∷ following, refl)
 
 module _ {StopsBefore : EntryView → Type 0} (idle : IsIdle StopsBefore) (trees : Trees) where
   -- the entry in the last directory that was opened is the one that a lookup finds
@@ -42,18 +42,18 @@ module _ {StopsBefore : EntryView → Type 0} (idle : IsIdle StopsBefore) (trees
       → entry_at (path ++ last ∷ []) new ≡ looked_up_entry trees (path ++ last ∷ []) dirs
   known_after path last dirs new looked_up (arrived d) = refl
   known_after path last dirs new looked_up (stops name rest d other none) =
-      let remaining = a_name rest last [] in
-      entry_below name rest last [] d none
+      let remaining = append_cons_head_exists rest last [] in
+      entry_at_below_unopened name rest last [] d none
       ∙ sym (subst (λ q. looked_up_entry trees (name ∷ q) d ≡ None) (sym remaining.2)
       (known_nowhere trees name remaining.0 remaining.1 d (λ e h n. idle e (other e h n)) none))
   known_after path last dirs new looked_up (down name rest d inner e entries more has named is opens) =
-      let remaining = a_name rest last [] in
+      let remaining = append_cons_head_exists rest last [] in
       entry_at_in_dir name rest last [] (with_dir name inner d) ∙ ap (entry_at (rest ++ last ∷ [])) (with_dir_in_dir name inner d) ∙ known_after rest last
       (in_dir name d) inner more opens
       ∙ subst (λ q. looked_up_entry trees q (in_dir name d) ≡ looked_up_entry trees (name ∷ q) d) (sym remaining.2)
       (sym (known_open trees name remaining.0 remaining.1 d entries is))
   known_after path last dirs new looked_up (found name rest d inner e entries first more entry tree free none finds opens) =
-      let remaining = a_name rest last [] in
+      let remaining = append_cons_head_exists rest last [] in
       entry_at_in_dir name rest last [] (with_dir name inner d) ∙ ap (entry_at (rest ++ last ∷ [])) (with_dir_in_dir name inner d) ∙ known_after rest last
       (only_open entries) inner more opens
       ∙ subst (λ q. looked_up_entry trees q (only_open entries) ≡ looked_up_entry trees (name ∷ q) d) (sym remaining.2)

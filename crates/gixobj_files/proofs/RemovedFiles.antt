@@ -38,12 +38,12 @@ IsReached T (name ∷ next ∷ rest) dirs =
     (((e : EntryView) → HasAt (dirs []) e → e.name ≡ name → IsBare T e) × ((path : Path) → dirs (name ∷ path) ≡ None))
     ⊎ (((es : List EntryView) × (dirs (name ∷ []) ≡ Some es)) × IsReached T (next ∷ rest) (in_dir name dirs))
 
-bare_below : (T : Table) (k : ℕ) (e : EntryView) → IsBare T e → (path : Path) (mode : ℕ) (id : ObjectId)
+path_nil_below_bare : (T : Table) (k : ℕ) (e : EntryView) → IsBare T e → (path : Path) (mode : ℕ) (id : ObjectId)
     → Below T (Files T k) e.mode e.id path mode id
     → path ≡ []
-bare_below T k e (inl other) path mode id h = path_nil_below_file T (Files T k) e.mode e.id other path mode id h
-bare_below T k e (inr (inl null)) path mode id h = absurd (true≢false (sym null ∙ h.0))
-bare_below T k e (inr (inr empty)) path mode id h =
+path_nil_below_bare T k e (inl other) path mode id h = path_nil_below_file T (Files T k) e.mode e.id other path mode id h
+path_nil_below_bare T k e (inr (inl null)) path mode id h = absurd (true≢false (sym null ∙ h.0))
+path_nil_below_bare T k e (inr (inr empty)) path mode id h =
     (subst (λ (o : Option (List EntryView)). MatchOption (cond (is_tree_mode e.mode) o None) ((path ≡ []) × (mode ≡ e.mode) × (id ≡ e.id))
     (λ es. Files T k es path mode id) → path ≡ []) (sym empty)
     (elim (is_tree_mode e.mode) as (λ b. MatchOption (cond b (Some []) None) ((path ≡ []) × (mode ≡ e.mode) × (id ≡ e.id))
@@ -70,11 +70,11 @@ removed_dirs_in_other_dir name first next rest dirs differ = ap (λ b path. cond
 pub removed_name_in_other_dir : (name first : List ℕ) (dirs : Dirs) → name ≢ first → in_dir first (removed_dirs (name ∷ []) dirs) ≡ in_dir first dirs
 removed_name_in_other_dir name first dirs differ = ap (λ b path. cond b None (dirs (first ∷ path))) (same_name_false name first differ)
 
-removed_root : (path : Path) (dirs : Dirs) (es : List EntryView) → dirs [] ≡ Some es → (remaining : List EntryView)
+removed_dirs_root_open : (path : Path) (dirs : Dirs) (es : List EntryView) → dirs [] ≡ Some es → (remaining : List EntryView)
     × (removed_dirs path dirs [] ≡ Some remaining)
-removed_root [] dirs es is = (es, is)
-removed_root (name ∷ []) dirs es is = (without name es, ap (option_map (without name)) is)
-removed_root (name ∷ next ∷ rest) dirs es is = (es, is)
+removed_dirs_root_open [] dirs es is = (es, is)
+removed_dirs_root_open (name ∷ []) dirs es is = (without name es, ap (option_map (without name)) is)
+removed_dirs_root_open (name ∷ next ∷ rest) dirs es is = (es, is)
 
 pub removed_dirs_files : (T : Table) (n : ℕ) (path : Path) (dirs : Dirs) → IsReached T path dirs → SameFiles (OpenFiles T n (removed_dirs path dirs))
     (Removed path (OpenFiles T n dirs))
@@ -111,13 +111,13 @@ removed_dirs_files T (suc k) (name ∷ next ∷ rest) dirs ready (first ∷ path
                   (λ h. let was = open_files_of_other_name T k new dirs name (λ e named_so has. has) still path mode id h in (
                     was,
                     λ b. let s = open_files_into_unopened T k dirs name (none []) path mode id was in
-                        let short : path ≡ [] = bare_below T k s.0 (unopened.0 s.0 s.1 s.2) path mode id s.3 in
+                        let short : path ≡ [] = path_nil_below_bare T k s.0 (unopened.0 s.0 s.1 s.2) path mode id s.3 in
                         absurd (longer next rest (subst (λ p. Begins (next ∷ rest) p) short (begins_of_cons name (next ∷ rest) path b))),
                   )),
                   λ h. open_files_of_other_name T k dirs new name (λ e named_so has. has) (sym still) path mode id h.0,
                 )
             | inr opened ↦
-                let root = removed_root (next ∷ rest) (in_dir name dirs) (opened.0.0) (opened.0.1) in
+                let root = removed_dirs_root_open (next ∷ rest) (in_dir name dirs) (opened.0.0) (opened.0.1) in
                 let is_open : new (name ∷ []) ≡ Some root.0 = ap (λ (d : Dirs). d []) inside ∙ root.1 in
                 let step = removed_dirs_files T k (next ∷ rest) (in_dir name dirs) opened.1 path mode id in (
                   (λ h. let l = step.0 (subst (λ (d : Dirs). OpenFiles T k d path mode id) inside

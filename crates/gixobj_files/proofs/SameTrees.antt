@@ -13,17 +13,19 @@ use Rattle.gixobj_tree.specs.Entries.{EntryView}
 use Rattle.gixobj_tree.specs.EntryOrder.{same_entry, same_tree}
 use Rattle.gixobj_tree.specs.EntryOrderLaws.{tree_equiv}
 
-same_id : (x y : ObjectId) → is_eq (id_cmp x y) ≡ true → x ≡ y
-same_id (Sha1 a) (Sha1 b) h = ap Sha1 ((bytes_decides a b).0 (texts_ties a b ∙ (and_parts _ _ (tied_then (slice_cmp nat_cmp a b) (nat_cmp 20 20) ∙ h)).0))
-same_id (Sha256 a) (Sha256 b) h = ap Sha256 ((bytes_decides a b).0 (texts_ties a b ∙ (and_parts _ _ (tied_then (slice_cmp nat_cmp a b) (nat_cmp 32 32) ∙ h)).0))
-same_id (Sha1 a) (Sha256 b) h = absurd (true≢false (sym (and_parts _ _ (tied_then (slice_cmp nat_cmp a b) (nat_cmp 20 32) ∙ h)).1))
-same_id (Sha256 a) (Sha1 b) h = absurd (true≢false (sym (and_parts _ _ (tied_then (slice_cmp nat_cmp a b) (nat_cmp 32 20) ∙ h)).1))
+id_eq_of_compare : (x y : ObjectId) → is_eq (id_cmp x y) ≡ true → x ≡ y
+id_eq_of_compare (Sha1 a) (Sha1 b) h = ap Sha1 ((bytes_decides a b).0 (texts_ties a b
+    ∙ (and_parts _ _ (tied_then (slice_cmp nat_cmp a b) (nat_cmp 20 20) ∙ h)).0))
+id_eq_of_compare (Sha256 a) (Sha256 b) h = ap Sha256 ((bytes_decides a b).0 (texts_ties a b
+    ∙ (and_parts _ _ (tied_then (slice_cmp nat_cmp a b) (nat_cmp 32 32) ∙ h)).0))
+id_eq_of_compare (Sha1 a) (Sha256 b) h = absurd (true≢false (sym (and_parts _ _ (tied_then (slice_cmp nat_cmp a b) (nat_cmp 20 32) ∙ h)).1))
+id_eq_of_compare (Sha256 a) (Sha1 b) h = absurd (true≢false (sym (and_parts _ _ (tied_then (slice_cmp nat_cmp a b) (nat_cmp 32 20) ∙ h)).1))
 
 pub same_entry_eq : (x y : EntryView) → same_entry x y ≡ true → x ≡ y
 same_entry_eq x y h =
     let mode = and_parts _ _ h in
     let rest = and_parts _ _ mode.1 in
-    entries_named_alike_eq x y (eqb-true x.mode y.mode mode.0) ((bytes_decides x.name y.name).0 rest.0) (same_id x.id y.id rest.1)
+    entries_named_alike_eq x y (eqb-true x.mode y.mode mode.0) ((bytes_decides x.name y.name).0 rest.0) (id_eq_of_compare x.id y.id rest.1)
 
 pub same_tree_eq : (xs ys : List EntryView) → same_tree xs ys ≡ true → xs ≡ ys
 same_tree_eq [] [] h = refl

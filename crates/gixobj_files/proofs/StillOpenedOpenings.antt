@@ -14,62 +14,63 @@ use Rattle.gixobj_files.specs.Opening.{Dirs, HasAt, IsOpened, in_dir}
 use Rattle.gixobj_files.proofs.OpeningFiles.{opens_keeps_root}
 use Rattle.gixobj_files.proofs.StillOpened.{AreAbove, AreFormed}
 
-formed_with_dir : (name : List ℕ) (inner dirs : Dirs) → AreFormed inner → AreFormed dirs → AreFormed (with_dir name inner dirs)
-formed_with_dir name inner dirs inside next_to [] es is = next_to [] es is
-formed_with_dir name inner dirs inside next_to (first ∷ at) es is =
+are_formed_with_dir : (name : List ℕ) (inner dirs : Dirs) → AreFormed inner → AreFormed dirs → AreFormed (with_dir name inner dirs)
+are_formed_with_dir name inner dirs inside next_to [] es is = next_to [] es is
+are_formed_with_dir name inner dirs inside next_to (first ∷ at) es is =
     elim (same_name name first) as (λ b. cond b (inner at) (dirs (first ∷ at)) ≡ Some es → IsWellFormed es)
     [ true ↦ λ k. inside at es k | false ↦ λ k. next_to (first ∷ at) es k ] is
 
-above_with_dir : (name : List ℕ) (inner dirs : Dirs) → AreAbove inner → AreAbove dirs
+are_above_with_dir : (name : List ℕ) (inner dirs : Dirs) → AreAbove inner → AreAbove dirs
     → ((e : EntryView) × HasAt (dirs []) e × (e.name ≡ name) × IsTrue (is_tree_mode e.mode)) → AreAbove (with_dir name inner dirs)
-above_with_dir name inner dirs inside next_to entry [] other es is =
+are_above_with_dir name inner dirs inside next_to entry [] other es is =
     elim (same_name name other) as (λ b. same_name name other ≡ b → cond b (inner []) (dirs (other ∷ [])) ≡ Some es → (e : EntryView) × HasAt (dirs []) e
     × (e.name ≡ other) × IsTrue (is_tree_mode e.mode)) [
       | true ↦ λ called k. (entry.0, entry.1, entry.2 ∙ (bytes_decides name other).0 called, entry.3)
       | false ↦ λ called k. next_to [] other es k
     ] refl is
-above_with_dir name inner dirs inside next_to entry (first ∷ at) other es is =
+are_above_with_dir name inner dirs inside next_to entry (first ∷ at) other es is =
     elim (same_name name first) as (λ b. cond b (inner (at ++ other ∷ [])) (dirs (first ∷ (at ++ other ∷ []))) ≡ Some es → (e : EntryView)
     × HasAt (cond b (inner at) (dirs (first ∷ at))) e × (e.name ≡ other) × IsTrue (is_tree_mode e.mode)) [
       | true ↦ λ k. inside at other es k
       | false ↦ λ k. next_to (first ∷ at) other es k
     ] is
 
-formed_only : (entries : List EntryView) → IsWellFormed entries → AreFormed (only_open entries)
-formed_only entries formed [] es is = subst IsWellFormed (some_is is) formed
+are_formed_only_open : (entries : List EntryView) → IsWellFormed entries → AreFormed (only_open entries)
+are_formed_only_open entries formed [] es is = subst IsWellFormed (some_is is) formed
   where
     some_is : Some entries ≡ Some es → entries ≡ es
     some_is e = cc e
-formed_only entries formed (name ∷ path) es is = absurd (cc is)
+are_formed_only_open entries formed (name ∷ path) es is = absurd (cc is)
 
-above_only : (entries : List EntryView) → AreAbove (only_open entries)
-above_only entries [] name es is = absurd (cc is)
-above_only entries (first ∷ path) name es is = absurd (cc is)
+are_above_only_open : (entries : List EntryView) → AreAbove (only_open entries)
+are_above_only_open entries [] name es is = absurd (cc is)
+are_above_only_open entries (first ∷ path) name es is = absurd (cc is)
 
-formed_opening : {StopsBefore : EntryView → Type 0} (trees : Trees) (path : Path) (dirs new : Dirs) (looked_up : List ObjectId)
+are_formed_of_opens : {StopsBefore : EntryView → Type 0} (trees : Trees) (path : Path) (dirs new : Dirs) (looked_up : List ObjectId)
     → Opens StopsBefore trees path dirs new looked_up → AreFormed dirs → AreFormed new
-formed_opening trees path dirs new looked_up (arrived d) formed = formed
-formed_opening trees path dirs new looked_up (stops name rest d other none) formed = formed
-formed_opening trees path dirs new looked_up (down name rest d inner e entries more has named is opens) formed =
-    formed_with_dir name inner d (formed_opening trees rest (in_dir name d) inner more opens (λ q. formed (name ∷ q))) formed
-formed_opening trees path dirs new looked_up (found name rest d inner e entries first more entry tree free none finds opens) formed =
-    formed_with_dir name inner d (formed_opening trees rest (only_open entries) inner more opens (formed_only entries finds.0)) formed
+are_formed_of_opens trees path dirs new looked_up (arrived d) formed = formed
+are_formed_of_opens trees path dirs new looked_up (stops name rest d other none) formed = formed
+are_formed_of_opens trees path dirs new looked_up (down name rest d inner e entries more has named is opens) formed =
+    are_formed_with_dir name inner d (are_formed_of_opens trees rest (in_dir name d) inner more opens (λ q. formed (name ∷ q))) formed
+are_formed_of_opens trees path dirs new looked_up (found name rest d inner e entries first more entry tree free none finds opens) formed =
+    are_formed_with_dir name inner d (are_formed_of_opens trees rest (only_open entries) inner more opens (are_formed_only_open entries finds.0)) formed
 
-above_opening : {StopsBefore : EntryView → Type 0} (trees : Trees) (path : Path) (dirs new : Dirs) (looked_up : List ObjectId)
+are_above_of_opens : {StopsBefore : EntryView → Type 0} (trees : Trees) (path : Path) (dirs new : Dirs) (looked_up : List ObjectId)
     → Opens StopsBefore trees path dirs new looked_up → AreAbove dirs → AreAbove new
-above_opening trees path dirs new looked_up (arrived d) above = above
-above_opening trees path dirs new looked_up (stops name rest d other none) above = above
-above_opening trees path dirs new looked_up (down name rest d inner e entries more has named is opens) above =
-    above_with_dir name inner d (above_opening trees rest (in_dir name d) inner more opens (λ q. above (name ∷ q))) above (above [] name entries is)
-above_opening trees path dirs new looked_up (found name rest d inner e entries first more entry tree free none finds opens) above =
-    above_with_dir name inner d (above_opening trees rest (only_open entries) inner more opens (above_only entries)) above (e, entry.0, entry.1, tree)
+are_above_of_opens trees path dirs new looked_up (arrived d) above = above
+are_above_of_opens trees path dirs new looked_up (stops name rest d other none) above = above
+are_above_of_opens trees path dirs new looked_up (down name rest d inner e entries more has named is opens) above =
+    are_above_with_dir name inner d (are_above_of_opens trees rest (in_dir name d) inner more opens (λ q. above (name ∷ q))) above (above [] name entries is)
+are_above_of_opens trees path dirs new looked_up (found name rest d inner e entries first more entry tree free none finds opens) above =
+    are_above_with_dir name inner d (are_above_of_opens trees rest (only_open entries) inner more opens (are_above_only_open entries)) above
+    (e, entry.0, entry.1, tree)
 
 pub is_opened_of_opens : {StopsBefore : EntryView → Type 0} (trees : Trees) (path : Path) (dirs new : Dirs) (looked_up : List ObjectId)
     → Opens StopsBefore trees path dirs new looked_up → IsOpened dirs → IsOpened new
 is_opened_of_opens trees path dirs new looked_up opens opened = record {
   root = λ none. opened.root (sym (opens_keeps_root trees path dirs new looked_up opens) ∙ none);
-  well_formed = formed_opening trees path dirs new looked_up opens opened.well_formed;
-  above = above_opening trees path dirs new looked_up opens opened.above;
+  well_formed = are_formed_of_opens trees path dirs new looked_up opens opened.well_formed;
+  above = are_above_of_opens trees path dirs new looked_up opens opened.above;
 }
 
 -- the open directories in an open directory satisfy the invariant
@@ -81,14 +82,14 @@ is_opened_in_dir name dirs entries is all = record {
 }
 
 pub is_opened_of_only : (entries : List EntryView) → IsWellFormed entries → IsOpened (only_open entries)
-is_opened_of_only entries formed = record { root = λ none. cc none; well_formed = formed_only entries formed; above = above_only entries }
+is_opened_of_only entries formed = record { root = λ none. cc none; well_formed = are_formed_only_open entries formed; above = are_above_only_open entries }
 
 pub is_opened_with_dir : (name : List ℕ) (inner dirs : Dirs) → IsOpened inner → IsOpened dirs
     → ((e : EntryView) × HasAt (dirs []) e × (e.name ≡ name) × IsTrue (is_tree_mode e.mode)) → IsOpened (with_dir name inner dirs)
 is_opened_with_dir name inner dirs inside next_to entry = record {
   root = next_to.root;
-  well_formed = formed_with_dir name inner dirs inside.well_formed next_to.well_formed;
-  above = above_with_dir name inner dirs inside.above next_to.above entry;
+  well_formed = are_formed_with_dir name inner dirs inside.well_formed next_to.well_formed;
+  above = are_above_with_dir name inner dirs inside.above next_to.above entry;
 }
 
 -- an opening leaves each open directory unchanged

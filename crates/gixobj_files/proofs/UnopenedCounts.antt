@@ -20,50 +20,52 @@ use Rattle.gixobj_files.specs.Tables.{IsNeverLookedUp}
 use Rattle.gixobj_files.specs.Unopened.{is_empty_tree_id, needs_opening, needs_lookup, needs_tree_lookup, is_unopened, list_of, by_openness, strict_beginnings, looked_up_entry, entry_in_store, tree_of, unopened_count}
 
 -- the tests of an id agree with the definitions: an id is looked up unless it is null or the empty tree's
-empty_tree_id : (it : ObjectId) → is_empty_tree_id it ≡ true → it ≡ id_of (id_kind it) Tree []
-empty_tree_id (id.Sha1 bytes) is = ap id.Sha1 ((bytes_decides bytes (id_bytes (id_of hash.Sha1 Tree []))).0 is)
-empty_tree_id (id.Sha256 bytes) is = ap id.Sha256 ((bytes_decides bytes (id_bytes (id_of hash.Sha256 Tree []))).0 is)
+eq_of_is_empty_tree_id : (it : ObjectId) → is_empty_tree_id it ≡ true → it ≡ id_of (id_kind it) Tree []
+eq_of_is_empty_tree_id (id.Sha1 bytes) is = ap id.Sha1 ((bytes_decides bytes (id_bytes (id_of hash.Sha1 Tree []))).0 is)
+eq_of_is_empty_tree_id (id.Sha256 bytes) is = ap id.Sha256 ((bytes_decides bytes (id_bytes (id_of hash.Sha256 Tree []))).0 is)
 
 pub not_null_and_not_empty_of_lookup : (it : ObjectId) → (IsNeverLookedUp it → ⊥) → (is_null it ≡ false) × (is_empty_tree_id it ≡ false)
 not_null_and_not_empty_of_lookup it filled = (
   elim (is_null it) as (λ b. is_null it ≡ b → b ≡ false) [ true ↦ λ is. absurd (filled (inl is)) | false ↦ λ is. refl ] refl,
   elim (is_empty_tree_id it) as (λ b. is_empty_tree_id it ≡ b → b ≡ false)
-      [ true ↦ λ is. absurd (filled (inr (empty_tree_id it is))) | false ↦ λ is. refl ]
+      [ true ↦ λ is. absurd (filled (inr (eq_of_is_empty_tree_id it is))) | false ↦ λ is. refl ]
       refl,
 )
 
 pub lookup_needed : (it : ObjectId) → (IsNeverLookedUp it → ⊥) → needs_lookup it ≡ true
 lookup_needed it filled = let both = not_null_and_not_empty_of_lookup it filled in rw (both.0, both.1) refl
 
-not_either : (x y : Bool) → (x ≡ true) ⊎ (y ≡ true) → (not x && not y) ≡ false
-not_either true y h = refl
-not_either false true h = refl
-not_either false false (inl h) = absurd (cc h)
-not_either false false (inr h) = absurd (cc h)
+not_and_not_of_or : (x y : Bool) → (x ≡ true) ⊎ (y ≡ true) → (not x && not y) ≡ false
+not_and_not_of_or true y h = refl
+not_and_not_of_or false true h = refl
+not_and_not_of_or false false (inl h) = absurd (cc h)
+not_and_not_of_or false false (inr h) = absurd (cc h)
 
-is_empty_id : (it : ObjectId) → it ≡ id_of (id_kind it) Tree [] → is_empty_tree_id it ≡ true
-is_empty_id it is = (bytes_decides (id_bytes it) (id_bytes (id_of (id_kind it) Tree []))).1 (ap id_bytes is)
+is_empty_tree_id_of_eq : (it : ObjectId) → it ≡ id_of (id_kind it) Tree [] → is_empty_tree_id it ≡ true
+is_empty_tree_id_of_eq it is = (bytes_decides (id_bytes it) (id_bytes (id_of (id_kind it) Tree []))).1 (ap id_bytes is)
 
 pub needs_no_lookup : (it : ObjectId) → IsNeverLookedUp it → needs_lookup it ≡ false
-needs_no_lookup it (inl null) = not_either (is_null it) (is_empty_tree_id it) (inl null)
-needs_no_lookup it (inr is) = not_either (is_null it) (is_empty_tree_id it) (inr (is_empty_id it is))
+needs_no_lookup it (inl null) = not_and_not_of_or (is_null it) (is_empty_tree_id it) (inl null)
+needs_no_lookup it (inr is) = not_and_not_of_or (is_null it) (is_empty_tree_id it) (inr (is_empty_tree_id_of_eq it is))
 
 -- entries by name
-find_has : (name : List ℕ) (es : List EntryView) (e : EntryView) → find (λ x. same_name x.name name) es ≡ Some e → ContainsEntry es e × (e.name ≡ name)
-find_has name [] e is = absurd (cc is)
-find_has name (x ∷ xs) e is =
+contains_of_find_some : (name : List ℕ) (es : List EntryView) (e : EntryView) → find (λ x. same_name x.name name) es ≡ Some e
+    → ContainsEntry es e × (e.name ≡ name)
+contains_of_find_some name [] e is = absurd (cc is)
+contains_of_find_some name (x ∷ xs) e is =
     elim (same_name x.name name) as (λ b. same_name x.name name ≡ b → cond b (Some x) (find (λ y. same_name y.name name) xs) ≡ Some e → ContainsEntry (x ∷ xs) e
     × (e.name ≡ name)) [
       | true ↦ λ called k. let same : x ≡ e = cc k in (inl same, ap (λ (y : EntryView). y.name) (sym same) ∙ (bytes_decides x.name name).0 called)
-      | false ↦ λ other k. let rest = find_has name xs e k in (inr rest.0, rest.1)
+      | false ↦ λ other k. let rest = contains_of_find_some name xs e k in (inr rest.0, rest.1)
     ] refl is
 
-find_none : (name : List ℕ) (es : List EntryView) → find (λ x. same_name x.name name) es ≡ None → (e : EntryView) → ContainsEntry es e → e.name ≡ name → ⊥
-find_none name [] is e h named = h
-find_none name (x ∷ xs) is e h named =
+not_contains_of_find_none : (name : List ℕ) (es : List EntryView) → find (λ x. same_name x.name name) es ≡ None → (e : EntryView) → ContainsEntry es e
+    → e.name ≡ name → ⊥
+not_contains_of_find_none name [] is e h named = h
+not_contains_of_find_none name (x ∷ xs) is e h named =
     elim (same_name x.name name) as (λ b. same_name x.name name ≡ b → cond b (Some x) (find (λ y. same_name y.name name) xs) ≡ None → ⊥) [
       | true ↦ λ called k. cc k
-      | false ↦ λ other k. here h other (λ l. find_none name xs k e l named)
+      | false ↦ λ other k. here h other (λ l. not_contains_of_find_none name xs k e l named)
     ] refl is
   where
     here : ContainsEntry (x ∷ xs) e → same_name x.name name ≡ false → (ContainsEntry xs e → ⊥) → ⊥
@@ -73,11 +75,12 @@ find_none name (x ∷ xs) is e h named =
 
 pub has_at_of_entry_at : (name : List ℕ) (here : Option (List EntryView)) (e : EntryView) → first_entry_of name here ≡ Some e → HasAt here e × (e.name ≡ name)
 has_at_of_entry_at name None e is = absurd (cc is)
-has_at_of_entry_at name (Some es) e is = find_has name es e is
+has_at_of_entry_at name (Some es) e is = contains_of_find_some name es e is
 
-entry_none : (name : List ℕ) (here : Option (List EntryView)) → first_entry_of name here ≡ None → (e : EntryView) → HasAt here e → e.name ≡ name → ⊥
-entry_none name None is e h named = h
-entry_none name (Some es) is e h named = find_none name es is e h named
+no_entry_of_first_entry_none : (name : List ℕ) (here : Option (List EntryView)) → first_entry_of name here ≡ None → (e : EntryView) → HasAt here e
+    → e.name ≡ name → ⊥
+no_entry_of_first_entry_none name None is e h named = h
+no_entry_of_first_entry_none name (Some es) is e h named = not_contains_of_find_none name es is e h named
 
 pub option_none_or_some : (o : Option EntryView) → (o ≡ None) ⊎ ((e : EntryView) × (o ≡ Some e))
 option_none_or_some None = inl refl
@@ -87,72 +90,73 @@ pub first_entry_of_has_at : (name : List ℕ) (here : Option (List EntryView)) (
 first_entry_of_has_at name here e entry = by_cases (option_none_or_some (first_entry_of name here))
   where
     by_cases : (first_entry_of name here ≡ None) ⊎ ((x : EntryView) × (first_entry_of name here ≡ Some x)) → first_entry_of name here ≡ Some e
-    by_cases (inl none) = absurd (entry_none name here none e entry.0 entry.1)
+    by_cases (inl none) = absurd (no_entry_of_first_entry_none name here none e entry.0 entry.1)
     by_cases (inr some) = let has = has_at_of_entry_at name here some.0 some.1 in some.1 ∙ ap Some (entry.2 some.0 has.0 has.1)
 
 -- the number of parent directories of a path that pass a test
 abbrev passes : (Path → Bool) → Path → ℕ
 passes p path = length (filter p (strict_beginnings path))
 
-mapped : (p : Path → Bool) (name : List ℕ) (paths : List Path) → length (filter p (map (λ path. name ∷ path) paths)) ≡ length
+filter_map_cons_len : (p : Path → Bool) (name : List ℕ) (paths : List Path) → length (filter p (map (λ path. name ∷ path) paths)) ≡ length
     (filter (λ path. p (name ∷ path)) paths)
-mapped p name [] = refl
-mapped p name (path ∷ paths) =
+filter_map_cons_len p name [] = refl
+filter_map_cons_len p name (path ∷ paths) =
     elim (p (name ∷ path)) as (λ b. length (cond b ((name ∷ path) ∷ filter p (map (λ q. name ∷ q) paths)) (filter p (map (λ q. name ∷ q) paths)))
     ≡ length
     (cond b (path ∷ filter (λ q. p (name ∷ q)) paths) (filter (λ q. p (name ∷ q)) paths))) [
-      | true ↦ omega (arith, mapped p name paths)
-      | false ↦ mapped p name paths
+      | true ↦ omega (arith, filter_map_cons_len p name paths)
+      | false ↦ filter_map_cons_len p name paths
     ]
 
 abbrev one_if : Bool → ℕ
 one_if true = 1
 one_if false = 0
 
-passes_more : (p : Path → Bool) (name next : List ℕ) (rest : Path) → passes p (name ∷ next ∷ rest) ≡ one_if (p (name ∷ [])) + passes
+passes_cons_cons : (p : Path → Bool) (name next : List ℕ) (rest : Path) → passes p (name ∷ next ∷ rest) ≡ one_if (p (name ∷ [])) + passes
     (λ path. p (name ∷ path))
     (next ∷ rest)
-passes_more p name next rest =
+passes_cons_cons p name next rest =
     let others : List Path = map (λ path. name ∷ path) (strict_beginnings (next ∷ rest)) in
     elim (p (name ∷ [])) as (λ b. length (cond b ((name ∷ []) ∷ filter p others) (filter p others)) ≡ one_if b + passes (λ path. p (name ∷ path))
     (next ∷ rest)) [
-      | true ↦ omega (arith, mapped p name (strict_beginnings (next ∷ rest)))
-      | false ↦ omega (arith, mapped p name (strict_beginnings (next ∷ rest)))
+      | true ↦ omega (arith, filter_map_cons_len p name (strict_beginnings (next ∷ rest)))
+      | false ↦ omega (arith, filter_map_cons_len p name (strict_beginnings (next ∷ rest)))
     ]
 
-passes_deeper : (p : Path → Bool) (name : List ℕ) (rest : Path) (last : List ℕ) (after : Path) → passes p (name ∷ (rest ++ last ∷ after)) ≡ one_if
+passes_cons_append : (p : Path → Bool) (name : List ℕ) (rest : Path) (last : List ℕ) (after : Path) → passes p (name ∷ (rest ++ last ∷ after)) ≡ one_if
     (p (name ∷ [])) + passes (λ path. p (name ∷ path)) (rest ++ last ∷ after)
-passes_deeper p name [] last after = passes_more p name last after
-passes_deeper p name (next ∷ rest) last after = passes_more p name next (rest ++ last ∷ after)
+passes_cons_append p name [] last after = passes_cons_cons p name last after
+passes_cons_append p name (next ∷ rest) last after = passes_cons_cons p name next (rest ++ last ∷ after)
 
 -- tests that agree on all paths with names have equal counts
-same_passes : (p r : Path → Bool) → ((first : List ℕ) (path : Path) → p (first ∷ path) ≡ r (first ∷ path)) → (path : Path)
+passes_congruent : (p r : Path → Bool) → ((first : List ℕ) (path : Path) → p (first ∷ path) ≡ r (first ∷ path)) → (path : Path)
     → passes p path ≡ passes r path
-same_passes p r same [] = refl
-same_passes p r same (name ∷ []) = refl
-same_passes p r same (name ∷ next ∷ rest) =
-    passes_more p name next rest ∙ ap (λ b. one_if b + passes (λ path. p (name ∷ path)) (next ∷ rest)) (same name [])
-    ∙ ap (λ n. one_if (r (name ∷ [])) + n) (same_passes (λ path. p (name ∷ path)) (λ path. r (name ∷ path)) (λ first path. same name (first ∷ path))
+passes_congruent p r same [] = refl
+passes_congruent p r same (name ∷ []) = refl
+passes_congruent p r same (name ∷ next ∷ rest) =
+    passes_cons_cons p name next rest ∙ ap (λ b. one_if b + passes (λ path. p (name ∷ path)) (next ∷ rest)) (same name [])
+    ∙ ap (λ n. one_if (r (name ∷ [])) + n) (passes_congruent (λ path. p (name ∷ path)) (λ path. r (name ∷ path)) (λ first path. same name (first ∷ path))
     (next ∷ rest))
-    ∙ sym (passes_more r name next rest)
+    ∙ sym (passes_cons_cons r name next rest)
 
 abbrev never : Path → Bool
 never path = false
 
-never_passes : (path : Path) → passes never path ≡ 0
-never_passes [] = refl
-never_passes (name ∷ []) = refl
-never_passes (name ∷ next ∷ rest) = omega (arith, passes_more never name next rest, never_passes (next ∷ rest))
+passes_never_eq_zero : (path : Path) → passes never path ≡ 0
+passes_never_eq_zero [] = refl
+passes_never_eq_zero (name ∷ []) = refl
+passes_never_eq_zero (name ∷ next ∷ rest) = omega (arith, passes_cons_cons never name next rest, passes_never_eq_zero (next ∷ rest))
 
-no_passes : (p : Path → Bool) → ((first : List ℕ) (path : Path) → p (first ∷ path) ≡ false) → (path : Path) → passes p path ≡ 0
-no_passes p fails path = same_passes p never fails path ∙ never_passes path
+passes_zero_of_all_false : (p : Path → Bool) → ((first : List ℕ) (path : Path) → p (first ∷ path) ≡ false) → (path : Path) → passes p path ≡ 0
+passes_zero_of_all_false p fails path = passes_congruent p never fails path ∙ passes_never_eq_zero path
 
-passes_deeper_none : (p : Path → Bool) (name : List ℕ) (rest : Path) (last : List ℕ) (after : Path) → p (name ∷ []) ≡ false
+passes_cons_append_zero : (p : Path → Bool) (name : List ℕ) (rest : Path) (last : List ℕ) (after : Path) → p (name ∷ []) ≡ false
     → ((first : List ℕ) (path : Path) → p (name ∷ first ∷ path) ≡ false) → passes p (name ∷ (rest ++ last ∷ after)) ≡ 0
-passes_deeper_none p name rest last after here below =
+passes_cons_append_zero p name rest last after here below =
     let none : one_if (p (name ∷ [])) ≡ 0 = ap one_if here in
-    let nothing : passes (λ path. p (name ∷ path)) (rest ++ last ∷ after) ≡ 0 = no_passes (λ path. p (name ∷ path)) below (rest ++ last ∷ after) in
-    omega (arith, passes_deeper p name rest last after, none, nothing)
+    let nothing : passes (λ path. p (name ∷ path)) (rest ++ last ∷ after) ≡ 0 =
+    passes_zero_of_all_false (λ path. p (name ∷ path)) below (rest ++ last ∷ after) in
+    omega (arith, passes_cons_append p name rest last after, none, nothing)
 
 -- an opening ends at most before entries that aren't looked up
 abbrev pub IsIdle : (EntryView → Type 0) → Type 0
@@ -191,7 +195,7 @@ module _ (trees : Trees) where
     where
       is_empty : IsNeverLookedUp it → is_null it ≡ false → is_empty_tree_id it ≡ true
       is_empty (inl null) some = absurd (let bad : true ≡ false = sym null ∙ some in cc bad)
-      is_empty (inr is) some = is_empty_id it is
+      is_empty (inr is) some = is_empty_tree_id_of_eq it is
 
   -- a name without an entry that is looked up needs no lookup, and has no entry below it
   idle_entry : (name : List ℕ) (dirs : Dirs) → ((e : EntryView) → HasAt (dirs []) e → e.name ≡ name → IsNotLookedUp e)
@@ -293,9 +297,9 @@ module _ (trees : Trees) where
   count_open name rest last after dirs entries is =
       let here : one_if (is_unopened trees dirs (name ∷ [])) ≡ 0 =
       ap (λ o. one_if (needs_opening o && needs_tree_lookup (first_entry_of name (dirs [])))) is in
-      let below = same_passes (λ q. is_unopened trees dirs (name ∷ q)) (is_unopened trees (in_dir name dirs))
+      let below = passes_congruent (λ q. is_unopened trees dirs (name ∷ q)) (is_unopened trees (in_dir name dirs))
       (λ first q. unopened_open name first q dirs entries is) (rest ++ last ∷ after) in
-      omega (arith, passes_deeper (is_unopened trees dirs) name rest last after, here, below)
+      omega (arith, passes_cons_append (is_unopened trees dirs) name rest last after, here, below)
 
   pub count_found : (name : List ℕ) (rest : Path) (last : List ℕ) (after : Path) (dirs : Dirs) (e : EntryView) (entries : List EntryView)
       (first : List ObjectId) → IsEntryOf name (dirs []) e → is_tree_mode e.mode ≡ true → ((path : Path) → dirs (name ∷ path) ≡ None)
@@ -305,9 +309,9 @@ module _ (trees : Trees) where
   count_found name rest last after dirs e entries first entry tree none finds =
       let here : one_if (is_unopened trees dirs (name ∷ [])) ≡ length first = ap one_if (unopened_here name dirs e entry tree (none []))
       ∙ sym (first_requested e.id entries first finds) in
-      let below = same_passes (λ q. is_unopened trees dirs (name ∷ q)) (is_unopened trees (only_open entries))
+      let below = passes_congruent (λ q. is_unopened trees dirs (name ∷ q)) (is_unopened trees (only_open entries))
       (λ next q. unopened_found name next q dirs e entries first entry tree none finds) (rest ++ last ∷ after) in
-      omega (arith, passes_deeper (is_unopened trees dirs) name rest last after, here, below)
+      omega (arith, passes_cons_append (is_unopened trees dirs) name rest last after, here, below)
 
   pub count_vain : (name : List ℕ) (rest : Path) (last : List ℕ) (after : Path) (dirs : Dirs) (e : EntryView) → IsEntryOf name (dirs []) e
       → is_tree_mode e.mode ≡ true → dirs (name ∷ []) ≡ None → (IsNeverLookedUp e.id → ⊥)
@@ -315,13 +319,13 @@ module _ (trees : Trees) where
   count_vain name rest last after dirs e entry tree none filled =
       let here : one_if (is_unopened trees dirs (name ∷ [])) ≡ 1 =
       ap one_if (unopened_here name dirs e entry tree none ∙ lookup_needed e.id filled) in
-      omega (arith, passes_deeper (is_unopened trees dirs) name rest last after, here)
+      omega (arith, passes_cons_append (is_unopened trees dirs) name rest last after, here)
 
   pub requested_count : {StopsBefore : EntryView → Type 0} → IsIdle StopsBefore → (path : Path) (last : List ℕ) (dirs new : Dirs) (looked_up : List ObjectId)
       → Opens StopsBefore trees path dirs new looked_up → length looked_up ≡ unopened_count trees dirs (path ++ last ∷ [])
   requested_count idle path last dirs new looked_up (arrived d) = refl
   requested_count idle path last dirs new looked_up (stops name rest d other none) =
-      sym (passes_deeper_none (is_unopened trees d) name rest last [] (unopened_nowhere name [] d (λ e h n. idle e (other e h n)) none)
+      sym (passes_cons_append_zero (is_unopened trees d) name rest last [] (unopened_nowhere name [] d (λ e h n. idle e (other e h n)) none)
       (λ first q. unopened_nowhere name (first ∷ q) d (λ e h n. idle e (other e h n)) none))
   requested_count idle path last dirs new looked_up (down name rest d inner e entries more has named is opens) =
       requested_count idle rest last (in_dir name d) inner more opens ∙ sym (count_open name rest last [] d entries is)

@@ -63,25 +63,25 @@ begins_cons_name name first p q b = head b.1
     head e = cc e
 
 -- the files of an inserted entry, with one name less
-less_deep : (k : ℕ) (name : List ℕ) (p : Path) → suc k - length (name ∷ p) ≡ k - length p
-less_deep k name p = omega arith
+suc_sub_len_cons : (k : ℕ) (name : List ℕ) (p : Path) → suc k - length (name ∷ p) ≡ k - length p
+suc_sub_len_cons k name p = omega arith
 
-placed_more : (T : Table) (k : ℕ) (name : List ℕ) (p : Path) (m : ℕ) (named : ObjectId) (path : Path) (mode : ℕ) (id : ObjectId)
+placed_file_cons : (T : Table) (k : ℕ) (name : List ℕ) (p : Path) (m : ℕ) (named : ObjectId) (path : Path) (mode : ℕ) (id : ObjectId)
     → PlacedFile T k p m named path mode id → PlacedFile T (suc k) (name ∷ p) m named (name ∷ path) mode id
-placed_more T k name p m named path mode id h =
-    (omega (arith, h.0), h.1, ap (λ r. name ∷ r) h.2, subst (λ j. Below T (Files T j) m named h.1 mode id) (sym (less_deep k name p)) h.3)
+placed_file_cons T k name p m named path mode id h =
+    (omega (arith, h.0), h.1, ap (λ r. name ∷ r) h.2, subst (λ j. Below T (Files T j) m named h.1 mode id) (sym (suc_sub_len_cons k name p)) h.3)
 
-placed_less : (T : Table) (k : ℕ) (name : List ℕ) (p : Path) (m : ℕ) (named : ObjectId) (path : Path) (mode : ℕ) (id : ObjectId)
+placed_file_of_cons : (T : Table) (k : ℕ) (name : List ℕ) (p : Path) (m : ℕ) (named : ObjectId) (path : Path) (mode : ℕ) (id : ObjectId)
     → PlacedFile T (suc k) (name ∷ p) m named (name ∷ path) mode id → PlacedFile T k p m named path mode id
-placed_less T k name p m named path mode id h =
-    (omega (arith, h.0), h.1, tail h.2, subst (λ j. Below T (Files T j) m named h.1 mode id) (less_deep k name p) h.3)
+placed_file_of_cons T k name p m named path mode id h =
+    (omega (arith, h.0), h.1, tail h.2, subst (λ j. Below T (Files T j) m named h.1 mode id) (suc_sub_len_cons k name p) h.3)
   where
     tail : name ∷ path ≡ name ∷ (p ++ h.1) → path ≡ p ++ h.1
     tail e = cc e
 
-placed_name : (T : Table) (k : ℕ) (name first : List ℕ) (p : Path) (m : ℕ) (named : ObjectId) (path : Path) (mode : ℕ) (id : ObjectId)
+placed_file_name_eq : (T : Table) (k : ℕ) (name first : List ℕ) (p : Path) (m : ℕ) (named : ObjectId) (path : Path) (mode : ℕ) (id : ObjectId)
     → PlacedFile T k (name ∷ p) m named (first ∷ path) mode id → first ≡ name
-placed_name T k name first p m named path mode id h = begins_cons_name name first p path (h.1, h.2)
+placed_file_name_eq T k name first p m named path mode id h = begins_cons_name name first p path (h.1, h.2)
 
 -- each parent directory of the path is open, as far as there are entries of tree mode
 abbrev pub IsReady : Path → Dirs → Type 0
@@ -92,10 +92,10 @@ IsReady (name ∷ next ∷ rest) dirs =
     ⊎ (((e : EntryView) × HasAt (dirs []) e × (e.name ≡ name)) × ((es : List EntryView) × (dirs (name ∷ []) ≡ Some es))
     × IsReady (next ∷ rest) (in_dir name dirs))
 
-ready_none : (path : Path) (dirs : Dirs) → ((at : Path) → dirs at ≡ None) → IsReady path dirs
-ready_none [] dirs none = tt
-ready_none (name ∷ []) dirs none = tt
-ready_none (name ∷ next ∷ rest) dirs none =
+is_ready_of_unopened : (path : Path) (dirs : Dirs) → ((at : Path) → dirs at ≡ None) → IsReady path dirs
+is_ready_of_unopened [] dirs none = tt
+is_ready_of_unopened (name ∷ []) dirs none = tt
+is_ready_of_unopened (name ∷ next ∷ rest) dirs none =
     inl ((λ e h named. absurd (subst (λ (o : Option (List EntryView)). HasAt o e) (none []) h)), λ path. none (name ∷ path))
 
 -- the directories in the first name of an edited path, and in another name
@@ -161,7 +161,7 @@ upserted_dirs_files T (suc k) (name ∷ []) m named null dirs ready (first ∷ p
         ⊎_elim (λ h. open_files_of_other_name T k dirs new first
             (λ e named_so has. has_with_entry_other x (or_empty (dirs [])) e (has_or_empty_of_has_at (dirs []) e has) (λ q. differ (sym q ∙ named_so)))
             (sym (inserted_name_in_other_dir name first m named null dirs differ)) path mode id h.0)
-            (λ h. absurd (differ (sym (placed_name T (suc k) name first [] m named path mode id h)))),
+            (λ h. absurd (differ (sym (placed_file_name_eq T (suc k) name first [] m named path mode id h)))),
       )
     ]
   where
@@ -187,14 +187,15 @@ upserted_dirs_files T (suc k) (name ∷ next ∷ rest) m named null dirs ready (
           elim ready [
             | inl unopened ↦
                 let none : (at : Path) → in_dir name dirs at ≡ None = unopened.1 in
-                let step = upserted_dirs_files T k (next ∷ rest) m named null (in_dir name dirs) (ready_none (next ∷ rest) (in_dir name dirs) none) path
+                let step = upserted_dirs_files T k (next ∷ rest) m named null (in_dir name dirs)
+                (is_ready_of_unopened (next ∷ rest) (in_dir name dirs) none) path
                 mode id in (
                   (λ h. ⊎_elim (λ l. absurd (no_open_files_of_none T k (in_dir name dirs) (none []) path mode id l.0))
-                      (λ r. inr (placed_more T k name (next ∷ rest) m named path mode id r)) (step.0 (into h))),
+                      (λ r. inr (placed_file_cons T k name (next ∷ rest) m named path mode id r)) (step.0 (into h))),
                   ⊎_elim (λ l. let s = open_files_into_unopened T k dirs name (none []) path mode id l.0 in
                       let short : path ≡ [] = path_nil_below_file T (Files T k) (s.0.mode) (s.0.id) (unopened.0 s.0 s.1 s.2) path mode id s.3 in
                       absurd (l.2 (next ∷ rest, subst (λ p. name ∷ next ∷ rest ≡ (name ∷ p) ++ next ∷ rest) (sym short) refl)))
-                      (λ r. back (step.1 (inr (placed_less T k name (next ∷ rest) m named path mode id r)))),
+                      (λ r. back (step.1 (inr (placed_file_of_cons T k name (next ∷ rest) m named path mode id r)))),
                 )
             | inr opened ↦
                 let step = upserted_dirs_files T k (next ∷ rest) m named null (in_dir name dirs) opened.2 path mode id in (
@@ -203,7 +204,7 @@ upserted_dirs_files T (suc k) (name ∷ next ∷ rest) m named null dirs ready (
                     (λ b. l.1 (begins_of_cons name (next ∷ rest) path b)),
                     λ b. l.2 (begins_of_cons name path (next ∷ rest) b),
                   ))
-                      (λ r. inr (placed_more T k name (next ∷ rest) m named path mode id r)) (step.0 (into h))),
+                      (λ r. inr (placed_file_cons T k name (next ∷ rest) m named path mode id r)) (step.0 (into h))),
                   ⊎_elim (λ l. back (step.1
                       (inl (
                         open_files_into_open T k dirs name (opened.1.0) (opened.1.1) path mode id l.0,
@@ -211,7 +212,7 @@ upserted_dirs_files T (suc k) (name ∷ next ∷ rest) m named null dirs ready (
                         λ b. l.2
                             (begins_cons name path (next ∷ rest) b),
                       ))))
-                      (λ r. back (step.1 (inr (placed_less T k name (next ∷ rest) m named path mode id r)))),
+                      (λ r. back (step.1 (inr (placed_file_of_cons T k name (next ∷ rest) m named path mode id r)))),
                 )
           ])
       | inr differ ↦ (
@@ -225,6 +226,6 @@ upserted_dirs_files T (suc k) (name ∷ next ∷ rest) m named null dirs ready (
         ⊎_elim (λ h. open_files_of_other_name T k dirs new first (λ e named_so has. has_with_directory name null (or_empty (dirs [])) e
             (λ q. differ (sym q ∙ named_so))
             (has_or_empty_of_has_at (dirs []) e has)) (sym (upserted_dirs_in_other_dir name first next rest m named null dirs differ)) path mode id h.0)
-            (λ h. absurd (differ (sym (placed_name T (suc k) name first (next ∷ rest) m named path mode id h)))),
+            (λ h. absurd (differ (sym (placed_file_name_eq T (suc k) name first (next ∷ rest) m named path mode id h)))),
       )
     ]

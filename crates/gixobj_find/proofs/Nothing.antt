@@ -12,17 +12,17 @@ use Rattle.gixobj_hash.specs.declared.hash.object_id.ObjectId.{ObjectId}
 use Rattle.gixobj_hash.specs.declared.kind.Kind.{Kind}
 use Rattle.gixobj_find.specs.Nothing.{AnswersId, AnswersKnownId}
 
-nothing : (id : ObjectId) → None ≡ named finite.empty id
-nothing id = sym (finite.get-empty id_cmp id)
+named_empty : (id : ObjectId) → None ≡ named finite.empty id
+named_empty id = sym (finite.get-empty id_cmp id)
 
 pub is_found_none_in_empty : (id : ObjectId) → IsFound finite.empty id None
-is_found_none_in_empty id = nothing id
+is_found_none_in_empty id = named_empty id
 
 pub is_header_found_none_in_empty : (id : ObjectId) → IsHeaderFound finite.empty id None
-is_header_found_none_in_empty id = ap (option_map header) (nothing id)
+is_header_found_none_in_empty id = ap (option_map header) (named_empty id)
 
 pub not_named_in_empty : (id : ObjectId) → false ≡ is_some (named finite.empty id)
-not_named_in_empty id = ap (λ (it : Option StoredObject). is_some it) (nothing id)
+not_named_in_empty id = ap (λ (it : Option StoredObject). is_some it) (named_empty id)
 
 -- the id of an object whose entire content is the stream
 pub answers_id_of_content : (kind : Kind) (content : List ℕ) → AnswersId kind (length content) (Some content) (Ok (id_of Sha1 kind content))

@@ -35,12 +35,12 @@ encode_lower_is_lower_hex (byte ∷ bytes) small =
 abbrev is_written : ℕ → Bool
 is_written byte = not (is_lower_hex_digit byte) || (slice_index lower_digits (unwrap_or (hex_digit_value byte) 0) == byte)
 
-lower_small : (byte : ℕ) → is_lower_hex_digit byte ≡ true → byte < 103
-lower_small byte lower = grind (arith, lower)
+lower_hex_digit_lt_103 : (byte : ℕ) → is_lower_hex_digit byte ≡ true → byte < 103
+lower_hex_digit_lt_103 byte lower = grind (arith, lower)
 
-digit_written : (byte value : ℕ) → is_lower_hex_digit byte ≡ true → hex_digit_value byte ≡ Some value → slice_index lower_digits value ≡ byte
-digit_written byte value lower reads =
-    let written = all_pass_at is_written 103 byte refl (lower_small byte lower) in
+lower_digit_of_hex_digit_value : (byte value : ℕ) → is_lower_hex_digit byte ≡ true → hex_digit_value byte ≡ Some value → slice_index lower_digits value ≡ byte
+lower_digit_of_hex_digit_value byte value lower reads =
+    let written = all_pass_at is_written 103 byte refl (lower_hex_digit_lt_103 byte lower) in
     let same = eqb-true (slice_index lower_digits (unwrap_or (hex_digit_value byte) 0)) byte (true_of_cond (is_lower_hex_digit byte) _ written lower) in
     ap (λ it. slice_index lower_digits (unwrap_or it 0)) (sym reads) ∙ same
 
@@ -65,8 +65,8 @@ encode_lower_of_decoded i (high ∷ low ∷ content) bytes lower ok =
     let all : pair.0 ∷ rest.0 ≡ bytes = cc rest.2 in
     let over : pair.0 / 16 ≡ first.0 = omega arith in
     let under : pair.0 % 16 ≡ second.0 = omega arith in
-    let one = ap (slice_index lower_digits) over ∙ digit_written high first.0 (All-head IsLower high (low ∷ content) lower) high_value in
-    let two = ap (slice_index lower_digits) under ∙ digit_written low second.0 (All-head IsLower low content lower_bytes) low_value in
+    let one = ap (slice_index lower_digits) over ∙ lower_digit_of_hex_digit_value high first.0 (All-head IsLower high (low ∷ content) lower) high_value in
+    let two = ap (slice_index lower_digits) under ∙ lower_digit_of_hex_digit_value low second.0 (All-head IsLower low content lower_bytes) low_value in
     let more = encode_lower_of_decoded (i + 2) content rest.0 (All-tail IsLower low content lower_bytes) rest.1 in
     rw (← all) (cc (one, two, more))
 
@@ -83,9 +83,9 @@ encode_id_hex_of_decoded content id lower spells =
     let read = decode_of-ok content (id_bytes id) spells.digits in
     encode_lower_of_decoded 0 content (id_bytes id) lower (sym (decode_of-even content read.0) ∙ spells.digits)
 
-id_hex_len : (content : List ℕ) (id : ObjectId) → length content ≡ 2 * hash_len (id_kind id) → (length content ≡ 40) ⊎ (length content ≡ 64)
-id_hex_len content (Sha1 bytes) len = inl len
-id_hex_len content (Sha256 bytes) len = inr len
+id_hex_len_is_40_or_64 : (content : List ℕ) (id : ObjectId) → length content ≡ 2 * hash_len (id_kind id) → (length content ≡ 40) ⊎ (length content ≡ 64)
+id_hex_len_is_40_or_64 content (Sha1 bytes) len = inl len
+id_hex_len_is_40_or_64 content (Sha256 bytes) len = inr len
 
 pub is_id_hex_of_decodes : (content : List ℕ) (id : ObjectId) → DecodesToId content id → IsIdHex content
-is_id_hex_of_decodes content id spells = (id_hex_len content id spells.len, (decode_of-ok content (id_bytes id) spells.digits).1)
+is_id_hex_of_decodes content id spells = (id_hex_len_is_40_or_64 content id spells.len, (decode_of-ok content (id_bytes id) spells.digits).1)

@@ -33,11 +33,11 @@ pub kind_keyword_injective : (a b : Kind) → kind_name a ≡ kind_name b → a 
 kind_keyword_injective a b same = sym (kind_of_name-kind_keyword a) ∙ ap kind_of_name same ∙ kind_of_name-kind_keyword b
 
 -- the name of a kind has no space
-keyword_free : (kind : Kind) → IsByteFree 32 (kind_name kind)
-keyword_free Tree = byte_free_of_all_pass 32 (kind_name Tree) refl
-keyword_free Blob = byte_free_of_all_pass 32 (kind_name Blob) refl
-keyword_free Commit = byte_free_of_all_pass 32 (kind_name Commit) refl
-keyword_free Tag = byte_free_of_all_pass 32 (kind_name Tag) refl
+kind_name_is_space_free : (kind : Kind) → IsByteFree 32 (kind_name kind)
+kind_name_is_space_free Tree = byte_free_of_all_pass 32 (kind_name Tree) refl
+kind_name_is_space_free Blob = byte_free_of_all_pass 32 (kind_name Blob) refl
+kind_name_is_space_free Commit = byte_free_of_all_pass 32 (kind_name Commit) refl
+kind_name_is_space_free Tag = byte_free_of_all_pass 32 (kind_name Tag) refl
 
 -- an input that begins with a loose header, with the parts of the header
 pub record Parts (input : List ℕ) (kind : Kind) (size used : ℕ) : Type 0 where
@@ -47,11 +47,11 @@ pub record Parts (input : List ℕ) (kind : Kind) (size used : ℕ) : Type 0 whe
   pub decodes : DecodesToSize size_bytes size
   pub len : used ≡ length (kind_name kind) + length size_bytes + 2
 
-regrouped : (word size_bytes rest : List ℕ) → ((word ++ 32 ∷ size_bytes) ++ 0 ∷ []) ++ rest ≡ word ++ 32 ∷ (size_bytes ++ 0 ∷ rest)
-regrouped word size_bytes rest = simp append_assoc
+loose_header_append_assoc : (word size_bytes rest : List ℕ) → ((word ++ 32 ∷ size_bytes) ++ 0 ∷ []) ++ rest ≡ word ++ 32 ∷ (size_bytes ++ 0 ∷ rest)
+loose_header_append_assoc word size_bytes rest = simp append_assoc
 
-header_len : (word size_bytes : List ℕ) → length ((word ++ 32 ∷ size_bytes) ++ 0 ∷ []) ≡ length word + length size_bytes + 2
-header_len word size_bytes = simp length-append (omega arith)
+loose_header_len : (word size_bytes : List ℕ) → length ((word ++ 32 ∷ size_bytes) ++ 0 ∷ []) ≡ length word + length size_bytes + 2
+loose_header_len word size_bytes = simp length-append (omega arith)
 
 pub parts_of_loose_header : (input : List ℕ) (kind : Kind) (size used : ℕ) → HasLooseHeaderOfLength input kind size used → Parts input kind size used
 parts_of_loose_header input kind size used header =
@@ -59,32 +59,34 @@ parts_of_loose_header input kind size used header =
     record {
       size_bytes = prefix.size_bytes;
       rest = drop used input;
-      joined = sym (take-append-drop used input) ∙ ap (λ taken. taken ++ drop used input) prefix.joined ∙ regrouped (kind_name kind) prefix.size_bytes
+      joined = sym (take-append-drop used input) ∙ ap (λ taken. taken ++ drop used input) prefix.joined
+          ∙ loose_header_append_assoc (kind_name kind) prefix.size_bytes
           (drop used input);
       decodes = prefix.decodes;
-      len = sym (length-take-le used input header.0) ∙ ap length prefix.joined ∙ header_len (kind_name kind) prefix.size_bytes;
+      len = sym (length-take-le used input header.0) ∙ ap length prefix.joined ∙ loose_header_len (kind_name kind) prefix.size_bytes;
     }
 
 pub loose_header_of_parts : (input : List ℕ) (kind : Kind) (size used : ℕ) → Parts input kind size used → HasLooseHeaderOfLength input kind size used
 loose_header_of_parts input kind size used parts =
     let prefix = (kind_name kind ++ 32 ∷ parts.size_bytes) ++ 0 ∷ [] in
-    let entire : input ≡ prefix ++ parts.rest = parts.joined ∙ sym (regrouped (kind_name kind) parts.size_bytes parts.rest) in
-    let len : used ≡ length prefix = parts.len ∙ sym (header_len (kind_name kind) parts.size_bytes) in
+    let entire : input ≡ prefix ++ parts.rest = parts.joined ∙ sym (loose_header_append_assoc (kind_name kind) parts.size_bytes parts.rest) in
+    let len : used ≡ length prefix = parts.len ∙ sym (loose_header_len (kind_name kind) parts.size_bytes) in
     let taken : take used input ≡ prefix = ap (λ n. take n input) len ∙ ap (take (length prefix)) entire ∙ take-append_seam prefix parts.rest in
     (omega (arith, length-append prefix parts.rest, ap length entire), record { size_bytes = parts.size_bytes; joined = taken; decodes = parts.decodes })
 
 -- each split of the input at the space and the zero byte has the header's parts
-same_parts : (input : List ℕ) (kind : Kind) (size used : ℕ) (parts : Parts input kind size used) (other : Kind) (after : List ℕ)
+parts_unique : (input : List ℕ) (kind : Kind) (size used : ℕ) (parts : Parts input kind size used) (other : Kind) (after : List ℕ)
     → input ≡ kind_name other ++ 32 ∷ after → (kind ≡ other) × (after ≡ parts.size_bytes ++ 0 ∷ parts.rest)
-same_parts input kind size used parts other after joined =
-    let cut = split_parts_unique 32 (kind_name kind) (parts.size_bytes ++ 0 ∷ parts.rest) (kind_name other) after (keyword_free kind) (keyword_free other)
+parts_unique input kind size used parts other after joined =
+    let cut = split_parts_unique 32 (kind_name kind) (parts.size_bytes ++ 0 ∷ parts.rest) (kind_name other) after (kind_name_is_space_free kind)
+    (kind_name_is_space_free other)
     (sym parts.joined ∙ joined) in
     (kind_keyword_injective kind other cut.0, sym cut.1)
 
 pub loose_header_unique : (input : List ℕ) (kind : Kind) (size used : ℕ) (other : Kind) (size' used' : ℕ)
     → Parts input kind size used → Parts input other size' used' → (kind ≡ other) × (size ≡ size') × (used ≡ used')
 loose_header_unique input kind size used other size' used' first second =
-    let same = same_parts input kind size used first other (second.size_bytes ++ 0 ∷ second.rest) second.joined in
+    let same = parts_unique input kind size used first other (second.size_bytes ++ 0 ∷ second.rest) second.joined in
     let cut = split_parts_unique 0 second.size_bytes second.rest first.size_bytes first.rest (size_bytes_zero_free second.size_bytes size' second.decodes)
     (size_bytes_zero_free first.size_bytes size first.decodes) same.1 in (
       same.0,
@@ -92,16 +94,16 @@ loose_header_unique input kind size used other size' used' first second =
       cc (first.len, second.len, cut.0, same.0),
     )
 
-known_kind : (input : List ℕ) (kind : Kind) (size used : ℕ) (word : List ℕ) → Parts input kind size used → HasUnknownKind input word → ⊥
-known_kind input kind size used word parts unknown =
-    let cut = split_parts_unique 32 word unknown.0 (kind_name kind) (parts.size_bytes ++ 0 ∷ parts.rest) unknown.1.first (keyword_free kind)
+no_unknown_kind_of_parts : (input : List ℕ) (kind : Kind) (size used : ℕ) (word : List ℕ) → Parts input kind size used → HasUnknownKind input word → ⊥
+no_unknown_kind_of_parts input kind size used word parts unknown =
+    let cut = split_parts_unique 32 word unknown.0 (kind_name kind) (parts.size_bytes ++ 0 ∷ parts.rest) unknown.1.first (kind_name_is_space_free kind)
     (sym unknown.1.joined ∙ parts.joined) in
     unknown.2 kind cut.0
 
-good_size : (input : List ℕ) (kind : Kind) (size used : ℕ) (size_bytes : List ℕ) (fault : ParseIntegerErrorKind) → Parts input kind size used
+no_size_fault_of_parts : (input : List ℕ) (kind : Kind) (size used : ℕ) (size_bytes : List ℕ) (fault : ParseIntegerErrorKind) → Parts input kind size used
     → HasFaultySize input size_bytes fault → ⊥
-good_size input kind size used size_bytes fault parts faulty =
-    let same = same_parts input kind size used parts faulty.0 faulty.1 faulty.3 in
+no_size_fault_of_parts input kind size used size_bytes fault parts faulty =
+    let same = parts_unique input kind size used parts faulty.0 faulty.1 faulty.3 in
     let cut = split_parts_unique 0 size_bytes faulty.2 parts.size_bytes parts.rest faulty.4.first (size_bytes_zero_free parts.size_bytes size parts.decodes)
     (sym faulty.4.joined ∙ same.1) in
     no_size_fault_of_digits parts.size_bytes size fault parts.decodes (let P : List ℕ → Type 0 = λ it. HasSizeFault it fault in subst P cut.0 faulty.5)
@@ -112,15 +114,16 @@ pub no_error_of_loose_header : (input : List ℕ) (kind : Kind) (size used : ℕ
 no_error_of_loose_header input kind size used (InvalidHeader message) parts (inl free) =
     no_split_of_byte_free 32 (kind_name kind) (parts.size_bytes ++ 0 ∷ parts.rest) (let P : List ℕ → Type 0 = IsByteFree 32 in subst P parts.joined free)
 no_error_of_loose_header input kind size used (InvalidHeader message) parts (inr lacks) =
-    let same = same_parts input kind size used parts lacks.0 lacks.1 lacks.2 in
+    let same = parts_unique input kind size used parts lacks.0 lacks.1 lacks.2 in
     no_split_of_byte_free 0 parts.size_bytes parts.rest (let P : List ℕ → Type 0 = IsByteFree 0 in subst P same.1 lacks.3)
 no_error_of_loose_header input kind size used (ObjectHeader (word.InvalidObjectKind copy)) parts unknown =
-    known_kind input kind size used (bstring_bytes copy) parts unknown
+    no_unknown_kind_of_parts input kind size used (bstring_bytes copy) parts unknown
 no_error_of_loose_header input kind size used (ObjectHeader word.OutOfMemory) parts never = never
 no_error_of_loose_header input kind size used (ParseIntegerError fault message copy) parts faulty =
-    good_size input kind size used (bstring_bytes copy) fault parts faulty
-no_error_of_loose_header input kind size used OutOfMemory parts (inl (size_bytes, unknown)) = known_kind input kind size used size_bytes parts unknown
-no_error_of_loose_header input kind size used OutOfMemory parts (inr faulty) = good_size input kind size used faulty.0 faulty.1 parts faulty.2
+    no_size_fault_of_parts input kind size used (bstring_bytes copy) fault parts faulty
+no_error_of_loose_header input kind size used OutOfMemory parts (inl (size_bytes, unknown)) =
+    no_unknown_kind_of_parts input kind size used size_bytes parts unknown
+no_error_of_loose_header input kind size used OutOfMemory parts (inr faulty) = no_size_fault_of_parts input kind size used faulty.0 faulty.1 parts faulty.2
 
 -- a decoder whose results and errors are right accepts each header
 pub decode_header_of_loose_header : (input : List ℕ) (result : Result (Kind × ℕ × ℕ) LooseHeaderDecodeError)

@@ -15,24 +15,24 @@ use Rattle.gixobj_hash.proofs.HexSteps.{IsLower, all_pass_at, ok_of_bind, true_o
 abbrev is_written : ℕ → Bool
 is_written byte = not (is_hex_digit byte) || (slice_index lower_digits (unwrap_or (hex_digit_value byte) 0) == to_ascii_lowercase byte)
 
-digit_small : (byte value : ℕ) → hex_digit_value byte ≡ Some value → byte < 103
-digit_small byte value reads = grind arith
+hex_digit_lt_103 : (byte value : ℕ) → hex_digit_value byte ≡ Some value → byte < 103
+hex_digit_lt_103 byte value reads = grind arith
 
-digit_written : (byte value : ℕ) → hex_digit_value byte ≡ Some value → slice_index lower_digits value ≡ to_ascii_lowercase byte
-digit_written byte value reads =
-    let written = all_pass_at is_written 103 byte refl (digit_small byte value reads) in
+lower_digit_of_hex_digit_value : (byte value : ℕ) → hex_digit_value byte ≡ Some value → slice_index lower_digits value ≡ to_ascii_lowercase byte
+lower_digit_of_hex_digit_value byte value reads =
+    let written = all_pass_at is_written 103 byte refl (hex_digit_lt_103 byte value reads) in
     let digit : is_hex_digit byte ≡ true = ap is_some reads in
     let same = eqb-true (slice_index lower_digits (unwrap_or (hex_digit_value byte) 0)) (to_ascii_lowercase byte)
     (true_of_cond (is_hex_digit byte) _ written digit) in
     ap (λ it. slice_index lower_digits (unwrap_or it 0)) (sym reads) ∙ same
 
-written_in_lower_case : (i : ℕ) (content bytes : List ℕ) → decode_pairs i content ≡ Ok bytes → encode_lower bytes ≡ str_to_ascii_lowercase content
+encode_lower_decode_pairs : (i : ℕ) (content bytes : List ℕ) → decode_pairs i content ≡ Ok bytes → encode_lower bytes ≡ str_to_ascii_lowercase content
 unfolding decode_pairs encode_with
-written_in_lower_case i [] bytes ok =
+encode_lower_decode_pairs i [] bytes ok =
     let none : [] ≡ bytes = cc ok in
     rw (← none) refl
-written_in_lower_case i (digit ∷ []) bytes ok = cc ok
-written_in_lower_case i (high ∷ low ∷ content) bytes ok =
+encode_lower_decode_pairs i (digit ∷ []) bytes ok = cc ok
+encode_lower_decode_pairs i (high ∷ low ∷ content) bytes ok =
     let pair = ok_of_bind (pair_value high low i) _ bytes ok in
     let rest = ok_of_bind (decode_pairs (i + 2) content) _ bytes pair.2 in
     let first = ok_of_bind (value_at high i) _ pair.0 pair.1 in
@@ -45,24 +45,24 @@ written_in_lower_case i (high ∷ low ∷ content) bytes ok =
     let all : pair.0 ∷ rest.0 ≡ bytes = cc rest.2 in
     let over : pair.0 / 16 ≡ first.0 = omega arith in
     let under : pair.0 % 16 ≡ second.0 = omega arith in
-    let one = ap (slice_index lower_digits) over ∙ digit_written high first.0 high_value in
-    let two = ap (slice_index lower_digits) under ∙ digit_written low second.0 low_value in
-    let more = written_in_lower_case (i + 2) content rest.0 rest.1 in
+    let one = ap (slice_index lower_digits) over ∙ lower_digit_of_hex_digit_value high first.0 high_value in
+    let two = ap (slice_index lower_digits) under ∙ lower_digit_of_hex_digit_value low second.0 low_value in
+    let more = encode_lower_decode_pairs (i + 2) content rest.0 rest.1 in
     rw (← all) (cc (one, two, more))
 
 -- the re-encoded hex of an id is the decoded hex in lower case
 pub encode_id_hex_lower_case : (content : List ℕ) (id : ObjectId) → DecodesToId content id → encode_id_hex id ≡ str_to_ascii_lowercase content
 encode_id_hex_lower_case content id spells =
     let read = decode_of-ok content (id_bytes id) spells.digits in
-    written_in_lower_case 0 content (id_bytes id) (sym (decode_of-even content read.0) ∙ spells.digits)
+    encode_lower_decode_pairs 0 content (id_bytes id) (sym (decode_of-even content read.0) ∙ spells.digits)
 
 -- the lower case of hex in lower case is unchanged
-lower_stays : (byte : ℕ) → is_lower_hex_digit byte ≡ true → to_ascii_lowercase byte ≡ byte
-lower_stays byte lower = grind (arith, lower)
+to_ascii_lowercase_of_lower_hex_digit : (byte : ℕ) → is_lower_hex_digit byte ≡ true → to_ascii_lowercase byte ≡ byte
+to_ascii_lowercase_of_lower_hex_digit byte lower = grind (arith, lower)
 
 pub lower_case_of_lower_hex : (content : List ℕ) → AllPass is_lower_hex_digit content → str_to_ascii_lowercase content ≡ content
 lower_case_of_lower_hex [] lower = refl
 lower_case_of_lower_hex (byte ∷ content) lower =
-    let first = lower_stays byte (All-head IsLower byte content lower) in
+    let first = to_ascii_lowercase_of_lower_hex_digit byte (All-head IsLower byte content lower) in
     let rest = lower_case_of_lower_hex content (All-tail IsLower byte content lower) in
     cc (first, rest)

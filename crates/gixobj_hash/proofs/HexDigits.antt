@@ -8,11 +8,11 @@ use Rattle.hex.specs.Hex.{lower_digits}
 use borrow.Author.Tests.{ltb-true}
 
 -- bytes that pass the test are ASCII
-ascii_by_test : (content : List ℕ) → list_all (λ byte. nat_lt byte 128) content ≡ true → IsAscii content
-ascii_by_test [] passes = IsAscii-nil
-ascii_by_test (byte ∷ content) passes =
+is_ascii_of_list_all : (content : List ℕ) → list_all (λ byte. nat_lt byte 128) content ≡ true → IsAscii content
+is_ascii_of_list_all [] passes = IsAscii-nil
+is_ascii_of_list_all (byte ∷ content) passes =
     let parts = and_parts (nat_lt byte 128) (list_all (λ byte. nat_lt byte 128) content) passes in
-    IsAscii-cons byte content (ltb-true byte 128 parts.0) (ascii_by_test content parts.1)
+    IsAscii-cons byte content (ltb-true byte 128 parts.0) (is_ascii_of_list_all content parts.1)
 
 pub lower_digits_are_ascii : IsAscii lower_digits
-lower_digits_are_ascii = ascii_by_test lower_digits refl
+lower_digits_are_ascii = is_ascii_of_list_all lower_digits refl

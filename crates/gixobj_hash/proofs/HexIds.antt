@@ -13,25 +13,27 @@ use Rattle.gixobj_hash.specs.declared.hash.object_id.ObjectId.{ObjectId}
 use Rattle.gixobj_hash.specs.declared.hash.object_id.ObjectId.TheVariants.{Sha1, Sha256}
 use Rattle.gixobj_hash.specs.Hash.Hex.{IsIdHexOfKind, IsIdHexOfItsKind, kind_of_hex, decoded_id}
 
-short_id : (n : ℕ) (read : Result (List ℕ) FromHexError) (bytes : List ℕ) → n ≡ 40 → read ≡ Ok bytes
+id_from_decoded_is_sha1 : (n : ℕ) (read : Result (List ℕ) FromHexError) (bytes : List ℕ) → n ≡ 40 → read ≡ Ok bytes
     → id_from (if n == 40 then hash.Sha1 else hash.Sha256) (result_unwrap_or read []) ≡ Sha1 bytes
-short_id n read bytes short ok = rw (short, ok) refl
+id_from_decoded_is_sha1 n read bytes short ok = rw (short, ok) refl
 
-long_id : (n : ℕ) (read : Result (List ℕ) FromHexError) (bytes : List ℕ) → n ≡ 64 → read ≡ Ok bytes
+id_from_decoded_is_sha256 : (n : ℕ) (read : Result (List ℕ) FromHexError) (bytes : List ℕ) → n ≡ 64 → read ≡ Ok bytes
     → id_from (if n == 40 then hash.Sha1 else hash.Sha256) (result_unwrap_or read []) ≡ Sha256 bytes
-long_id n read bytes long ok = rw (long, ok) refl
+id_from_decoded_is_sha256 n read bytes long ok = rw (long, ok) refl
 
 pub decoded_id_unique : (content : List ℕ) (id : ObjectId) → DecodesToId content id → id ≡ decoded_id content
-decoded_id_unique content (Sha1 bytes) spells = sym (short_id (length content) (decode_of content) bytes spells.len spells.digits)
-decoded_id_unique content (Sha256 bytes) spells = sym (long_id (length content) (decode_of content) bytes spells.len spells.digits)
+decoded_id_unique content (Sha1 bytes) spells = sym (id_from_decoded_is_sha1 (length content) (decode_of content) bytes spells.len spells.digits)
+decoded_id_unique content (Sha256 bytes) spells = sym (id_from_decoded_is_sha256 (length content) (decode_of content) bytes spells.len spells.digits)
 
 pub decoded_id_decodes : (content : List ℕ) → IsIdHex content → DecodesToId content (decoded_id content)
 decoded_id_decodes content (inl short, digits) =
     let read = decode_of-digits content (omega arith) digits in
-    subst (DecodesToId content) (sym (short_id (length content) (decode_of content) read.0 short read.1)) (record { len = short; digits = read.1 })
+    subst (DecodesToId content) (sym (id_from_decoded_is_sha1 (length content) (decode_of content) read.0 short read.1))
+    (record { len = short; digits = read.1 })
 decoded_id_decodes content (inr long, digits) =
     let read = decode_of-digits content (omega arith) digits in
-    subst (DecodesToId content) (sym (long_id (length content) (decode_of content) read.0 long read.1)) (record { len = long; digits = read.1 })
+    subst (DecodesToId content) (sym (id_from_decoded_is_sha256 (length content) (decode_of content) read.0 long read.1))
+    (record { len = long; digits = read.1 })
 
 pub is_id_hex_of_its_kind : (content : List ℕ) → IsIdHex content → IsIdHexOfItsKind content
 is_id_hex_of_its_kind content (inl short, digits) = (rw short refl, digits)

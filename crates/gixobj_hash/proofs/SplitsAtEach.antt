@@ -20,16 +20,16 @@ pub record ArePrefixes (byte : ℕ) (bytes rest : List ℕ) (parts : List (List 
 pub are_prefixes_nil : (byte : ℕ) (bytes : List ℕ) → ArePrefixes byte bytes bytes []
 are_prefixes_nil byte bytes = record { joined = refl; free = All-nil (IsByteFree byte) }
 
-flat_push : (byte : ℕ) (parts : List (List ℕ)) (part rest : List ℕ) → flat_map (ended byte) parts ++ (part ++ byte ∷ rest) ≡ flat_map (ended byte)
+flat_map_ended_snoc : (byte : ℕ) (parts : List (List ℕ)) (part rest : List ℕ) → flat_map (ended byte) parts ++ (part ++ byte ∷ rest) ≡ flat_map (ended byte)
     (parts ++ part ∷ []) ++ rest
-flat_push byte [] part rest = search (rules, common_steps)
-flat_push byte (first ∷ parts) part rest = let more = flat_push byte parts part rest in search (rules, common_steps)
+flat_map_ended_snoc byte [] part rest = search (rules, common_steps)
+flat_map_ended_snoc byte (first ∷ parts) part rest = let more = flat_map_ended_snoc byte parts part rest in search (rules, common_steps)
 
 pub are_prefixes_snoc : (byte : ℕ) (bytes rest : List ℕ) (parts : List (List ℕ)) (part after : List ℕ) → ArePrefixes byte bytes rest parts
     → SplitsAt byte rest part after → ArePrefixes byte bytes after (parts ++ part ∷ [])
 are_prefixes_snoc byte bytes rest parts part after prefix splits =
     record {
-      joined = prefix.joined ∙ ap (λ (it : List ℕ). flat_map (ended byte) parts ++ it) splits.joined ∙ flat_push byte parts part after;
+      joined = prefix.joined ∙ ap (λ (it : List ℕ). flat_map (ended byte) parts ++ it) splits.joined ∙ flat_map_ended_snoc byte parts part after;
       free = All-push (IsByteFree byte) parts part prefix.free splits.first;
     }
 
@@ -65,15 +65,15 @@ is_split_at_each_snoc byte bytes rest parts prefix free = is_split_at_each_appen
 
 -- ---- existence
 
-some_content : (byte : ℕ) (bytes : List ℕ) → ended byte bytes ≢ []
-some_content byte [] same = cc same
-some_content byte (x ∷ bytes) same = cc same
+ended_ne_nil : (byte : ℕ) (bytes : List ℕ) → ended byte bytes ≢ []
+ended_ne_nil byte [] same = cc same
+ended_ne_nil byte (x ∷ bytes) same = cc same
 
 -- a byte that is not the separator joins the first part of the bytes after it
-grown : (byte x : ℕ) (bytes : List ℕ) (parts : List (List ℕ)) → x ≢ byte → IsSplitAtEach byte bytes parts → (all : List (List ℕ))
+split_at_each_cons_exists : (byte x : ℕ) (bytes : List ℕ) (parts : List (List ℕ)) → x ≢ byte → IsSplitAtEach byte bytes parts → (all : List (List ℕ))
     × IsSplitAtEach byte (x ∷ bytes) all
-grown byte x bytes [] other cut = absurd (some_content byte bytes cut.joined)
-grown byte x bytes (part ∷ parts) other cut = (
+split_at_each_cons_exists byte x bytes [] other cut = absurd (ended_ne_nil byte bytes cut.joined)
+split_at_each_cons_exists byte x bytes (part ∷ parts) other cut = (
   (x ∷ part) ∷ parts,
   record {
     joined = ap (λ (it : List ℕ). x ∷ it) cut.joined;
@@ -96,32 +96,33 @@ split_at_each_exists byte (x ∷ bytes) =
               (All-nil (λ (it : ℕ). it ≢ byte)) cut.free;
         },
       )
-      | no other ↦ grown byte x bytes parts other cut
+      | no other ↦ split_at_each_cons_exists byte x bytes parts other cut
     ]
 
 -- ---- uniqueness
 
-group : (byte : ℕ) (part rest : List ℕ) → ended byte part ++ rest ≡ part ++ byte ∷ rest
-group byte part rest = append_assoc part (byte ∷ []) rest
+ended_append : (byte : ℕ) (part rest : List ℕ) → ended byte part ++ rest ≡ part ++ byte ∷ rest
+ended_append byte part rest = append_assoc part (byte ∷ []) rest
 
-same_parts : (byte : ℕ) (a b : List (List ℕ)) → All (IsByteFree byte) a → All (IsByteFree byte) b → flat_map (ended byte) a ≡ flat_map (ended byte) b → a ≡ b
-same_parts byte [] [] free_a free_b same = refl
-same_parts byte [] (part ∷ b) free_a free_b same = absurd (no_part part b same)
+flat_map_ended_injective : (byte : ℕ) (a b : List (List ℕ)) → All (IsByteFree byte) a → All (IsByteFree byte) b
+    → flat_map (ended byte) a ≡ flat_map (ended byte) b → a ≡ b
+flat_map_ended_injective byte [] [] free_a free_b same = refl
+flat_map_ended_injective byte [] (part ∷ b) free_a free_b same = absurd (no_part part b same)
   where
     no_part : (part : List ℕ) (b : List (List ℕ)) → [] ≡ flat_map (ended byte) (part ∷ b) → ⊥
     no_part [] b same = cc same
     no_part (x ∷ part) b same = cc same
-same_parts byte (part ∷ a) [] free_a free_b same = absurd (no_part part a same)
+flat_map_ended_injective byte (part ∷ a) [] free_a free_b same = absurd (no_part part a same)
   where
     no_part : (part : List ℕ) (a : List (List ℕ)) → flat_map (ended byte) (part ∷ a) ≡ [] → ⊥
     no_part [] a same = cc same
     no_part (x ∷ part) a same = cc same
-same_parts byte (first ∷ a) (second ∷ b) free_a free_b same =
+flat_map_ended_injective byte (first ∷ a) (second ∷ b) free_a free_b same =
     let cut = split_parts_unique byte first (flat_map (ended byte) a) second (flat_map (ended byte) b) (All-head (IsByteFree byte) first a free_a)
     (All-head (IsByteFree byte) second b free_b)
-    (sym (group byte first (flat_map (ended byte) a)) ∙ same ∙ group byte second (flat_map (ended byte) b)) in
-    let rest = same_parts byte a b (All-tail (IsByteFree byte) first a free_a) (All-tail (IsByteFree byte) second b free_b) cut.1 in
+    (sym (ended_append byte first (flat_map (ended byte) a)) ∙ same ∙ ended_append byte second (flat_map (ended byte) b)) in
+    let rest = flat_map_ended_injective byte a b (All-tail (IsByteFree byte) first a free_a) (All-tail (IsByteFree byte) second b free_b) cut.1 in
     cc (cut.0, rest)
 
 pub split_at_each_unique : (byte : ℕ) (bytes : List ℕ) (a b : List (List ℕ)) → IsSplitAtEach byte bytes a → IsSplitAtEach byte bytes b → a ≡ b
-split_at_each_unique byte bytes a b first second = same_parts byte a b first.free second.free (sym first.joined ∙ second.joined)
+split_at_each_unique byte bytes a b first second = flat_map_ended_injective byte a b first.free second.free (sym first.joined ∙ second.joined)

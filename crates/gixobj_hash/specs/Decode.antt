@@ -54,7 +54,8 @@ pub record IsLooseHeader (bytes : List ℕ) (kind : Kind) (size : ℕ) : Type 0 
 
 -- the input begins with a loose header of this kind and size, and the rest follows
 abbrev pub BeginsWithLooseHeader : List ℕ → Kind → ℕ → List ℕ → Type 0
-BeginsWithLooseHeader input kind size rest = (header : List ℕ) × (input ≡ header ++ rest) × IsLooseHeader header kind size
+BeginsWithLooseHeader input kind size rest =
+    (header : List ℕ) × (input ≡ header ++ rest) × IsLooseHeader header kind size
 
 -- the input begins with a loose object: a header that states this kind and the length of the content, and then the
 -- content. Any bytes may follow

@@ -23,13 +23,13 @@ use Rattle.gixobj_import.specs.ByDigest.{AddsByDigest, NamesByDigest, digest_id}
 use Rattle.gixobj_import.specs.Steps.{HaveHex}
 use Rattle.gixobj_import.proofs.Known.{Inserted}
 
-kind_of_made : (k : hash.Kind) (bytes : List ℕ) → id_kind (id_from k bytes) ≡ k
-kind_of_made hash_kind.Sha1 bytes = refl
-kind_of_made hash_kind.Sha256 bytes = refl
+id_from_kind : (k : hash.Kind) (bytes : List ℕ) → id_kind (id_from k bytes) ≡ k
+id_from_kind hash_kind.Sha1 bytes = refl
+id_from_kind hash_kind.Sha256 bytes = refl
 
 -- an id that is a digest has the kind of the digest
 pub digest_id_kind : (k : hash.Kind) (o : kind.Kind) (bytes : List ℕ) (it : ObjectId) → it ≡ id_of k o bytes → id_kind it ≡ k
-digest_id_kind k o bytes it is = ap id_kind is ∙ kind_of_made k _
+digest_id_kind k o bytes it is = ap id_kind is ∙ id_from_kind k _
 
 -- the hex digits of an id of this kind are those of its kind
 pub have_hex_of_id : (k : hash.Kind) (id : ObjectId) → ((it : ObjectId) → IsId it → IsIdHex (encode_id_hex it))
@@ -38,9 +38,9 @@ have_hex_of_id k id reads spells is same =
     let P : ObjectId → Type 0 = λ it. IsIdHexOfKind k (encode_id_hex it) in
     All-cons P id [] ((spells id is).len ∙ ap (λ (h : hash.Kind). 2 * hash_len h) same, (reads id is).1) (All-nil P)
 
-digests_itself : (k : hash.Kind) (o : kind.Kind) (bytes : List ℕ) (it : ObjectId) → it ≡ id_of k o bytes
+digest_id_of_object_bytes : (k : hash.Kind) (o : kind.Kind) (bytes : List ℕ) (it : ObjectId) → it ≡ id_of k o bytes
     → digest_id (record { kind = o; object_hash = id_kind it; bytes = bytes }) ≡ it
-digests_itself k o bytes it is = ap (λ (h : hash.Kind). id_of h o bytes) (digest_id_kind k o bytes it is) ∙ sym is
+digest_id_of_object_bytes k o bytes it is = ap (λ (h : hash.Kind). id_of h o bytes) (digest_id_kind k o bytes it is) ∙ sym is
 
 pub adds_by_digest_nil : (before after : Objects) → after ≡ before → AddsByDigest before after
 adds_by_digest_nil before after same id = inl (ap (λ (objects : Objects). named objects id) same)
@@ -71,12 +71,13 @@ module _ (laws : Inserted) where
   adds_trees hash [] objects all = adds_by_digest_nil objects objects refl
   adds_trees hash (pair ∷ pairs) objects all =
       adds_by_digest_append objects (with_tree pair objects) (with_trees pairs (with_tree pair objects))
-      (adds_one objects pair.0 (tree_object pair.0 pair.1) (digests_itself hash Tree (encode_tree pair.1) pair.0 (All-head (IsDigest hash) pair pairs all)))
+      (adds_one objects pair.0 (tree_object pair.0 pair.1) (digest_id_of_object_bytes hash Tree (encode_tree pair.1) pair.0
+      (All-head (IsDigest hash) pair pairs all)))
       (adds_trees hash pairs (with_tree pair objects) (All-tail (IsDigest hash) pair pairs all))
 
   pub adds_commit : (hash : hash.Kind) (commit : ObjectId) (content : List ℕ) (objects : Objects) → commit ≡ id_of hash Commit content
       → AddsByDigest objects (with_commit commit content objects)
-  adds_commit hash commit content objects is = adds_one objects commit (commit_object commit content) (digests_itself hash Commit content commit is)
+  adds_commit hash commit content objects is = adds_one objects commit (commit_object commit content) (digest_id_of_object_bytes hash Commit content commit is)
 
   pub names_commit : (hash : hash.Kind) (commit : ObjectId) (content : List ℕ) (objects : Objects) → commit ≡ id_of hash Commit content
       → NamesByDigest (with_commit commit content objects) commit
@@ -84,7 +85,7 @@ module _ (laws : Inserted) where
       record {
         it = commit_object commit content;
         named_so = laws.there objects commit (commit_object commit content);
-        digest = digests_itself hash Commit content commit is;
+        digest = digest_id_of_object_bytes hash Commit content commit is;
       }
 
 -- the emitted trees have their digests as ids
@@ -92,9 +93,9 @@ pub written_pairs_are_digests : (hash : hash.Kind) (pairs : List Pair) → Folds
 written_pairs_are_digests hash [] folded = All-nil (IsDigest hash)
 written_pairs_are_digests hash (pair ∷ pairs) (next, one, rest) = All-cons (IsDigest hash) pair pairs one.1 (written_pairs_are_digests hash pairs rest)
 
-last_has : (P : Pair → Type 0) (xs : List Pair) (x : Pair) → All P (xs ++ x ∷ []) → P x
-last_has P [] x all = All-head P x [] all
-last_has P (y ∷ xs) x all = last_has P xs x (All-tail P y (xs ++ x ∷ []) all)
+last_holds_of_all_snoc : (P : Pair → Type 0) (xs : List Pair) (x : Pair) → All P (xs ++ x ∷ []) → P x
+last_holds_of_all_snoc P [] x all = All-head P x [] all
+last_holds_of_all_snoc P (y ∷ xs) x all = last_holds_of_all_snoc P xs x (All-tail P y (xs ++ x ∷ []) all)
 
 -- the id of the root is a digest of this kind
 pub written_root_id_kind : {S : Type 0} (k : hash.Kind) (old new : State S) (it : Written)
@@ -102,4 +103,4 @@ pub written_root_id_kind : {S : Type 0} (k : hash.Kind) (old new : State S) (it 
     → id_kind it.id ≡ k
 written_root_id_kind k old new it wrote =
     let all = subst (All (IsDigest k)) wrote.last (written_pairs_are_digests k it.trees.items wrote.called) in
-    digest_id_kind k Tree (encode_tree wrote.own) it.id (last_has (IsDigest k) wrote.below (it.id, wrote.own) all)
+    digest_id_kind k Tree (encode_tree wrote.own) it.id (last_holds_of_all_snoc (IsDigest k) wrote.below (it.id, wrote.own) all)

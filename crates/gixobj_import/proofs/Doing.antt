@@ -24,14 +24,15 @@ use Rattle.gixobj_files.proofs.EditedFiles.{same_files_refl, same_files_sym, sam
 use Rattle.gixobj_files.proofs.Histories.{history_append, history_congruent}
 
 -- a table that agrees with the objects agrees with their trees
-agrees_with_trees : (T : Table) (objects : Objects) (trees : Trees) → AreTreesOf objects trees → AgreesWithObjects T objects → AgreesWithStore T trees
-agrees_with_trees T objects trees fits agrees = λ id entries requested is. agrees id entries requested ((fits id entries).0 is)
+agrees_with_store_of_objects : (T : Table) (objects : Objects) (trees : Trees) → AreTreesOf objects trees → AgreesWithObjects T objects
+    → AgreesWithStore T trees
+agrees_with_store_of_objects T objects trees fits agrees = λ id entries requested is. agrees id entries requested ((fits id entries).0 is)
 
-found : (edits : List Edit) (index : ℕ) (it : Edit) → index < length edits → it ≡ get_or edits index it → slice_get edits index ≡ Some it
-found [] zero it within is = absurd (omega arith)
-found [] (suc index) it within is = absurd (omega arith)
-found (edit ∷ edits) zero it within is = ap Some (sym is)
-found (edit ∷ edits) (suc index) it within is = found edits index it (omega arith) is
+slice_get_of_get_or : (edits : List Edit) (index : ℕ) (it : Edit) → index < length edits → it ≡ get_or edits index it → slice_get edits index ≡ Some it
+slice_get_of_get_or [] zero it within is = absurd (omega arith)
+slice_get_of_get_or [] (suc index) it within is = absurd (omega arith)
+slice_get_of_get_or (edit ∷ edits) zero it within is = ap Some (sym is)
+slice_get_of_get_or (edit ∷ edits) (suc index) it within is = slice_get_of_get_or edits index it (omega arith) is
 
 -- no edit of a list without writes is a write
 pub no_write_in_edits : (edits : List Edit) (index : ℕ) (it : Edit) → index < length edits → it ≡ get_or edits index it → ¬ Contains edits edit.Write
@@ -61,7 +62,7 @@ module _ {S : Type 0} (model : StoreModel S) where
       → AreDone model old (take index edits) reached
       → IsReplied model reached it (reply.Refused error) new → IsFailedAt model old edits index error new
   rejected_at old reached new edits index it error within is done failure =
-      record { failed_edit = it; at = found edits index it within is; reached = reached; done = done; cause = failure }
+      record { failed_edit = it; at = slice_get_of_get_or edits index it within is; reached = reached; done = done; cause = failure }
 
   -- by the law that every store names trees
   module _ (trees_of : (objects : Objects) → (trees : Trees) × AreTreesOf objects trees) where
@@ -92,13 +93,13 @@ module _ {S : Type 0} (model : StoreModel S) where
           → HasBases T (open_dirs old) (open_bases old) → HasBases T (open_dirs new) (open_bases new)
       edit_based old new (edit.Upsert path kind id) done agrees has =
           let trees = trees_of (model.objects old.store) in (done trees.0 trees.1).has_bases T
-          (agrees_with_trees T (model.objects old.store) trees.0 trees.1 agrees) has
+          (agrees_with_store_of_objects T (model.objects old.store) trees.0 trees.1 agrees) has
       edit_based old new (edit.Remove path) done agrees has =
           let trees = trees_of (model.objects old.store) in (done trees.0 trees.1).has_bases T
-          (agrees_with_trees T (model.objects old.store) trees.0 trees.1 agrees) has
+          (agrees_with_store_of_objects T (model.objects old.store) trees.0 trees.1 agrees) has
       edit_based old new (edit.RemoveLeaf path) done agrees has =
           let trees = trees_of (model.objects old.store) in (done trees.0 trees.1).removed.has_bases T
-          (agrees_with_trees T (model.objects old.store) trees.0 trees.1 agrees) has
+          (agrees_with_store_of_objects T (model.objects old.store) trees.0 trees.1 agrees) has
       edit_based old new edit.Write done agrees has = absurd done
 
       -- the bases are the trees of their ids after the edits
@@ -114,13 +115,13 @@ module _ {S : Type 0} (model : StoreModel S) where
             → SameFiles (EditorFiles T n new) (FilesAfter T n (steps_if_done it) (EditorFiles T n old))
         edit_files old new (edit.Upsert path kind id) done agrees =
             let trees = trees_of (model.objects old.store) in (done trees.0 trees.1).files T n
-            (agrees_with_trees T (model.objects old.store) trees.0 trees.1 agrees)
+            (agrees_with_store_of_objects T (model.objects old.store) trees.0 trees.1 agrees)
         edit_files old new (edit.Remove path) done agrees =
             let trees = trees_of (model.objects old.store) in (done trees.0 trees.1).files T n
-            (agrees_with_trees T (model.objects old.store) trees.0 trees.1 agrees)
+            (agrees_with_store_of_objects T (model.objects old.store) trees.0 trees.1 agrees)
         edit_files old new (edit.RemoveLeaf path) done agrees =
             let trees = trees_of (model.objects old.store) in (done trees.0 trees.1).removed.files T n
-            (agrees_with_trees T (model.objects old.store) trees.0 trees.1 agrees)
+            (agrees_with_store_of_objects T (model.objects old.store) trees.0 trees.1 agrees)
         edit_files old new edit.Write done agrees = absurd done
 
         -- the files after the edits are those of their steps

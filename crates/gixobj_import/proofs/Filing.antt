@@ -28,15 +28,15 @@ use Rattle.gixobj_files.proofs.EditedFiles.{same_files_sym, same_files_trans}
 use Rattle.gixobj_files.proofs.Histories.{history_append, history_congruent}
 use Rattle.gixobj_files.specs.PlainHistory.{NoFiles}
 
-all_first : (T : Table) (first then : List Pair) → AgreesWithPairs T (first ++ then) → AgreesWithPairs T first
-all_first T [] then all = All-nil (λ (pair : Pair). T.tree_at pair.0 ≡ Some pair.1)
-all_first T (pair ∷ first) then all =
+agrees_with_pairs_prefix : (T : Table) (first then : List Pair) → AgreesWithPairs T (first ++ then) → AgreesWithPairs T first
+agrees_with_pairs_prefix T [] then all = All-nil (λ (pair : Pair). T.tree_at pair.0 ≡ Some pair.1)
+agrees_with_pairs_prefix T (pair ∷ first) then all =
     let P : Pair → Type 0 = λ pair. T.tree_at pair.0 ≡ Some pair.1 in All-cons P pair first (All-head P pair (first ++ then) all)
-    (all_first T first then (All-tail P pair (first ++ then) all))
+    (agrees_with_pairs_prefix T first then (All-tail P pair (first ++ then) all))
 
-all_then : (T : Table) (first then : List Pair) → AgreesWithPairs T (first ++ then) → AgreesWithPairs T then
-all_then T [] then all = all
-all_then T (pair ∷ first) then all = let P : Pair → Type 0 = λ pair. T.tree_at pair.0 ≡ Some pair.1 in all_then T first then
+agrees_with_pairs_suffix : (T : Table) (first then : List Pair) → AgreesWithPairs T (first ++ then) → AgreesWithPairs T then
+agrees_with_pairs_suffix T [] then all = all
+agrees_with_pairs_suffix T (pair ∷ first) then all = let P : Pair → Type 0 = λ pair. T.tree_at pair.0 ≡ Some pair.1 in agrees_with_pairs_suffix T first then
     (All-tail P pair (first ++ then) all)
 
 module _ {S : Type 0} (model : StoreModel S) (laws : OfStores) where
@@ -80,7 +80,7 @@ module _ {S : Type 0} (model : StoreModel S) (laws : OfStores) where
         → AgreesWithImports T (objects_of model laws old) old.last (step ∷ steps) (it ∷ imported)
         → HasBases T (open_dirs old.editor) (open_bases old.editor) → AgreesWithStep T (objects_of model laws old) old.editor it
     agrees_first old step steps it imported agrees has =
-        record { writes = all_first T it.written.trees.items (pairs_of_imports imported) agrees.writes; stores = agrees.stores 0; bases = has }
+        record { writes = agrees_with_pairs_prefix T it.written.trees.items (pairs_of_imports imported) agrees.writes; stores = agrees.stores 0; bases = has }
 
     agrees_later : (objects next : Objects) (parent last : Option ObjectId) (step : Step) (steps : List Step) (it : Imported)
         (imported : List Imported)
@@ -88,7 +88,7 @@ module _ {S : Type 0} (model : StoreModel S) (laws : OfStores) where
         → next ≡ with_commit it.commit (encode_step step it.written.id parent) (with_trees it.written.trees.items objects) → last ≡ Some it.commit
         → AgreesWithImports T next last steps imported
     agrees_later objects next parent last step steps it imported agrees is last_is = record {
-      writes = all_then T it.written.trees.items (pairs_of_imports imported) agrees.writes;
+      writes = agrees_with_pairs_suffix T it.written.trees.items (pairs_of_imports imported) agrees.writes;
       stores = λ count.
           subst (λ (p : Option ObjectId). AgreesWithObjects T (with_imports p (take count steps) (take count imported) next)) (sym last_is)
           (subst (λ (o : Objects). AgreesWithObjects T (with_imports (Some it.commit) (take count steps) (take count imported) o)) (sym is)

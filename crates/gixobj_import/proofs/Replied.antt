@@ -46,7 +46,8 @@ module _ {S : Type 0} (model : StoreModel S) (old new : State S) (path : Vec BSt
       → IsReplied model old (edit.Upsert path kind id) (reply_to done) new
   upsert_replied kind id (Ok it) upserted pending failure not_looked_up =
       subst (λ (l : List BString). Of (λ trees. IsUpserted trees old (names_of l) (mode_of_kind kind) id new)) is upserted
-  upsert_replied kind id (Err error) upserted pending failure not_looked_up = (failed_reply error (λ l trees. Upserts l error trees) pending failure, not_looked_up)
+  upsert_replied kind id (Err error) upserted pending failure not_looked_up =
+      (failed_reply error (λ l trees. Upserts l error trees) pending failure, not_looked_up)
 
   pub removal_replied : (done : Result (Unit {0}) Error) → OnOk done (Of (λ trees. IsRemoved IsNoTree trees old (names_of lent) new))
       → IfErr done (λ error. Of (λ trees. IsAfterFailedEdit model trees old (names_of lent) error new)) → IfErr done (λ error. Of (Removes lent error))

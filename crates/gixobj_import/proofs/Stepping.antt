@@ -20,11 +20,11 @@ use Rattle.gixobj_import.specs.declared.import.Importer.{Importer}
 use Rattle.gixobj_import.specs.declared.import.Step.{Step}
 use Rattle.gixobj_store.specs.Stores.{StoreModel}
 
-found : (steps : List Step) (index : ℕ) (it : Step) → index < length steps → it ≡ get_or steps index it → slice_get steps index ≡ Some it
-found [] zero it within is = absurd (omega arith)
-found [] (suc index) it within is = absurd (omega arith)
-found (step ∷ steps) zero it within is = ap Some (sym is)
-found (step ∷ steps) (suc index) it within is = found steps index it (omega arith) is
+slice_get_of_get_or : (steps : List Step) (index : ℕ) (it : Step) → index < length steps → it ≡ get_or steps index it → slice_get steps index ≡ Some it
+slice_get_of_get_or [] zero it within is = absurd (omega arith)
+slice_get_of_get_or [] (suc index) it within is = absurd (omega arith)
+slice_get_of_get_or (step ∷ steps) zero it within is = ap Some (sym is)
+slice_get_of_get_or (step ∷ steps) (suc index) it within is = slice_get_of_get_or steps index it (omega arith) is
 
 -- one of the edits is a write, by the test of the borrowed list
 pub contains_write_of_reply : (items lent : List Edit) (b : Bool) → lent ≡ items → b ≡ true → IsTrue b ↔ Contains lent edit.Write → Contains items edit.Write
@@ -72,7 +72,7 @@ module _ {S : Type 0} (model : StoreModel S) where
       → Stops model old steps imported error new
   stopped_at old between new steps imported index step error within is done as_many failure = inl (record {
     failed_step = step;
-    at = ap (slice_get steps) as_many ∙ found steps index step within is;
+    at = ap (slice_get steps) as_many ∙ slice_get_of_get_or steps index step within is;
     reached = between;
     imported = subst (λ (k : ℕ). AreImported model old (take k steps) imported between) (sym as_many) done;
     cause = failure;

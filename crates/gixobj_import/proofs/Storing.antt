@@ -24,8 +24,8 @@ use Rattle.gixobj_import.proofs.Known.{OfStores}
 abbrev pub InsertsTrees : Objects → Objects → Type 0
 InsertsTrees old new = (kept : List Pair) × (new ≡ with_trees kept old)
 
-inserts_after : (old between new : Objects) → between ≡ old → InsertsTrees between new → InsertsTrees old new
-inserts_after old between new same is = (is.0, is.1 ∙ ap (with_trees is.0) same)
+inserts_trees_of_same_objects : (old between new : Objects) → between ≡ old → InsertsTrees between new → InsertsTrees old new
+inserts_trees_of_same_objects old between new same is = (is.0, is.1 ∙ ap (with_trees is.0) same)
 
 module _ {S : Type 0} (model : StoreModel S) (laws : OfStores) where
   pub steps_stored : (old new : Importer S) (steps : List Step) (imported : List Imported) → AreImported model old steps imported new
@@ -52,7 +52,7 @@ module _ {S : Type 0} (model : StoreModel S) (laws : OfStores) where
       × IsStepWriteError model hash edited error new
       → InsertsTrees (model.objects old.store) (model.objects new.store)
   after_stores hash edits old new error (edited, done, rejected) =
-      inserts_after (model.objects old.store) (model.objects edited.store) (model.objects new.store)
+      inserts_trees_of_same_objects (model.objects old.store) (model.objects edited.store) (model.objects new.store)
       (ap model.objects (edits_stay model laws.trees_of old edited edits done)) (write_stores hash edited new error rejected)
 
   edits_store : (hash : hash.Kind) (edits : List Edit) (old new : State S) (error : ImportError) → IsStepEditsError model hash edits old error new
@@ -104,7 +104,7 @@ module _ {S : Type 0} (model : StoreModel S) (laws : OfStores) where
       → InsertsTrees (with_imports old.last (before imported steps) imported (objects_of model laws old)) (objects_of model laws new)
   stopped_stores old new steps imported error (inl at) =
       let done = steps_stored old at.reached (take (length imported) steps) imported at.imported in
-      inserts_after (with_imports old.last (before imported steps) imported (objects_of model laws old)) (objects_of model laws at.reached)
+      inserts_trees_of_same_objects (with_imports old.last (before imported steps) imported (objects_of model laws old)) (objects_of model laws at.reached)
       (objects_of model laws new) done (rejected_stores at.reached new at.failed_step error at.cause)
   stopped_stores old new steps [] error (inr nothing) = ([], ap (objects_of model laws) nothing.unchanged)
   stopped_stores old new steps (it ∷ imported) error (inr nothing) = cc nothing.nothing

@@ -24,28 +24,31 @@ use Rattle.gixobj_keep.specs.declared.memory.Stored.{Stored}
 pub named_memory_objects : (store : Memory) (id : ObjectId) → named (memory_objects store) id ≡ option_map stored_object (get id_cmp store.objects id)
 named_memory_objects store id = named_from_entries stored_object id store.objects.entries
 
-chosen : (b : Bool) (it : Stored) (rest : Option Stored) → option_map stored_object (cond b (Some it) rest) ≡ cond b (Some (stored_object it))
+option_map_stored_object_cond : (b : Bool) (it : Stored) (rest : Option Stored)
+    → option_map stored_object (cond b (Some it) rest) ≡ cond b (Some (stored_object it))
     (option_map stored_object rest)
-chosen true it rest = refl
-chosen false it rest = refl
+option_map_stored_object_cond true it rest = refl
+option_map_stored_object_cond false it rest = refl
 
-updated : (before after : Memory) (id : ObjectId) (it : Stored) → Updates id_cmp before.objects after.objects id (Some it)
+memory_objects_of_updates : (before after : Memory) (id : ObjectId) (it : Stored) → Updates id_cmp before.objects after.objects id (Some it)
     → memory_objects after ≡ finite.insert (memory_objects before) id (stored_object it)
-updated before after id it updates =
+memory_objects_of_updates before after id it updates =
     is_insert_of_map_insert (memory_objects before) (memory_objects after) id (stored_object it)
-    (λ q. named_memory_objects after q ∙ ap (option_map stored_object) (updates.0 q) ∙ chosen (is_at (id_cmp id) q) it (get id_cmp before.objects q)
+    (λ q. named_memory_objects after q ∙ ap (option_map stored_object) (updates.0 q)
+    ∙ option_map_stored_object_cond (is_at (id_cmp id) q) it (get id_cmp before.objects q)
     ∙ ap (cond (is_at (id_cmp id) q) (Some (stored_object it))) (sym (named_memory_objects before q)))
 
-same_object : (it : Stored) (bytes : List ℕ) → it.bytes.items ≡ bytes
+stored_object_of_bytes : (it : Stored) (bytes : List ℕ) → it.bytes.items ≡ bytes
     → ◌≡◌ {A = StoredObject} (stored_object it) (record { kind = it.kind; object_hash = it.object_hash; bytes = bytes })
-same_object it bytes same i = record { kind = it.kind; object_hash = it.object_hash; bytes = same i }
+stored_object_of_bytes it bytes same i = record { kind = it.kind; object_hash = it.object_hash; bytes = same i }
 
 -- the store has a new object of these bytes
 pub memory_objects_insert : (before after : Memory) (id : ObjectId) (it : Stored) (bytes : List ℕ) → Updates id_cmp before.objects after.objects id (Some it)
     → it.bytes.items ≡ bytes
     → memory_objects after ≡ finite.insert (memory_objects before) id (record { kind = it.kind; object_hash = it.object_hash; bytes = bytes })
-memory_objects_insert before after id it bytes updates same = updated before after id it updates ∙ ap (finite.insert (memory_objects before) id)
-    (same_object it bytes same)
+memory_objects_insert before after id it bytes updates same = memory_objects_of_updates before after id it updates
+    ∙ ap (finite.insert (memory_objects before) id)
+    (stored_object_of_bytes it bytes same)
 
 -- the store has the encoding of a new tree
 pub memory_objects_with_tree : (before after : Memory) (id : ObjectId) (tree : List EntryView) (hash : Kind) (prefix : List ℕ) (bytes : Vec ℕ Global)
@@ -57,7 +60,8 @@ memory_objects_with_tree before after id tree hash prefix bytes same_hash none w
     let same : bytes.items ≡ encode_tree tree = written ∙ ap (λ (start : List ℕ). start ++ encode_tree tree) none in
     let same_object : ◌≡◌ {A = StoredObject} (record { kind = Tree; object_hash = hash; bytes = bytes.items }) (tree_object id tree) =
     λ i. record { kind = Tree; object_hash = same_hash i; bytes = same i } in
-    updated before after id (record { kind = Tree; object_hash = hash; bytes = bytes }) updates ∙ ap (finite.insert (memory_objects before) id) same_object
+    memory_objects_of_updates before after id (record { kind = Tree; object_hash = hash; bytes = bytes }) updates
+    ∙ ap (finite.insert (memory_objects before) id) same_object
 
 -- the store has a new commit
 pub memory_objects_with_commit : (before after : Memory) (id : ObjectId) (hash : Kind) (bytes : Vec ℕ Global) (content : List ℕ) → hash ≡ id_kind id
@@ -67,4 +71,5 @@ pub memory_objects_with_commit : (before after : Memory) (id : ObjectId) (hash :
 memory_objects_with_commit before after id hash bytes content same_hash same updates =
     let same_object : ◌≡◌ {A = StoredObject} (record { kind = Commit; object_hash = hash; bytes = bytes.items }) (commit_object id content) =
     λ i. record { kind = Commit; object_hash = same_hash i; bytes = same i } in
-    updated before after id (record { kind = Commit; object_hash = hash; bytes = bytes }) updates ∙ ap (finite.insert (memory_objects before) id) same_object
+    memory_objects_of_updates before after id (record { kind = Commit; object_hash = hash; bytes = bytes }) updates
+    ∙ ap (finite.insert (memory_objects before) id) same_object

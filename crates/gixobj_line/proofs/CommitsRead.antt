@@ -42,42 +42,42 @@ Reads kind bytes state.End rest commit = DecodesToCommit kind bytes commit
 
 -- ---- joins
 
-first_id : (bytes tree input rest : List ℕ) (parents : List (List ℕ)) → bytes ≡ input → input ≡ tree ++ rest → parents ≡ []
+tree_append_no_parents : (bytes tree input rest : List ℕ) (parents : List (List ℕ)) → bytes ≡ input → input ≡ tree ++ rest → parents ≡ []
     → bytes ≡ tree ++ flat_map encode_parent parents ++ rest
-first_id bytes tree input rest parents is joined none = rw (is, joined, none, append-nil tree) refl
+tree_append_no_parents bytes tree input rest parents is joined none = rw (is, joined, none, append-nil tree) refl
 
-further_id : (bytes tree input hex rest : List ℕ) (parents : List (List ℕ)) → bytes ≡ tree ++ flat_map encode_parent parents ++ input
+parents_append_snoc : (bytes tree input hex rest : List ℕ) (parents : List (List ℕ)) → bytes ≡ tree ++ flat_map encode_parent parents ++ input
     → input ≡ encode_parent hex ++ rest
     → bytes ≡ tree ++ flat_map encode_parent (parents ++ hex ∷ []) ++ rest
-further_id bytes tree input hex rest parents is joined =
+parents_append_snoc bytes tree input hex rest parents is joined =
     let each : flat_map encode_parent (parents ++ hex ∷ []) ≡ flat_map encode_parent parents ++ encode_parent hex =
     flat_map-append encode_parent parents (hex ∷ []) ∙ ap (λ (it : List ℕ). flat_map encode_parent parents ++ it) (append-nil (encode_parent hex)) in
     rw (is, joined, each) (simp append_assoc)
 
-joined_after : (bytes prefix input part rest : List ℕ) → bytes ≡ prefix ++ input → input ≡ part ++ rest → bytes ≡ prefix ++ part ++ rest
-joined_after bytes prefix input part rest is joined = rw (is, joined) (simp append_assoc)
+append_after_prefix : (bytes prefix input part rest : List ℕ) → bytes ≡ prefix ++ input → input ≡ part ++ rest → bytes ≡ prefix ++ part ++ rest
+append_after_prefix bytes prefix input part rest is joined = rw (is, joined) (simp append_assoc)
 
-without_headers : (bytes prefix rest : List ℕ) (encoding : Option (List ℕ)) → bytes ≡ prefix ++ rest → encoding ≡ None
+append_no_headers : (bytes prefix rest : List ℕ) (encoding : Option (List ℕ)) → bytes ≡ prefix ++ rest → encoding ≡ None
     → bytes ≡ prefix ++ encode_encoding encoding ++ [] ++ rest
-without_headers bytes prefix rest encoding is none = rw (is, none) (sym (simp append-nil))
+append_no_headers bytes prefix rest encoding is none = rw (is, none) (sym (simp append-nil))
 
-with_encoding : (bytes prefix input headers rest name : List ℕ) (encoding : Option (List ℕ))
+append_encoding_field : (bytes prefix input headers rest name : List ℕ) (encoding : Option (List ℕ))
     → bytes ≡ prefix ++ encode_encoding encoding ++ headers ++ input
     → encoding ≡ None → headers ≡ [] → input ≡ encode_field (codes "encoding") name ++ rest
     → bytes ≡ prefix ++ encode_field (codes "encoding") name ++ [] ++ rest
-with_encoding bytes prefix input headers rest name encoding is none bare joined = rw (is, none, bare, joined) (simp (append_assoc, append-nil))
+append_encoding_field bytes prefix input headers rest name encoding is none bare joined = rw (is, none, bare, joined) (simp (append_assoc, append-nil))
 
 -- ---- headers
 
-headers_more : (bytes first : List ℕ) (headers : List Header) (header : Header) → DecodesToHeaders bytes headers → DecodesToHeader first header
+decodes_to_headers_snoc : (bytes first : List ℕ) (headers : List Header) (header : Header) → DecodesToHeaders bytes headers → DecodesToHeader first header
     → DecodesToHeaders (bytes ++ first) (headers ++ header ∷ [])
-headers_more bytes first [] header none is = (first, [], rw none (sym (append-nil first)), is, refl)
-headers_more bytes first (other ∷ headers) header (prefix, rest, joined, it, others) is = (
+decodes_to_headers_snoc bytes first [] header none is = (first, [], rw none (sym (append-nil first)), is, refl)
+decodes_to_headers_snoc bytes first (other ∷ headers) header (prefix, rest, joined, it, others) is = (
   prefix,
   rest ++ first,
   ap (λ (it : List ℕ). it ++ first) joined ∙ append_assoc prefix rest first,
   it,
-  headers_more rest first headers header others is,
+  decodes_to_headers_snoc rest first headers header others is,
 )
 
 pub is_encoding_snoc : (encoding : Option (List ℕ)) (headers : List Header) (header : Header) → IsEncoding encoding headers
@@ -96,9 +96,9 @@ pub headers_snoc_not_nil : (headers : List Header) (header : Header) → headers
 headers_snoc_not_nil [] header same = cc same
 headers_snoc_not_nil (first ∷ headers) header same = cc same
 
-no_encodings : (bytes : List ℕ) (headers : List Header) → headers ≡ [] → DecodesToHeaders bytes headers → bytes ≡ []
-no_encodings bytes [] same are = are
-no_encodings bytes (header ∷ headers) same are = cc same
+nil_of_decodes_to_no_headers : (bytes : List ℕ) (headers : List Header) → headers ≡ [] → DecodesToHeaders bytes headers → bytes ≡ []
+nil_of_decodes_to_no_headers bytes [] same are = are
+nil_of_decodes_to_no_headers bytes (header ∷ headers) same are = cc same
 
 -- a header is appended to the decoded ones
 pub begins_commit_gather_header : (kind : Kind) (bytes input first rest : List ℕ) (commit : CommitLines) (header : Header)
@@ -115,18 +115,18 @@ begins_commit_gather_header kind bytes input first rest commit header begins joi
       author = begins.author;
       committer = begins.committer;
       encoding = encoding;
-      extra_headers = headers_more begins.headers_encoding first commit.extra_headers header begins.extra_headers is;
+      extra_headers = decodes_to_headers_snoc begins.headers_encoding first commit.extra_headers header begins.extra_headers is;
     }
 
-write_encoding : (kind : Kind) (bytes input encoding rest : List ℕ) (commit : CommitLines) → BeginsCommit kind bytes commit input
+begins_commit_with_encoding : (kind : Kind) (bytes input encoding rest : List ℕ) (commit : CommitLines) → BeginsCommit kind bytes commit input
     → LacksHeaders commit
     → BeginsWithField (codes "encoding") input encoding rest
     → BeginsCommit kind bytes (record commit { encoding = Some encoding }) rest
-write_encoding kind bytes input encoding rest commit begins lacks has =
+begins_commit_with_encoding kind bytes input encoding rest commit begins lacks has =
     record {
       headers_encoding = [];
-      joined = with_encoding bytes (before_encoding commit) input begins.headers_encoding rest encoding commit.encoding begins.joined lacks.0
-          (no_encodings begins.headers_encoding commit.extra_headers lacks.1 begins.extra_headers) has.joined;
+      joined = append_encoding_field bytes (before_encoding commit) input begins.headers_encoding rest encoding commit.encoding begins.joined lacks.0
+          (nil_of_decodes_to_no_headers begins.headers_encoding commit.extra_headers lacks.1 begins.extra_headers) has.joined;
       tree = begins.tree;
       parents = begins.parents;
       author = begins.author;
@@ -135,15 +135,15 @@ write_encoding kind bytes input encoding rest commit begins lacks has =
       extra_headers = subst (λ (it : List Header). DecodesToHeaders [] it) (sym lacks.1) refl;
     }
 
-write_committer : (kind : Kind) (bytes input line rest : List ℕ) (commit : CommitLines)
+begins_commit_with_committer : (kind : Kind) (bytes input line rest : List ℕ) (commit : CommitLines)
     → bytes ≡ encode_ids commit ++ encode_field (codes "author") commit.author ++ input → ReadsIds kind commit → NamesActor commit.author
     → input ≡ encode_field (codes "committer") line ++ rest → NamesActor line → BeginsCommit kind bytes (record commit { committer = line }) rest
-write_committer kind bytes input line rest commit is ids author joined names =
+begins_commit_with_committer kind bytes input line rest commit is ids author joined names =
     let to_author = encode_ids commit ++ encode_field (codes "author") commit.author in
     record {
       headers_encoding = [];
-      joined = without_headers bytes (to_author ++ encode_field (codes "committer") line) rest commit.encoding
-          (joined_after bytes to_author input (encode_field (codes "committer") line) rest is joined) ids.lacks.0;
+      joined = append_no_headers bytes (to_author ++ encode_field (codes "committer") line) rest commit.encoding
+          (append_after_prefix bytes to_author input (encode_field (codes "committer") line) rest is joined) ids.lacks.0;
       tree = ids.tree;
       parents = ids.parents;
       author = author;
@@ -152,9 +152,10 @@ write_committer kind bytes input line rest commit is ids author joined names =
       extra_headers = subst (λ (it : List Header). DecodesToHeaders [] it) (sym ids.lacks.1) refl;
     }
 
-write_message : (kind : Kind) (bytes input message : List ℕ) (commit : CommitLines) → BeginsCommit kind bytes commit input → input ≡ 10 ∷ message
+decodes_to_commit_with_message : (kind : Kind) (bytes input message : List ℕ) (commit : CommitLines) → BeginsCommit kind bytes commit input
+    → input ≡ 10 ∷ message
     → DecodesToCommit kind bytes (record commit { message = message })
-write_message kind bytes input message commit begins is =
+decodes_to_commit_with_message kind bytes input message commit begins is =
     record {
       headers_encoding = begins.headers_encoding;
       joined = begins.joined ∙ ap (λ (it : List ℕ). before_encoding commit ++ encode_encoding commit.encoding ++ begins.headers_encoding ++ it) is;
@@ -173,25 +174,25 @@ pub reads_gather : (kind : Kind) (bytes : List ℕ) (commit : CommitLines) (befo
     → BeginsWithLine kind before input line following rest
     → Reads kind bytes before input commit → Reads kind bytes following rest (gather commit line)
 reads_gather kind bytes commit before input line after rest (tree_comes _ hex _ has) (is, none, lacks) = (
-  first_id bytes (encode_field (codes "tree") hex) input rest commit.parents is has.0.joined none,
+  tree_append_no_parents bytes (encode_field (codes "tree") hex) input rest commit.parents is has.0.joined none,
   record
       { tree = has.1; parents = subst (All (IsIdHexOfKind kind)) (sym none) (All-nil (IsIdHexOfKind kind)); lacks = lacks },
 )
 reads_gather kind bytes commit before input line after rest (parent_comes _ hex _ has) (is, ids) = (
-  further_id bytes (encode_field (codes "tree") commit.tree) input hex rest commit.parents is has.0.joined,
+  parents_append_snoc bytes (encode_field (codes "tree") commit.tree) input hex rest commit.parents is has.0.joined,
   record
       { tree = ids.tree; parents = All-push (IsIdHexOfKind kind) commit.parents hex ids.parents has.1; lacks = ids.lacks },
 )
 reads_gather kind bytes commit before input line after rest (author_comes _ actor _ has) (is, ids) = (
-  joined_after bytes (encode_ids commit) input (encode_field (codes "author") actor) rest is has.0.joined,
+  append_after_prefix bytes (encode_ids commit) input (encode_field (codes "author") actor) rest is has.0.joined,
   record
       { tree = ids.tree; parents = ids.parents; lacks = ids.lacks },
   has.1,
 )
 reads_gather kind bytes commit before input line after rest (committer_comes _ actor _ has) (is, ids, author) =
-    (write_committer kind bytes input actor rest commit is ids author has.0.joined has.1, ids.lacks)
+    (begins_commit_with_committer kind bytes input actor rest commit is ids author has.0.joined has.1, ids.lacks)
 reads_gather kind bytes commit before input line after rest (encoding_comes _ encoding _ has) (begins, lacks) =
-    (write_encoding kind bytes input encoding rest commit begins lacks has, λ none. cc none)
+    (begins_commit_with_encoding kind bytes input encoding rest commit begins lacks has, λ none. cc none)
 reads_gather kind bytes commit before input line after rest (first_header_comes _ header _ has other) (begins, lacks) = (
   begins_commit_gather_header kind bytes input has.encoded rest commit header begins has.joined has.written
       (is_encoding_snoc_first commit.encoding commit.extra_headers header lacks.0 lacks.1 other),
@@ -203,9 +204,9 @@ reads_gather kind bytes commit before input line after rest (header_comes _ head
   λ none. headers_snoc_not_nil commit.extra_headers header,
 )
 reads_gather kind bytes commit before input line after rest (first_message_comes _ message is) (begins, lacks) =
-    write_message kind bytes input message commit begins is
+    decodes_to_commit_with_message kind bytes input message commit begins is
 reads_gather kind bytes commit before input line after rest (message_comes _ message is) (begins, filled) =
-    write_message kind bytes input message commit begins is
+    decodes_to_commit_with_message kind bytes input message commit begins is
 
 pub reads_gathered : (kind : Kind) (bytes : List ℕ) (commit : CommitLines) (before : State) (input : List ℕ) (lines : List LineView) (following : State)
     (rest : List ℕ) → Passes (BeginsWithLine kind) before input lines following rest

@@ -30,34 +30,35 @@ abbrev made : List ℕ → List (List ℕ) → List ℕ → List ℕ → Option 
 made tree parents author committer encoding headers message =
     record { tree = tree; parents = parents; author = author; committer = committer; encoding = encoding; extra_headers = headers; message = message }
 
-parents_gathered : (tree : List ℕ) (prefix parents : List (List ℕ)) (rest : List LineView) → gathered (made tree prefix [] [] None [] [])
+gathered_parents_append : (tree : List ℕ) (prefix parents : List (List ℕ)) (rest : List LineView) → gathered (made tree prefix [] [] None [] [])
     (map parent_line parents ++ rest) ≡ gathered (made tree (prefix ++ parents) [] [] None [] []) rest
-parents_gathered tree prefix [] rest = ap (λ (it : List (List ℕ)). gathered (made tree it [] [] None [] []) rest) (sym (append-nil prefix))
-parents_gathered tree prefix (hex ∷ parents) rest =
-    parents_gathered tree (prefix ++ hex ∷ []) parents rest ∙ ap (λ (it : List (List ℕ)). gathered (made tree it [] [] None [] []) rest)
+gathered_parents_append tree prefix [] rest = ap (λ (it : List (List ℕ)). gathered (made tree it [] [] None [] []) rest) (sym (append-nil prefix))
+gathered_parents_append tree prefix (hex ∷ parents) rest =
+    gathered_parents_append tree (prefix ++ hex ∷ []) parents rest ∙ ap (λ (it : List (List ℕ)). gathered (made tree it [] [] None [] []) rest)
     (append_assoc prefix (hex ∷ []) parents)
 
-encoding_gathered : (tree : List ℕ) (parents : List (List ℕ)) (author committer : List ℕ) (encoding : Option (List ℕ)) (rest : List LineView)
+gathered_encoding_append : (tree : List ℕ) (parents : List (List ℕ)) (author committer : List ℕ) (encoding : Option (List ℕ)) (rest : List LineView)
     → gathered (made tree parents author committer None [] []) (encoding_lines encoding ++ rest) ≡ gathered
     (made tree parents author committer encoding [] [])
     rest
-encoding_gathered tree parents author committer None rest = refl
-encoding_gathered tree parents author committer (Some encoding) rest = refl
+gathered_encoding_append tree parents author committer None rest = refl
+gathered_encoding_append tree parents author committer (Some encoding) rest = refl
 
-headers_gathered : (tree : List ℕ) (parents : List (List ℕ)) (author committer : List ℕ) (encoding : Option (List ℕ)) (prefix headers : List Header)
+gathered_headers_append : (tree : List ℕ) (parents : List (List ℕ)) (author committer : List ℕ) (encoding : Option (List ℕ)) (prefix headers : List Header)
     (rest : List LineView)
     → gathered (made tree parents author committer encoding prefix []) (map header_line headers ++ rest) ≡ gathered
     (made tree parents author committer encoding (prefix ++ headers) []) rest
-headers_gathered tree parents author committer encoding prefix [] rest =
+gathered_headers_append tree parents author committer encoding prefix [] rest =
     ap (λ (it : List Header). gathered (made tree parents author committer encoding it []) rest) (sym (append-nil prefix))
-headers_gathered tree parents author committer encoding prefix (header ∷ headers) rest =
-    headers_gathered tree parents author committer encoding (prefix ++ header ∷ []) headers rest
+gathered_headers_append tree parents author committer encoding prefix (header ∷ headers) rest =
+    gathered_headers_append tree parents author committer encoding (prefix ++ header ∷ []) headers rest
     ∙ ap (λ (it : List Header). gathered (made tree parents author committer encoding it []) rest) (append_assoc prefix (header ∷ []) headers)
 
-lines_gathered : (commit : CommitLines) → gathered empty_commit (lines_of_commit commit) ≡ commit
-lines_gathered commit =
-    parents_gathered commit.tree [] commit.parents _ ∙ encoding_gathered commit.tree commit.parents commit.author commit.committer commit.encoding _
-    ∙ headers_gathered commit.tree commit.parents commit.author commit.committer commit.encoding [] commit.extra_headers
+gathered_lines_of_commit : (commit : CommitLines) → gathered empty_commit (lines_of_commit commit) ≡ commit
+gathered_lines_of_commit commit =
+    gathered_parents_append commit.tree [] commit.parents _ ∙ gathered_encoding_append commit.tree commit.parents commit.author commit.committer
+    commit.encoding _
+    ∙ gathered_headers_append commit.tree commit.parents commit.author commit.committer commit.encoding [] commit.extra_headers
     (message_line commit.message ∷ [])
 
 -- bytes are the encoding of at most one commit
@@ -67,14 +68,14 @@ commit_unique kind bytes a b is is' =
     let same = (one_run (BeginsWithLine kind) (line_unique kind) (no_line_of_nil kind) state.Tree bytes (lines_of_commit a)
     (lines_of_commit b) complete complete seen
     (yields_lines_of_commit kind bytes b is')).0 in
-    sym (lines_gathered a) ∙ ap (λ (it : List LineView). gathered empty_commit it) same ∙ lines_gathered b
+    sym (gathered_lines_of_commit a) ∙ ap (λ (it : List LineView). gathered empty_commit it) same ∙ gathered_lines_of_commit b
 
 -- ---- without a line before the end there is no commit
 
-message_ends : (kind : Kind) (before : State) (input message : List ℕ) (following : State) (rest : List ℕ)
+state_after_message_is_end : (kind : Kind) (before : State) (input message : List ℕ) (following : State) (rest : List ℕ)
     → BeginsWithLine kind before input (message_line message) following rest → following ≡ state.End
-message_ends kind before input message following rest (first_message_comes _ _ is) = refl
-message_ends kind before input message following rest (message_comes _ _ is) = refl
+state_after_message_is_end kind before input message following rest (first_message_comes _ _ is) = refl
+state_after_message_is_end kind before input message following rest (message_comes _ _ is) = refl
 
 -- after lines that end with a message, the decoder is at the end
 pub end_state_of_message : (kind : Kind) (before : State) (input : List ℕ) (lines prefix : List LineView) (message : List ℕ) (following : State)
@@ -88,7 +89,8 @@ end_state_of_message kind before input (line ∷ lines) [] message following res
     let none : lines ≡ [] = cc is in
     let at_end : Passes (BeginsWithLine kind) next after [] following rest =
     subst (λ (it : List LineView). Passes (BeginsWithLine kind) next after it following rest) none more in
-    sym at_end.0 ∙ message_ends kind before input message next after (subst (λ (it : LineView). BeginsWithLine kind before input it next after) first has)
+    sym at_end.0 ∙ state_after_message_is_end kind before input message next after
+    (subst (λ (it : LineView). BeginsWithLine kind before input it next after) first has)
 end_state_of_message kind before input (line ∷ lines) (first ∷ prefix) message following rest (next, after, has, more) is =
     let others : lines ≡ prefix ++ message_line message ∷ [] =
     cc is in end_state_of_message kind next after lines prefix message following rest more others
@@ -100,13 +102,14 @@ lines_end_with_message commit = (
   sym (simp append_assoc),
 )
 
-stops : (kind : Kind) (bytes : List ℕ) (lines others : List LineView) (following : State) (rest : List ℕ) (commit : CommitLines)
+no_complete_yield_before_end : (kind : Kind) (bytes : List ℕ) (lines others : List LineView) (following : State) (rest : List ℕ) (commit : CommitLines)
     → Passes (BeginsWithLine kind) state.Tree bytes lines following rest → HasNoPiece (BeginsWithLine kind) following rest → following ≢ state.End
     → lines_of_commit commit ≡ lines ++ others → Yields (BeginsWithLine kind) following rest others complete → ⊥
-stops kind bytes lines others following rest commit passes none going is (yields_end _) =
+no_complete_yield_before_end kind bytes lines others following rest commit passes none going is (yields_end _) =
     let last = lines_end_with_message commit in
     going (end_state_of_message kind state.Tree bytes lines last.0 commit.message following rest passes (sym (append-nil lines) ∙ sym is ∙ last.1))
-stops kind bytes lines others following rest commit passes none going is (yields_piece _ next _ after line more _ has seen) = none line next after has
+no_complete_yield_before_end kind bytes lines others following rest commit passes none going is (yields_piece _ next _ after line more _ has seen) =
+    none line next after has
 
 pub malformed_commit_of_no_line : (kind : Kind) (bytes : List ℕ) (lines : List LineView) (following : State) (rest : List ℕ)
     → Passes (BeginsWithLine kind) state.Tree bytes lines following rest → HasNoPiece (BeginsWithLine kind) following rest → following ≢ state.End
@@ -114,16 +117,16 @@ pub malformed_commit_of_no_line : (kind : Kind) (bytes : List ℕ) (lines : List
 malformed_commit_of_no_line kind bytes lines following rest passes none going commit is =
     let at = after_passed (BeginsWithLine kind) (line_unique kind) (no_line_of_nil kind) state.Tree following bytes rest lines
     (lines_of_commit commit) complete passes (yields_lines_of_commit kind bytes commit is) in
-    stops kind bytes lines at.others following rest commit passes none going at.joined at.yielded
+    no_complete_yield_before_end kind bytes lines at.others following rest commit passes none going at.joined at.yielded
 
 -- ---- allocation
 
-two_parents : (kind : Kind) (bytes tree hex rest : List ℕ) (parents : List (List ℕ)) → parents ≢ []
+reaches_second_parent_snoc : (kind : Kind) (bytes tree hex rest : List ℕ) (parents : List (List ℕ)) → parents ≢ []
     → bytes ≡ encode_field (codes "tree") tree ++ flat_map encode_parent (parents ++ hex ∷ []) ++ rest → IsIdHexOfKind kind tree
     → All (IsIdHexOfKind kind) (parents ++ hex ∷ [])
     → ReachesSecondParent kind bytes
-two_parents kind bytes tree hex rest [] some is of_tree of_parents = absurd (some refl)
-two_parents kind bytes tree hex rest (first ∷ []) some is of_tree of_parents =
+reaches_second_parent_snoc kind bytes tree hex rest [] some is of_tree of_parents = absurd (some refl)
+reaches_second_parent_snoc kind bytes tree hex rest (first ∷ []) some is of_tree of_parents =
     record {
       tree = tree;
       first = first;
@@ -133,7 +136,7 @@ two_parents kind bytes tree hex rest (first ∷ []) some is of_tree of_parents =
       ids = All-cons (IsIdHexOfKind kind) tree
           (first ∷ hex ∷ []) of_tree of_parents;
     }
-two_parents kind bytes tree hex rest (first ∷ second ∷ parents) some is of_tree of_parents =
+reaches_second_parent_snoc kind bytes tree hex rest (first ∷ second ∷ parents) some is of_tree of_parents =
     let P : List ℕ → Type 0 = IsIdHexOfKind kind in
     let more = All-tail P first (second ∷ (parents ++ hex ∷ [])) of_parents in
     record {
@@ -150,9 +153,9 @@ two_parents kind bytes tree hex rest (first ∷ second ∷ parents) some is of_t
 abbrev first_header : {input : List ℕ} → BeginsWithSeveralLines input → Header
 first_header several = record { name = several.name; value = several.first }
 
-first_line : (input : List ℕ) → (several : BeginsWithSeveralLines input) → DecodesToHeader (encode_field several.name several.first)
+first_line_decodes_to_header : (input : List ℕ) → (several : BeginsWithSeveralLines input) → DecodesToHeader (encode_field several.name several.first)
     (first_header several)
-first_line input several =
+first_line_decodes_to_header input several =
     record {
       first = several.first;
       more = [];
@@ -163,40 +166,42 @@ first_line input several =
       value = refl;
     }
 
-not_encoding : (input : List ℕ) → (several : BeginsWithSeveralLines input) → BeginsWithOtherName (codes "encoding") input → several.name ≢ codes "encoding"
-not_encoding input several lacks same =
+other_name_ne_encoding : (input : List ℕ) → (several : BeginsWithSeveralLines input) → BeginsWithOtherName (codes "encoding") input
+    → several.name ≢ codes "encoding"
+other_name_ne_encoding input several lacks same =
     let flat : encode_field several.name several.first ++ 32 ∷ several.rest ≡ several.name ++ 32 ∷ (several.first ++ 10 ∷ (32 ∷ several.rest)) =
     simp append_assoc in
     lacks _ (several.joined ∙ flat ∙ ap (λ (name : List ℕ). name ++ 32 ∷ (several.first ++ 10 ∷ (32 ∷ several.rest))) same)
 
 -- a header of several lines is reached
-several_reached : (kind : Kind) (bytes : List ℕ) (before : State) (input : List ℕ) (commit : CommitLines) → Reads kind bytes before input commit
+reaches_header_of_several_lines : (kind : Kind) (bytes : List ℕ) (before : State) (input : List ℕ) (commit : CommitLines) → Reads kind bytes before input commit
     → MayFold before input → BeginsWithSeveralLines input → ReachesHeader kind bytes
-several_reached kind bytes state.Tree input commit reads may several = absurd may
-several_reached kind bytes state.Parents input commit reads may several = absurd may
-several_reached kind bytes state.Committer input commit reads may several = absurd may
-several_reached kind bytes state.Encoding input commit (begins, lacks) may several =
-    let named = is_encoding_snoc_first commit.encoding commit.extra_headers (first_header several) lacks.0 lacks.1 (not_encoding input several may) in (
+reaches_header_of_several_lines kind bytes state.Tree input commit reads may several = absurd may
+reaches_header_of_several_lines kind bytes state.Parents input commit reads may several = absurd may
+reaches_header_of_several_lines kind bytes state.Committer input commit reads may several = absurd may
+reaches_header_of_several_lines kind bytes state.Encoding input commit (begins, lacks) may several =
+    let named = is_encoding_snoc_first commit.encoding commit.extra_headers (first_header several) lacks.0 lacks.1
+    (other_name_ne_encoding input several may) in (
       _,
       _,
-      begins_commit_gather_header kind bytes input _ _ commit (first_header several) begins several.joined (first_line input several) named,
+      begins_commit_gather_header kind bytes input _ _ commit (first_header several) begins several.joined (first_line_decodes_to_header input several) named,
       headers_snoc_not_nil commit.extra_headers (first_header several),
     )
-several_reached kind bytes state.ExtraHeaders input commit (begins, filled) may several =
+reaches_header_of_several_lines kind bytes state.ExtraHeaders input commit (begins, filled) may several =
     let named = is_encoding_snoc commit.encoding commit.extra_headers (first_header several) begins.encoding filled in (
       _,
       _,
-      begins_commit_gather_header kind bytes input _ _ commit (first_header several) begins several.joined (first_line input several) named,
+      begins_commit_gather_header kind bytes input _ _ commit (first_header several) begins several.joined (first_line_decodes_to_header input several) named,
       headers_snoc_not_nil commit.extra_headers (first_header several),
     )
-several_reached kind bytes state.End input commit reads may several = absurd may
+reaches_header_of_several_lines kind bytes state.End input commit reads may several = absurd may
 
 -- ---- lines added one by one
 
-gathered_more : (commit : CommitLines) (lines : List LineView) (line : LineView) → gathered commit (lines ++ line ∷ []) ≡ gather
+gathered_snoc : (commit : CommitLines) (lines : List LineView) (line : LineView) → gathered commit (lines ++ line ∷ []) ≡ gather
     (gathered commit lines) line
-gathered_more commit [] line = refl
-gathered_more commit (first ∷ lines) line = gathered_more (gather commit first) lines line
+gathered_snoc commit [] line = refl
+gathered_snoc commit (first ∷ lines) line = gathered_snoc (gather commit first) lines line
 
 pub gathers_snoc : (kind : Kind) (bytes : List ℕ) (commit after : CommitLines) (before following : State) (input rest : List ℕ) (line : LineView)
     → Gathers kind bytes before input commit
@@ -205,12 +210,12 @@ gathers_snoc kind bytes commit after before following input rest line (lines, pa
   lines ++ line ∷ [],
   passes_one (BeginsWithLine kind) state.Tree before following bytes input rest lines line passes has,
   grown
-      ∙ ap (λ (it : CommitLines). gather it line) is ∙ sym (gathered_more empty_commit lines line),
+      ∙ ap (λ (it : CommitLines). gather it line) is ∙ sym (gathered_snoc empty_commit lines line),
 )
 
-reads_gathered : (kind : Kind) (bytes : List ℕ) (following : State) (rest : List ℕ) (commit : CommitLines) → Gathers kind bytes following rest commit
+reads_of_gathers : (kind : Kind) (bytes : List ℕ) (following : State) (rest : List ℕ) (commit : CommitLines) → Gathers kind bytes following rest commit
     → Reads kind bytes following rest commit
-reads_gathered kind bytes following rest commit (lines, passes, is) = subst (λ (it : CommitLines). Reads kind bytes following rest it) (sym is)
+reads_of_gathers kind bytes following rest commit (lines, passes, is) = subst (λ (it : CommitLines). Reads kind bytes following rest it) (sym is)
     (reads_gathered_of_empty kind bytes lines following rest passes)
 
 -- at the end the commit is complete
@@ -218,7 +223,7 @@ pub decodes_commit_of_gathered : (kind : Kind) (bytes : List ℕ) (following : S
     → Gathers kind bytes following rest commit
     → following ≡ state.End → DecodesToCommit kind bytes commit
 decodes_commit_of_gathered kind bytes following rest commit gathers at_end = subst (λ (it : State). Reads kind bytes it rest commit) at_end
-    (reads_gathered kind bytes following rest commit gathers)
+    (reads_of_gathers kind bytes following rest commit gathers)
 
 pub decode_error_of_line_error : (kind : Kind) (bytes : List ℕ) (before : State) (input : List ℕ) (commit : CommitLines) (error reason : Error) → error ≡ reason
     → Gathers kind bytes before input commit → before ≢ state.End → IsLineError kind before input reason
@@ -226,7 +231,7 @@ pub decode_error_of_line_error : (kind : Kind) (bytes : List ℕ) (before : Stat
 decode_error_of_line_error kind bytes before input commit error Malformed same (lines, passes, is) going none =
     rw same (malformed_commit_of_no_line kind bytes lines before input passes none going)
 decode_error_of_line_error kind bytes before input commit error OutOfMemory same gathers going (may, several) =
-    rw same (inr (several_reached kind bytes before input commit (reads_gathered kind bytes before input commit gathers) may several))
+    rw same (inr (reaches_header_of_several_lines kind bytes before input commit (reads_of_gathers kind bytes before input commit gathers) may several))
 
 pub reaches_second_parent_or_header : (kind : Kind) (bytes : List ℕ) (commit : CommitLines) (before following : State) (input rest : List ℕ) (line : LineView)
     → Gathers kind bytes before input commit → BeginsWithLine kind before input line following rest → Allocates commit line
@@ -234,18 +239,18 @@ pub reaches_second_parent_or_header : (kind : Kind) (bytes : List ℕ) (commit :
 reaches_second_parent_or_header kind bytes commit before following input rest line gathers (tree_comes _ hex _ has) takes = absurd takes
 reaches_second_parent_or_header kind bytes commit before following input rest line gathers (parent_comes _ hex _ has) takes =
     let reads = reads_gather kind bytes commit before input (parent_line hex) following rest (parent_comes input hex rest has)
-    (reads_gathered kind bytes before input commit gathers) in
-    inl (two_parents kind bytes commit.tree hex rest commit.parents takes reads.0 reads.1.tree reads.1.parents)
+    (reads_of_gathers kind bytes before input commit gathers) in
+    inl (reaches_second_parent_snoc kind bytes commit.tree hex rest commit.parents takes reads.0 reads.1.tree reads.1.parents)
 reaches_second_parent_or_header kind bytes commit before following input rest line gathers (author_comes _ actor _ has) takes = absurd takes
 reaches_second_parent_or_header kind bytes commit before following input rest line gathers (committer_comes _ actor _ has) takes = absurd takes
 reaches_second_parent_or_header kind bytes commit before following input rest line gathers (encoding_comes _ encoding _ has) takes = absurd takes
 reaches_second_parent_or_header kind bytes commit before following input rest line gathers (first_header_comes _ header _ has other) takes =
     let reads = reads_gather kind bytes commit before input (header_line header) following rest (first_header_comes input header rest has other)
-    (reads_gathered kind bytes before input commit gathers) in
+    (reads_of_gathers kind bytes before input commit gathers) in
     inr (_, _, reads.0, headers_snoc_not_nil commit.extra_headers header)
 reaches_second_parent_or_header kind bytes commit before following input rest line gathers (header_comes _ header _ has) takes =
     let reads = reads_gather kind bytes commit before input (header_line header) following rest (header_comes input header rest has)
-    (reads_gathered kind bytes before input commit gathers) in
+    (reads_of_gathers kind bytes before input commit gathers) in
     inr (_, _, reads.0, headers_snoc_not_nil commit.extra_headers header)
 reaches_second_parent_or_header kind bytes commit before following input rest line gathers (first_message_comes _ message is) takes = absurd takes
 reaches_second_parent_or_header kind bytes commit before following input rest line gathers (message_comes _ message is) takes = absurd takes

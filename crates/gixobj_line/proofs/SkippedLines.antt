@@ -15,7 +15,8 @@ use Rattle.gixobj_line.specs.declared.lines.State.TheVariants as state
 
 -- ---- a line
 
-pub tree_is_line : (kind : Kind) (input hex rest : List ℕ) → BeginsWithIdField (codes "tree") kind input hex rest → BeginsWithSomeLine kind state.Tree input state.Parents rest
+pub tree_is_line : (kind : Kind) (input hex rest : List ℕ) → BeginsWithIdField (codes "tree") kind input hex rest
+    → BeginsWithSomeLine kind state.Tree input state.Parents rest
 tree_is_line kind input hex rest has = (tree_line hex, tree_comes input hex rest has)
 
 pub parent_is_line : (kind : Kind) (input hex rest : List ℕ) → BeginsWithIdField (codes "parent") kind input hex rest
@@ -70,16 +71,18 @@ consumed_more input rest following line after (value, so_far) space split = (_, 
 pub consumed_end : (input rest : List ℕ) → HasConsumedLines input rest → EndsHeader rest → (more : List (List ℕ)) × BeginsWithContinuations input more rest
 consumed_end input rest (value, so_far) ends = let it = is_unfolded_at_end [] input value rest so_far ends in (it.0, it.1)
 
-pub consumed_unended : (input rest following : List ℕ) → HasConsumedLines input rest → rest ≡ 32 ∷ following → IsByteFree 10 following → BeginsWithNoContinuations input
+pub consumed_unended : (input rest following : List ℕ) → HasConsumedLines input rest → rest ≡ 32 ∷ following → IsByteFree 10 following
+    → BeginsWithNoContinuations input
 consumed_unended input rest following (value, so_far) space free = no_lines_of_split [] input value rest following so_far space free
 
-continuation_joins : (line rest : List ℕ) (more : List (List ℕ))
+continuations_cons_append : (line rest : List ℕ) (more : List (List ℕ))
     → flat_map encode_continuation (line ∷ more) ++ rest ≡ 32 ∷ (line ++ 10 ∷ (flat_map encode_continuation more ++ rest))
-continuation_joins line rest more = simp append_assoc
+continuations_cons_append line rest more = simp append_assoc
 
-continuation_follows : (after line rest : List ℕ) (more : List (List ℕ)) → after ≡ flat_map encode_continuation (line ∷ more) ++ rest → EndsHeader after → ⊥
-continuation_follows after line rest more joined ends = (let k : EndsHeader (32 ∷ (line ++ 10 ∷ (flat_map encode_continuation more ++ rest))) = subst
-    EndsHeader (joined ∙ continuation_joins line rest more) ends in k refl)
+no_header_end_of_continuation : (after line rest : List ℕ) (more : List (List ℕ)) → after ≡ flat_map encode_continuation (line ∷ more) ++ rest
+    → EndsHeader after → ⊥
+no_header_end_of_continuation after line rest more joined ends = (let k : EndsHeader (32 ∷ (line ++ 10 ∷ (flat_map encode_continuation more ++ rest))) = subst
+    EndsHeader (joined ∙ continuations_cons_append line rest more) ends in k refl)
 
 pub header_of_parts : (input name following first after : List ℕ) (more : List (List ℕ)) (rest : List ℕ) → SplitsAt 32 input name following
     → (name ≢ []) × IsByteFree 10 name → SplitsAt 10 following first after → BeginsWithContinuations after more rest
@@ -92,7 +95,7 @@ header_of_parts input name following first after [] rest split named line lines 
 header_of_parts input name following first after (second ∷ more) rest split named line lines = (
   _,
   has_header_of_lines input name following first after (flat_map encode_line (first ∷ second ∷ more)) rest split named line
-      (continuation_follows after second rest more lines.joined) (second ∷ more, lines, refl),
+      (no_header_end_of_continuation after second rest more lines.joined) (second ∷ more, lines, refl),
 )
 
 -- ---- after the committer without an encoding: the lines that come after an encoding

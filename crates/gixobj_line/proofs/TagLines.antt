@@ -21,7 +21,8 @@ no_name_of_missing_field input none name rest (field, filled) = none name rest f
 pub no_tagger_and_begins_field : (name input value rest : List ℕ) → BeginsWithField name input value rest → BeginsWithOtherName name input → ⊥
 no_tagger_and_begins_field name input value rest field lacks = lacks (value ++ 10 ∷ rest) (field.joined ∙ simp append_assoc)
 
-pub no_tagger_of_missing_newline : (input after : List ℕ) → input ≡ codes "tagger" ++ 32 ∷ after → BeginsWithNoField (codes "tagger") input → BeginsWithMalformedTagger input
+pub no_tagger_of_missing_newline : (input after : List ℕ) → input ≡ codes "tagger" ++ 32 ∷ after → BeginsWithNoField (codes "tagger") input
+    → BeginsWithMalformedTagger input
 no_tagger_of_missing_newline input after named none (Some line) rest (field, actor) = none line rest field
 no_tagger_of_missing_newline input after named none None rest (lacks, same) = lacks after named
 

@@ -30,17 +30,17 @@ pub record ReadsPrefix (kind : hash.Kind) (bytes body : List ℕ) : Type 0 where
 
 -- ---- joined
 
-join_lines : (bytes target a kind b name c tagger body : List ℕ) → bytes ≡ target ++ a → a ≡ kind ++ b → b ≡ name ++ c → c ≡ tagger ++ body
+tag_lines_append_assoc : (bytes target a kind b name c tagger body : List ℕ) → bytes ≡ target ++ a → a ≡ kind ++ b → b ≡ name ++ c → c ≡ tagger ++ body
     → bytes ≡ (((target ++ kind) ++ name) ++ tagger) ++ body
-join_lines bytes target a kind b name c tagger body one two three four = rw (one, two, three, four) (sym (simp append_assoc))
+tag_lines_append_assoc bytes target a kind b name c tagger body one two three four = rw (one, two, three, four) (sym (simp append_assoc))
 
-tagger_joined : (tagger : Option (List ℕ)) (input rest : List ℕ) → BeginsWithTagger input tagger rest → input ≡ encode_tagger tagger ++ rest
-tagger_joined None input rest (lacks, same) = sym same
-tagger_joined (Some line) input rest (field, actor) = field.joined
+input_of_begins_with_tagger : (tagger : Option (List ℕ)) (input rest : List ℕ) → BeginsWithTagger input tagger rest → input ≡ encode_tagger tagger ++ rest
+input_of_begins_with_tagger None input rest (lacks, same) = sym same
+input_of_begins_with_tagger (Some line) input rest (field, actor) = field.joined
 
-tagger_begins : (tagger : Option (List ℕ)) (input rest : List ℕ) → BeginsWithTagger input tagger rest → IsTaggerLine tagger
-tagger_begins None input rest has = tt
-tagger_begins (Some line) input rest (field, actor) = actor
+tagger_line_of_begins_with_tagger : (tagger : Option (List ℕ)) (input rest : List ℕ) → BeginsWithTagger input tagger rest → IsTaggerLine tagger
+tagger_line_of_begins_with_tagger None input rest has = tt
+tagger_line_of_begins_with_tagger (Some line) input rest (field, actor) = actor
 
 pub parts_append : (kind : hash.Kind) (bytes body : List ℕ) → ReadsPrefix kind bytes body → BeginsTag kind bytes body
 parts_append kind bytes body reads =
@@ -49,36 +49,41 @@ parts_append kind bytes body reads =
       target_kind = reads.target_kind;
       name = reads.name;
       tagger = reads.tagger;
-      joined = join_lines bytes (encode_field (codes "object") reads.target) reads.after_target (encode_field (codes "type") (kind_name reads.target_kind))
+      joined = tag_lines_append_assoc bytes (encode_field (codes "object") reads.target) reads.after_target
+          (encode_field (codes "type") (kind_name reads.target_kind))
           reads.after_kind (encode_field (codes "tag") reads.name) reads.after_name
           (encode_tagger reads.tagger) body reads.has_target.0.joined reads.has_kind.joined reads.has_name.0.joined
-          (tagger_joined reads.tagger reads.after_name body reads.has_tagger);
+          (input_of_begins_with_tagger reads.tagger reads.after_name body reads.has_tagger);
       is_target = reads.has_target.1;
       is_name = (reads.has_name.1, reads.has_name.0.one_line);
-      is_tagger = tagger_begins reads.tagger reads.after_name body reads.has_tagger;
+      is_tagger = tagger_line_of_begins_with_tagger reads.tagger reads.after_name body reads.has_tagger;
     }
 
 -- ---- split
 
 -- no body begins as a tagger line does
-lacks_tagger : (body : List ℕ) → IsTagBody body → BeginsWithOtherName (codes "tagger") body
-lacks_tagger [] is rest same = cc same
-lacks_tagger (byte ∷ more) is rest same = let first : 116 ≡ 10 = first_bytes_eq 116 10 _ _ (sym same ∙ ap (λ (it : ℕ). it ∷ more) is) in absurd
+tag_body_has_other_name : (body : List ℕ) → IsTagBody body → BeginsWithOtherName (codes "tagger") body
+tag_body_has_other_name [] is rest same = cc same
+tag_body_has_other_name (byte ∷ more) is rest same = let first : 116 ≡ 10 = first_bytes_eq 116 10 _ _ (sym same ∙ ap (λ (it : ℕ). it ∷ more) is) in absurd
     (omega (arith, first))
 
-value_is_one_line : (kind : Kind) → IsByteFree 10 (kind_name kind)
-value_is_one_line object.Tree = byte_free_of_all_pass 10 (kind_name object.Tree) refl
-value_is_one_line object.Blob = byte_free_of_all_pass 10 (kind_name object.Blob) refl
-value_is_one_line object.Commit = byte_free_of_all_pass 10 (kind_name object.Commit) refl
-value_is_one_line object.Tag = byte_free_of_all_pass 10 (kind_name object.Tag) refl
+kind_name_is_newline_free : (kind : Kind) → IsByteFree 10 (kind_name kind)
+kind_name_is_newline_free object.Tree = byte_free_of_all_pass 10 (kind_name object.Tree) refl
+kind_name_is_newline_free object.Blob = byte_free_of_all_pass 10 (kind_name object.Blob) refl
+kind_name_is_newline_free object.Commit = byte_free_of_all_pass 10 (kind_name object.Commit) refl
+kind_name_is_newline_free object.Tag = byte_free_of_all_pass 10 (kind_name object.Tag) refl
 
-field_there : (name input value rest : List ℕ) → input ≡ encode_field name value ++ rest → IsByteFree 10 value → BeginsWithField name input value rest
-field_there name input value rest joined free = record { joined = joined; one_line = free }
+begins_with_field_of_encode_field : (name input value rest : List ℕ) → input ≡ encode_field name value ++ rest → IsByteFree 10 value
+    → BeginsWithField name input value rest
+begins_with_field_of_encode_field name input value rest joined free = record { joined = joined; one_line = free }
 
-tagger_there : (tagger : Option (List ℕ)) (body : List ℕ) → IsTaggerLine tagger → IsTagBody body → BeginsWithTagger (encode_tagger tagger ++ body) tagger body
-tagger_there None body begins is = (lacks_tagger body is, refl)
-tagger_there (Some line) body (name, email, time, rest, actor) is =
-    (field_there (codes "tagger") (encode_field (codes "tagger") line ++ body) line body refl actor.one_line, (name, email, time, rest, actor))
+begins_with_tagger_of_encode_tagger : (tagger : Option (List ℕ)) (body : List ℕ) → IsTaggerLine tagger → IsTagBody body
+    → BeginsWithTagger (encode_tagger tagger ++ body) tagger body
+begins_with_tagger_of_encode_tagger None body begins is = (tag_body_has_other_name body is, refl)
+begins_with_tagger_of_encode_tagger (Some line) body (name, email, time, rest, actor) is = (
+  begins_with_field_of_encode_field (codes "tagger") (encode_field (codes "tagger") line ++ body) line body refl actor.one_line,
+  (name, email, time, rest, actor),
+)
 
 pub take_apart : (kind : hash.Kind) (bytes body : List ℕ) → BeginsTag kind bytes body → IsTagBody body → ReadsPrefix kind bytes body
 take_apart kind bytes body it is =
@@ -96,21 +101,23 @@ take_apart kind bytes body it is =
       after_kind = name ++ (tagger ++ body);
       after_name = tagger ++ body;
       has_target = (
-        field_there (codes "object") bytes it.target (kind_line ++ (name ++ (tagger ++ body))) (it.joined ∙ flat)
+        begins_with_field_of_encode_field (codes "object") bytes it.target (kind_line ++ (name ++ (tagger ++ body))) (it.joined ∙ flat)
             (hex_digits_newline_free it.target it.is_target.1),
         it.is_target,
       );
-      has_kind = field_there (codes "type") (kind_line ++ (name ++ (tagger ++ body))) (kind_name it.target_kind) (name ++ (tagger ++ body)) refl
-          (value_is_one_line it.target_kind);
-      has_name = (field_there (codes "tag") (name ++ (tagger ++ body)) it.name (tagger ++ body) refl it.is_name.1, it.is_name.0);
-      has_tagger = tagger_there it.tagger body it.is_tagger is;
+      has_kind = begins_with_field_of_encode_field (codes "type") (kind_line ++ (name ++ (tagger ++ body))) (kind_name it.target_kind)
+          (name ++ (tagger ++ body)) refl
+          (kind_name_is_newline_free it.target_kind);
+      has_name = (begins_with_field_of_encode_field (codes "tag") (name ++ (tagger ++ body)) it.name (tagger ++ body) refl it.is_name.1, it.is_name.0);
+      has_tagger = begins_with_tagger_of_encode_tagger it.tagger body it.is_tagger is;
     }
 
 -- ---- whether bytes are a tag
 
 pub all_read : (kind : hash.Kind) (bytes target typed : List ℕ) (target_kind : Kind) (named name tagged : List ℕ) (tagger : Option (List ℕ)) (body : List ℕ)
     → BeginsWithIdField (codes "object") kind bytes target typed
-    → BeginsWithField (codes "type") typed (kind_name target_kind) named → BeginsWithTagName named name tagged → BeginsWithTagger tagged tagger body → IsTagBody body
+    → BeginsWithField (codes "type") typed (kind_name target_kind) named → BeginsWithTagName named name tagged → BeginsWithTagger tagged tagger body
+    → IsTagBody body
     → IsTag kind bytes
 all_read kind bytes target typed target_kind named name tagged tagger body has_target has_kind has_name has_tagger is =
     let reads : ReadsPrefix kind bytes body =
@@ -133,23 +140,26 @@ pub no_target : (kind : hash.Kind) (bytes : List ℕ) → BeginsWithNoIdField (c
 no_target kind bytes none (body, begins, is) = let reads = take_apart kind bytes body begins is in none reads.target reads.after_target reads.has_target
 
 -- after the decoded lines, the tag continues as the bytes do
-target_after : (kind : hash.Kind) (bytes target typed body : List ℕ) → BeginsWithIdField (codes "object") kind bytes target typed → (reads : ReadsPrefix kind bytes body)
+after_target_unique : (kind : hash.Kind) (bytes target typed body : List ℕ) → BeginsWithIdField (codes "object") kind bytes target typed
+    → (reads : ReadsPrefix kind bytes body)
     → reads.after_target ≡ typed
-target_after kind bytes target typed body has reads = (field_unique (codes "object") bytes reads.target reads.after_target target typed reads.has_target.0
+after_target_unique kind bytes target typed body has reads = (field_unique
+    (codes "object") bytes reads.target reads.after_target target typed reads.has_target.0
     has.0).1
 
-pub no_kind : (kind : hash.Kind) (bytes target typed : List ℕ) → BeginsWithIdField (codes "object") kind bytes target typed → BeginsWithNoKindField (codes "type") typed
+pub no_kind : (kind : hash.Kind) (bytes target typed : List ℕ) → BeginsWithIdField (codes "object") kind bytes target typed
+    → BeginsWithNoKindField (codes "type") typed
     → ¬ IsTag kind bytes
 no_kind kind bytes target typed has none (body, begins, is) =
     let reads = take_apart kind bytes body begins is in
     none reads.target_kind reads.after_kind (subst (λ (it : List ℕ). BeginsWithField (codes "type") it (kind_name reads.target_kind) reads.after_kind)
-    (target_after kind bytes target typed body has reads) reads.has_kind)
+    (after_target_unique kind bytes target typed body has reads) reads.has_kind)
 
-kind_after : (kind : hash.Kind) (bytes target typed token named body : List ℕ) → BeginsWithIdField (codes "object") kind bytes target typed
+after_kind_unique : (kind : hash.Kind) (bytes target typed token named body : List ℕ) → BeginsWithIdField (codes "object") kind bytes target typed
     → BeginsWithField (codes "type") typed token named → (reads : ReadsPrefix kind bytes body) → reads.after_kind ≡ named
-kind_after kind bytes target typed token named body has has_kind reads =
+after_kind_unique kind bytes target typed token named body has has_kind reads =
     let there = subst (λ (it : List ℕ). BeginsWithField (codes "type") it (kind_name reads.target_kind) reads.after_kind)
-    (target_after kind bytes target typed body has reads) reads.has_kind in
+    (after_target_unique kind bytes target typed body has reads) reads.has_kind in
     (field_unique (codes "type") typed (kind_name reads.target_kind) reads.after_kind token named there has_kind).1
 
 pub no_name : (kind : hash.Kind) (bytes target typed token named : List ℕ) → BeginsWithIdField (codes "object") kind bytes target typed
@@ -157,13 +167,14 @@ pub no_name : (kind : hash.Kind) (bytes target typed token named : List ℕ) →
 no_name kind bytes target typed token named has has_kind none (body, begins, is) =
     let reads = take_apart kind bytes body begins is in
     none reads.name reads.after_name (subst (λ (it : List ℕ). BeginsWithTagName it reads.name reads.after_name)
-    (kind_after kind bytes target typed token named body has has_kind reads) reads.has_name)
+    (after_kind_unique kind bytes target typed token named body has has_kind reads) reads.has_name)
 
-name_after : (kind : hash.Kind) (bytes target typed token named name tagged body : List ℕ) → BeginsWithIdField (codes "object") kind bytes target typed
+after_name_unique : (kind : hash.Kind) (bytes target typed token named name tagged body : List ℕ) → BeginsWithIdField (codes "object") kind bytes target typed
     → BeginsWithField (codes "type") typed token named → BeginsWithTagName named name tagged
     → (reads : ReadsPrefix kind bytes body) → reads.after_name ≡ tagged
-name_after kind bytes target typed token named name tagged body has has_kind has_name reads =
-    let there = subst (λ (it : List ℕ). BeginsWithTagName it reads.name reads.after_name) (kind_after kind bytes target typed token named body has has_kind reads)
+after_name_unique kind bytes target typed token named name tagged body has has_kind has_name reads =
+    let there = subst (λ (it : List ℕ). BeginsWithTagName it reads.name reads.after_name)
+    (after_kind_unique kind bytes target typed token named body has has_kind reads)
     reads.has_name in
     (field_unique (codes "tag") named reads.name reads.after_name name tagged there.0 has_name.0).1
 
@@ -173,7 +184,7 @@ pub no_tagger : (kind : hash.Kind) (bytes target typed token named name tagged :
 no_tagger kind bytes target typed token named name tagged has has_kind has_name none (body, begins, is) =
     let reads = take_apart kind bytes body begins is in
     none reads.tagger body (subst (λ (it : List ℕ). BeginsWithTagger it reads.tagger body)
-    (name_after kind bytes target typed token named name tagged body has has_kind has_name reads) reads.has_tagger)
+    (after_name_unique kind bytes target typed token named name tagged body has has_kind has_name reads) reads.has_tagger)
 
 pub no_body : (kind : hash.Kind) (bytes target typed token named name tagged : List ℕ) (tagger : Option (List ℕ)) (remaining : List ℕ)
     → BeginsWithIdField (codes "object") kind bytes target typed → BeginsWithField (codes "type") typed token named → BeginsWithTagName named name tagged
@@ -181,7 +192,7 @@ pub no_body : (kind : hash.Kind) (bytes target typed token named name tagged : L
 no_body kind bytes target typed token named name tagged tagger remaining has has_kind has_name has_tagger bad (body, begins, is) =
     let reads = take_apart kind bytes body begins is in
     let there = subst (λ (it : List ℕ). BeginsWithTagger it reads.tagger body)
-    (name_after kind bytes target typed token named name tagged body has has_kind has_name reads) reads.has_tagger in
+    (after_name_unique kind bytes target typed token named name tagged body has has_kind has_name reads) reads.has_tagger in
     bad (subst IsTagBody (tagger_unique tagged reads.tagger tagger body remaining there has_tagger).1 is)
 
 -- after all lines, the body decides

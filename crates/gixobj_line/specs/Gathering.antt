@@ -42,5 +42,6 @@ Allocates commit _ = ⊥
 
 -- the bytes begin with the lines of the commit that was built so far, and the rest follows in this state
 abbrev pub Gathers : Kind → List ℕ → State → List ℕ → CommitLines → Type 0
-Gathers kind bytes after rest commit = (lines : List LineView) × Passes (BeginsWithLine kind) state.Tree bytes lines after rest
+Gathers kind bytes after rest commit =
+    (lines : List LineView) × Passes (BeginsWithLine kind) state.Tree bytes lines after rest
     × (commit ≡ gathered empty_commit lines)

@@ -69,7 +69,8 @@ pub data BeginsWithLine (kind : Kind) : State → List ℕ → LineView → Stat
   encoding_comes : (input encoding rest : List ℕ) → BeginsWithField (codes "encoding") input encoding rest
       → BeginsWithLine kind state.Encoding input (encoding_line encoding) state.ExtraHeaders rest
   first_header_comes : (input : List ℕ) (header : Header) (rest : List ℕ) → BeginsWithHeader input header rest
-      → header.name ≢ codes "encoding" → BeginsWithLine kind state.Encoding input (header_line header) state.ExtraHeaders rest
+      → header.name ≢ codes "encoding"
+      → BeginsWithLine kind state.Encoding input (header_line header) state.ExtraHeaders rest
   header_comes : (input : List ℕ) (header : Header) (rest : List ℕ) → BeginsWithHeader input header rest
       → BeginsWithLine kind state.ExtraHeaders input (header_line header) state.ExtraHeaders rest
   first_message_comes : (input message : List ℕ) → input ≡ newline ∷ message

@@ -6,14 +6,15 @@ use Rattle.std.specs.Str.Parse.{AllDigits}
 use Rattle.gixobj_mode.specs.Mode.{EndsMode}
 use Rattle.gixobj_hash.specs.ByteStrings.{IsByteFree}
 
-octal_not_space : (byte : ℕ) → digit_value byte < 8 → byte ≢ 32
-octal_not_space byte digit space =
+octal_digit_ne_space : (byte : ℕ) → digit_value byte < 8 → byte ≢ 32
+octal_digit_ne_space byte digit space =
     let value : digit_value byte ≡ 36 = ap digit_value space in
     omega arith
 
 pub octal_digits_space_free : (digits : List ℕ) → AllDigits 8 digits → IsByteFree 32 digits
 octal_digits_space_free [] octal = All-nil (λ it. it ≢ 32)
-octal_digits_space_free (digit ∷ digits) octal = All-cons (λ it. it ≢ 32) digit digits (octal_not_space digit octal.0) (octal_digits_space_free digits octal.1)
+octal_digits_space_free (digit ∷ digits) octal = All-cons (λ it. it ≢ 32) digit digits (octal_digit_ne_space digit octal.0)
+    (octal_digits_space_free digits octal.1)
 
 pub split_at_space_unique : (a x b y : List ℕ) → IsByteFree 32 a → IsByteFree 32 b → EndsMode x → EndsMode y → a ++ x ≡ b ++ y → (a ≡ b) × (x ≡ y)
 split_at_space_unique [] x [] y free_a free_b ends_x ends_y same = (refl, same)

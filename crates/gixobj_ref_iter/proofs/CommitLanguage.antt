@@ -19,30 +19,34 @@ use Rattle.gixobj_ref_iter.specs.Readers.{AreTokensOfCommit, EndsInMessage}
 
 -- ---- a message last
 
-last_line : (lines : List LineView) (prefix : List CommitTokenView) (message : List ℕ) → AllZip IsTokenOfLine lines (prefix ++ message_token message ∷ [])
+last_line_of_message_token : (lines : List LineView) (prefix : List CommitTokenView) (message : List ℕ)
+    → AllZip IsTokenOfLine lines (prefix ++ message_token message ∷ [])
     → (before : List LineView) × (lines ≡ before ++ message_line message ∷ [])
-last_line [] [] message zips = absurd zips
-last_line [] (token ∷ prefix) message zips = absurd zips
-last_line (_ ∷ []) [] message (yields_message _, more) = ([], refl)
-last_line (line ∷ next ∷ lines) [] message (yields, more) = absurd more
-last_line (line ∷ lines) (token ∷ prefix) message (yields, more) = let it =
-    last_line lines prefix message more in (line ∷ it.0, ap (λ (others : List LineView). line ∷ others) it.1)
+last_line_of_message_token [] [] message zips = absurd zips
+last_line_of_message_token [] (token ∷ prefix) message zips = absurd zips
+last_line_of_message_token (_ ∷ []) [] message (yields_message _, more) = ([], refl)
+last_line_of_message_token (line ∷ next ∷ lines) [] message (yields, more) = absurd more
+last_line_of_message_token (line ∷ lines) (token ∷ prefix) message (yields, more) = let it =
+    last_line_of_message_token lines prefix message more in (line ∷ it.0, ap (λ (others : List LineView). line ∷ others) it.1)
 
-last_token : (tokens : List CommitTokenView) (prefix : List LineView) (message : List ℕ) → AllZip IsTokenOfLine (prefix ++ message_line message ∷ []) tokens
+ends_in_message_of_message_line : (tokens : List CommitTokenView) (prefix : List LineView) (message : List ℕ)
+    → AllZip IsTokenOfLine (prefix ++ message_line message ∷ []) tokens
     → EndsInMessage tokens
-last_token [] [] message zips = absurd zips
-last_token [] (line ∷ prefix) message zips = absurd zips
-last_token (_ ∷ []) [] message (yields_message _, more) = ([], message, refl)
-last_token (token ∷ next ∷ tokens) [] message (yields, more) = absurd more
-last_token (token ∷ tokens) (line ∷ prefix) message (yields, more) =
-    let it = last_token tokens prefix message more in (token ∷ it.0, it.1, ap (λ (others : List CommitTokenView). token ∷ others) it.2)
+ends_in_message_of_message_line [] [] message zips = absurd zips
+ends_in_message_of_message_line [] (line ∷ prefix) message zips = absurd zips
+ends_in_message_of_message_line (_ ∷ []) [] message (yields_message _, more) = ([], message, refl)
+ends_in_message_of_message_line (token ∷ next ∷ tokens) [] message (yields, more) = absurd more
+ends_in_message_of_message_line (token ∷ tokens) (line ∷ prefix) message (yields, more) =
+    let it = ends_in_message_of_message_line tokens prefix message more in (token ∷ it.0, it.1, ap (λ (others : List CommitTokenView). token ∷ others) it.2)
 
 -- ---- a complete run is consumed to its end
 
-passed : (kind : Kind) (before : State) (input : List ℕ) (lines : List LineView) → runs.Yields (BeginsWithLine kind) before input lines complete → (following : State)
+passes_of_yields_complete : (kind : Kind) (before : State) (input : List ℕ) (lines : List LineView)
+    → runs.Yields (BeginsWithLine kind) before input lines complete → (following : State)
     × Passes (BeginsWithLine kind) before input lines following []
-passed kind before input lines (yields_end _) = (before, (refl, refl))
-passed kind before input lines (yields_piece _ next _ after line others _ has yields_decoded) = let more = passed kind next after others yields_decoded in
+passes_of_yields_complete kind before input lines (yields_end _) = (before, (refl, refl))
+passes_of_yields_complete kind before input lines (yields_piece _ next _ after line others _ has yields_decoded) = let more =
+    passes_of_yields_complete kind next after others yields_decoded in
     (more.0, (next, after, has, more.1))
 
 -- ---- the law
@@ -51,16 +55,21 @@ pub yields_tokens_of_commit : (kind : Kind) (bytes : List ℕ) (commit : CommitL
     → (tokens : List CommitTokenView) × YieldsCommitTokens kind state.Tree bytes tokens complete × AreTokensOfCommit commit tokens × EndsInMessage tokens
 yields_tokens_of_commit kind bytes commit is =
     let it = tokens_of_lines_exist kind state.Tree bytes _ (yields_lines_of_commit kind bytes commit is) in
-    let last = lines_end_with_message commit in
-    (it.0, it.1, it.2, last_token it.0 last.0 commit.message (subst (λ (lines : List LineView). AllZip IsTokenOfLine lines it.0) last.1 it.2))
+    let last = lines_end_with_message commit in (
+      it.0,
+      it.1,
+      it.2,
+      ends_in_message_of_message_line it.0 last.0 commit.message
+          (subst (λ (lines : List LineView). AllZip IsTokenOfLine lines it.0) last.1 it.2),
+    )
 
 pub commit_of_tokens_exists : (kind : Kind) (bytes : List ℕ) (tokens : List CommitTokenView) → YieldsCommitTokens kind state.Tree bytes tokens complete
     → EndsInMessage tokens
     → (commit : CommitLines) × DecodesToCommit kind bytes commit × AreTokensOfCommit commit tokens
 commit_of_tokens_exists kind bytes tokens yields (prefix, message, ends) =
     let it = lines_of_tokens_exist kind state.Tree bytes tokens yields in
-    let last = last_line it.0 prefix message (subst (λ (all : List CommitTokenView). AllZip IsTokenOfLine it.0 all) ends it.2) in
-    let passes = passed kind state.Tree bytes it.0 it.1 in
+    let last = last_line_of_message_token it.0 prefix message (subst (λ (all : List CommitTokenView). AllZip IsTokenOfLine it.0 all) ends it.2) in
+    let passes = passes_of_yields_complete kind state.Tree bytes it.0 it.1 in
     let at_end = end_state_of_message kind state.Tree bytes it.0 last.0 message passes.0 [] passes.1 last.1 in
     let is = decodes_commit_of_gathered kind bytes passes.0 [] (gathered empty_commit it.0) (it.0, passes.1, refl) at_end in
     let other = yields_tokens_of_commit kind bytes (gathered empty_commit it.0) is in

@@ -73,12 +73,14 @@ pub reads_first_token_of_search : (Is This : CommitTokenView → Type 0) (reader
     → Searches Is reader at
     → NextCommitToken at (Some item) after → item ≡ Ok token → This (commit_token_view token)
     → ReadsFirstToken Is This reader after
-reads_first_token_of_search = readers.reads_first commit_reader_state BeginsWithCommitToken (λ kind. NeedsAllocation) commit_token_view BorrowsValue remaining_len_le
+reads_first_token_of_search = readers.reads_first commit_reader_state BeginsWithCommitToken
+    (λ kind. NeedsAllocation) commit_token_view BorrowsValue remaining_len_le
 
 pub reads_no_token_of_error : (Is : CommitTokenView → Type 0) (reader at after : CommitRefIter) (item : Result Token Error) (error : Error)
     → Searches Is reader at
     → NextCommitToken at (Some item) after → item ≡ Err error → ReadsNoToken Is reader after
-reads_no_token_of_error = readers.reads_error commit_reader_state BeginsWithCommitToken (λ kind. NeedsAllocation) commit_token_view BorrowsValue remaining_len_le
+reads_no_token_of_error = readers.reads_error commit_reader_state BeginsWithCommitToken
+    (λ kind. NeedsAllocation) commit_token_view BorrowsValue remaining_len_le
 
 pub reads_no_token_at_end : (Is : CommitTokenView → Type 0) (reader at after : CommitRefIter) → Searches Is reader at → NextCommitToken at None after
     → ReadsNoToken Is reader after

@@ -27,7 +27,8 @@ module _ (kind : Kind) (content : List ℕ) where
   goes_on tokens at after token (passed, same_kind) (has, kept, such) =
       let here = subst (λ (it : Kind). BeginsWithCommitToken it (commit_reader_state at).state (commit_reader_state at).bytes (commit_token_view token)
       (commit_reader_state after).state (commit_reader_state after).bytes) same_kind has in (
-        passes_one (BeginsWithCommitToken kind) state.Tree (commit_reader_state at).state (commit_reader_state after).state content (commit_reader_state at).bytes
+        passes_one (BeginsWithCommitToken kind) state.Tree (commit_reader_state at).state (commit_reader_state after).state content
+            (commit_reader_state at).bytes
             (commit_reader_state after).bytes tokens (commit_token_view token) passed here,
         kept ∙ same_kind,
       )

@@ -38,25 +38,25 @@ parent_id _ = []
 abbrev parents_of : List CommitTokenView → List ObjectId
 parents_of tokens = flat_map parent_id tokens
 
-no_parent : (token : CommitTokenView) → ¬ IsParentToken token → parent_id token ≡ []
-no_parent (parent_token id) other = absurd (other tt)
-no_parent (tree_token id) other = refl
-no_parent (author_token actor) other = refl
-no_parent (committer_token actor) other = refl
-no_parent (encoding_token encoding) other = refl
-no_parent (header_token header) other = refl
-no_parent (message_token message) other = refl
+parent_id_nil_of_other : (token : CommitTokenView) → ¬ IsParentToken token → parent_id token ≡ []
+parent_id_nil_of_other (parent_token id) other = absurd (other tt)
+parent_id_nil_of_other (tree_token id) other = refl
+parent_id_nil_of_other (author_token actor) other = refl
+parent_id_nil_of_other (committer_token actor) other = refl
+parent_id_nil_of_other (encoding_token encoding) other = refl
+parent_id_nil_of_other (header_token header) other = refl
+parent_id_nil_of_other (message_token message) other = refl
 
-no_parents : (tokens : List CommitTokenView) → HasNone IsParentToken tokens → parents_of tokens ≡ []
-no_parents [] none = refl
-no_parents (token ∷ tokens) none =
-    rw (no_parent token (All-head (λ it. ¬ IsParentToken it) token tokens none))
-    (no_parents tokens (All-tail (λ it. ¬ IsParentToken it) token tokens none))
+parents_of_others_nil : (tokens : List CommitTokenView) → HasNone IsParentToken tokens → parents_of tokens ≡ []
+parents_of_others_nil [] none = refl
+parents_of_others_nil (token ∷ tokens) none =
+    rw (parent_id_nil_of_other token (All-head (λ it. ¬ IsParentToken it) token tokens none))
+    (parents_of_others_nil tokens (All-tail (λ it. ¬ IsParentToken it) token tokens none))
 
 -- after tokens without a parent, the parents are those of the rest
-after_others : (others tokens : List CommitTokenView) → HasNone IsParentToken others → parents_of (others ++ tokens) ≡ parents_of tokens
-after_others others tokens none = flat_map-append parent_id others tokens ∙ ap (λ (it : List ObjectId). it ++ parents_of tokens)
-    (no_parents others none)
+parents_of_others_append : (others tokens : List CommitTokenView) → HasNone IsParentToken others → parents_of (others ++ tokens) ≡ parents_of tokens
+parents_of_others_append others tokens none = flat_map-append parent_id others tokens ∙ ap (λ (it : List ObjectId). it ++ parents_of tokens)
+    (parents_of_others_nil others none)
 
 -- ---- no parent follows the committer
 
@@ -66,34 +66,34 @@ IsAfterActors state.ExtraHeaders = ⊤
 IsAfterActors state.End = ⊤
 IsAfterActors _ = ⊥
 
-after_folded : (before : State) (input : List ℕ) → MayFold before input → IsAfterActors before
-after_folded state.Tree input may = absurd may
-after_folded state.Parents input may = absurd may
-after_folded state.Committer input may = absurd may
-after_folded state.Encoding input may = tt
-after_folded state.ExtraHeaders input may = tt
-after_folded state.End input may = absurd may
+is_after_actors_of_may_fold : (before : State) (input : List ℕ) → MayFold before input → IsAfterActors before
+is_after_actors_of_may_fold state.Tree input may = absurd may
+is_after_actors_of_may_fold state.Parents input may = absurd may
+is_after_actors_of_may_fold state.Committer input may = absurd may
+is_after_actors_of_may_fold state.Encoding input may = tt
+is_after_actors_of_may_fold state.ExtraHeaders input may = tt
+is_after_actors_of_may_fold state.End input may = absurd may
 
-after_actors : (kind : Kind) (before : State) (input : List ℕ) (line : LineView) (token : CommitTokenView) (after : State) (rest : List ℕ)
+no_parent_token_after_actors : (kind : Kind) (before : State) (input : List ℕ) (line : LineView) (token : CommitTokenView) (after : State) (rest : List ℕ)
     → BeginsWithLine kind before input line after rest → IsTokenOfLine line token → IsAfterActors before
     → (¬ IsParentToken token) × IsAfterActors after
-after_actors kind before input line token after rest (tree_comes _ hex _ has) yields may = absurd may
-after_actors kind before input line token after rest (parent_comes _ hex _ has) yields may = absurd may
-after_actors kind before input line token after rest (author_comes _ actor _ has) yields may = absurd may
-after_actors kind before input line token after rest (committer_comes _ actor _ has) yields may = absurd may
-after_actors kind before input line token after rest (encoding_comes _ encoding _ has) (yields_encoding _) may = (λ is. is, tt)
-after_actors kind before input line token after rest (first_header_comes _ header _ has other) (yields_header _) may = (λ is. is, tt)
-after_actors kind before input line token after rest (header_comes _ header _ has) (yields_header _) may = (λ is. is, tt)
-after_actors kind before input line token after rest (first_message_comes _ message is) (yields_message _) may = (λ is. is, tt)
-after_actors kind before input line token after rest (message_comes _ message is) (yields_message _) may = (λ is. is, tt)
+no_parent_token_after_actors kind before input line token after rest (tree_comes _ hex _ has) yields may = absurd may
+no_parent_token_after_actors kind before input line token after rest (parent_comes _ hex _ has) yields may = absurd may
+no_parent_token_after_actors kind before input line token after rest (author_comes _ actor _ has) yields may = absurd may
+no_parent_token_after_actors kind before input line token after rest (committer_comes _ actor _ has) yields may = absurd may
+no_parent_token_after_actors kind before input line token after rest (encoding_comes _ encoding _ has) (yields_encoding _) may = (λ is. is, tt)
+no_parent_token_after_actors kind before input line token after rest (first_header_comes _ header _ has other) (yields_header _) may = (λ is. is, tt)
+no_parent_token_after_actors kind before input line token after rest (header_comes _ header _ has) (yields_header _) may = (λ is. is, tt)
+no_parent_token_after_actors kind before input line token after rest (first_message_comes _ message is) (yields_message _) may = (λ is. is, tt)
+no_parent_token_after_actors kind before input line token after rest (message_comes _ message is) (yields_message _) may = (λ is. is, tt)
 
-none_after : (kind : Kind) (before : State) (input : List ℕ) (tokens : List CommitTokenView) (ending : Ending) → IsAfterActors before
+no_parent_tokens_after_actors : (kind : Kind) (before : State) (input : List ℕ) (tokens : List CommitTokenView) (ending : Ending) → IsAfterActors before
     → YieldsCommitTokens kind before input tokens ending → HasNone IsParentToken tokens
-none_after kind before input tokens ending may (yields_end _) = All-nil (λ it. ¬ IsParentToken it)
-none_after kind before input tokens ending may (yields_error _ _ some none) = All-nil (λ it. ¬ IsParentToken it)
-none_after kind before input tokens ending may (yields_piece _ following _ rest token others _ (line, has, yields) seen) =
-    let it = after_actors kind before input line token following rest has yields may in
-    All-cons (λ it. ¬ IsParentToken it) token others it.0 (none_after kind following rest others ending it.1 seen)
+no_parent_tokens_after_actors kind before input tokens ending may (yields_end _) = All-nil (λ it. ¬ IsParentToken it)
+no_parent_tokens_after_actors kind before input tokens ending may (yields_error _ _ some none) = All-nil (λ it. ¬ IsParentToken it)
+no_parent_tokens_after_actors kind before input tokens ending may (yields_piece _ following _ rest token others _ (line, has, yields) seen) =
+    let it = no_parent_token_after_actors kind before input line token following rest has yields may in
+    All-cons (λ it. ¬ IsParentToken it) token others it.0 (no_parent_tokens_after_actors kind following rest others ending it.1 seen)
 
 -- ---- the iterator
 
@@ -119,34 +119,35 @@ module _ (it : ParentIds) (tokens : List CommitTokenView)
         others = one.others;
         yielded = subst (λ (kind : Kind). YieldsCommitTokens kind (commit_reader_state (parents_reader after)).state
             (commit_reader_state (parents_reader after)).bytes one.others complete) (sym same_kind) one.yielded;
-        first = ap parents_of at.joined ∙ after_others passed at.others none ∙ ap parents_of one.joined
+        first = ap parents_of at.joined ∙ parents_of_others_append passed at.others none ∙ ap parents_of one.joined
             ∙ ap (λ (first : CommitTokenView). parent_id first ++ parents_of one.others) is;
       }
 
   none_passed : (after : ParentIds) → NextParent it None after → parents_of tokens ≡ []
   none_passed after (Malformed, (ending, (others, run, none)), ended, same_kind) =
       let same = (token_run_unique _ _ _ others tokens ending complete run seen).0 in
-      no_parents tokens (subst (HasNone IsParentToken) same none)
+      parents_of_others_nil tokens (subst (HasNone IsParentToken) same none)
   none_passed after (OutOfMemory, (before, input, (passed, passes, none), rejected), ended, same_kind) =
       let kind = (commit_reader_state (parents_reader it)).kind in
       let at = after_passed (BeginsWithCommitToken kind) (commit_token_unique kind) (no_commit_token_of_nil kind)
       (commit_reader_state (parents_reader it)).state before
       (commit_reader_state (parents_reader it)).bytes input passed tokens complete passes seen in
-      ap parents_of at.joined ∙ after_others passed at.others none ∙ no_parents at.others
-      (none_after _ before input at.others complete (after_folded before input rejected.0) at.yielded)
+      ap parents_of at.joined ∙ parents_of_others_append passed at.others none ∙ parents_of_others_nil at.others
+      (no_parent_tokens_after_actors _ before input at.others complete (is_after_actors_of_may_fold before input rejected.0) at.yielded)
 
-always : (ids : List ObjectId) (it : ParentIds) (tokens : List CommitTokenView) → YieldsCommitTokens (commit_reader_state (parents_reader it)).kind
+always_yields_parents : (ids : List ObjectId) (it : ParentIds) (tokens : List CommitTokenView)
+    → YieldsCommitTokens (commit_reader_state (parents_reader it)).kind
     (commit_reader_state (parents_reader it)).state (commit_reader_state (parents_reader it)).bytes tokens complete
     → parents_of tokens ≡ ids → AlwaysYields NextParent (λ id. id) it ids
-always [] it tokens seen none = λ id after gives. let received = some_passed it tokens seen id after gives in cc (none, received.first)
-always (id ∷ ids) it tokens seen some = (
+always_yields_parents [] it tokens seen none = λ id after gives. let received = some_passed it tokens seen id after gives in cc (none, received.first)
+always_yields_parents (id ∷ ids) it tokens seen some = (
   λ after gives. let none = none_passed it tokens seen after gives in cc (none, some),
   λ received after gives.
       let next = some_passed it tokens seen received after gives in
       let same : received ∷ parents_of next.others ≡ id ∷ ids = sym next.first ∙ some in
       let first : received ≡ id = cc same in
       let more : parents_of next.others ≡ ids = cc same in
-      (first, always ids after next.others next.yielded more),
+      (first, always_yields_parents ids after next.others next.yielded more),
 )
 
 -- ---- the parents of a commit
@@ -155,38 +156,39 @@ abbrev hex_of : LineView → List (List ℕ)
 hex_of (parent_line hex) = hex ∷ []
 hex_of _ = []
 
-all_yielded : (lines : List LineView) (tokens : List CommitTokenView) → AllZip IsTokenOfLine lines tokens
+line_hexes_decode_to_parents : (lines : List LineView) (tokens : List CommitTokenView) → AllZip IsTokenOfLine lines tokens
     → AllZip DecodesToId (flat_map hex_of lines) (parents_of tokens)
-all_yielded [] [] zips = tt
-all_yielded [] (token ∷ tokens) zips = absurd zips
-all_yielded (line ∷ lines) [] zips = absurd zips
-all_yielded (_ ∷ lines) (_ ∷ tokens) (yields_tree hex id spells, others) = all_yielded lines tokens others
-all_yielded (_ ∷ lines) (_ ∷ tokens) (yields_parent hex id spells, others) = (spells, all_yielded lines tokens others)
-all_yielded (_ ∷ lines) (_ ∷ tokens) (yields_author content actor is, others) = all_yielded lines tokens others
-all_yielded (_ ∷ lines) (_ ∷ tokens) (yields_committer content actor is, others) = all_yielded lines tokens others
-all_yielded (_ ∷ lines) (_ ∷ tokens) (yields_encoding encoding, others) = all_yielded lines tokens others
-all_yielded (_ ∷ lines) (_ ∷ tokens) (yields_header header, others) = all_yielded lines tokens others
-all_yielded (_ ∷ lines) (_ ∷ tokens) (yields_message message, others) = all_yielded lines tokens others
+line_hexes_decode_to_parents [] [] zips = tt
+line_hexes_decode_to_parents [] (token ∷ tokens) zips = absurd zips
+line_hexes_decode_to_parents (line ∷ lines) [] zips = absurd zips
+line_hexes_decode_to_parents (_ ∷ lines) (_ ∷ tokens) (yields_tree hex id spells, others) = line_hexes_decode_to_parents lines tokens others
+line_hexes_decode_to_parents (_ ∷ lines) (_ ∷ tokens) (yields_parent hex id spells, others) = (spells, line_hexes_decode_to_parents lines tokens others)
+line_hexes_decode_to_parents (_ ∷ lines) (_ ∷ tokens) (yields_author content actor is, others) = line_hexes_decode_to_parents lines tokens others
+line_hexes_decode_to_parents (_ ∷ lines) (_ ∷ tokens) (yields_committer content actor is, others) = line_hexes_decode_to_parents lines tokens others
+line_hexes_decode_to_parents (_ ∷ lines) (_ ∷ tokens) (yields_encoding encoding, others) = line_hexes_decode_to_parents lines tokens others
+line_hexes_decode_to_parents (_ ∷ lines) (_ ∷ tokens) (yields_header header, others) = line_hexes_decode_to_parents lines tokens others
+line_hexes_decode_to_parents (_ ∷ lines) (_ ∷ tokens) (yields_message message, others) = line_hexes_decode_to_parents lines tokens others
 
-hexes_in : (hexes : List (List ℕ)) (lines : List LineView) → flat_map hex_of lines ≡ [] → flat_map hex_of (map parent_line hexes ++ lines) ≡ hexes
-hexes_in [] lines none = none
-hexes_in (hex ∷ hexes) lines none = ap (λ (it : List (List ℕ)). hex ∷ it) (hexes_in hexes lines none)
+hexes_of_parent_lines_append : (hexes : List (List ℕ)) (lines : List LineView) → flat_map hex_of lines ≡ []
+    → flat_map hex_of (map parent_line hexes ++ lines) ≡ hexes
+hexes_of_parent_lines_append [] lines none = none
+hexes_of_parent_lines_append (hex ∷ hexes) lines none = ap (λ (it : List (List ℕ)). hex ∷ it) (hexes_of_parent_lines_append hexes lines none)
 
-none_in_headers : (headers : List Header) (message : List ℕ) → flat_map hex_of (map header_line headers ++ message_line message ∷ []) ≡ []
-none_in_headers [] message = refl
-none_in_headers (header ∷ headers) message = none_in_headers headers message
+hexes_of_headers_nil : (headers : List Header) (message : List ℕ) → flat_map hex_of (map header_line headers ++ message_line message ∷ []) ≡ []
+hexes_of_headers_nil [] message = refl
+hexes_of_headers_nil (header ∷ headers) message = hexes_of_headers_nil headers message
 
-none_in_encoding : (encoding : Option (List ℕ)) (headers : List Header) (message : List ℕ)
+hexes_of_encoding_nil : (encoding : Option (List ℕ)) (headers : List Header) (message : List ℕ)
     → flat_map hex_of (encoding_lines encoding ++ (map header_line headers ++ message_line message ∷ [])) ≡ []
-none_in_encoding None headers message = none_in_headers headers message
-none_in_encoding (Some encoding) headers message = none_in_headers headers message
+hexes_of_encoding_nil None headers message = hexes_of_headers_nil headers message
+hexes_of_encoding_nil (Some encoding) headers message = hexes_of_headers_nil headers message
 
-parents_spelled : (commit : CommitLines) (tokens : List CommitTokenView) → AreTokensOfCommit commit tokens
+commit_parents_decode : (commit : CommitLines) (tokens : List CommitTokenView) → AreTokensOfCommit commit tokens
     → AllZip DecodesToId commit.parents (parents_of tokens)
-parents_spelled commit tokens are =
+commit_parents_decode commit tokens are =
     subst (λ (hexes : List (List ℕ)). AllZip DecodesToId hexes (parents_of tokens))
-    (hexes_in commit.parents _ (none_in_encoding commit.encoding commit.extra_headers commit.message))
-    (all_yielded (lines_of_commit commit) tokens are)
+    (hexes_of_parent_lines_append commit.parents _ (hexes_of_encoding_nil commit.encoding commit.extra_headers commit.message))
+    (line_hexes_decode_to_parents (lines_of_commit commit) tokens are)
 
 pub yields_parents_of_commit : (kind : Kind) (content : List ℕ) (commit : CommitLines) (it : ParentIds) → DecodesToCommit kind content commit
     → IsAtStartOfCommit kind content (parents_reader it)
@@ -194,4 +196,4 @@ pub yields_parents_of_commit : (kind : Kind) (content : List ℕ) (commit : Comm
 yields_parents_of_commit kind content commit it is start =
     let run = language.yields_tokens_of_commit kind content commit is in
     let seen = yields_tokens_from_start kind content (parents_reader it) run.0 start run.1 in
-    (parents_of run.0, parents_spelled commit run.0 run.2, record { runs = always (parents_of run.0) it run.0 seen refl })
+    (parents_of run.0, commit_parents_decode commit run.0 run.2, record { runs = always_yields_parents (parents_of run.0) it run.0 seen refl })

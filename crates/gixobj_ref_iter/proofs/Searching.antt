@@ -32,8 +32,8 @@ token_bytes_are_prefix kind before input line after rest (first_message_comes _ 
 token_bytes_are_prefix kind before input line after rest (message_comes _ message is) = (10 ∷ message, is ∙ sym (append-nil (10 ∷ message)))
 
 -- the position advances with each line
-prefix_of : (one prefix rest all : List ℕ) (n : ℕ) → all ≡ (prefix ++ one) ++ rest → length (prefix ++ one) ≡ n → all ≡ take n all ++ rest
-prefix_of one prefix rest all n is as_long =
+eq_take_append_rest : (one prefix rest all : List ℕ) (n : ℕ) → all ≡ (prefix ++ one) ++ rest → length (prefix ++ one) ≡ n → all ≡ take n all ++ rest
+eq_take_append_rest one prefix rest all n is as_long =
     is ∙ ap (λ (xs : List ℕ). xs ++ rest)
     (sym (ap (take n) is ∙ ap (λ m. take m ((prefix ++ one) ++ rest)) (sym as_long) ∙ take-append_seam (prefix ++ one) rest))
 
@@ -43,7 +43,7 @@ pub offset_advances : (content rest one after : List ℕ) (place : ℕ) → plac
 offset_advances content rest one after place placed joined is =
     let longer : length rest ≡ length one + length after = ap length is ∙ length-append one after in
     let taken : length (take place content) ≡ place = length-take place content ∙ omega arith in
-    prefix_of one (take place content) after content (place + (length rest - length after))
+    eq_take_append_rest one (take place content) after content (place + (length rest - length after))
     (joined ∙ ap (λ (xs : List ℕ). take place content ++ xs) is ∙ sym (append_assoc (take place content) one after))
     (length-append (take place content) one ∙ omega arith)
 

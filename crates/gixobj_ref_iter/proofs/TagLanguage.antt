@@ -34,21 +34,21 @@ record TailYielded (kind : hash.Kind) (before : State) (input : List ℕ) (all :
 
 -- ---- the tokens of a body
 
-empty_body : (message : List ℕ) (signature : Option (List ℕ)) → IsBody [] message signature → body_token message signature ≡ body_token [] None
-empty_body message signature is = let same = body_unique [] message [] signature None is (newlines_alone [] refl) in cc (same.0, same.1)
+body_token_of_nil : (message : List ℕ) (signature : Option (List ℕ)) → IsBody [] message signature → body_token message signature ≡ body_token [] None
+body_token_of_nil message signature is = let same = body_unique [] message [] signature None is (newlines_alone [] refl) in cc (same.0, same.1)
 
-body_yielded : (kind : hash.Kind) (body message : List ℕ) (signature : Option (List ℕ)) → IsBody body message signature
+tail_yielded_of_body : (kind : hash.Kind) (body message : List ℕ) (signature : Option (List ℕ)) → IsBody body message signature
     → TailYielded kind state.Body body (body_token message signature ∷ [])
-body_yielded kind [] message signature is =
+tail_yielded_of_body kind [] message signature is =
     record {
       tokens = [];
       missing = body_token [] None ∷ [];
       yielded = yields_end state.Body;
       may = misses_body;
       joined = ap (λ (it : TagTokenView). it ∷ [])
-          (sym (empty_body message signature is));
+          (sym (body_token_of_nil message signature is));
     }
-body_yielded kind (byte ∷ body) message signature is =
+tail_yielded_of_body kind (byte ∷ body) message signature is =
     record {
       tokens = body_token message signature ∷ [];
       missing = [];
@@ -60,11 +60,11 @@ body_yielded kind (byte ∷ body) message signature is =
 
 -- ---- the tokens of a tagger and a body
 
-after_tagger : (kind : hash.Kind) (input line rest message : List ℕ) (signature : Option (List ℕ)) (actor : ActorView) (bytes : List ℕ)
+tail_yielded_of_tagger_line : (kind : hash.Kind) (input line rest message : List ℕ) (signature : Option (List ℕ)) (actor : ActorView) (bytes : List ℕ)
     → BeginsWithField (codes "tagger") input line rest → IsActorLineOf line actor bytes
     → TailYielded kind state.Body rest (body_token message signature ∷ [])
     → TailYielded kind state.Tagger input (tagger_token actor ∷ body_token message signature ∷ [])
-after_tagger kind input line rest message signature actor bytes field is tail =
+tail_yielded_of_tagger_line kind input line rest message signature actor bytes field is tail =
     record {
       tokens = tagger_token actor ∷ tail.tokens;
       missing = tail.missing;
@@ -75,17 +75,18 @@ after_tagger kind input line rest message signature actor bytes field is tail =
       joined = ap (λ (it : List TagTokenView). tagger_token actor ∷ it) tail.joined;
     }
 
-untagged_yielded : (kind : hash.Kind) (body message : List ℕ) (signature : Option (List ℕ)) → BeginsWithTagger body None body → IsBody body message signature
+tail_yielded_of_untagged_body : (kind : hash.Kind) (body message : List ℕ) (signature : Option (List ℕ)) → BeginsWithTagger body None body
+    → IsBody body message signature
     → TailYielded kind state.Tagger body (no_tagger_token ∷ body_token message signature ∷ [])
-untagged_yielded kind [] message signature has is =
+tail_yielded_of_untagged_body kind [] message signature has is =
     record {
       tokens = [];
       missing = no_tagger_token ∷ body_token [] None ∷ [];
       yielded = yields_end state.Tagger;
       may = misses_tagger_and_body;
-      joined = ap (λ (it : TagTokenView). no_tagger_token ∷ it ∷ []) (sym (empty_body message signature is));
+      joined = ap (λ (it : TagTokenView). no_tagger_token ∷ it ∷ []) (sym (body_token_of_nil message signature is));
     }
-untagged_yielded kind (byte ∷ body) message signature has is =
+tail_yielded_of_untagged_body kind (byte ∷ body) message signature has is =
     let filled : byte ∷ body ≢ [] = λ bare. cc bare in
     record {
       tokens = no_tagger_token ∷ body_token message signature ∷ [];
@@ -105,24 +106,24 @@ record TaggerYielded (kind : hash.Kind) (input : List ℕ) (line : Option (List 
   yields : IsTokenOfTagger line token
   tail : TailYielded kind state.Tagger input (token ∷ body_token message signature ∷ [])
 
-tail_yielded : (kind : hash.Kind) (input : List ℕ) (line : Option (List ℕ)) (body message : List ℕ) (signature : Option (List ℕ))
+tagger_yielded_of_body : (kind : hash.Kind) (input : List ℕ) (line : Option (List ℕ)) (body message : List ℕ) (signature : Option (List ℕ))
     → BeginsWithTagger input line body
     → IsBody body message signature → TaggerYielded kind input line message signature
-tail_yielded kind input None body message signature (lacks, same) is =
+tagger_yielded_of_body kind input None body message signature (lacks, same) is =
     let has : BeginsWithTagger body None body = (subst (λ (it : List ℕ). BeginsWithTagger it None body) (sym same) (lacks, same)) in
-    let yields_decoded = untagged_yielded kind body message signature has is in
+    let yields_decoded = tail_yielded_of_untagged_body kind body message signature has is in
     record {
       token = no_tagger_token;
       yields = yields_no_tagger;
       tail = subst
           (λ (it : List ℕ). TailYielded kind state.Tagger it (no_tagger_token ∷ body_token message signature ∷ [])) same yields_decoded;
     }
-tail_yielded kind input (Some line) body message signature (field, (name, email, time, bytes, named)) is =
+tagger_yielded_of_body kind input (Some line) body message signature (field, (name, email, time, bytes, named)) is =
     let actor : ActorView = record { name = name; email = email; time = time } in
     record {
       token = tagger_token actor;
       yields = yields_tagger line actor bytes named;
-      tail = after_tagger kind input line body message signature actor bytes field named (body_yielded kind body message signature is);
+      tail = tail_yielded_of_tagger_line kind input line body message signature actor bytes field named (tail_yielded_of_body kind body message signature is);
     }
 
 -- ---- the law: a tag yields its tokens
@@ -133,7 +134,7 @@ yields_tokens_of_tag kind content tag is =
     let reads = parts_of_decoded_tag kind content tag is in
     let spells = decoded_id_decodes tag.target (is_id_hex_of_decoded kind tag.target reads.target.1) in
     let id = decoded_id tag.target in
-    let it = tail_yielded kind reads.after_name tag.tagger reads.body tag.message tag.signature reads.tagger reads.parted in
+    let it = tagger_yielded_of_body kind reads.after_name tag.tagger reads.body tag.message tag.signature reads.tagger reads.parted in
     let tail = it.tail in
     let named = yields_piece state.Name state.Tagger reads.after_kind reads.after_name (name_token tag.name) tail.tokens complete
     (name_comes reads.after_kind tag.name reads.after_name reads.name) tail.yielded in
@@ -161,14 +162,15 @@ record Tail (input : List ℕ) (tokens : List TagTokenView) : Type 0 where
   joined : tokens ++ missing ≡ token ∷ body_token message signature ∷ []
 
 -- no token follows the body
-after_body : (kind : hash.Kind) (tokens : List TagTokenView) → YieldsTagTokens kind state.End [] tokens complete → tokens ≡ []
-after_body kind tokens (yields_end _) = refl
-after_body kind _ (yields_piece _ following _ rest piece pieces _ has _) = elim has [ ]
+no_tokens_at_end : (kind : hash.Kind) (tokens : List TagTokenView) → YieldsTagTokens kind state.End [] tokens complete → tokens ≡ []
+no_tokens_at_end kind tokens (yields_end _) = refl
+no_tokens_at_end kind _ (yields_piece _ following _ rest piece pieces _ has _) = elim has [ ]
 
-read_body : (kind : hash.Kind) (input : List ℕ) (line : Option (List ℕ)) (body : List ℕ) (token : TagTokenView) (tokens : List TagTokenView)
+tail_of_tagger_and_body_tokens : (kind : hash.Kind) (input : List ℕ) (line : Option (List ℕ)) (body : List ℕ)
+    (token : TagTokenView) (tokens : List TagTokenView)
     → BeginsWithTagger input line body → IsTokenOfTagger line token → YieldsTagTokens kind state.Body body tokens complete
     → Tail input (token ∷ tokens)
-read_body kind input line body token tokens has determines (yields_end _) =
+tail_of_tagger_and_body_tokens kind input line body token tokens has determines (yields_end _) =
     record {
       line = line;
       body = [];
@@ -183,9 +185,9 @@ read_body kind input line body token tokens has determines (yields_end _) =
       may = misses_body;
       joined = refl;
     }
-read_body kind input line body token tokens has determines
+tail_of_tagger_and_body_tokens kind input line body token tokens has determines
     (yields_piece _ _ _ _ _ others _ (body_comes _ message signature filled is) yields_decoded) =
-    let none = after_body kind others yields_decoded in
+    let none = no_tokens_at_end kind others yields_decoded in
     record {
       line = line;
       body = body;
@@ -200,12 +202,12 @@ read_body kind input line body token tokens has determines
       joined = ap (λ (it : List TagTokenView). token ∷ body_token message signature ∷ (it ++ [])) none;
     }
 
-no_name_in_nothing : (rest : List ℕ) → [] ≢ codes "tagger" ++ 32 ∷ rest
-no_name_in_nothing rest same = cc same
+nil_ne_tagger_field : (rest : List ℕ) → [] ≢ codes "tagger" ++ 32 ∷ rest
+nil_ne_tagger_field rest same = cc same
 
-read_tail : (kind : hash.Kind) (input : List ℕ) (tokens : List TagTokenView) → YieldsTagTokens kind state.Tagger input tokens complete
+tail_of_tokens : (kind : hash.Kind) (input : List ℕ) (tokens : List TagTokenView) → YieldsTagTokens kind state.Tagger input tokens complete
     → Tail input tokens
-read_tail kind input tokens (yields_end _) =
+tail_of_tokens kind input tokens (yields_end _) =
     record {
       line = None;
       body = [];
@@ -213,26 +215,26 @@ read_tail kind input tokens (yields_end _) =
       signature = None;
       token = no_tagger_token;
       missing = no_tagger_token ∷ body_token [] None ∷ [];
-      has = (no_name_in_nothing, refl);
+      has = (nil_ne_tagger_field, refl);
       parted = newlines_alone [] refl;
       yields = yields_no_tagger;
       may = misses_tagger_and_body;
       joined = refl;
     }
-read_tail kind input tokens (yields_piece _ _ _ rest _ others _ (tagger_comes _ line _ actor bytes field is) yields_decoded) =
-    read_body kind input (Some line) rest (tagger_token actor) others (field, (actor.name, actor.email, actor.time, bytes, is))
+tail_of_tokens kind input tokens (yields_piece _ _ _ rest _ others _ (tagger_comes _ line _ actor bytes field is) yields_decoded) =
+    tail_of_tagger_and_body_tokens kind input (Some line) rest (tagger_token actor) others (field, (actor.name, actor.email, actor.time, bytes, is))
     (yields_tagger line actor bytes is) yields_decoded
-read_tail kind input tokens (yields_piece _ _ _ _ _ others _ (no_tagger_comes _ filled lacks) yields_decoded) =
-    read_body kind input None input no_tagger_token others (lacks, refl) yields_no_tagger yields_decoded
+tail_of_tokens kind input tokens (yields_piece _ _ _ _ _ others _ (no_tagger_comes _ filled lacks) yields_decoded) =
+    tail_of_tagger_and_body_tokens kind input None input no_tagger_token others (lacks, refl) yields_no_tagger yields_decoded
 
 -- these bytes are the encoding of a tag with these tokens
 abbrev Found : hash.Kind → List ℕ → List TagTokenView → Type 0
 Found kind content tokens = (tag : TagLines) × DecodesToTag kind content tag × AreTokensOfTag tag tokens
 
-found : (kind : hash.Kind) (content hex after following name rest : List ℕ) (id : ObjectId) (of : Kind) (tokens : List TagTokenView)
+found_of_tail : (kind : hash.Kind) (content hex after following name rest : List ℕ) (id : ObjectId) (of : Kind) (tokens : List TagTokenView)
     → BeginsWithIdField (codes "object") kind content hex after → DecodesToId hex id → BeginsWithField (codes "type") after (kind_name of) following
     → BeginsWithTagName following name rest → Tail rest tokens → Found kind content (target_token id ∷ kind_token of ∷ name_token name ∷ tokens)
-found kind content hex after following name rest id of tokens has spells field named tail =
+found_of_tail kind content hex after following name rest id of tokens has spells field named tail =
     let tag : TagLines = record {
       target = hex;
       target_kind = of;
@@ -259,25 +261,25 @@ found kind content hex after following name rest id of tokens has spells field n
       (tail.missing, tail.may, record { id = id; tagger = tail.token; hex_of_id = spells; yielded = tail.yields; joined = joined }),
     )
 
-read_name : (kind : hash.Kind) (content hex after input : List ℕ) (id : ObjectId) (of : Kind) (tokens : List TagTokenView)
+found_of_name_tokens : (kind : hash.Kind) (content hex after input : List ℕ) (id : ObjectId) (of : Kind) (tokens : List TagTokenView)
     → BeginsWithIdField (codes "object") kind content hex after → DecodesToId hex id → BeginsWithField (codes "type") after (kind_name of) input
     → YieldsTagTokens kind state.Name input tokens complete → IsAfterName tokens → Found kind content (target_token id ∷ kind_token of ∷ tokens)
-read_name kind content hex after input id of tokens has spells field (yields_end _) came = absurd came
-read_name kind content hex after input id of tokens has spells field (yields_piece _ _ _ rest _ others _ (name_comes _ name _ named) yields_decoded)
+found_of_name_tokens kind content hex after input id of tokens has spells field (yields_end _) came = absurd came
+found_of_name_tokens kind content hex after input id of tokens has spells field (yields_piece _ _ _ rest _ others _ (name_comes _ name _ named) yields_decoded)
     came =
-    found kind content hex after input name rest id of others has spells field named (read_tail kind rest others yields_decoded)
+    found_of_tail kind content hex after input name rest id of others has spells field named (tail_of_tokens kind rest others yields_decoded)
 
-read_kind : (kind : hash.Kind) (content hex input : List ℕ) (id : ObjectId) (tokens : List TagTokenView)
+found_of_kind_tokens : (kind : hash.Kind) (content hex input : List ℕ) (id : ObjectId) (tokens : List TagTokenView)
     → BeginsWithIdField (codes "object") kind content hex input
     → DecodesToId hex id → YieldsTagTokens kind state.TargetKind input tokens complete → IsAfterName tokens
     → Found kind content (target_token id ∷ tokens)
-read_kind kind content hex input id tokens has spells (yields_end _) came = absurd came
-read_kind kind content hex input id tokens has spells (yields_piece _ _ _ rest _ others _ (kind_comes _ _ of field) yields_decoded) came =
-    read_name kind content hex input rest id of others has spells field yields_decoded came
+found_of_kind_tokens kind content hex input id tokens has spells (yields_end _) came = absurd came
+found_of_kind_tokens kind content hex input id tokens has spells (yields_piece _ _ _ rest _ others _ (kind_comes _ _ of field) yields_decoded) came =
+    found_of_name_tokens kind content hex input rest id of others has spells field yields_decoded came
 
 pub tag_of_tokens_exists : (kind : hash.Kind) (content : List ℕ) (tokens : List TagTokenView) → YieldsTagTokens kind state.Target content tokens complete
     → IsAfterName tokens
     → (tag : TagLines) × DecodesToTag kind content tag × AreTokensOfTag tag tokens
 tag_of_tokens_exists kind content tokens (yields_end _) came = absurd came
 tag_of_tokens_exists kind content tokens (yields_piece _ _ _ rest _ others _ (target_comes _ hex _ id has spells) yields_decoded) came =
-    read_kind kind content hex rest id others has spells yields_decoded came
+    found_of_kind_tokens kind content hex rest id others has spells yields_decoded came

@@ -36,87 +36,89 @@ is_token_of_tagger tagger line actor parsed same =
     let it : IsParsedTagger (Some (line, actor)) = subst IsParsedTagger same parsed in
     rw same (yields_tagger (bstr_bytes line) (actor_view actor) it.0 it.1)
 
-yielded_comes : (kind : hash.Kind) (input rest : List ℕ) (line : Option (List ℕ)) (token : TagTokenView) → input ≢ [] → BeginsWithTagger input line rest
+begins_with_token_of_tagger : (kind : hash.Kind) (input rest : List ℕ) (line : Option (List ℕ)) (token : TagTokenView) → input ≢ []
+    → BeginsWithTagger input line rest
     → IsTokenOfTagger line token → BeginsWithTagToken kind state.Tagger input token state.Body rest
-yielded_comes kind input rest (Some line) token filled (field, _) (yields_tagger _ actor after is) = tagger_comes input line rest actor after field is
-yielded_comes kind input rest None token filled (lacks, same) yields_no_tagger =
+begins_with_token_of_tagger kind input rest (Some line) token filled (field, _) (yields_tagger _ actor after is) =
+    tagger_comes input line rest actor after field is
+begins_with_token_of_tagger kind input rest None token filled (lacks, same) yields_no_tagger =
     rw same (no_tagger_comes input filled lacks)
 
 pub has_tagger_token : (kind : hash.Kind) (before : State) (input rest : List ℕ) (line : Option (List ℕ)) (token : TagTokenView) → before ≡ state.Tagger
     → input ≢ [] → BeginsWithTagger input line rest → IsTokenOfTagger line token
     → BeginsWithTagToken kind before input token state.Body rest
-has_tagger_token kind before input rest line token same filled has yields = rw same (yielded_comes kind input rest line token filled has yields)
+has_tagger_token kind before input rest line token same filled has yields = rw same (begins_with_token_of_tagger kind input rest line token filled has yields)
 
 -- ---- no token
 
-none_yielded : (kind : hash.Kind) (input : List ℕ) (token : TagTokenView) (after : State) (rest : List ℕ) → BeginsWithMalformedTagger input
+no_token_of_malformed_tagger : (kind : hash.Kind) (input : List ℕ) (token : TagTokenView) (after : State) (rest : List ℕ) → BeginsWithMalformedTagger input
     → BeginsWithTagToken kind state.Tagger input token after rest → ⊥
-none_yielded kind input token after rest none (tagger_comes _ line _ actor bytes field is) =
+no_token_of_malformed_tagger kind input token after rest none (tagger_comes _ line _ actor bytes field is) =
     none (Some line) rest (field, (actor.name, actor.email, actor.time, bytes, is))
-none_yielded kind input token after rest none (no_tagger_comes _ filled lacks) = none None input (lacks, refl)
+no_token_of_malformed_tagger kind input token after rest none (no_tagger_comes _ filled lacks) = none None input (lacks, refl)
 
 pub has_no_tagger_token : (kind : hash.Kind) (before : State) (input : List ℕ) → before ≡ state.Tagger → BeginsWithMalformedTagger input
     → HasNoPiece (BeginsWithTagToken kind) before input
-has_no_tagger_token kind before input same none token after rest has = none_yielded kind input token after rest none
+has_no_tagger_token kind before input same none token after rest has = no_token_of_malformed_tagger kind input token after rest none
     (subst (λ (it : State). BeginsWithTagToken kind it input token after rest) same has)
 
 -- ---- a token consumes bytes, or at least a state
 
 -- after a field fewer bytes remain
-field_shortens : (name input value rest : List ℕ) → BeginsWithField name input value rest → length rest < length input
-field_shortens name input value rest field =
+field_rest_len_lt : (name input value rest : List ℕ) → BeginsWithField name input value rest → length rest < length input
+field_rest_len_lt name input value rest field =
     omega (arith, ap length field.joined, length-append (encode_field name value) rest, length-append name (32 ∷ (value ++ 10 ∷ [])))
 
 pub remaining_len_le : (kind : hash.Kind) (before : State) (input : List ℕ) (token : TagTokenView) (after : State) (rest : List ℕ)
     → BeginsWithTagToken kind before input token after rest → length rest ≤ length input
 remaining_len_le kind before input token after rest (target_comes _ hex _ id has spells) = let less =
-    field_shortens (codes "object") input hex rest has.0 in omega
+    field_rest_len_lt (codes "object") input hex rest has.0 in omega
     (arith, less)
 remaining_len_le kind before input token after rest (kind_comes _ _ of field) = let less =
-    field_shortens (codes "type") input (kind_name of) rest field in omega
+    field_rest_len_lt (codes "type") input (kind_name of) rest field in omega
     (arith, less)
-remaining_len_le kind before input token after rest (name_comes _ name _ has) = let less = field_shortens (codes "tag") input name rest has.0 in omega
+remaining_len_le kind before input token after rest (name_comes _ name _ has) = let less = field_rest_len_lt (codes "tag") input name rest has.0 in omega
     (arith, less)
 remaining_len_le kind before input token after rest (tagger_comes _ line _ actor bytes field is) = let less =
-    field_shortens (codes "tagger") input line rest field in omega (arith, less)
+    field_rest_len_lt (codes "tagger") input line rest field in omega (arith, less)
 remaining_len_le kind before input token after rest (no_tagger_comes _ filled lacks) = omega arith
 remaining_len_le kind before input token after rest (body_comes _ message signature filled is) = omega arith
 
-fewer_states : (kind : hash.Kind) (before : State) (input : List ℕ) (token : TagTokenView) (after : State) (rest : List ℕ)
+remaining_states_lt : (kind : hash.Kind) (before : State) (input : List ℕ) (token : TagTokenView) (after : State) (rest : List ℕ)
     → BeginsWithTagToken kind before input token after rest → remaining_states after < remaining_states before
-fewer_states kind before input token after rest (target_comes _ hex _ id has spells) = omega arith
-fewer_states kind before input token after rest (kind_comes _ _ of field) = omega arith
-fewer_states kind before input token after rest (name_comes _ name _ has) = omega arith
-fewer_states kind before input token after rest (tagger_comes _ line _ actor bytes field is) = omega arith
-fewer_states kind before input token after rest (no_tagger_comes _ filled lacks) = omega arith
-fewer_states kind before input token after rest (body_comes _ message signature filled is) = omega arith
+remaining_states_lt kind before input token after rest (target_comes _ hex _ id has spells) = omega arith
+remaining_states_lt kind before input token after rest (kind_comes _ _ of field) = omega arith
+remaining_states_lt kind before input token after rest (name_comes _ name _ has) = omega arith
+remaining_states_lt kind before input token after rest (tagger_comes _ line _ actor bytes field is) = omega arith
+remaining_states_lt kind before input token after rest (no_tagger_comes _ filled lacks) = omega arith
+remaining_states_lt kind before input token after rest (body_comes _ message signature filled is) = omega arith
 
 pub remaining_measure_lt : (kind : hash.Kind) (before : State) (input : List ℕ) (token : TagTokenView) (after : State) (rest : List ℕ)
     → BeginsWithTagToken kind before input token after rest
     → length rest + remaining_states after < length input + remaining_states before
 remaining_measure_lt kind before input token after rest has =
-    omega (arith, remaining_len_le kind before input token after rest has, fewer_states kind before input token after rest has)
+    omega (arith, remaining_len_le kind before input token after rest has, remaining_states_lt kind before input token after rest has)
 
 -- ---- one token
 
 pub no_tag_token_of_nil : (kind : hash.Kind) (before : State) (input : List ℕ) (token : TagTokenView) (after : State) (rest : List ℕ) → input ≡ []
     → BeginsWithTagToken kind before input token after rest → ⊥
 no_tag_token_of_nil kind before input token after rest bare (target_comes _ hex _ id has spells) = let less =
-    field_shortens (codes "object") input hex rest has.0 in omega (arith, less, ap length bare)
+    field_rest_len_lt (codes "object") input hex rest has.0 in omega (arith, less, ap length bare)
 no_tag_token_of_nil kind before input token after rest bare (kind_comes _ _ of field) = let less =
-    field_shortens (codes "type") input (kind_name of) rest field in omega (arith, less, ap length bare)
+    field_rest_len_lt (codes "type") input (kind_name of) rest field in omega (arith, less, ap length bare)
 no_tag_token_of_nil kind before input token after rest bare (name_comes _ name _ has) = let less =
-    field_shortens (codes "tag") input name rest has.0 in omega
+    field_rest_len_lt (codes "tag") input name rest has.0 in omega
     (arith, less, ap length bare)
 no_tag_token_of_nil kind before input token after rest bare (tagger_comes _ line _ actor bytes field is) = let less =
-    field_shortens (codes "tagger") input line rest field in omega (arith, less, ap length bare)
+    field_rest_len_lt (codes "tagger") input line rest field in omega (arith, less, ap length bare)
 no_tag_token_of_nil kind before input token after rest bare (no_tagger_comes _ filled lacks) = filled bare
 no_tag_token_of_nil kind before input token after rest bare (body_comes _ message signature filled is) = filled bare
 
-one_target : (kind : hash.Kind) (input a x : List ℕ) (i : ObjectId) (b y : List ℕ) (j : ObjectId) → BeginsWithIdField (codes "object") kind input a x
+target_field_unique : (kind : hash.Kind) (input a x : List ℕ) (i : ObjectId) (b y : List ℕ) (j : ObjectId) → BeginsWithIdField (codes "object") kind input a x
     → DecodesToId a i
     → BeginsWithIdField (codes "object") kind input b y → DecodesToId b j → (i ≡ j) × (x ≡ y)
-one_target kind input a x i b y j has spells has' spells' =
+target_field_unique kind input a x i b y j has spells has' spells' =
     let same = field_unique (codes "object") input a x b y has.0 has'.0 in
     let there : DecodesToId b i = subst (λ (it : List ℕ). DecodesToId it i) same.0 spells in
     (decoded_id_unique b i there ∙ sym (decoded_id_unique b j spells'), same.1)
@@ -125,7 +127,7 @@ pub tag_token_unique : (kind : hash.Kind) (before : State) (input : List ℕ) (a
     → BeginsWithTagToken kind before input a s x
     → BeginsWithTagToken kind before input b t y → (a ≡ b) × (s ≡ t) × (x ≡ y)
 tag_token_unique kind before input a b s t x y (target_comes _ hex _ id has spells) (target_comes _ hex' _ id' has' spells') =
-    let same = one_target kind input hex x id hex' y id' has spells has' spells' in (ap target_token same.0, refl, same.1)
+    let same = target_field_unique kind input hex x id hex' y id' has spells has' spells' in (ap target_token same.0, refl, same.1)
 tag_token_unique kind before input a b s t x y (kind_comes _ _ of field) (kind_comes _ _ of' field') =
     let same = field_unique (codes "type") input (kind_name of) x (kind_name of') y field field' in
     (ap kind_token (kind_keyword_injective of of' same.0), refl, same.1)

@@ -25,93 +25,94 @@ use Rattle.gixobj_ref_iter.specs.declared.tag.Token.{Token}
 
 -- ---- lists of tokens
 
-not_bare : (xs : List TagTokenView) (x : TagTokenView) → [] ≢ xs ++ x ∷ []
-not_bare [] x same = cc same
-not_bare (first ∷ xs) x same = cc same
+nil_ne_snoc : (xs : List TagTokenView) (x : TagTokenView) → [] ≢ xs ++ x ∷ []
+nil_ne_snoc [] x same = cc same
+nil_ne_snoc (first ∷ xs) x same = cc same
 
-last_apart : (xs ys : List TagTokenView) (x y : TagTokenView) → xs ++ x ∷ [] ≡ ys ++ y ∷ [] → (xs ≡ ys) × (x ≡ y)
-last_apart [] [] x y same = (refl, cc same)
-last_apart [] (b ∷ ys) x y same = let none : [] ≡ ys ++ y ∷ [] = cc same in absurd (not_bare ys y none)
-last_apart (a ∷ xs) [] x y same = let none : [] ≡ xs ++ x ∷ [] = cc (sym same) in absurd (not_bare xs x none)
-last_apart (a ∷ xs) (b ∷ ys) x y same =
+snoc_injective : (xs ys : List TagTokenView) (x y : TagTokenView) → xs ++ x ∷ [] ≡ ys ++ y ∷ [] → (xs ≡ ys) × (x ≡ y)
+snoc_injective [] [] x y same = (refl, cc same)
+snoc_injective [] (b ∷ ys) x y same = let none : [] ≡ ys ++ y ∷ [] = cc same in absurd (nil_ne_snoc ys y none)
+snoc_injective (a ∷ xs) [] x y same = let none : [] ≡ xs ++ x ∷ [] = cc (sym same) in absurd (nil_ne_snoc xs x none)
+snoc_injective (a ∷ xs) (b ∷ ys) x y same =
     let heads : a ≡ b = cc same in
     let tails : xs ++ x ∷ [] ≡ ys ++ y ∷ [] = cc same in
-    let more = last_apart xs ys x y tails in
+    let more = snoc_injective xs ys x y tails in
     (cc (heads, more.0), more.1)
 
-is_tagger : (line : Option (List ℕ)) (token : TagTokenView) → IsTokenOfTagger line token → IsTaggerToken token
-is_tagger line token (yields_tagger _ actor rest is) = tt
-is_tagger line token yields_no_tagger = tt
+is_tagger_token_of_line : (line : Option (List ℕ)) (token : TagTokenView) → IsTokenOfTagger line token → IsTaggerToken token
+is_tagger_token_of_line line token (yields_tagger _ actor rest is) = tt
+is_tagger_token_of_line line token yields_no_tagger = tt
 
-no_line : (line : Option (List ℕ)) (token : TagTokenView) → IsTokenOfTagger line token → token ≡ no_tagger_token → line ≡ None
-no_line line token (yields_tagger _ actor rest is) same = absurd (cc same)
-no_line line token yields_no_tagger same = refl
+no_tagger_line_of_token : (line : Option (List ℕ)) (token : TagTokenView) → IsTokenOfTagger line token → token ≡ no_tagger_token → line ≡ None
+no_tagger_line_of_token line token (yields_tagger _ actor rest is) same = absurd (cc same)
+no_tagger_line_of_token line token yields_no_tagger same = refl
 
-yielded_is_tagger : (tagger : Option SignatureRef) → IsTaggerToken (token_of_tagger tagger)
-yielded_is_tagger None = tt
-yielded_is_tagger (Some actor) = tt
+token_of_tagger_is_tagger : (tagger : Option SignatureRef) → IsTaggerToken (token_of_tagger tagger)
+token_of_tagger_is_tagger None = tt
+token_of_tagger_is_tagger (Some actor) = tt
 
 -- of all tokens of a tag, only the tagger's is a tagger token
-at_its_place : (passed more : List TagTokenView) (token tagger : TagTokenView) (id : ObjectId) (of : object.Kind) (name message : List ℕ)
+tagger_token_unique : (passed more : List TagTokenView) (token tagger : TagTokenView) (id : ObjectId) (of : object.Kind) (name message : List ℕ)
     (signature : Option (List ℕ)) → IsTaggerToken token
     → passed ++ token ∷ more ≡ target_token id ∷ kind_token of ∷ name_token name ∷ tagger ∷ body_token message signature ∷ [] → token ≡ tagger
-at_its_place [] more token tagger id of name message signature is same = let e : token ≡ target_token id =
+tagger_token_unique [] more token tagger id of name message signature is same = let e : token ≡ target_token id =
     cc same in absurd (subst IsTaggerToken e is)
-at_its_place (a ∷ []) more token tagger id of name message signature is same = let e : token ≡ kind_token of =
+tagger_token_unique (a ∷ []) more token tagger id of name message signature is same = let e : token ≡ kind_token of =
     cc same in absurd (subst IsTaggerToken e is)
-at_its_place (a ∷ b ∷ []) more token tagger id of name message signature is same = let e : token ≡ name_token name =
+tagger_token_unique (a ∷ b ∷ []) more token tagger id of name message signature is same = let e : token ≡ name_token name =
     cc same in absurd (subst IsTaggerToken e is)
-at_its_place (a ∷ b ∷ c ∷ []) more token tagger id of name message signature is same = cc same
-at_its_place (a ∷ b ∷ c ∷ d ∷ []) more token tagger id of name message signature is same = let e : token ≡ body_token message signature =
+tagger_token_unique (a ∷ b ∷ c ∷ []) more token tagger id of name message signature is same = cc same
+tagger_token_unique (a ∷ b ∷ c ∷ d ∷ []) more token tagger id of name message signature is same = let e : token ≡ body_token message signature =
     cc same in absurd (subst IsTaggerToken e is)
-at_its_place (a ∷ b ∷ c ∷ d ∷ e ∷ []) more token tagger id of name message signature is same = absurd (cc same)
-at_its_place (a ∷ b ∷ c ∷ d ∷ e ∷ f ∷ passed) more token tagger id of name message signature is same = absurd (cc same)
+tagger_token_unique (a ∷ b ∷ c ∷ d ∷ e ∷ []) more token tagger id of name message signature is same = absurd (cc same)
+tagger_token_unique (a ∷ b ∷ c ∷ d ∷ e ∷ f ∷ passed) more token tagger id of name message signature is same = absurd (cc same)
 
 -- ---- without a tagger token
 
-some_tagger : (tag : TagLines) (tokens : List TagTokenView) (id : ObjectId) (tagger : TagTokenView) (more : List TagTokenView)
+not_has_none_of_tagger : (tag : TagLines) (tokens : List TagTokenView) (id : ObjectId) (tagger : TagTokenView) (more : List TagTokenView)
     → IsTokenOfTagger tag.tagger tagger → tokens ≡ target_token id ∷ kind_token tag.target_kind ∷ name_token tag.name ∷ tagger ∷ more
     → HasNone IsTaggerToken tokens → ⊥
-some_tagger tag tokens id tagger more yields same none =
-    one_here IsTaggerToken (target_token id ∷ kind_token tag.target_kind ∷ name_token tag.name ∷ []) tagger more (is_tagger tag.tagger tagger yields)
+not_has_none_of_tagger tag tokens id tagger more yields same none =
+    one_here IsTaggerToken (target_token id ∷ kind_token tag.target_kind ∷ name_token tag.name ∷ []) tagger more
+    (is_tagger_token_of_line tag.tagger tagger yields)
     (subst (HasNone IsTaggerToken) same none)
 
-same_body : (m n : List ℕ) (s t : Option (List ℕ)) → body_token m s ≡ body_token n t → (m ≡ n) × (s ≡ t)
-same_body m n s t same = (cc same, cc same)
+body_token_injective : (m n : List ℕ) (s t : Option (List ℕ)) → body_token m s ≡ body_token n t → (m ≡ n) × (s ≡ t)
+body_token_injective m n s t same = (cc same, cc same)
 
-lacks_all : (tag : TagLines) (tokens missing : List TagTokenView) → IsOptionalToken missing → AreAllTokensOfTag tag (tokens ++ missing)
+ends_after_name_of_no_tagger : (tag : TagLines) (tokens missing : List TagTokenView) → IsOptionalToken missing → AreAllTokensOfTag tag (tokens ++ missing)
     → HasNone IsTaggerToken tokens → EndsAfterItsName tag
-lacks_all tag tokens missing misses_nothing all none =
-    absurd (some_tagger tag tokens all.id all.tagger (body_token tag.message tag.signature ∷ []) all.yielded
+ends_after_name_of_no_tagger tag tokens missing misses_nothing all none =
+    absurd (not_has_none_of_tagger tag tokens all.id all.tagger (body_token tag.message tag.signature ∷ []) all.yielded
     (sym (append-nil tokens) ∙ all.joined) none)
-lacks_all tag tokens missing misses_body all none =
-    let apart = last_apart tokens (target_token all.id ∷ kind_token tag.target_kind ∷ name_token tag.name ∷ all.tagger ∷ []) (body_token [] None)
+ends_after_name_of_no_tagger tag tokens missing misses_body all none =
+    let apart = snoc_injective tokens (target_token all.id ∷ kind_token tag.target_kind ∷ name_token tag.name ∷ all.tagger ∷ []) (body_token [] None)
     (body_token tag.message tag.signature) all.joined in
-    absurd (some_tagger tag tokens all.id all.tagger [] all.yielded apart.0 none)
-lacks_all tag tokens missing misses_tagger_and_body all none =
+    absurd (not_has_none_of_tagger tag tokens all.id all.tagger [] all.yielded apart.0 none)
+ends_after_name_of_no_tagger tag tokens missing misses_tagger_and_body all none =
     let regrouped : (tokens ++ no_tagger_token ∷ []) ++ body_token [] None ∷ [] ≡ tokens ++ no_tagger_token ∷ body_token [] None ∷ [] =
     append_assoc tokens (no_tagger_token ∷ []) (body_token [] None ∷ []) in
-    let body = last_apart (tokens ++ no_tagger_token ∷ []) (target_token all.id ∷ kind_token tag.target_kind ∷ name_token tag.name ∷ all.tagger ∷ [])
+    let body = snoc_injective (tokens ++ no_tagger_token ∷ []) (target_token all.id ∷ kind_token tag.target_kind ∷ name_token tag.name ∷ all.tagger ∷ [])
     (body_token [] None) (body_token tag.message tag.signature) (regrouped ∙ all.joined) in
-    let tagger = last_apart tokens (target_token all.id ∷ kind_token tag.target_kind ∷ name_token tag.name ∷ []) no_tagger_token all.tagger body.0 in
-    let bare = same_body [] tag.message None tag.signature body.1 in
-    (no_line tag.tagger all.tagger all.yielded (sym tagger.1), sym bare.0, sym bare.1)
+    let tagger = snoc_injective tokens (target_token all.id ∷ kind_token tag.target_kind ∷ name_token tag.name ∷ []) no_tagger_token all.tagger body.0 in
+    let bare = body_token_injective [] tag.message None tag.signature body.1 in
+    (no_tagger_line_of_token tag.tagger all.tagger all.yielded (sym tagger.1), sym bare.0, sym bare.1)
 
 -- ---- the run of an iterator at the start of a tag's encoding
 
-first_of_all : (tag : TagLines) (tokens missing : List TagTokenView) (token : TagTokenView) (others : List TagTokenView)
+first_token_is_target : (tag : TagLines) (tokens missing : List TagTokenView) (token : TagTokenView) (others : List TagTokenView)
     → (all : AreAllTokensOfTag tag (tokens ++ missing)) → tokens ≡ token ∷ others → token ≡ target_token all.id
-first_of_all tag tokens missing token others all same =
+first_token_is_target tag tokens missing token others all same =
     let joined : token ∷ (others ++ missing) ≡ target_token all.id ∷ kind_token tag.target_kind ∷ name_token tag.name ∷ all.tagger
     ∷ body_token tag.message
     tag.signature ∷ [] =
     ap (λ (it : List TagTokenView). it ++ missing) (sym same) ∙ all.joined in
     cc joined
 
-begins_token : (kind : Kind) (before : State) (input : List ℕ) (tokens : List TagTokenView) → YieldsTagTokens kind before input tokens complete
+first_token_exists : (kind : Kind) (before : State) (input : List ℕ) (tokens : List TagTokenView) → YieldsTagTokens kind before input tokens complete
     → IsAfterName tokens → (token : TagTokenView) × (following : State) × (rest : List ℕ) × BeginsWithTagToken kind before input token following rest
-begins_token kind before input tokens (yields_end _) came = absurd came
-begins_token kind before input tokens (yields_piece _ following _ rest token _ _ has yields_decoded) came = (token, following, rest, has)
+first_token_exists kind before input tokens (yields_end _) came = absurd came
+first_token_exists kind before input tokens (yields_piece _ following _ rest token _ _ has yields_decoded) came = (token, following, rest, has)
 
 module _ (kind : Kind) (content : List ℕ) (tag : TagLines) (reader : TagRefIter) (is : DecodesToTag kind content tag)
     (start : IsAtStartOfTag kind content reader) where
@@ -123,7 +124,7 @@ module _ (kind : Kind) (content : List ℕ) (tag : TagLines) (reader : TagRefIte
 
   begins : (token : TagTokenView) × (following : State) × (rest : List ℕ) × BeginsWithTagToken (tag_reader_state reader).kind (tag_reader_state reader).state
       (tag_reader_state reader).bytes token following rest
-  begins = begins_token (tag_reader_state reader).kind (tag_reader_state reader).state (tag_reader_state reader).bytes run.0 yields_decoded run.3
+  begins = first_token_exists (tag_reader_state reader).kind (tag_reader_state reader).state (tag_reader_state reader).bytes run.0 yields_decoded run.3
 
   its_answer : (answer : Option (Result Token Error)) (after : TagRefIter) → NextTagToken reader answer after → (id : ObjectId)
       × (answered_tag_id answer ≡ Ok id) × DecodesToId tag.target id
@@ -133,7 +134,7 @@ module _ (kind : Kind) (content : List ℕ) (tag : TagLines) (reader : TagRefIte
       (tag_reader_state after).state
       (tag_reader_state reader).bytes (tag_reader_state after).bytes (tag_token_view token) run.0 complete gives.0 yields_decoded in
       let all = run.2.2 in
-      let same = first_of_all tag run.0 run.2.0 (tag_token_view token) first.others all first.joined in
+      let same = first_token_is_target tag run.0 run.2.0 (tag_token_view token) first.others all first.joined in
       (all.id, ap (λ (it : TagTokenView). tag_id_or_malformed (tag_token_id it)) same, all.hex_of_id)
   its_answer (Some (Err Malformed)) after gives = absurd (gives.1 _ _ _ begins.3)
   its_answer (Some (Err OutOfMemory)) after gives = absurd gives.1
@@ -157,9 +158,9 @@ module _ (kind : Kind) (content : List ℕ) (tag : TagLines) (reader : TagRefIte
       let entire = joined ∙ ap (λ (it : List TagTokenView). (passed ++ it) ++ run.2.0) (sym first.joined)
       ∙ ap (λ (it : List TagTokenView). it ++ run.2.0)
       (sym at.joined) ∙ all.joined in
-      let same = at_its_place passed (first.others ++ run.2.0) (token_of_tagger tagger) all.tagger all.id tag.target_kind tag.name tag.message
+      let same = tagger_token_unique passed (first.others ++ run.2.0) (token_of_tagger tagger) all.tagger all.id tag.target_kind tag.name tag.message
       tag.signature
-      (yielded_is_tagger tagger) entire in
+      (token_of_tagger_is_tagger tagger) entire in
       subst (IsTokenOfTagger tag.tagger) (sym same) all.yielded
 
   pub ends_after_name : (ending : Ending) → YieldsNoTagger reader ending → EndsAfterItsName tag
@@ -167,4 +168,4 @@ module _ (kind : Kind) (content : List ℕ) (tag : TagLines) (reader : TagRefIte
       let same = (token_run_unique (tag_reader_state reader).kind (tag_reader_state reader).state (tag_reader_state reader).bytes tokens run.0 ending complete
       lacks
       yields_decoded).0 in
-      lacks_all tag run.0 run.2.0 run.2.1 run.2.2 (subst (HasNone IsTaggerToken) same none)
+      ends_after_name_of_no_tagger tag run.0 run.2.0 run.2.1 run.2.2 (subst (HasNone IsTaggerToken) same none)

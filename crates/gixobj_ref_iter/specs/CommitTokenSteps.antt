@@ -38,7 +38,8 @@ BorrowsValue _ = ⊤
 
 -- one step: the next token; an error, after which no bytes remain; or none, without bytes
 abbrev pub NextCommitToken : CommitRefIter → Option (Result Token Error) → CommitRefIter → Type 0
-NextCommitToken = NextPiece commit_reader_state BeginsWithCommitToken (λ kind. NeedsAllocation) commit_token_view BorrowsValue
+NextCommitToken =
+    NextPiece commit_reader_state BeginsWithCommitToken (λ kind. NeedsAllocation) commit_token_view BorrowsValue
 
 -- ---- ids of tokens
 

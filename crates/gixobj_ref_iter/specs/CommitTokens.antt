@@ -47,7 +47,8 @@ pub data IsTokenOfLine : LineView → CommitTokenView → Type 0 where
 
 -- the input begins with the line of this token, and the rest follows in the state after it
 abbrev pub BeginsWithCommitToken : Kind → State → List ℕ → CommitTokenView → State → List ℕ → Type 0
-BeginsWithCommitToken kind before input token after rest = (line : LineView) × BeginsWithLine kind before input line after rest
+BeginsWithCommitToken kind before input token after rest =
+    (line : LineView) × BeginsWithLine kind before input line after rest
     × IsTokenOfLine line token
 
 -- the bytes are the encoding of this token alone

@@ -54,4 +54,5 @@ pub data BeginsWithTagToken (kind : hash.Kind) : State → List ℕ → TagToken
 -- the bytes are the encoding of this token alone; the absence of a tagger has no bytes
 abbrev pub DecodesToTagToken : hash.Kind → TagTokenView → List ℕ → Type 0
 DecodesToTagToken kind no_tagger_token bytes = bytes ≡ []
-DecodesToTagToken kind token bytes = (before : State) × (after : State) × BeginsWithTagToken kind before bytes token after []
+DecodesToTagToken kind token bytes =
+    (before : State) × (after : State) × BeginsWithTagToken kind before bytes token after []

@@ -9,22 +9,24 @@ use Rattle.gixobj_report.specs.declared.report.Status.{Status}
 use Rattle.gixobj_text.specs.declared.signature.Format.{Format}
 use Rattle.gixobj_report.proofs.FieldPlaces.{field_at_eq}
 
-emptied : (bytes : List ℕ) → unless_empty bytes ≡ None → bytes ≡ []
-emptied [] none = refl
-emptied (byte ∷ bytes) none = absurd (cc none)
+nil_of_unless_empty_none : (bytes : List ℕ) → unless_empty bytes ≡ None → bytes ≡ []
+nil_of_unless_empty_none [] none = refl
+nil_of_unless_empty_none (byte ∷ bytes) none = absurd (cc none)
 
 pub reported_names_of_key : (one : Status) (rest token : List ℕ) → token ≡ first_token rest → token ≢ []
     → reported_names (verdict ((one, rest) ∷ [])) ≢ (None, None)
-reported_names_of_key one rest token is some none = some (is ∙ emptied (first_token rest) (ap (λ (it : Option (List ℕ) × Option (List ℕ)). it.0) none))
+reported_names_of_key one rest token is some none = some (is ∙ nil_of_unless_empty_none (first_token rest)
+    (ap (λ (it : Option (List ℕ) × Option (List ℕ)). it.0) none))
 
 pub reported_names_of_signer : (one : Status) (rest token : List ℕ) → token ≡ after_space rest → token ≢ []
     → reported_names (verdict ((one, rest) ∷ [])) ≢ (None, None)
-reported_names_of_signer one rest token is some none = some (is ∙ emptied (after_space rest) (ap (λ (it : Option (List ℕ) × Option (List ℕ)). it.1) none))
+reported_names_of_signer one rest token is some none = some (is ∙ nil_of_unless_empty_none (after_space rest)
+    (ap (λ (it : Option (List ℕ) × Option (List ℕ)). it.1) none))
 
 pub field_at_not_none : (number : ℕ) (line rest token : List ℕ) → Some rest ≡ after_spaces number line → token ≡ first_token rest → token ≢ []
     → field_at number (fields_of line) ≢ None
 field_at_not_none number line rest token is first some none =
-    some (first ∙ emptied (first_token rest) (sym (field_at_eq number line (Some rest) is) ∙ none))
+    some (first ∙ nil_of_unless_empty_none (first_token rest) (sym (field_at_eq number line (Some rest) is) ∙ none))
 
 abbrev at : ℕ → List (Option (List ℕ)) → Option (List ℕ)
 at number [] = None

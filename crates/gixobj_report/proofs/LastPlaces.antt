@@ -13,30 +13,33 @@ abbrev key_token : List ℕ
 key_token = codes " key "
 
 -- the last occurrence in a suffix of the bytes is the last of all bytes
-last_after : (content : List ℕ) (at : ℕ) (bytes rest : List ℕ) → after_last content (drop at bytes) ≡ Some rest → after_last content bytes ≡ Some rest
-last_after content zero bytes rest is = is
-last_after content (suc at) [] rest is = is
-last_after content (suc at) (byte ∷ bytes) rest is = ap (λ it. either it (after_prefix content (byte ∷ bytes))) (last_after content at bytes rest is)
+after_last_of_drop : (content : List ℕ) (at : ℕ) (bytes rest : List ℕ) → after_last content (drop at bytes) ≡ Some rest → after_last content bytes ≡ Some rest
+after_last_of_drop content zero bytes rest is = is
+after_last_of_drop content (suc at) [] rest is = is
+after_last_of_drop content (suc at) (byte ∷ bytes) rest is = ap (λ it. either it (after_prefix content (byte ∷ bytes)))
+    (after_last_of_drop content at bytes rest is)
 
-refuted : (t : Bool) → ¬ (t ≡ true) → t ≡ false
-refuted true other = absurd (other refl)
-refuted false other = refl
+false_of_not_true : (t : Bool) → ¬ (t ≡ true) → t ≡ false
+false_of_not_true true other = absurd (other refl)
+false_of_not_true false other = refl
 
 -- no occurrence begins with another byte than a space
-not_here : (byte : ℕ) (rest : List ℕ) → byte ≢ space → after_prefix key_token (byte ∷ rest) ≡ None
-not_here byte rest other =
+no_key_token_of_other_byte : (byte : ℕ) (rest : List ℕ) → byte ≢ space → after_prefix key_token (byte ∷ rest) ≡ None
+no_key_token_of_other_byte byte rest other =
     ap (λ (t : Bool). cond (t && pointwise nat_eq (codes "key ") (take 4 rest)) (Some (drop 4 rest)) None)
-    (refuted (nat_eq space byte) (λ yes. other (sym (eqb-true space byte yes))))
+    (false_of_not_true (nat_eq space byte) (λ yes. other (sym (eqb-true space byte yes))))
 
-none_passed : (free passed : List ℕ) → IsByteFree space free → after_last key_token passed ≡ None → after_last key_token (free ++ passed) ≡ None
-none_passed [] passed all none = none
-none_passed (byte ∷ free) passed all none =
-    ap (λ it. either it (after_prefix key_token (byte ∷ free ++ passed))) (none_passed free passed (All-tail (λ it. it ≢ space) byte free all) none)
-    ∙ not_here byte (free ++ passed) (All-head (λ it. it ≢ space) byte free all)
+no_key_token_of_space_free_append : (free passed : List ℕ) → IsByteFree space free → after_last key_token passed ≡ None
+    → after_last key_token (free ++ passed) ≡ None
+no_key_token_of_space_free_append [] passed all none = none
+no_key_token_of_space_free_append (byte ∷ free) passed all none =
+    ap (λ it. either it (after_prefix key_token (byte ∷ free ++ passed)))
+    (no_key_token_of_space_free_append free passed (All-tail (λ it. it ≢ space) byte free all) none)
+    ∙ no_key_token_of_other_byte byte (free ++ passed) (All-head (λ it. it ≢ space) byte free all)
 
-drop_prefix : (prefix back : List ℕ) → drop (length prefix) (prefix ++ back) ≡ back
-drop_prefix [] back = refl
-drop_prefix (byte ∷ prefix) back = drop_prefix prefix back
+drop_len_append : (prefix back : List ℕ) → drop (length prefix) (prefix ++ back) ≡ back
+drop_len_append [] back = refl
+drop_len_append (byte ∷ prefix) back = drop_len_append prefix back
 
 -- a backward search that splits `remaining` at its last space
 module _ (line remaining prefix rest : List ℕ) (entire : line ≡ remaining ++ drop (length remaining) line)
@@ -46,7 +49,7 @@ module _ (line remaining prefix rest : List ℕ) (entire : line ≡ remaining ++
       (drop (length remaining) line)
 
   at_prefix : drop (length prefix) line ≡ space ∷ rest ++ drop (length remaining) line
-  at_prefix = ap (drop (length prefix)) line_is ∙ drop_prefix prefix (space ∷ rest ++ drop (length remaining) line)
+  at_prefix = ap (drop (length prefix)) line_is ∙ drop_len_append prefix (space ∷ rest ++ drop (length remaining) line)
 
   pub joined_here : line ≡ prefix ++ drop (length prefix) line
   joined_here = line_is ∙ ap (λ (it : List ℕ). prefix ++ it) (sym at_prefix)
@@ -59,13 +62,13 @@ module _ (line remaining prefix rest : List ℕ) (entire : line ≡ remaining ++
   here none =
       ap (after_last key_token) at_prefix
       ∙ ap (λ it. either it (after_prefix key_token (space ∷ rest ++ drop (length remaining) line)))
-      (none_passed rest (drop (length remaining) line) cut.last none)
+      (no_key_token_of_space_free_append rest (drop (length remaining) line) cut.last none)
       ∙ sym (ap (after_prefix key_token) at_prefix)
 
   pub key_here : (token : List ℕ) → after_last key_token (drop (length remaining) line) ≡ None
       → after_prefix key_token (drop (length prefix) line) ≡ Some token
       → Some token ≡ after_last key_token line
-  key_here token none is = sym (last_after key_token (length prefix) line token (here none ∙ is))
+  key_here token none is = sym (after_last_of_drop key_token (length prefix) line token (here none ∙ is))
 
   pub no_key_here : after_last key_token (drop (length remaining) line) ≡ None → after_prefix key_token (drop (length prefix) line) ≡ None
       → after_last key_token (drop (length prefix) line) ≡ None
@@ -77,12 +80,12 @@ prefix_len_lt remaining prefix rest cut = let sum = ap length cut.joined ∙ len
 pub no_key_after_last : (line remaining : List ℕ) → line ≡ remaining ++ drop (length remaining) line → IsByteFree space remaining
     → after_last key_token (drop (length remaining) line) ≡ None → None ≡ after_last key_token line
 no_key_after_last line remaining entire free none =
-    sym (ap (after_last key_token) entire ∙ none_passed remaining (drop (length remaining) line) free none)
+    sym (ap (after_last key_token) entire ∙ no_key_token_of_space_free_append remaining (drop (length remaining) line) free none)
 
 -- empty output has no key
-no_key : ssh_key [] ≡ None
+ssh_key_nil : ssh_key [] ≡ None
 unfolding computing
-no_key = refl
+ssh_key_nil = refl
 
 pub output_not_nil_of_key : (output : List ℕ) → ssh_key output ≢ None → output ≢ []
-output_not_nil_of_key output some none = some (ap ssh_key none ∙ no_key)
+output_not_nil_of_key output some none = some (ap ssh_key none ∙ ssh_key_nil)

@@ -23,54 +23,54 @@ good = gpg_report format.OpenPgp [] good_lines
 abbrev two : OutcomeView
 two = gpg_report format.OpenPgp [] two_lines
 
-good_status : good.status ≡ status.Good
+good_status_is_good : good.status ≡ status.Good
 unfolding computing
-good_status = refl
+good_status_is_good = refl
 
-good_trust : good.trust_level ≡ trust.Fully
+good_trust_is_full : good.trust_level ≡ trust.Fully
 unfolding computing
-good_trust = refl
+good_trust_is_full = refl
 
-good_key : good.key ≡ Some (codes "0123456789ABCDEF")
+good_key_is_found : good.key ≡ Some (codes "0123456789ABCDEF")
 unfolding computing
-good_key = refl
+good_key_is_found = refl
 
-good_signer : good.signer ≡ Some (codes "Fixture Signer")
+good_signer_is_found : good.signer ≡ Some (codes "Fixture Signer")
 unfolding computing
-good_signer = refl
+good_signer_is_found = refl
 
-good_fingerprint : good.fingerprint ≡ Some (codes "FINGERPRINT")
+good_fingerprint_is_found : good.fingerprint ≡ Some (codes "FINGERPRINT")
 unfolding computing
-good_fingerprint = refl
+good_fingerprint_is_found = refl
 
-good_primary : good.primary_key_fingerprint ≡ Some (codes "PRIMARY")
+good_primary_is_found : good.primary_key_fingerprint ≡ Some (codes "PRIMARY")
 unfolding computing
-good_primary = refl
+good_primary_is_found = refl
 
 -- a second status is an error, and hides neither the trust nor the fingerprints
-two_status : two.status ≡ status.Error
+two_status_is_error : two.status ≡ status.Error
 unfolding computing
-two_status = refl
+two_status_is_error = refl
 
-two_key : two.key ≡ None
+two_has_no_key : two.key ≡ None
 unfolding computing
-two_key = refl
+two_has_no_key = refl
 
-two_signer : two.signer ≡ None
+two_has_no_signer : two.signer ≡ None
 unfolding computing
-two_signer = refl
+two_has_no_signer = refl
 
-two_trust : two.trust_level ≡ trust.Fully
+two_trust_is_full : two.trust_level ≡ trust.Fully
 unfolding computing
-two_trust = refl
+two_trust_is_full = refl
 
-two_fingerprint : two.fingerprint ≡ Some (codes "FINGERPRINT")
+two_fingerprint_is_found : two.fingerprint ≡ Some (codes "FINGERPRINT")
 unfolding computing
-two_fingerprint = refl
+two_fingerprint_is_found = refl
 
-two_primary : two.primary_key_fingerprint ≡ Some (codes "PRIMARY")
+two_primary_is_found : two.primary_key_fingerprint ≡ Some (codes "PRIMARY")
 unfolding computing
-two_primary = refl
+two_primary_is_found = refl
 
 -- ---- SSH
 
@@ -80,36 +80,36 @@ ssh_good = ssh_report (codes "Good \"git\" signature for Fixture Signer with ED2
 abbrev ssh_bad : OutcomeView
 ssh_bad = ssh_report (codes "invalid signature") None trust.Undefined
 
-ssh_good_status : ssh_good.status ≡ status.Good
+ssh_good_status_is_good : ssh_good.status ≡ status.Good
 unfolding computing
-ssh_good_status = refl
+ssh_good_status_is_good = refl
 
-ssh_good_key : ssh_good.key ≡ Some (codes "SHA256:fixture")
+ssh_good_key_is_found : ssh_good.key ≡ Some (codes "SHA256:fixture")
 unfolding computing
-ssh_good_key = refl
+ssh_good_key_is_found = refl
 
-ssh_good_fingerprint : ssh_good.fingerprint ≡ Some (codes "SHA256:fixture")
+ssh_good_fingerprint_is_found : ssh_good.fingerprint ≡ Some (codes "SHA256:fixture")
 unfolding computing
-ssh_good_fingerprint = refl
+ssh_good_fingerprint_is_found = refl
 
-ssh_bad_status : ssh_bad.status ≡ status.Bad
+ssh_bad_status_is_bad : ssh_bad.status ≡ status.Bad
 unfolding computing
-ssh_bad_status = refl
+ssh_bad_status_is_bad = refl
 
-ssh_bad_key : ssh_bad.key ≡ None
+ssh_bad_has_no_key : ssh_bad.key ≡ None
 unfolding computing
-ssh_bad_key = refl
+ssh_bad_has_no_key = refl
 
 -- ---- trust
 
-never : trust_of (codes "NEVER") ≡ Some trust.Never
+trust_of_never : trust_of (codes "NEVER") ≡ Some trust.Never
 unfolding computing
-never = refl
+trust_of_never = refl
 
-marginal : trust_of (codes "Marginal") ≡ Some trust.Marginal
+trust_of_marginal : trust_of (codes "Marginal") ≡ Some trust.Marginal
 unfolding computing
-marginal = refl
+trust_of_marginal = refl
 
-unknown : trust_of (codes "unknown") ≡ None
+trust_of_unknown_is_none : trust_of (codes "unknown") ≡ None
 unfolding computing
-unknown = refl
+trust_of_unknown_is_none = refl

@@ -28,19 +28,19 @@ use Rattle.gixobj_tree.specs.TreeEncoding.{encode_tree, IsAnsweredDigest}
 use Rattle.gixobj_script.specs.Digests.{HaveDistinctIds}
 use Rattle.gixobj_script.specs.Edits.{memory_model}
 
-all_so : (P Q R : Pair → Type 0) → ((pair : Pair) → P pair → Q pair → R pair) → (pairs : List Pair) → All P pairs → All Q pairs → All R pairs
-all_so P Q R so pairs ps qs = λ k d below. so _ (ps k d below) (qs k d below)
+all_of_both : (P Q R : Pair → Type 0) → ((pair : Pair) → P pair → Q pair → R pair) → (pairs : List Pair) → All P pairs → All Q pairs → All R pairs
+all_of_both P Q R so pairs ps qs = λ k d below. so _ (ps k d below) (qs k d below)
 
-kind_of_digest : (hash : Kind) (bytes : List ℕ) → id_kind (id_of hash Tree bytes) ≡ hash
-kind_of_digest hash.Sha1 bytes = refl
-kind_of_digest hash.Sha256 bytes = refl
+tree_id_kind : (hash : Kind) (bytes : List ℕ) → id_kind (id_of hash Tree bytes) ≡ hash
+tree_id_kind hash.Sha1 bytes = refl
+tree_id_kind hash.Sha256 bytes = refl
 
 module _ (hash : Kind) where
   abbrev IsOfKind : Pair → Type 0
   IsOfKind pair = id_kind pair.0 ≡ hash
 
   of_kind : (pair : Pair) → IsAnswered memory_model (IsAnsweredDigest hash) pair → IsOfKind pair
-  of_kind pair answered = ap id_kind answered.1 ∙ kind_of_digest hash (encode_tree pair.1)
+  of_kind pair answered = ap id_kind answered.1 ∙ tree_id_kind hash (encode_tree pair.1)
 
   -- emitted trees have ids of the hash kind
   pub emitted_kinds : (old new : State Memory) (commands : List Command) (replies : List (Reply Error))
@@ -55,7 +55,7 @@ module _ (hash : Kind) where
       → All (λ pair. id_kind pair.0 ≡ hash) (emitted_pairs replies)
       → All (λ pair. All (RoundTrips hash) pair.1) (kept_pairs replies) → All DecodesToItself (kept_pairs replies)
   kept_as_themselves reads replies kinds back =
-      all_so IsOfKind (λ pair. All (RoundTrips hash) pair.1) DecodesToItself
+      all_of_both IsOfKind (λ pair. All (RoundTrips hash) pair.1) DecodesToItself
       (λ pair kind all. reads pair (subst (λ (it : Kind). All (RoundTrips it) pair.1) (sym kind) all)) (kept_pairs replies)
       (kept_have IsOfKind replies kinds) back
 
@@ -65,7 +65,7 @@ module _ (hash : Kind) where
 
     empty_tree : (pair : Pair) → IsOfKind pair → HasOneTree pair → (it : Kind) → pair.0 ≡ id_of it Tree [] → pair.1 ≡ []
     empty_tree pair kind one it is =
-        let same : it ≡ hash = sym (kind_of_digest it []) ∙ ap id_kind (sym is) ∙ kind in
+        let same : it ≡ hash = sym (tree_id_kind it []) ∙ ap id_kind (sym is) ∙ kind in
         sym (All-head (λ (other : Pair). other.0 ≡ pair.0 → other.1 ≡ pair.1) (id_of hash Tree [], []) pairs one
         (sym (is ∙ ap (λ (it : Kind). id_of it Tree []) same)))
 
@@ -81,7 +81,7 @@ module _ (hash : Kind) where
         → HaveDistinctIds hash pairs → IsConsistentWith pairs trees
     fits objects trees nothing are kinds own = record {
       filled = own.filled;
-      empty = all_so IsOfKind HasOneTree (λ pair. (it : Kind) → pair.0 ≡ id_of it Tree [] → pair.1 ≡ []) empty_tree pairs kinds own.one_tree;
+      empty = all_of_both IsOfKind HasOneTree (λ pair. (it : Kind) → pair.0 ≡ id_of it Tree [] → pair.1 ≡ []) empty_tree pairs kinds own.one_tree;
       one_tree = All-weaker HasOneTree (λ pair. All (λ other. other.0 ≡ pair.0 → other.1 ≡ pair.1) pairs)
           (λ pair one. All-tail (λ (other : Pair). other.0 ≡ pair.0 → other.1 ≡ pair.1) (id_of hash Tree [], []) pairs one) pairs own.one_tree;
       of_the_store = λ k d below entries is. absurd (none_there objects trees nothing are _ entries is);

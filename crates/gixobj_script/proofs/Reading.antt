@@ -41,27 +41,29 @@ filled_lines_snoc [] line = refl
 filled_lines_snoc ([] ∷ lines) line = filled_lines_snoc lines line
 filled_lines_snoc ((byte ∷ bytes) ∷ lines) line = ap (λ (it : List (List ℕ)). (byte ∷ bytes) ∷ it) (filled_lines_snoc lines line)
 
-zip_join : {X Y : Type 0} (R : X → Y → Type 0) (xs xs' : List X) (ys ys' : List Y) → AllZip R xs ys → AllZip R xs' ys' → AllZip R (xs ++ xs') (ys ++ ys')
-zip_join R [] xs' [] ys' first second = second
-zip_join R [] xs' (y ∷ ys) ys' first second = absurd first
-zip_join R (x ∷ xs) xs' [] ys' first second = absurd first
-zip_join R (x ∷ xs) xs' (y ∷ ys) ys' first second = (first.0, zip_join R xs xs' ys ys' first.1 second)
+all_zip_append : {X Y : Type 0} (R : X → Y → Type 0) (xs xs' : List X) (ys ys' : List Y) → AllZip R xs ys → AllZip R xs' ys' → AllZip R (xs ++ xs') (ys ++ ys')
+all_zip_append R [] xs' [] ys' first second = second
+all_zip_append R [] xs' (y ∷ ys) ys' first second = absurd first
+all_zip_append R (x ∷ xs) xs' [] ys' first second = absurd first
+all_zip_append R (x ∷ xs) xs' (y ∷ ys) ys' first second = (first.0, all_zip_append R xs xs' ys ys' first.1 second)
 
-good_line : (hash : hash.Kind) (line : List ℕ) (own : List CommandView) → AllZip (DecodesToCommand hash) (filled_lines (line ∷ [])) own → IsGoodLine hash line
-good_line hash [] own are = inl refl
-good_line hash (byte ∷ bytes) [] are = absurd are
-good_line hash (byte ∷ bytes) (command ∷ own) are = inr (command, are.0)
+is_good_line_of_commands : (hash : hash.Kind) (line : List ℕ) (own : List CommandView) → AllZip (DecodesToCommand hash) (filled_lines (line ∷ [])) own
+    → IsGoodLine hash line
+is_good_line_of_commands hash [] own are = inl refl
+is_good_line_of_commands hash (byte ∷ bytes) [] are = absurd are
+is_good_line_of_commands hash (byte ∷ bytes) (command ∷ own) are = inr (command, are.0)
 
-each_more : (hash : hash.Kind) (lines : List (List ℕ)) (line : List ℕ) (old new : List CommandView) → AllZip (DecodesToCommand hash) (filled_lines lines) old
+commands_of_lines_snoc : (hash : hash.Kind) (lines : List (List ℕ)) (line : List ℕ) (old new : List CommandView)
+    → AllZip (DecodesToCommand hash) (filled_lines lines) old
     → AppendsLine hash line old new → AllZip (DecodesToCommand hash) (filled_lines (lines ++ line ∷ [])) new
-each_more hash lines line old new each (own, are, inserted) =
-    rw (filled_lines_snoc lines line, inserted) (zip_join (DecodesToCommand hash) (filled_lines lines) (filled_lines (line ∷ [])) old own each are)
+commands_of_lines_snoc hash lines line old new each (own, are, inserted) =
+    rw (filled_lines_snoc lines line, inserted) (all_zip_append (DecodesToCommand hash) (filled_lines lines) (filled_lines (line ∷ [])) old own each are)
 
-length_push : (lines : List (List ℕ)) (line : List ℕ) → length (lines ++ line ∷ []) ≡ length lines + 1
-length_push lines line = length-append lines (line ∷ [])
+len_snoc : (lines : List (List ℕ)) (line : List ℕ) → length (lines ++ line ∷ []) ≡ length lines + 1
+len_snoc lines line = length-append lines (line ∷ [])
 
-split_length : (rest line after : List ℕ) → SplitsAt newline rest line after → length after + 1 ≤ length rest
-split_length rest line after splits = omega (arith, ap length splits.joined, length-append line (newline ∷ after))
+after_newline_len_lt : (rest line after : List ℕ) → SplitsAt newline rest line after → length after + 1 ≤ length rest
+after_newline_len_lt rest line after splits = omega (arith, ap length splits.joined, length-append line (newline ∷ after))
 
 pub is_read_to_snoc : (hash : hash.Kind) (content rest line after : List ℕ) (old new : List CommandView) (number : ℕ) → IsReadTo hash content rest old number
     → SplitsAt newline rest line after → AppendsLine hash line old new
@@ -70,10 +72,10 @@ is_read_to_snoc hash content rest line after old new number so_far splits insert
     record {
       lines = so_far.lines ++ line ∷ [];
       prefix = are_prefixes_snoc newline content rest so_far.lines line after so_far.prefix splits;
-      each = each_more hash so_far.lines line old new so_far.each inserts;
-      good = All-push (IsGoodLine hash) so_far.lines line so_far.good (good_line hash line inserts.0 inserts.1);
-      counted = ap (λ (it : ℕ). it + 1) so_far.counted ∙ ap (λ (it : ℕ). it + 1) (sym (length_push so_far.lines line));
-      bound = (let less = split_length rest line after splits in omega (arith, less, so_far.bound));
+      each = commands_of_lines_snoc hash so_far.lines line old new so_far.each inserts;
+      good = All-push (IsGoodLine hash) so_far.lines line so_far.good (is_good_line_of_commands hash line inserts.0 inserts.1);
+      counted = ap (λ (it : ℕ). it + 1) so_far.counted ∙ ap (λ (it : ℕ). it + 1) (sym (len_snoc so_far.lines line));
+      bound = (let less = after_newline_len_lt rest line after splits in omega (arith, less, so_far.bound));
     }
 
 -- the current line is reached
@@ -117,5 +119,5 @@ is_script_at_end hash content rest old new number so_far free inserts =
     record {
       lines = so_far.lines ++ rest ∷ [];
       split_parts = is_split_at_each_snoc newline content rest so_far.lines so_far.prefix free;
-      each = each_more hash so_far.lines rest old new so_far.each inserts;
+      each = commands_of_lines_snoc hash so_far.lines rest old new so_far.each inserts;
     }

@@ -3,19 +3,19 @@ use Rattle.std.proofs.Common.{◌≡◌, None, Some, codes, refl}
 use Rattle.bstr.proofs.Computing.{computing}
 use Rattle.gixobj_signature.specs.Signing.{literal_key, without_returns}
 
-key_after : literal_key (codes "key::ssh-rsa A") ≡ Some (codes "ssh-rsa A")
+literal_key_after_prefix : literal_key (codes "key::ssh-rsa A") ≡ Some (codes "ssh-rsa A")
 unfolding computing
-key_after = refl
+literal_key_after_prefix = refl
 
-key_entire : literal_key (codes "ssh-ed25519 A") ≡ Some (codes "ssh-ed25519 A")
+literal_key_of_ssh_key : literal_key (codes "ssh-ed25519 A") ≡ Some (codes "ssh-ed25519 A")
 unfolding computing
-key_entire = refl
+literal_key_of_ssh_key = refl
 
-key_path : literal_key (codes "keys/signing") ≡ None
+no_literal_key_of_path : literal_key (codes "keys/signing") ≡ None
 unfolding computing
-key_path = refl
+no_literal_key_of_path = refl
 
 -- the return directly before a newline is removed, and each other one is unchanged
-returns_dropped : without_returns (codes "A\r\nB\rC\r\r\n\r") ≡ codes "A\nB\rC\r\n\r"
+without_returns_before_newlines : without_returns (codes "A\r\nB\rC\r\r\n\r") ≡ codes "A\nB\rC\r\n\r"
 unfolding computing
-returns_dropped = refl
+without_returns_before_newlines = refl

@@ -18,32 +18,34 @@ begins_plan_refl runs (run_then call next) s = inl refl
 begins_plan_refl runs no_more s = refl
 
 -- after an answer, the plan that it chooses remains
-answered : {S R : Type 0} (runs : S → CallView → Answer → S → Type 0) (call : CallView) (next : Answer → Plan R) (answer : Answer) (s m u : S)
+remaining_plan_after_answer : {S R : Type 0} (runs : S → CallView → Answer → S → Type 0) (call : CallView) (next : Answer → Plan R)
+    (answer : Answer) (s m u : S)
     (entire : Plan R)
     → runs s call answer m → IsRemainingPlan runs (run_then call next) s entire u → IsRemainingPlan runs (next answer) m entire u
-answered runs call next answer s m u entire run remaining (Some r) t goes = remaining (Some r) t (answer, m, run, goes)
-answered runs call next answer s m u entire run remaining None t goes = remaining None t (inr (answer, m, run, goes))
+remaining_plan_after_answer runs call next answer s m u entire run remaining (Some r) t goes = remaining (Some r) t (answer, m, run, goes)
+remaining_plan_after_answer runs call next answer s m u entire run remaining None t goes = remaining None t (inr (answer, m, run, goes))
 
 -- a call alone, of which only a failure or an allocation failure matters
 abbrev pub call_alone : CallView → Plan Verified
 call_alone call = run_then call (λ answer. on_output answer (λ it. no_more))
 
-follow : {S : Type 0} (runs : S → CallView → Answer → S → Type 0) (next : OutputView → Plan Verified) (answer : Answer) (outcome : Option Verified)
+carried_out_of_no_more : {S : Type 0} (runs : S → CallView → Answer → S → Type 0) (next : OutputView → Plan Verified)
+    (answer : Answer) (outcome : Option Verified)
     (m t : S)
     → IsCarriedOut runs (on_output answer (λ it. no_more)) m outcome t → IsCarriedOut runs (on_output answer next) m outcome t
-follow runs next (ran it) (Some r) m t goes = absurd goes
-follow runs next (ran it) None m t goes = subst (λ (end : _). BeginsPlan runs (next it) m end) (sym goes) (begins_plan_refl runs (next it) m)
-follow runs next (failed why) outcome m t goes = goes
-follow runs next no_memory outcome m t goes = goes
+carried_out_of_no_more runs next (ran it) (Some r) m t goes = absurd goes
+carried_out_of_no_more runs next (ran it) None m t goes = subst (λ (end : _). BeginsPlan runs (next it) m end) (sym goes) (begins_plan_refl runs (next it) m)
+carried_out_of_no_more runs next (failed why) outcome m t goes = goes
+carried_out_of_no_more runs next no_memory outcome m t goes = goes
 
 -- the result of a call without output is a result of each plan that begins with the call
 pub carried_out_of_no_answer : {S : Type 0} (runs : S → CallView → Answer → S → Type 0) (call : CallView) (next : OutputView → Plan Verified)
     (outcome : Option Verified)
     (s t : S)
     → IsCarriedOut runs (call_alone call) s outcome t → IsCarriedOut runs (run_then call (λ answer. on_output answer next)) s outcome t
-carried_out_of_no_answer runs call next (Some r) s t (answer, m, run, goes) = (answer, m, run, follow runs next answer (Some r) m t goes)
+carried_out_of_no_answer runs call next (Some r) s t (answer, m, run, goes) = (answer, m, run, carried_out_of_no_more runs next answer (Some r) m t goes)
 carried_out_of_no_answer runs call next None s t (inl same) = inl same
-carried_out_of_no_answer runs call next None s t (inr (answer, m, run, goes)) = inr (answer, m, run, follow runs next answer None m t goes)
+carried_out_of_no_answer runs call next None s t (inr (answer, m, run, goes)) = inr (answer, m, run, carried_out_of_no_more runs next answer None m t goes)
 
 -- the plan after an output for a principal
 abbrev after_answer : ProgramView → SshView → List ℕ → List ℕ → List ℕ → List (List ℕ) → OutputView → Bool → Plan Verified
@@ -62,7 +64,7 @@ module _ {S : Type 0} (runs : S → CallView → Answer → S → Type 0) (by : 
   after_call : (it : OutputView) (m : S) → runs s (principal_call by ssh signature signed principal) (ran it) m
       → IsRemainingPlan runs (after_answer by ssh signature signed principal principals it (accepts it)) m entire u
   unfolding tries
-  after_call it m run = answered runs (principal_call by ssh signature signed principal) _ (ran it) s m u entire run remaining
+  after_call it m run = remaining_plan_after_answer runs (principal_call by ssh signature signed principal) _ (ran it) s m u entire run remaining
 
   tries_accepted : (it : OutputView) (m : S) → runs s (principal_call by ssh signature signed principal) (ran it) m → accepts it ≡ true
       → IsRemainingPlan runs (done (ssh_verified by it.success trust.Fully (Some principal) it)) m entire u
@@ -75,16 +77,16 @@ module _ {S : Type 0} (runs : S → CallView → Answer → S → Type 0) (by : 
   tries_more it m run is = subst (λ (b : Bool). IsRemainingPlan runs (after_answer by ssh signature signed principal principals it b) m entire u) is
       (after_call it m run)
 
-tries_end : {S : Type 0} (runs : S → CallView → Answer → S → Type 0) (by : ProgramView) (ssh : SshView) (signature signed : List ℕ)
+remaining_plan_of_no_principal : {S : Type 0} (runs : S → CallView → Answer → S → Type 0) (by : ProgramView) (ssh : SshView) (signature signed : List ℕ)
     (last : Option OutputView)
     (entire : Plan Verified) (s u : S)
     → IsRemainingPlan runs (tries by ssh signature signed [] last) s entire u
     → IsRemainingPlan runs (rest_plan by ssh signature signed last) s entire u
 unfolding tries
-tries_end runs by ssh signature signed last entire s u remaining = remaining
+remaining_plan_of_no_principal runs by ssh signature signed last entire s u remaining = remaining
 
-next_item : (ps : List BString) (k : ℕ) (item : BString) → k < length ps → item ≡ get_or ps k item → drop k ps ≡ item ∷ drop (k + 1) ps
-next_item ps k item below is = rw (add-one) (drop-cons ps k item below ∙ ap (λ (it : BString). it ∷ drop (suc k) ps) (sym is))
+drop_eq_item_cons : (ps : List BString) (k : ℕ) (item : BString) → k < length ps → item ≡ get_or ps k item → drop k ps ≡ item ∷ drop (k + 1) ps
+drop_eq_item_cons ps k item below is = rw (add-one) (drop-cons ps k item below ∙ ap (λ (it : BString). it ∷ drop (suc k) ps) (sym is))
 
 -- a loop over the principals is at one of them, and the calls from there on remain of an entire plan
 module _ {S : Type 0} (runs : S → CallView → Answer → S → Type 0) (by : ProgramView) (ssh : SshView) (signature signed : List ℕ) (ps : List BString)
@@ -93,7 +95,7 @@ module _ {S : Type 0} (runs : S → CallView → Answer → S → Type 0) (by : 
     (remaining : IsRemainingPlan runs (tries by ssh signature signed (map bstring_bytes (drop k ps)) last) s entire u) where
   opened : IsRemainingPlan runs (tries by ssh signature signed (bstring_bytes item ∷ map bstring_bytes (drop (k + 1) ps)) last) s entire u
   opened = subst (λ (xs : List BString). IsRemainingPlan runs (tries by ssh signature signed (map bstring_bytes xs) last) s entire u)
-      (next_item ps k item below is) remaining
+      (drop_eq_item_cons ps k item below is) remaining
 
   -- the result of a call without output is one of the entire plan
   pub item_failed : (outcome : Option Verified) (t : S) → IsCarriedOut runs (call_alone (principal_call by ssh signature signed (bstring_bytes item)))
@@ -130,6 +132,6 @@ pub remaining_plan_at_end : {S : Type 0} (runs : S → CallView → Answer → S
     → length ps ≤ k → IsRemainingPlan runs (tries by ssh signature signed (map bstring_bytes (drop k ps)) last) s entire u
     → IsRemainingPlan runs (rest_plan by ssh signature signed last) s entire u
 remaining_plan_at_end runs by ssh signature signed ps k last entire s u past remaining =
-    tries_end runs by ssh signature signed last entire s u
+    remaining_plan_of_no_principal runs by ssh signature signed last entire s u
     (subst (λ (xs : List BString). IsRemainingPlan runs (tries by ssh signature signed (map bstring_bytes xs) last) s entire u)
     (drop_all k ps past) remaining)

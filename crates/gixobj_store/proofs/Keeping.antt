@@ -17,46 +17,46 @@ use Rattle.gixobj_hash.specs.declared.hash.object_id.ObjectId.{ObjectId}
 use Rattle.gixobj_hash.specs.declared.hash.object_id.ObjectId.TheVariants.{Sha1, Sha256}
 use Rattle.gixobj_store.specs.Stores.{Objects, StoredObject, named}
 
-first_equal : (o : Ordering) → ordering_then o Equal ≡ Equal → o ≡ Equal
-first_equal Less same = same
-first_equal Equal same = refl
-first_equal Greater same = same
+equal_of_ordering_then_equal : (o : Ordering) → ordering_then o Equal ≡ Equal → o ≡ Equal
+equal_of_ordering_then_equal Less same = same
+equal_of_ordering_then_equal Equal same = refl
+equal_of_ordering_then_equal Greater same = same
 
-never_less : (o : Ordering) → ¬ (ordering_then o Less ≡ Equal)
-never_less Less same = cc same
-never_less Equal same = cc same
-never_less Greater same = cc same
+ordering_then_less_ne_equal : (o : Ordering) → ¬ (ordering_then o Less ≡ Equal)
+ordering_then_less_ne_equal Less same = cc same
+ordering_then_less_ne_equal Equal same = cc same
+ordering_then_less_ne_equal Greater same = cc same
 
-never_greater : (o : Ordering) → ¬ (ordering_then o Greater ≡ Equal)
-never_greater Less same = cc same
-never_greater Equal same = cc same
-never_greater Greater same = cc same
+ordering_then_greater_ne_equal : (o : Ordering) → ¬ (ordering_then o Greater ≡ Equal)
+ordering_then_greater_ne_equal Less same = cc same
+ordering_then_greater_ne_equal Equal same = cc same
+ordering_then_greater_ne_equal Greater same = cc same
 
-same_bytes : (a b : List ℕ) → slice_cmp nat_cmp a b ≡ Equal → a ≡ b
-same_bytes = slice_cmp-IsAntisymmetric nat_cmp-IsAntisymmetric
+slice_cmp_antisymmetric : (a b : List ℕ) → slice_cmp nat_cmp a b ≡ Equal → a ≡ b
+slice_cmp_antisymmetric = slice_cmp-IsAntisymmetric nat_cmp-IsAntisymmetric
 
 -- two ids that compare as equal are the same id
 pub id_cmp_antisymmetric : IsAntisymmetric id_cmp
-id_cmp_antisymmetric (Sha1 a) (Sha1 b) same = ap Sha1 (same_bytes a b (first_equal (slice_cmp nat_cmp a b) same))
-id_cmp_antisymmetric (Sha256 a) (Sha256 b) same = ap Sha256 (same_bytes a b (first_equal (slice_cmp nat_cmp a b) same))
-id_cmp_antisymmetric (Sha1 a) (Sha256 b) same = absurd (never_less (slice_cmp nat_cmp a b) same)
-id_cmp_antisymmetric (Sha256 a) (Sha1 b) same = absurd (never_greater (slice_cmp nat_cmp a b) same)
+id_cmp_antisymmetric (Sha1 a) (Sha1 b) same = ap Sha1 (slice_cmp_antisymmetric a b (equal_of_ordering_then_equal (slice_cmp nat_cmp a b) same))
+id_cmp_antisymmetric (Sha256 a) (Sha256 b) same = ap Sha256 (slice_cmp_antisymmetric a b (equal_of_ordering_then_equal (slice_cmp nat_cmp a b) same))
+id_cmp_antisymmetric (Sha1 a) (Sha256 b) same = absurd (ordering_then_less_ne_equal (slice_cmp nat_cmp a b) same)
+id_cmp_antisymmetric (Sha256 a) (Sha1 b) same = absurd (ordering_then_greater_ne_equal (slice_cmp nat_cmp a b) same)
 
-viewed : {X : Type 0} (view : X → StoredObject) (b : Bool) (x : X) (rest : Option X) (same : Option StoredObject) → same ≡ option_map view rest
+option_map_view_cond : {X : Type 0} (view : X → StoredObject) (b : Bool) (x : X) (rest : Option X) (same : Option StoredObject) → same ≡ option_map view rest
     → cond b (Some (view x)) same ≡ option_map view (cond b (Some x) rest)
-viewed view true x rest same is = refl
-viewed view false x rest same is = is
+option_map_view_cond view true x rest same is = refl
+option_map_view_cond view false x rest same is = is
 
-found_first : {X : Type 0} (view : X → StoredObject) (q : ObjectId) (pairs : List (ObjectId × X))
+find_map_view_eq_lookup : {X : Type 0} (view : X → StoredObject) (q : ObjectId) (pairs : List (ObjectId × X))
     → find id_cmp q (map (λ pair. (pair.0, view pair.1)) pairs) ≡ option_map view (lookup (is_at (id_cmp q)) pairs)
-found_first view q [] = refl
-found_first view q (pair ∷ pairs) = viewed view (eq_by_cmp id_cmp q pair.0) pair.1 (lookup (is_at (id_cmp q)) pairs)
-    (find id_cmp q (map (λ pair. (pair.0, view pair.1)) pairs)) (found_first view q pairs)
+find_map_view_eq_lookup view q [] = refl
+find_map_view_eq_lookup view q (pair ∷ pairs) = option_map_view_cond view (eq_by_cmp id_cmp q pair.0) pair.1 (lookup (is_at (id_cmp q)) pairs)
+    (find id_cmp q (map (λ pair. (pair.0, view pair.1)) pairs)) (find_map_view_eq_lookup view q pairs)
 
 -- in a list of objects an id names the first object listed with it
 pub named_from_entries : {X : Type 0} (view : X → StoredObject) (q : ObjectId) (pairs : List (ObjectId × X))
     → named (finite.from_entries (map (λ pair. (pair.0, view pair.1)) pairs)) q ≡ option_map view (lookup (is_at (id_cmp q)) pairs)
-named_from_entries view q pairs = finite.get-from_entries id_cmp_total (map (λ pair. (pair.0, view pair.1)) pairs) q ∙ found_first view q pairs
+named_from_entries view q pairs = finite.get-from_entries id_cmp_total (map (λ pair. (pair.0, view pair.1)) pairs) q ∙ find_map_view_eq_lookup view q pairs
 
 -- a map of objects that differs at one id is the insertion of an object at this id
 pub is_insert_of_map_insert : (before after : Objects) (id : ObjectId) (it : StoredObject)
@@ -66,20 +66,20 @@ is_insert_of_map_insert before after id it changed =
     (λ q. changed q ∙ ap (λ (b : Bool). cond b (Some it) (named before q)) ((eq_by_cmp_equiv id_cmp_total).symm id q)
     ∙ sym (finite.get-insert id_cmp_total before id it q))
 
-tied : (o : Ordering) → is_eq o ≡ true → o ≡ Equal
-tied Less same = cc same
-tied Equal same = refl
-tied Greater same = cc same
+equal_of_is_eq : (o : Ordering) → is_eq o ≡ true → o ≡ Equal
+equal_of_is_eq Less same = cc same
+equal_of_is_eq Equal same = refl
+equal_of_is_eq Greater same = cc same
 
 pub named_insert_same : (objects : Objects) (id : ObjectId) (it : StoredObject) → named (finite.insert objects id it) id ≡ Some it
 named_insert_same objects id it = finite.get-insert id_cmp_total objects id it id ∙ ap (λ (b : Bool). cond b (Some it) (named objects id))
     ((eq_by_cmp_equiv id_cmp_total).refl id)
 
-apart : (id other : ObjectId) → other ≢ id → (b : Bool) → eq_by_cmp id_cmp other id ≡ b → b ≡ false
-apart id other differ true same = absurd (differ (id_cmp_antisymmetric other id (tied (id_cmp other id) same)))
-apart id other differ false same = refl
+eq_by_cmp_false_of_ne : (id other : ObjectId) → other ≢ id → (b : Bool) → eq_by_cmp id_cmp other id ≡ b → b ≡ false
+eq_by_cmp_false_of_ne id other differ true same = absurd (differ (id_cmp_antisymmetric other id (equal_of_is_eq (id_cmp other id) same)))
+eq_by_cmp_false_of_ne id other differ false same = refl
 
 pub named_insert_other : (objects : Objects) (id other : ObjectId) (it : StoredObject) → other ≢ id
     → named (finite.insert objects id it) other ≡ named objects other
 named_insert_other objects id other it differ = finite.get-insert id_cmp_total objects id it other ∙ ap (λ (b : Bool). cond b (Some it) (named objects other))
-    (apart id other differ (eq_by_cmp id_cmp other id) refl)
+    (eq_by_cmp_false_of_ne id other differ (eq_by_cmp id_cmp other id) refl)

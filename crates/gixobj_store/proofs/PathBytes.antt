@@ -24,43 +24,44 @@ path_names_unique path a b (parts, cut, is) (others, cut', is') = is ∙ ap name
 
 -- ---- what precedes the names
 
-one_more_part : (path part following : List ℕ) (parts : List (List ℕ)) → SplitsAt slash path part following → IsSplitAtEach slash following parts
+split_at_each_cons : (path part following : List ℕ) (parts : List (List ℕ)) → SplitsAt slash path part following → IsSplitAtEach slash following parts
     → IsSplitAtEach slash path (part ∷ parts)
-one_more_part path part following parts splits cut = is_split_at_each_append slash path following (part ∷ []) parts
+split_at_each_cons path part following parts splits cut = is_split_at_each_append slash path following (part ∷ []) parts
     (are_prefixes_snoc slash path path [] part following (are_prefixes_nil slash path) splits) cut
 
 -- a slash before a path adds no name
 pub are_names_after_slash : (path following : List ℕ) (names : List Name) → path ≡ slash ∷ following → AreNamesOf following names → AreNamesOf path names
 are_names_after_slash path following names is (parts, cut, are) =
-    ([] ∷ parts, one_more_part path [] following parts (record { joined = is; first = All-nil (λ (it : ℕ). it ≢ slash) }) cut, are)
+    ([] ∷ parts, split_at_each_cons path [] following parts (record { joined = is; first = All-nil (λ (it : ℕ). it ≢ slash) }) cut, are)
 
-name_after : (path name following : List ℕ) (names : List Name) → name ≢ [] → SplitsAt slash path name following → AreNamesOf following names
+are_names_of_cons : (path name following : List ℕ) (names : List Name) → name ≢ [] → SplitsAt slash path name following → AreNamesOf following names
     → AreNamesOf path (name ∷ names)
-name_after path [] following names some splits are = absurd (some refl)
-name_after path (byte ∷ name) following names some splits (parts, cut, are) =
-    ((byte ∷ name) ∷ parts, one_more_part path (byte ∷ name) following parts splits cut, ap (λ (it : List Name). (byte ∷ name) ∷ it) are)
+are_names_of_cons path [] following names some splits are = absurd (some refl)
+are_names_of_cons path (byte ∷ name) following names some splits (parts, cut, are) =
+    ((byte ∷ name) ∷ parts, split_at_each_cons path (byte ∷ name) following parts splits cut, ap (λ (it : List Name). (byte ∷ name) ∷ it) are)
 
-of_one_part : (path : List ℕ) → IsByteFree slash path → AreNamesOf path (named_parts (path ∷ []))
-of_one_part path free = (path ∷ [], is_split_at_each_of_byte_free slash path free, refl)
+are_names_of_one_part : (path : List ℕ) → IsByteFree slash path → AreNamesOf path (named_parts (path ∷ []))
+are_names_of_one_part path free = (path ∷ [], is_split_at_each_of_byte_free slash path free, refl)
 
 pub are_names_of_nil : AreNamesOf [] []
-are_names_of_nil = of_one_part [] (All-nil (λ (it : ℕ). it ≢ slash))
+are_names_of_nil = are_names_of_one_part [] (All-nil (λ (it : ℕ). it ≢ slash))
 
-one_name : (path : List ℕ) → path ≢ [] → IsByteFree slash path → AreNamesOf path (path ∷ [])
-one_name [] some free = absurd (some refl)
-one_name (byte ∷ path) some free = of_one_part (byte ∷ path) free
+are_names_of_one_name : (path : List ℕ) → path ≢ [] → IsByteFree slash path → AreNamesOf path (path ∷ [])
+are_names_of_one_name [] some free = absurd (some refl)
+are_names_of_one_name (byte ∷ path) some free = are_names_of_one_part (byte ∷ path) free
 
 -- a path that is not empty and has no slash before it has a name
-some_name : (path : List ℕ) (names : List Name) → ((rest : List ℕ) → path ≢ slash ∷ rest) → AreNamesOf path names → path ≢ [] → names ≢ []
-some_name [] names other are some none = some refl
-some_name (byte ∷ path) names other ([], cut, is) some none = cc (cut.joined)
-some_name (byte ∷ path) names other ([] ∷ parts, cut, is) some none = let here : byte ≡ slash = cc (cut.joined) in other path (ap (λ (it : ℕ). it ∷ path) here)
-some_name (byte ∷ path) names other ((first ∷ part) ∷ parts, cut, is) some none = cc (sym is ∙ none)
+names_ne_nil_of_path : (path : List ℕ) (names : List Name) → ((rest : List ℕ) → path ≢ slash ∷ rest) → AreNamesOf path names → path ≢ [] → names ≢ []
+names_ne_nil_of_path [] names other are some none = some refl
+names_ne_nil_of_path (byte ∷ path) names other ([], cut, is) some none = cc (cut.joined)
+names_ne_nil_of_path (byte ∷ path) names other ([] ∷ parts, cut, is) some none = let here : byte ≡ slash = cc (cut.joined) in
+    other path (ap (λ (it : ℕ). it ∷ path) here)
+names_ne_nil_of_path (byte ∷ path) names other ((first ∷ part) ∷ parts, cut, is) some none = cc (sym is ∙ none)
 
 -- ---- the first name
 
-filled : (path name following : List ℕ) → SplitsAt slash path name following → ((rest : List ℕ) → path ≢ slash ∷ rest) → name ≢ []
-filled path name following splits other none = other following (splits.joined ∙ ap (λ (it : List ℕ). it ++ slash ∷ following) none)
+name_before_slash_ne_nil : (path name following : List ℕ) → SplitsAt slash path name following → ((rest : List ℕ) → path ≢ slash ∷ rest) → name ≢ []
+name_before_slash_ne_nil path name following splits other none = other following (splits.joined ∙ ap (λ (it : List ℕ). it ++ slash ∷ following) none)
 
 -- the bytes before a slash are the first name of a path that begins with no slash
 pub splits_name_at_slash : (path bytes name following rest : List ℕ) → ((names : List Name) → AreNamesOf bytes names → AreNamesOf path names)
@@ -70,17 +71,23 @@ splits_name_at_slash path bytes name following rest same other splits same' othe
     let others = path_names rest in
     let are = are_names_of_path rest in (
       others,
-      same (name ∷ others) (name_after bytes name following others (filled bytes name following splits other) splits (same' others are)),
+      same (name ∷ others) (are_names_of_cons bytes name following others (name_before_slash_ne_nil bytes name following splits other) splits
+          (same' others are)),
       are,
-      some_name rest others other' are,
+      names_ne_nil_of_path rest others other' are,
     )
 
 -- a path without a slash is one name
 pub splits_name_at_end : (path bytes rest : List ℕ) → ((names : List Name) → AreNamesOf bytes names → AreNamesOf path names) → bytes ≢ []
     → IsByteFree slash bytes
     → rest ≡ [] → SplitsName path bytes rest
-splits_name_at_end path bytes rest same some free none =
-    ([], same (bytes ∷ []) (one_name bytes some free), subst (λ (it : List ℕ). AreNamesOf it []) (sym none) are_names_of_nil, λ more. absurd (more none))
+splits_name_at_end path bytes rest same some free none = (
+  [],
+  same (bytes ∷ []) (are_names_of_one_name bytes some free),
+  subst (λ (it : List ℕ). AreNamesOf it []) (sym none) are_names_of_nil,
+  λ more. absurd
+      (more none),
+)
 
 pub are_names_of_slashes : (path bytes : List ℕ) → ((names : List Name) → AreNamesOf bytes names → AreNamesOf path names) → length bytes ≡ 0
     → AreNamesOf path []

@@ -28,79 +28,79 @@ abbrev pub Comes : hash.Kind → List ℕ → List EntryView → Name → EntryV
 Comes kind input passed name e = (here rest : List ℕ) × runs.Passes (EntryStep kind) tt input passed tt here × BeginsWithEntry kind here e rest
     × runs.HasNone (IsNamed name) passed × IsNamed name e
 
-other_first : (name : Name) (x : EntryView) (others : List EntryView) → runs.HasNone (IsNamed name) (x ∷ others) → ¬ IsNamed name x
-other_first name x others none = All-head (λ (it : EntryView). ¬ IsNamed name it) x others none
+has_none_named_head : (name : Name) (x : EntryView) (others : List EntryView) → runs.HasNone (IsNamed name) (x ∷ others) → ¬ IsNamed name x
+has_none_named_head name x others none = All-head (λ (it : EntryView). ¬ IsNamed name it) x others none
 
-others_more : (name : Name) (x : EntryView) (others : List EntryView) → runs.HasNone (IsNamed name) (x ∷ others) → runs.HasNone (IsNamed name) others
-others_more name x others none = All-tail (λ (it : EntryView). ¬ IsNamed name it) x others none
+has_none_named_tail : (name : Name) (x : EntryView) (others : List EntryView) → runs.HasNone (IsNamed name) (x ∷ others) → runs.HasNone (IsNamed name) others
+has_none_named_tail name x others none = All-tail (λ (it : EntryView). ¬ IsNamed name it) x others none
 
-comes_once : (kind : hash.Kind) (input : List ℕ) (name : Name) (passed others : List EntryView) (e it : EntryView) → Comes kind input passed name e
+comes_unique : (kind : hash.Kind) (input : List ℕ) (name : Name) (passed others : List EntryView) (e it : EntryView) → Comes kind input passed name e
     → Comes kind input others name it → e ≡ it
-comes_once kind input name [] [] e it (here, rest, (_, same), has, none, is) (here', rest', (_, same'), has', none', is') =
+comes_unique kind input name [] [] e it (here, rest, (_, same), has, none, is) (here', rest', (_, same'), has', none', is') =
     (entry_unique kind here e it rest rest' has (subst (λ (at : List ℕ). BeginsWithEntry kind at it rest') (sym same' ∙ same) has')).0
-comes_once kind input name [] (x ∷ others) e it (here, rest, (_, same), has, none, is) (here', rest', (_, after, first, on), has', none', is') =
-    absurd (other_first name x others none'
+comes_unique kind input name [] (x ∷ others) e it (here, rest, (_, same), has, none, is) (here', rest', (_, after, first, on), has', none', is') =
+    absurd (has_none_named_head name x others none'
     (sym (ap (λ (y : EntryView). y.name)
     (entry_unique kind input e x rest after (subst (λ (at : List ℕ). BeginsWithEntry kind at e rest) (sym same) has) first).0) ∙ is))
-comes_once kind input name (x ∷ passed) [] e it (here, rest, (_, after, first, on), has, none, is) (here', rest', (_, same'), has', none', is') =
-    absurd (other_first name x passed none
+comes_unique kind input name (x ∷ passed) [] e it (here, rest, (_, after, first, on), has, none, is) (here', rest', (_, same'), has', none', is') =
+    absurd (has_none_named_head name x passed none
     (sym (ap (λ (y : EntryView). y.name)
     (entry_unique kind input it x rest' after (subst (λ (at : List ℕ). BeginsWithEntry kind at it rest') (sym same') has') first).0) ∙ is'))
-comes_once kind input name (x ∷ passed) (y ∷ others) e it (here, rest, (_, after, first, on), has, none, is)
+comes_unique kind input name (x ∷ passed) (y ∷ others) e it (here, rest, (_, after, first, on), has, none, is)
     (here', rest', (_, after', first', on'), has', none', is') =
     let (same_entry, same_rest) = entry_unique kind input x y after after' first first' in
-    comes_once kind after name passed others e it (here, rest, on, has, others_more name x passed none, is) (
+    comes_unique kind after name passed others e it (here, rest, on, has, has_none_named_tail name x passed none, is) (
       here',
       rest',
       subst (λ (at : List ℕ). runs.Passes (EntryStep kind) tt at others tt here') (sym same_rest) on',
       has',
-      others_more name y others none',
+      has_none_named_tail name y others none',
       is',
     )
 
-as_coming : (kind : hash.Kind) (input : List ℕ) (name : Name) (e : EntryView) → HasFirstNamed kind input name e → (passed : List EntryView)
+comes_of_has_first_named : (kind : hash.Kind) (input : List ℕ) (name : Name) (e : EntryView) → HasFirstNamed kind input name e → (passed : List EntryView)
     × Comes kind input passed name e
-as_coming kind input name e ((_, _, here, rest, (passed, on, none), has), is) = (passed, (here, rest, on, has, none, is))
+comes_of_has_first_named kind input name e ((_, _, here, rest, (passed, on, none), has), is) = (passed, (here, rest, on, has, none, is))
 
 pub first_named_unique : (kind : hash.Kind) (input : List ℕ) (name : Name) (e it : EntryView) → HasFirstNamed kind input name e
     → HasFirstNamed kind input name it
     → e ≡ it
 first_named_unique kind input name e it first first' =
-    let (passed, comes) = as_coming kind input name e first in
-    let (others, comes') = as_coming kind input name it first' in
-    comes_once kind input name passed others e it comes comes'
+    let (passed, comes) = comes_of_has_first_named kind input name e first in
+    let (others, comes') = comes_of_has_first_named kind input name it first' in
+    comes_unique kind input name passed others e it comes comes'
 
 -- ---- a run without an entry of the name finds none
 
-nothing_in_nothing : (kind : hash.Kind) (e : EntryView) (rest : List ℕ) → ¬ BeginsWithEntry kind [] e rest
-nothing_in_nothing kind e rest has = let less = entry_rest_len_lt kind [] e rest has in omega (arith, less)
+no_entry_in_nil : (kind : hash.Kind) (e : EntryView) (rest : List ℕ) → ¬ BeginsWithEntry kind [] e rest
+no_entry_in_nil kind e rest has = let less = entry_rest_len_lt kind [] e rest has in omega (arith, less)
 
-none_comes : (kind : hash.Kind) (input : List ℕ) (name : Name) (seen passed : List EntryView) (ending : Ending) (e : EntryView)
+not_comes_of_has_none : (kind : hash.Kind) (input : List ℕ) (name : Name) (seen passed : List EntryView) (ending : Ending) (e : EntryView)
     → YieldsEntries kind input seen ending → runs.HasNone (IsNamed name) seen → ¬ Comes kind input passed name e
-none_comes kind input name seen [] ending e (yields_end _) lacks (here, rest, (_, same), has, none, is) =
-    nothing_in_nothing kind e rest (subst (λ (at : List ℕ). BeginsWithEntry kind at e rest) (sym same) has)
-none_comes kind input name seen (x ∷ passed) ending e (yields_end _) lacks (here, rest, (_, after, first, on), has, none, is) =
-    nothing_in_nothing kind x after first
-none_comes kind input name seen [] ending e (yields_error _ _ some nothing) lacks (here, rest, (_, same), has, none, is) =
+not_comes_of_has_none kind input name seen [] ending e (yields_end _) lacks (here, rest, (_, same), has, none, is) =
+    no_entry_in_nil kind e rest (subst (λ (at : List ℕ). BeginsWithEntry kind at e rest) (sym same) has)
+not_comes_of_has_none kind input name seen (x ∷ passed) ending e (yields_end _) lacks (here, rest, (_, after, first, on), has, none, is) =
+    no_entry_in_nil kind x after first
+not_comes_of_has_none kind input name seen [] ending e (yields_error _ _ some nothing) lacks (here, rest, (_, same), has, none, is) =
     nothing e tt rest (subst (λ (at : List ℕ). BeginsWithEntry kind at e rest) (sym same) has)
-none_comes kind input name seen (x ∷ passed) ending e (yields_error _ _ some nothing) lacks (here, rest, (_, after, first, on), has, none, is) =
+not_comes_of_has_none kind input name seen (x ∷ passed) ending e (yields_error _ _ some nothing) lacks (here, rest, (_, after, first, on), has, none, is) =
     nothing x tt after first
-none_comes kind input name seen [] ending e (yields_piece _ _ _ following y more _ first' seen') lacks (here, rest, (_, same), has, none, is) =
-    other_first name y more lacks
+not_comes_of_has_none kind input name seen [] ending e (yields_piece _ _ _ following y more _ first' seen') lacks (here, rest, (_, same), has, none, is) =
+    has_none_named_head name y more lacks
     (sym (ap (λ (y : EntryView). y.name)
     (entry_unique kind input e y rest following (subst (λ (at : List ℕ). BeginsWithEntry kind at e rest) (sym same) has) first').0) ∙ is)
-none_comes kind input name seen (x ∷ passed) ending e (yields_piece _ _ _ following y more _ first' seen') lacks
+not_comes_of_has_none kind input name seen (x ∷ passed) ending e (yields_piece _ _ _ following y more _ first' seen') lacks
     (here, rest, (_, after, first, on), has, none, is) =
     let same_rest = (entry_unique kind input x y after following first first').1 in
-    none_comes kind following name more passed ending e seen' (others_more name y more lacks)
-    (here, rest, subst (λ (at : List ℕ). runs.Passes (EntryStep kind) tt at passed tt here) same_rest on, has, others_more name x passed none, is)
+    not_comes_of_has_none kind following name more passed ending e seen' (has_none_named_tail name y more lacks)
+    (here, rest, subst (λ (at : List ℕ). runs.Passes (EntryStep kind) tt at passed tt here) same_rest on, has, has_none_named_tail name x passed none, is)
 
 pub no_entry_named_of_search : (kind : hash.Kind) (input : List ℕ) (name : Name) (ending : Ending)
     → runs.YieldsNone (EntryStep kind) (IsNamed name) tt input ending
     → HasNoEntryNamed kind input name
 no_entry_named_of_search kind input name ending (seen, yields, lacks) e first =
-    let (passed, comes) = as_coming kind input name e first in
-    none_comes kind input name seen passed ending e yields lacks comes
+    let (passed, comes) = comes_of_has_first_named kind input name e first in
+    not_comes_of_has_none kind input name seen passed ending e yields lacks comes
 
 -- ---- paths
 
@@ -130,20 +130,20 @@ pub not_leads_to_of_nil : (objects : Objects) (first : Option StoredObject) (e :
 not_leads_to_of_nil objects first e ([], path) = path
 not_leads_to_of_nil objects first e (b ∷ before, path) = path
 
-first_on_path : (objects : Objects) (tree : StoredObject) (name : Name) (more : List Name) (e : EntryView) → LeadsTo objects (Some tree) (name ∷ more) e
+found_in_of_leads_to : (objects : Objects) (tree : StoredObject) (name : Name) (more : List Name) (e : EntryView) → LeadsTo objects (Some tree) (name ∷ more) e
     → (at : EntryView) × FoundIn (Some tree) name at
-first_on_path objects tree name more e ([], path) = (e, path.0)
-first_on_path objects tree name more e (b ∷ before, path) = (b, path.0)
+found_in_of_leads_to objects tree name more e ([], path) = (e, path.0)
+found_in_of_leads_to objects tree name more e (b ∷ before, path) = (b, path.0)
 
 pub not_leads_to_in_non_tree : (objects : Objects) (tree : StoredObject) (names : List Name) (e : EntryView) → tree.kind ≢ Tree
     → ¬ LeadsTo objects (Some tree) names e
 not_leads_to_in_non_tree objects tree [] e other path = not_leads_to_of_nil objects (Some tree) e path
-not_leads_to_in_non_tree objects tree (name ∷ more) e other path = other (first_on_path objects tree name more e path).1.0
+not_leads_to_in_non_tree objects tree (name ∷ more) e other path = other (found_in_of_leads_to objects tree name more e path).1.0
 
 pub not_leads_to_without_entry : (objects : Objects) (tree : StoredObject) (name : Name) (more : List Name) (e : EntryView)
     → HasNoEntryNamed tree.object_hash tree.bytes name → ¬ LeadsTo objects (Some tree) (name ∷ more) e
 not_leads_to_without_entry objects tree name more e none path =
-    let (at, found) = first_on_path objects tree name more e path in
+    let (at, found) = found_in_of_leads_to objects tree name more e path in
     none at found.1
 
 -- ---- the walk along a path
@@ -223,23 +223,25 @@ follows_snoc objects first path names remaining id next tree follows names_it is
     }
 
 -- a step into a tree breaks with the entry to which the remaining names lead
-at_break : (objects : Objects) (tree : StoredObject) (names : List Name) (found : Option EntryRef) → tree.kind ≡ Tree → IsStep tree names (Break found)
+is_at_path_of_break : (objects : Objects) (tree : StoredObject) (names : List Name) (found : Option EntryRef) → tree.kind ≡ Tree
+    → IsStep tree names (Break found)
     → IsAtPath objects (Some tree) names (option_map entry_view found)
-at_break objects tree names (Some entry) is_tree (name, split, first) = subst (λ (x : List Name). LeadsTo objects (Some tree) x (entry_view entry)) (sym split)
+is_at_path_of_break objects tree names (Some entry) is_tree (name, split, first) =
+    subst (λ (x : List Name). LeadsTo objects (Some tree) x (entry_view entry)) (sym split)
     (leads_to_last_name objects tree name (entry_view entry) (is_tree, first))
-at_break objects tree [] None is_tree none = not_leads_to_of_nil objects (Some tree)
-at_break objects tree (name ∷ more) None is_tree none = λ e. not_leads_to_without_entry objects tree name more e (none name more refl)
+is_at_path_of_break objects tree [] None is_tree none = not_leads_to_of_nil objects (Some tree)
+is_at_path_of_break objects tree (name ∷ more) None is_tree none = λ e. not_leads_to_without_entry objects tree name more e (none name more refl)
 
-break_none : (found : Option EntryRef) → ◌≡◌ {A = ControlFlow (Option EntryRef) ObjectId} (Break found) (Break None) → found ≡ None
-break_none found same = cc same
+none_of_break_none : (found : Option EntryRef) → ◌≡◌ {A = ControlFlow (Option EntryRef) ObjectId} (Break found) (Break None) → found ≡ None
+none_of_break_none found same = cc same
 
 -- a step into an object of any kind breaks with the entry to which the remaining names lead
 pub is_at_path_broken : (objects : Objects) (it : StoredObject) (names : List Name) (found : Option EntryRef)
     → (it.kind ≢ Tree → ◌≡◌ {A = ControlFlow (Option EntryRef) ObjectId} (Break found) (Break None)) → (it.kind ≡ Tree → IsStep it names (Break found))
     → IsAtPath objects (Some it) names (option_map entry_view found)
 is_at_path_broken objects it names found other tree =
-    ⊎_elim (λ is. at_break objects it names found is (tree is))
-    (λ is_not. rw (break_none found (other is_not)) (λ e. not_leads_to_in_non_tree objects it names e is_not)) (kind_tree_or_not it.kind)
+    ⊎_elim (λ is. is_at_path_of_break objects it names found is (tree is))
+    (λ is_not. rw (none_of_break_none found (other is_not)) (λ e. not_leads_to_in_non_tree objects it names e is_not)) (kind_tree_or_not it.kind)
 
 -- the remaining names lead to the same entry as the path
 pub is_at_path_complete : (objects : Objects) (first : Option StoredObject) (path names : List Name) (id : ObjectId) (found : Option EntryView)

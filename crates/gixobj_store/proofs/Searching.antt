@@ -16,7 +16,8 @@ use Rattle.gixobj_store.specs.EntrySteps.{NextEntry, NoEntryAllocates, remaining
 use Rattle.gixobj_store.specs.Lookups.{HasFirstNamed, HasNoEntryNamed, IsNamed, Name}
 use Rattle.gixobj_store.specs.declared.tree.TreeRefIter.{TreeRefIter}
 
-pub remaining_len_le : (kind : Kind) (before : ⊤) (input : List ℕ) (e : EntryView) (following : ⊤) (rest : List ℕ) → EntryStep kind before input e following rest
+pub remaining_len_le : (kind : Kind) (before : ⊤) (input : List ℕ) (e : EntryView) (following : ⊤) (rest : List ℕ)
+    → EntryStep kind before input e following rest
     → length rest ≤ length input
 remaining_len_le kind before input e following rest has = let less = entry_rest_len_lt kind input e rest has in omega (arith, less)
 

@@ -22,8 +22,8 @@ use Rattle.gixobj_store.specs.declared.find.Error.TheVariants.{OutOfMemory}
 use Rattle.gixobj_store.specs.declared.tree.TreeRefIter.{TreeRefIter}
 
 -- the remaining tree of a new iterator is the stored tree
-same_remaining : (it : Data) (reader : TreeRefIter) → it.kind ≡ Tree → IsAtEntry it.object_hash it.bytes.now reader → remaining_tree reader ≡ stored it
-same_remaining it reader is_tree start i = record { kind = sym is_tree i; object_hash = (start i).kind; bytes = (start i).bytes }
+remaining_tree_at_entry : (it : Data) (reader : TreeRefIter) → it.kind ≡ Tree → IsAtEntry it.object_hash it.bytes.now reader → remaining_tree reader ≡ stored it
+remaining_tree_at_entry it reader is_tree start i = record { kind = sym is_tree i; object_hash = (start i).kind; bytes = (start i).bytes }
 
 -- a step of a new iterator is a step into the stored tree
 pub is_step_into_stored : (it : Data) (reader : TreeRefIter) (said : Name) (names others : List Name) (result : ControlFlow (Option EntryRef) ObjectId)
@@ -31,7 +31,7 @@ pub is_step_into_stored : (it : Data) (reader : TreeRefIter) (said : Name) (name
     → IsAtEntry it.object_hash it.bytes.now reader → names ≡ said ∷ others
     → IsStep (remaining_tree reader) (said ∷ others) result → IsStep (stored it) names result
 is_step_into_stored it reader said names others result is_tree start split step =
-    subst (λ (x : StoredObject). IsStep x names result) (same_remaining it reader is_tree start)
+    subst (λ (x : StoredObject). IsStep x names result) (remaining_tree_at_entry it reader is_tree start)
     (subst (λ (x : List Name). IsStep (remaining_tree reader) x result) (sym split) step)
 
 pub names_nil_iff : (more : List BString) → MatchBool (nat_eq (length more) 0) (map bstring_bytes more ≡ []) (map bstring_bytes more ≢ [])
@@ -40,14 +40,15 @@ names_nil_iff (name ∷ more) = rw (eqb-suc-zero (length more)) (λ none. cc non
 
 -- ---- the first step, into the tree of an iterator
 
-same_stored : (it : Data) (reader : TreeRefIter) → it.bytes ≡ reader.bytes → it.kind ≡ Tree → it.object_hash ≡ reader.hash_kind
+stored_eq_remaining_tree : (it : Data) (reader : TreeRefIter) → it.bytes ≡ reader.bytes → it.kind ≡ Tree → it.object_hash ≡ reader.hash_kind
     → stored it ≡ remaining_tree reader
-same_stored it reader bytes kind hash i = record { kind = kind i; object_hash = hash i; bytes = (bytes i).now }
+stored_eq_remaining_tree it reader bytes kind hash i = record { kind = kind i; object_hash = hash i; bytes = (bytes i).now }
 
 pub is_step_of_reader : (it : Data) (reader : TreeRefIter) (names : List Name) (result : ControlFlow (Option EntryRef) ObjectId) → it.bytes ≡ reader.bytes
     → it.kind ≡ Tree → it.object_hash ≡ reader.hash_kind → (it.kind ≡ Tree → IsStep (stored it) names result)
     → IsStep (remaining_tree reader) names result
-is_step_of_reader it reader names result bytes kind hash step = subst (λ (x : StoredObject). IsStep x names result) (same_stored it reader bytes kind hash)
+is_step_of_reader it reader names result bytes kind hash step = subst (λ (x : StoredObject). IsStep x names result)
+    (stored_eq_remaining_tree it reader bytes kind hash)
     (step kind)
 
 pub names_drop_one : (before after : List BString) → after ≡ drop 1 before → map bstring_bytes after ≡ drop 1 (map bstring_bytes before)
@@ -76,13 +77,13 @@ is_at_path_none objects first path names at id found follows is same none =
     is_at_path_complete objects first path names id None follows
     (λ e. subst (λ (x : Option StoredObject). ¬ LeadsTo objects x names e) (sym nothing) (not_leads_to_in_none objects names e))
 
-continue_breaks : (next : ObjectId) → ¬ (◌≡◌ {A = ControlFlow (Option EntryRef) ObjectId} (Continue next) (Break None))
-continue_breaks next same = cc same
+continue_ne_break : (next : ObjectId) → ¬ (◌≡◌ {A = ControlFlow (Option EntryRef) ObjectId} (Continue next) (Break None))
+continue_ne_break next same = cc same
 
 -- a step that continues is a step into a tree
 pub kind_is_tree_of_step : (it : Data) (next : ObjectId) → (it.kind ≢ Tree → ◌≡◌ {A = ControlFlow (Option EntryRef) ObjectId} (Continue next) (Break None))
     → it.kind ≡ Tree
-kind_is_tree_of_step it next other = ⊎_elim (λ is_tree. is_tree) (λ is_not. absurd (continue_breaks next (other is_not))) (kind_tree_or_not it.kind)
+kind_is_tree_of_step it next other = ⊎_elim (λ is_tree. is_tree) (λ is_not. absurd (continue_ne_break next (other is_not))) (kind_tree_or_not it.kind)
 
 pub is_at_path_found : (objects : Objects) (first : Option StoredObject) (path names : List Name) (id : ObjectId) (it : Data) (found : Option EntryRef)
     → Follows objects first path id names → named objects id ≡ Some (stored it)

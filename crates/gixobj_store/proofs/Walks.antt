@@ -34,15 +34,15 @@ yields_entries_complete kind content entries at after (passed, same_kind) gives 
     let end : YieldsEntries kind (tree_reader_state at).bytes [] complete = rw gives.0 (yields_end tt) in
     yields_passed (EntryStep kind) tt tt content (tree_reader_state at).bytes entries complete passed end
 
-malformed_only : (at after : TreeRefIter) (error : Error) → NextEntry at (Some (Err error)) after → NextEntry at (Some (Err Malformed)) after
-malformed_only at after Malformed gives = gives
-malformed_only at after OutOfMemory gives = absurd gives.1
+next_entry_error_is_malformed : (at after : TreeRefIter) (error : Error) → NextEntry at (Some (Err error)) after → NextEntry at (Some (Err Malformed)) after
+next_entry_error_is_malformed at after Malformed gives = gives
+next_entry_error_is_malformed at after OutOfMemory gives = absurd gives.1
 
 pub yields_entries_broken : (kind : Kind) (content : List ℕ) (entries : List EntryView) (at after : TreeRefIter) (error : Error)
     → HasConsumedEntries kind content entries at
     → NextEntry at (Some (Err error)) after → YieldsEntries kind content entries broken
 yields_entries_broken kind content entries at after error (passed, same_kind) gives =
-    let rejected = malformed_only at after error gives in
+    let rejected = next_entry_error_is_malformed at after error gives in
     let none = subst (λ (it : Kind). (e : EntryView) (following : ⊤) (rest : List ℕ) → EntryStep it tt (tree_reader_state at).bytes e following rest
     → ⊥) same_kind rejected.1 in
     let stop : YieldsEntries kind (tree_reader_state at).bytes [] broken = yields_error tt (tree_reader_state at).bytes rejected.0 none in
@@ -53,12 +53,12 @@ yields_entries_broken kind content entries at after error (passed, same_kind) gi
 pub is_tail_refl : (kind : Kind) (content : List ℕ) (reader : TreeRefIter) → IsAtEntry kind content reader → IsTail content (remaining_tree_bytes reader)
 is_tail_refl kind content reader start = ([], sym (ap (λ (it : ReaderState Kind ⊤). it.bytes) start))
 
-tail_at_end : (content : List ℕ) → IsTail content []
-tail_at_end content = (content, sym (append-nil content))
+is_tail_nil : (content : List ℕ) → IsTail content []
+is_tail_nil content = (content, sym (append-nil content))
 
 pub is_tail_after_entry : (content : List ℕ) (at after : TreeRefIter) (item : Option (Result EntryRef Error)) → IsTail content (remaining_tree_bytes at)
     → NextEntry at item after → IsTail content (remaining_tree_bytes after)
 is_tail_after_entry content at after (Some (Ok entry)) (prefix, joined) (has, kept, such) =
     (prefix ++ has.0, joined ∙ ap (λ (it : List ℕ). prefix ++ it) has.1 ∙ sym (append_assoc prefix has.0 (remaining_tree_bytes after)))
-is_tail_after_entry content at after (Some (Err error)) is_tail gives = rw gives.2 (tail_at_end content)
-is_tail_after_entry content at after None is_tail gives = rw gives.1 (tail_at_end content)
+is_tail_after_entry content at after (Some (Err error)) is_tail gives = rw gives.2 (is_tail_nil content)
+is_tail_after_entry content at after None is_tail gives = rw gives.1 (is_tail_nil content)

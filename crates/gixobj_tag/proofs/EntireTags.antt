@@ -32,57 +32,61 @@ pub record Reads (kind : hash.Kind) (bytes : List ℕ) (tag : TagLines) : Type 0
 
 -- ---- joined
 
-join_lines : (bytes target a kind b name c tagger body : List ℕ) → bytes ≡ target ++ a → a ≡ kind ++ b → b ≡ name ++ c → c ≡ tagger ++ body
+tag_parts_append_assoc : (bytes target a kind b name c tagger body : List ℕ) → bytes ≡ target ++ a → a ≡ kind ++ b → b ≡ name ++ c → c ≡ tagger ++ body
     → bytes ≡ (((target ++ kind) ++ name) ++ tagger) ++ body
-join_lines bytes target a kind b name c tagger body one two three four = rw (one, two, three, four) (sym (simp append_assoc))
+tag_parts_append_assoc bytes target a kind b name c tagger body one two three four = rw (one, two, three, four) (sym (simp append_assoc))
 
-tagger_joined : (tagger : Option (List ℕ)) (input rest : List ℕ) → BeginsWithTagger input tagger rest → input ≡ encode_tagger tagger ++ rest
-tagger_joined None input rest (lacks, same) = sym same
-tagger_joined (Some line) input rest (field, actor) = field.joined
+begins_with_tagger_eq_append : (tagger : Option (List ℕ)) (input rest : List ℕ) → BeginsWithTagger input tagger rest → input ≡ encode_tagger tagger ++ rest
+begins_with_tagger_eq_append None input rest (lacks, same) = sym same
+begins_with_tagger_eq_append (Some line) input rest (field, actor) = field.joined
 
-tagger_begins : (tagger : Option (List ℕ)) (input rest : List ℕ) → BeginsWithTagger input tagger rest → IsTaggerLine tagger
-tagger_begins None input rest has = tt
-tagger_begins (Some line) input rest (field, actor) = actor
+is_tagger_line_of_begins_with_tagger : (tagger : Option (List ℕ)) (input rest : List ℕ) → BeginsWithTagger input tagger rest → IsTaggerLine tagger
+is_tagger_line_of_begins_with_tagger None input rest has = tt
+is_tagger_line_of_begins_with_tagger (Some line) input rest (field, actor) = actor
 
 pub decodes_tag_of_parts : (kind : hash.Kind) (bytes : List ℕ) (tag : TagLines) → Reads kind bytes tag → DecodesToTag kind bytes tag
 decodes_tag_of_parts kind bytes tag reads =
     record {
       body = reads.body;
-      joined = join_lines bytes (encode_field (codes "object") tag.target) reads.after_target
+      joined = tag_parts_append_assoc bytes (encode_field (codes "object") tag.target) reads.after_target
           (encode_field (codes "type") (kind_name tag.target_kind))
           reads.after_kind (encode_field (codes "tag") tag.name) reads.after_name
           (encode_tagger tag.tagger) reads.body reads.target.0.joined reads.target_kind.joined reads.name.0.joined
-          (tagger_joined tag.tagger reads.after_name reads.body reads.tagger);
+          (begins_with_tagger_eq_append tag.tagger reads.after_name reads.body reads.tagger);
       target = reads.target.1;
       name = (reads.name.1, reads.name.0.one_line);
-      tagger = tagger_begins tag.tagger reads.after_name reads.body reads.tagger;
+      tagger = is_tagger_line_of_begins_with_tagger tag.tagger reads.after_name reads.body reads.tagger;
       parted = reads.parted;
     }
 
 -- ---- split
 
 -- no body begins as a tagger line does
-lacks_tagger : (body message : List ℕ) (signature : Option (List ℕ)) → IsBody body message signature → BeginsWithOtherName (codes "tagger") body
-lacks_tagger body message signature (newlines_alone _ are) rest same =
+body_begins_with_no_tagger : (body message : List ℕ) (signature : Option (List ℕ)) → IsBody body message signature → BeginsWithOtherName (codes "tagger") body
+body_begins_with_no_tagger body message signature (newlines_alone _ are) rest same =
     let all : IsTrue (are_newlines (codes "tagger" ++ 32 ∷ rest)) = subst (λ (it : List ℕ). IsTrue (are_newlines it)) same are in
     true≢false (sym all)
-lacks_tagger body message signature (after_a_newline _ bytes _ _ joined more parted) rest same =
+body_begins_with_no_tagger body message signature (after_a_newline _ bytes _ _ joined more parted) rest same =
     let first : 116 ≡ 10 = first_bytes_eq 116 10 _ _ (sym same ∙ joined) in absurd (omega (arith, first))
 
-value_is_one_line : (kind : Kind) → IsByteFree 10 (kind_name kind)
-value_is_one_line object.Tree = byte_free_of_all_pass 10 (kind_name object.Tree) refl
-value_is_one_line object.Blob = byte_free_of_all_pass 10 (kind_name object.Blob) refl
-value_is_one_line object.Commit = byte_free_of_all_pass 10 (kind_name object.Commit) refl
-value_is_one_line object.Tag = byte_free_of_all_pass 10 (kind_name object.Tag) refl
+kind_name_newline_free : (kind : Kind) → IsByteFree 10 (kind_name kind)
+kind_name_newline_free object.Tree = byte_free_of_all_pass 10 (kind_name object.Tree) refl
+kind_name_newline_free object.Blob = byte_free_of_all_pass 10 (kind_name object.Blob) refl
+kind_name_newline_free object.Commit = byte_free_of_all_pass 10 (kind_name object.Commit) refl
+kind_name_newline_free object.Tag = byte_free_of_all_pass 10 (kind_name object.Tag) refl
 
-field_there : (name input value rest : List ℕ) → input ≡ encode_field name value ++ rest → IsByteFree 10 value → BeginsWithField name input value rest
-field_there name input value rest joined free = record { joined = joined; one_line = free }
+begins_with_field_of_encode_field : (name input value rest : List ℕ) → input ≡ encode_field name value ++ rest → IsByteFree 10 value
+    → BeginsWithField name input value rest
+begins_with_field_of_encode_field name input value rest joined free = record { joined = joined; one_line = free }
 
-tagger_there : (tagger : Option (List ℕ)) (body message : List ℕ) (signature : Option (List ℕ)) → IsTaggerLine tagger → IsBody body message signature
+begins_with_tagger_of_encode_tagger : (tagger : Option (List ℕ)) (body message : List ℕ) (signature : Option (List ℕ)) → IsTaggerLine tagger
+    → IsBody body message signature
     → BeginsWithTagger (encode_tagger tagger ++ body) tagger body
-tagger_there None body message signature begins parted = (lacks_tagger body message signature parted, refl)
-tagger_there (Some line) body message signature (name, email, time, rest, actor) parted =
-    (field_there (codes "tagger") (encode_field (codes "tagger") line ++ body) line body refl actor.one_line, (name, email, time, rest, actor))
+begins_with_tagger_of_encode_tagger None body message signature begins parted = (body_begins_with_no_tagger body message signature parted, refl)
+begins_with_tagger_of_encode_tagger (Some line) body message signature (name, email, time, rest, actor) parted = (
+  begins_with_field_of_encode_field (codes "tagger") (encode_field (codes "tagger") line ++ body) line body refl actor.one_line,
+  (name, email, time, rest, actor),
+)
 
 pub parts_of_decoded_tag : (kind : hash.Kind) (bytes : List ℕ) (tag : TagLines) → DecodesToTag kind bytes tag → Reads kind bytes tag
 parts_of_decoded_tag kind bytes tag is =
@@ -97,15 +101,15 @@ parts_of_decoded_tag kind bytes tag is =
       after_name = tagger ++ is.body;
       body = is.body;
       target = (
-        field_there (codes "object") bytes tag.target (kind_line ++ (name ++ (tagger ++ is.body))) (is.joined ∙ flat)
+        begins_with_field_of_encode_field (codes "object") bytes tag.target (kind_line ++ (name ++ (tagger ++ is.body))) (is.joined ∙ flat)
             (hex_digits_newline_free tag.target is.target.1),
         is.target,
       );
-      target_kind = field_there (codes "type") (kind_line ++ (name ++ (tagger ++ is.body))) (kind_name tag.target_kind)
+      target_kind = begins_with_field_of_encode_field (codes "type") (kind_line ++ (name ++ (tagger ++ is.body))) (kind_name tag.target_kind)
           (name ++ (tagger ++ is.body)) refl
-          (value_is_one_line tag.target_kind);
-      name = (field_there (codes "tag") (name ++ (tagger ++ is.body)) tag.name (tagger ++ is.body) refl is.name.1, is.name.0);
-      tagger = tagger_there tag.tagger is.body tag.message tag.signature is.tagger is.parted;
+          (kind_name_newline_free tag.target_kind);
+      name = (begins_with_field_of_encode_field (codes "tag") (name ++ (tagger ++ is.body)) tag.name (tagger ++ is.body) refl is.name.1, is.name.0);
+      tagger = begins_with_tagger_of_encode_tagger tag.tagger is.body tag.message tag.signature is.tagger is.parted;
       parted = is.parted;
     }
 
@@ -115,24 +119,26 @@ pub malformed_without_target : (kind : hash.Kind) (bytes : List ℕ) → BeginsW
 malformed_without_target kind bytes none tag is = let reads = parts_of_decoded_tag kind bytes tag is in none tag.target reads.after_target reads.target
 
 -- after the decoded lines, the tag continues as the bytes do
-target_after : (kind : hash.Kind) (bytes hex after : List ℕ) (tag : TagLines) → BeginsWithIdField (codes "object") kind bytes hex after
+after_target_unique : (kind : hash.Kind) (bytes hex after : List ℕ) (tag : TagLines) → BeginsWithIdField (codes "object") kind bytes hex after
     → (reads : Reads kind bytes tag)
     → reads.after_target ≡ after
-target_after kind bytes hex after tag has reads = (field_unique (codes "object") bytes tag.target reads.after_target hex after reads.target.0 has.0).1
+after_target_unique kind bytes hex after tag has reads = (field_unique (codes "object") bytes tag.target reads.after_target hex after reads.target.0 has.0).1
 
-pub malformed_without_kind : (kind : hash.Kind) (bytes hex after : List ℕ) → BeginsWithIdField (codes "object") kind bytes hex after → BeginsWithNoKindField (codes "type") after
+pub malformed_without_kind : (kind : hash.Kind) (bytes hex after : List ℕ) → BeginsWithIdField (codes "object") kind bytes hex after
+    → BeginsWithNoKindField (codes "type") after
     → IsMalformedTag kind bytes
 malformed_without_kind kind bytes hex after has none tag is =
     let reads = parts_of_decoded_tag kind bytes tag is in
-    let here = target_after kind bytes hex after tag has reads in
+    let here = after_target_unique kind bytes hex after tag has reads in
     none tag.target_kind reads.after_kind
     (subst (λ (it : List ℕ). BeginsWithField (codes "type") it (kind_name tag.target_kind) reads.after_kind) here reads.target_kind)
 
-kind_after : (kind : hash.Kind) (bytes hex after token following : List ℕ) (tag : TagLines) → BeginsWithIdField (codes "object") kind bytes hex after
+kind_and_after_kind_unique : (kind : hash.Kind) (bytes hex after token following : List ℕ) (tag : TagLines)
+    → BeginsWithIdField (codes "object") kind bytes hex after
     → BeginsWithField (codes "type") after token following → (reads : Reads kind bytes tag)
     → (kind_name tag.target_kind ≡ token) × (reads.after_kind ≡ following)
-kind_after kind bytes hex after token following tag has typed reads =
-    let here = target_after kind bytes hex after tag has reads in
+kind_and_after_kind_unique kind bytes hex after token following tag has typed reads =
+    let here = after_target_unique kind bytes hex after tag has reads in
     let there = subst (λ (it : List ℕ). BeginsWithField (codes "type") it (kind_name tag.target_kind) reads.after_kind) here reads.target_kind in
     field_unique (codes "type") after (kind_name tag.target_kind) reads.after_kind token following there typed
 
@@ -140,7 +146,7 @@ pub malformed_without_name : (kind : hash.Kind) (bytes hex after token following
     → BeginsWithField (codes "type") after token following → BeginsWithNoTagName following → IsMalformedTag kind bytes
 malformed_without_name kind bytes hex after token following has typed none tag is =
     let reads = parts_of_decoded_tag kind bytes tag is in
-    let here = (kind_after kind bytes hex after token following tag has typed reads).1 in
+    let here = (kind_and_after_kind_unique kind bytes hex after token following tag has typed reads).1 in
     none tag.name reads.after_name (subst (λ (it : List ℕ). BeginsWithTagName it tag.name reads.after_name) here reads.name)
 
 pub tag_name_unique : (kind : hash.Kind) (bytes hex after token following name rest : List ℕ) (tag : TagLines)
@@ -148,7 +154,7 @@ pub tag_name_unique : (kind : hash.Kind) (bytes hex after token following name r
     → BeginsWithField (codes "type") after token following → BeginsWithTagName following name rest
     → (reads : Reads kind bytes tag) → (tag.name ≡ name) × (reads.after_name ≡ rest)
 tag_name_unique kind bytes hex after token following name rest tag has typed named reads =
-    let here = (kind_after kind bytes hex after token following tag has typed reads).1 in
+    let here = (kind_and_after_kind_unique kind bytes hex after token following tag has typed reads).1 in
     let there = subst (λ (it : List ℕ). BeginsWithTagName it tag.name reads.after_name) here reads.name in
     field_unique (codes "tag") following tag.name reads.after_name name rest there.0 named.0
 
@@ -176,9 +182,9 @@ abbrev made : List ℕ → Kind → List ℕ → Option (List ℕ) → List ℕ 
 made target target_kind name tagger message signature =
     record { target = target; target_kind = target_kind; name = name; tagger = tagger; message = message; signature = signature }
 
-same_tag : (a b : TagLines) → a.target ≡ b.target → a.target_kind ≡ b.target_kind → a.name ≡ b.name → a.tagger ≡ b.tagger → a.message ≡ b.message
+tag_lines_eq_of_fields : (a b : TagLines) → a.target ≡ b.target → a.target_kind ≡ b.target_kind → a.name ≡ b.name → a.tagger ≡ b.tagger → a.message ≡ b.message
     → a.signature ≡ b.signature → a ≡ b
-same_tag a b target target_kind name tagger message signature =
+tag_lines_eq_of_fields a b target target_kind name tagger message signature =
     ap (λ (it : List ℕ). made it a.target_kind a.name a.tagger a.message a.signature) target
     ∙ ap (λ (it : Kind). made b.target it a.name a.tagger a.message a.signature) target_kind
     ∙ ap (λ (it : List ℕ). made b.target b.target_kind it a.tagger a.message a.signature) name
@@ -202,4 +208,4 @@ tag_unique kind bytes a b is is' =
     (subst (λ (it : List ℕ). BeginsWithTagger it a.tagger first.body) named.1 first.tagger) second.tagger in
     let parted = body_unique second.body a.message b.message a.signature b.signature
     (subst (λ (it : List ℕ). IsBody it a.message a.signature) tagged.1 first.parted) second.parted in
-    same_tag a b target.0 (kind_keyword_injective a.target_kind b.target_kind token.0) named.0 tagged.0 parted.0 parted.1
+    tag_lines_eq_of_fields a b target.0 (kind_keyword_injective a.target_kind b.target_kind token.0) named.0 tagged.0 parted.0 parted.1

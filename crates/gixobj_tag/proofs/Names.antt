@@ -36,8 +36,8 @@ ends_with_iff bytes end r is =
       λ ends. parts.1 ends.0 ends.1,
     )
 
-holds_from_place : (bytes inner : List ℕ) → Occurs bytes inner → Holds inner bytes
-holds_from_place bytes inner (place, occurs) =
+holds_of_occurs : (bytes inner : List ℕ) → Occurs bytes inner → Holds inner bytes
+holds_of_occurs bytes inner (place, occurs) =
     let tail = at_from_reads 0 bytes inner place occurs.fits occurs.reads in (
       take place bytes,
       drop (place + length inner) bytes,
@@ -45,8 +45,8 @@ holds_from_place bytes inner (place, occurs) =
           ∙ sym (append_assoc (take place bytes) inner (drop (place + length inner) bytes)),
     )
 
-place_from_holds : (bytes inner : List ℕ) → Holds inner bytes → Occurs bytes inner
-place_from_holds bytes inner (prefix, rest, joined) =
+occurs_of_holds : (bytes inner : List ℕ) → Holds inner bytes → Occurs bytes inner
+occurs_of_holds bytes inner (prefix, rest, joined) =
     let is : bytes ≡ prefix ++ (inner ++ rest) = joined ∙ append_assoc prefix inner rest in
     let tail : drop (length prefix) bytes ≡ inner ++ rest = ap (drop (length prefix)) is ∙ drop_at prefix (inner ++ rest) (length prefix) refl in (
       length prefix,
@@ -58,16 +58,16 @@ place_from_holds bytes inner (prefix, rest, joined) =
 
 pub holds_iff : (bytes inner : List ℕ) (r : Bool) → ((r ≡ true) ↔ Occurs bytes inner) → IsTrue r ↔ Holds inner bytes
 holds_iff bytes inner r yields = (
-  λ passes. holds_from_place bytes inner (yields.0 passes),
-  λ holds. yields.1 (place_from_holds bytes inner holds),
+  λ passes. holds_of_occurs bytes inner (yields.0 passes),
+  λ holds. yields.1 (occurs_of_holds bytes inner holds),
 )
 
 -- the first of two tests decides a fault if it passes, and the second if the first fails
-found_first : (r : Bool) (A F : Type 0) → r ≡ true → (IsTrue r ↔ A) → (A → F) → IsTrue r ↔ F
-found_first r A F passes first found = (λ _. found (first.0 passes), λ _. passes)
+is_true_iff_of_true : (r : Bool) (A F : Type 0) → r ≡ true → (IsTrue r ↔ A) → (A → F) → IsTrue r ↔ F
+is_true_iff_of_true r A F passes first found = (λ _. found (first.0 passes), λ _. passes)
 
-found_next : (first r : Bool) (A B F : Type 0) → first ≡ false → (IsTrue first ↔ A) → (IsTrue r ↔ B) → (A ⊎ B → F) → (F → A ⊎ B) → IsTrue r ↔ F
-found_next first r A B F fails other next found only = (
+is_true_iff_of_false_or : (first r : Bool) (A B F : Type 0) → first ≡ false → (IsTrue first ↔ A) → (IsTrue r ↔ B) → (A ⊎ B → F) → (F → A ⊎ B) → IsTrue r ↔ F
+is_true_iff_of_false_or first r A B F fails other next found only = (
   λ passes. found (inr (next.0 passes)),
   λ fault. (elim (only fault) [ inl it ↦ absurd (false≢true (sym fails ∙ other.1 it)) | inr it ↦ next.1 it ]),
 )
@@ -82,10 +82,10 @@ abbrev Closes : List ℕ → Type 0
 Closes tail = (tail ≡ []) ⊎ BeginsWith (slash ∷ []) tail
 
 -- bytes begin with a part, which a slash or their end follows
-part_ahead : (bytes : List ℕ) → (part tail : List ℕ) × (bytes ≡ part ++ tail) × Closes tail × IsByteFree slash part
-part_ahead [] = ([], [], refl, inl refl, All-nil (λ it. it ≢ slash))
-part_ahead (byte ∷ bytes) =
-    let further = part_ahead bytes in
+first_part_exists : (bytes : List ℕ) → (part tail : List ℕ) × (bytes ≡ part ++ tail) × Closes tail × IsByteFree slash part
+first_part_exists [] = ([], [], refl, inl refl, All-nil (λ it. it ≢ slash))
+first_part_exists (byte ∷ bytes) =
+    let further = first_part_exists bytes in
     elim (cases_eq byte slash) [
       | inl same ↦ ([], byte ∷ bytes, refl, inr (bytes, cc same), All-nil (λ it. it ≢ slash))
       | inr other ↦ (
@@ -99,10 +99,10 @@ part_ahead (byte ∷ bytes) =
     ]
 
 -- bytes end with a part, which a slash or their beginning precedes
-part_back : (bytes : List ℕ) → (before part : List ℕ) × (bytes ≡ before ++ part) × Opens before × IsByteFree slash part
-part_back [] = ([], [], refl, inl refl, All-nil (λ it. it ≢ slash))
-part_back (byte ∷ bytes) =
-    let further = part_back bytes in
+last_part_exists : (bytes : List ℕ) → (before part : List ℕ) × (bytes ≡ before ++ part) × Opens before × IsByteFree slash part
+last_part_exists [] = ([], [], refl, inl refl, All-nil (λ it. it ≢ slash))
+last_part_exists (byte ∷ bytes) =
+    let further = last_part_exists bytes in
     let joined : byte ∷ bytes ≡ byte ∷ (further.0 ++ further.1) = ap (λ (it : List ℕ). byte ∷ it) further.2 in
     elim further.3 [
       | inr (prefix, ends) ↦ (byte ∷ further.0, further.1, joined, inr (byte ∷ prefix, ap (λ (it : List ℕ). byte ∷ it) ends), further.4)
@@ -115,9 +115,9 @@ part_back (byte ∷ bytes) =
 -- ---- a dot at the start of a part
 
 -- a dot at the beginning of a part is a fault
-dot_start : (name before rest : List ℕ) → name ≡ before ++ 46 ∷ rest → Opens before → HasFault fault.DotStart name
-dot_start name before rest joined opens =
-    let further = part_ahead rest in (
+dot_start_of_opens : (name before rest : List ℕ) → name ≡ before ++ 46 ∷ rest → Opens before → HasFault fault.DotStart name
+dot_start_of_opens name before rest joined opens =
+    let further = first_part_exists rest in (
       46 ∷ further.0,
       record {
         before = before;
@@ -130,10 +130,10 @@ dot_start name before rest joined opens =
       (further.0, refl),
     )
 
-dot_found : (name : List ℕ) → BeginsWith (codes ".") name ⊎ Holds (codes "/.") name → HasFault fault.DotStart name
-dot_found name (inl (rest, begins)) = dot_start name [] rest begins (inl refl)
-dot_found name (inr (prefix, rest, holds)) =
-    dot_start name (prefix ++ slash ∷ []) rest (holds ∙ simp append_assoc) (inr (prefix, refl))
+dot_start_of_begins_or_holds : (name : List ℕ) → BeginsWith (codes ".") name ⊎ Holds (codes "/.") name → HasFault fault.DotStart name
+dot_start_of_begins_or_holds name (inl (rest, begins)) = dot_start_of_opens name [] rest begins (inl refl)
+dot_start_of_begins_or_holds name (inr (prefix, rest, holds)) =
+    dot_start_of_opens name (prefix ++ slash ∷ []) rest (holds ∙ simp append_assoc) (inr (prefix, refl))
 
 pub dot_start_cases : (name : List ℕ) → HasFault fault.DotStart name → BeginsWith (codes ".") name ⊎ Holds (codes "/.") name
 dot_start_cases name (part, is, (rest, begins)) = elim is.opens [
@@ -145,21 +145,23 @@ dot_start_cases name (part, is, (rest, begins)) = elim is.opens [
 ]
 
 pub dot_start_iff_at_start : (name : List ℕ) (r : Bool) → r ≡ true → r ≡ starts_with nat_eq name (codes ".") → IsTrue r ↔ HasFault fault.DotStart name
-dot_start_iff_at_start name r passes is = found_first r _ _ passes (begins_with_iff name (codes ".") r is) (λ begins. dot_found name (inl begins))
+dot_start_iff_at_start name r passes is = is_true_iff_of_true r _ _ passes (begins_with_iff name (codes ".") r is)
+    (λ begins. dot_start_of_begins_or_holds name (inl begins))
 
 pub dot_start_iff_after_slash : (name : List ℕ) (first r : Bool) → first ≡ false → first ≡ starts_with nat_eq name (codes ".")
     → ((r ≡ true) ↔ Occurs name (codes "/."))
     → IsTrue r ↔ HasFault fault.DotStart name
 dot_start_iff_after_slash name first r fails is yields =
-    found_next first r _ _ _ fails (begins_with_iff name (codes ".") first is) (holds_iff name (codes "/.") r yields) (dot_found name)
+    is_true_iff_of_false_or first r _ _ _ fails (begins_with_iff name (codes ".") first is) (holds_iff name (codes "/.") r yields)
+    (dot_start_of_begins_or_holds name)
     (dot_start_cases name)
 
 -- ---- `.lock` at the end of a part
 
 -- `.lock` at the end of a part is a fault
-lock_end : (name prefix tail : List ℕ) → name ≡ prefix ++ codes ".lock" ++ tail → Closes tail → HasFault fault.LockSuffix name
-lock_end name prefix tail joined closes =
-    let further = part_back prefix in (
+lock_suffix_of_closes : (name prefix tail : List ℕ) → name ≡ prefix ++ codes ".lock" ++ tail → Closes tail → HasFault fault.LockSuffix name
+lock_suffix_of_closes name prefix tail joined closes =
+    let further = last_part_exists prefix in (
       further.1 ++ codes ".lock",
       record {
         before = further.0;
@@ -172,10 +174,10 @@ lock_end name prefix tail joined closes =
       (further.1, refl),
     )
 
-lock_found : (name : List ℕ) → EndsWith (codes ".lock") name ⊎ Holds (codes ".lock/") name → HasFault fault.LockSuffix name
-lock_found name (inl (prefix, ends)) = lock_end name prefix [] (ends ∙ sym (append-nil (prefix ++ codes ".lock"))) (inl refl)
-lock_found name (inr (prefix, rest, holds)) =
-    lock_end name prefix (slash ∷ rest) (holds ∙ simp append_assoc) (inr (rest, refl))
+lock_suffix_of_ends_or_holds : (name : List ℕ) → EndsWith (codes ".lock") name ⊎ Holds (codes ".lock/") name → HasFault fault.LockSuffix name
+lock_suffix_of_ends_or_holds name (inl (prefix, ends)) = lock_suffix_of_closes name prefix [] (ends ∙ sym (append-nil (prefix ++ codes ".lock"))) (inl refl)
+lock_suffix_of_ends_or_holds name (inr (prefix, rest, holds)) =
+    lock_suffix_of_closes name prefix (slash ∷ rest) (holds ∙ simp append_assoc) (inr (rest, refl))
 
 pub lock_suffix_cases : (name : List ℕ) → HasFault fault.LockSuffix name → EndsWith (codes ".lock") name ⊎ Holds (codes ".lock/") name
 lock_suffix_cases name (part, is, (prefix, ends)) = elim is.closes [
@@ -189,12 +191,14 @@ lock_suffix_cases name (part, is, (prefix, ends)) = elim is.closes [
 ]
 
 pub lock_suffix_iff_at_end : (name : List ℕ) (r : Bool) → r ≡ true → r ≡ ends_with nat_eq name (codes ".lock") → IsTrue r ↔ HasFault fault.LockSuffix name
-lock_suffix_iff_at_end name r passes is = found_first r _ _ passes (ends_with_iff name (codes ".lock") r is) (λ ends. lock_found name (inl ends))
+lock_suffix_iff_at_end name r passes is = is_true_iff_of_true r _ _ passes (ends_with_iff name (codes ".lock") r is)
+    (λ ends. lock_suffix_of_ends_or_holds name (inl ends))
 
 pub lock_suffix_iff_before_slash : (name : List ℕ) (first r : Bool) → first ≡ false → first ≡ ends_with nat_eq name (codes ".lock")
     → ((r ≡ true) ↔ Occurs name (codes ".lock/")) → IsTrue r ↔ HasFault fault.LockSuffix name
 lock_suffix_iff_before_slash name first r fails is yields =
-    found_next first r _ _ _ fails (ends_with_iff name (codes ".lock") first is) (holds_iff name (codes ".lock/") r yields) (lock_found name)
+    is_true_iff_of_false_or first r _ _ _ fails (ends_with_iff name (codes ".lock") first is) (holds_iff name (codes ".lock/") r yields)
+    (lock_suffix_of_ends_or_holds name)
     (lock_suffix_cases name)
 
 -- ---- slashes
@@ -202,14 +206,14 @@ lock_suffix_iff_before_slash name first r fails is yields =
 -- a test for a last slash, and the search for two in a row if none is first or last, decide a fault
 pub bad_slash_iff_at_end : (name : List ℕ) (r last : Bool) → r ≡ true → r ≡ last → last ≡ ends_with nat_eq name (codes "/")
     → IsTrue r ↔ HasFault fault.BadSlash name
-bad_slash_iff_at_end name r last passes same is = found_first r _ _ passes (ends_with_iff name (codes "/") r (same ∙ is)) (λ ends. inr (inl ends))
+bad_slash_iff_at_end name r last passes same is = is_true_iff_of_true r _ _ passes (ends_with_iff name (codes "/") r (same ∙ is)) (λ ends. inr (inl ends))
 
 pub bad_slash_iff_doubled : (name : List ℕ) (outer first last r : Bool) → outer ≡ false → first ≡ starts_with nat_eq name (codes "/") → first ≡ false
     → outer ≡ last
     → last ≡ ends_with nat_eq name (codes "/") → ((r ≡ true) ↔ Occurs name (codes "//")) → IsTrue r ↔ HasFault fault.BadSlash name
 bad_slash_iff_doubled name outer first last r fails is other same ends yields =
-    found_next first r _ _ _ other (begins_with_iff name (codes "/") first is)
-    (found_next outer r _ _ (EndsWith (codes "/") name ⊎ Holds (codes "//") name) fails (ends_with_iff name (codes "/") outer (same ∙ ends))
+    is_true_iff_of_false_or first r _ _ _ other (begins_with_iff name (codes "/") first is)
+    (is_true_iff_of_false_or outer r _ _ (EndsWith (codes "/") name ⊎ Holds (codes "//") name) fails (ends_with_iff name (codes "/") outer (same ∙ ends))
     (holds_iff name (codes "//") r yields) (λ it. it) (λ it. it))
     (λ it. it) (λ it. it)
 
@@ -227,16 +231,16 @@ place fault.InvalidByte = 6
 place fault.BadSlash = 7
 place fault.DotEnd = 8
 
-at_its_place : (here : RefNameFault) → faults ≡ take (place here) faults ++ here ∷ drop (place here + 1) faults
-at_its_place fault.Empty = refl
-at_its_place fault.DotStart = refl
-at_its_place fault.LockSuffix = refl
-at_its_place fault.DoubleDot = refl
-at_its_place fault.AtBrace = refl
-at_its_place fault.Backslash = refl
-at_its_place fault.InvalidByte = refl
-at_its_place fault.BadSlash = refl
-at_its_place fault.DotEnd = refl
+faults_split_at_fault : (here : RefNameFault) → faults ≡ take (place here) faults ++ here ∷ drop (place here + 1) faults
+faults_split_at_fault fault.Empty = refl
+faults_split_at_fault fault.DotStart = refl
+faults_split_at_fault fault.LockSuffix = refl
+faults_split_at_fault fault.DoubleDot = refl
+faults_split_at_fault fault.AtBrace = refl
+faults_split_at_fault fault.Backslash = refl
+faults_split_at_fault fault.InvalidByte = refl
+faults_split_at_fault fault.BadSlash = refl
+faults_split_at_fault fault.DotEnd = refl
 
 -- a fault that the name has, and before which it has none, is its first
 pub is_first_fault : (name : List ℕ) (here : RefNameFault) → AllByRecursion (λ it. ¬ HasFault it name) (take (place here) faults) → HasFault here name
@@ -244,7 +248,7 @@ pub is_first_fault : (name : List ℕ) (here : RefNameFault) → AllByRecursion 
 is_first_fault name here none has = record {
   before = take (place here) faults;
   after = drop (place here + 1) faults;
-  joined = at_its_place here;
+  joined = faults_split_at_fault here;
   none = All-from_recursion (λ it. ¬ HasFault it name) _ none;
   here = has;
 }
@@ -267,24 +271,25 @@ has_fault_empty name r passes is = nil_from_length name (eqb-true (length name) 
 -- ---- one error
 
 -- of two faults in the list, each after faults that the name doesn't have, none precedes the other
-one_in_order : (name : List ℕ) (p x q y : List RefNameFault) (a b : RefNameFault) → p ++ a ∷ x ≡ q ++ b ∷ y → All (λ it. ¬ HasFault it name) p
+first_fault_in_order_unique : (name : List ℕ) (p x q y : List RefNameFault) (a b : RefNameFault) → p ++ a ∷ x ≡ q ++ b ∷ y → All (λ it. ¬ HasFault it name) p
     → All (λ it. ¬ HasFault it name) q → HasFault a name → HasFault b name → a ≡ b
-one_in_order name [] x [] y a b same none_p none_q has_a has_b = cc same
-one_in_order name [] x (other ∷ q) y a b same none_p none_q has_a has_b =
+first_fault_in_order_unique name [] x [] y a b same none_p none_q has_a has_b = cc same
+first_fault_in_order_unique name [] x (other ∷ q) y a b same none_p none_q has_a has_b =
     let heads : a ≡ other = cc same in
     absurd (All-head (λ it. ¬ HasFault it name) other q none_q (subst (λ (it : RefNameFault). HasFault it name) heads has_a))
-one_in_order name (other ∷ p) x [] y a b same none_p none_q has_a has_b =
+first_fault_in_order_unique name (other ∷ p) x [] y a b same none_p none_q has_a has_b =
     let heads : b ≡ other = cc same in
     absurd (All-head (λ it. ¬ HasFault it name) other p none_p (subst (λ (it : RefNameFault). HasFault it name) heads has_b))
-one_in_order name (other ∷ p) x (another ∷ q) y a b same none_p none_q has_a has_b =
-    one_in_order name p x q y a b (cc same) (All-tail (λ it. ¬ HasFault it name) other p none_p)
+first_fault_in_order_unique name (other ∷ p) x (another ∷ q) y a b same none_p none_q has_a has_b =
+    first_fault_in_order_unique name p x q y a b (cc same) (All-tail (λ it. ¬ HasFault it name) other p none_p)
     (All-tail (λ it. ¬ HasFault it name) another q none_q) has_a
     has_b
 
 -- a name has at most one first fault
 pub first_fault_unique : (name : List ℕ) (a b : RefNameFault) → IsFirstFault name a → IsFirstFault name b → a ≡ b
 first_fault_unique name a b first second =
-    one_in_order name first.before first.after second.before second.after a b (sym first.joined ∙ second.joined) first.none second.none first.here
+    first_fault_in_order_unique name first.before first.after second.before second.after a b (sym first.joined
+    ∙ second.joined) first.none second.none first.here
     second.here
 
 -- a name has at most one error

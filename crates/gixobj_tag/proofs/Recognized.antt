@@ -18,46 +18,51 @@ use Rattle.gixobj_tag.specs.TagFormat.{IsBody, IsParted, DecodesToTag, TagLines,
 abbrev Begins : List ℕ → List ℕ → Bool
 Begins marker bytes = starts_with nat_eq bytes marker
 
-begins : (marker bytes rest : List ℕ) → bytes ≡ marker ++ rest → Begins marker bytes ≡ true
-begins marker bytes rest joined = (starts_is Decides-eqb bytes marker (Begins marker bytes) refl).1 rest joined
+begins_of_append : (marker bytes rest : List ℕ) → bytes ≡ marker ++ rest → Begins marker bytes ≡ true
+begins_of_append marker bytes rest joined = (starts_is Decides-eqb bytes marker (Begins marker bytes) refl).1 rest joined
 
-begins_not : (marker bytes rest : List ℕ) → bytes ≡ marker ++ rest → Begins marker bytes ≡ false → ⊥
-begins_not marker bytes rest joined not = cc (sym (begins marker bytes rest joined) ∙ not)
+begins_not_false_of_append : (marker bytes rest : List ℕ) → bytes ≡ marker ++ rest → Begins marker bytes ≡ false → ⊥
+begins_not_false_of_append marker bytes rest joined not = cc (sym (begins_of_append marker bytes rest joined) ∙ not)
 
-begins_with_marker : (format : Format) (marker bytes : List ℕ) → IsMarkerOf format marker → Begins marker bytes ≡ true → BeginsWithMarker format bytes
-begins_with_marker format marker bytes is same =
+begins_with_marker_of_test : (format : Format) (marker bytes : List ℕ) → IsMarkerOf format marker → Begins marker bytes ≡ true → BeginsWithMarker format bytes
+begins_with_marker_of_test format marker bytes is same =
     record { marker = marker; rest = drop (length marker) bytes; known = is; joined = (starts_is Decides-eqb bytes marker (Begins marker bytes) refl).0 same }
 
-no_marker : (bytes : List ℕ) → Begins (codes "-----BEGIN PGP SIGNATURE-----") bytes ≡ false → Begins (codes "-----BEGIN PGP MESSAGE-----") bytes ≡ false
+no_marker_of_tests : (bytes : List ℕ) → Begins (codes "-----BEGIN PGP SIGNATURE-----") bytes ≡ false
+    → Begins (codes "-----BEGIN PGP MESSAGE-----") bytes ≡ false
     → Begins (codes "-----BEGIN SIGNED MESSAGE-----") bytes ≡ false
     → Begins (codes "-----BEGIN SSH SIGNATURE-----") bytes ≡ false → (format : Format) (marker rest : List ℕ) → IsMarkerOf format marker
     → bytes ≡ marker ++ rest → ⊥
-no_marker bytes one two three four format marker rest pgp_signature joined = begins_not (codes "-----BEGIN PGP SIGNATURE-----") bytes rest joined one
-no_marker bytes one two three four format marker rest pgp_message joined = begins_not (codes "-----BEGIN PGP MESSAGE-----") bytes rest joined two
-no_marker bytes one two three four format marker rest signed_message joined = begins_not (codes "-----BEGIN SIGNED MESSAGE-----") bytes rest joined three
-no_marker bytes one two three four format marker rest ssh_signature joined = begins_not (codes "-----BEGIN SSH SIGNATURE-----") bytes rest joined four
+no_marker_of_tests bytes one two three four format marker rest pgp_signature joined =
+    begins_not_false_of_append (codes "-----BEGIN PGP SIGNATURE-----") bytes rest joined one
+no_marker_of_tests bytes one two three four format marker rest pgp_message joined =
+    begins_not_false_of_append (codes "-----BEGIN PGP MESSAGE-----") bytes rest joined two
+no_marker_of_tests bytes one two three four format marker rest signed_message joined =
+    begins_not_false_of_append (codes "-----BEGIN SIGNED MESSAGE-----") bytes rest joined three
+no_marker_of_tests bytes one two three four format marker rest ssh_signature joined =
+    begins_not_false_of_append (codes "-----BEGIN SSH SIGNATURE-----") bytes rest joined four
 
-marker_by_tests : (bytes : List ℕ) (a b c d : Bool) → Begins (codes "-----BEGIN PGP SIGNATURE-----") bytes ≡ a
+marker_or_none_of_tests : (bytes : List ℕ) (a b c d : Bool) → Begins (codes "-----BEGIN PGP SIGNATURE-----") bytes ≡ a
     → Begins (codes "-----BEGIN PGP MESSAGE-----") bytes ≡ b → Begins (codes "-----BEGIN SIGNED MESSAGE-----") bytes ≡ c
     → Begins (codes "-----BEGIN SSH SIGNATURE-----") bytes ≡ d → ((format : Format) × BeginsWithMarker format bytes) ⊎ BeginsWithNoMarker bytes
-marker_by_tests bytes true b c d is two three four = inl (_, begins_with_marker _ _ bytes pgp_signature is)
-marker_by_tests bytes false true c d one is three four = inl (_, begins_with_marker _ _ bytes pgp_message is)
-marker_by_tests bytes false false true d one two is four = inl (_, begins_with_marker _ _ bytes signed_message is)
-marker_by_tests bytes false false false true one two three is = inl (_, begins_with_marker _ _ bytes ssh_signature is)
-marker_by_tests bytes false false false false one two three four = inr
-    (λ format it. no_marker bytes one two three four format it.marker it.rest it.known it.joined)
+marker_or_none_of_tests bytes true b c d is two three four = inl (_, begins_with_marker_of_test _ _ bytes pgp_signature is)
+marker_or_none_of_tests bytes false true c d one is three four = inl (_, begins_with_marker_of_test _ _ bytes pgp_message is)
+marker_or_none_of_tests bytes false false true d one two is four = inl (_, begins_with_marker_of_test _ _ bytes signed_message is)
+marker_or_none_of_tests bytes false false false true one two three is = inl (_, begins_with_marker_of_test _ _ bytes ssh_signature is)
+marker_or_none_of_tests bytes false false false false one two three four = inr
+    (λ format it. no_marker_of_tests bytes one two three four format it.marker it.rest it.known it.joined)
 
 marker_or_none : (bytes : List ℕ) → ((format : Format) × BeginsWithMarker format bytes) ⊎ BeginsWithNoMarker bytes
-marker_or_none bytes = marker_by_tests bytes _ _ _ _ refl refl refl refl
+marker_or_none bytes = marker_or_none_of_tests bytes _ _ _ _ refl refl refl refl
 
 -- ---- the start of a line, or none
 
 newline_or_not : (byte : ℕ) → ((byte ≡ 10) ⊎ (byte ≢ 10))
 newline_or_not byte = elim (eqb_tells byte 10) [ inl it ↦ inl it.1 | inr it ↦ inr it.1 ]
 
-starts_line_singleton : (byte : ℕ) → (byte ≡ 10) ⊎ (byte ≢ 10) → StartsLine (byte ∷ []) ⊎ ¬ StartsLine (byte ∷ [])
-starts_line_singleton byte (inl is) = inl (inr ([], ap (λ (it : ℕ). it ∷ []) is))
-starts_line_singleton byte (inr other) = inr (no_line byte other)
+starts_line_singleton_or_not : (byte : ℕ) → (byte ≡ 10) ⊎ (byte ≢ 10) → StartsLine (byte ∷ []) ⊎ ¬ StartsLine (byte ∷ [])
+starts_line_singleton_or_not byte (inl is) = inl (inr ([], ap (λ (it : ℕ). it ∷ []) is))
+starts_line_singleton_or_not byte (inr other) = inr (no_line byte other)
   where
     ends : (byte : ℕ) (lines : List ℕ) → byte ≢ 10 → byte ∷ [] ≡ lines ++ 10 ∷ [] → ⊥
     ends byte [] other same = other (cc same)
@@ -68,11 +73,11 @@ starts_line_singleton byte (inr other) = inr (no_line byte other)
     no_line byte other (inl none) = cc none
     no_line byte other (inr (lines, same)) = ends byte lines other same
 
-starts_line_cons : (byte next : ℕ) (rest : List ℕ) → StartsLine (next ∷ rest) ⊎ ¬ StartsLine (next ∷ rest)
+starts_line_cons_or_not : (byte next : ℕ) (rest : List ℕ) → StartsLine (next ∷ rest) ⊎ ¬ StartsLine (next ∷ rest)
     → StartsLine (byte ∷ next ∷ rest) ⊎ ¬ StartsLine (byte ∷ next ∷ rest)
-starts_line_cons byte next rest (inl (inl none)) = cc none
-starts_line_cons byte next rest (inl (inr (lines, same))) = inl (inr (byte ∷ lines, ap (λ (it : List ℕ). byte ∷ it) same))
-starts_line_cons byte next rest (inr bad) = inr (no_line bad)
+starts_line_cons_or_not byte next rest (inl (inl none)) = cc none
+starts_line_cons_or_not byte next rest (inl (inr (lines, same))) = inl (inr (byte ∷ lines, ap (λ (it : List ℕ). byte ∷ it) same))
+starts_line_cons_or_not byte next rest (inr bad) = inr (no_line bad)
   where
     shorter : (lines : List ℕ) → byte ∷ next ∷ rest ≡ lines ++ 10 ∷ [] → StartsLine (next ∷ rest)
     shorter [] same = cc same
@@ -82,20 +87,20 @@ starts_line_cons byte next rest (inr bad) = inr (no_line bad)
     no_line bad (inl none) = cc none
     no_line bad (inr (lines, same)) = bad (shorter lines same)
 
-starts_or_not : (head : List ℕ) → StartsLine head ⊎ ¬ StartsLine head
-starts_or_not [] = inl (inl refl)
-starts_or_not (byte ∷ []) = starts_line_singleton byte (newline_or_not byte)
-starts_or_not (byte ∷ next ∷ rest) = starts_line_cons byte next rest (starts_or_not (next ∷ rest))
+starts_line_or_not : (head : List ℕ) → StartsLine head ⊎ ¬ StartsLine head
+starts_line_or_not [] = inl (inl refl)
+starts_line_or_not (byte ∷ []) = starts_line_singleton_or_not byte (newline_or_not byte)
+starts_line_or_not (byte ∷ next ∷ rest) = starts_line_cons_or_not byte next rest (starts_line_or_not (next ∷ rest))
 
 -- ---- a marker at a position, or none
 
 abbrev MarkedOrNot : List ℕ → ℕ → Type 0
 MarkedOrNot bytes place = ((format : Format) × MarksPlace bytes place format) ⊎ ((format : Format) → ¬ MarksPlace bytes place format)
 
-marked_by_parts : (bytes : List ℕ) (place : ℕ) → place ≤ length bytes → StartsLine (take place bytes) ⊎ ¬ StartsLine (take place bytes)
+marked_or_not_of_parts : (bytes : List ℕ) (place : ℕ) → place ≤ length bytes → StartsLine (take place bytes) ⊎ ¬ StartsLine (take place bytes)
     → ((format : Format) × BeginsWithMarker format (drop place bytes)) ⊎ BeginsWithNoMarker (drop place bytes)
     → MarkedOrNot bytes place
-marked_by_parts bytes place within (inl starts) (inl (format, marked)) =
+marked_or_not_of_parts bytes place within (inl starts) (inl (format, marked)) =
     inl (
       format,
       record {
@@ -107,11 +112,11 @@ marked_by_parts bytes place within (inl starts) (inl (format, marked)) =
         marked = marked;
       },
     )
-marked_by_parts bytes place within (inr bad) marked = inr (λ format it. bad (starts_line_at_place bytes place format it))
-marked_by_parts bytes place within (inl starts) (inr none) = inr (λ format it. none format (begins_with_marker_at_place bytes place format it))
+marked_or_not_of_parts bytes place within (inr bad) marked = inr (λ format it. bad (starts_line_at_place bytes place format it))
+marked_or_not_of_parts bytes place within (inl starts) (inr none) = inr (λ format it. none format (begins_with_marker_at_place bytes place format it))
 
 marked_or_not : (bytes : List ℕ) (place : ℕ) → place ≤ length bytes → MarkedOrNot bytes place
-marked_or_not bytes place within = marked_by_parts bytes place within (starts_or_not (take place bytes)) (marker_or_none (drop place bytes))
+marked_or_not bytes place within = marked_or_not_of_parts bytes place within (starts_line_or_not (take place bytes)) (marker_or_none (drop place bytes))
 
 -- the last marked position before this end, or none
 abbrev LastBefore : List ℕ → ℕ → Type 0
@@ -140,10 +145,10 @@ last_before_succ bytes end (inr none) (inr nowhere) = inr (λ place format there
     never place format there (inl within) = nowhere place format there within
     never place format there (inr same) = none format (subst (λ (it : ℕ). MarksPlace bytes it format) same there)
 
-last_before : (bytes : List ℕ) (end : ℕ) → end ≤ suc (length bytes) → LastBefore bytes end
-last_before bytes zero within = inr (λ place format there no. omega (arith, no))
-last_before bytes (suc end) within = last_before_succ bytes end (marked_or_not bytes end (omega (arith, within)))
-    (last_before bytes end (omega (arith, within)))
+last_before_exists : (bytes : List ℕ) (end : ℕ) → end ≤ suc (length bytes) → LastBefore bytes end
+last_before_exists bytes zero within = inr (λ place format there no. omega (arith, no))
+last_before_exists bytes (suc end) within = last_before_succ bytes end (marked_or_not bytes end (omega (arith, within)))
+    (last_before_exists bytes end (omega (arith, within)))
 
 -- ---- any bytes split in message and signature
 
@@ -167,60 +172,60 @@ parts_at_start bytes place format is none =
           (subst (λ (it : ℕ). IsMarkerPlace bytes it format) at is),
     )
 
-parts_by_start : (bytes : List ℕ) (place : ℕ) (format : Format) → (is : IsMarkerPlace bytes place format) → StartsLine is.here.prefix → Parts bytes
-parts_by_start bytes place format is (inl none) = parts_at_start bytes place format is none
-parts_by_start bytes place format is (inr (lines, ends)) = parts_after_lines bytes lines place format is ends
+parts_of_starts_line : (bytes : List ℕ) (place : ℕ) (format : Format) → (is : IsMarkerPlace bytes place format) → StartsLine is.here.prefix → Parts bytes
+parts_of_starts_line bytes place format is (inl none) = parts_at_start bytes place format is none
+parts_of_starts_line bytes place format is (inr (lines, ends)) = parts_after_lines bytes lines place format is ends
 
-parts_by_last : (bytes : List ℕ) → LastBefore bytes (suc (length bytes)) → Parts bytes
-parts_by_last bytes (inl (place, format, here, last)) =
+parts_of_last_before : (bytes : List ℕ) → LastBefore bytes (suc (length bytes)) → Parts bytes
+parts_of_last_before bytes (inl (place, format, here, last)) =
     let is : IsMarkerPlace bytes place format = record {
       here = here;
       last = λ other format' there. last other format' there
           (omega (arith, marker_place_le_len bytes other format' there));
     } in
-    parts_by_start bytes place format is here.starts
-parts_by_last bytes (inr nowhere) = (
+    parts_of_starts_line bytes place format is here.starts
+parts_of_last_before bytes (inr nowhere) = (
   bytes,
   None,
   unsigned bytes
       (λ place format there. nowhere place format there (omega (arith, marker_place_le_len bytes place format there))),
 )
 
-any_parted : (bytes : List ℕ) → Parts bytes
-any_parted bytes = parts_by_last bytes (last_before bytes (suc (length bytes)) (omega arith))
+parts_exist : (bytes : List ℕ) → Parts bytes
+parts_exist bytes = parts_of_last_before bytes (last_before_exists bytes (suc (length bytes)) (omega arith))
 
 -- ---- bodies
 
 abbrev Bodies : List ℕ → Type 0
 Bodies body = (message : List ℕ) × (signature : Option (List ℕ)) × IsBody body message signature
 
-body_by_newlines : (body : List ℕ) (all : Bool) → are_newlines body ≡ all → IsTagBody body → Bodies body
-body_by_newlines body true are is = (body, None, newlines_alone body are)
-body_by_newlines [] false more is = cc more
-body_by_newlines (byte ∷ bytes) false more is =
-    let parts = any_parted bytes in (
+bodies_of_newlines_test : (body : List ℕ) (all : Bool) → are_newlines body ≡ all → IsTagBody body → Bodies body
+bodies_of_newlines_test body true are is = (body, None, newlines_alone body are)
+bodies_of_newlines_test [] false more is = cc more
+bodies_of_newlines_test (byte ∷ bytes) false more is =
+    let parts = parts_exist bytes in (
       parts.0,
       parts.1,
       is_body_after_newline (byte ∷ bytes) bytes parts.0 parts.1 more (ap (λ (it : ℕ). it ∷ bytes) is)
           parts.2,
     )
 
-first_newline : (byte : ℕ) (rest : List ℕ) → IsTrue (are_newlines (byte ∷ rest)) → byte ≡ 10
-first_newline byte rest are = elim (eqb_tells byte 10) [ inl it ↦ it.1 | inr it ↦ cc (sym are ∙ ap (λ (b : Bool). b && are_newlines rest) it.0) ]
+newlines_head_eq_newline : (byte : ℕ) (rest : List ℕ) → IsTrue (are_newlines (byte ∷ rest)) → byte ≡ 10
+newlines_head_eq_newline byte rest are = elim (eqb_tells byte 10) [ inl it ↦ it.1 | inr it ↦ cc (sym are ∙ ap (λ (b : Bool). b && are_newlines rest) it.0) ]
 
-newlines_are_body : (body : List ℕ) → IsTrue (are_newlines body) → IsTagBody body
-newlines_are_body [] are = tt
-newlines_are_body (byte ∷ rest) are = first_newline byte rest are
+is_tag_body_of_newlines : (body : List ℕ) → IsTrue (are_newlines body) → IsTagBody body
+is_tag_body_of_newlines [] are = tt
+is_tag_body_of_newlines (byte ∷ rest) are = newlines_head_eq_newline byte rest are
 
-is_tag_body : (body message : List ℕ) (signature : Option (List ℕ)) → IsBody body message signature → IsTagBody body
-is_tag_body body message signature (newlines_alone _ are) = newlines_are_body body are
-is_tag_body body message signature (after_a_newline _ bytes _ _ joined more parted) = subst IsTagBody (sym joined) refl
+is_tag_body_of_is_body : (body message : List ℕ) (signature : Option (List ℕ)) → IsBody body message signature → IsTagBody body
+is_tag_body_of_is_body body message signature (newlines_alone _ are) = is_tag_body_of_newlines body are
+is_tag_body_of_is_body body message signature (after_a_newline _ bytes _ _ joined more parted) = subst IsTagBody (sym joined) refl
 
 -- ---- tags
 
 pub some_tag : (kind : hash.Kind) (bytes : List ℕ) → IsTag kind bytes → (tag : TagLines) × DecodesToTag kind bytes tag
 some_tag kind bytes (body, begins, is) =
-    let parts = body_by_newlines body (are_newlines body) refl is in (
+    let parts = bodies_of_newlines_test body (are_newlines body) refl is in (
       record { target = begins.target; target_kind = begins.target_kind; name = begins.name; tagger = begins.tagger; message = parts.0; signature = parts.1 },
       record { body = body; joined = begins.joined; target = begins.is_target; name = begins.is_name; tagger = begins.is_tagger; parted = parts.2 },
     )
@@ -238,5 +243,5 @@ is_tag kind bytes tag it = (
     is_name = it.name;
     is_tagger = it.tagger;
   },
-  is_tag_body it.body tag.message tag.signature it.parted,
+  is_tag_body_of_is_body it.body tag.message tag.signature it.parted,
 )

@@ -29,28 +29,29 @@ pub parts_error_of_tagger : (prefix name : List ℕ) (Rejects : RejectedValue �
     → Rejects value parts → IsTagPartsError prefix name Rejects value ((prefix ++ encode_field (codes "tag") name) ++ parts)
 parts_error_of_tagger prefix name Rejects value parts valid rejected = inr (valid, (parts, rejected, refl))
 
-name_not_rejected : (name : List ℕ) (value : RejectedValue) → IsTagName name → IsNameValueError name value → ⊥
-name_not_rejected name value valid (inl (fault, first, is)) = valid.0 fault first.here
-name_not_rejected name value valid (inr (clean, dash, is)) = valid.1 dash
+tag_name_rejects_nothing : (name : List ℕ) (value : RejectedValue) → IsTagName name → IsNameValueError name value → ⊥
+tag_name_rejects_nothing name value valid (inl (fault, first, is)) = valid.0 fault first.here
+tag_name_rejects_nothing name value valid (inr (clean, dash, is)) = valid.1 dash
 
 -- no value is rejected if the name is valid and the tagger isn't rejected
 pub parts_rejects_nothing : (prefix name : List ℕ) (Rejects : RejectedValue → List ℕ → Type 0) → IsTagName name → RejectsNothing Rejects
     → RejectsNothing (IsTagPartsError prefix name Rejects)
-parts_rejects_nothing prefix name Rejects valid none value parts (inl it) = name_not_rejected name value valid it.0
+parts_rejects_nothing prefix name Rejects valid none value parts (inl it) = tag_name_rejects_nothing name value valid it.0
 parts_rejects_nothing prefix name Rejects valid none value parts (inr (named, (line, rejected, is))) = none value line rejected
 
 -- the unchanged value of a tagger line is never rejected
-lines_rejected : (tag : TagLines) (value : RejectedValue) (parts : List ℕ) → IsTagPartsError (encode_target tag) tag.name (λ value line. ⊥) value parts
+tag_lines_error_of_parts_error : (tag : TagLines) (value : RejectedValue) (parts : List ℕ)
+    → IsTagPartsError (encode_target tag) tag.name (λ value line. ⊥) value parts
     → IsTagLinesError tag value parts
-lines_rejected tag value parts (inl rejected) = rejected
-lines_rejected tag value parts (inr (valid, (line, rejected, same))) = absurd rejected
+tag_lines_error_of_parts_error tag value parts (inl rejected) = rejected
+tag_lines_error_of_parts_error tag value parts (inr (valid, (line, rejected, same))) = absurd rejected
 
 pub writing_error_of_lines : (tag : TagLines) (before after : SinkView) (bytes : List ℕ) (error : Error)
     → IsWritingError (IsTagPartsError (encode_target tag) tag.name (λ value line. ⊥)) before after bytes error
     → IsWritingError (IsTagLinesError tag) before after bytes error
 writing_error_of_lines tag before after bytes error says =
     writing_error_append (IsTagPartsError (encode_target tag) tag.name (λ value line. ⊥)) (IsTagLinesError tag) before before after [] bytes bytes
-    (appends_all_nil before) (lines_rejected tag) (λ prefix. prefix) error says
+    (appends_all_nil before) (tag_lines_error_of_parts_error tag) (λ prefix. prefix) error says
 
 -- ---- room for the parts before a rejected value
 
@@ -75,7 +76,7 @@ pub tagger_or_later : (prefix name : List ℕ) (Rejects : RejectedValue → List
     → (value : RejectedValue) (parts : List ℕ) → IsTagPartsError prefix name Rejects value parts
     → ((begun : List ℕ) × Rejects value begun × (parts ≡ (prefix ++ encode_field (codes "tag") name) ++ begun))
     ⊎ (length (prefix ++ encode_field (codes "tag") name) + length tagger ≤ length parts)
-tagger_or_later prefix name Rejects tagger valid value parts (inl it) = absurd (name_not_rejected name value valid it.0)
+tagger_or_later prefix name Rejects tagger valid value parts (inl it) = absurd (tag_name_rejects_nothing name value valid it.0)
 tagger_or_later prefix name Rejects tagger valid value parts (inr (named, (line, rejected, is))) = inl (line, rejected, is)
 
 -- a borrowed tag rejects its name alone

@@ -18,9 +18,9 @@ abbrev two : List (List ℕ)
 two = codes "A: 1\n" ∷ codes "B: 2\n" ∷ []
 
 -- two trailers after a line and a blank line
-two_trailers : IsTrailerBlockStart (codes "m\n\nA: 1\nB: 2\n") 1
+block_starts_at_two_trailers : IsTrailerBlockStart (codes "m\n\nA: 1\nB: 2\n") 1
 unfolding computing
-two_trailers = inl (record {
+block_starts_at_two_trailers = inl (record {
   before = codes "m\n" ∷ codes "\n" ∷ [];
   run = two;
   after = [];
@@ -36,9 +36,9 @@ two_trailers = inl (record {
 })
 
 -- a sign-off makes a trailer block of lines with another line among them
-with_a_note : IsTrailerBlockStart (codes "Signed-off-by: A\nnote\nB: 2\n") 0
+block_starts_at_sign_off_with_note : IsTrailerBlockStart (codes "Signed-off-by: A\nnote\nB: 2\n") 0
 unfolding computing
-with_a_note = inl (record {
+block_starts_at_sign_off_with_note = inl (record {
   before = [];
   run = codes "Signed-off-by: A\n" ∷ codes "note\n" ∷ codes "B: 2\n" ∷ [];
   after = [];
@@ -61,17 +61,20 @@ long = codes "text\n\nSigned-off-by: A <a@b>\nnot a trailer\nnot a trailer\nnot 
 abbrev IsOneOfFive : List (List ℕ) → Type 0
 IsOneOfFive run = (trailers_in run ≡ 1) × (count_others false run ≡ 4)
 
-none_of_five : (run : List (List ℕ)) → IsOneOfFive run → ¬ IsTrailerBlock run
-none_of_five run five (inl (some, none)) = omega arith
-none_of_five run five (inr (known, few)) = omega arith
+no_block_of_one_of_five : (run : List (List ℕ)) → IsOneOfFive run → ¬ IsTrailerBlock run
+no_block_of_one_of_five run five (inl (some, none)) = omega arith
+no_block_of_one_of_five run five (inr (known, few)) = omega arith
 
 -- the last run of `long` has one trailer and four other lines
-five_lines : IsOneOfFive (parts_of (lines_of long)).run
+long_run_is_one_of_five : IsOneOfFive (parts_of (lines_of long)).run
 unfolding computing
-five_lines = (refl, refl)
+long_run_is_one_of_five = (refl, refl)
 
-as_long : ◌≡◌ {A = ℕ} 85 (length long)
-as_long = refl
+long_len_is_85 : ◌≡◌ {A = ℕ} 85 (length long)
+long_len_is_85 = refl
 
-too_many : IsTrailerBlockStart long 85
-too_many = inr (no_block_of_parts (lines_of long) (none_of_five (parts_of (lines_of long)).run five_lines), as_long)
+block_of_long_starts_at_end : IsTrailerBlockStart long 85
+block_of_long_starts_at_end = inr (
+  no_block_of_parts (lines_of long) (no_block_of_one_of_five (parts_of (lines_of long)).run long_run_is_one_of_five),
+  long_len_is_85,
+)

@@ -10,9 +10,9 @@ abbrev of : List ℕ → List ℕ → BlockView
 of message trailers = record { message = message; trailers = trailers }
 
 -- a message with two trailers
-one_block : AreBlocksFrom 0 (codes "m\nA: 1\nB: 2\n") (of (codes "m\n") (codes "A: 1\nB: 2\n") ∷ [])
+message_has_one_block : AreBlocksFrom 0 (codes "m\nA: 1\nB: 2\n") (of (codes "m\n") (codes "A: 1\nB: 2\n") ∷ [])
 unfolding computing
-one_block = block 0 (codes "m\nA: 1\nB: 2\n") (of (codes "m\n") (codes "A: 1\nB: 2\n")) [] []
+message_has_one_block = block 0 (codes "m\nA: 1\nB: 2\n") (of (codes "m\n") (codes "A: 1\nB: 2\n")) [] []
     (record {
       some = λ is. cc is;
       skipped = codes "m\n" ∷ [];
@@ -30,9 +30,9 @@ one_block = block 0 (codes "m\nA: 1\nB: 2\n") (of (codes "m\n") (codes "A: 1\nB:
     (none 0)
 
 -- the trailer block starts after the content of a line: the line breaks belong to the message
-after_bytes : AreBlocksFrom 1 (codes "m\n\nA: 1\n") (of (codes "m\n\n") (codes "A: 1\n") ∷ [])
+block_after_empty_line : AreBlocksFrom 1 (codes "m\n\nA: 1\n") (of (codes "m\n\n") (codes "A: 1\n") ∷ [])
 unfolding computing
-after_bytes = block 1 (codes "m\n\nA: 1\n") (of (codes "m\n\n") (codes "A: 1\n")) [] []
+block_after_empty_line = block 1 (codes "m\n\nA: 1\n") (of (codes "m\n\n") (codes "A: 1\n")) [] []
     (record {
       some = λ is. cc is;
       skipped = codes "\n" ∷ codes "\n" ∷ [];
@@ -50,9 +50,9 @@ after_bytes = block 1 (codes "m\n\nA: 1\n") (of (codes "m\n\n") (codes "A: 1\n")
     (none 0)
 
 -- the second message begins after the trailers of the first
-second_block : AreBlocksFrom 0 (codes "n\nB: 2\n") (of (codes "n\n") (codes "B: 2\n") ∷ [])
+rest_has_one_block : AreBlocksFrom 0 (codes "n\nB: 2\n") (of (codes "n\n") (codes "B: 2\n") ∷ [])
 unfolding computing
-second_block = block 0 (codes "n\nB: 2\n") (of (codes "n\n") (codes "B: 2\n")) [] []
+rest_has_one_block = block 0 (codes "n\nB: 2\n") (of (codes "n\n") (codes "B: 2\n")) [] []
     (record {
       some = λ is. cc is;
       skipped = codes "n\n" ∷ [];
@@ -69,9 +69,9 @@ second_block = block 0 (codes "n\nB: 2\n") (of (codes "n\n") (codes "B: 2\n")) [
     })
     (none 0)
 
-two_blocks : AreBlocksFrom 0 (codes "m\nA: 1\nn\nB: 2\n") (of (codes "m\n") (codes "A: 1\n") ∷ of (codes "n\n") (codes "B: 2\n") ∷ [])
+message_has_two_blocks : AreBlocksFrom 0 (codes "m\nA: 1\nn\nB: 2\n") (of (codes "m\n") (codes "A: 1\n") ∷ of (codes "n\n") (codes "B: 2\n") ∷ [])
 unfolding computing
-two_blocks = block 0 (codes "m\nA: 1\nn\nB: 2\n") (of (codes "m\n") (codes "A: 1\n")) (codes "n\nB: 2\n") (of (codes "n\n") (codes "B: 2\n") ∷ [])
+message_has_two_blocks = block 0 (codes "m\nA: 1\nn\nB: 2\n") (of (codes "m\n") (codes "A: 1\n")) (codes "n\nB: 2\n") (of (codes "n\n") (codes "B: 2\n") ∷ [])
     (record {
       some = λ is. cc is;
       skipped = codes "m\n" ∷ [];
@@ -86,4 +86,4 @@ two_blocks = block 0 (codes "m\nA: 1\nn\nB: 2\n") (of (codes "m\n") (codes "A: 1
       message = refl;
       trailers = refl;
     })
-    second_block
+    rest_has_one_block

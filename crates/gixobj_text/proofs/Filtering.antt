@@ -32,15 +32,15 @@ skips_unfiltered_step by before middle after trailer it step other = record {
 abbrev pub filtered_of : Filter → List TrailerView → List TrailerView
 filtered_of by trailers = filter (λ it. passes_filter by it.token) trailers
 
-kept_by : (by : Filter) (b : Bool) (one : TrailerView) (rest : List TrailerView) → passes_filter by one.token ≡ b
+filtered_of_cons : (by : Filter) (b : Bool) (one : TrailerView) (rest : List TrailerView) → passes_filter by one.token ≡ b
     → filtered_of by (one ∷ rest) ≡ cond b (one ∷ filtered_of by rest) (filtered_of by rest)
-kept_by by b one rest is = ap (λ (c : Bool). cond c (one ∷ filtered_of by rest) (filtered_of by rest)) is
+filtered_of_cons by b one rest is = ap (λ (c : Bool). cond c (one ∷ filtered_of by rest) (filtered_of by rest)) is
 
 filtered_of_skipped : (by : Filter) (before : Trailers) (skipped : List TrailerRef) (middle : Trailers)
     → YieldsUnfiltered by before skipped middle → filtered_of by (remaining_trailers before) ≡ filtered_of by (remaining_trailers middle)
 filtered_of_skipped by before [] middle same = ap (λ (it : Trailers). filtered_of by (remaining_trailers it)) same
 filtered_of_skipped by before (one ∷ skipped) middle (next, step, other, more) =
-    ap (filtered_of by) step.0 ∙ kept_by by false (trailer_view one) (remaining_trailers next) other
+    ap (filtered_of by) step.0 ∙ filtered_of_cons by false (trailer_view one) (remaining_trailers next) other
     ∙ filtered_of_skipped by next skipped middle more
 
 pub filtered_of_next : (by : Filter) (before middle after : Trailers) (trailer : TrailerRef) → SkipsUnfiltered by before middle
@@ -48,7 +48,7 @@ pub filtered_of_next : (by : Filter) (before middle after : Trailers) (trailer :
     → filtered_of by (remaining_trailers before) ≡ trailer_view trailer ∷ filtered_of by (remaining_trailers after)
 filtered_of_next by before middle after trailer it remaining kept =
     filtered_of_skipped by before it.skipped middle it.yields ∙ ap (filtered_of by) remaining
-    ∙ kept_by by true (trailer_view trailer) (remaining_trailers after) kept
+    ∙ filtered_of_cons by true (trailer_view trailer) (remaining_trailers after) kept
 
 pub filtered_of_none : (by : Filter) (before middle : Trailers) → SkipsUnfiltered by before middle → remaining_trailers middle ≡ []
     → filtered_of by (remaining_trailers before) ≡ []

@@ -17,17 +17,17 @@ line_len_of_newline_free bytes none = line_len-none bytes (λ k below is. none k
 pub line_len_of_newline : (bytes : List ℕ) → 0 < length bytes → slice_index bytes 0 ≡ 10 → line_len bytes ≡ 1
 line_len_of_newline bytes some here = line_len-at bytes 0 some here (λ k below is. absurd (omega (arith, below)))
 
-first_other : (bytes : List ℕ) → slice_index bytes 0 ≢ 10 → (k : ℕ) → k < 1 → slice_index bytes k ≢ 10
-first_other bytes other zero below = other
-first_other bytes other (suc k) below = absurd (omega (arith, below))
+no_newline_before_one : (bytes : List ℕ) → slice_index bytes 0 ≢ 10 → (k : ℕ) → k < 1 → slice_index bytes k ≢ 10
+no_newline_before_one bytes other zero below = other
+no_newline_before_one bytes other (suc k) below = absurd (omega (arith, below))
 
 -- the second byte is a newline, and the first isn't
 pub line_len_of_second_newline : (bytes : List ℕ) → 1 < length bytes → slice_index bytes 0 ≢ 10 → slice_index bytes 1 ≡ 10 → line_len bytes ≡ 2
-line_len_of_second_newline bytes some other here = line_len-at bytes 1 some here (first_other bytes other)
+line_len_of_second_newline bytes some other here = line_len-at bytes 1 some here (no_newline_before_one bytes other)
 
-some_filled : (bytes : List ℕ) → 0 < length bytes → bytes ≢ []
-some_filled [] some = absurd (omega arith)
-some_filled (byte ∷ bytes) some = λ is. cc is
+ne_nil_of_len_positive : (bytes : List ℕ) → 0 < length bytes → bytes ≢ []
+ne_nil_of_len_positive [] some = absurd (omega arith)
+ne_nil_of_len_positive (byte ∷ bytes) some = λ is. cc is
 
 pub is_first_line_of_len : (bytes line rest : List ℕ) → 0 < length bytes → line ≡ take (line_len bytes) bytes → rest ≡ drop (line_len bytes) bytes
     → IsFirstLine bytes line rest
@@ -38,6 +38,6 @@ is_first_line_of_len bytes line rest some prefix after =
           ∙ take-append-drop (line_len bytes) bytes);
       lines = lines-step bytes some
           ∙ sym (ap (λ (a : List ℕ). a ∷ lines_of rest) prefix ∙ ap (λ (b : List ℕ). take (line_len bytes) bytes ∷ lines_of b) after);
-      some = some_filled line (let is : length line ≡ line_len bytes = ap length prefix
+      some = ne_nil_of_len_positive line (let is : length line ≡ line_len bytes = ap length prefix
           ∙ length-take-le (line_len bytes) bytes bounds.1 in omega arith);
     }

@@ -12,34 +12,34 @@ use Rattle.gixobj_text.specs.declared.signature.Format.TheVariants as format
 abbrev known_by : ℕ → Format
 known_by byte = cond (eqb byte 71) format.OpenPgp (cond (eqb byte 73) format.X509 format.Ssh)
 
-marker_known : (format : Format) (marker rest : List ℕ) → IsMarkerOf format marker → known_by (get_or (marker ++ rest) 12 0) ≡ format
-marker_known format marker rest pgp_signature = refl
-marker_known format marker rest pgp_message = refl
-marker_known format marker rest signed_message = refl
-marker_known format marker rest ssh_signature = refl
+known_by_marker_byte : (format : Format) (marker rest : List ℕ) → IsMarkerOf format marker → known_by (get_or (marker ++ rest) 12 0) ≡ format
+known_by_marker_byte format marker rest pgp_signature = refl
+known_by_marker_byte format marker rest pgp_message = refl
+known_by_marker_byte format marker rest signed_message = refl
+known_by_marker_byte format marker rest ssh_signature = refl
 
 pub format_of_marker_unique : (bytes : List ℕ) (f g : Format) → BeginsWithMarker f bytes → BeginsWithMarker g bytes → f ≡ g
 format_of_marker_unique bytes f g first second =
-    sym (marker_known f first.marker first.rest first.known) ∙ ap (λ (it : List ℕ). known_by (get_or it 12 0)) (sym first.joined ∙ second.joined)
-    ∙ marker_known g second.marker second.rest second.known
+    sym (known_by_marker_byte f first.marker first.rest first.known) ∙ ap (λ (it : List ℕ). known_by (get_or it 12 0)) (sym first.joined ∙ second.joined)
+    ∙ known_by_marker_byte g second.marker second.rest second.known
 
 -- ---- one position
 
-prefix_of_place : (bytes : List ℕ) (place : ℕ) (f : Format) → (here : MarksPlace bytes place f) → take place bytes ≡ here.prefix
-prefix_of_place bytes place f here =
+take_at_marker_is_prefix : (bytes : List ℕ) (place : ℕ) (f : Format) → (here : MarksPlace bytes place f) → take place bytes ≡ here.prefix
+take_at_marker_is_prefix bytes place f here =
     let cut : take (length here.prefix) bytes ≡ here.prefix = ap (take (length here.prefix)) here.joined ∙ take-append_seam here.prefix here.rest in
     ap (λ (it : ℕ). take it bytes) (sym here.as_long) ∙ cut
 
-rest_of_place : (bytes : List ℕ) (place : ℕ) (f : Format) → (here : MarksPlace bytes place f) → drop place bytes ≡ here.rest
-rest_of_place bytes place f here =
+drop_at_marker_is_rest : (bytes : List ℕ) (place : ℕ) (f : Format) → (here : MarksPlace bytes place f) → drop place bytes ≡ here.rest
+drop_at_marker_is_rest bytes place f here =
     let cut : drop (length here.prefix) bytes ≡ here.rest = ap (drop (length here.prefix)) here.joined ∙ drop-append_seam here.prefix here.rest in
     ap (λ (it : ℕ). drop it bytes) (sym here.as_long) ∙ cut
 
 pub begins_with_marker_at_place : (bytes : List ℕ) (place : ℕ) (f : Format) → MarksPlace bytes place f → BeginsWithMarker f (drop place bytes)
-begins_with_marker_at_place bytes place f here = subst (BeginsWithMarker f) (sym (rest_of_place bytes place f here)) here.marked
+begins_with_marker_at_place bytes place f here = subst (BeginsWithMarker f) (sym (drop_at_marker_is_rest bytes place f here)) here.marked
 
 pub starts_line_at_place : (bytes : List ℕ) (place : ℕ) (f : Format) → MarksPlace bytes place f → StartsLine (take place bytes)
-starts_line_at_place bytes place f here = subst StartsLine (sym (prefix_of_place bytes place f here)) here.starts
+starts_line_at_place bytes place f here = subst StartsLine (sym (take_at_marker_is_prefix bytes place f here)) here.starts
 
 pub marker_place_le_len : (bytes : List ℕ) (place : ℕ) (f : Format) → MarksPlace bytes place f → place ≤ length bytes
 marker_place_le_len bytes place f here = omega (arith, here.as_long, ap length here.joined, length-append here.prefix here.rest)

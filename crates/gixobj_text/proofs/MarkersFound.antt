@@ -8,8 +8,9 @@ use Rattle.gixobj_text.specs.Markers.{BeginsWithMarker, IsMarkerOf, pgp_message,
 use Rattle.gixobj_text.specs.declared.signature.Format.{Format}
 use Rattle.gixobj_text.specs.declared.signature.Format.TheVariants as format
 
-marker_found : (format : Format) (marker bytes : List ℕ) → IsMarkerOf format marker → true ≡ starts_with nat_eq bytes marker → BeginsWithMarker format bytes
-marker_found format marker bytes is same =
+begins_with_marker_of_starts_with : (format : Format) (marker bytes : List ℕ) → IsMarkerOf format marker → true ≡ starts_with nat_eq bytes marker
+    → BeginsWithMarker format bytes
+begins_with_marker_of_starts_with format marker bytes is same =
     record {
       marker = marker;
       rest = drop (length marker) bytes;
@@ -19,14 +20,14 @@ marker_found format marker bytes is same =
 
 pub begins_with_pgp_signature : (bytes : List ℕ) → true ≡ starts_with nat_eq bytes (codes "-----BEGIN PGP SIGNATURE-----")
     → BeginsWithMarker format.OpenPgp bytes
-begins_with_pgp_signature bytes = marker_found _ _ bytes pgp_signature
+begins_with_pgp_signature bytes = begins_with_marker_of_starts_with _ _ bytes pgp_signature
 
 pub begins_with_pgp_message : (bytes : List ℕ) → true ≡ starts_with nat_eq bytes (codes "-----BEGIN PGP MESSAGE-----") → BeginsWithMarker format.OpenPgp bytes
-begins_with_pgp_message bytes = marker_found _ _ bytes pgp_message
+begins_with_pgp_message bytes = begins_with_marker_of_starts_with _ _ bytes pgp_message
 
 pub begins_with_signed_message : (bytes : List ℕ) → true ≡ starts_with nat_eq bytes (codes "-----BEGIN SIGNED MESSAGE-----")
     → BeginsWithMarker format.X509 bytes
-begins_with_signed_message bytes = marker_found _ _ bytes signed_message
+begins_with_signed_message bytes = begins_with_marker_of_starts_with _ _ bytes signed_message
 
 pub begins_with_ssh_signature : (bytes : List ℕ) → true ≡ starts_with nat_eq bytes (codes "-----BEGIN SSH SIGNATURE-----") → BeginsWithMarker format.Ssh bytes
-begins_with_ssh_signature bytes = marker_found _ _ bytes ssh_signature
+begins_with_ssh_signature bytes = begins_with_marker_of_starts_with _ _ bytes ssh_signature

@@ -17,47 +17,50 @@ Lines = List (List ℕ)
 
 -- ---- title and body
 
-same_prefix : (a b x y : List ℕ) → length a ≡ length b → a ++ x ≡ b ++ y → (a ≡ b) × (x ≡ y)
-same_prefix [] [] x y long is = (refl, is)
-same_prefix [] (byte ∷ b) x y long is = absurd (omega arith)
-same_prefix (byte ∷ a) [] x y long is = absurd (omega arith)
-same_prefix (byte ∷ a) (other ∷ b) x y long is =
-    let tails : (a ≡ b) × (x ≡ y) = same_prefix a b x y (omega arith) (cc is) in
+append_split_unique : (a b x y : List ℕ) → length a ≡ length b → a ++ x ≡ b ++ y → (a ≡ b) × (x ≡ y)
+append_split_unique [] [] x y long is = (refl, is)
+append_split_unique [] (byte ∷ b) x y long is = absurd (omega arith)
+append_split_unique (byte ∷ a) [] x y long is = absurd (omega arith)
+append_split_unique (byte ∷ a) (other ∷ b) x y long is =
+    let tails : (a ≡ b) × (x ≡ y) = append_split_unique a b x y (omega arith) (cc is) in
     let heads : byte ≡ other = cc is in
     (ap (λ (n : ℕ). n ∷ a) heads ∙ ap (λ (bytes : List ℕ). other ∷ bytes) tails.0, tails.1)
 
-after_two : (first second rest : List ℕ) → IsBreak first → IsBreak second → after_two_breaks (first ++ second ++ rest) ≡ Some rest
-after_two first second rest alone alone = refl
-after_two first second rest alone after_return = refl
-after_two first second rest after_return alone = refl
-after_two first second rest after_return after_return = refl
+after_two_breaks_append : (first second rest : List ℕ) → IsBreak first → IsBreak second → after_two_breaks (first ++ second ++ rest) ≡ Some rest
+after_two_breaks_append first second rest alone alone = refl
+after_two_breaks_append first second rest alone after_return = refl
+after_two_breaks_append first second rest after_return alone = refl
+after_two_breaks_append first second rest after_return after_return = refl
 
-regrouped : (message title body : List ℕ) → (it : HasBreaks message title body) → message ≡ title ++ (it.first ++ it.second ++ body)
-regrouped message title body it =
+has_breaks_append_assoc : (message title body : List ℕ) → (it : HasBreaks message title body) → message ≡ title ++ (it.first ++ it.second ++ body)
+has_breaks_append_assoc message title body it =
     it.joined ∙ append_assoc (title ++ it.first) it.second body ∙ append_assoc title it.first (it.second ++ body)
     ∙ ap (λ (bytes : List ℕ). title ++ bytes) (sym (append_assoc it.first it.second body))
 
-one_cut : (message title body title2 body2 : List ℕ) → IsSplitAtBreaks message title body → IsSplitAtBreaks message title2 body2 → (title ≡ title2)
+split_at_breaks_unique : (message title body title2 body2 : List ℕ) → IsSplitAtBreaks message title body → IsSplitAtBreaks message title2 body2
+    → (title ≡ title2)
     × (body ≡ body2)
-one_cut message title body title2 body2 one other =
+split_at_breaks_unique message title body title2 body2 one other =
     let few : length title ≤ length title2 = one.minimum title2 body2 other.here in
     let few2 : length title2 ≤ length title = other.minimum title body one.here in
-    let prefixes = same_prefix title title2 (one.here.first ++ one.here.second ++ body) (other.here.first ++ other.here.second ++ body2) (omega arith)
-    (sym (regrouped message title body one.here) ∙ regrouped message title2 body2 other.here) in
+    let prefixes = append_split_unique title title2 (one.here.first ++ one.here.second ++ body) (other.here.first ++ other.here.second ++ body2) (omega arith)
+    (sym (has_breaks_append_assoc message title body one.here) ∙ has_breaks_append_assoc message title2 body2 other.here) in
     let bodies : Some body ≡ Some body2 =
-    sym (after_two one.here.first one.here.second body one.here.breaks.0 one.here.breaks.1) ∙ ap after_two_breaks prefixes.1
-    ∙ after_two other.here.first other.here.second body2 other.here.breaks.0 other.here.breaks.1 in
+    sym (after_two_breaks_append one.here.first one.here.second body one.here.breaks.0 one.here.breaks.1) ∙ ap after_two_breaks prefixes.1
+    ∙ after_two_breaks_append other.here.first other.here.second body2 other.here.breaks.0 other.here.breaks.1 in
     (prefixes.0, cc bodies)
 
 pub title_split_unique : (message title title2 : List ℕ) (body body2 : Option (List ℕ)) → SplitsTitle message title body → SplitsTitle message title2 body2
     → (title ≡ title2) × (body ≡ body2)
 title_split_unique message title title2 (Some body) (Some body2) (one, some) (other, some2) =
-    let same = one_cut message title body title2 body2 one other in (same.0, ap (λ (it : List ℕ). Some it) same.1)
-title_split_unique message title title2 (Some body) None (one, some) (inl other) = absurd (some (one_cut message title body title2 [] one other).1)
+    let same = split_at_breaks_unique message title body title2 body2 one other in (same.0, ap (λ (it : List ℕ). Some it) same.1)
+title_split_unique message title title2 (Some body) None (one, some) (inl other) =
+    absurd (some (split_at_breaks_unique message title body title2 [] one other).1)
 title_split_unique message title title2 (Some body) None (one, some) (inr (all, none)) = absurd (none title body one.here)
-title_split_unique message title title2 None (Some body2) (inl one) (other, some) = absurd (some (one_cut message title2 body2 title [] other one).1)
+title_split_unique message title title2 None (Some body2) (inl one) (other, some) =
+    absurd (some (split_at_breaks_unique message title2 body2 title [] other one).1)
 title_split_unique message title title2 None (Some body2) (inr (all, none)) (other, some) = absurd (none title2 body2 other.here)
-title_split_unique message title title2 None None (inl one) (inl other) = ((one_cut message title [] title2 [] one other).0, refl)
+title_split_unique message title title2 None None (inl one) (inl other) = ((split_at_breaks_unique message title [] title2 [] one other).0, refl)
 title_split_unique message title title2 None None (inl one) (inr (all, none)) = absurd (none title [] one.here)
 title_split_unique message title title2 None None (inr (all, none)) (inl other) = absurd (none title2 [] other.here)
 title_split_unique message title title2 None None (inr (all, none)) (inr (all2, none2)) = (all ∙ sym all2, refl)
@@ -70,44 +73,45 @@ start_of (line ∷ []) = 0
 start_of (line ∷ blank ∷ []) = length (trimmed_line line)
 start_of (line ∷ next ∷ more ∷ lines) = length line + start_of (next ∷ more ∷ lines)
 
-step : (line next : List ℕ) (lines : Lines) → lines ≢ [] → start_of (line ∷ next ∷ lines) ≡ length line + start_of (next ∷ lines)
+start_of_cons_cons : (line next : List ℕ) (lines : Lines) → lines ≢ [] → start_of (line ∷ next ∷ lines) ≡ length line + start_of (next ∷ lines)
 unfolding start_of
-step line next [] some = absurd (some refl)
-step line next (more ∷ lines) some = refl
+start_of_cons_cons line next [] some = absurd (some refl)
+start_of_cons_cons line next (more ∷ lines) some = refl
 
-two_more : (prefix : Lines) (line blank : List ℕ) → prefix ++ line ∷ blank ∷ [] ≢ []
-two_more [] line blank = λ is. cc is
-two_more (first ∷ prefix) line blank = λ is. cc is
+append_two_ne_nil : (prefix : Lines) (line blank : List ℕ) → prefix ++ line ∷ blank ∷ [] ≢ []
+append_two_ne_nil [] line blank = λ is. cc is
+append_two_ne_nil (first ∷ prefix) line blank = λ is. cc is
 
-ends_at : (prefix : Lines) (line blank : List ℕ) → start_of (prefix ++ line ∷ blank ∷ []) ≡ length (concat prefix) + length (trimmed_line line)
+start_of_append_two : (prefix : Lines) (line blank : List ℕ) → start_of (prefix ++ line ∷ blank ∷ []) ≡ length (concat prefix) + length (trimmed_line line)
 unfolding start_of
-ends_at [] line blank = sym (zero-add (length (trimmed_line line)))
-ends_at (first ∷ []) line blank =
+start_of_append_two [] line blank = sym (zero-add (length (trimmed_line line)))
+start_of_append_two (first ∷ []) line blank =
     let long : length (concat (first ∷ [])) ≡ length first + 0 = length-append first [] in omega arith
-ends_at (first ∷ second ∷ prefix) line blank =
+start_of_append_two (first ∷ second ∷ prefix) line blank =
     let later : start_of ((second ∷ prefix) ++ line ∷ blank ∷ []) ≡ length (concat (second ∷ prefix)) + length (trimmed_line line) =
-    ends_at (second ∷ prefix) line blank in
+    start_of_append_two (second ∷ prefix) line blank in
     let here : start_of (first ∷ second ∷ (prefix ++ line ∷ blank ∷ [])) ≡ length first + start_of (second ∷ (prefix ++ line ∷ blank ∷ [])) =
-    step first second (prefix ++ line ∷ blank ∷ []) (two_more prefix line blank) in
+    start_of_cons_cons first second (prefix ++ line ∷ blank ∷ []) (append_two_ne_nil prefix line blank) in
     let long : length (concat (first ∷ second ∷ prefix)) ≡ length first + length (concat (second ∷ prefix)) =
     length-append first (concat (second ∷ prefix)) in
     omega arith
 
-start_is : (before : Lines) (start : ℕ) → StartsAfter before start → start ≡ start_of before
+starts_after_eq_start_of : (before : Lines) (start : ℕ) → StartsAfter before start → start ≡ start_of before
 unfolding start_of
-start_is before start (inl (none, is)) = is ∙ sym (ap start_of none)
-start_is before start (inr (inl (blank, one, is))) = is ∙ sym (ap start_of one)
-start_is before start (inr (inr (prefix, line, blank, joined, is))) = is ∙ sym (ends_at prefix line blank) ∙ sym (ap start_of joined)
+starts_after_eq_start_of before start (inl (none, is)) = is ∙ sym (ap start_of none)
+starts_after_eq_start_of before start (inr (inl (blank, one, is))) = is ∙ sym (ap start_of one)
+starts_after_eq_start_of before start (inr (inr (prefix, line, blank, joined, is))) = is ∙ sym (start_of_append_two prefix line blank)
+    ∙ sym (ap start_of joined)
 
-same_start : (lines : Lines) (start start2 : ℕ) → HasBlock lines start → HasBlock lines start2 → start ≡ start2
-same_start lines start start2 one other =
+has_block_start_unique : (lines : Lines) (start start2 : ℕ) → HasBlock lines start → HasBlock lines start2 → start ≡ start2
+has_block_start_unique lines start start2 one other =
     let same : one.before ≡ other.before =
     ap (λ (it : Parts). it.before)
     (sym (parts_of_last_run lines one.before one.run one.after one.last) ∙ parts_of_last_run lines other.before other.run other.after other.last) in
-    start_is one.before start one.starts ∙ ap start_of same ∙ sym (start_is other.before start2 other.starts)
+    starts_after_eq_start_of one.before start one.starts ∙ ap start_of same ∙ sym (starts_after_eq_start_of other.before start2 other.starts)
 
 pub block_start_unique : (body : List ℕ) (start start2 : ℕ) → IsTrailerBlockStart body start → IsTrailerBlockStart body start2 → start ≡ start2
-block_start_unique body start start2 (inl one) (inl other) = same_start (lines_of body) start start2 one other
+block_start_unique body start start2 (inl one) (inl other) = has_block_start_unique (lines_of body) start start2 one other
 block_start_unique body start start2 (inl one) (inr (none, is)) = absurd (none one.before one.run one.after one.last one.block)
 block_start_unique body start start2 (inr (none, is)) (inl other) = absurd (none other.before other.run other.after other.last other.block)
 block_start_unique body start start2 (inr (none, is)) (inr (none2, is2)) = is ∙ sym is2

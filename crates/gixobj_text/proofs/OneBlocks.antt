@@ -61,28 +61,29 @@ taken_is (line ∷ taken) rest all ends =
 
 -- ---- the parts are unique
 
-either : (a b : Bool) → a ≡ true → (a || b) ≡ true
-either true b is = refl
-either false b is = cc is
+or_true_of_left : (a b : Bool) → a ≡ true → (a || b) ≡ true
+or_true_of_left true b is = refl
+or_true_of_left false b is = cc is
 
-all_go_on : (taken : Lines) → AreTrailers taken → All ContinuesTrailer taken
-all_go_on [] trailers = All-nil ContinuesTrailer
-all_go_on (line ∷ taken) trailers = All-cons ContinuesTrailer line taken (either (is_trailer_line line) (is_continuation_line line) trailers.0) trailers.1
+all_continue_of_are_trailers : (taken : Lines) → AreTrailers taken → All ContinuesTrailer taken
+all_continue_of_are_trailers [] trailers = All-nil ContinuesTrailer
+all_continue_of_are_trailers (line ∷ taken) trailers = All-cons ContinuesTrailer line taken
+    (or_true_of_left (is_trailer_line line) (is_continuation_line line) trailers.0) trailers.1
 
-begins : (taken rest : Lines) → AreTrailers taken → (taken ≡ [] → rest ≡ []) → BeginsTrailer (taken ++ rest)
-begins [] rest trailers last = subst BeginsTrailer (sym (last refl)) tt
-begins (line ∷ taken) rest trailers last = trailers.0
+begins_trailer_append : (taken rest : Lines) → AreTrailers taken → (taken ≡ [] → rest ≡ []) → BeginsTrailer (taken ++ rest)
+begins_trailer_append [] rest trailers last = subst BeginsTrailer (sym (last refl)) tt
+begins_trailer_append (line ∷ taken) rest trailers last = trailers.0
 
 record IsCutSo (lines skipped taken rest : Lines) : Type 0 where
   skipped_is : skipped ≡ skipped_of lines
   taken_is : taken ≡ taken_of (after_skipped lines)
   rest_is : rest ≡ after_taken (after_skipped lines)
 
-cut_so : (lines skipped taken rest : Lines) → IsBlockOfLines lines skipped taken rest → IsCutSo lines skipped taken rest
-cut_so lines skipped taken rest it =
+parts_of_block_of_lines : (lines skipped taken rest : Lines) → IsBlockOfLines lines skipped taken rest → IsCutSo lines skipped taken rest
+parts_of_block_of_lines lines skipped taken rest it =
     let joined : lines ≡ skipped ++ (taken ++ rest) = it.split ∙ append_assoc skipped taken rest in
-    let first = skipped_is skipped (taken ++ rest) it.message (begins taken rest it.trailers it.none) in
-    let second = taken_is taken rest (all_go_on taken it.trailers) it.ends in
+    let first = skipped_is skipped (taken ++ rest) it.message (begins_trailer_append taken rest it.trailers it.none) in
+    let second = taken_is taken rest (all_continue_of_are_trailers taken it.trailers) it.ends in
     let after : after_skipped lines ≡ taken ++ rest = ap after_skipped joined ∙ first.1 in
     record {
       skipped_is = sym (ap skipped_of joined ∙ first.0);
@@ -93,19 +94,19 @@ cut_so lines skipped taken rest it =
 abbrev view : List ℕ → List ℕ → BlockView
 view message trailers = record { message = message; trailers = trailers }
 
-view_is : (one other : BlockView) → one.message ≡ other.message → one.trailers ≡ other.trailers → one ≡ other
-view_is one other message trailers =
+block_view_eq_of_fields : (one other : BlockView) → one.message ≡ other.message → one.trailers ≡ other.trailers → one ≡ other
+block_view_eq_of_fields one other message trailers =
     ap (λ (it : List ℕ). view it one.trailers) message ∙ ap (λ (it : List ℕ). view other.message it) trailers
 
-one_first : (start : ℕ) (bytes : List ℕ) (one other : BlockView) (rest rest2 : List ℕ) → IsFirstMessageBlock start bytes one rest
+first_message_block_unique : (start : ℕ) (bytes : List ℕ) (one other : BlockView) (rest rest2 : List ℕ) → IsFirstMessageBlock start bytes one rest
     → IsFirstMessageBlock start bytes other rest2 → (one ≡ other) × (rest ≡ rest2)
-one_first start bytes one other rest rest2 it it2 =
-    let first = cut_so (lines_of (drop start bytes)) it.skipped it.consumed (lines_of rest) it.lines in
-    let second = cut_so (lines_of (drop start bytes)) it2.skipped it2.consumed (lines_of rest2) it2.lines in
+first_message_block_unique start bytes one other rest rest2 it it2 =
+    let first = parts_of_block_of_lines (lines_of (drop start bytes)) it.skipped it.consumed (lines_of rest) it.lines in
+    let second = parts_of_block_of_lines (lines_of (drop start bytes)) it2.skipped it2.consumed (lines_of rest2) it2.lines in
     let skipped : it.skipped ≡ it2.skipped = first.skipped_is ∙ sym second.skipped_is in
     let taken : it.consumed ≡ it2.consumed = first.taken_is ∙ sym second.taken_is in
     let after : lines_of rest ≡ lines_of rest2 = first.rest_is ∙ sym second.rest_is in (
-      view_is one other
+      block_view_eq_of_fields one other
           (it.message ∙ ap (λ (ls : Lines). take start bytes ++ concat ls) skipped ∙ sym it2.message)
           (it.trailers ∙ ap (λ (ls : Lines). concat ls) taken ∙ sym it2.trailers),
       sym (concat-lines_of rest) ∙ ap (λ (ls : Lines). concat ls) after ∙ concat-lines_of rest2,
@@ -117,7 +118,7 @@ blocks_unique start body blocks blocks2 (none _) (none _) = refl
 blocks_unique start body blocks blocks2 (none _) (block _ _ one rest later it more) = absurd (it.some refl)
 blocks_unique start body blocks blocks2 (block _ _ one rest later it more) (none _) = absurd (it.some refl)
 blocks_unique start body blocks blocks2 (block _ _ one rest later it more) (block _ _ other rest2 later2 it2 more2) =
-    let same = one_first start body one other rest rest2 it it2 in
+    let same = first_message_block_unique start body one other rest rest2 it it2 in
     ap (λ (b : BlockView). b ∷ later) same.0
     ∙ ap (λ (bs : List BlockView). other ∷ bs) (blocks_unique 0 rest later later2 more
     (subst (λ (bytes : List ℕ). AreBlocksFrom 0 bytes later2) (sym same.1) more2))

@@ -13,18 +13,18 @@ use Rattle.gixobj_text.proofs.SplitTitles.{is_unsplit_refl, is_unsplit_step}
 abbrev break_bytes : List ℕ
 break_bytes = 10 ∷ 13 ∷ []
 
-has_newline : is_in break_bytes 10 ≡ true
+newline_in_break_bytes : is_in break_bytes 10 ≡ true
 unfolding computing
-has_newline = refl
+newline_in_break_bytes = refl
 
-has_return : is_in break_bytes 13 ≡ true
+return_in_break_bytes : is_in break_bytes 13 ≡ true
 unfolding computing
-has_return = refl
+return_in_break_bytes = refl
 
-free_before : (bytes : List ℕ) (place byte : ℕ) → is_in break_bytes byte ≡ true → place ≤ length bytes
+take_is_break_byte_free : (bytes : List ℕ) (place byte : ℕ) → is_in break_bytes byte ≡ true → place ≤ length bytes
     → Nowhere (Passes (is_in break_bytes) bytes) 0 place
     → IsByteFree byte (take place bytes)
-free_before bytes place byte test within none =
+take_is_break_byte_free bytes place byte test within none =
     All-from_get_or (λ it. it ≢ byte) (take place bytes) 0 (λ i below same.
     let few : i < place = omega (arith, below, length-take-le place bytes within) in
     none i (omega arith) few (ap (is_in break_bytes) (sym (get_or-take place bytes i 0 few) ∙ same) ∙ test))
@@ -35,47 +35,49 @@ is_from_break_at_place bytes place (none, here) =
     record {
       plain = take place bytes;
       joined = sym (take-append-drop place bytes);
-      no_newline = free_before bytes place 10 has_newline within none.before;
-      no_return = free_before bytes place 13 has_return within none.before;
+      no_newline = take_is_break_byte_free bytes place 10 newline_in_break_bytes within none.before;
+      no_return = take_is_break_byte_free bytes place 13 return_in_break_bytes within none.before;
       begins = subst BeginsBreak (sym (drop_more bytes place 0 none.high)) here;
     }
 
-all_taken : (bytes : List ℕ) → take (length bytes) bytes ≡ bytes
-all_taken [] = refl
-all_taken (byte ∷ bytes) = ap (λ (rest : List ℕ). byte ∷ rest) (all_taken bytes)
+take_len : (bytes : List ℕ) → take (length bytes) bytes ≡ bytes
+take_len [] = refl
+take_len (byte ∷ bytes) = ap (λ (rest : List ℕ). byte ∷ rest) (take_len bytes)
 
 pub is_from_break_nil : (bytes : List ℕ) → IsFirstByte (is_in break_bytes) bytes None → IsFromBreak bytes []
 is_from_break_nil bytes none =
     record {
       plain = bytes;
       joined = sym (append-nil bytes);
-      no_newline = subst (IsByteFree 10) (all_taken bytes) (free_before bytes (length bytes) 10 has_newline (omega arith) none);
-      no_return = subst (IsByteFree 13) (all_taken bytes) (free_before bytes (length bytes) 13 has_return (omega arith) none);
+      no_newline = subst (IsByteFree 10) (take_len bytes) (take_is_break_byte_free bytes (length bytes) 10 newline_in_break_bytes (omega arith) none);
+      no_return = subst (IsByteFree 13) (take_len bytes) (take_is_break_byte_free bytes (length bytes) 13 return_in_break_bytes (omega arith) none);
       begins = tt;
     }
 
-other_test : (byte other : ℕ) → byte ≢ other → (byte == other) ≡ false
-other_test byte other is = grind (arith, nat_tests)
+eqb_false_of_ne : (byte other : ℕ) → byte ≢ other → (byte == other) ≡ false
+eqb_false_of_ne byte other is = grind (arith, nat_tests)
 
-no_two : (byte : ℕ) (rest : List ℕ) → byte ≢ 10 → byte ≢ 13 → None ≡ after_two_breaks (byte ∷ rest)
-no_two byte rest newline return =
-    sym (ap (λ (b : Bool). after_next_break (cond b (Some rest) (cond (byte == 13) (after_carriage_return rest) None))) (other_test byte 10 newline)
-    ∙ ap (λ (b : Bool). after_next_break (cond b (after_carriage_return rest) None)) (other_test byte 13 return))
+no_two_breaks_of_other_byte : (byte : ℕ) (rest : List ℕ) → byte ≢ 10 → byte ≢ 13 → None ≡ after_two_breaks (byte ∷ rest)
+no_two_breaks_of_other_byte byte rest newline return =
+    sym (ap (λ (b : Bool). after_next_break (cond b (Some rest) (cond (byte == 13) (after_carriage_return rest) None))) (eqb_false_of_ne byte 10 newline)
+    ∙ ap (λ (b : Bool). after_next_break (cond b (after_carriage_return rest) None)) (eqb_false_of_ne byte 13 return))
 
-uncut_past : (message plain rest : List ℕ) → IsUnsplit message (plain ++ rest) → IsByteFree 10 plain → IsByteFree 13 plain → IsUnsplit message rest
-uncut_past message [] rest it newline return = it
-uncut_past message (byte ∷ plain) rest it newline return =
-    let none = no_two byte (plain ++ rest) (All-head (λ it. it ≢ 10) byte plain newline) (All-head (λ it. it ≢ 13) byte plain return) in
-    uncut_past message plain rest (is_unsplit_step message (byte ∷ plain ++ rest) byte (plain ++ rest) it refl none)
+is_unsplit_after_plain : (message plain rest : List ℕ) → IsUnsplit message (plain ++ rest) → IsByteFree 10 plain → IsByteFree 13 plain → IsUnsplit message rest
+is_unsplit_after_plain message [] rest it newline return = it
+is_unsplit_after_plain message (byte ∷ plain) rest it newline return =
+    let none = no_two_breaks_of_other_byte byte (plain ++ rest) (All-head (λ it. it ≢ 10) byte plain newline) (All-head (λ it. it ≢ 13) byte plain return) in
+    is_unsplit_after_plain message plain rest (is_unsplit_step message (byte ∷ plain ++ rest) byte (plain ++ rest) it refl none)
     (All-tail (λ it. it ≢ 10) byte plain newline) (All-tail (λ it. it ≢ 13) byte plain return)
 
-uncut_by : (message bytes rest : List ℕ) → IsUnsplit message bytes → IsFromBreak bytes rest → IsUnsplit message rest
-uncut_by message bytes rest it past = uncut_past message past.plain rest (subst (IsUnsplit message) past.joined it) past.no_newline past.no_return
+is_unsplit_from_break : (message bytes rest : List ℕ) → IsUnsplit message bytes → IsFromBreak bytes rest → IsUnsplit message rest
+is_unsplit_from_break message bytes rest it past = is_unsplit_after_plain message past.plain rest
+    (subst (IsUnsplit message) past.joined it) past.no_newline past.no_return
 
 pub is_unsplit_at_begin : (message rest : List ℕ) → IsFromBreak message rest → IsUnsplit message rest
-is_unsplit_at_begin message rest past = uncut_by message message rest (is_unsplit_refl message) past
+is_unsplit_at_begin message rest past = is_unsplit_from_break message message rest (is_unsplit_refl message) past
 
 pub is_unsplit_at_next : (message rest : List ℕ) (byte : ℕ) (after next : List ℕ) → IsUnsplit message rest → rest ≡ byte ∷ after
     → None ≡ after_two_breaks rest
     → IsFromBreak after next → IsUnsplit message next
-is_unsplit_at_next message rest byte after next it is none past = uncut_by message after next (is_unsplit_step message rest byte after it is none) past
+is_unsplit_at_next message rest byte after next it is none past = is_unsplit_from_break message after next
+    (is_unsplit_step message rest byte after it is none) past

@@ -12,14 +12,14 @@ use Rattle.gixobj_text.specs.declared.signature.Format.{Format}
 
 -- ---- a marker after a newline has its prefix
 
-rest_of_marker : (format : Format) (marker : List ℕ) → IsMarkerOf format marker → (rest : List ℕ) × (marker ≡ codes "-----BEGIN " ++ rest)
-rest_of_marker format marker pgp_signature = (codes "PGP SIGNATURE-----", refl)
-rest_of_marker format marker pgp_message = (codes "PGP MESSAGE-----", refl)
-rest_of_marker format marker signed_message = (codes "SIGNED MESSAGE-----", refl)
-rest_of_marker format marker ssh_signature = (codes "SSH SIGNATURE-----", refl)
+marker_begins_with_common_prefix : (format : Format) (marker : List ℕ) → IsMarkerOf format marker → (rest : List ℕ) × (marker ≡ codes "-----BEGIN " ++ rest)
+marker_begins_with_common_prefix format marker pgp_signature = (codes "PGP SIGNATURE-----", refl)
+marker_begins_with_common_prefix format marker pgp_message = (codes "PGP MESSAGE-----", refl)
+marker_begins_with_common_prefix format marker signed_message = (codes "SIGNED MESSAGE-----", refl)
+marker_begins_with_common_prefix format marker ssh_signature = (codes "SSH SIGNATURE-----", refl)
 
-occurs_after : (bytes lines rest : List ℕ) → bytes ≡ lines ++ (marker_prefix ++ rest) → OccursAt bytes marker_prefix (length lines)
-occurs_after bytes lines rest joined =
+occurs_at_append : (bytes lines rest : List ℕ) → bytes ≡ lines ++ (marker_prefix ++ rest) → OccursAt bytes marker_prefix (length lines)
+occurs_at_append bytes lines rest joined =
     record {
       fits = omega (arith, ap length joined, length-append lines (marker_prefix ++ rest), length-append marker_prefix rest);
       reads = λ j below. ap (λ (it : List ℕ). get_or it (length lines + j) 0) joined ∙ get_or-append-add lines (marker_prefix ++ rest) j 0
@@ -30,36 +30,37 @@ occurs_after bytes lines rest joined =
 abbrev HasMarkerPrefix : List ℕ → ℕ → Type 0
 HasMarkerPrefix bytes place = (before : ℕ) × (place ≡ before + 1) × OccursAt bytes marker_prefix before
 
-prefix_after : (bytes head rest : List ℕ) (place : ℕ) (format : Format) → bytes ≡ head ++ rest → length head ≡ place → BeginsWithMarker format rest
+has_marker_prefix_append : (bytes head rest : List ℕ) (place : ℕ) (format : Format) → bytes ≡ head ++ rest → length head ≡ place → BeginsWithMarker format rest
     → 0 < place
     → StartsLine head → HasMarkerPrefix bytes place
-prefix_after bytes head rest place format joined as_long marked positive (inl empty) = absurd (omega (arith, as_long, ap length empty, positive))
-prefix_after bytes head rest place format joined as_long marked positive (inr (lines, ends)) =
-    let known = rest_of_marker format marked.marker marked.known in
+has_marker_prefix_append bytes head rest place format joined as_long marked positive (inl empty) = absurd (omega (arith, as_long, ap length empty, positive))
+has_marker_prefix_append bytes head rest place format joined as_long marked positive (inr (lines, ends)) =
+    let known = marker_begins_with_common_prefix format marked.marker marked.known in
     let content : List ℕ = known.0 ++ marked.rest in
     let begun : rest ≡ codes "-----BEGIN " ++ content = marked.joined ∙ ap (λ (it : List ℕ). it ++ marked.rest) known.1
     ∙ append_assoc (codes "-----BEGIN ") known.0 marked.rest in
     let following : bytes ≡ lines ++ (marker_prefix ++ content) = joined ∙ ap (λ (it : List ℕ). it ++ rest) ends ∙ append_assoc lines (10 ∷ []) rest
     ∙ ap (λ (it : List ℕ). lines ++ 10 ∷ it) begun in
-    (length lines, omega (arith, as_long, ap length ends, length-append lines (10 ∷ [])), occurs_after bytes lines content following)
+    (length lines, omega (arith, as_long, ap length ends, length-append lines (10 ∷ [])), occurs_at_append bytes lines content following)
 
-prefix_of_mark : (bytes : List ℕ) (place : ℕ) (format : Format) → MarksPlace bytes place format → 0 < place → HasMarkerPrefix bytes place
-prefix_of_mark bytes place format marks positive = prefix_after bytes marks.prefix marks.rest place format marks.joined marks.as_long marks.marked
+has_marker_prefix_of_marks_place : (bytes : List ℕ) (place : ℕ) (format : Format) → MarksPlace bytes place format → 0 < place → HasMarkerPrefix bytes place
+has_marker_prefix_of_marks_place bytes place format marks positive = has_marker_prefix_append bytes marks.prefix marks.rest place format marks.joined
+    marks.as_long marks.marked
     positive
     marks.starts
 
 -- ---- prefixes in the bytes before an end
 
-before_it : (bytes needle : List ℕ) (end place : ℕ) → OccursAt bytes needle place → end ≤ length bytes → place + length needle ≤ end
+occurs_at_take : (bytes needle : List ℕ) (end place : ℕ) → OccursAt bytes needle place → end ≤ length bytes → place + length needle ≤ end
     → OccursAt (take end bytes) needle place
-before_it bytes needle end place occurs within fits =
+occurs_at_take bytes needle end place occurs within fits =
     record {
       fits = omega (arith, fits, length-take-le end bytes within);
       reads = λ j below. get_or-take end bytes (place + j) 0 (omega (arith, below, fits)) ∙ occurs.reads j below;
     }
 
-in_entire : (bytes needle : List ℕ) (end place : ℕ) → OccursAt (take end bytes) needle place → end ≤ length bytes → OccursAt bytes needle place
-in_entire bytes needle end place occurs within =
+occurs_at_of_take : (bytes needle : List ℕ) (end place : ℕ) → OccursAt (take end bytes) needle place → end ≤ length bytes → OccursAt bytes needle place
+occurs_at_of_take bytes needle end place occurs within =
     let long = length-take-le end bytes within in
     record {
       fits = omega (arith, occurs.fits, long, within);
@@ -68,20 +69,20 @@ in_entire bytes needle end place occurs within =
 
 -- ---- prefixes don't overlap, since only their first byte is a newline
 
-prefix_has_one_newline : (i : ℕ) → i < 11 → get_or (codes "-----BEGIN ") i 0 ≢ 10
-prefix_has_one_newline i below = All-get_or (λ it. it ≢ 10) (codes "-----BEGIN ") i 0 below (byte_free_of_all_pass 10 (codes "-----BEGIN ") refl)
+begin_prefix_is_newline_free : (i : ℕ) → i < 11 → get_or (codes "-----BEGIN ") i 0 ≢ 10
+begin_prefix_is_newline_free i below = All-get_or (λ it. it ≢ 10) (codes "-----BEGIN ") i 0 below (byte_free_of_all_pass 10 (codes "-----BEGIN ") refl)
 
-le_from_not_lt : (a b : ℕ) → (a < b → ⊥) → b ≤ a
-le_from_not_lt a b no_less = grind (arith, no_less)
+le_of_not_lt : (a b : ℕ) → (a < b → ⊥) → b ≤ a
+le_of_not_lt a b no_less = grind (arith, no_less)
 
-apart : (bytes : List ℕ) (first second : ℕ) → OccursAt bytes marker_prefix first → OccursAt bytes marker_prefix second → first < second
+marker_prefixes_do_not_overlap : (bytes : List ℕ) (first second : ℕ) → OccursAt bytes marker_prefix first → OccursAt bytes marker_prefix second → first < second
     → first + 12 ≤ second
-apart bytes first second at_first at_second before =
-    le_from_not_lt second (first + 12) (λ near.
+marker_prefixes_do_not_overlap bytes first second at_first at_second before =
+    le_of_not_lt second (first + 12) (λ near.
     let i : ℕ = second - (first + 1) in
     let there : first + suc i ≡ second + 0 = omega (arith, before) in
     let below : i < 11 = omega (arith, before, near) in
-    prefix_has_one_newline i below (sym (at_first.reads (suc i) (omega (arith, below))) ∙ ap (λ (it : ℕ). get_or bytes it 0) there
+    begin_prefix_is_newline_free i below (sym (at_first.reads (suc i) (omega (arith, below))) ∙ ap (λ (it : ℕ). get_or bytes it 0) there
     ∙ at_second.reads 0 (omega arith)))
 
 -- ---- the walk
@@ -95,26 +96,26 @@ no_later_marker : (bytes : List ℕ) (end newline : ℕ) → end ≤ length byte
     → IsLastMarkerPrefix bytes end (Some newline)
     → (place : ℕ) (format : Format) → MarksPlace bytes place format → place ≤ newline + 1
 no_later_marker bytes end newline within so_far last place format marks =
-    le_from_not_lt (newline + 1) place (λ later.
-    let head = prefix_of_mark bytes place format marks (omega (arith, later)) in
+    le_of_not_lt (newline + 1) place (λ later.
+    let head = has_marker_prefix_of_marks_place bytes place format marks (omega (arith, later)) in
     let fits : head.0 + 12 ≤ end = omega (arith, so_far place format marks (omega (arith, later)), head.1) in
     last.0.after head.0 (omega (arith, later, head.1)) (omega (arith, fits, length-take-le end bytes within))
-    (before_it bytes marker_prefix end head.0 head.2 within fits))
+    (occurs_at_take bytes marker_prefix end head.0 head.2 within fits))
 
 -- skipping a line that begins with the prefix and with no marker
 pub prefixes_before_newline : (bytes : List ℕ) (end newline : ℕ) → end ≤ length bytes → HasMarkerPrefixesBefore bytes end
     → IsLastMarkerPrefix bytes end (Some newline)
     → BeginsWithNoMarker (bytes_from bytes (newline + 1)) → (newline ≤ length bytes) × HasMarkerPrefixesBefore bytes newline
 prefixes_before_newline bytes end newline within so_far last unmarked =
-    let here = in_entire bytes marker_prefix end newline last.1 within in (
+    let here = occurs_at_of_take bytes marker_prefix end newline last.1 within in (
       omega (arith, here.fits),
       λ place format marks positive.
           let P : ℕ → Type 0 = λ it. BeginsWithMarker format (bytes_from bytes it) in
           let other : place ≢ newline + 1 =
           λ same. unmarked format (subst P same (rw (take_rest bytes place) (begins_with_marker_at_place bytes place format marks))) in
-          let head = prefix_of_mark bytes place format marks positive in
+          let head = has_marker_prefix_of_marks_place bytes place format marks positive in
           let before : head.0 < newline = omega (arith, other, head.1, no_later_marker bytes end newline within so_far last place format marks) in
-          omega (arith, head.1, apart bytes head.0 newline head.2 here before),
+          omega (arith, head.1, marker_prefixes_do_not_overlap bytes head.0 newline head.2 here before),
     )
 
 -- the marker at the last prefix is the last marker
@@ -122,7 +123,7 @@ pub marker_place_at_newline : (bytes : List ℕ) (end newline : ℕ) (format : F
     → IsLastMarkerPrefix bytes end (Some newline)
     → BeginsWithMarker format (bytes_from bytes (newline + 1)) → IsMarkerPlace bytes (newline + 1) format
 marker_place_at_newline bytes end newline format within so_far last marked =
-    let here = in_entire bytes marker_prefix end newline last.1 within in
+    let here = occurs_at_of_take bytes marker_prefix end newline last.1 within in
     let there : newline ≡ newline + 0 = omega arith in
     let ends : take (newline + 1) bytes ≡ take newline bytes ++ 10 ∷ [] =
     take_more bytes newline 0 (omega (arith, here.fits)) ∙ ap (λ (it : ℕ). take newline bytes ++ it ∷ [])
@@ -141,13 +142,13 @@ marker_place_at_newline bytes end newline format within so_far last marked =
     }
 
 -- without a prefix, only the start of the bytes can have a marker
-at_start_alone : (bytes : List ℕ) (end : ℕ) → end ≤ length bytes → HasMarkerPrefixesBefore bytes end → IsLastMarkerPrefix bytes end None
+no_marker_after_start : (bytes : List ℕ) (end : ℕ) → end ≤ length bytes → HasMarkerPrefixesBefore bytes end → IsLastMarkerPrefix bytes end None
     → (place : ℕ) (format : Format) → MarksPlace bytes place format → place ≤ 0
-at_start_alone bytes end within so_far none place format marks =
-    le_from_not_lt 0 place (λ positive.
-    let head = prefix_of_mark bytes place format marks positive in
+no_marker_after_start bytes end within so_far none place format marks =
+    le_of_not_lt 0 place (λ positive.
+    let head = has_marker_prefix_of_marks_place bytes place format marks positive in
     let fits : head.0 + 12 ≤ end = omega (arith, so_far place format marks positive, head.1) in
-    none head.0 (omega arith) (omega (arith, fits, length-take-le end bytes within)) (before_it bytes marker_prefix end head.0 head.2 within fits))
+    none head.0 (omega arith) (omega (arith, fits, length-take-le end bytes within)) (occurs_at_take bytes marker_prefix end head.0 head.2 within fits))
 
 pub marker_place_at_start : (bytes : List ℕ) (end : ℕ) (format : Format) → end ≤ length bytes → HasMarkerPrefixesBefore bytes end
     → IsLastMarkerPrefix bytes end None
@@ -155,12 +156,12 @@ pub marker_place_at_start : (bytes : List ℕ) (end : ℕ) (format : Format) →
 marker_place_at_start bytes end format within so_far none marked =
     record {
       here = record { prefix = []; rest = bytes; joined = refl; as_long = refl; starts = inl refl; marked = marked };
-      last = at_start_alone bytes end within so_far none;
+      last = no_marker_after_start bytes end within so_far none;
     }
 
 pub no_marker_of_no_prefix : (bytes : List ℕ) (end : ℕ) → end ≤ length bytes → HasMarkerPrefixesBefore bytes end → IsLastMarkerPrefix bytes end None
     → BeginsWithNoMarker bytes → HasNoMarker bytes
 no_marker_of_no_prefix bytes end within so_far none unmarked place format marks =
     let P : ℕ → Type 0 = λ it. BeginsWithMarker format (drop it bytes) in
-    let first : place ≡ 0 = omega (arith, at_start_alone bytes end within so_far none place format marks) in
+    let first : place ≡ 0 = omega (arith, no_marker_after_start bytes end within so_far none place format marks) in
     unmarked format (subst P first (begins_with_marker_at_place bytes place format marks))

@@ -22,70 +22,71 @@ Lines = List (List ℕ)
 
 -- ---- the parts of a line
 
-within_by : (b : Bool) (byte : ℕ) (rest : List ℕ) → length (after_token rest) ≤ length rest
+after_token_len_le_of_flag : (b : Bool) (byte : ℕ) (rest : List ℕ) → length (after_token rest) ≤ length rest
     → length (cond b (after_token rest) (byte ∷ rest)) ≤ length
     (byte ∷ rest)
-within_by true byte rest is = omega arith
-within_by false byte rest is = omega arith
+after_token_len_le_of_flag true byte rest is = omega arith
+after_token_len_le_of_flag false byte rest is = omega arith
 
 pub after_token_len_le : (bytes : List ℕ) → length (after_token bytes) ≤ length bytes
 after_token_len_le [] = omega arith
-after_token_len_le (byte ∷ rest) = within_by (is_token_byte byte) byte rest (after_token_len_le rest)
+after_token_len_le (byte ∷ rest) = after_token_len_le_of_flag (is_token_byte byte) byte rest (after_token_len_le rest)
 
-value_more : (byte : ℕ) (token : List ℕ) (found : Option (List ℕ)) → token_byte_step byte (with_value token found) ≡ with_value (byte ∷ token) found
-value_more byte token None = refl
-value_more byte token (Some value) = refl
+token_byte_step_with_value : (byte : ℕ) (token : List ℕ) (found : Option (List ℕ))
+    → token_byte_step byte (with_value token found) ≡ with_value (byte ∷ token) found
+token_byte_step_with_value byte token None = refl
+token_byte_step_with_value byte token (Some value) = refl
 
-take_more : (n m : ℕ) (byte : ℕ) (rest : List ℕ) → m ≤ n → take (suc n - m) (byte ∷ rest) ≡ byte ∷ take (n - m) rest
-take_more n m byte rest few = ap (λ (k : ℕ). take k (byte ∷ rest)) (let is : suc n - m ≡ suc (n - m) = omega arith in is)
+take_succ_sub_cons : (n m : ℕ) (byte : ℕ) (rest : List ℕ) → m ≤ n → take (suc n - m) (byte ∷ rest) ≡ byte ∷ take (n - m) rest
+take_succ_sub_cons n m byte rest few = ap (λ (k : ℕ). take k (byte ∷ rest)) (let is : suc n - m ≡ suc (n - m) = omega arith in is)
 
-take_none : (n : ℕ) (rest : List ℕ) → take (n - n) rest ≡ []
-take_none n rest = ap (λ (k : ℕ). take k rest) (let is : n - n ≡ 0 = omega arith in is)
+take_sub_self : (n : ℕ) (rest : List ℕ) → take (n - n) rest ≡ []
+take_sub_self n rest = ap (λ (k : ℕ). take k rest) (let is : n - n ≡ 0 = omega arith in is)
 
-rest_by : (b : Bool) (byte : ℕ) (rest : List ℕ) → rest_of_token rest ≡ with_value (take (length rest - length (after_token rest)) rest)
+rest_of_token_of_flag : (b : Bool) (byte : ℕ) (rest : List ℕ) → rest_of_token rest ≡ with_value (take (length rest - length (after_token rest)) rest)
     (after_gap (after_token rest))
     → cond b (token_byte_step byte (rest_of_token rest)) (with_value [] (after_gap (byte ∷ rest)))
     ≡ with_value (take (suc (length rest) - length (cond b (after_token rest) (byte ∷ rest))) (byte ∷ rest))
     (after_gap (cond b (after_token rest) (byte ∷ rest)))
-rest_by true byte rest later =
-    ap (token_byte_step byte) later ∙ value_more byte (take (length rest - length (after_token rest)) rest) (after_gap (after_token rest))
+rest_of_token_of_flag true byte rest later =
+    ap (token_byte_step byte) later ∙ token_byte_step_with_value byte (take (length rest - length (after_token rest)) rest) (after_gap (after_token rest))
     ∙ sym (ap (λ (token : List ℕ). with_value token (after_gap (after_token rest)))
-    (take_more (length rest) (length (after_token rest)) byte rest (after_token_len_le rest)))
-rest_by false byte rest later =
-    sym (ap (λ (token : List ℕ). with_value token (after_gap (byte ∷ rest))) (take_none (suc (length rest)) (byte ∷ rest)))
+    (take_succ_sub_cons (length rest) (length (after_token rest)) byte rest (after_token_len_le rest)))
+rest_of_token_of_flag false byte rest later =
+    sym (ap (λ (token : List ℕ). with_value token (after_gap (byte ∷ rest))) (take_sub_self (suc (length rest)) (byte ∷ rest)))
 
-rest_parts : (bytes : List ℕ) → rest_of_token bytes ≡ with_value (take (length bytes - length (after_token bytes)) bytes)
+rest_of_token_eq_with_value : (bytes : List ℕ) → rest_of_token bytes ≡ with_value (take (length bytes - length (after_token bytes)) bytes)
     (after_gap (after_token bytes))
-rest_parts [] = refl
-rest_parts (byte ∷ rest) = rest_by (is_token_byte byte) byte rest (rest_parts rest)
+rest_of_token_eq_with_value [] = refl
+rest_of_token_eq_with_value (byte ∷ rest) = rest_of_token_of_flag (is_token_byte byte) byte rest (rest_of_token_eq_with_value rest)
 
 pub trailer_parts_of_token : (byte : ℕ) (rest : List ℕ) → is_token_byte byte ≡ true
     → trailer_parts (byte ∷ rest) ≡ with_value (take (length (byte ∷ rest) - length (after_token rest)) (byte ∷ rest)) (after_gap (after_token rest))
 trailer_parts_of_token byte rest is =
     ap (λ (b : Bool). cond b (token_byte_step byte (rest_of_token rest)) None) is
-    ∙ ap (token_byte_step byte) (rest_parts rest) ∙ value_more byte (take (length rest - length (after_token rest)) rest)
+    ∙ ap (token_byte_step byte) (rest_of_token_eq_with_value rest) ∙ token_byte_step_with_value byte (take (length rest - length (after_token rest)) rest)
     (after_gap (after_token rest))
     ∙ sym (ap (λ (token : List ℕ). with_value token (after_gap (after_token rest)))
-    (take_more (length rest) (length (after_token rest)) byte rest (after_token_len_le rest)))
+    (take_succ_sub_cons (length rest) (length (after_token rest)) byte rest (after_token_len_le rest)))
 
 pub trailer_parts_none : (byte : ℕ) (rest : List ℕ) → is_token_byte byte ≡ false → trailer_parts (byte ∷ rest) ≡ None
 trailer_parts_none byte rest is = ap (λ (b : Bool). cond b (token_byte_step byte (rest_of_token rest)) None) is
 
 -- ---- continuation lines aren't trailer lines
 
-space_no_token : (byte : ℕ) → is_ascii_whitespace byte ≡ true → is_token_byte byte ≡ false
-space_no_token byte is = grind (arith, nat_tests)
+whitespace_is_no_token_byte : (byte : ℕ) → is_ascii_whitespace byte ≡ true → is_token_byte byte ≡ false
+whitespace_is_no_token_byte byte is = grind (arith, nat_tests)
 
-indented_none : (bytes : List ℕ) → begins_indented bytes ≡ true → trailer_parts bytes ≡ None
-indented_none [] is = refl
-indented_none (byte ∷ rest) is = trailer_parts_none byte rest (space_no_token byte is)
+no_trailer_parts_of_indented : (bytes : List ℕ) → begins_indented bytes ≡ true → trailer_parts bytes ≡ None
+no_trailer_parts_of_indented [] is = refl
+no_trailer_parts_of_indented (byte ∷ rest) is = trailer_parts_none byte rest (whitespace_is_no_token_byte byte is)
 
-second : (a b : Bool) → (not a && b) ≡ true → b ≡ true
-second true b is = cc is
-second false b is = is
+right_of_not_and : (a b : Bool) → (not a && b) ≡ true → b ≡ true
+right_of_not_and true b is = cc is
+right_of_not_and false b is = is
 
 pub parts_of_continuation_line : (line : List ℕ) → is_continuation_line line ≡ true → parts_of_line line ≡ None
-parts_of_continuation_line line is = indented_none (trimmed_line line) (second (is_blank line) (is_indented line) is)
+parts_of_continuation_line line is = no_trailer_parts_of_indented (trimmed_line line) (right_of_not_and (is_blank line) (is_indented line) is)
 
 -- ---- skipping a line that isn't a trailer line
 
@@ -161,32 +162,33 @@ with_folded_at_end items bytes none = ap (λ (ls : Lines). with_pieces items (ma
 abbrev spaced : Lines → List ℕ
 spaced pieces = flat_map (λ (it : List ℕ). (32 ∷ []) ++ it) pieces
 
-after_filled : (byte : ℕ) (items : List ℕ) (pieces : Lines) → with_pieces (byte ∷ items) pieces ≡ (byte ∷ items) ++ spaced (filter is_filled pieces)
-after_filled byte items [] = sym (append-nil (byte ∷ items))
-after_filled byte items ([] ∷ pieces) = after_filled byte items pieces
-after_filled byte items ((one ∷ piece) ∷ pieces) =
-    after_filled byte (items ++ 32 ∷ one ∷ piece) pieces ∙ append_assoc (byte ∷ items) (32 ∷ one ∷ piece) (spaced (filter is_filled pieces))
+with_pieces_of_filled_items : (byte : ℕ) (items : List ℕ) (pieces : Lines)
+    → with_pieces (byte ∷ items) pieces ≡ (byte ∷ items) ++ spaced (filter is_filled pieces)
+with_pieces_of_filled_items byte items [] = sym (append-nil (byte ∷ items))
+with_pieces_of_filled_items byte items ([] ∷ pieces) = with_pieces_of_filled_items byte items pieces
+with_pieces_of_filled_items byte items ((one ∷ piece) ∷ pieces) =
+    with_pieces_of_filled_items byte (items ++ 32 ∷ one ∷ piece) pieces ∙ append_assoc (byte ∷ items) (32 ∷ one ∷ piece) (spaced (filter is_filled pieces))
 
-from_nothing : (pieces : Lines) → with_pieces [] pieces ≡ joined (32 ∷ []) (filter is_filled pieces)
-from_nothing [] = refl
-from_nothing ([] ∷ pieces) = from_nothing pieces
-from_nothing ((byte ∷ piece) ∷ pieces) = after_filled byte piece pieces
+with_pieces_nil_is_joined : (pieces : Lines) → with_pieces [] pieces ≡ joined (32 ∷ []) (filter is_filled pieces)
+with_pieces_nil_is_joined [] = refl
+with_pieces_nil_is_joined ([] ∷ pieces) = with_pieces_nil_is_joined pieces
+with_pieces_nil_is_joined ((byte ∷ piece) ∷ pieces) = with_pieces_of_filled_items byte piece pieces
 
-unfolded_by : (first : List ℕ) (lines : Lines) → has_lines lines ≡ true → with_pieces (with_piece [] (trimmed first))
+with_pieces_eq_unfolded : (first : List ℕ) (lines : Lines) → has_lines lines ≡ true → with_pieces (with_piece [] (trimmed first))
     (map trimmed (map trimmed_line lines))
     ≡ unfolded first (map trimmed_line lines)
-unfolded_by first [] some = cc some
-unfolded_by first (line ∷ lines) some = from_nothing (map trimmed (first ∷ map trimmed_line (line ∷ lines)))
+with_pieces_eq_unfolded first [] some = cc some
+with_pieces_eq_unfolded first (line ∷ lines) some = with_pieces_nil_is_joined (map trimmed (first ∷ map trimmed_line (line ∷ lines)))
 
 pub with_folded_eq_unfolded : (first : List ℕ) (lines : Lines) → has_lines (take_while is_continuation_line lines) ≡ true
     → with_folded (with_piece [] (trimmed first)) lines ≡ unfolded first (map trimmed_line (take_while is_continuation_line lines))
-with_folded_eq_unfolded first lines some = unfolded_by first (take_while is_continuation_line lines) some
+with_folded_eq_unfolded first lines some = with_pieces_eq_unfolded first (take_while is_continuation_line lines) some
 
 -- the value of one line
-trimmed_by : (first : List ℕ) (lines : Lines) → has_lines lines ≡ false → unfolded first (map trimmed_line lines) ≡ trimmed first
-trimmed_by first [] none = refl
-trimmed_by first (line ∷ lines) none = cc none
+unfolded_of_no_lines : (first : List ℕ) (lines : Lines) → has_lines lines ≡ false → unfolded first (map trimmed_line lines) ≡ trimmed first
+unfolded_of_no_lines first [] none = refl
+unfolded_of_no_lines first (line ∷ lines) none = cc none
 
 pub unfolded_eq_trimmed : (first : List ℕ) (lines : Lines) → has_lines (take_while is_continuation_line lines) ≡ false
     → unfolded first (map trimmed_line (take_while is_continuation_line lines)) ≡ trimmed first
-unfolded_eq_trimmed first lines none = trimmed_by first (take_while is_continuation_line lines) none
+unfolded_eq_trimmed first lines none = unfolded_of_no_lines first (take_while is_continuation_line lines) none

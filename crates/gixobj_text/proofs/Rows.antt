@@ -10,47 +10,47 @@ use Rattle.gixobj_text.specs.Trailers.{TrailerView, trailers_of_bytes}
 abbrev only : List ℕ → List ℕ → List TrailerView
 only token value = (record { token = token; value = value }) ∷ []
 
-plain : trailers_of_bytes (codes "foo: bar\n") ≡ only (codes "foo") (codes "bar")
+trailer_of_plain_line : trailers_of_bytes (codes "foo: bar\n") ≡ only (codes "foo") (codes "bar")
 unfolding computing
-plain = refl
+trailer_of_plain_line = refl
 
-gap : trailers_of_bytes (codes "foo :  bar") ≡ only (codes "foo") (codes "bar")
+trailer_with_gap : trailers_of_bytes (codes "foo :  bar") ≡ only (codes "foo") (codes "bar")
 unfolding computing
-gap = refl
+trailer_with_gap = refl
 
-dashed : trailers_of_bytes (codes "hello-foo: bar there   \n") ≡ only (codes "hello-foo") (codes "bar there")
+trailer_with_dash : trailers_of_bytes (codes "hello-foo: bar there   \n") ≡ only (codes "hello-foo") (codes "bar there")
 unfolding computing
-dashed = refl
+trailer_with_dash = refl
 
-with_return : trailers_of_bytes (codes "foo: bar\r\n") ≡ only (codes "foo") (codes "bar")
+trailer_before_carriage_return : trailers_of_bytes (codes "foo: bar\r\n") ≡ only (codes "foo") (codes "bar")
 unfolding computing
-with_return = refl
+trailer_before_carriage_return = refl
 
-no_letter : trailers_of_bytes (240 ∷ 159 ∷ 164 ∷ 151 ∷ codes ": " ++ 240 ∷ 159 ∷ 142 ∷ 137 ∷ []) ≡ []
+no_trailer_of_non_ascii_token : trailers_of_bytes (240 ∷ 159 ∷ 164 ∷ 151 ∷ codes ": " ++ 240 ∷ 159 ∷ 142 ∷ 137 ∷ []) ≡ []
 unfolding computing
-no_letter = refl
+no_trailer_of_non_ascii_token = refl
 
-folded : trailers_of_bytes (codes "foo: bar\n continued\r\n  here") ≡ only (codes "foo") (codes "bar continued here")
+trailer_is_unfolded : trailers_of_bytes (codes "foo: bar\n continued\r\n  here") ≡ only (codes "foo") (codes "bar continued here")
 unfolding computing
-folded = refl
+trailer_is_unfolded = refl
 
-empty_first : trailers_of_bytes (codes "foo:\n bar\n") ≡ only (codes "foo") (codes "bar")
+trailer_with_empty_first_line : trailers_of_bytes (codes "foo:\n bar\n") ≡ only (codes "foo") (codes "bar")
 unfolding computing
-empty_first = refl
+trailer_with_empty_first_line = refl
 
-two_tokens : summary_of (codes "a \n b\n\nc") ≡ codes "a  b"
+summary_joins_two_lines : summary_of (codes "a \n b\n\nc") ≡ codes "a  b"
 unfolding computing
-two_tokens = refl
+summary_joins_two_lines = refl
 
-after_blank : summary_of (codes "\n\na") ≡ codes "a"
+summary_skips_empty_lines : summary_of (codes "\n\na") ≡ codes "a"
 unfolding computing
-after_blank = refl
+summary_skips_empty_lines = refl
 
 -- one trailer and three other lines
-quarter : trailers_in (lines_of (codes "Signed-off-by: A <a@b>\nnot a trailer\nnot a trailer\nnot a trailer\n")) ≡ 1
+one_trailer_in_four_lines : trailers_in (lines_of (codes "Signed-off-by: A <a@b>\nnot a trailer\nnot a trailer\nnot a trailer\n")) ≡ 1
 unfolding computing
-quarter = refl
+one_trailer_in_four_lines = refl
 
-quarter_others : count_others false (lines_of (codes "Signed-off-by: A <a@b>\nnot a trailer\nnot a trailer\nnot a trailer\n")) ≡ 3
+three_others_in_four_lines : count_others false (lines_of (codes "Signed-off-by: A <a@b>\nnot a trailer\nnot a trailer\nnot a trailer\n")) ≡ 3
 unfolding computing
-quarter_others = refl
+three_others_in_four_lines = refl

@@ -18,26 +18,26 @@ use Rattle.gixobj_text.proofs.OneLine.{Blank, Filled, Lines, all_snoc, is_last_r
 
 -- ---- one more line
 
-place_more : (lines : Lines) (line : List ℕ) (place : ℕ) → place ≡ length (concat lines) → place + length line ≡ length (concat (lines ++ line ∷ []))
-place_more lines line place is =
+concat_len_snoc : (lines : Lines) (line : List ℕ) (place : ℕ) → place ≡ length (concat lines) → place + length line ≡ length (concat (lines ++ line ∷ []))
+concat_len_snoc lines line place is =
     let joined : length (concat (lines ++ line ∷ [])) ≡ length (concat lines ++ (line ++ [])) = ap length (concat-append lines (line ∷ [])) in
     let first : length (concat lines ++ (line ++ [])) ≡ length (concat lines) + length (line ++ []) = length-append (concat lines) (line ++ []) in
     let second : length (line ++ []) ≡ length line + 0 = length-append line [] in
     omega arith
 
 -- a block after a blank line starts after the content of the line before it
-starts_more : (lines : Lines) (blank : List ℕ) (end : ℕ) → EndsAfter lines end → StartsAfter (lines ++ blank ∷ []) end
-starts_more lines blank end (inl (none, is)) = inr (inl (blank, ap (λ (ls : Lines). ls ++ blank ∷ []) none, is))
-starts_more lines blank end (inr (prefix, line, joined, is)) =
+starts_after_snoc : (lines : Lines) (blank : List ℕ) (end : ℕ) → EndsAfter lines end → StartsAfter (lines ++ blank ∷ []) end
+starts_after_snoc lines blank end (inl (none, is)) = inr (inl (blank, ap (λ (ls : Lines). ls ++ blank ∷ []) none, is))
+starts_after_snoc lines blank end (inr (prefix, line, joined, is)) =
     inr (inr (prefix, line, blank, ap (λ (ls : Lines). ls ++ blank ∷ []) joined ∙ append_assoc prefix (line ∷ []) (blank ∷ []), is))
 
-ends_more : (lines : Lines) (line : List ℕ) (place end : ℕ) → place ≡ length (concat lines) → end ≡ place + length (trimmed_line line)
+ends_after_snoc : (lines : Lines) (line : List ℕ) (place end : ℕ) → place ≡ length (concat lines) → end ≡ place + length (trimmed_line line)
     → EndsAfter (lines ++ line ∷ []) end
-ends_more lines line place end at is = inr (lines, line, refl, is ∙ ap (λ (n : ℕ). n + length (trimmed_line line)) at)
+ends_after_snoc lines line place end at is = inr (lines, line, refl, is ∙ ap (λ (n : ℕ). n + length (trimmed_line line)) at)
 
-run_after_blank : (lines : Lines) (line : List ℕ) (old new : Scan) → Blank line → HasRun lines old → new.going ≡ false → new.start ≡ old.start
+has_run_snoc_blank : (lines : Lines) (line : List ℕ) (old new : Scan) → Blank line → HasRun lines old → new.going ≡ false → new.start ≡ old.start
     → new.run ≡ old.run → HasRun (lines ++ line ∷ []) new
-run_after_blank lines line old new blank it going start run = record {
+has_run_snoc_blank lines line old new blank it going start run = record {
   before = it.before;
   run = it.run;
   after = it.after ++ line ∷ [];
@@ -53,19 +53,19 @@ pub scanned_snoc_blank : (lines : Lines) (line : List ℕ) (old new : Scan) → 
     → new.some ≡ old.some → new.run ≡ old.run
     → Scanned (lines ++ line ∷ []) new
 scanned_snoc_blank lines line old new it blank place last next start going some run = record {
-  place = place ∙ place_more lines line old.place it.place;
-  last = ends_more lines line old.place new.last it.place last;
+  place = place ∙ concat_len_snoc lines line old.place it.place;
+  last = ends_after_snoc lines line old.place new.last it.place last;
   next = λ is. (
-    subst (λ (n : ℕ). StartsAfter (lines ++ line ∷ []) n) (sym next) (starts_more lines line old.last it.last),
+    subst (λ (n : ℕ). StartsAfter (lines ++ line ∷ []) n) (sym next) (starts_after_snoc lines line old.last it.last),
     ends_blank_snoc lines line blank,
   );
   none = λ is. (all_snoc Blank lines line (it.none (sym some ∙ is)).0 blank, going);
-  some = λ is. run_after_blank lines line old new blank (it.some (sym some ∙ is)) going start run;
+  some = λ is. has_run_snoc_blank lines line old new blank (it.some (sym some ∙ is)) going start run;
 }
 
-run_goes_on : (lines : Lines) (line : List ℕ) (old new : Scan) → Filled line → (it : HasRun lines old) → it.after ≡ [] → new.start ≡ old.start
+has_run_snoc_filled : (lines : Lines) (line : List ℕ) (old new : Scan) → Filled line → (it : HasRun lines old) → it.after ≡ [] → new.start ≡ old.start
     → Counts (it.run ++ line ∷ []) new.run → HasRun (lines ++ line ∷ []) new
-run_goes_on lines line old new filled it none start counts = record {
+has_run_snoc_filled lines line old new filled it none start counts = record {
   before = it.before;
   run = it.run ++ line ∷ [];
   after = [];
@@ -75,9 +75,9 @@ run_goes_on lines line old new filled it none start counts = record {
   counts = counts;
 }
 
-is_some : (some going : Bool) → (some ≡ false → going ≡ false) → going ≡ true → some ≡ true
-is_some true going none is = refl
-is_some false going none is = cc (none refl, is)
+some_of_going : (some going : Bool) → (some ≡ false → going ≡ false) → going ≡ true → some ≡ true
+some_of_going true going none is = refl
+some_of_going false going none is = cc (none refl, is)
 
 pub scanned_snoc_filled : (lines : Lines) (line : List ℕ) (old new : Scan) → Scanned lines old → Filled line → old.going ≡ true
     → new.place ≡ old.place + length line → new.last ≡ old.place + length (trimmed_line line) → new.start ≡ old.start → new.going ≡ true
@@ -85,18 +85,18 @@ pub scanned_snoc_filled : (lines : Lines) (line : List ℕ) (old new : Scan) →
     → ((run : Lines) → Counts run old.run → Counts (run ++ line ∷ []) new.run)
     → Scanned (lines ++ line ∷ []) new
 scanned_snoc_filled lines line old new it filled goes place last start going some counts =
-    let was : HasRun lines old = it.some (is_some old.some old.going (λ none. (it.none none).1) goes) in
+    let was : HasRun lines old = it.some (some_of_going old.some old.going (λ none. (it.none none).1) goes) in
     record {
-      place = place ∙ place_more lines line old.place it.place;
-      last = ends_more lines line old.place new.last it.place last;
+      place = place ∙ concat_len_snoc lines line old.place it.place;
+      last = ends_after_snoc lines line old.place new.last it.place last;
       next = λ is. cc (going, is);
       none = λ is. cc (some, is);
-      some = λ is. run_goes_on lines line old new filled was (was.going goes) start (counts was.run was.counts);
+      some = λ is. has_run_snoc_filled lines line old new filled was (was.going goes) start (counts was.run was.counts);
     }
 
-run_begins : (lines : Lines) (line : List ℕ) (old new : Scan) → Filled line → StartsAfter lines old.next → EndsBlank lines → new.start ≡ old.next
+has_run_snoc_first : (lines : Lines) (line : List ℕ) (old new : Scan) → Filled line → StartsAfter lines old.next → EndsBlank lines → new.start ≡ old.next
     → Counts (line ∷ []) new.run → HasRun (lines ++ line ∷ []) new
-run_begins lines line old new filled starts ends start counts = record {
+has_run_snoc_first lines line old new filled starts ends start counts = record {
   before = lines;
   run = line ∷ [];
   after = [];
@@ -112,11 +112,11 @@ pub scanned_snoc_first : (lines : Lines) (line : List ℕ) (old new : Scan) → 
     → Counts (line ∷ []) new.run
     → Scanned (lines ++ line ∷ []) new
 scanned_snoc_first lines line old new it filled goes place last start going some counts = record {
-  place = place ∙ place_more lines line old.place it.place;
-  last = ends_more lines line old.place new.last it.place last;
+  place = place ∙ concat_len_snoc lines line old.place it.place;
+  last = ends_after_snoc lines line old.place new.last it.place last;
   next = λ is. cc (going, is);
   none = λ is. cc (some, is);
-  some = λ is. run_begins lines line old new filled (it.next goes).0 (it.next goes).1 start counts;
+  some = λ is. has_run_snoc_first lines line old new filled (it.next goes).0 (it.next goes).1 start counts;
 }
 
 -- ---- the scan
@@ -159,18 +159,18 @@ scanned_of_walked body rest it walked none =
 abbrev SaysBlock : Run → Type 0
 SaysBlock it = ((0 < it.trailers) × (it.others ≡ 0)) ⊎ (IsTrue it.recognised × (it.others ≤ 3 * it.trailers))
 
-to_block : (run : Lines) (it : Run) → Counts run it → SaysBlock it → IsTrailerBlock run
-to_block run it counts (inl (some, none)) = inl (subst (λ (n : ℕ). 0 < n) counts.trailers some, sym counts.others ∙ none)
-to_block run it counts (inr (is, few)) =
+trailer_block_of_counts : (run : Lines) (it : Run) → Counts run it → SaysBlock it → IsTrailerBlock run
+trailer_block_of_counts run it counts (inl (some, none)) = inl (subst (λ (n : ℕ). 0 < n) counts.trailers some, sym counts.others ∙ none)
+trailer_block_of_counts run it counts (inr (is, few)) =
     inr (
       sym counts.recognised ∙ is,
       subst (λ (n : ℕ). n ≤ 3 * trailers_in run) counts.others
           (subst (λ (n : ℕ). it.others ≤ 3 * n) counts.trailers few),
     )
 
-from_block : (run : Lines) (it : Run) → Counts run it → IsTrailerBlock run → SaysBlock it
-from_block run it counts (inl (some, none)) = inl (subst (λ (n : ℕ). 0 < n) (sym counts.trailers) some, counts.others ∙ none)
-from_block run it counts (inr (is, few)) =
+says_block_of_trailer_block : (run : Lines) (it : Run) → Counts run it → IsTrailerBlock run → SaysBlock it
+says_block_of_trailer_block run it counts (inl (some, none)) = inl (subst (λ (n : ℕ). 0 < n) (sym counts.trailers) some, counts.others ∙ none)
+says_block_of_trailer_block run it counts (inr (is, few)) =
     inr (
       counts.recognised ∙ is,
       subst (λ (n : ℕ). n ≤ 3 * it.trailers) (sym counts.others)
@@ -186,13 +186,13 @@ is_block_start_at_run body it is scanned some says so =
       run = has.run;
       after = has.after;
       last = has.last;
-      block = to_block has.run it.run has.counts (says.0 so);
+      block = trailer_block_of_counts has.run it.run has.counts (says.0 so);
       starts = has.starts;
     })
 
 -- lines have at most one last run
-same_run : (lines before run after before2 run2 after2 : Lines) → IsLastRun lines before run after → IsLastRun lines before2 run2 after2 → run2 ≡ run
-same_run lines before run after before2 run2 after2 one other =
+last_run_unique : (lines before run after before2 run2 after2 : Lines) → IsLastRun lines before run after → IsLastRun lines before2 run2 after2 → run2 ≡ run
+last_run_unique lines before run after before2 run2 after2 one other =
     ap (λ (it : Parts). it.run) (sym (parts_of_last_run lines before2 run2 after2 other) ∙ parts_of_last_run lines before run after one)
 
 pub is_block_start_at_end : (body : List ℕ) (it : Scan) (is : Bool) → Scanned (lines_of body) it → it.some ≡ true → (IsTrue is ↔ SaysBlock it.run)
@@ -202,26 +202,26 @@ is_block_start_at_end body it is scanned some says not =
     let has : HasRun (lines_of body) it = scanned.some some in
     inr (
       λ before run after last block.
-          let same : run ≡ has.run = same_run (lines_of body) has.before has.run has.after before run after has.last last in
-          let so : is ≡ true = says.1 (from_block has.run it.run has.counts (subst IsTrailerBlock same block)) in
+          let same : run ≡ has.run = last_run_unique (lines_of body) has.before has.run has.after before run after has.last last in
+          let so : is ≡ true = says.1 (says_block_of_trailer_block has.run it.run has.counts (subst IsTrailerBlock same block)) in
           cc (so, not),
       refl,
     )
 
 -- blank lines have no run
-in_blank : (before run after : Lines) → run ≢ [] → All Filled run → All Blank (before ++ run ++ after) → ⊥
-in_blank before [] after some filled blank = some refl
-in_blank [] (line ∷ run) after some filled blank =
+no_filled_run_in_blank_lines : (before run after : Lines) → run ≢ [] → All Filled run → All Blank (before ++ run ++ after) → ⊥
+no_filled_run_in_blank_lines before [] after some filled blank = some refl
+no_filled_run_in_blank_lines [] (line ∷ run) after some filled blank =
     let is : is_blank line ≡ true = All-head Blank line (run ++ after) blank in
     let not : is_blank line ≡ false = All-head Filled line run filled in
     cc (is, not)
-in_blank (one ∷ before) (line ∷ run) after some filled blank = in_blank before (line ∷ run) after some filled
+no_filled_run_in_blank_lines (one ∷ before) (line ∷ run) after some filled blank = no_filled_run_in_blank_lines before (line ∷ run) after some filled
     (All-tail Blank one (before ++ (line ∷ run) ++ after) blank)
 
 pub is_block_start_without_run : (body : List ℕ) (it : Scan) → Scanned (lines_of body) it → it.some ≡ false → IsTrailerBlockStart body (length body)
 is_block_start_without_run body it scanned none =
     inr (
-      λ before run after last block. in_blank before run after last.some last.none_blank
+      λ before run after last block. no_filled_run_in_blank_lines before run after last.some last.none_blank
           (subst (λ (ls : Lines). All Blank ls) last.joined (scanned.none none).0),
       refl,
     )

@@ -10,23 +10,25 @@ use Rattle.gixobj_text.specs.TrailerBlocks.{IsTrailerBlockStart, StartsAfter}
 abbrev Lines : Type 0
 Lines = List (List ℕ)
 
-one_less : (b : Bool) (byte : ℕ) → length (cond b [] (byte ∷ [])) ≤ 1
-one_less true byte = omega arith
-one_less false byte = omega arith
+cond_singleton_len_le_one : (b : Bool) (byte : ℕ) → length (cond b [] (byte ∷ [])) ≤ 1
+cond_singleton_len_le_one true byte = omega arith
+cond_singleton_len_le_one false byte = omega arith
 
-less : (last : ℕ) (bytes : List ℕ) → length (without_last_byte last bytes) ≤ length bytes
-less last [] = omega arith
-less last (byte ∷ []) = one_less (byte == last) byte
-less last (byte ∷ next ∷ rest) = let later : length (without_last_byte last (next ∷ rest)) ≤ length (next ∷ rest) = less last (next ∷ rest) in omega arith
+without_last_byte_len_le : (last : ℕ) (bytes : List ℕ) → length (without_last_byte last bytes) ≤ length bytes
+without_last_byte_len_le last [] = omega arith
+without_last_byte_len_le last (byte ∷ []) = cond_singleton_len_le_one (byte == last) byte
+without_last_byte_len_le last (byte ∷ next ∷ rest) = let later : length (without_last_byte last (next ∷ rest)) ≤ length (next ∷ rest) =
+    without_last_byte_len_le last (next ∷ rest) in omega arith
 
-bytes_less : (line : List ℕ) → length (trimmed_line line) ≤ length line
-bytes_less line =
-    let first : length (without_last_byte 10 line) ≤ length line = less 10 line in
-    let second : length (without_last_byte 13 (without_last_byte 10 line)) ≤ length (without_last_byte 10 line) = less 13 (without_last_byte 10 line) in
+trimmed_line_len_le : (line : List ℕ) → length (trimmed_line line) ≤ length line
+trimmed_line_len_le line =
+    let first : length (without_last_byte 10 line) ≤ length line = without_last_byte_len_le 10 line in
+    let second : length (without_last_byte 13 (without_last_byte 10 line)) ≤ length (without_last_byte 10 line) =
+    without_last_byte_len_le 13 (without_last_byte 10 line) in
     omega arith
 
-two_lines : (prefix : Lines) (line blank : List ℕ) → length (concat prefix) + length line ≤ length (concat (prefix ++ line ∷ blank ∷ []))
-two_lines prefix line blank =
+prefix_and_line_len_le_concat : (prefix : Lines) (line blank : List ℕ) → length (concat prefix) + length line ≤ length (concat (prefix ++ line ∷ blank ∷ []))
+prefix_and_line_len_le_concat prefix line blank =
     let joined : length (concat (prefix ++ line ∷ blank ∷ [])) ≡ length (concat prefix ++ (line ++ (blank ++ []))) =
     ap length (concat-append prefix (line ∷ blank ∷ [])) in
     let first : length (concat prefix ++ (line ++ (blank ++ []))) ≡ length (concat prefix) + length (line ++ (blank ++ [])) =
@@ -34,17 +36,17 @@ two_lines prefix line blank =
     let second : length (line ++ (blank ++ [])) ≡ length line + length (blank ++ []) = length-append line (blank ++ []) in
     omega arith
 
-before_within : (before : Lines) (start : ℕ) → StartsAfter before start → start ≤ length (concat before)
-before_within before start (inl (none, is)) = omega arith
-before_within before start (inr (inl (blank, one, is))) = omega arith
-before_within before start (inr (inr (prefix, line, blank, joined, is))) =
-    let fits : length (trimmed_line line) ≤ length line = bytes_less line in
-    let all : length (concat prefix) + length line ≤ length (concat (prefix ++ line ∷ blank ∷ [])) = two_lines prefix line blank in
+starts_after_le_concat_len : (before : Lines) (start : ℕ) → StartsAfter before start → start ≤ length (concat before)
+starts_after_le_concat_len before start (inl (none, is)) = omega arith
+starts_after_le_concat_len before start (inr (inl (blank, one, is))) = omega arith
+starts_after_le_concat_len before start (inr (inr (prefix, line, blank, joined, is))) =
+    let fits : length (trimmed_line line) ≤ length line = trimmed_line_len_le line in
+    let all : length (concat prefix) + length line ≤ length (concat (prefix ++ line ∷ blank ∷ [])) = prefix_and_line_len_le_concat prefix line blank in
     let same : length (concat before) ≡ length (concat (prefix ++ line ∷ blank ∷ [])) = ap (λ (ls : Lines). length (concat ls)) joined in
     omega arith
 
-prefix_within : (lines before following : Lines) → lines ≡ before ++ following → length (concat before) ≤ length (concat lines)
-prefix_within lines before following joined =
+concat_prefix_len_le : (lines before following : Lines) → lines ≡ before ++ following → length (concat before) ≤ length (concat lines)
+concat_prefix_len_le lines before following joined =
     let is : length (concat lines) ≡ length (concat before ++ concat following) = ap (λ (ls : Lines). length (concat ls)) joined
     ∙ ap length (concat-append before following) in
     let sum : length (concat before ++ concat following) ≡ length (concat before) + length (concat following) =
@@ -53,11 +55,11 @@ prefix_within lines before following joined =
 
 pub block_start_le_len : (body : List ℕ) (start : ℕ) → IsTrailerBlockStart body start → start ≤ length body
 block_start_le_len body start (inl block) =
-    let first : start ≤ length (concat block.before) = before_within block.before start block.starts in
+    let first : start ≤ length (concat block.before) = starts_after_le_concat_len block.before start block.starts in
     let one : length (concat (block.before ++ block.run)) ≤ length (concat (lines_of body)) =
-    prefix_within (lines_of body) (block.before ++ block.run) block.after block.last.joined in
+    concat_prefix_len_le (lines_of body) (block.before ++ block.run) block.after block.last.joined in
     let two : length (concat block.before) ≤ length (concat (block.before ++ block.run)) =
-    prefix_within (block.before ++ block.run) block.before block.run refl in
+    concat_prefix_len_le (block.before ++ block.run) block.before block.run refl in
     let all : length (concat (lines_of body)) ≡ length body = ap length (concat-lines_of body) in
     omega arith
 block_start_le_len body start (inr (none, is)) = omega arith

@@ -21,9 +21,9 @@ Lines = List (List ℕ)
 pub is_past_refl : (P : List ℕ → Type 0) (content : List ℕ) → IsPast P content content
 is_past_refl P content = record { consumed = []; joined = refl; lines = refl; all = All-nil P }
 
-past_more : (P : List ℕ → Type 0) (entire content line rest : List ℕ) → IsPast P entire content → IsFirstLine content line rest → P line
+is_past_snoc : (P : List ℕ → Type 0) (entire content line rest : List ℕ) → IsPast P entire content → IsFirstLine content line rest → P line
     → IsPast P entire rest
-past_more P entire content line rest it first is = record {
+is_past_snoc P entire content line rest it first is = record {
   consumed = it.consumed ++ line ∷ [];
   joined = it.joined ∙ ap (λ (bytes : List ℕ). concat it.consumed ++ bytes) first.joined ∙ sym (append_assoc (concat it.consumed) line rest)
       ∙ ap (λ (bytes : List ℕ). bytes ++ rest) (ap (λ (bytes : List ℕ). concat it.consumed ++ bytes) (sym (append-nil line))
@@ -35,24 +35,24 @@ past_more P entire content line rest it first is = record {
 pub is_past_non_trailer_step : (entire content line rest : List ℕ) → IsPast NoTrailer entire content → IsFirstLine content line rest
     → is_trailer_line line ≡ false
     → IsPast NoTrailer entire rest
-is_past_non_trailer_step entire content line rest it first is = past_more NoTrailer entire content line rest it first is
+is_past_non_trailer_step entire content line rest it first is = is_past_snoc NoTrailer entire content line rest it first is
 
 pub is_past_trailer_step : (entire content line rest : List ℕ) → IsPast ContinuesTrailer entire content → IsFirstLine content line rest
     → (is_trailer_line line || is_continuation_line line) ≡ true → IsPast ContinuesTrailer entire rest
-is_past_trailer_step entire content line rest it first is = past_more ContinuesTrailer entire content line rest it first is
+is_past_trailer_step entire content line rest it first is = is_past_snoc ContinuesTrailer entire content line rest it first is
 
-lines_none : (content : List ℕ) → content ≡ [] → lines_of content ≡ []
-lines_none content nothing = ap lines_of nothing ∙ lines-nil
+lines_of_nil : (content : List ℕ) → content ≡ [] → lines_of content ≡ []
+lines_of_nil content nothing = ap lines_of nothing ∙ lines-nil
 
 pub is_at_trailer_at_end : (entire content : List ℕ) → IsPast NoTrailer entire content → content ≡ [] → IsAtTrailer entire content
-is_at_trailer_at_end entire content it nothing = record { past = it; begins = subst BeginsTrailer (sym (lines_none content nothing)) tt }
+is_at_trailer_at_end entire content it nothing = record { past = it; begins = subst BeginsTrailer (sym (lines_of_nil content nothing)) tt }
 
 pub is_at_trailer_at_line : (entire content line rest : List ℕ) → IsPast NoTrailer entire content → IsFirstLine content line rest → is_trailer_line line ≡ true
     → IsAtTrailer entire content
 is_at_trailer_at_line entire content line rest it first is = record { past = it; begins = subst BeginsTrailer (sym first.lines) is }
 
 pub is_after_trailers_at_end : (entire content : List ℕ) → IsPast ContinuesTrailer entire content → content ≡ [] → IsAfterTrailers entire content
-is_after_trailers_at_end entire content it nothing = record { past = it; ends = subst EndsTrailers (sym (lines_none content nothing)) tt }
+is_after_trailers_at_end entire content it nothing = record { past = it; ends = subst EndsTrailers (sym (lines_of_nil content nothing)) tt }
 
 pub is_after_trailers_at_line : (entire content line rest : List ℕ) → IsPast ContinuesTrailer entire content → IsFirstLine content line rest
     → (is_trailer_line line || is_continuation_line line) ≡ false → IsAfterTrailers entire content
@@ -60,32 +60,32 @@ is_after_trailers_at_line entire content line rest it first is = record { past =
 
 -- ---- a block
 
-are_trailers : (taken rest : Lines) → BeginsTrailer (taken ++ rest) → All ContinuesTrailer taken → AreTrailers taken
-are_trailers [] rest begins all = tt
-are_trailers (line ∷ taken) rest begins all = (begins, All-tail ContinuesTrailer line taken all)
+are_trailers_of_all_continue : (taken rest : Lines) → BeginsTrailer (taken ++ rest) → All ContinuesTrailer taken → AreTrailers taken
+are_trailers_of_all_continue [] rest begins all = tt
+are_trailers_of_all_continue (line ∷ taken) rest begins all = (begins, All-tail ContinuesTrailer line taken all)
 
-none_after_none : (rest : Lines) → BeginsTrailer rest → EndsTrailers rest → rest ≡ []
-none_after_none [] begins ends = refl
-none_after_none (line ∷ rest) begins ends = by_tests (is_trailer_line line) (is_continuation_line line) begins ends
+nil_of_begins_and_ends : (rest : Lines) → BeginsTrailer rest → EndsTrailers rest → rest ≡ []
+nil_of_begins_and_ends [] begins ends = refl
+nil_of_begins_and_ends (line ∷ rest) begins ends = by_tests (is_trailer_line line) (is_continuation_line line) begins ends
   where
     by_tests : (a b : Bool) → a ≡ true → (a || b) ≡ false → line ∷ rest ≡ []
     by_tests true b is not = cc not
     by_tests false b is not = cc is
 
-none_taken : (taken rest : Lines) → BeginsTrailer (taken ++ rest) → EndsTrailers rest → taken ≡ [] → rest ≡ []
-none_taken [] rest begins ends is = none_after_none rest begins ends
-none_taken (line ∷ taken) rest begins ends is = cc is
+rest_nil_of_no_trailers : (taken rest : Lines) → BeginsTrailer (taken ++ rest) → EndsTrailers rest → taken ≡ [] → rest ≡ []
+rest_nil_of_no_trailers [] rest begins ends is = nil_of_begins_and_ends rest begins ends
+rest_nil_of_no_trailers (line ∷ taken) rest begins ends is = cc is
 
-is_block : (from trailers rest : List ℕ) (at : IsAtTrailer from trailers) (after : IsAfterTrailers trailers rest)
+is_block_of_steps : (from trailers rest : List ℕ) (at : IsAtTrailer from trailers) (after : IsAfterTrailers trailers rest)
     → IsBlockOfLines (lines_of from) at.past.consumed after.past.consumed (lines_of rest)
-is_block from trailers rest at after =
+is_block_of_steps from trailers rest at after =
     let begins : BeginsTrailer (after.past.consumed ++ lines_of rest) = subst BeginsTrailer after.past.lines at.begins in
     record {
       split = at.past.lines ∙ ap (λ (ls : Lines). at.past.consumed ++ ls) after.past.lines
           ∙ sym (append_assoc at.past.consumed after.past.consumed (lines_of rest));
       message = at.past.all;
-      trailers = are_trailers after.past.consumed (lines_of rest) begins after.past.all;
-      none = none_taken after.past.consumed (lines_of rest) begins after.ends;
+      trailers = are_trailers_of_all_continue after.past.consumed (lines_of rest) begins after.past.all;
+      none = rest_nil_of_no_trailers after.past.consumed (lines_of rest) begins after.ends;
       ends = after.ends;
     }
 
@@ -103,27 +103,27 @@ is_first_block_of_steps start content from trailers rest message taken some is a
       skipped = at.past.consumed;
       consumed = after.past.consumed;
       lines = subst (λ (bytes : List ℕ). IsBlockOfLines (lines_of bytes) at.past.consumed after.past.consumed (lines_of rest)) is
-          (is_block from trailers rest at after);
+          (is_block_of_steps from trailers rest at after);
       message = first ∙ title_is_prefix (take start content ++ concat at.past.consumed) trailers content joined;
       trailers = second ∙ title_is_prefix (concat after.past.consumed) rest trailers after.past.joined;
     }
 
-not_empty : (line : List ℕ) → is_trailer_line line ≡ true → 0 < length line
-not_empty [] is = cc is
-not_empty (byte ∷ line) is = omega arith
+trailer_line_len_positive : (line : List ℕ) → is_trailer_line line ≡ true → 0 < length line
+trailer_line_len_positive [] is = cc is
+trailer_line_len_positive (byte ∷ line) is = omega arith
 
-some_content : (content : List ℕ) → content ≢ [] → 0 < length content
-some_content [] some = absurd (some refl)
-some_content (byte ∷ content) some = omega arith
+len_positive_of_ne_nil : (content : List ℕ) → content ≢ [] → 0 < length content
+len_positive_of_ne_nil [] some = absurd (some refl)
+len_positive_of_ne_nil (byte ∷ content) some = omega arith
 
-taken_shorter : (taken : Lines) (trailers rest : List ℕ) (n : ℕ) → 0 < n → length trailers ≤ n → trailers ≡ concat taken ++ rest
+rest_len_lt_of_trailers : (taken : Lines) (trailers rest : List ℕ) (n : ℕ) → 0 < n → length trailers ≤ n → trailers ≡ concat taken ++ rest
     → BeginsTrailer (taken ++ lines_of rest) → EndsTrailers (lines_of rest) → length rest < n
-taken_shorter [] trailers rest n some few joined begins ends =
-    let nothing : rest ≡ [] = sym (concat-lines_of rest) ∙ ap concat (none_after_none (lines_of rest) begins ends) in
+rest_len_lt_of_trailers [] trailers rest n some few joined begins ends =
+    let nothing : rest ≡ [] = sym (concat-lines_of rest) ∙ ap concat (nil_of_begins_and_ends (lines_of rest) begins ends) in
     let is : length rest ≡ 0 = ap length nothing in
     omega arith
-taken_shorter (line ∷ taken) trailers rest n some few joined begins ends =
-    let one : 0 < length line = not_empty line begins in
+rest_len_lt_of_trailers (line ∷ taken) trailers rest n some few joined begins ends =
+    let one : 0 < length line = trailer_line_len_positive line begins in
     let all : length trailers ≡ length ((line ++ concat taken) ++ rest) = ap length joined in
     let sum : length ((line ++ concat taken) ++ rest) ≡ length (line ++ concat taken) + length rest = length-append (line ++ concat taken) rest in
     let inner : length (line ++ concat taken) ≡ length line + length (concat taken) = length-append line (concat taken) in
@@ -132,11 +132,11 @@ taken_shorter (line ∷ taken) trailers rest n some few joined begins ends =
 pub block_rest_len_lt : (start : ℕ) (content from trailers rest : List ℕ) → content ≢ [] → from ≡ drop start content → IsAtTrailer from trailers
     → IsAfterTrailers trailers rest → length rest < length content
 block_rest_len_lt start content from trailers rest some is at after =
-    let some_bytes : 0 < length content = some_content content some in
+    let some_bytes : 0 < length content = len_positive_of_ne_nil content some in
     let drops : length from ≡ length content - start = ap length is ∙ length-drop start content in
     let all : length from ≡ length (concat at.past.consumed) + length trailers = ap length at.past.joined
     ∙ length-append (concat at.past.consumed) trailers in
-    taken_shorter after.past.consumed trailers rest (length content) some_bytes (omega arith) after.past.joined
+    rest_len_lt_of_trailers after.past.consumed trailers rest (length content) some_bytes (omega arith) after.past.joined
     (subst BeginsTrailer after.past.lines at.begins)
     after.ends
 

@@ -17,26 +17,26 @@ Pieces = List (List ℕ)
 
 -- ---- pieces
 
-pieces_at : (content : List ℕ) (place : ℕ) → place < length content → slice_index content place ≡ 10
+pieces_of_first_newline : (content : List ℕ) (place : ℕ) → place < length content → slice_index content place ≡ 10
     → ((k : ℕ) → k < place → slice_index content k ≢ 10)
     → pieces_of content ≡ take place content ∷ pieces_of (drop (suc place) content)
-pieces_at [] place below is before = absurd (omega arith)
-pieces_at (byte ∷ rest) zero below is before = cond-true _ _ _ (eq-eqb byte 10 is)
-pieces_at (byte ∷ rest) (suc place) below is before =
+pieces_of_first_newline [] place below is before = absurd (omega arith)
+pieces_of_first_newline (byte ∷ rest) zero below is before = cond-true _ _ _ (eq-eqb byte 10 is)
+pieces_of_first_newline (byte ∷ rest) (suc place) below is before =
     let other : byte ≢ 10 = before 0 (omega arith) in
     cond-false _ _ _ (ne_eqb byte 10 other) ∙ ap (prepended_to_first byte)
-    (pieces_at rest place (omega arith) is (λ k under. before (suc k) (omega arith)))
+    (pieces_of_first_newline rest place (omega arith) is (λ k under. before (suc k) (omega arith)))
 
-pieces_none : (content : List ℕ) → ((k : ℕ) → k < length content → slice_index content k ≢ 10) → pieces_of content ≡ content ∷ []
-pieces_none [] none = refl
-pieces_none (byte ∷ rest) none =
+pieces_of_no_newline : (content : List ℕ) → ((k : ℕ) → k < length content → slice_index content k ≢ 10) → pieces_of content ≡ content ∷ []
+pieces_of_no_newline [] none = refl
+pieces_of_no_newline (byte ∷ rest) none =
     let other : byte ≢ 10 = none 0 (omega arith) in
-    cond-false _ _ _ (ne_eqb byte 10 other) ∙ ap (prepended_to_first byte) (pieces_none rest (λ k under. none (suc k) (omega arith)))
+    cond-false _ _ _ (ne_eqb byte 10 other) ∙ ap (prepended_to_first byte) (pieces_of_no_newline rest (λ k under. none (suc k) (omega arith)))
 
 pub pieces_of_split : (content piece rest : List ℕ) (place : ℕ) → IsFirstByte (is_byte 10) content (Some place) → piece ≡ take place content
     → rest ≡ drop (place + 1) content → pieces_of content ≡ piece ∷ pieces_of rest
 pieces_of_split content piece rest place (none, here) first after =
-    pieces_at content place none.high (eqb-true (slice_index content place) 10 here)
+    pieces_of_first_newline content place none.high (eqb-true (slice_index content place) 10 here)
     (λ k below is. none.before k (omega arith) below (eq-eqb (slice_index content k) 10 is))
     ∙ ap (λ (p : List ℕ). p ∷ pieces_of (drop (suc place) content)) (sym first)
     ∙ ap (λ (r : List ℕ). piece ∷ pieces_of r) (ap (λ (n : ℕ). drop n content) (let is : suc place ≡ place + 1 = omega arith in is) ∙ sym after)
@@ -49,25 +49,25 @@ split_rest_len_lt content rest place (none, here) is =
     omega arith
 
 pub pieces_of_newline_free : (content : List ℕ) → IsFirstByte (is_byte 10) content None → pieces_of content ≡ content ∷ []
-pieces_of_newline_free content none = pieces_none content (λ k below is. none k (omega arith) below (eq-eqb (slice_index content k) 10 is))
+pieces_of_newline_free content none = pieces_of_no_newline content (λ k below is. none k (omega arith) below (eq-eqb (slice_index content k) 10 is))
 
-some_by : (b : Bool) (byte : ℕ) (pieces : Pieces) → cond b ([] ∷ pieces) (prepended_to_first byte pieces) ≢ []
-some_by true byte pieces = λ is. cc is
-some_by false byte [] = λ is. cc is
-some_by false byte (piece ∷ pieces) = λ is. cc is
+prepended_pieces_ne_nil : (b : Bool) (byte : ℕ) (pieces : Pieces) → cond b ([] ∷ pieces) (prepended_to_first byte pieces) ≢ []
+prepended_pieces_ne_nil true byte pieces = λ is. cc is
+prepended_pieces_ne_nil false byte [] = λ is. cc is
+prepended_pieces_ne_nil false byte (piece ∷ pieces) = λ is. cc is
 
-some_pieces : (content : List ℕ) → pieces_of content ≢ []
-some_pieces [] = λ is. cc is
-some_pieces (byte ∷ rest) = some_by (byte == 10) byte (pieces_of rest)
+pieces_of_ne_nil : (content : List ℕ) → pieces_of content ≢ []
+pieces_of_ne_nil [] = λ is. cc is
+pieces_of_ne_nil (byte ∷ rest) = prepended_pieces_ne_nil (byte == 10) byte (pieces_of rest)
 
 -- ---- trailing white space
 
 abbrev dropped : List ℕ → List ℕ
 dropped bytes = reverse (drop (prefix_len is_trailing_space bytes) bytes)
 
-dropped_by : (b : Bool) (byte : ℕ) (rest : List ℕ) → is_trailing_space byte ≡ b → dropped (byte ∷ rest) ≡ cond b (dropped rest)
+dropped_cons : (b : Bool) (byte : ℕ) (rest : List ℕ) → is_trailing_space byte ≡ b → dropped (byte ∷ rest) ≡ cond b (dropped rest)
     (reverse (byte ∷ rest))
-dropped_by b byte rest is = ap (λ (c : Bool). reverse (drop (cond c (1 + prefix_len is_trailing_space rest) 0) (byte ∷ rest))) is
+dropped_cons b byte rest is = ap (λ (c : Bool). reverse (drop (cond c (1 + prefix_len is_trailing_space rest) 0) (byte ∷ rest))) is
     ∙ by_test b byte rest
   where
     by_test : (b : Bool) (byte : ℕ) (rest : List ℕ) → reverse (drop (cond b (1 + prefix_len is_trailing_space rest) 0) (byte ∷ rest)) ≡ cond b
@@ -80,12 +80,12 @@ dropped_by b byte rest is = ap (λ (c : Bool). reverse (drop (cond c (1 + prefix
 pub without_trailing_space : (bytes prefix : List ℕ) (byte : ℕ) → bytes ≡ prefix ++ byte ∷ [] → is_trailing_space byte ≡ true
     → without_trailing bytes ≡ without_trailing prefix
 without_trailing_space bytes prefix byte joined is = ap dropped (ap reverse joined ∙ reverse-append prefix (byte ∷ []))
-    ∙ dropped_by true byte (reverse prefix) is
+    ∙ dropped_cons true byte (reverse prefix) is
 
 pub without_trailing_of_other : (bytes prefix : List ℕ) (byte : ℕ) → bytes ≡ prefix ++ byte ∷ [] → is_trailing_space byte ≡ false
     → without_trailing bytes ≡ bytes
 without_trailing_of_other bytes prefix byte joined is =
-    ap dropped (ap reverse joined ∙ reverse-append prefix (byte ∷ [])) ∙ dropped_by false byte (reverse prefix) is
+    ap dropped (ap reverse joined ∙ reverse-append prefix (byte ∷ [])) ∙ dropped_cons false byte (reverse prefix) is
     ∙ ap reverse (sym (reverse-append prefix (byte ∷ []))) ∙ reverse-reverse (prefix ++ byte ∷ []) ∙ sym joined
 
 pub without_trailing_nil : (bytes : List ℕ) → length bytes ≡ 0 → without_trailing bytes ≡ bytes
@@ -94,13 +94,13 @@ without_trailing_nil (byte ∷ bytes) is = absurd (omega arith)
 
 -- ---- the end trimmed
 
-take_take : (n : ℕ) (bytes : List ℕ) → take (length (take n bytes)) bytes ≡ take n bytes
-take_take zero bytes = refl
-take_take (suc n) [] = refl
-take_take (suc n) (byte ∷ bytes) = ap (λ (bs : List ℕ). byte ∷ bs) (take_take n bytes)
+take_len_take : (n : ℕ) (bytes : List ℕ) → take (length (take n bytes)) bytes ≡ take n bytes
+take_len_take zero bytes = refl
+take_len_take (suc n) [] = refl
+take_len_take (suc n) (byte ∷ bytes) = ap (λ (bs : List ℕ). byte ∷ bs) (take_len_take n bytes)
 
 pub take_trimmed_len : (bytes trimmed : List ℕ) → trimmed ≡ trim_end_by is_whitespace bytes → take (length trimmed) bytes ≡ trim_end_by is_whitespace bytes
-take_trimmed_len bytes trimmed is = ap (λ (t : List ℕ). take (length t) bytes) is ∙ take_take _ bytes
+take_trimmed_len bytes trimmed is = ap (λ (t : List ℕ). take (length t) bytes) is ∙ take_len_take _ bytes
 
 -- ---- the summary
 
@@ -110,66 +110,68 @@ spaced pieces = flat_map (λ (it : List ℕ). (32 ∷ []) ++ it) pieces
 abbrev trim : List ℕ → List ℕ
 trim bytes = trim_end_by is_whitespace bytes
 
-both_ways : (b : Bool) (x y z w : List ℕ) → x ≡ y → z ≡ w → cond b x z ≡ cond b y w
-both_ways true x y z w one two = one
-both_ways false x y z w one two = two
+cond_congruent : (b : Bool) (x y z w : List ℕ) → x ≡ y → z ≡ w → cond b x z ≡ cond b y w
+cond_congruent true x y z w one two = one
+cond_congruent false x y z w one two = two
 
-after_is : (out piece : List ℕ) (pieces : Pieces) → summary_of_rest out (piece ∷ pieces)
+summary_of_rest_cons : (out piece : List ℕ) (pieces : Pieces) → summary_of_rest out (piece ∷ pieces)
     ≡ cond (has_empty_piece (piece ∷ pieces)) (trim (out ++ spaced (map without_trailing (before_empty (piece ∷ pieces)))))
     (out ++ spaced (without_trailing_but_last (piece ∷ pieces)))
-after_is out [] [] = ap trim (sym (append-nil out))
-after_is out [] (next ∷ pieces) = ap trim (sym (append-nil out))
-after_is out (byte ∷ piece) [] = ap (λ (bytes : List ℕ). out ++ bytes) (sym (append-nil (32 ∷ byte ∷ piece)))
-after_is out (byte ∷ piece) (next ∷ pieces) =
-    after_is (out ++ 32 ∷ without_trailing (byte ∷ piece)) next pieces
-    ∙ both_ways (has_empty_piece (next ∷ pieces)) _ _ _ _
+summary_of_rest_cons out [] [] = ap trim (sym (append-nil out))
+summary_of_rest_cons out [] (next ∷ pieces) = ap trim (sym (append-nil out))
+summary_of_rest_cons out (byte ∷ piece) [] = ap (λ (bytes : List ℕ). out ++ bytes) (sym (append-nil (32 ∷ byte ∷ piece)))
+summary_of_rest_cons out (byte ∷ piece) (next ∷ pieces) =
+    summary_of_rest_cons (out ++ 32 ∷ without_trailing (byte ∷ piece)) next pieces
+    ∙ cond_congruent (has_empty_piece (next ∷ pieces)) _ _ _ _
     (ap trim (append_assoc out (32 ∷ without_trailing (byte ∷ piece)) (spaced (map without_trailing (before_empty (next ∷ pieces))))))
     (append_assoc out (32 ∷ without_trailing (byte ∷ piece)) (spaced (without_trailing_but_last (next ∷ pieces))))
 
-begins_by : (first : List ℕ) (pieces : Pieces) → pieces ≢ [] → summary_of_rest (without_trailing first) pieces ≡ summary_of_pieces (first ∷ pieces)
-begins_by first [] some = absurd (some refl)
-begins_by first (piece ∷ pieces) some = after_is (without_trailing first) piece pieces
+summary_of_pieces_cons : (first : List ℕ) (pieces : Pieces) → pieces ≢ [] → summary_of_rest (without_trailing first) pieces ≡ summary_of_pieces (first ∷ pieces)
+summary_of_pieces_cons first [] some = absurd (some refl)
+summary_of_pieces_cons first (piece ∷ pieces) some = summary_of_rest_cons (without_trailing first) piece pieces
 
 pub summary_of_first_piece : (first rest : List ℕ) → summary_of_rest (without_trailing first) (pieces_of rest) ≡ summary_of_pieces (first ∷ pieces_of rest)
-summary_of_first_piece first rest = begins_by first (pieces_of rest) (some_pieces rest)
+summary_of_first_piece first rest = summary_of_pieces_cons first (pieces_of rest) (pieces_of_ne_nil rest)
 
-more_by : (out : List ℕ) (piece : List ℕ) (pieces : Pieces) → pieces ≢ [] → is_empty_piece piece ≡ false
+summary_of_rest_filled_cons : (out : List ℕ) (piece : List ℕ) (pieces : Pieces) → pieces ≢ [] → is_empty_piece piece ≡ false
     → summary_of_rest out (piece ∷ pieces) ≡ summary_of_rest (out ++ 32 ∷ without_trailing piece) pieces
-more_by out piece [] some is = absurd (some refl)
-more_by out piece (next ∷ pieces) some is =
+summary_of_rest_filled_cons out piece [] some is = absurd (some refl)
+summary_of_rest_filled_cons out piece (next ∷ pieces) some is =
     ap (λ (b : Bool). cond b (trim out) (summary_of_rest (out ++ 32 ∷ without_trailing piece) (next ∷ pieces))) is
 
-some_is : (piece : List ℕ) (b : Bool) → b ≡ false → b ≡ (length piece == 0) → is_empty_piece piece ≡ false
-some_is [] b not is = cc (not, is)
-some_is (byte ∷ piece) b not is = refl
+is_empty_piece_false_of_len : (piece : List ℕ) (b : Bool) → b ≡ false → b ≡ (length piece == 0) → is_empty_piece piece ≡ false
+is_empty_piece_false_of_len [] b not is = cc (not, is)
+is_empty_piece_false_of_len (byte ∷ piece) b not is = refl
 
-none_is : (piece : List ℕ) (b : Bool) → b ≡ true → b ≡ (length piece == 0) → piece ≡ []
-none_is [] b so is = refl
-none_is (byte ∷ piece) b so is = let zero_is : length (byte ∷ piece) ≡ 0 = eqb-true (length (byte ∷ piece)) 0 (sym is ∙ so) in absurd (omega arith)
+nil_of_len_test : (piece : List ℕ) (b : Bool) → b ≡ true → b ≡ (length piece == 0) → piece ≡ []
+nil_of_len_test [] b so is = refl
+nil_of_len_test (byte ∷ piece) b so is = let zero_is : length (byte ∷ piece) ≡ 0 = eqb-true (length (byte ∷ piece)) 0 (sym is ∙ so) in absurd (omega arith)
 
 pub summary_of_next_piece : (out content piece rest : List ℕ) (b : Bool) → pieces_of content ≡ piece ∷ pieces_of rest → b ≡ false → b ≡ (length piece == 0)
     → summary_of_rest (out ++ 32 ∷ without_trailing piece) (pieces_of rest) ≡ summary_of_rest out (pieces_of content)
 summary_of_next_piece out content piece rest b is not test =
-    sym (ap (summary_of_rest out) is ∙ more_by out piece (pieces_of rest) (some_pieces rest) (some_is piece b not test))
+    sym (ap (summary_of_rest out) is ∙ summary_of_rest_filled_cons out piece (pieces_of rest) (pieces_of_ne_nil rest)
+    (is_empty_piece_false_of_len piece b not test))
 
-ends_by : (out : List ℕ) (pieces : Pieces) → summary_of_rest out ([] ∷ pieces) ≡ trim out
-ends_by out [] = refl
-ends_by out (next ∷ pieces) = refl
+summary_of_rest_empty_cons : (out : List ℕ) (pieces : Pieces) → summary_of_rest out ([] ∷ pieces) ≡ trim out
+summary_of_rest_empty_cons out [] = refl
+summary_of_rest_empty_cons out (next ∷ pieces) = refl
 
 pub summary_at_empty_piece : (out content piece rest : List ℕ) (b : Bool) → pieces_of content ≡ piece ∷ pieces_of rest → b ≡ true → b ≡ (length piece == 0)
     → trim_end_by is_whitespace out ≡ summary_of_rest out (pieces_of content)
 summary_at_empty_piece out content piece rest b is so test =
-    sym (ap (summary_of_rest out) (is ∙ ap (λ (p : List ℕ). p ∷ pieces_of rest) (none_is piece b so test)) ∙ ends_by out (pieces_of rest))
+    sym (ap (summary_of_rest out) (is ∙ ap (λ (p : List ℕ). p ∷ pieces_of rest) (nil_of_len_test piece b so test))
+    ∙ summary_of_rest_empty_cons out (pieces_of rest))
 
 pub summary_of_last_piece : (out content : List ℕ) (b : Bool) → pieces_of content ≡ content ∷ [] → b ≡ false → b ≡ (length content == 0)
     → out ++ 32 ∷ content ≡ summary_of_rest out (pieces_of content)
 summary_of_last_piece out content b is not test =
-    sym (ap (summary_of_rest out) is ∙ ap (λ (c : Bool). cond c (trim out) (out ++ 32 ∷ content)) (some_is content b not test))
+    sym (ap (summary_of_rest out) is ∙ ap (λ (c : Bool). cond c (trim out) (out ++ 32 ∷ content)) (is_empty_piece_false_of_len content b not test))
 
 pub summary_of_empty_last_piece : (out content : List ℕ) (b : Bool) → pieces_of content ≡ content ∷ [] → b ≡ true → b ≡ (length content == 0)
     → trim_end_by is_whitespace out ≡ summary_of_rest out (pieces_of content)
-summary_of_empty_last_piece out content b is so test = sym (ap (summary_of_rest out) (is ∙ ap (λ (p : List ℕ). p ∷ []) (none_is content b so test))
-    ∙ ends_by out [])
+summary_of_empty_last_piece out content b is so test = sym (ap (summary_of_rest out) (is ∙ ap (λ (p : List ℕ). p ∷ []) (nil_of_len_test content b so test))
+    ∙ summary_of_rest_empty_cons out [])
 
 pub summary_of_one_piece : (content inner : List ℕ) → inner ≡ trimmed content → pieces_of inner ≡ inner ∷ [] → inner ≡ summary_of content
 summary_of_one_piece content inner is one = sym (ap (λ (t : List ℕ). summary_of_pieces (pieces_of t)) (sym is) ∙ ap summary_of_pieces one ∙ append-nil inner)
@@ -177,10 +179,11 @@ summary_of_one_piece content inner is one = sym (ap (λ (t : List ℕ). summary_
 pub is_of_lines_false : (content inner : List ℕ) → inner ≡ trimmed content → pieces_of inner ≡ inner ∷ [] → is_multiline content ≡ false
 is_of_lines_false content inner is one = ap (λ (t : List ℕ). has_more (pieces_of t)) (sym is) ∙ ap has_more one
 
-more_after : (piece : List ℕ) (pieces : Pieces) → pieces ≢ [] → has_more (piece ∷ pieces) ≡ true
-more_after piece [] some = absurd (some refl)
-more_after piece (next ∷ pieces) some = refl
+has_more_cons : (piece : List ℕ) (pieces : Pieces) → pieces ≢ [] → has_more (piece ∷ pieces) ≡ true
+has_more_cons piece [] some = absurd (some refl)
+has_more_cons piece (next ∷ pieces) some = refl
 
 pub is_of_lines_true : (content inner piece rest : List ℕ) → inner ≡ trimmed content → pieces_of inner ≡ piece ∷ pieces_of rest → is_multiline content ≡ true
-is_of_lines_true content inner piece rest is more = ap (λ (t : List ℕ). has_more (pieces_of t)) (sym is) ∙ ap has_more more ∙ more_after piece (pieces_of rest)
-    (some_pieces rest)
+is_of_lines_true content inner piece rest is more = ap (λ (t : List ℕ). has_more (pieces_of t)) (sym is) ∙ ap has_more more
+    ∙ has_more_cons piece (pieces_of rest)
+    (pieces_of_ne_nil rest)

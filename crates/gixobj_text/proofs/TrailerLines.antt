@@ -11,114 +11,116 @@ OfGap byte = is_gap_byte byte ≡ true
 abbrev OfToken : ℕ → Type 0
 OfToken byte = is_token_byte byte ≡ true
 
-same_of : (a b : ℕ) → (a == b) ≡ true → a ≡ b
-same_of a b is = grind (arith, nat_tests)
+eq_of_eqb : (a b : ℕ) → (a == b) ≡ true → a ≡ b
+eq_of_eqb a b is = grind (arith, nat_tests)
 
 -- ---- after a gap
 
 abbrev AfterGap : List ℕ → List ℕ → Type 0
 AfterGap bytes value = (gap : List ℕ) × (bytes ≡ gap ++ 58 ∷ value) × All OfGap gap
 
-gap_by : (byte : ℕ) (rest value : List ℕ) (a b : Bool) → (byte == 58) ≡ a → is_gap_byte byte ≡ b → (after_gap rest ≡ Some value → AfterGap rest value)
+after_gap_of_flags : (byte : ℕ) (rest value : List ℕ) (a b : Bool) → (byte == 58) ≡ a → is_gap_byte byte ≡ b
+    → (after_gap rest ≡ Some value → AfterGap rest value)
     → cond a (Some rest) (cond b (after_gap rest) None) ≡ Some value → AfterGap (byte ∷ rest) value
-gap_by byte rest value true b colon gap later is =
+after_gap_of_flags byte rest value true b colon gap later is =
     let same : rest ≡ value = cc is in
-    ([], ap (λ (k : ℕ). k ∷ rest) (same_of byte 58 colon) ∙ ap (λ (r : List ℕ). 58 ∷ r) same, All-nil OfGap)
-gap_by byte rest value false true colon gap later is =
+    ([], ap (λ (k : ℕ). k ∷ rest) (eq_of_eqb byte 58 colon) ∙ ap (λ (r : List ℕ). 58 ∷ r) same, All-nil OfGap)
+after_gap_of_flags byte rest value false true colon gap later is =
     let it = later is in
     (byte ∷ it.0, ap (λ (r : List ℕ). byte ∷ r) it.1, All-cons OfGap byte it.0 gap it.2)
-gap_by byte rest value false false colon gap later is = cc is
+after_gap_of_flags byte rest value false false colon gap later is = cc is
 
-gap_from : (bytes value : List ℕ) → after_gap bytes ≡ Some value → AfterGap bytes value
-gap_from [] value is = cc is
-gap_from (byte ∷ rest) value is = gap_by byte rest value (byte == 58) (is_gap_byte byte) refl refl (gap_from rest value) is
+gap_of_after_gap : (bytes value : List ℕ) → after_gap bytes ≡ Some value → AfterGap bytes value
+gap_of_after_gap [] value is = cc is
+gap_of_after_gap (byte ∷ rest) value is = after_gap_of_flags byte rest value (byte == 58) (is_gap_byte byte) refl refl (gap_of_after_gap rest value) is
 
-no_colon : (byte : ℕ) (b : Bool) → (byte == 58) ≡ b → OfGap byte → (byte == 58) ≡ false
-no_colon byte true colon gap = let it : is_gap_byte 58 ≡ true = subst OfGap (same_of byte 58 colon) gap in cc it
-no_colon byte false colon gap = colon
+gap_byte_is_no_colon : (byte : ℕ) (b : Bool) → (byte == 58) ≡ b → OfGap byte → (byte == 58) ≡ false
+gap_byte_is_no_colon byte true colon gap = let it : is_gap_byte 58 ≡ true = subst OfGap (eq_of_eqb byte 58 colon) gap in cc it
+gap_byte_is_no_colon byte false colon gap = colon
 
-gap_to : (gap value : List ℕ) → All OfGap gap → after_gap (gap ++ 58 ∷ value) ≡ Some value
-gap_to [] value all = refl
-gap_to (byte ∷ gap) value all =
+after_gap_append : (gap value : List ℕ) → All OfGap gap → after_gap (gap ++ 58 ∷ value) ≡ Some value
+after_gap_append [] value all = refl
+after_gap_append (byte ∷ gap) value all =
     let here = All-head OfGap byte gap all in
     ap (λ (a : Bool). cond a (Some (gap ++ 58 ∷ value)) (cond (is_gap_byte byte) (after_gap (gap ++ 58 ∷ value)) None))
-    (no_colon byte (byte == 58) refl here)
+    (gap_byte_is_no_colon byte (byte == 58) refl here)
     ∙ ap (λ (b : Bool). cond b (after_gap (gap ++ 58 ∷ value)) None) here
-    ∙ gap_to gap value (All-tail OfGap byte gap all)
+    ∙ after_gap_append gap value (All-tail OfGap byte gap all)
 
 -- ---- a token
 
 abbrev RestOf : List ℕ → TrailerParts → Type 0
 RestOf bytes parts = (gap : List ℕ) × (bytes ≡ parts.0 ++ gap ++ 58 ∷ parts.1) × All OfToken parts.0 × All OfGap gap
 
-more_from : (byte : ℕ) (rest : List ℕ) (found : Option TrailerParts) (parts : TrailerParts) → OfToken byte → rest_of_token rest ≡ found
+token_rest_of_byte_step : (byte : ℕ) (rest : List ℕ) (found : Option TrailerParts) (parts : TrailerParts) → OfToken byte → rest_of_token rest ≡ found
     → ((prefix : TrailerParts) → rest_of_token rest ≡ Some prefix → RestOf rest prefix) → token_byte_step byte found ≡ Some parts
     → RestOf (byte ∷ rest) parts
     × (parts.0 ≡ [] → ⊥)
-more_from byte rest None parts token here later is = cc is
-more_from byte rest (Some (prefix, value)) parts token here later is =
+token_rest_of_byte_step byte rest None parts token here later is = cc is
+token_rest_of_byte_step byte rest (Some (prefix, value)) parts token here later is =
     let it = later (prefix, value) here in
     let same : (byte ∷ prefix, value) ≡ parts = cc is in
     subst (λ (p : TrailerParts). RestOf (byte ∷ rest) p × (p.0 ≡ [] → ⊥)) same
     ((it.0, ap (λ (r : List ℕ). byte ∷ r) it.1, All-cons OfToken byte prefix token it.2, it.3), λ none. cc none)
 
-value_from : (bytes : List ℕ) (found : Option (List ℕ)) (parts : TrailerParts) → after_gap bytes ≡ found → with_value [] found ≡ Some parts
+token_rest_of_value : (bytes : List ℕ) (found : Option (List ℕ)) (parts : TrailerParts) → after_gap bytes ≡ found → with_value [] found ≡ Some parts
     → RestOf bytes parts
-value_from bytes None parts here is = cc is
-value_from bytes (Some value) parts here is =
-    let it = gap_from bytes value here in
+token_rest_of_value bytes None parts here is = cc is
+token_rest_of_value bytes (Some value) parts here is =
+    let it = gap_of_after_gap bytes value here in
     let same : ([], value) ≡ parts = cc is in
     subst (RestOf bytes) same (it.0, it.1, All-nil OfToken, it.2)
 
-rest_by : (byte : ℕ) (rest : List ℕ) (b : Bool) (parts : TrailerParts) → is_token_byte byte ≡ b
+token_rest_of_flag : (byte : ℕ) (rest : List ℕ) (b : Bool) (parts : TrailerParts) → is_token_byte byte ≡ b
     → ((prefix : TrailerParts) → rest_of_token rest ≡ Some prefix → RestOf rest prefix)
     → cond b (token_byte_step byte (rest_of_token rest)) (with_value [] (after_gap (byte ∷ rest))) ≡ Some parts → RestOf (byte ∷ rest) parts
-rest_by byte rest true parts token later is = (more_from byte rest (rest_of_token rest) parts token refl later is).0
-rest_by byte rest false parts token later is = value_from (byte ∷ rest) (after_gap (byte ∷ rest)) parts refl is
+token_rest_of_flag byte rest true parts token later is = (token_rest_of_byte_step byte rest (rest_of_token rest) parts token refl later is).0
+token_rest_of_flag byte rest false parts token later is = token_rest_of_value (byte ∷ rest) (after_gap (byte ∷ rest)) parts refl is
 
-rest_from : (bytes : List ℕ) (parts : TrailerParts) → rest_of_token bytes ≡ Some parts → RestOf bytes parts
-rest_from [] parts is = cc is
-rest_from (byte ∷ rest) parts is = rest_by byte rest (is_token_byte byte) parts refl (rest_from rest) is
+token_rest_of_rest_of_token : (bytes : List ℕ) (parts : TrailerParts) → rest_of_token bytes ≡ Some parts → RestOf bytes parts
+token_rest_of_rest_of_token [] parts is = cc is
+token_rest_of_rest_of_token (byte ∷ rest) parts is = token_rest_of_flag byte rest (is_token_byte byte) parts refl (token_rest_of_rest_of_token rest) is
 
-first_by : (byte : ℕ) (rest : List ℕ) (b : Bool) (parts : TrailerParts) → is_token_byte byte ≡ b
+token_rest_of_first_byte : (byte : ℕ) (rest : List ℕ) (b : Bool) (parts : TrailerParts) → is_token_byte byte ≡ b
     → cond b (token_byte_step byte (rest_of_token rest)) None ≡ Some parts
     → RestOf (byte ∷ rest) parts × (parts.0 ≡ [] → ⊥)
-first_by byte rest true parts token is = more_from byte rest (rest_of_token rest) parts token refl (rest_from rest) is
-first_by byte rest false parts token is = cc is
+token_rest_of_first_byte byte rest true parts token is = token_rest_of_byte_step byte rest (rest_of_token rest) parts token refl
+    (token_rest_of_rest_of_token rest) is
+token_rest_of_first_byte byte rest false parts token is = cc is
 
 -- content decodes to the parts that `trailer_parts` finds
 pub decodes_to_trailer_of_parts : (bytes : List ℕ) (parts : TrailerParts) → trailer_parts bytes ≡ Some parts → DecodesToTrailer bytes parts.0 parts.1
 decodes_to_trailer_of_parts [] parts is = cc is
 decodes_to_trailer_of_parts (byte ∷ rest) parts is =
-    let it = first_by byte rest (is_token_byte byte) parts refl is in
+    let it = token_rest_of_first_byte byte rest (is_token_byte byte) parts refl is in
     record { gap = it.0.0; joined = it.0.1; some = it.1; of_token = it.0.2; of_gap = it.0.3 }
 
 -- ---- the converse
 
-no_token : (byte : ℕ) (a b : Bool) → (byte == 32) ≡ a → (byte == 9) ≡ b → (a || b) ≡ true → is_token_byte byte ≡ false
-no_token byte true b space tab is = subst (λ (k : ℕ). is_token_byte k ≡ false) (sym (same_of byte 32 space)) refl
-no_token byte false true space tab is = subst (λ (k : ℕ). is_token_byte k ≡ false) (sym (same_of byte 9 tab)) refl
-no_token byte false false space tab is = cc is
+gap_byte_is_no_token_byte : (byte : ℕ) (a b : Bool) → (byte == 32) ≡ a → (byte == 9) ≡ b → (a || b) ≡ true → is_token_byte byte ≡ false
+gap_byte_is_no_token_byte byte true b space tab is = subst (λ (k : ℕ). is_token_byte k ≡ false) (sym (eq_of_eqb byte 32 space)) refl
+gap_byte_is_no_token_byte byte false true space tab is = subst (λ (k : ℕ). is_token_byte k ≡ false) (sym (eq_of_eqb byte 9 tab)) refl
+gap_byte_is_no_token_byte byte false false space tab is = cc is
 
-rest_to : (token gap value : List ℕ) → All OfToken token → All OfGap gap → rest_of_token (token ++ gap ++ 58 ∷ value) ≡ Some (token, value)
-rest_to [] [] value tokens gaps = refl
-rest_to [] (byte ∷ gap) value tokens gaps =
+rest_of_token_append : (token gap value : List ℕ) → All OfToken token → All OfGap gap → rest_of_token (token ++ gap ++ 58 ∷ value) ≡ Some (token, value)
+rest_of_token_append [] [] value tokens gaps = refl
+rest_of_token_append [] (byte ∷ gap) value tokens gaps =
     let here = All-head OfGap byte gap gaps in
     ap (λ (b : Bool). cond b (token_byte_step byte (rest_of_token (gap ++ 58 ∷ value))) (with_value [] (after_gap (byte ∷ gap ++ 58 ∷ value))))
-    (no_token byte (byte == 32) (byte == 9) refl refl here)
-    ∙ ap (with_value []) (gap_to (byte ∷ gap) value gaps)
-rest_to (byte ∷ token) gap value tokens gaps =
+    (gap_byte_is_no_token_byte byte (byte == 32) (byte == 9) refl refl here)
+    ∙ ap (with_value []) (after_gap_append (byte ∷ gap) value gaps)
+rest_of_token_append (byte ∷ token) gap value tokens gaps =
     ap (λ (b : Bool). cond b (token_byte_step byte (rest_of_token (token ++ gap ++ 58 ∷ value)))
     (with_value [] (after_gap (byte ∷ token ++ gap ++ 58 ∷ value)))) (All-head OfToken byte token tokens)
-    ∙ ap (token_byte_step byte) (rest_to token gap value (All-tail OfToken byte token tokens) gaps)
+    ∙ ap (token_byte_step byte) (rest_of_token_append token gap value (All-tail OfToken byte token tokens) gaps)
 
-first_to : (token gap value : List ℕ) → (token ≡ [] → ⊥) → All OfToken token → All OfGap gap → trailer_parts (token ++ gap ++ 58 ∷ value) ≡ Some
+trailer_parts_append : (token gap value : List ℕ) → (token ≡ [] → ⊥) → All OfToken token → All OfGap gap → trailer_parts (token ++ gap ++ 58 ∷ value) ≡ Some
     (token, value)
-first_to [] gap value some tokens gaps = absurd (some refl)
-first_to (byte ∷ token) gap value some tokens gaps =
+trailer_parts_append [] gap value some tokens gaps = absurd (some refl)
+trailer_parts_append (byte ∷ token) gap value some tokens gaps =
     ap (λ (b : Bool). cond b (token_byte_step byte (rest_of_token (token ++ gap ++ 58 ∷ value))) None) (All-head OfToken byte token tokens)
-    ∙ ap (token_byte_step byte) (rest_to token gap value (All-tail OfToken byte token tokens) gaps)
+    ∙ ap (token_byte_step byte) (rest_of_token_append token gap value (All-tail OfToken byte token tokens) gaps)
 
 -- `trailer_parts` finds the parts of content that decodes to a trailer: it has at most one token and one value
 pub trailer_parts_of_decoded : (bytes token value : List ℕ) → DecodesToTrailer bytes token value → trailer_parts bytes ≡ Some (token, value)
-trailer_parts_of_decoded bytes token value it = ap trailer_parts it.joined ∙ first_to token it.gap value it.some it.of_token it.of_gap
+trailer_parts_of_decoded bytes token value it = ap trailer_parts it.joined ∙ trailer_parts_append token it.gap value it.some it.of_token it.of_gap

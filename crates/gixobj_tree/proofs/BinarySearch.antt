@@ -42,15 +42,15 @@ module _ {X Y : Type 0} (view : X → Y) (cmp : X → Ordering) (R : Y → Order
       )
 
 -- only `Less` ranks lowest, and only `Greater` ranks highest
-lowest : (o : Ordering) → ordering_index o ≤ 0 → o ≡ Less
-lowest Less h = refl
-lowest Equal h = absurd (omega (arith, h))
-lowest Greater h = absurd (omega (arith, h))
+less_of_index_le_zero : (o : Ordering) → ordering_index o ≤ 0 → o ≡ Less
+less_of_index_le_zero Less h = refl
+less_of_index_le_zero Equal h = absurd (omega (arith, h))
+less_of_index_le_zero Greater h = absurd (omega (arith, h))
 
-highest : (o : Ordering) → 2 ≤ ordering_index o → o ≡ Greater
-highest Less h = absurd (omega (arith, h))
-highest Equal h = absurd (omega (arith, h))
-highest Greater h = refl
+greater_of_two_le_index : (o : Ordering) → 2 ≤ ordering_index o → o ≡ Greater
+greater_of_two_le_index Less h = absurd (omega (arith, h))
+greater_of_two_le_index Equal h = absurd (omega (arith, h))
+greater_of_two_le_index Greater h = refl
 
 -- the positions that remain in the search if the comparisons ascend
 module _ {X : Type 0} (cmp : X → Ordering) (xs : List X) where
@@ -70,7 +70,8 @@ module _ {X : Type 0} (cmp : X → Ordering) (xs : List X) where
 
   pub narrowed_up : (low high m : ℕ) → m < length xs → HoldsAt (λ x. cmp x ≡ Less) xs m → IsNarrowed low high → IsNarrowed (m + 1) high
   narrowed_up low high m within is narrowed = record {
-    prefix = λ rises k d l. lowest (cmp (get_or xs k d)) (subst (λ (o : Ordering). ordering_index (cmp (get_or xs k d)) ≤ ordering_index o) (is d)
+    prefix = λ rises k d l. less_of_index_le_zero (cmp (get_or xs k d)) (subst (λ (o : Ordering). ordering_index (cmp (get_or xs k d)) ≤ ordering_index o)
+        (is d)
         (rises k m d (omega (arith, l)) within));
     back = narrowed.back;
   }
@@ -78,7 +79,8 @@ module _ {X : Type 0} (cmp : X → Ordering) (xs : List X) where
   pub narrowed_down : (low high m : ℕ) → HoldsAt (λ x. cmp x ≡ Greater) xs m → IsNarrowed low high → IsNarrowed low m
   narrowed_down low high m is narrowed = record {
     prefix = narrowed.prefix;
-    back = λ rises k d from l. highest (cmp (get_or xs k d)) (subst (λ (o : Ordering). ordering_index o ≤ ordering_index (cmp (get_or xs k d))) (is d)
+    back = λ rises k d from l. greater_of_two_le_index (cmp (get_or xs k d))
+        (subst (λ (o : Ordering). ordering_index o ≤ ordering_index (cmp (get_or xs k d))) (is d)
         (rises m k d from l));
   }
 

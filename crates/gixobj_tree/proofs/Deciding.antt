@@ -37,15 +37,16 @@ splits_at_or_byte_free byte (first ∷ content) =
         record { joined = ap (λ (it : List ℕ). first ∷ it) cut.joined; first = All-cons (λ it. it ≢ byte) first prefix other cut.first }
 
 -- bytes are octal digits, or not
-octal_or_not : (content : List ℕ) → AllDigits 8 content ⊎ (AllDigits 8 content → ⊥)
-octal_or_not [] = inl tt
-octal_or_not (first ∷ content) =
-    ⊎_elim (λ octal. ⊎_elim (λ more. inl (octal, more)) (λ other. inr (λ all. other all.1)) (octal_or_not content)) (λ large. inr (λ all. omega (arith, all.0)))
+all_octal_or_not : (content : List ℕ) → AllDigits 8 content ⊎ (AllDigits 8 content → ⊥)
+all_octal_or_not [] = inl tt
+all_octal_or_not (first ∷ content) =
+    ⊎_elim (λ octal. ⊎_elim (λ more. inl (octal, more)) (λ other. inr (λ all. other all.1)) (all_octal_or_not content))
+    (λ large. inr (λ all. omega (arith, all.0)))
     (cases_lt (digit_value first) 8)
 
 -- byte 6 of the content allows these digits, or not
-six_or_not : (content digits : List ℕ) → HasSixDigits content digits ⊎ (HasSixDigits content digits → ⊥)
-six_or_not content digits =
+has_six_digits_or_not : (content digits : List ℕ) → HasSixDigits content digits ⊎ (HasSixDigits content digits → ⊥)
+has_six_digits_or_not content digits =
     ⊎_elim (λ six. inl (λ is other. six))
     (λ not_six. ⊎_elim (λ is. six_digits_needed not_six is) (λ other. inl (λ is. absurd (other is))) (cases_eq (get_or content 6 0) 32))
     (cases_eq (length digits) 6)
@@ -55,10 +56,10 @@ six_or_not content digits =
         ⊎_elim (λ five. inl (λ six other. absurd (other five))) (λ other. inr (λ keeps. not_six (keeps is other))) (cases_eq (get_or content 5 0) 32)
 
 -- the input begins with an id if it has enough bytes
-id_before : (kind : Kind) (input : List ℕ) → hash_len kind ≤ length input → BeginsWithId kind input (id_from kind (take (hash_len kind) input))
+begins_with_id_of_len : (kind : Kind) (input : List ℕ) → hash_len kind ≤ length input → BeginsWithId kind input (id_from kind (take (hash_len kind) input))
     (drop (hash_len kind) input)
-id_before hash.Sha1 input enough = (sym (take-append-drop 20 input), (refl, length-take-le 20 input enough))
-id_before hash.Sha256 input enough = (sym (take-append-drop 32 input), (refl, length-take-le 32 input enough))
+begins_with_id_of_len hash.Sha1 input enough = (sym (take-append-drop 20 input), (refl, length-take-le 20 input enough))
+begins_with_id_of_len hash.Sha256 input enough = (sym (take-append-drop 32 input), (refl, length-take-le 32 input enough))
 
 -- ---- an entry
 
@@ -67,20 +68,22 @@ abbrev AnEntry : Kind → List ℕ → Type 0
 AnEntry kind input = (e : EntryView) × (rest : List ℕ) × BeginsWithEntry kind input e rest
 
 -- the digits of an entry are the bytes before the first space
-digits_at_cut : (kind : Kind) (input digits after : List ℕ) (e : EntryView) (rest : List ℕ) → SplitsAt 32 input digits after → (p : Parted kind input e rest)
+parted_digits_before_space : (kind : Kind) (input digits after : List ℕ) (e : EntryView) (rest : List ℕ) → SplitsAt 32 input digits after
+    → (p : Parted kind input e rest)
     → p.digits ≡ digits
-digits_at_cut kind input digits after e rest split p =
+parted_digits_before_space kind input digits after e rest split p =
     (split_parts_unique 32 p.digits (e.name ++ 0 ∷ (id_bytes e.id ++ rest)) digits after (octal_digits_space_free p.digits p.mode.octal) split.first
     (sym p.joined ∙ split.joined)).0
 
-filled : (prefix rest : List ℕ) (byte : ℕ) → prefix ++ byte ∷ rest ≢ []
-filled [] rest byte = λ bare. cc bare
-filled (first ∷ prefix) rest byte = λ bare. cc bare
+append_cons_ne_nil : (prefix rest : List ℕ) (byte : ℕ) → prefix ++ byte ∷ rest ≢ []
+append_cons_ne_nil [] rest byte = λ bare. cc bare
+append_cons_ne_nil (first ∷ prefix) rest byte = λ bare. cc bare
 
 -- an input that begins with a mode and a space begins with an entry or with none
-from_name_on : (kind : Kind) (input after from_name : List ℕ) (mode : ℕ) → BeginsWithMode input mode after → after ≡ 32 ∷ from_name → AnEntry kind input
+entry_or_none_after_mode : (kind : Kind) (input after from_name : List ℕ) (mode : ℕ) → BeginsWithMode input mode after → after ≡ 32 ∷ from_name
+    → AnEntry kind input
     ⊎ BeginsWithNoEntry kind input
-from_name_on kind input after from_name mode begun spaced =
+entry_or_none_after_mode kind input after from_name mode begun spaced =
     ⊎_elim (λ cut. from_id_on cut.0 cut.1 cut.2) (λ free. inr (no_entry_without_name kind input after from_name mode begun spaced free))
     (splits_at_or_byte_free 0 from_name)
   where
@@ -93,7 +96,7 @@ from_name_on kind input after from_name mode begun spaced =
           entry_of mode name it,
           rest,
           entry_of_parts kind input after from_name name from_id rest mode it begun spaced split
-              (id_before kind from_id enough),
+              (begins_with_id_of_len kind from_id enough),
         ))
         (cases_lt (length from_id) (hash_len kind))
 
@@ -103,12 +106,12 @@ module _ (kind : Kind) (input digits after : List ℕ) (split : SplitsAt 32 inpu
       → BeginsWithNoEntry kind input
   no_entry P holds fails = λ e rest has.
       let p = parted_of_begins kind input e rest has in
-      fails (subst P (digits_at_cut kind input digits after e rest split p) (holds e rest p))
+      fails (subst P (parted_digits_before_space kind input digits after e rest split p) (holds e rest p))
 
   mode_there : AllDigits 8 digits → length digits ≤ 7 → HasSixDigits input digits → BeginsWithMode input (mode_of_digits digits) (32 ∷ after)
   mode_there octal short six = record {
     digits = digits;
-    some = λ bare. filled digits after 32 (sym split.joined ∙ bare);
+    some = λ bare. append_cons_ne_nil digits after 32 (sym split.joined ∙ bare);
     joined = split.joined;
     ends = refl;
     decodes = record { octal = octal; short = short; value = refl };
@@ -117,15 +120,15 @@ module _ (kind : Kind) (input digits after : List ℕ) (split : SplitsAt 32 inpu
 
   by_byte_six : AllDigits 8 digits → length digits ≤ 7 → AnEntry kind input ⊎ BeginsWithNoEntry kind input
   by_byte_six octal short =
-      ⊎_elim (λ six. from_name_on kind input (32 ∷ after) after (mode_of_digits digits) (mode_there octal short six) refl)
-      (λ other. inr (no_entry (HasSixDigits input) (λ e rest p. p.byte_six) other)) (six_or_not input digits)
+      ⊎_elim (λ six. entry_or_none_after_mode kind input (32 ∷ after) after (mode_of_digits digits) (mode_there octal short six) refl)
+      (λ other. inr (no_entry (HasSixDigits input) (λ e rest p. p.byte_six) other)) (has_six_digits_or_not input digits)
 
   by_length : AllDigits 8 digits → AnEntry kind input ⊎ BeginsWithNoEntry kind input
   by_length octal = ⊎_elim (λ long. inr (no_entry (λ it. length it ≤ 7) (λ e rest p. p.mode.short) (λ short. omega arith))) (by_byte_six octal)
       (cases_lt 7 (length digits))
 
   cut_entry : AnEntry kind input ⊎ BeginsWithNoEntry kind input
-  cut_entry = ⊎_elim by_length (λ other. inr (no_entry (AllDigits 8) (λ e rest p. p.mode.octal) other)) (octal_or_not digits)
+  cut_entry = ⊎_elim by_length (λ other. inr (no_entry (AllDigits 8) (λ e rest p. p.mode.octal) other)) (all_octal_or_not digits)
 
 pub begins_with_entry_or_not : (kind : Kind) (input : List ℕ) → ((e : EntryView) × (rest : List ℕ) × BeginsWithEntry kind input e rest)
     ⊎ BeginsWithNoEntry kind input
@@ -142,25 +145,26 @@ begins_with_entry_or_not kind input =
 abbrev ARun : Kind → List ℕ → Type 0
 ARun kind input = (entries : List EntryView) × (ending : Ending) × YieldsEntries kind input entries ending
 
-entry_then_run : (kind : Kind) (input : List ℕ) (e : EntryView) (rest : List ℕ) → BeginsWithEntry kind input e rest → ARun kind rest → ARun kind input
-entry_then_run kind input e rest has more = (e ∷ more.0, more.1, yields_piece tt tt input rest e more.0 more.1 has more.2)
+run_cons : (kind : Kind) (input : List ℕ) (e : EntryView) (rest : List ℕ) → BeginsWithEntry kind input e rest → ARun kind rest → ARun kind input
+run_cons kind input e rest has more = (e ∷ more.0, more.1, yields_piece tt tt input rest e more.0 more.1 has more.2)
 
-left_within : (most : ℕ) (kind : Kind) (input : List ℕ) (e : EntryView) (rest : List ℕ) → BeginsWithEntry kind input e rest → length input ≤ suc most
+rest_len_le : (most : ℕ) (kind : Kind) (input : List ℕ) (e : EntryView) (rest : List ℕ) → BeginsWithEntry kind input e rest → length input ≤ suc most
     → length rest ≤ most
-left_within most kind input e rest has within = (let less = entry_rest_len_lt kind input e rest has in omega (arith, less, within))
+rest_len_le most kind input e rest has within = (let less = entry_rest_len_lt kind input e rest has in omega (arith, less, within))
 
-run_within : (most : ℕ) (kind : Kind) (input : List ℕ) → length input ≤ most → ARun kind input
-run_within most kind [] within = ([], complete, yields_end tt)
-run_within zero kind (first ∷ input) within = absurd (omega (arith, within))
-run_within (suc most) kind (first ∷ input) within =
+run_exists_of_len_le : (most : ℕ) (kind : Kind) (input : List ℕ) → length input ≤ most → ARun kind input
+run_exists_of_len_le most kind [] within = ([], complete, yields_end tt)
+run_exists_of_len_le zero kind (first ∷ input) within = absurd (omega (arith, within))
+run_exists_of_len_le (suc most) kind (first ∷ input) within =
     ⊎_elim
-    (λ has. entry_then_run kind (first ∷ input) has.0 has.1 has.2 (run_within most kind has.1 (left_within most kind (first ∷ input) has.0 has.1 has.2 within)))
+    (λ has. run_cons kind (first ∷ input) has.0 has.1 has.2 (run_exists_of_len_le most kind has.1
+    (rest_len_le most kind (first ∷ input) has.0 has.1 has.2 within)))
     (λ none. ([], broken, yields_error tt (first ∷ input) (λ bare. cc bare) (λ e after rest has. none e rest has)))
     (begins_with_entry_or_not kind (first ∷ input))
 
 pub decodes_to_tree_or_malformed : (kind : Kind) (content : List ℕ) → ((entries : List EntryView) × DecodesToTree kind content entries)
     ⊎ IsMalformedTree kind content
-decodes_to_tree_or_malformed kind content = (let run = run_within (length content) kind content (omega arith) in by_ending run.0 run.1 run.2)
+decodes_to_tree_or_malformed kind content = (let run = run_exists_of_len_le (length content) kind content (omega arith) in by_ending run.0 run.1 run.2)
   where
     by_ending : (entries : List EntryView) (ending : Ending) → YieldsEntries kind content entries ending
         → ((entries : List EntryView) × DecodesToTree kind content entries) ⊎ IsMalformedTree kind content

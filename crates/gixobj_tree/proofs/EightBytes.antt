@@ -19,8 +19,8 @@ value n [] = n
 value n (x ∷ xs) = value (256 * n + x) xs
 
 -- numbers compare by their first digits, and then by their last digit
-digit : (m n x y : ℕ) → x < 256 → y < 256 → nat_cmp (256 * m + x) (256 * n + y) ≡ ordering_then (nat_cmp m n) (nat_cmp x y)
-digit m n x y a b = sym (nat_cmp_is (256 * m + x) (256 * n + y) (ordering_then (nat_cmp m n) (nat_cmp x y))
+nat_cmp_append_byte : (m n x y : ℕ) → x < 256 → y < 256 → nat_cmp (256 * m + x) (256 * n + y) ≡ ordering_then (nat_cmp m n) (nat_cmp x y)
+nat_cmp_append_byte m n x y a b = sym (nat_cmp_is (256 * m + x) (256 * n + y) (ordering_then (nat_cmp m n) (nat_cmp x y))
     (ranks (nat_cmp m n) (nat_cmp x y) (ranked m n (nat_cmp m n) refl) (ranked x y (nat_cmp x y) refl)))
   where
     ranks : (o p : Ordering) → MatchOrdering o (m < n) (m ≡ n) (n < m) → MatchOrdering p (x < y) (x ≡ y) (y < x)
@@ -31,93 +31,93 @@ digit m n x y a b = sym (nat_cmp_is (256 * m + x) (256 * n + y) (ordering_then (
     ranks Equal Greater h i = let e : m ≡ n = h in let l : y < x = i in omega arith
     ranks Greater p h i = let l : n < m = h in omega arith
 
-then_equal : (o : Ordering) → o ≡ ordering_then o Equal
-then_equal Less = refl
-then_equal Equal = refl
-then_equal Greater = refl
+ordering_then_equal : (o : Ordering) → o ≡ ordering_then o Equal
+ordering_then_equal Less = refl
+ordering_then_equal Equal = refl
+ordering_then_equal Greater = refl
 
-ordered : (xs ys : List ℕ) (m n : ℕ) → Bytes xs → Bytes ys → length xs ≡ length ys → nat_cmp (value m xs) (value n ys) ≡ ordering_then (nat_cmp m n)
+nat_cmp_value : (xs ys : List ℕ) (m n : ℕ) → Bytes xs → Bytes ys → length xs ≡ length ys → nat_cmp (value m xs) (value n ys) ≡ ordering_then (nat_cmp m n)
     (slice_cmp nat_cmp xs ys)
-ordered [] [] m n a b l = then_equal (nat_cmp m n)
-ordered [] (y ∷ ys) m n a b l = absurd (omega arith)
-ordered (x ∷ xs) [] m n a b l = absurd (omega arith)
-ordered (x ∷ xs) (y ∷ ys) m n a b l =
-    ordered xs ys (256 * m + x) (256 * n + y) (λ k. a (suc k)) (λ k. b (suc k)) (omega arith)
-    ∙ ap (λ o. ordering_then o (slice_cmp nat_cmp xs ys)) (digit m n x y (a 0) (b 0))
+nat_cmp_value [] [] m n a b l = ordering_then_equal (nat_cmp m n)
+nat_cmp_value [] (y ∷ ys) m n a b l = absurd (omega arith)
+nat_cmp_value (x ∷ xs) [] m n a b l = absurd (omega arith)
+nat_cmp_value (x ∷ xs) (y ∷ ys) m n a b l =
+    nat_cmp_value xs ys (256 * m + x) (256 * n + y) (λ k. a (suc k)) (λ k. b (suc k)) (omega arith)
+    ∙ ap (λ o. ordering_then o (slice_cmp nat_cmp xs ys)) (nat_cmp_append_byte m n x y (a 0) (b 0))
     ∙ ordering_then_assoc (nat_cmp m n) (nat_cmp x y) (slice_cmp nat_cmp xs ys)
 
 -- the order of names compares the first `n` bytes, and then the rest
-steps : (n : ℕ) (xs ys : List ℕ) (t u : Bool) → n ≤ length xs → n ≤ length ys
+name_cmp_take_drop : (n : ℕ) (xs ys : List ℕ) (t u : Bool) → n ≤ length xs → n ≤ length ys
     → name_cmp xs t ys u ≡ ordering_then (slice_cmp nat_cmp (take n xs) (take n ys)) (name_cmp (drop n xs) t (drop n ys) u)
-steps zero xs ys t u a b = refl
-steps (suc n) (x ∷ xs) (y ∷ ys) t u a b =
-    name_cmp_cons x y xs ys t u _ (steps n xs ys t u (omega arith) (omega arith))
+name_cmp_take_drop zero xs ys t u a b = refl
+name_cmp_take_drop (suc n) (x ∷ xs) (y ∷ ys) t u a b =
+    name_cmp_cons x y xs ys t u _ (name_cmp_take_drop n xs ys t u (omega arith) (omega arith))
     ∙ sym (ordering_then_assoc (nat_cmp x y) (slice_cmp nat_cmp (take n xs) (take n ys)) (name_cmp (drop n xs) t (drop n ys) u))
-steps (suc n) [] ys t u a b = absurd (omega arith)
-steps (suc n) (x ∷ xs) [] t u a b = absurd (omega arith)
+name_cmp_take_drop (suc n) [] ys t u a b = absurd (omega arith)
+name_cmp_take_drop (suc n) (x ∷ xs) [] t u a b = absurd (omega arith)
 
 -- the first eight, four or two bytes are their number, whatever follows them
-worth : (xs : List ℕ) → 8 ≤ length xs → from_be_bytes w64 (take 8 xs) ≡ value 0 (take 8 xs)
-worth (a ∷ b ∷ c ∷ d ∷ e ∷ f ∷ g ∷ h ∷ rest) l = omega arith
-worth [] l = absurd (omega arith)
-worth (a ∷ []) l = absurd (omega arith)
-worth (a ∷ b ∷ []) l = absurd (omega arith)
-worth (a ∷ b ∷ c ∷ []) l = absurd (omega arith)
-worth (a ∷ b ∷ c ∷ d ∷ []) l = absurd (omega arith)
-worth (a ∷ b ∷ c ∷ d ∷ e ∷ []) l = absurd (omega arith)
-worth (a ∷ b ∷ c ∷ d ∷ e ∷ f ∷ []) l = absurd (omega arith)
-worth (a ∷ b ∷ c ∷ d ∷ e ∷ f ∷ g ∷ []) l = absurd (omega arith)
+from_be_bytes_w64_value : (xs : List ℕ) → 8 ≤ length xs → from_be_bytes w64 (take 8 xs) ≡ value 0 (take 8 xs)
+from_be_bytes_w64_value (a ∷ b ∷ c ∷ d ∷ e ∷ f ∷ g ∷ h ∷ rest) l = omega arith
+from_be_bytes_w64_value [] l = absurd (omega arith)
+from_be_bytes_w64_value (a ∷ []) l = absurd (omega arith)
+from_be_bytes_w64_value (a ∷ b ∷ []) l = absurd (omega arith)
+from_be_bytes_w64_value (a ∷ b ∷ c ∷ []) l = absurd (omega arith)
+from_be_bytes_w64_value (a ∷ b ∷ c ∷ d ∷ []) l = absurd (omega arith)
+from_be_bytes_w64_value (a ∷ b ∷ c ∷ d ∷ e ∷ []) l = absurd (omega arith)
+from_be_bytes_w64_value (a ∷ b ∷ c ∷ d ∷ e ∷ f ∷ []) l = absurd (omega arith)
+from_be_bytes_w64_value (a ∷ b ∷ c ∷ d ∷ e ∷ f ∷ g ∷ []) l = absurd (omega arith)
 
-worth_of_four : (xs : List ℕ) → 4 ≤ length xs → from_be_bytes w32 (take 4 xs) ≡ value 0 (take 4 xs)
-worth_of_four (a ∷ b ∷ c ∷ d ∷ rest) l = omega arith
-worth_of_four [] l = absurd (omega arith)
-worth_of_four (a ∷ []) l = absurd (omega arith)
-worth_of_four (a ∷ b ∷ []) l = absurd (omega arith)
-worth_of_four (a ∷ b ∷ c ∷ []) l = absurd (omega arith)
+from_be_bytes_w32_value : (xs : List ℕ) → 4 ≤ length xs → from_be_bytes w32 (take 4 xs) ≡ value 0 (take 4 xs)
+from_be_bytes_w32_value (a ∷ b ∷ c ∷ d ∷ rest) l = omega arith
+from_be_bytes_w32_value [] l = absurd (omega arith)
+from_be_bytes_w32_value (a ∷ []) l = absurd (omega arith)
+from_be_bytes_w32_value (a ∷ b ∷ []) l = absurd (omega arith)
+from_be_bytes_w32_value (a ∷ b ∷ c ∷ []) l = absurd (omega arith)
 
-worth_of_two : (xs : List ℕ) → 2 ≤ length xs → from_be_bytes w16 (take 2 xs) ≡ value 0 (take 2 xs)
-worth_of_two (a ∷ b ∷ rest) l = omega arith
-worth_of_two [] l = absurd (omega arith)
-worth_of_two (a ∷ []) l = absurd (omega arith)
+from_be_bytes_w16_value : (xs : List ℕ) → 2 ≤ length xs → from_be_bytes w16 (take 2 xs) ≡ value 0 (take 2 xs)
+from_be_bytes_w16_value (a ∷ b ∷ rest) l = omega arith
+from_be_bytes_w16_value [] l = absurd (omega arith)
+from_be_bytes_w16_value (a ∷ []) l = absurd (omega arith)
 
-long : (n : ℕ) (xs : List ℕ) → n ≤ length xs → length (take n xs) ≡ n
-long zero xs l = refl
-long (suc n) [] l = absurd (omega arith)
-long (suc n) (x ∷ xs) l = ap suc (long n xs (omega arith))
+take_len : (n : ℕ) (xs : List ℕ) → n ≤ length xs → length (take n xs) ≡ n
+take_len zero xs l = refl
+take_len (suc n) [] l = absurd (omega arith)
+take_len (suc n) (x ∷ xs) l = ap suc (take_len n xs (omega arith))
 
-prefix_bytes : (n : ℕ) (xs : List ℕ) → Bytes xs → Bytes (take n xs)
-prefix_bytes zero xs b k = omega arith
-prefix_bytes (suc n) [] b k = omega arith
-prefix_bytes (suc n) (x ∷ xs) b zero = b 0
-prefix_bytes (suc n) (x ∷ xs) b (suc k) = prefix_bytes n xs (λ i. b (suc i)) k
+bytes_take : (n : ℕ) (xs : List ℕ) → Bytes xs → Bytes (take n xs)
+bytes_take zero xs b k = omega arith
+bytes_take (suc n) [] b k = omega arith
+bytes_take (suc n) (x ∷ xs) b zero = b 0
+bytes_take (suc n) (x ∷ xs) b (suc k) = bytes_take n xs (λ i. b (suc i)) k
 
-numbered : (n : ℕ) (xs ys : List ℕ) → Bytes xs → Bytes ys → n ≤ length xs → n ≤ length ys
+nat_cmp_value_take : (n : ℕ) (xs ys : List ℕ) → Bytes xs → Bytes ys → n ≤ length xs → n ≤ length ys
     → nat_cmp (value 0 (take n xs)) (value 0 (take n ys)) ≡ slice_cmp nat_cmp (take n xs) (take n ys)
-numbered n xs ys a b l m = ordered (take n xs) (take n ys) 0 0 (prefix_bytes n xs a) (prefix_bytes n ys b) (long n xs l ∙ sym (long n ys m))
+nat_cmp_value_take n xs ys a b l m = nat_cmp_value (take n xs) (take n ys) 0 0 (bytes_take n xs a) (bytes_take n ys b) (take_len n xs l ∙ sym (take_len n ys m))
 
 pub nat_cmp_of_eight_bytes : (xs ys : List ℕ) → Bytes xs → Bytes ys → 8 ≤ length xs → 8 ≤ length ys
     → nat_cmp (from_be_bytes w64 (take 8 xs)) (from_be_bytes w64 (take 8 ys)) ≡ slice_cmp nat_cmp (take 8 xs) (take 8 ys)
 nat_cmp_of_eight_bytes xs ys a b l m =
-    ap (λ n. nat_cmp n (from_be_bytes w64 (take 8 ys))) (worth xs l) ∙ ap (nat_cmp (value 0 (take 8 xs))) (worth ys m)
-    ∙ numbered 8 xs ys a b l m
+    ap (λ n. nat_cmp n (from_be_bytes w64 (take 8 ys))) (from_be_bytes_w64_value xs l) ∙ ap (nat_cmp (value 0 (take 8 xs))) (from_be_bytes_w64_value ys m)
+    ∙ nat_cmp_value_take 8 xs ys a b l m
 
 pub nat_cmp_of_four_bytes : (xs ys : List ℕ) → Bytes xs → Bytes ys → 4 ≤ length xs → 4 ≤ length ys
     → nat_cmp (from_be_bytes w32 (take 4 xs)) (from_be_bytes w32 (take 4 ys)) ≡ slice_cmp nat_cmp (take 4 xs) (take 4 ys)
 nat_cmp_of_four_bytes xs ys a b l m =
-    ap (λ n. nat_cmp n (from_be_bytes w32 (take 4 ys))) (worth_of_four xs l) ∙ ap (nat_cmp (value 0 (take 4 xs))) (worth_of_four ys m)
-    ∙ numbered 4 xs ys a b l m
+    ap (λ n. nat_cmp n (from_be_bytes w32 (take 4 ys))) (from_be_bytes_w32_value xs l) ∙ ap (nat_cmp (value 0 (take 4 xs))) (from_be_bytes_w32_value ys m)
+    ∙ nat_cmp_value_take 4 xs ys a b l m
 
 pub nat_cmp_of_two_bytes : (xs ys : List ℕ) → Bytes xs → Bytes ys → 2 ≤ length xs → 2 ≤ length ys
     → nat_cmp (from_be_bytes w16 (take 2 xs)) (from_be_bytes w16 (take 2 ys)) ≡ slice_cmp nat_cmp (take 2 xs) (take 2 ys)
 nat_cmp_of_two_bytes xs ys a b l m =
-    ap (λ n. nat_cmp n (from_be_bytes w16 (take 2 ys))) (worth_of_two xs l) ∙ ap (nat_cmp (value 0 (take 2 xs))) (worth_of_two ys m)
-    ∙ numbered 2 xs ys a b l m
+    ap (λ n. nat_cmp n (from_be_bytes w16 (take 2 ys))) (from_be_bytes_w16_value xs l) ∙ ap (nat_cmp (value 0 (take 2 xs))) (from_be_bytes_w16_value ys m)
+    ∙ nat_cmp_value_take 2 xs ys a b l m
 
 -- the first `n` bytes decide the order of names if they differ
 pub name_cmp_of_prefix_cmp : (n : ℕ) (xs ys : List ℕ) (t u : Bool) → n ≤ length xs → n ≤ length ys → slice_cmp nat_cmp (take n xs) (take n ys) ≢ Equal
     → slice_cmp nat_cmp (take n xs) (take n ys) ≡ name_cmp xs t ys u
 name_cmp_of_prefix_cmp n xs ys t u a b apart = ordering_then_of_decided (slice_cmp nat_cmp (take n xs) (take n ys)) (name_cmp (drop n xs) t (drop n ys) u) apart
-    ∙ sym (steps n xs ys t u a b)
+    ∙ sym (name_cmp_take_drop n xs ys t u a b)
 
 -- a comparison that finds no difference is a tie
 pub equal_of_test : (o : Ordering) → is_ne o ≡ false → o ≡ Equal

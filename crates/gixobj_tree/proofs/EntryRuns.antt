@@ -11,9 +11,9 @@ use Rattle.gixobj_tree.specs.Entries.{EntryView}
 use Rattle.gixobj_tree.proofs.OneEntry.{entry_unique, entry_rest_len_lt}
 use Rattle.gixobj_tree.specs.TreeDecoding.{BeginsWithEntry, BeginsWithNoEntry, EntryStep, DecodesToEntry, IsMalformedTree, DecodesToTree, YieldsEntries}
 
-one_piece : (kind : Kind) (before : ⊤) (input : List ℕ) (a b : EntryView) (s t : ⊤) (x y : List ℕ) → EntryStep kind before input a s x
+entry_step_unique : (kind : Kind) (before : ⊤) (input : List ℕ) (a b : EntryView) (s t : ⊤) (x y : List ℕ) → EntryStep kind before input a s x
     → EntryStep kind before input b t y → (a ≡ b) × (s ≡ t) × (x ≡ y)
-one_piece kind before input a b s t x y first second = (let same = entry_unique kind input a b x y first second in (same.0, refl, same.1))
+entry_step_unique kind before input a b s t x y first second = (let same = entry_unique kind input a b x y first second in (same.0, refl, same.1))
 
 pub no_entry_of_nil : (kind : Kind) (before : ⊤) (input : List ℕ) (e : EntryView) (following : ⊤) (rest : List ℕ) → input ≡ []
     → EntryStep kind before input e following rest → ⊥
@@ -22,29 +22,32 @@ no_entry_of_nil kind before input e following rest bare has = (let less = entry_
 pub entry_run_unique : (kind : Kind) (input : List ℕ) (a b : List EntryView) (e f : Ending) → YieldsEntries kind input a e → YieldsEntries kind input b f
     → (a ≡ b)
     × (e ≡ f)
-entry_run_unique kind input = runs.one_run (EntryStep kind) (one_piece kind) (no_entry_of_nil kind) tt input
+entry_run_unique kind input = runs.one_run (EntryStep kind) (entry_step_unique kind) (no_entry_of_nil kind) tt input
 
-bytes_of_entry : (kind : Kind) (before : ⊤) (input : List ℕ) (e : EntryView) (following : ⊤) (rest : List ℕ) → EntryStep kind before input e following rest
+entry_step_bytes_exist : (kind : Kind) (before : ⊤) (input : List ℕ) (e : EntryView) (following : ⊤) (rest : List ℕ)
+    → EntryStep kind before input e following rest
     → (bytes : List ℕ) × (input ≡ bytes ++ rest) × DecodesToEntry kind e bytes
-bytes_of_entry kind before input e following rest has = has
+entry_step_bytes_exist kind before input e following rest has = has
 
 -- the input of a complete run is a tree
 pub decodes_to_tree_of_run : (kind : Kind) (bytes : List ℕ) (entries : List EntryView) → YieldsEntries kind bytes entries complete
     → DecodesToTree kind bytes entries
-decodes_to_tree_of_run kind bytes entries test_iff = runs.run_encodings (EntryStep kind) (DecodesToEntry kind) (bytes_of_entry kind) tt bytes entries test_iff
+decodes_to_tree_of_run kind bytes entries test_iff = runs.run_encodings (EntryStep kind) (DecodesToEntry kind)
+    (entry_step_bytes_exist kind) tt bytes entries test_iff
 
-all_yielded : (kind : Kind) (bytes : List ℕ) (entries : List EntryView) (encodings : List (List ℕ)) → bytes ≡ concat encodings
+yields_entries_of_concat : (kind : Kind) (bytes : List ℕ) (entries : List EntryView) (encodings : List (List ℕ)) → bytes ≡ concat encodings
     → AllZip (DecodesToEntry kind) entries encodings → YieldsEntries kind bytes entries complete
-all_yielded kind bytes [] [] joined are = rw joined (yields_end tt)
-all_yielded kind bytes [] (first ∷ encodings) joined are = absurd are
-all_yielded kind bytes (e ∷ entries) [] joined are = absurd are
-all_yielded kind bytes (e ∷ entries) (first ∷ encodings) joined are = yields_piece tt tt bytes (concat encodings) e entries complete (first, joined, are.0)
-    (all_yielded kind (concat encodings) entries encodings refl are.1)
+yields_entries_of_concat kind bytes [] [] joined are = rw joined (yields_end tt)
+yields_entries_of_concat kind bytes [] (first ∷ encodings) joined are = absurd are
+yields_entries_of_concat kind bytes (e ∷ entries) [] joined are = absurd are
+yields_entries_of_concat kind bytes (e ∷ entries) (first ∷ encodings) joined are =
+    yields_piece tt tt bytes (concat encodings) e entries complete (first, joined, are.0)
+    (yields_entries_of_concat kind (concat encodings) entries encodings refl are.1)
 
 -- the run over a tree is complete
 pub yields_entries_iff : (kind : Kind) (bytes : List ℕ) (entries : List EntryView) → DecodesToTree kind bytes entries
     → YieldsEntries kind bytes entries complete
-yields_entries_iff kind bytes entries (encodings, joined, are) = all_yielded kind bytes entries encodings joined are
+yields_entries_iff kind bytes entries (encodings, joined, are) = yields_entries_of_concat kind bytes entries encodings joined are
 
 pub tree_unique : (kind : Kind) (bytes : List ℕ) (a b : List EntryView) → DecodesToTree kind bytes a → DecodesToTree kind bytes b → a ≡ b
 tree_unique kind bytes a b first second = (entry_run_unique kind bytes a b complete complete (yields_entries_iff kind bytes a first)
@@ -76,15 +79,15 @@ decodes_to_tree_at_end kind input rest entries bare passed =
     let ends : YieldsEntries kind rest [] complete = rw bare (yields_end tt) in
     decodes_to_tree_of_run kind input entries (yields_passed (EntryStep kind) tt tt input rest entries complete passed ends)
 
-no_piece : (kind : Kind) (input : List ℕ) → BeginsWithNoEntry kind input → HasNoPiece (EntryStep kind) tt input
-no_piece kind input none = λ e following rest has. none e rest has
+no_piece_of_no_entry : (kind : Kind) (input : List ℕ) → BeginsWithNoEntry kind input → HasNoPiece (EntryStep kind) tt input
+no_piece_of_no_entry kind input none = λ e following rest has. none e rest has
 
 -- bytes are malformed if their rest begins with no entry
 pub malformed_tree_of_no_entry : (kind : Kind) (input rest : List ℕ) (entries : List EntryView) → rest ≢ [] → BeginsWithNoEntry kind rest
     → PassesEntries kind input entries rest
     → IsMalformedTree kind input
 malformed_tree_of_no_entry kind input rest entries some none passed = λ others is.
-    let stops : YieldsEntries kind rest [] broken = yields_error tt rest some (no_piece kind rest none) in
+    let stops : YieldsEntries kind rest [] broken = yields_error tt rest some (no_piece_of_no_entry kind rest none) in
     let run = yields_passed (EntryStep kind) tt tt input rest entries broken passed stops in
     let same = entry_run_unique kind input entries others broken complete run (yields_entries_iff kind input others is) in
     cc same.1

@@ -18,27 +18,27 @@ before_zero bytes = prefix_len (λ x. not (eqb x 0)) bytes
 abbrev pub IsNearZero : ℕ → List ℕ → ℕ → Type 0
 IsNearZero m content n = (n < m) × SplitsAt 0 content (take n content) (drop (suc n) content)
 
-filled : (x : ℕ) → suc x ≡ 0 → ⊥
-filled x e = omega arith
+suc_ne_zero : (x : ℕ) → suc x ≡ 0 → ⊥
+suc_ne_zero x e = omega arith
 
-other : (x : ℕ) → eqb (suc x) 0 ≡ false
-other x = ne_eqb (suc x) 0 (filled x)
+eqb_suc_zero : (x : ℕ) → eqb (suc x) 0 ≡ false
+eqb_suc_zero x = ne_eqb (suc x) 0 (suc_ne_zero x)
 
-bits_later : (x : ℕ) (bytes : List ℕ) → zero_bits (suc x ∷ bytes) ≡ 2 * zero_bits bytes
-bits_later x bytes = ap (λ (b : Bool). cond b 1 0 + 2 * zero_bits bytes) (other x) ∙ omega arith
+zero_bits_cons_suc : (x : ℕ) (bytes : List ℕ) → zero_bits (suc x ∷ bytes) ≡ 2 * zero_bits bytes
+zero_bits_cons_suc x bytes = ap (λ (b : Bool). cond b 1 0 + 2 * zero_bits bytes) (eqb_suc_zero x) ∙ omega arith
 
-before_later : (x : ℕ) (bytes : List ℕ) → before_zero (suc x ∷ bytes) ≡ 1 + before_zero bytes
-before_later x bytes = ap (λ (b : Bool). cond (not b) (1 + before_zero bytes) 0) (other x)
+before_zero_cons_suc : (x : ℕ) (bytes : List ℕ) → before_zero (suc x ∷ bytes) ≡ 1 + before_zero bytes
+before_zero_cons_suc x bytes = ap (λ (b : Bool). cond (not b) (1 + before_zero bytes) 0) (eqb_suc_zero x)
 
-later : (m x k n : ℕ) (content : List ℕ) → n ≡ 1 + k → IsNearZero m content k → IsNearZero (suc m) (suc x ∷ content) n
-later m x k n content is near =
+is_near_zero_cons_suc : (m x k n : ℕ) (content : List ℕ) → n ≡ 1 + k → IsNearZero m content k → IsNearZero (suc m) (suc x ∷ content) n
+is_near_zero_cons_suc m x k n content is near =
     let next : suc k ≡ n = omega arith in
     let there : IsNearZero (suc m) (suc x ∷ content) (suc k) = (
       omega (arith, near.0),
       record {
         joined = ap (λ (it : List ℕ). suc x ∷ it) near.1.joined;
         first = All-cons (λ it. it ≢ 0) (suc x) (take k content)
-            (filled x) near.1.first;
+            (suc_ne_zero x) near.1.first;
       },
     ) in
     let P : ℕ → Type 0 = λ it. IsNearZero (suc m) (suc x ∷ content) it in
@@ -49,14 +49,14 @@ is_near_zero_of_bits zero content some = absurd (omega arith)
 is_near_zero_of_bits (suc m) [] some = absurd (omega arith)
 is_near_zero_of_bits (suc m) (zero ∷ content) some = (omega arith, record { joined = refl; first = All-nil (λ it. it ≢ 0) })
 is_near_zero_of_bits (suc m) (suc x ∷ content) some =
-    later m x (before_zero (take m content)) (before_zero (take (suc m) (suc x ∷ content))) content (before_later x (take m content))
-    (is_near_zero_of_bits m content (omega (arith, some, bits_later x (take m content))))
+    is_near_zero_cons_suc m x (before_zero (take m content)) (before_zero (take (suc m) (suc x ∷ content))) content (before_zero_cons_suc x (take m content))
+    (is_near_zero_of_bits m content (omega (arith, some, zero_bits_cons_suc x (take m content))))
 
 pub byte_free_of_no_bits : (bytes : List ℕ) → zero_bits bytes ≡ 0 → IsByteFree 0 bytes
 byte_free_of_no_bits [] none = All-nil (λ it. it ≢ 0)
 byte_free_of_no_bits (zero ∷ bytes) none = absurd (omega arith)
-byte_free_of_no_bits (suc x ∷ bytes) none = All-cons (λ it. it ≢ 0) (suc x) bytes (filled x)
-    (byte_free_of_no_bits bytes (omega (arith, none, bits_later x bytes)))
+byte_free_of_no_bits (suc x ∷ bytes) none = All-cons (λ it. it ≢ 0) (suc x) bytes (suc_ne_zero x)
+    (byte_free_of_no_bits bytes (omega (arith, none, zero_bits_cons_suc x bytes)))
 
 -- a mask other than zero has a bit
 pub len_pos_of_bit : (m n : ℕ) → m ≡ n → (m ≡ 0 → ⊥) → 0 < n

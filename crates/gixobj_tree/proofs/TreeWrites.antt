@@ -39,9 +39,9 @@ take_cons_drop items i e h is =
     let rest : drop i items ≡ e ∷ drop (i + 1) items = drop_more items i e h ∙ ap (λ (x : EntryView). x ∷ drop (i + 1) items) (sym is) in
     sym (take-append-drop i items) ∙ ap (λ (xs : List EntryView). take i items ++ xs) rest
 
-bytes_at : (items : List EntryView) (i : ℕ) (e : EntryView) → i < length items → e ≡ get_or items i e
+encode_tree_at : (items : List EntryView) (i : ℕ) (e : EntryView) → i < length items → e ≡ get_or items i e
     → encode_tree items ≡ encode_tree (take i items) ++ (encode_entry e ++ encode_tree (drop (i + 1) items))
-bytes_at items i e h is = ap encode_tree (take_cons_drop items i e h is) ∙ flat_map-append encode_entry (take i items) (e ∷ drop (i + 1) items)
+encode_tree_at items i e h is = ap encode_tree (take_cons_drop items i e h is) ∙ flat_map-append encode_entry (take i items) (e ∷ drop (i + 1) items)
 
 pub no_error_of_written_tree : (items : List EntryView) (value : RejectedValue) (parts : List ℕ) → AreFree items → IsTreeEncodeError items value parts → ⊥
 no_error_of_written_tree items value parts free r =
@@ -62,7 +62,7 @@ pub writing_error_at_entry : (a b c : SinkView) (items : List EntryView) (i : �
     → IsWritingError (IsEntryEncodeError e) b c (encode_entry e) why
     → IsWritingError (IsTreeEncodeError items) a c (encode_tree items) why
 writing_error_at_entry a b c items i e h is write_bytes free why says =
-    rw (bytes_at items i e h is) (writing_error_within (IsEntryEncodeError e) (IsTreeEncodeError items) a b c (encode_tree (take i items))
+    rw (encode_tree_at items i e h is) (writing_error_within (IsEntryEncodeError e) (IsTreeEncodeError items) a b c (encode_tree (take i items))
     (encode_entry e)
     (encode_tree (drop (i + 1) items)) write_bytes
     (λ value parts r. record {
@@ -78,18 +78,18 @@ writing_error_at_entry a b c items i e h is write_bytes free why says =
     why says)
 
 -- a list that splits after free entries, and at a name with a zero byte: the splits are the same, or the second is later
-splits_at_or_after : (first rest prefix back : List EntryView) (e entry : EntryView) → first ++ e ∷ rest ≡ prefix ++ entry ∷ back → AreFree first
+split_eq_or_prefix_longer : (first rest prefix back : List EntryView) (e entry : EntryView) → first ++ e ∷ rest ≡ prefix ++ entry ∷ back → AreFree first
     → Contains entry.name 0
     → ((prefix ≡ first) × (entry ≡ e)) ⊎ (length (encode_tree first) + length (encode_entry e) ≤ length (encode_tree prefix))
-splits_at_or_after [] rest [] back e entry same free has = inl (refl, cc same)
-splits_at_or_after [] rest (p ∷ prefix) back e entry same free has =
+split_eq_or_prefix_longer [] rest [] back e entry same free has = inl (refl, cc same)
+split_eq_or_prefix_longer [] rest (p ∷ prefix) back e entry same free has =
     let here : e ≡ p = cc same in
     inr (omega (arith, ap (λ (x : EntryView). length (encode_entry x)) here, length-append (encode_entry p) (encode_tree prefix)))
-splits_at_or_after (f ∷ first) rest [] back e entry same free has =
+split_eq_or_prefix_longer (f ∷ first) rest [] back e entry same free has =
     let here : f ≡ entry = cc same in
     let its_free = All-head (λ (x : EntryView). IsByteFree 0 x.name) f first free in
     absurd (All-contains (λ (it : ℕ). it ≡ 0 → ⊥) entry.name 0 (subst (λ (x : EntryView). IsByteFree 0 x.name) here its_free) has refl)
-splits_at_or_after (f ∷ first) rest (p ∷ prefix) back e entry same free has =
+split_eq_or_prefix_longer (f ∷ first) rest (p ∷ prefix) back e entry same free has =
     let here : f ≡ p = cc same in
     let following : first ++ e ∷ rest ≡ prefix ++ entry ∷ back = cc same in
     ⊎_elim (λ it. inl (ap (λ (xs : List EntryView). p ∷ xs) it.0 ∙ ap (λ (x : EntryView). x ∷ first) (sym here), it.1))
@@ -100,21 +100,21 @@ splits_at_or_after (f ∷ first) rest (p ∷ prefix) back e entry same free has 
       length-append (encode_entry f) (encode_tree first),
       length-append (encode_entry p) (encode_tree prefix),
     )))
-    (splits_at_or_after first rest prefix back e entry following (All-tail (λ (x : EntryView). IsByteFree 0 x.name) f first free) has)
+    (split_eq_or_prefix_longer first rest prefix back e entry following (All-tail (λ (x : EntryView). IsByteFree 0 x.name) f first free) has)
 
 -- the value that is rejected is of the entry after free entries, or comes after that entry
-rejected_at_or_after : (items : List EntryView) (i : ℕ) (e : EntryView) → i < length items → e ≡ get_or items i e → AreFree (take i items)
+tree_error_at_entry_or_after : (items : List EntryView) (i : ℕ) (e : EntryView) → i < length items → e ≡ get_or items i e → AreFree (take i items)
     → (value : RejectedValue) (parts : List ℕ) → IsTreeEncodeError items value parts
     → ((begun : List ℕ) × IsEntryEncodeError e value begun × (parts ≡ encode_tree (take i items) ++ begun))
     ⊎ (length (encode_tree (take i items)) + length (encode_entry e) ≤ length parts)
-rejected_at_or_after items i e h is free value parts r =
+tree_error_at_entry_or_after items i e h is free value parts r =
     ⊎_elim (λ it. inl (
       r.partial,
       subst (λ (x : EntryView). IsEntryEncodeError x value r.partial) it.1 r.rejected,
       r.written ∙ ap (λ (xs : List EntryView). encode_tree xs ++ r.partial) it.0,
     ))
     (λ later. inr (omega (arith, later, ap length r.written, length-append (encode_tree r.prefix) r.partial)))
-    (splits_at_or_after (take i items) (drop (i + 1) items) r.prefix r.rest e r.entry (sym (take_cons_drop items i e h is) ∙ r.joined) free r.rejected.0)
+    (split_eq_or_prefix_longer (take i items) (drop (i + 1) items) r.prefix r.rest e r.entry (sym (take_cons_drop items i e h is) ∙ r.joined) free r.rejected.0)
 
 -- an entry for which a sink lacks room, after accepted entries, is one of a tree for which it lacks room
 pub lacks_room_at_entry : (a b c : SinkView) (items : List EntryView) (i : ℕ) (e : EntryView) → i < length items → e ≡ get_or items i e
@@ -123,10 +123,10 @@ pub lacks_room_at_entry : (a b c : SinkView) (items : List EntryView) (i : ℕ) 
     → LacksRoom (IsTreeEncodeError items) a why
 lacks_room_at_entry a b c items i e h is write_bytes free why says short =
     lacks_room_after (IsEntryEncodeError e) (IsTreeEncodeError items) a b c (encode_tree (take i items)) (encode_entry e) write_bytes
-    (rejected_at_or_after items i e h is free) why says short
+    (tree_error_at_entry_or_after items i e h is free) why says short
 
-prefix_shorter : (items : List EntryView) (n : ℕ) → length (encode_tree (take n items)) ≤ length (encode_tree items)
-prefix_shorter items n =
+encode_tree_take_len_le : (items : List EntryView) (n : ℕ) → length (encode_tree (take n items)) ≤ length (encode_tree items)
+encode_tree_take_len_le items n =
     let e : encode_tree items ≡ encode_tree (take n items) ++ encode_tree (drop n items) = ap encode_tree (sym (take-append-drop n items))
     ∙ flat_map-append encode_entry (take n items) (drop n items) in
     omega (arith, ap length e, length-append (encode_tree (take n items)) (encode_tree (drop n items)))
@@ -144,14 +144,14 @@ no_overflow_of_tree items all i e n same h is len over short =
       ap length (encode_tree_take_succ items i e h is),
       length-append (encode_tree (take i items))
           (encode_entry e),
-      prefix_shorter items (i + 1),
+      encode_tree_take_len_le items (i + 1),
     ))
 
 -- ---- the size, as that of the modes and the names, and that of the spaces, zero bytes and ids
 
 -- an entry has a space, a zero byte and an id next to its mode and its name
-entry_len : (e : EntryView) → length (encode_entry e) ≡ length (encode_mode_and_name e) + 2 + length (id_bytes e.id)
-entry_len e = omega (
+encode_entry_len : (e : EntryView) → length (encode_entry e) ≡ length (encode_mode_and_name e) + 2 + length (id_bytes e.id)
+encode_entry_len e = omega (
   arith,
   length-append (before_name e ++ e.name) (0 ∷ id_bytes e.id),
   length-append (before_name e) e.name,
@@ -169,7 +169,7 @@ tree_len_take_succ items i e size more longer one h is so_far write_bytes len =
       arith,
       so_far,
       write_bytes,
-      entry_len e,
+      encode_entry_len e,
       len,
       ap length (encode_tree_take_succ items i e h is),
       length-append (encode_tree (take i items))
@@ -185,12 +185,12 @@ no_overflow_of_size items all i e size longer same h is so_far over short =
       arith,
       short,
       so_far,
-      entry_len e,
+      encode_entry_len e,
       ap length (ap encode_tree same),
       ap length (encode_tree_take_succ items i e h is),
       length-append
           (encode_tree (take i items)) (encode_entry e),
-      prefix_shorter items (i + 1),
+      encode_tree_take_len_le items (i + 1),
     ))
 
 -- ---- an entry

@@ -51,23 +51,23 @@ pub iff_of_test : (b : Bool) (P : Type 0) → MatchBool b P (P → ⊥) → (b �
 iff_of_test true P h = (λ e. h, λ p. refl)
 iff_of_test false P h = (λ e. absurd (true≢false (sym e)), λ p. absurd (h p))
 
-less : (o : Ordering) → true ≡ is_lt o → o ≡ Less
-less Less e = refl
-less Equal e = absurd (true≢false e)
-less Greater e = absurd (true≢false e)
+less_of_is_lt : (o : Ordering) → true ≡ is_lt o → o ≡ Less
+less_of_is_lt Less e = refl
+less_of_is_lt Equal e = absurd (true≢false e)
+less_of_is_lt Greater e = absurd (true≢false e)
 
-not_less : (o : Ordering) → false ≡ is_lt o → o ≢ Less
-not_less Less e = absurd (true≢false (sym e))
-not_less Equal e = λ q. absurd (true≢false (ap is_lt (sym q)))
-not_less Greater e = λ q. absurd (true≢false (ap is_lt (sym q)))
+not_less_of_not_is_lt : (o : Ordering) → false ≡ is_lt o → o ≢ Less
+not_less_of_not_is_lt Less e = absurd (true≢false (sym e))
+not_less_of_not_is_lt Equal e = λ q. absurd (true≢false (ap is_lt (sym q)))
+not_less_of_not_is_lt Greater e = λ q. absurd (true≢false (ap is_lt (sym q)))
 
 -- the result of `is_sorted_by` decides whether the keys ascend
 pub each_later_of_test : (entries : List EntryView) (b : Bool)
     → IsAllAdjacentAnswer (λ x y t. t ≡ is_lt (slice_cmp nat_cmp (entry_key x) (entry_key y))) entries b
     → MatchBool b (EachLater ComesBefore entries) (EachLater ComesBefore entries → ⊥)
-each_later_of_test entries true h = later_from_next ComesBefore comes_before_trans entries (λ k d l. less _ (h k d l))
+each_later_of_test entries true h = later_from_next ComesBefore comes_before_trans entries (λ k d l. less_of_is_lt _ (h k d l))
 each_later_of_test [] false h = absurd (omega (arith, h.1))
-each_later_of_test (e ∷ es) false h = λ up. not_less _ (h.2 e) (later_at ComesBefore (e ∷ es) up h.0 (h.0 + 1) e (omega arith) h.1)
+each_later_of_test (e ∷ es) false h = λ up. not_less_of_not_is_lt _ (h.2 e) (later_at ComesBefore (e ∷ es) up h.0 (h.0 + 1) e (omega arith) h.1)
 
 -- the binary search: keys that tie are equal
 pub eq_of_slice_cmp_equal : (xs ys : List ℕ) → slice_cmp nat_cmp xs ys ≡ Equal → xs ≡ ys
@@ -76,67 +76,68 @@ eq_of_slice_cmp_equal xs ys e = (bytes_decides xs ys).0 (texts_ties xs ys ∙ ap
 pub slice_cmp_equal_of_eq : (xs ys : List ℕ) → xs ≡ ys → slice_cmp nat_cmp xs ys ≡ Equal
 slice_cmp_equal_of_eq xs ys e = rw e (tied_itself nat_list_cmp_total ys)
 
-after : (x y : EntryView) → ComesBefore x y → is_lt (slice_cmp nat_cmp (entry_key y) (entry_key x)) ≡ false
-after x y h = ap is_lt (nat_list_cmp_total.antisymm (entry_key y) (entry_key x) ∙ ap ordering_reverse h)
+key_not_lt_of_comes_before : (x y : EntryView) → ComesBefore x y → is_lt (slice_cmp nat_cmp (entry_key y) (entry_key x)) ≡ false
+key_not_lt_of_comes_before x y h = ap is_lt (nat_list_cmp_total.antisymm (entry_key y) (entry_key x) ∙ ap ordering_reverse h)
 
-sorted : (entries : List EntryView) → EachLater ComesBefore entries
+is_sorted_by_key_of_ordered : (entries : List EntryView) → EachLater ComesBefore entries
     → IsSortedBy (λ a b. is_lt (slice_cmp nat_cmp (entry_key a) (entry_key b))) entries
-sorted entries up = λ k d low high. after (get_or entries k d) (get_or entries (k + 1) d)
+is_sorted_by_key_of_ordered entries up = λ k d low high. key_not_lt_of_comes_before (get_or entries k d) (get_or entries (k + 1) d)
     (later_at ComesBefore entries up k (k + 1) d (omega arith) high)
 
-outside : (o : Ordering) → o ≡ Less → o ≢ Equal
-outside o e q = absurd (true≢false (ap is_lt (sym e ∙ q)))
+less_ne_equal : (o : Ordering) → o ≡ Less → o ≢ Equal
+less_ne_equal o e q = absurd (true≢false (ap is_lt (sym e ∙ q)))
 
-beyond : (o : Ordering) → o ≡ Greater → o ≢ Equal
-beyond o e q = absurd (true≢false (ap is_eq (sym q ∙ e)))
+greater_ne_equal : (o : Ordering) → o ≡ Greater → o ≢ Equal
+greater_ne_equal o e q = absurd (true≢false (ap is_eq (sym q ∙ e)))
 
-at_key : (entries : List EntryView) (key : List ℕ) (i : ℕ) → i < length entries → HoldsAt (λ e. slice_cmp nat_cmp (entry_key e) key ≡ Equal) entries i
+has_key_at : (entries : List EntryView) (key : List ℕ) (i : ℕ) → i < length entries → HoldsAt (λ e. slice_cmp nat_cmp (entry_key e) key ≡ Equal) entries i
     → HasKey entries key
-at_key [] key i l h = absurd (omega arith)
-at_key (e ∷ es) key i l h = (get_or (e ∷ es) i e, Contains-get_or (e ∷ es) i e l, eq_of_slice_cmp_equal _ _ (h e))
+has_key_at [] key i l h = absurd (omega arith)
+has_key_at (e ∷ es) key i l h = (get_or (e ∷ es) i e, Contains-get_or (e ∷ es) i e l, eq_of_slice_cmp_equal _ _ (h e))
 
-nowhere : (entries : List EntryView) (key : List ℕ) (i : ℕ) → IsPartitionPoint (λ e. slice_cmp nat_cmp (entry_key e) key ≡ Less)
+no_key_at_partition_point : (entries : List EntryView) (key : List ℕ) (i : ℕ) → IsPartitionPoint (λ e. slice_cmp nat_cmp (entry_key e) key ≡ Less)
     (λ e. slice_cmp nat_cmp (entry_key e) key ≡ Greater) entries i → HasKey entries key → ⊥
-nowhere entries key i split has =
+no_key_at_partition_point entries key i split has =
     let there = has.1 in
     let same : slice_cmp nat_cmp (entry_key (get_or entries there.0 has.0)) key ≡ Equal = slice_cmp_equal_of_eq _ _ (ap entry_key there.2 ∙ has.2) in
     elim (leb_tells i there.0) [
-      | inl following ↦ beyond _ (split.1 there.0 has.0 following.1 there.1) same
-      | inr before ↦ outside _ (split.0 there.0 has.0 (omega arith) before.1) same
+      | inl following ↦ greater_ne_equal _ (split.1 there.0 has.0 following.1 there.1) same
+      | inr before ↦ less_ne_equal _ (split.0 there.0 has.0 (omega arith) before.1) same
     ]
 
 pub has_key_of_test : (entries : List EntryView) (key : List ℕ) (r : Result ℕ ℕ) (b : Bool) → b ≡ is_ok r → EachLater ComesBefore entries
     → IsSearchInRange r (length entries)
     → IsBinarySearchResult (λ e. slice_cmp nat_cmp (entry_key e) key) entries r → MatchBool b (HasKey entries key) (HasKey entries key → ⊥)
-has_key_of_test entries key (Ok i) true e up range h = at_key entries key i range h
+has_key_of_test entries key (Ok i) true e up range h = has_key_at entries key i range h
 has_key_of_test entries key (Ok i) false e up range h = absurd (true≢false (sym e))
 has_key_of_test entries key (Err i) true e up range h = absurd (true≢false e)
 has_key_of_test entries key (Err i) false e up range h =
-    nowhere entries key i (h (searchable_from_sorted nat_list_cmp_total entry_key entries key (sorted entries up)))
+    no_key_at_partition_point entries key i (h (searchable_from_sorted nat_list_cmp_total entry_key entries key (is_sorted_by_key_of_ordered entries up)))
 
 -- entries of one name
-key_at : (e : EntryView) (is_tree : Bool) → is_tree_mode e.mode ≡ is_tree → entry_key e ≡ key_of e.name is_tree
-key_at e is_tree kind = ap (key_of e.name) kind
+entry_key_of_kind : (e : EntryView) (is_tree : Bool) → is_tree_mode e.mode ≡ is_tree → entry_key e ≡ key_of e.name is_tree
+entry_key_of_kind e is_tree kind = ap (key_of e.name) kind
 
-not_before : (x y : EntryView) → is_tree_mode x.mode ≡ is_tree_mode y.mode → x.name ≡ y.name → ComesBefore x y → ⊥
-not_before x y kinds names before = outside _ before (slice_cmp_equal_of_eq _ _ (ap (key_of x.name) kinds ∙ ap (λ n. key_of n (is_tree_mode y.mode)) names))
+not_comes_before_same_name : (x y : EntryView) → is_tree_mode x.mode ≡ is_tree_mode y.mode → x.name ≡ y.name → ComesBefore x y → ⊥
+not_comes_before_same_name x y kinds names before = less_ne_equal _ before
+    (slice_cmp_equal_of_eq _ _ (ap (key_of x.name) kinds ∙ ap (λ n. key_of n (is_tree_mode y.mode)) names))
 
-namesakes : (entries : List EntryView) (x y : EntryView) (t u : Bool) → is_tree_mode x.mode ≡ t → is_tree_mode y.mode ≡ u → x.name ≡ y.name
+has_namesake_of_same_name : (entries : List EntryView) (x y : EntryView) (t u : Bool) → is_tree_mode x.mode ≡ t → is_tree_mode y.mode ≡ u → x.name ≡ y.name
     → ComesBefore x y
     → Contains entries x → Contains entries y → HasNamesake entries x ⊎ HasNamesake entries y
-namesakes entries x y true true p q names before in_x in_y = absurd (not_before x y (p ∙ sym q) names before)
-namesakes entries x y true false p q names before in_x in_y = inl (p, (y, in_y, key_at y false q ∙ sym names))
-namesakes entries x y false true p q names before in_x in_y = inr (q, (x, in_x, key_at x false p ∙ names))
-namesakes entries x y false false p q names before in_x in_y = absurd (not_before x y (p ∙ sym q) names before)
+has_namesake_of_same_name entries x y true true p q names before in_x in_y = absurd (not_comes_before_same_name x y (p ∙ sym q) names before)
+has_namesake_of_same_name entries x y true false p q names before in_x in_y = inl (p, (y, in_y, entry_key_of_kind y false q ∙ sym names))
+has_namesake_of_same_name entries x y false true p q names before in_x in_y = inr (q, (x, in_x, entry_key_of_kind x false p ∙ names))
+has_namesake_of_same_name entries x y false false p q names before in_x in_y = absurd (not_comes_before_same_name x y (p ∙ sym q) names before)
 
-none_apart : (entries : List EntryView) → EachLater ComesBefore entries → AllWithin (λ e. HasNamesake entries e → ⊥) entries 0 (length entries)
+are_apart_of_no_namesake : (entries : List EntryView) → EachLater ComesBefore entries → AllWithin (λ e. HasNamesake entries e → ⊥) entries 0 (length entries)
     → AreApart entries
-none_apart entries up none =
+are_apart_of_no_namesake entries up none =
     later_from (λ x y. x.name ≢ y.name) entries (λ i j d low high names.
     let x = get_or entries i d in
     let y = get_or entries j d in
     let early : i < length entries = omega arith in
-    elim (namesakes entries x y _ _ refl refl names (later_at ComesBefore entries up i j d low high) (Contains-get_or entries i d early)
+    elim (has_namesake_of_same_name entries x y _ _ refl refl names (later_at ComesBefore entries up i j d low high) (Contains-get_or entries i d early)
     (Contains-get_or entries j d high)) [
       | inl h ↦ none i d (omega arith) early h
       | inr h ↦ none j d (omega arith) high h
@@ -145,41 +146,41 @@ none_apart entries up none =
 pub no_slash_at_end : (name : List ℕ) → IsByteFree 47 (name ++ 47 ∷ []) → ⊥
 no_slash_at_end name free = All-contains (λ it. it ≢ 47) (name ++ 47 ∷ []) 47 free (Contains-push name 47) refl
 
-kinds_differ : (x y : EntryView) → is_tree_mode x.mode ≡ true → is_tree_mode y.mode ≡ false → x ≢ y
-kinds_differ x y p q e = true≢false (sym p ∙ ap (λ (v : EntryView). is_tree_mode v.mode) e ∙ q)
+tree_ne_non_tree : (x y : EntryView) → is_tree_mode x.mode ≡ true → is_tree_mode y.mode ≡ false → x ≢ y
+tree_ne_non_tree x y p q e = true≢false (sym p ∙ ap (λ (v : EntryView). is_tree_mode v.mode) e ∙ q)
 
-order : (i j : ℕ) → (i < j) ⊎ ((i ≡ j) ⊎ (j < i))
-order i j = elim (leb_tells i j) [
+lt_or_eq_or_gt : (i j : ℕ) → (i < j) ⊎ ((i ≡ j) ⊎ (j < i))
+lt_or_eq_or_gt i j = elim (leb_tells i j) [
   | inl below ↦ elim (leb_tells j i) [ inl above ↦ inr (inl (omega arith)) | inr strict ↦ inl strict.1 ]
   | inr above ↦ inr
       (inr above.1)
 ]
 
 -- no entry's key is the bare name of a tree in a list of distinct names
-together : (entries : List EntryView) → AreApart entries → (tree other : EntryView) (t : Bool) → is_tree_mode other.mode ≡ t
+entry_key_ne_tree_name : (entries : List EntryView) → AreApart entries → (tree other : EntryView) (t : Bool) → is_tree_mode other.mode ≡ t
     → is_tree_mode tree.mode ≡ true
     → IsEntryName tree.name
     → Contains entries tree → Contains entries other → entry_key other ≡ tree.name → ⊥
-together entries apart tree other true kind is name at_tree at_other same =
-    no_slash_at_end other.name (subst (IsByteFree 47) (sym same ∙ key_at other true kind) name.one_name)
-together entries apart tree other false kind is name at_tree at_other same =
-    let names : other.name ≡ tree.name = sym (key_at other false kind) ∙ same in
+entry_key_ne_tree_name entries apart tree other true kind is name at_tree at_other same =
+    no_slash_at_end other.name (subst (IsByteFree 47) (sym same ∙ entry_key_of_kind other true kind) name.one_name)
+entry_key_ne_tree_name entries apart tree other false kind is name at_tree at_other same =
+    let names : other.name ≡ tree.name = sym (entry_key_of_kind other false kind) ∙ same in
     let at = at_from_Contains entries tree at_tree in
     let other_at = at_from_Contains entries other at_other in
     let here : (get_or entries at.0 tree).name ≡ tree.name = ap (λ (v : EntryView). v.name) (at.2 tree) in
     let there : (get_or entries other_at.0 tree).name ≡ other.name = ap (λ (v : EntryView). v.name) (other_at.2 tree) in
-    elim (order at.0 other_at.0) [
+    elim (lt_or_eq_or_gt at.0 other_at.0) [
       | inl before ↦ later_at (λ x y. x.name ≢ y.name) entries apart at.0 other_at.0 tree before other_at.1 (here ∙ sym names ∙ sym there)
-      | inr (inl e) ↦ kinds_differ tree other is kind (sym (at.2 tree) ∙ ap (λ (n : ℕ). get_or entries n tree) e ∙ other_at.2 tree)
+      | inr (inl e) ↦ tree_ne_non_tree tree other is kind (sym (at.2 tree) ∙ ap (λ (n : ℕ). get_or entries n tree) e ∙ other_at.2 tree)
       | inr (inr following) ↦ later_at (λ x y. x.name ≢ y.name) entries apart other_at.0 at.0 tree following at.1 (there ∙ names ∙ sym here)
     ]
 
 pub are_apart_of_test : (entries : List EntryView) (b : Bool) → HaveEntryNames entries → EachLater ComesBefore entries
     → MatchBool b ((k : ℕ) × (k < length entries) × HoldsAt (HasNamesake entries) entries k)
     (AllWithin (λ e. HasNamesake entries e → ⊥) entries 0 (length entries)) → MatchBool (not b) (AreApart entries) (AreApart entries → ⊥)
-are_apart_of_test entries false names up h = none_apart entries up h
+are_apart_of_test entries false names up h = are_apart_of_no_namesake entries up h
 are_apart_of_test [] true names up h = absurd (omega (arith, h.1))
 are_apart_of_test (e ∷ es) true names up h = λ are.
     let tree = get_or (e ∷ es) h.0 e in
     let namesake : HasNamesake (e ∷ es) tree = h.2 e in
-    together (e ∷ es) are tree namesake.1.0 _ refl namesake.0 (names h.0 e h.1) (Contains-get_or (e ∷ es) h.0 e h.1) namesake.1.1 namesake.1.2
+    entry_key_ne_tree_name (e ∷ es) are tree namesake.1.0 _ refl namesake.0 (names h.0 e h.1) (Contains-get_or (e ∷ es) h.0 e h.1) namesake.1.1 namesake.1.2

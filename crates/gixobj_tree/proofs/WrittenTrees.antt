@@ -26,51 +26,52 @@ encode_tree_len_take_succ view xs i x n m low is so_far more =
 
 -- ---- decoded and re-encoded
 
-regrouped : (digits name id : List ℕ) → (digits ++ 32 ∷ []) ++ name ++ 0 ∷ id ≡ digits ++ 32 ∷ (name ++ 0 ∷ id)
-regrouped digits name id = append_assoc (digits ++ 32 ∷ []) name (0 ∷ id) ∙ append_assoc digits (32 ∷ []) (name ++ 0 ∷ id)
+append_space_name_assoc : (digits name id : List ℕ) → (digits ++ 32 ∷ []) ++ name ++ 0 ∷ id ≡ digits ++ 32 ∷ (name ++ 0 ∷ id)
+append_space_name_assoc digits name id = append_assoc (digits ++ 32 ∷ []) name (0 ∷ id) ∙ append_assoc digits (32 ∷ []) (name ++ 0 ∷ id)
 
-own_bytes : (kind : Kind) (e : EntryView) (bytes : List ℕ) → DecodesToCanonicalEntry kind e bytes → encode_entry e ≡ bytes
-own_bytes kind e bytes it = rw (← it.own) (regrouped it.is.digits e.name (id_bytes e.id)) ∙ sym it.is.joined
+encode_entry_of_canonical : (kind : Kind) (e : EntryView) (bytes : List ℕ) → DecodesToCanonicalEntry kind e bytes → encode_entry e ≡ bytes
+encode_entry_of_canonical kind e bytes it = rw (← it.own) (append_space_name_assoc it.is.digits e.name (id_bytes e.id)) ∙ sym it.is.joined
 
-all_own : (kind : Kind) (entries : List EntryView) (encodings : List (List ℕ)) → AllZip (DecodesToCanonicalEntry kind) entries encodings
+encode_tree_of_canonical : (kind : Kind) (entries : List EntryView) (encodings : List (List ℕ)) → AllZip (DecodesToCanonicalEntry kind) entries encodings
     → encode_tree entries ≡ concat encodings
-all_own kind [] [] are = refl
-all_own kind [] (bytes ∷ encodings) are = absurd are
-all_own kind (e ∷ entries) [] are = absurd are
-all_own kind (e ∷ entries) (bytes ∷ encodings) are = ap (λ (it : List ℕ). it ++ encode_tree entries) (own_bytes kind e bytes are.0)
-    ∙ ap (λ (it : List ℕ). bytes ++ it) (all_own kind entries encodings are.1)
+encode_tree_of_canonical kind [] [] are = refl
+encode_tree_of_canonical kind [] (bytes ∷ encodings) are = absurd are
+encode_tree_of_canonical kind (e ∷ entries) [] are = absurd are
+encode_tree_of_canonical kind (e ∷ entries) (bytes ∷ encodings) are = ap (λ (it : List ℕ). it ++ encode_tree entries)
+    (encode_entry_of_canonical kind e bytes are.0)
+    ∙ ap (λ (it : List ℕ). bytes ++ it) (encode_tree_of_canonical kind entries encodings are.1)
 
-all_byte_strings : (kind : Kind) (entries : List EntryView) (encodings : List (List ℕ)) → AllZip (DecodesToCanonicalEntry kind) entries encodings
+all_decode_of_canonical : (kind : Kind) (entries : List EntryView) (encodings : List (List ℕ)) → AllZip (DecodesToCanonicalEntry kind) entries encodings
     → AllZip (DecodesToEntry kind) entries encodings
-all_byte_strings kind [] [] are = tt
-all_byte_strings kind [] (bytes ∷ encodings) are = absurd are
-all_byte_strings kind (e ∷ entries) [] are = absurd are
-all_byte_strings kind (e ∷ entries) (bytes ∷ encodings) are = (are.0.is, all_byte_strings kind entries encodings are.1)
+all_decode_of_canonical kind [] [] are = tt
+all_decode_of_canonical kind [] (bytes ∷ encodings) are = absurd are
+all_decode_of_canonical kind (e ∷ entries) [] are = absurd are
+all_decode_of_canonical kind (e ∷ entries) (bytes ∷ encodings) are = (are.0.is, all_decode_of_canonical kind entries encodings are.1)
 
 pub tree_round_trips_of_written : (kind : Kind) (bytes : List ℕ) (entries : List EntryView) → HasCanonicalModes kind bytes entries
     → DecodesToTree kind bytes entries
     × (encode_tree entries ≡ bytes)
 tree_round_trips_of_written kind bytes entries (encodings, joined, are) =
-    ((encodings, joined, all_byte_strings kind entries encodings are), all_own kind entries encodings are ∙ sym joined)
+    ((encodings, joined, all_decode_of_canonical kind entries encodings are), encode_tree_of_canonical kind entries encodings are ∙ sym joined)
 
-names_free : (kind : Kind) (entries : List EntryView) (encodings : List (List ℕ)) → AllZip (DecodesToEntry kind) entries encodings → AreFree entries
-names_free kind [] [] are = All-nil (λ (e : EntryView). IsByteFree 0 e.name)
-names_free kind [] (bytes ∷ encodings) are = absurd are
-names_free kind (e ∷ entries) [] are = absurd are
-names_free kind (e ∷ entries) (bytes ∷ encodings) are = All-cons (λ (it : EntryView). IsByteFree 0 it.name) e entries are.0.name
-    (names_free kind entries encodings are.1)
+are_free_of_decoded : (kind : Kind) (entries : List EntryView) (encodings : List (List ℕ)) → AllZip (DecodesToEntry kind) entries encodings → AreFree entries
+are_free_of_decoded kind [] [] are = All-nil (λ (e : EntryView). IsByteFree 0 e.name)
+are_free_of_decoded kind [] (bytes ∷ encodings) are = absurd are
+are_free_of_decoded kind (e ∷ entries) [] are = absurd are
+are_free_of_decoded kind (e ∷ entries) (bytes ∷ encodings) are = All-cons (λ (it : EntryView). IsByteFree 0 it.name) e entries are.0.name
+    (are_free_of_decoded kind entries encodings are.1)
 
 -- no name of a decoded tree is rejected
 pub tree_rejects_nothing : (kind : Kind) (bytes : List ℕ) (entries : List EntryView) → DecodesToTree kind bytes entries
     → RejectsNothing (IsTreeEncodeError entries)
 tree_rejects_nothing kind bytes entries (encodings, joined, are) = λ value parts rejected. no_error_of_written_tree entries value parts
-    (names_free kind entries encodings are) rejected
+    (are_free_of_decoded kind entries encodings are) rejected
 
 -- ---- encoded and decoded
 
-own_entry : (kind : Kind) (e : EntryView) → RoundTrips kind e → DecodesToEntry kind e (encode_entry e)
-own_entry kind e it =
-    let joined = regrouped (encode_mode e.mode) e.name (id_bytes e.id) in
+encode_entry_decodes : (kind : Kind) (e : EntryView) → RoundTrips kind e → DecodesToEntry kind e (encode_entry e)
+encode_entry_decodes kind e it =
+    let joined = append_space_name_assoc (encode_mode e.mode) e.name (id_bytes e.id) in
     let six = encode_mode_has_six_digits e.mode (e.name ++ 0 ∷ id_bytes e.id) it.some in
     let P : List ℕ → Type 0 = λ bytes. HasSixDigits bytes (encode_mode e.mode) in
     record {
@@ -88,5 +89,5 @@ encode_tree_decodes kind (e ∷ entries) all =
     let (encodings, joined, are) = encode_tree_decodes kind entries (All-tail (RoundTrips kind) e entries all) in (
       encode_entry e ∷ encodings,
       ap (λ (it : List ℕ). encode_entry e ++ it) joined,
-      (own_entry kind e (All-head (RoundTrips kind) e entries all), are),
+      (encode_entry_decodes kind e (All-head (RoundTrips kind) e entries all), are),
     )

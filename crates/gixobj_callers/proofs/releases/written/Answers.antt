@@ -9,10 +9,10 @@ use Rattle.gix_object.specs.CommitWriting.{IsOwnedCommitError, encode_commit}
 use Rattle.gix_object.specs.commit.commit.Commit.{Commit}
 use Rattle.gixobj_callers.proofs.releases.written.Goals as goal
 
-encoding_error : (commit : Commit) (items : List ℕ) (room : ℕ) (after : SinkView) (error : Error) → items ≡ [] → room ≡ 0
+encoding_error_of_writing_error : (commit : Commit) (items : List ℕ) (room : ℕ) (after : SinkView) (error : Error) → items ≡ [] → room ≡ 0
     → IsWritingError (IsOwnedCommitError commit) (record { held = Some items; room = room }) after (encode_commit (owned_commit_lines commit)) error
     → IsEncodingError (IsOwnedCommitError commit) (encode_commit (owned_commit_lines commit)) error
-encoding_error commit items room after error none full is =
+encoding_error_of_writing_error commit items room after error none full is =
     let At : List ℕ → ℕ → Type 0 = λ xs n. IsWritingError (IsOwnedCommitError commit) (record { held = Some xs; room = n }) after
     (encode_commit (owned_commit_lines commit)) error in
     (after, subst (At []) full (subst (λ (xs : List ℕ). At xs room) none is))
@@ -22,5 +22,5 @@ returns-in_err-write_to_vec-clause-error c =
     let content = c.new-content.result in
     let full : vec_capacity content - vec_len content ≡ 0 = omega arith in
     let is : c.from_residual.result ≡ Err c.in_err-write_to_vec.field-0.0 = search rules in
-    rw is (encoding_error c.args.commit.now content.items (vec_capacity content - vec_len content) (list_view c.write_to_vec.new.out)
+    rw is (encoding_error_of_writing_error c.args.commit.now content.items (vec_capacity content - vec_len content) (list_view c.write_to_vec.new.out)
     c.in_err-write_to_vec.field-0.0 c.new-content.ensures.items full c.in_err-write_to_vec.ensures.error)

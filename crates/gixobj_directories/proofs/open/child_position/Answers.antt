@@ -35,35 +35,39 @@ loop-low-preserved c =
     ]
 
 -- the search found a directory
-within : (c : goal.In-Equal) → c.loop-low.middle < length c.args.children.now
-within c = let next = c.loop-low.invariant.next c.loop-low-test.true in omega (arith, next, c.loop-low.invariant.within)
+middle_lt_len : (c : goal.In-Equal) → c.loop-low.middle < length c.args.children.now
+middle_lt_len c = let next = c.loop-low.invariant.next c.loop-low-test.true in omega (arith, next, c.loop-low.invariant.within)
 
-here : (c : goal.In-Equal) → IsBinarySearchResult (compared child_key (key_of (bstring_bytes c.args.name.now) true)) c.args.children.now (Ok c.loop-low.middle)
-here c =
+result_ok_of_middle : (c : goal.In-Equal) → IsBinarySearchResult (compared child_key (key_of (bstring_bytes c.args.name.now) true)) c.args.children.now
+    (Ok c.loop-low.middle)
+result_ok_of_middle c =
     looked child_key c.args.children.now (key_of (bstring_bytes c.args.name.now) true) c.loop-low.middle c.index-children-middle.result
-    (within c) c.index-children-middle.is Equal
+    (middle_lt_len c) c.index-children-middle.is Equal
     (sym c.order.ensures ∙ c.in-Equal.is)
 
 pub returns-in-Equal-clause-found : goal.returns-in-Equal-clause-found
-returns-in-Equal-clause-found c = child_found c.args.children.now c.requires (bstring_bytes c.args.name.now) (Ok c.loop-low.middle) (within c) (here c)
+returns-in-Equal-clause-found c = child_found c.args.children.now c.requires (bstring_bytes c.args.name.now) (Ok c.loop-low.middle) (middle_lt_len c)
+    (result_ok_of_middle c)
 
 pub returns-in-Equal-clause-position : goal.returns-in-Equal-clause-position
-returns-in-Equal-clause-position c = child_before c.args.children.now c.requires (bstring_bytes c.args.name.now) (Ok c.loop-low.middle) (within c) (here c)
+returns-in-Equal-clause-position c = child_before c.args.children.now c.requires (bstring_bytes c.args.name.now) (Ok c.loop-low.middle) (middle_lt_len c)
+    (result_ok_of_middle c)
 
 -- the search found no directory
-up_to : (c : goal.After-loop-low) → c.loop-low.low ≤ length c.args.children.now
-up_to c = omega (arith, c.loop-low.invariant.ordered, c.loop-low.invariant.within)
+low_le_len : (c : goal.After-loop-low) → c.loop-low.low ≤ length c.args.children.now
+low_le_len c = omega (arith, c.loop-low.invariant.ordered, c.loop-low.invariant.within)
 
-nowhere : (c : goal.After-loop-low) → IsBinarySearchResult (compared child_key (key_of (bstring_bytes c.args.name.now) true)) c.args.children.now
+result_err_of_low : (c : goal.After-loop-low) → IsBinarySearchResult (compared child_key (key_of (bstring_bytes c.args.name.now) true)) c.args.children.now
     (Err c.loop-low.low)
-nowhere c =
+result_err_of_low c =
     let key = key_of (bstring_bytes c.args.name.now) true in
     narrowed_none child_key c.args.children.now key c.loop-low.low
     (subst (IsNarrowed child_key c.args.children.now key c.loop-low.low) (omega (arith, c.loop-low-test.false, c.loop-low.invariant.ordered))
     c.loop-low.invariant.narrowed)
 
 pub returns-clause-found : goal.returns-clause-found
-returns-clause-found c = child_found c.args.children.now c.requires (bstring_bytes c.args.name.now) (Err c.loop-low.low) (up_to c) (nowhere c)
+returns-clause-found c = child_found c.args.children.now c.requires (bstring_bytes c.args.name.now) (Err c.loop-low.low) (low_le_len c) (result_err_of_low c)
 
 pub returns-clause-position : goal.returns-clause-position
-returns-clause-position c = child_before c.args.children.now c.requires (bstring_bytes c.args.name.now) (Err c.loop-low.low) (up_to c) (nowhere c)
+returns-clause-position c = child_before c.args.children.now c.requires (bstring_bytes c.args.name.now) (Err c.loop-low.low) (low_le_len c)
+    (result_err_of_low c)

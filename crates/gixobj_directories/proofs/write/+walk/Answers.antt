@@ -207,8 +207,8 @@ emit_below-returns-clause-storable g t c =
     (subst IsWellFormed (sym c.entries_of-entry-items.ensures) c.node.invariant.formed)
 
 -- equal options have equal lists
-same_some : (xs ys : List EntryView) → Some xs ≡ Some ys → xs ≡ ys
-same_some xs ys is = cc is
+some_injective : (xs ys : List EntryView) → Some xs ≡ Some ys → xs ≡ ys
+some_injective xs ys is = cc is
 
 pub emit_entry-returns-in_default-clause-emitted : goal.emit_entry-returns-in_default-clause-emitted
 emit_entry-returns-in_default-clause-emitted g t c =
@@ -240,7 +240,7 @@ emit_entry-returns-in-Some-leaf_tree-clause-emitted g t c =
     let some = c.in-Some-leaf_tree.ensures.found in
     let goes = leaf_tree_has_base_or_is_emitted child.open tree some.0 some.1 some.2 in
     let found : EmitsBelow inside based [] tree 0 = emits_below_of_both _ _ inside based there base [] tree 0 goes.found in
-    let changed : based [] ≢ Some tree = λ is. goes.changed (same_some _ _ (sym is ∙ sym (ap (λ (d : Dirs). d []) base) ∙ goes.based)) in
+    let changed : based [] ≢ Some tree = λ is. goes.changed (some_injective _ _ (sym is ∙ sym (ap (λ (d : Dirs). d []) base) ∙ goes.based)) in
     let emitted = c.in_ok-passed.ensures.emitted in
     let id = c.in_ok-passed.passed in
     let gave = λ (f : g.row.F.Denot) (p : Pair) (h : g.row.F.Denot). CalledAt g.F.FnMut f p.1 (Ok p.0) h in (
@@ -266,7 +266,7 @@ emit_entry-returns-in_err-passed-clause-error g t c =
     let some = c.in-Some-leaf_tree.ensures.found in
     let goes = leaf_tree_has_base_or_is_emitted child.open tree some.0 some.1 some.2 in
     let found : EmitsBelow inside based [] tree 0 = emits_below_of_both _ _ inside based there base [] tree 0 goes.found in
-    let changed : based [] ≢ Some tree = λ is. goes.changed (same_some _ _ (sym is ∙ sym (ap (λ (d : Dirs). d []) base) ∙ goes.based)) in
+    let changed : based [] ≢ Some tree = λ is. goes.changed (some_injective _ _ (sym is ∙ sym (ap (λ (d : Dirs). d []) base) ∙ goes.based)) in
     if_err_weaken c.from_residual.result _ _ c.from_residual.ensures.1
     (λ error is. subst (Stopped (λ f p h. CalledAt g.F.FnMut f p.1 (Ok p.0) h) (λ f tree x h. CalledAt g.F.FnMut f tree (Err x) h)
     (λ inner. (kept : List EntryView) × (n : ℕ) × EmitsEntry inside based e inner kept n) c.args.out.now c.emit_leaf_tree.new.out) (sym is)
@@ -388,7 +388,7 @@ emit_entry-returns-in_err-id-clause-error g t c =
     let found : EmitsBelow inside based ok.0 own ok.1 = emits_below_of_both _ _ inside based there base ok.0 own ok.1 ok.2 in
     let filled = not_nil_of_not_empty own (c.if-has_no_entries.ensures {u = tt} c.base_of-base.result.now c.in_ok-own.ensures.shares_base) in
     let changed : based [] ≢ Some own = λ is. let so =
-    (c.if-is_base.ensures {u = tt}).1 (same_some _ _ (sym is ∙ sym (ap (λ (d : Dirs). d []) base) ∙ c.base_of-base.ensures)) in absurd (cc so) in
+    (c.if-is_base.ensures {u = tt}).1 (some_injective _ _ (sym is ∙ sym (ap (λ (d : Dirs). d []) base) ∙ c.base_of-base.ensures)) in absurd (cc so) in
     let tree = c.in_ok-tree.tree in
     let made : own ≡ tree = sym c.in_ok-tree.ensures.tree in
     if_err_weaken c.from_residual-in_err-id.result _ _ c.from_residual-in_err-id.ensures.1
@@ -421,7 +421,7 @@ emit_entry-returns-clause-emitted g t c =
     let found : EmitsBelow inside based ok.0 own ok.1 = emits_below_of_both _ _ inside based there base ok.0 own ok.1 ok.2 in
     let filled = not_nil_of_not_empty own (c.if-has_no_entries.ensures {u = tt} c.base_of-base.result.now c.in_ok-own.ensures.shares_base) in
     let changed : based [] ≢ Some own = λ is. let so =
-    (c.if-is_base.ensures {u = tt}).1 (same_some _ _ (sym is ∙ sym (ap (λ (d : Dirs). d []) base) ∙ c.base_of-base.ensures)) in absurd (cc so) in
+    (c.if-is_base.ensures {u = tt}).1 (some_injective _ _ (sym is ∙ sym (ap (λ (d : Dirs). d []) base) ∙ c.base_of-base.ensures)) in absurd (cc so) in
     let tree = c.in_ok-tree.tree in
     let made : own ≡ tree = sym c.in_ok-tree.ensures.tree in
     let emitted = c.in_ok-id.ensures.emitted in

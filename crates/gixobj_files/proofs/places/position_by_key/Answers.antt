@@ -37,41 +37,44 @@ loop-low-preserved c =
     ]
 
 -- the search found an entry
-here : (c : goal.In-Equal) → IsBinarySearchResult (compared entry_key (key_of c.args.name.now c.args.is_tree)) c.args.entries.now (Ok c.loop-low.middle)
-here c =
+result_ok_of_middle : (c : goal.In-Equal) → IsBinarySearchResult (compared entry_key (key_of c.args.name.now c.args.is_tree)) c.args.entries.now
+    (Ok c.loop-low.middle)
+result_ok_of_middle c =
     let next = c.loop-low.invariant.next c.loop-low-test.true in
     first_in_pairs c.args.entries.now c.requires.well_formed c.args.name.now c.args.is_tree c.requires.name c.loop-low.middle c.index-entries-middle.result
     (omega (arith, next, c.loop-low.invariant.within)) c.index-entries-middle.is Equal (sym c.in-Equal.is ∙ c.order_by_key.ensures)
 
-within : (c : goal.In-Equal) → c.loop-low.middle < length c.args.entries.now
-within c = let next = c.loop-low.invariant.next c.loop-low-test.true in omega (arith, next, c.loop-low.invariant.within)
+middle_lt_len : (c : goal.In-Equal) → c.loop-low.middle < length c.args.entries.now
+middle_lt_len c = let next = c.loop-low.invariant.next c.loop-low-test.true in omega (arith, next, c.loop-low.invariant.within)
 
 pub returns-in-Equal-clause-found : goal.returns-in-Equal-clause-found
 returns-in-Equal-clause-found c = found_place c.args.entries.now c.requires.well_formed c.args.name.now c.args.is_tree c.requires.name (Ok c.loop-low.middle)
-    (within c) (here c)
+    (middle_lt_len c) (result_ok_of_middle c)
 
 pub returns-in-Equal-clause-kind : goal.returns-in-Equal-clause-kind
 returns-in-Equal-clause-kind c = found_kind c.args.entries.now c.requires.well_formed c.args.name.now c.args.is_tree c.requires.name (Ok c.loop-low.middle)
-    (within c) (here c)
+    (middle_lt_len c) (result_ok_of_middle c)
 
 pub returns-in-Equal-clause-position : goal.returns-in-Equal-clause-position
 returns-in-Equal-clause-position c = found_before c.args.entries.now c.requires.well_formed c.args.name.now c.args.is_tree c.requires.name
-    (Ok c.loop-low.middle) (within c) (here c)
+    (Ok c.loop-low.middle) (middle_lt_len c) (result_ok_of_middle c)
 
 -- the search found no entry
-nowhere : (c : goal.After-loop-low) → IsBinarySearchResult (compared entry_key (key_of c.args.name.now c.args.is_tree)) c.args.entries.now (Err c.loop-low.low)
-nowhere c =
+result_err_of_low : (c : goal.After-loop-low) → IsBinarySearchResult (compared entry_key (key_of c.args.name.now c.args.is_tree)) c.args.entries.now
+    (Err c.loop-low.low)
+result_err_of_low c =
     narrowed_none entry_key c.args.entries.now (key_of c.args.name.now c.args.is_tree) c.loop-low.low
     (subst (IsNarrowed entry_key c.args.entries.now (key_of c.args.name.now c.args.is_tree) c.loop-low.low)
     (omega (arith, c.loop-low-test.false, c.loop-low.invariant.ordered)) c.loop-low.invariant.narrowed)
 
-up_to : (c : goal.After-loop-low) → c.loop-low.low ≤ length c.args.entries.now
-up_to c = omega (arith, c.loop-low.invariant.ordered, c.loop-low.invariant.within)
+low_le_len : (c : goal.After-loop-low) → c.loop-low.low ≤ length c.args.entries.now
+low_le_len c = omega (arith, c.loop-low.invariant.ordered, c.loop-low.invariant.within)
 
 pub returns-clause-none : goal.returns-clause-none
-returns-clause-none c = found_none c.args.entries.now c.requires.well_formed c.args.name.now c.args.is_tree c.requires.name (Err c.loop-low.low) (up_to c)
-    (nowhere c)
+returns-clause-none c = found_none c.args.entries.now c.requires.well_formed c.args.name.now c.args.is_tree c.requires.name (Err c.loop-low.low) (low_le_len c)
+    (result_err_of_low c)
 
 pub returns-clause-position : goal.returns-clause-position
-returns-clause-position c = found_before c.args.entries.now c.requires.well_formed c.args.name.now c.args.is_tree c.requires.name (Err c.loop-low.low) (up_to c)
-    (nowhere c)
+returns-clause-position c = found_before c.args.entries.now c.requires.well_formed c.args.name.now c.args.is_tree c.requires.name (Err c.loop-low.low)
+    (low_le_len c)
+    (result_err_of_low c)

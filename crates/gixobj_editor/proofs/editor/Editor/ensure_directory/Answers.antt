@@ -75,7 +75,8 @@ returns-in_err-prefix-clause-after_error g c =
     let stored = ap (λ (o : State _). o.store) c.self.view_is in
     let ok = (c.in_ok-open_along.ensures {u = tt}).opened trees (subst (λ o. AreTreesOf (g.S.Store.objects o) trees) (sym stored) fits) in
     opened_so s.store s.object_hash (names_of s.prefix.items) trees (record { objects = g.S.Store.objects; may_fail = g.S.Store.may_fail })
-    not_looked_up.Opened s.root c.open_along.new.self s.lookups c.open_along.new.lookups c.args.self.now c.self.view_is (in_directory path) path [] refl ok.0 ok.1 ok.2
+    not_looked_up.Opened s.root c.open_along.new.self s.lookups c.open_along.new.lookups c.args.self.now c.self.view_is (in_directory path) path
+    [] refl ok.0 ok.1 ok.2
     error (subst (λ (e : Error). ¬ IsLookupError e) (sym gives) (λ it. it)) c.self.invariant c.open_along.ensures.bases)
 
 pub returns-in_err-prefix-clause-error : goal.returns-in_err-prefix-clause-error
@@ -97,7 +98,8 @@ returns-in_err-ensure_directory-clause-after_error g c =
     let ok = (c.in_ok-open_along.ensures {u = tt}).opened trees (subst (λ o. AreTreesOf (g.S.Store.objects o) trees) (sym stored) fits) in
     let same : c.ensure_directory.new.self ≡ c.open_along.new.self = (c.in_err-ensure_directory.ensures {u = tt}).unchanged in
     opened_so s.store s.object_hash (names_of s.prefix.items) trees (record { objects = g.S.Store.objects; may_fail = g.S.Store.may_fail })
-    not_looked_up.Opened s.root c.ensure_directory.new.self s.lookups c.open_along.new.lookups c.args.self.now c.self.view_is (in_directory path) path [] refl ok.0
+    not_looked_up.Opened s.root c.ensure_directory.new.self s.lookups c.open_along.new.lookups c.args.self.now c.self.view_is (in_directory path) path
+    [] refl ok.0
     (subst (λ (ds : Opened). Opens IsNoTree trees path (dirs_of s.root) (dirs_of ds) ok.0) (sym same) ok.1) ok.2
     error (subst (λ (e : Error). ¬ IsLookupError e) (sym gives) (λ it. it)) c.self.invariant
     (subst (λ (ds : Opened). OpenedSo s.root ds) (sym same) c.open_along.ensures.bases))

@@ -95,7 +95,8 @@ returns-in_err-write_hex_ids-clause-room g c =
     let author = encode_field (codes "author") c.as_bytes-author.result.now in
     let committer = encode_field (codes "committer") c.as_bytes-committer.result.now in
     let after : (value : RejectedValue) (parts : List ℕ) → IsCommitLinesError (in_lower_case (commit_lines c.args.self.now)) value parts
-    → parts ≡ (ids ++ author) ++ committer = λ value parts. borrowed_commit_error_after c.args.self.now (decoded_id (bstr_bytes c.args.self.now.tree)) c.as_slice-parents.result.now
+    → parts ≡ (ids ++ author) ++ committer = λ value parts. borrowed_commit_error_after c.args.self.now
+    (decoded_id (bstr_bytes c.args.self.now.tree)) c.as_slice-parents.result.now
     c.as_bytes-author.result.now c.as_bytes-committer.result.now value parts
     (decoded_id_decodes (bstr_bytes c.args.self.now.tree) c.requires.tree) c.as_slice-parents.ensures c.as_bytes-author.ensures
     c.as_bytes-committer.ensures in
@@ -114,7 +115,8 @@ returns-in_err-trusted_header_field-clause-room g c =
     let author = encode_field (codes "author") c.as_bytes-author.result.now in
     let committer = encode_field (codes "committer") c.as_bytes-committer.result.now in
     let after : (value : RejectedValue) (parts : List ℕ) → IsCommitLinesError (in_lower_case (commit_lines c.args.self.now)) value parts
-    → parts ≡ (ids ++ author) ++ committer = λ value parts. borrowed_commit_error_after c.args.self.now (decoded_id (bstr_bytes c.args.self.now.tree)) c.as_slice-parents.result.now
+    → parts ≡ (ids ++ author) ++ committer = λ value parts. borrowed_commit_error_after c.args.self.now
+    (decoded_id (bstr_bytes c.args.self.now.tree)) c.as_slice-parents.result.now
     c.as_bytes-author.result.now c.as_bytes-committer.result.now value parts
     (decoded_id_decodes (bstr_bytes c.args.self.now.tree) c.requires.tree) c.as_slice-parents.ensures c.as_bytes-author.ensures
     c.as_bytes-committer.ensures in
@@ -134,7 +136,8 @@ returns-in_err-trusted_header_field-2-clause-room g c =
     let author = encode_field (codes "author") c.as_bytes-author.result.now in
     let committer = encode_field (codes "committer") c.as_bytes-committer.result.now in
     let after : (value : RejectedValue) (parts : List ℕ) → IsCommitLinesError (in_lower_case (commit_lines c.args.self.now)) value parts
-    → parts ≡ (ids ++ author) ++ committer = λ value parts. borrowed_commit_error_after c.args.self.now (decoded_id (bstr_bytes c.args.self.now.tree)) c.as_slice-parents.result.now
+    → parts ≡ (ids ++ author) ++ committer = λ value parts. borrowed_commit_error_after c.args.self.now
+    (decoded_id (bstr_bytes c.args.self.now.tree)) c.as_slice-parents.result.now
     c.as_bytes-author.result.now c.as_bytes-committer.result.now value parts
     (decoded_id_decodes (bstr_bytes c.args.self.now.tree) c.requires.tree) c.as_slice-parents.ensures c.as_bytes-author.ensures
     c.as_bytes-committer.ensures in
@@ -155,7 +158,8 @@ returns-clause-room g c =
     let author = encode_field (codes "author") c.as_bytes-author.result.now in
     let committer = encode_field (codes "committer") c.as_bytes-committer.result.now in
     let after : (value : RejectedValue) (parts : List ℕ) → IsCommitLinesError (in_lower_case (commit_lines c.args.self.now)) value parts
-    → parts ≡ (ids ++ author) ++ committer = λ value parts. borrowed_commit_error_after c.args.self.now (decoded_id (bstr_bytes c.args.self.now.tree)) c.as_slice-parents.result.now
+    → parts ≡ (ids ++ author) ++ committer = λ value parts. borrowed_commit_error_after c.args.self.now
+    (decoded_id (bstr_bytes c.args.self.now.tree)) c.as_slice-parents.result.now
     c.as_bytes-author.result.now c.as_bytes-committer.result.now value parts
     (decoded_id_decodes (bstr_bytes c.args.self.now.tree) c.requires.tree) c.as_slice-parents.ensures c.as_bytes-author.ensures
     c.as_bytes-committer.ensures in

@@ -30,7 +30,8 @@ invariant_of-self-2 g c =
     (λ trees. IsUpserted trees old entire (mode_of_kind c.args.kind) c.args.id new) (λ error trees. IsAfterFailedEdit model trees old entire error new)
     c.try_upsert.ensures.upserted c.try_upsert.ensures.after_error
     (λ trees h. stays_upserted trees old new path (mode_of_kind c.args.kind) c.args.id
-    (subst (λ (p : Path). IsUpserted trees old p (mode_of_kind c.args.kind) c.args.id new) is h)) (λ error trees h. stays_failed model trees old new entire error h) in
+    (subst (λ (p : Path). IsUpserted trees old p (mode_of_kind c.args.kind) c.args.id new) is h))
+    (λ error trees h. stays_failed model trees old new entire error h) in
     record { is_open = kept.1 c.args.self.now.is_open }
 
 pub returns-clause-prefix : goal.returns-clause-prefix
@@ -45,5 +46,6 @@ returns-clause-prefix g c =
     (λ trees. IsUpserted trees old entire (mode_of_kind c.args.kind) c.args.id new) (λ error trees. IsAfterFailedEdit model trees old entire error new)
     c.try_upsert.ensures.upserted c.try_upsert.ensures.after_error
     (λ trees h. stays_upserted trees old new path (mode_of_kind c.args.kind) c.args.id
-    (subst (λ (p : Path). IsUpserted trees old p (mode_of_kind c.args.kind) c.args.id new) is h)) (λ error trees h. stays_failed model trees old new entire error h) in
+    (subst (λ (p : Path). IsUpserted trees old p (mode_of_kind c.args.kind) c.args.id new) is h))
+    (λ error trees h. stays_failed model trees old new entire error h) in
     kept.0
