@@ -1,8 +1,6 @@
-mod FirstEntry
 pub mod Fitting
 mod EncodedLines
 mod Reading
 mod Readings
-mod TreeErrors
 pub mod Reported
 pub mod Wider

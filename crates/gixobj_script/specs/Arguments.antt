@@ -2,10 +2,6 @@
 use Rattle.std.specs.Prelude.{List, ℕ, codes}
 use Rattle.gixobj_show.specs.Arguments.{IsCommand, IsOtherCommand}
 
--- the arguments request the list of a tree
-abbrev pub IsListCommand : List (List ℕ) → Type 0
-IsListCommand words = IsCommand words (codes "tree")
-
 -- the arguments request the run of a script
 abbrev pub IsEditCommand : List (List ℕ) → Type 0
 IsEditCommand words = IsCommand words (codes "edit")

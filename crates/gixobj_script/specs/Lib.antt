@@ -3,7 +3,6 @@ pub mod Edits
 pub mod Engine
 pub mod Faults
 pub mod Lines
-pub mod Listing
 pub mod Paths
 pub mod Scripts
 pub mod Reporting

@@ -2,15 +2,14 @@
 ghost use Rattle.std.specs.Prelude.{◌≡◌, ◌≢◌, codes, map, OnOk, IfErr, ⊤};
 ghost use Rattle.std.specs.String.{string_bytes};
 ghost use Rattle.gixobj_script.specs.Engine.{Edited, IsFault, IsEditingError, EditHasWrittenNothing};
-ghost use Rattle.gixobj_script.specs.Listing.{IsUnlisted, Listed};
-ghost use Rattle.gixobj_script.specs.Arguments.{IsNeitherCommand, IsEditCommand, IsListCommand};
+ghost use Rattle.gixobj_list.specs.Listing.{IsListCommand, IsUnlisted, Listed};
+ghost use Rattle.gixobj_script.specs.Arguments.{IsNeitherCommand, IsEditCommand};
 ghost use Rattle.gixobj_fields.specs.Streams.{writer_view};
 ghost use Rattle.gixobj_show.specs.Engine.{Answered, IsReportedError};
 ghost use Rattle.gixobj_show.specs.Arguments.{IsCommandOfHash};
 
 use crate::editing::edit;
 use crate::fault::{Fault, report_fault};
-use crate::tree::{list, list_read};
 use gixobj_fields::streams::{FromRead, Sink, Source, ToWrite};
 use gixobj_hash::hash;
 use gixobj_show::Failure;
@@ -44,7 +43,7 @@ use std::io::{Read, Write};
 /// write to `errors` fails, a prefix of the line is there, and the status alone reports the fault.
 ///
 /// Allocates the bytes of the entire input, and what the command allocates: [`edit`],
-/// [`listing`](crate::tree::listing), or `show`.
+/// [`listing`](gixobj_list::tree::listing), or `show`.
 pub fn engine<R: Read, O: Write, E: Write>(
     alloc: Global,
     words: &[String],
@@ -88,10 +87,7 @@ pub fn engine<R: Read, O: Write, E: Write>(
             &mut ToWrite(errors),
         );
     }
-    match requested_hash("tree", words) {
-        Some(hash) => list_read(alloc, words, hash, input, output, errors),
-        None => gixobj_show::engine::engine(alloc, words, input, output, errors),
-    }
+    gixobj_list::engine::engine(alloc, words, input, output, errors)
 }
 
 /// Runs the program like [`engine`], over a source and two sinks, which state when they may fail.
@@ -132,10 +128,7 @@ pub fn run<S: Source, O: Sink, E: Sink>(
     if let Some(hash) = requested_hash("edit", words) {
         return run_script(alloc, words, hash, input, output, errors);
     }
-    match requested_hash("tree", words) {
-        Some(hash) => list(alloc, words, hash, input, output, errors),
-        None => gixobj_show::engine::run(alloc, words, input, output, errors),
-    }
+    gixobj_list::engine::run(alloc, words, input, output, errors)
 }
 
 /// Runs a script and returns the exit status, or writes the fault. `words` have to request `edit` with

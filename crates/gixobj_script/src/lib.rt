@@ -1,6 +1,5 @@
-//! The commands of the program on trees, and its engine over arguments, an input and outputs. `edit` parses a
-//! script of edits line by line, runs its commands on an editor, and reports the replies. `tree` lists the
-//! entries of a loose tree, as lines `<mode> <kind> <id> <name>`.
+//! The program's command `edit`, and the program over arguments, an input and outputs. `edit` parses a script
+//! of edits line by line, runs its commands on an editor, and reports the replies.
 #![tactic(auto)]
 
 pub mod editing;
@@ -11,7 +10,6 @@ mod line;
 mod path;
 pub mod reporting;
 pub mod script;
-pub mod tree;
 
 pub use editing::{edit, edit_on};
 pub use reporting::report_lines;

@@ -1,9 +1,9 @@
 -- The entire input was read, and its error is the error of the list.
 use Rattle.std.proofs.lemmas.Result.{err_from_is_err_and}
-use Rattle.gixobj_script.proofs.TreeErrors.{list_error_of_answer}
-use Rattle.gixobj_script.specs.Listing.{IsListingError}
+use Rattle.gixobj_list.proofs.TreeErrors.{list_error_of_answer}
+use Rattle.gixobj_list.specs.Listing.{IsListingError}
 use Rattle.gixobj_show.specs.Engine.{ReadsAll}
-use Rattle.gixobj_script.proofs.tree.listed.Goals as goal
+use Rattle.gixobj_list.proofs.tree.listed.Goals as goal
 
 pub returns-in_err-listed_lines-clause-error : goal.returns-in_err-listed_lines-clause-error
 returns-in_err-listed_lines-clause-error g c =

@@ -1,7 +1,7 @@
 -- An error of a loose object is an error of a tree, and an object of another kind is one too.
 use Rattle.std.proofs.lemmas.Result.{err_from_is_err_and}
-use Rattle.gixobj_script.proofs.TreeErrors.{listed_tree_error_of_content}
-use Rattle.gixobj_script.proofs.tree.tree_content.Goals as goal
+use Rattle.gixobj_list.proofs.TreeErrors.{listed_tree_error_of_content}
+use Rattle.gixobj_list.proofs.tree.tree_content.Goals as goal
 
 pub returns-in_err-kind-clause-error : goal.returns-in_err-kind-clause-error
 returns-in_err-kind-clause-error c =

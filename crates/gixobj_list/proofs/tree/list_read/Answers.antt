@@ -1,7 +1,7 @@
 -- The errors of a list, over the streams themselves.
 use Rattle.std.proofs.Common.{rules}
-use Rattle.gixobj_script.proofs.TreeErrors.{is_unlisted_of_error}
-use Rattle.gixobj_script.proofs.tree.list_read.Goals as goal
+use Rattle.gixobj_list.proofs.TreeErrors.{is_unlisted_of_error}
+use Rattle.gixobj_list.proofs.tree.list_read.Goals as goal
 
 pub returns-clause-error : goal.returns-clause-error
 returns-clause-error g c failed =

@@ -12,12 +12,15 @@ use Rattle.gixobj_hash.specs.declared.kind.Kind.{Kind}
 use Rattle.gixobj_hash.specs.declared.kind.Kind.TheVariants.{Tree}
 use Rattle.gixobj_tree.specs.TreeDecoding.{BeginsWithEntry, IsMalformedTree, DecodesToTree}
 use Rattle.gixobj_fields.specs.Streams.{AppendsAll, AppendsPrefix, SinkView}
-use Rattle.gixobj_script.specs.Arguments.{IsListCommand}
 use Rattle.gixobj_show.specs.Engine.{ReadsAll, IsPrinted, HasWrittenNothing}
 use Rattle.gixobj_show.specs.Failure.{BeginsWithNoLooseHeader, exit_status_of, line_of}
-use Rattle.gixobj_show.specs.Arguments.{IsCommandOfHash}
+use Rattle.gixobj_show.specs.Arguments.{IsCommand, IsCommandOfHash}
 use Rattle.gixobj_show.specs.declared.failure.Failure.{Failure}
 use Rattle.gixobj_show.specs.declared.failure.Failure.TheVariants.{BadHeader, BadTree, InputFailed, NotATree, OutOfMemory, OutputFailed, ShortData}
+
+-- the arguments request the list of a tree
+abbrev pub IsListCommand : List (List ℕ) → Type 0
+IsListCommand words = IsCommand words (codes "tree")
 
 -- the line of an entry: its mode, the name of its kind, its id in hex and its unchanged name, separated by spaces
 abbrev pub entry_line : EntryView → List ℕ

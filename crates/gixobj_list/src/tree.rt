@@ -4,7 +4,7 @@ ghost use Rattle.std.specs.String.{string_bytes};
 ghost use Rattle.gixobj_fields.specs.Streams.{writer_view};
 ghost use Rattle.gixobj_hash.specs.Decode.{HasContent};
 ghost use Rattle.gixobj_hash.specs.declared.kind.Kind.TheVariants.{Tree};
-ghost use Rattle.gixobj_script.specs.Listing.{IsListed, IsUnlisted, Listed, IsListError, IsListingError, IsListedTreeError, entry_line, listing_of};
+ghost use Rattle.gixobj_list.specs.Listing.{IsListed, IsUnlisted, Listed, IsListError, IsListingError, IsListedTreeError, entry_line, listing_of};
 ghost use Rattle.gixobj_show.specs.Engine.{HasWrittenNothing};
 ghost use Rattle.gixobj_show.specs.Arguments.{IsCommandOfHash};
 ghost use Rattle.gixobj_tree.specs.TreeViews.{entry_view, tree_entries};

@@ -1,8 +1,8 @@
 -- If the allocation of a line fails, an entry was decoded.
 use Rattle.std.proofs.Common.{inr}
 use Rattle.gixobj_tree.specs.TreeViews.{tree_entries}
-use Rattle.gixobj_script.proofs.FirstEntry.{first_entry_exists}
-use Rattle.gixobj_script.proofs.tree.listing.Goals as goal
+use Rattle.gixobj_list.proofs.FirstEntry.{first_entry_exists}
+use Rattle.gixobj_list.proofs.tree.listing.Goals as goal
 
 pub returns-in-Ok-clause-error : goal.returns-in-Ok-clause-error
 returns-in-Ok-clause-error c =

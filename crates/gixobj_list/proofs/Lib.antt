@@ -1,0 +1,2 @@
+mod FirstEntry
+mod TreeErrors
