@@ -14,19 +14,19 @@ use Rattle.gixobj_show.specs.Arguments.{IsCommandOfHash}
 use Rattle.gixobj_show.specs.declared.failure.Failure.{Failure}
 use Rattle.gixobj_show.specs.declared.failure.Failure.TheVariants.{Usage, InputFailed, OutputFailed, OutOfMemory, BadHeader, ShortData, NotATree, BadTree}
 
-tree_failed : (input : List ℕ) (cause : Failure) → IsShowError input cause → IsListedTreeError input cause
-tree_failed input Usage rejected = absurd rejected
-tree_failed input InputFailed rejected = absurd rejected
-tree_failed input OutputFailed rejected = absurd rejected
-tree_failed input OutOfMemory rejected = rejected
-tree_failed input BadHeader rejected = rejected
-tree_failed input ShortData rejected = rejected
-tree_failed input NotATree rejected = absurd rejected
-tree_failed input BadTree rejected = absurd rejected
+listed_tree_error_of_show_error : (input : List ℕ) (cause : Failure) → IsShowError input cause → IsListedTreeError input cause
+listed_tree_error_of_show_error input Usage rejected = absurd rejected
+listed_tree_error_of_show_error input InputFailed rejected = absurd rejected
+listed_tree_error_of_show_error input OutputFailed rejected = absurd rejected
+listed_tree_error_of_show_error input OutOfMemory rejected = rejected
+listed_tree_error_of_show_error input BadHeader rejected = rejected
+listed_tree_error_of_show_error input ShortData rejected = rejected
+listed_tree_error_of_show_error input NotATree rejected = absurd rejected
+listed_tree_error_of_show_error input BadTree rejected = absurd rejected
 
 pub listed_tree_error_of_content : (input : List ℕ) (error : LooseContentError) → IsLooseContentError input error
     → IsListedTreeError input (content_error error)
-listed_tree_error_of_content input error rejected = tree_failed input (content_error error) (show_error_of_content input error rejected)
+listed_tree_error_of_content input error rejected = listed_tree_error_of_show_error input (content_error error) (show_error_of_content input error rejected)
 
 pub list_error_of_answer : (words : List (List ℕ)) (rest rest' : Option (List ℕ)) (may_fail : Type 0) (out out' : SinkView) (cause : Failure) (hash : hash.Kind)
     (input : List ℕ)
@@ -42,15 +42,15 @@ list_error_of_answer words rest rest' may_fail out out' NotATree hash input requ
 list_error_of_answer words rest rest' may_fail out out' BadTree hash input requests read rejected = (hash, input, requests, read, rejected)
 
 -- an output is unchanged by a fact that follows from one by which it is unchanged
-unwritten_by : {A B : Type 0} → (A → B) → (cause : Failure) → HasWrittenNothing A cause → HasWrittenNothing B cause
-unwritten_by passed Usage remaining = passed remaining
-unwritten_by passed InputFailed remaining = passed remaining
-unwritten_by passed OutputFailed remaining = remaining
-unwritten_by passed OutOfMemory remaining = passed remaining
-unwritten_by passed BadHeader remaining = passed remaining
-unwritten_by passed ShortData remaining = passed remaining
-unwritten_by passed NotATree remaining = passed remaining
-unwritten_by passed BadTree remaining = passed remaining
+has_written_nothing_weaken : {A B : Type 0} → (A → B) → (cause : Failure) → HasWrittenNothing A cause → HasWrittenNothing B cause
+has_written_nothing_weaken passed Usage remaining = passed remaining
+has_written_nothing_weaken passed InputFailed remaining = passed remaining
+has_written_nothing_weaken passed OutputFailed remaining = remaining
+has_written_nothing_weaken passed OutOfMemory remaining = passed remaining
+has_written_nothing_weaken passed BadHeader remaining = passed remaining
+has_written_nothing_weaken passed ShortData remaining = passed remaining
+has_written_nothing_weaken passed NotATree remaining = passed remaining
+has_written_nothing_weaken passed BadTree remaining = passed remaining
 
 -- a failed list over streams is a failed list over equal streams
 pub is_unlisted_of_error : {A B may_fail : Type 0} (words : List (List ℕ)) (rest read read' : Option (List ℕ))
@@ -59,4 +59,4 @@ pub is_unlisted_of_error : {A B may_fail : Type 0} (words : List (List ℕ)) (re
     → read ≡ read' → out' ≡ out'' → errors' ≡ errors'' → (A → B)
     → IsUnlisted words rest read may_fail out out' errors errors' A status → IsUnlisted words rest read' may_fail out out'' errors errors'' B status
 is_unlisted_of_error words rest read read' out out' out'' errors errors' errors'' status same-read same-out same-errors passed it =
-    (it.0, it.1, rw (← same-read, ← same-out) it.2, rw (← same-errors) it.3, unwritten_by passed it.0 it.4)
+    (it.0, it.1, rw (← same-read, ← same-out) it.2, rw (← same-errors) it.3, has_written_nothing_weaken passed it.0 it.4)
