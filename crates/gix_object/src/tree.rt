@@ -3,4 +3,4 @@
 pub mod editor;
 
 pub use gixobj_base::tree::{Entry, EntryKind, EntryMode, name_order};
-pub use gixobj_codec::tree::{EntryRef, next_entry};
+pub use gixobj_codec::tree::{EntryRef, next_entry, path_names};

@@ -1,5 +1,5 @@
 -- Names of a path in bytes, split off one after the other; used for `lookup_entry_by_path` and its helpers.
-use Rattle.std.proofs.Common.{◌≡◌, ◌≢◌, ◌++◌, ◌∷◌, ℕ, List, [], ap, length, nat_eq, refl, subst, sym, ◌∙◌}
+use Rattle.std.proofs.Common.{◌≡◌, ◌≢◌, ◌<◌, ◌++◌, ◌∷◌, ℕ, List, [], ap, append_assoc, arith, length, nat_eq, refl, subst, sym, ◌∙◌}
 use Rattle.std.proofs.Math.Dec.{eqb-suc-zero}
 use Rattle.std.proofs.lemmas.List.{nil_from_length}
 use Rattle.std.proofs.lemmas.List.Elements.{All-nil}
@@ -98,3 +98,34 @@ are_names_of_slashes path bytes same none = same [] (subst (λ (it : List ℕ). 
 pub split_rest_nil_iff : (path name rest : List ℕ) → (split : SplitsName path name rest) → MatchBool (nat_eq (length rest) 0) (split.0 ≡ []) (split.0 ≢ [])
 split_rest_nil_iff path name [] (others, entire, remaining, some) = path_names_unique [] others [] remaining are_names_of_nil
 split_rest_nil_iff path name (byte ∷ rest) (others, entire, remaining, some) = rw (eqb-suc-zero (length rest)) (some (λ none. cc none))
+
+-- ---- all names
+
+append_cons_ne_nil : (names : List Name) (name : Name) (more : List Name) → names ++ name ∷ more ≢ []
+append_cons_ne_nil [] name more none = cc none
+append_cons_ne_nil (first ∷ names) name more none = cc none
+
+-- a path has the name that is split off, and then the names of the rest
+pub path_names_of_split : (path name rest : List ℕ) → SplitsName path name rest → path_names path ≡ name ∷ path_names rest
+path_names_of_split path name rest (others, are, remaining, some) =
+    path_names_unique path (path_names path) (name ∷ others) (are_names_of_path path) are
+    ∙ ap (λ (it : List Name). name ∷ it) (path_names_unique rest others (path_names rest) remaining (are_names_of_path rest))
+
+-- the rest has one name less
+pub rest_names_len_lt : (path name rest : List ℕ) → SplitsName path name rest → length (path_names rest) < length (path_names path)
+rest_names_len_lt path name rest split = rw (path_names_of_split path name rest split) (omega arith)
+
+-- a name that is split off the rest is the next name of the path
+pub path_names_snoc : (path rest name following : List ℕ) (names : List Name) → path_names path ≡ names ++ path_names rest
+    → SplitsName rest name following → path_names path ≡ (names ++ name ∷ []) ++ path_names following
+path_names_snoc path rest name following names are split =
+    are ∙ ap (λ (it : List Name). names ++ it) (path_names_of_split rest name following split)
+    ∙ sym (append_assoc names (name ∷ []) (path_names following))
+
+-- a path whose rest has a name has names
+pub path_has_names : (path rest name following : List ℕ) (names : List Name) → path_names path ≡ names ++ path_names rest
+    → SplitsName rest name following → ¬ AreNamesOf path []
+path_has_names path rest name following names are split none =
+    append_cons_ne_nil names name (path_names following)
+    (sym (are ∙ ap (λ (it : List Name). names ++ it) (path_names_of_split rest name following split))
+      ∙ path_names_unique path (path_names path) [] (are_names_of_path path) none)

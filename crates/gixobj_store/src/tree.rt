@@ -11,7 +11,7 @@ use gixobj_hash::hash;
 use gixobj_tree::TreeRef;
 use gixobj_tree::tree::EntryRef;
 use gixobj_tree::tree::decode::decode_entry;
-pub use lookup::next_entry;
+pub use lookup::{next_entry, path_names};
 use std::alloc::Global;
 
 /// An iterator over the entries of an encoded tree, which are decoded one by one.

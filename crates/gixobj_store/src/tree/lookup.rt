@@ -212,6 +212,34 @@ fn next_entry_in_bytes<'a>(
     reader.step_to(name, rest.is_empty())
 }
 
+/// Splits a path at slashes into its names, as the editor takes them.
+///
+/// Empty parts are skipped, and `.` is a name like others, as in [`TreeRefIter::lookup_entry_by_path`]. Allocates
+/// the list and a copy of each name; a path without names allocates nothing.
+///
+/// # Errors
+///
+/// [`OutOfMemory`] if an allocation fails. The path then has a name.
+///
+/// # Examples
+///
+/// ```rust
+/// let path = path_names(alloc, b"src/lib.rs")?;
+/// editor.upsert(alloc, store, path.as_slice(), EntryKind::Blob, id)?;
+/// ```
+pub fn path_names(alloc: Global, path: &[u8]) -> Result<Vec<BString>, OutOfMemory>
+    ensures found { IfOk result (λ names. AreNamesOf path.now (map bstring_bytes names.items)) }
+    ensures error { OnErr result (¬ AreNamesOf path.now []) }
+{
+    let mut names = Vec::new(alloc);
+    let mut rest = path;
+    while let Some((name, following)) = split_name(rest) {
+        names.push(BString::from_slice(alloc, name)?)?;
+        rest = following;
+    }
+    Ok(names)
+}
+
 /// Splits the first name off a path, or returns `None` for a path without names. The rest has a byte only if
 /// other names follow.
 fn split_name(path: &[u8]) -> Option<(&[u8], &[u8])>
