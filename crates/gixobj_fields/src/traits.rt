@@ -1,15 +1,18 @@
 //! The trait of objects that can be encoded and written.
-ghost use Rattle.std.specs.Prelude.{◌≡◌, ◌↔◌, ◌<◌, ◌≤◌, ◌^◌, ◌++◌, List, length, vec_capacity, IfErr, IfSome, IsSome, OnOk};
+ghost use Rattle.std.specs.Prelude.{◌≡◌, ◌↔◌, ◌<◌, ◌≤◌, ◌^◌, ◌++◌, List, length, vec_capacity, IfErr, IfOk, IfSome, IsSome, OnOk};
 ghost use Rattle.std.specs.Io.KnownBytes.{Appends};
 ghost use Rattle.std.specs.Option.{SomeIff};
 ghost use Rattle.gixobj_hash.specs.Encode.{encode_loose_header};
+ghost use Rattle.gixobj_hash.specs.Hash.{id_of};
 ghost use Rattle.gixobj_fields.specs.Streams.{AppendsAll, list_view, writer_view};
-ghost use Rattle.gixobj_fields.specs.Writing.{IsSize, IsWritingError, LacksRoom, RejectsNothing};
+ghost use Rattle.gixobj_fields.specs.Writing.{IsEncodingError, IsSize, IsWritingError, LacksRoom, RejectsNothing};
 
 use crate::encode;
 use crate::streams::{Sink, ToWrite};
-use gixobj_hash::Kind;
+use gixobj_hash::digest::compute_hash;
 use gixobj_hash::encode::loose_header;
+use gixobj_hash::hash::ObjectId;
+use gixobj_hash::{Kind, hash};
 use smallvec::SmallVec;
 use std::alloc::Global;
 use std::io::Write;
@@ -131,6 +134,25 @@ pub trait WriteTo {
     {
         make_room(self, out);
         self.write_into(alloc, out)
+    }
+
+    /// Computes the id of the object: the digest of its loose header and its encoding, by this kind of hash
+    /// (git-hash-object). Allocates the encoding.
+    ///
+    /// # Errors
+    ///
+    /// - [`encode::Error::Writer`] if the allocation of the encoding failed.
+    /// - [`encode::Error::OutOfMemory`] if the allocation of a copy of a rejected value failed.
+    /// - Any other [`encode::Error`] if the object has the value that the error names.
+    final fn compute_id(&self, alloc: Global, hash: hash::Kind) -> Result<ObjectId, encode::Error>
+        requires { can_write self.now }
+        ensures found { IfOk result (λ id. id ≡ id_of hash (object_kind self.now) (encoding self.now)) }
+        ensures no_error { OnOk result (RejectsNothing (rejects self.now)) }
+        ensures error { IfErr result (IsEncodingError (rejects self.now) (encoding self.now)) }
+    {
+        let mut content = Vec::new(alloc);
+        self.write_to_vec(alloc, &mut content)?;
+        Ok(compute_hash(hash, self.kind(), &content))
     }
 
     /// Returns the loose header of the object, or `None` if [`WriteTo::size`] is `None`.

@@ -18,9 +18,9 @@ use bstr::BString;
 use gixobj_fields::WriteTo;
 use gixobj_fields::encode::Error;
 use gixobj_fields::streams::{Sink, write_parts};
+use gixobj_hash::Kind;
 use gixobj_hash::hash::{self, ObjectId, oid};
 use gixobj_hash::split::has_byte;
-use gixobj_hash::{Kind, compute_hash};
 use gixobj_mode::{encode_kind, encoded_len};
 use std::alloc::Global;
 use std::io;
@@ -118,9 +118,7 @@ impl Tree {
     pub fn compute_id(&self, alloc: Global, hash: hash::Kind) -> Result<ObjectId, Error>
         ensures { IsAnsweredDigest hash self.now result }
     {
-        let mut content = Vec::new(alloc);
-        self.write_to_vec(alloc, &mut content)?;
-        Ok(compute_hash(hash, Kind::Tree, &content))
+        <Self as WriteTo>::compute_id(self, alloc, hash)
     }
 }
 
