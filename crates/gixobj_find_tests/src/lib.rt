@@ -7,6 +7,8 @@ mod allocation_failures;
 mod existing;
 pub mod failing;
 #[cfg(test)]
+mod ids;
+#[cfg(test)]
 mod never;
 #[cfg(test)]
 mod one_store;

@@ -7,6 +7,7 @@ use gixobj_hash::Kind;
 use gixobj_hash::hash::{Kind as HashKind, ObjectId};
 use gixobj_keep::Memory;
 use gixobj_mode::EntryKind;
+use gixobj_store::tree::path_names;
 use gixobj_store::{Find, TreeRefIter};
 use gixobj_tree::tree::Entry;
 use std::alloc::Global;
@@ -273,4 +274,38 @@ fn finds_entry_by_sha256(rt: HostRuntime) -> Result<(), Fail> {
     let found = id_from(rt.alloc(), &store, &encoding, HashKind::Sha256, b"a/b");
     assert!(rt; found == Some(ObjectId::Sha256([7; 32])));
     Ok(())
+}
+
+/// Paths with their names: empty parts are skipped, and dots are names.
+const NAMED_PATHS: &[(&[u8], &[&[u8]])] = &[
+    (b"", &[]),
+    (b"///", &[]),
+    (b"a", &[b"a"]),
+    (b"/src//lib.rs/", &[b"src", b"lib.rs"]),
+    (b"./..", &[b".", b".."]),
+];
+
+/// Returns whether a path has these names, or `None` if an allocation fails.
+fn has_names(alloc: Global, path: &[u8], wanted: &[&[u8]]) -> Option<bool> {
+    let found = path_names(alloc, path).ok()?;
+    if found.len() != wanted.len() {
+        return Some(false);
+    }
+    for (name, part) in found.iter().zip(wanted) {
+        if name.as_bytes() != *part {
+            return Some(false);
+        }
+    }
+    Some(true)
+}
+
+#[test]
+fn splits_paths_whatever_allocation_fails(rt: HostRuntime) {
+    for &(path, names) in NAMED_PATHS {
+        let mut holds = has_names(rt.alloc(), path, names);
+        if holds.is_none() {
+            holds = has_names(rt.alloc(), path, names);
+        }
+        assert!(rt; holds == Some(true), "{path:?}");
+    }
 }
