@@ -1,6 +1,6 @@
 -- Trailer lines and their values are decoded line by line; the functions of `trailer_lines` and `trailers` use these
 -- lemmas.
-use Rattle.std.proofs.Common.{◌++◌, ◌+◌, ◌-◌, ◌<◌, ◌∙◌, ◌∷◌, ◌≡◌, ◌≢◌, ◌≤◌, Bool, List, None, Option, Some, [], ap, append-nil, append_assoc, arith, cond, false, filter, length, length-append, map, refl, suc, sym, take, true, ℕ}
+use Rattle.std.proofs.Common.{◌++◌, ◌+◌, ◌<◌, ◌∙◌, ◌∷◌, ◌≡◌, ◌≢◌, ◌≤◌, Bool, List, None, Option, Some, [], ap, append-nil, append_assoc, arith, cond, false, filter, length, length-append, map, refl, sym, true, ℕ}
 use Rattle.std.proofs.lemmas.Bool.Decides.{nat_tests}
 use Rattle.std.proofs.lemmas.List.Sums.{take_while-cons}
 use Rattle.std.specs.Char.{is_ascii_whitespace}
@@ -10,67 +10,15 @@ use Rattle.bstr.specs.Owned.{joined}
 use Rattle.bstr.specs.Text.{lines_of}
 use Rattle.bstr.proofs.lemmas.LineLemmas.{lines-nil}
 use Rattle.gixobj_text.specs.FirstLines.{HasLastLines, IsFirstLine}
-use Rattle.gixobj_text.specs.BodyLines.{TrailerParts, begins_indented, after_gap, is_blank, is_continuation_line, is_indented, is_token_byte, token_byte_step, parts_of_line, rest_of_token, trimmed_line, trailer_parts, with_value}
-use Rattle.gixobj_text.specs.Scanning.{after_token}
+use Rattle.gixobj_text.specs.BodyLines.{TrailerParts, begins_indented, is_blank, is_continuation_line, is_indented, is_token_byte, parts_of_line, trimmed_line, trailer_parts}
 use Rattle.gixobj_text.specs.Trailers.{trailers_of, trailers_of_bytes, unfolded, with_trailer}
 use Rattle.gixobj_hash.specs.ByteStrings.{is_filled, trimmed}
 use Rattle.gixobj_text.proofs.LastLines.{last_lines_step}
+use Rattle.gixobj_text.proofs.Tokens.{trailer_parts_none}
 use Rattle.gixobj_text.specs.Unfolding.{IsNextTrailer, has_lines, first_is_folded, with_folded, with_piece, with_pieces}
 
 abbrev Lines : Type 0
 Lines = List (List ℕ)
-
--- ---- the parts of a line
-
-after_token_len_le_of_flag : (b : Bool) (byte : ℕ) (rest : List ℕ) → length (after_token rest) ≤ length rest
-    → length (cond b (after_token rest) (byte ∷ rest)) ≤ length
-    (byte ∷ rest)
-after_token_len_le_of_flag true byte rest is = omega arith
-after_token_len_le_of_flag false byte rest is = omega arith
-
-pub after_token_len_le : (bytes : List ℕ) → length (after_token bytes) ≤ length bytes
-after_token_len_le [] = omega arith
-after_token_len_le (byte ∷ rest) = after_token_len_le_of_flag (is_token_byte byte) byte rest (after_token_len_le rest)
-
-token_byte_step_with_value : (byte : ℕ) (token : List ℕ) (found : Option (List ℕ))
-    → token_byte_step byte (with_value token found) ≡ with_value (byte ∷ token) found
-token_byte_step_with_value byte token None = refl
-token_byte_step_with_value byte token (Some value) = refl
-
-take_succ_sub_cons : (n m : ℕ) (byte : ℕ) (rest : List ℕ) → m ≤ n → take (suc n - m) (byte ∷ rest) ≡ byte ∷ take (n - m) rest
-take_succ_sub_cons n m byte rest few = ap (λ (k : ℕ). take k (byte ∷ rest)) (let is : suc n - m ≡ suc (n - m) = omega arith in is)
-
-take_sub_self : (n : ℕ) (rest : List ℕ) → take (n - n) rest ≡ []
-take_sub_self n rest = ap (λ (k : ℕ). take k rest) (let is : n - n ≡ 0 = omega arith in is)
-
-rest_of_token_of_flag : (b : Bool) (byte : ℕ) (rest : List ℕ) → rest_of_token rest ≡ with_value (take (length rest - length (after_token rest)) rest)
-    (after_gap (after_token rest))
-    → cond b (token_byte_step byte (rest_of_token rest)) (with_value [] (after_gap (byte ∷ rest)))
-    ≡ with_value (take (suc (length rest) - length (cond b (after_token rest) (byte ∷ rest))) (byte ∷ rest))
-    (after_gap (cond b (after_token rest) (byte ∷ rest)))
-rest_of_token_of_flag true byte rest later =
-    ap (token_byte_step byte) later ∙ token_byte_step_with_value byte (take (length rest - length (after_token rest)) rest) (after_gap (after_token rest))
-    ∙ sym (ap (λ (token : List ℕ). with_value token (after_gap (after_token rest)))
-    (take_succ_sub_cons (length rest) (length (after_token rest)) byte rest (after_token_len_le rest)))
-rest_of_token_of_flag false byte rest later =
-    sym (ap (λ (token : List ℕ). with_value token (after_gap (byte ∷ rest))) (take_sub_self (suc (length rest)) (byte ∷ rest)))
-
-rest_of_token_eq_with_value : (bytes : List ℕ) → rest_of_token bytes ≡ with_value (take (length bytes - length (after_token bytes)) bytes)
-    (after_gap (after_token bytes))
-rest_of_token_eq_with_value [] = refl
-rest_of_token_eq_with_value (byte ∷ rest) = rest_of_token_of_flag (is_token_byte byte) byte rest (rest_of_token_eq_with_value rest)
-
-pub trailer_parts_of_token : (byte : ℕ) (rest : List ℕ) → is_token_byte byte ≡ true
-    → trailer_parts (byte ∷ rest) ≡ with_value (take (length (byte ∷ rest) - length (after_token rest)) (byte ∷ rest)) (after_gap (after_token rest))
-trailer_parts_of_token byte rest is =
-    ap (λ (b : Bool). cond b (token_byte_step byte (rest_of_token rest)) None) is
-    ∙ ap (token_byte_step byte) (rest_of_token_eq_with_value rest) ∙ token_byte_step_with_value byte (take (length rest - length (after_token rest)) rest)
-    (after_gap (after_token rest))
-    ∙ sym (ap (λ (token : List ℕ). with_value token (after_gap (after_token rest)))
-    (take_succ_sub_cons (length rest) (length (after_token rest)) byte rest (after_token_len_le rest)))
-
-pub trailer_parts_none : (byte : ℕ) (rest : List ℕ) → is_token_byte byte ≡ false → trailer_parts (byte ∷ rest) ≡ None
-trailer_parts_none byte rest is = ap (λ (b : Bool). cond b (token_byte_step byte (rest_of_token rest)) None) is
 
 -- ---- continuation lines aren't trailer lines
 
@@ -79,7 +27,7 @@ whitespace_is_no_token_byte byte is = grind (arith, nat_tests)
 
 no_trailer_parts_of_indented : (bytes : List ℕ) → begins_indented bytes ≡ true → trailer_parts bytes ≡ None
 no_trailer_parts_of_indented [] is = refl
-no_trailer_parts_of_indented (byte ∷ rest) is = trailer_parts_none byte rest (whitespace_is_no_token_byte byte is)
+no_trailer_parts_of_indented (byte ∷ rest) is = trailer_parts_none (byte ∷ rest) rest byte refl (whitespace_is_no_token_byte byte is)
 
 right_of_not_and : (a b : Bool) → (not a && b) ≡ true → b ≡ true
 right_of_not_and true b is = cc is

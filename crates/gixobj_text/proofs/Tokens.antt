@@ -1,58 +1,89 @@
 -- Steps over the token and the gap of a trailer line.
-use Rattle.std.proofs.Common.{◌≡◌, ◌≢◌, ◌∷◌, ◌∙◌, ◌==◌, ap, arith, refl, ℕ, Bool, true, false, cond, List, [], Option, Some, None}
+use Rattle.std.proofs.Common.{◌-◌, ◌≤◌, ◌≡◌, ◌≢◌, ◌∷◌, ◌∙◌, ◌==◌, ap, arith, length, length-drop, refl, subst, sym, take, ℕ, Bool, true, false, cond, suc, List, [], Option, Some, None}
 use Rattle.std.proofs.lemmas.Bool.Decides.{nat_tests}
+use Rattle.std.proofs.lemmas.List.Sums.{prefix_len-le-length, take_while-cons}
+use Rattle.std.specs.List.{prefix_len, take_while}
 use Rattle.std.specs.Prelude.{is_some}
-use Rattle.gixobj_text.specs.BodyLines.{TrailerParts, after_gap, is_gap_byte, is_token_byte, token_byte_step, rest_of_token, trailer_parts, with_value}
-use Rattle.gixobj_text.specs.Scanning.{after_token}
-
-pub after_token_of_token_byte : (byte : ℕ) (rest : List ℕ) → is_token_byte byte ≡ true → after_token (byte ∷ rest) ≡ after_token rest
-after_token_of_token_byte byte rest is = ap (λ (b : Bool). cond b (after_token rest) (byte ∷ rest)) is
-
-pub after_token_of_other_byte : (byte : ℕ) (rest : List ℕ) → is_token_byte byte ≡ false → after_token (byte ∷ rest) ≡ byte ∷ rest
-after_token_of_other_byte byte rest is = ap (λ (b : Bool). cond b (after_token rest) (byte ∷ rest)) is
+use Rattle.gixobj_hash.specs.ByteStrings.{is_filled}
+use Rattle.gixobj_text.proofs.LongestPrefixes.{drop_prefix_len_cons}
+use Rattle.gixobj_text.specs.BodyLines.{TrailerParts, after_colon, after_gap, after_token, is_gap_byte, is_token_byte, trailer_parts, with_value}
 
 eqb_false_of_ne : (a b : ℕ) → a ≢ b → (a == b) ≡ false
 eqb_false_of_ne a b is = grind (arith, nat_tests)
 
-eqb_true_of_eq : (a b : ℕ) → a ≡ b → (a == b) ≡ true
-eqb_true_of_eq a b is = grind (arith, nat_tests)
+-- ---- the bytes after a token and after a gap
 
-pub after_gap_at_colon : (byte : ℕ) (rest : List ℕ) → byte ≡ 58 → after_gap (byte ∷ rest) ≡ Some rest
-after_gap_at_colon byte rest is = ap (λ (b : Bool). cond b (Some rest) (cond (is_gap_byte byte) (after_gap rest) None)) (eqb_true_of_eq byte 58 is)
+pub after_token_of_token_byte : (bytes rest : List ℕ) (byte : ℕ) → bytes ≡ byte ∷ rest → is_token_byte byte ≡ true
+    → after_token bytes ≡ after_token rest
+after_token_of_token_byte bytes rest byte joined is = ap after_token joined ∙ drop_prefix_len_cons is_token_byte byte rest true is
 
-pub after_gap_of_space : (byte : ℕ) (rest : List ℕ) → byte ≢ 58 → is_gap_byte byte ≡ true → after_gap (byte ∷ rest) ≡ after_gap rest
-after_gap_of_space byte rest is gap =
-    ap (λ (b : Bool). cond b (Some rest) (cond (is_gap_byte byte) (after_gap rest) None)) (eqb_false_of_ne byte 58 is)
-    ∙ ap (λ (b : Bool). cond b (after_gap rest) None) gap
+pub after_token_of_other_byte : (bytes rest : List ℕ) (byte : ℕ) → bytes ≡ byte ∷ rest → is_token_byte byte ≡ false → after_token bytes ≡ bytes
+after_token_of_other_byte bytes rest byte joined is =
+    ap after_token joined ∙ drop_prefix_len_cons is_token_byte byte rest false is ∙ sym joined
 
-pub after_gap_of_other_byte : (byte : ℕ) (rest : List ℕ) → byte ≢ 58 → is_gap_byte byte ≡ false → after_gap (byte ∷ rest) ≡ None
-after_gap_of_other_byte byte rest is gap =
-    ap (λ (b : Bool). cond b (Some rest) (cond (is_gap_byte byte) (after_gap rest) None)) (eqb_false_of_ne byte 58 is)
-    ∙ ap (λ (b : Bool). cond b (after_gap rest) None) gap
+pub after_token_len_le : (bytes : List ℕ) → length (after_token bytes) ≤ length bytes
+after_token_len_le bytes =
+    let len : length (after_token bytes) ≡ length bytes - prefix_len is_token_byte bytes = length-drop (prefix_len is_token_byte bytes) bytes in
+    omega arith
 
-is_some_token_byte_step : (byte : ℕ) (found : Option TrailerParts) → is_some (token_byte_step byte found) ≡ is_some found
-is_some_token_byte_step byte None = refl
-is_some_token_byte_step byte (Some parts) = refl
+pub after_gap_at_colon : (bytes rest : List ℕ) (byte : ℕ) → bytes ≡ byte ∷ rest → byte ≡ 58 → after_gap bytes ≡ Some rest
+after_gap_at_colon bytes rest byte joined is =
+    ap after_gap joined ∙ subst (λ (k : ℕ). after_gap (k ∷ rest) ≡ Some rest) (sym is) refl
 
-is_some_with_value : (found : Option (List ℕ)) → is_some (with_value [] found) ≡ is_some found
-is_some_with_value None = refl
-is_some_with_value (Some value) = refl
+pub after_gap_of_space : (bytes rest : List ℕ) (byte : ℕ) → bytes ≡ byte ∷ rest → is_gap_byte byte ≡ true → after_gap bytes ≡ after_gap rest
+after_gap_of_space bytes rest byte joined gap = ap after_gap joined ∙ ap after_colon (drop_prefix_len_cons is_gap_byte byte rest true gap)
 
-is_some_rest_of_token_of_flag : (byte : ℕ) (rest : List ℕ) (b : Bool) → is_some (rest_of_token rest) ≡ is_some (after_gap (after_token rest))
-    → is_some (cond b (token_byte_step byte (rest_of_token rest)) (with_value [] (after_gap (byte ∷ rest)))) ≡ is_some
-    (after_gap (cond b (after_token rest) (byte ∷ rest)))
-is_some_rest_of_token_of_flag byte rest true later = is_some_token_byte_step byte (rest_of_token rest) ∙ later
-is_some_rest_of_token_of_flag byte rest false later = is_some_with_value (after_gap (byte ∷ rest))
+pub after_gap_of_other_byte : (bytes rest : List ℕ) (byte : ℕ) → bytes ≡ byte ∷ rest → byte ≢ 58 → is_gap_byte byte ≡ false
+    → after_gap bytes ≡ None
+after_gap_of_other_byte bytes rest byte joined is gap =
+    ap after_gap joined ∙ ap after_colon (drop_prefix_len_cons is_gap_byte byte rest false gap)
+    ∙ ap (λ (b : Bool). cond b (Some rest) None) (eqb_false_of_ne byte 58 is)
 
-is_some_rest_of_token : (bytes : List ℕ) → is_some (rest_of_token bytes) ≡ is_some (after_gap (after_token bytes))
-is_some_rest_of_token [] = refl
-is_some_rest_of_token (byte ∷ rest) = is_some_rest_of_token_of_flag byte rest (is_token_byte byte) (is_some_rest_of_token rest)
+-- ---- the parts of a trailer line
 
-pub trailer_parts_is_some : (byte : ℕ) (rest : List ℕ) → is_token_byte byte ≡ true
-    → is_some (trailer_parts (byte ∷ rest)) ≡ is_some (after_gap (after_token rest))
-trailer_parts_is_some byte rest is = ap (λ (b : Bool). is_some (cond b (token_byte_step byte (rest_of_token rest)) None)) is
-    ∙ is_some_token_byte_step byte (rest_of_token rest)
-    ∙ is_some_rest_of_token rest
+take_while_token_cons : (byte : ℕ) (rest : List ℕ) (b : Bool) → is_token_byte byte ≡ b
+    → take_while is_token_byte (byte ∷ rest) ≡ cond b (byte ∷ take_while is_token_byte rest) []
+take_while_token_cons byte rest b is = take_while-cons is_token_byte byte rest
+    ∙ ap (λ (c : Bool). cond c (byte ∷ take_while is_token_byte rest) []) is
 
-pub trailer_parts_is_none : (byte : ℕ) (rest : List ℕ) → is_token_byte byte ≡ false → is_some (trailer_parts (byte ∷ rest)) ≡ false
-trailer_parts_is_none byte rest is = ap (λ (b : Bool). is_some (cond b (token_byte_step byte (rest_of_token rest)) None)) is
+-- the parts of content that begins with this token
+abbrev parts_with_token : List ℕ → List ℕ → Option TrailerParts
+parts_with_token content token = cond (is_filled token) (with_value token (after_gap (after_token content))) None
+
+trailer_parts_cons : (byte : ℕ) (rest : List ℕ) → is_token_byte byte ≡ true
+    → trailer_parts (byte ∷ rest) ≡ with_value (byte ∷ take_while is_token_byte rest) (after_gap (after_token rest))
+trailer_parts_cons byte rest is =
+    ap (parts_with_token (byte ∷ rest)) (take_while_token_cons byte rest true is)
+    ∙ ap (λ (bytes : List ℕ). with_value (byte ∷ take_while is_token_byte rest) (after_gap bytes))
+    (after_token_of_token_byte (byte ∷ rest) rest byte refl is)
+
+pub trailer_parts_of_token : (content rest : List ℕ) (byte : ℕ) → content ≡ byte ∷ rest → is_token_byte byte ≡ true
+    → trailer_parts content ≡ with_value (take (length content - length (after_token rest)) content) (after_gap (after_token rest))
+trailer_parts_of_token content rest byte joined is =
+    subst (λ (bytes : List ℕ). trailer_parts bytes
+    ≡ with_value (take (length bytes - length (after_token rest)) bytes) (after_gap (after_token rest))) (sym joined)
+    (trailer_parts_cons byte rest is ∙ ap (λ (n : ℕ). with_value (take n (byte ∷ rest)) (after_gap (after_token rest))) len_sub_len_after_token)
+  where
+    len_sub_len_after_token : suc (prefix_len is_token_byte rest) ≡ length (byte ∷ rest) - length (after_token rest)
+    len_sub_len_after_token =
+        let after_len : length (after_token rest) ≡ length rest - prefix_len is_token_byte rest = length-drop (prefix_len is_token_byte rest) rest in
+        let few : prefix_len is_token_byte rest ≤ length rest = prefix_len-le-length is_token_byte rest in
+        omega arith
+
+pub trailer_parts_none : (content rest : List ℕ) (byte : ℕ) → content ≡ byte ∷ rest → is_token_byte byte ≡ false → trailer_parts content ≡ None
+trailer_parts_none content rest byte joined is =
+    ap trailer_parts joined ∙ ap (parts_with_token (byte ∷ rest)) (take_while_token_cons byte rest false is)
+
+is_some_with_value : (token : List ℕ) (found : Option (List ℕ)) → is_some (with_value token found) ≡ is_some found
+is_some_with_value token None = refl
+is_some_with_value token (Some value) = refl
+
+pub trailer_parts_is_some : (content rest : List ℕ) (byte : ℕ) → content ≡ byte ∷ rest → is_token_byte byte ≡ true
+    → is_some (trailer_parts content) ≡ is_some (after_gap (after_token rest))
+trailer_parts_is_some content rest byte joined is =
+    ap is_some (ap trailer_parts joined ∙ trailer_parts_cons byte rest is)
+    ∙ is_some_with_value (byte ∷ take_while is_token_byte rest) (after_gap (after_token rest))
+
+pub trailer_parts_is_none : (content rest : List ℕ) (byte : ℕ) → content ≡ byte ∷ rest → is_token_byte byte ≡ false
+    → is_some (trailer_parts content) ≡ false
+trailer_parts_is_none content rest byte joined is = ap is_some (trailer_parts_none content rest byte joined is)

@@ -1,8 +1,8 @@
 //! The split of a trailer line into its token and its value.
 ghost use Rattle.std.specs.Prelude.{◌≡◌, ◌≤◌, ◌-◌, is_some, length, take};
 ghost use Rattle.std.specs.Option.{option_map};
-ghost use Rattle.gixobj_text.specs.BodyLines.{after_gap as after_gap_of, is_gap_byte as is_gap_byte_of, is_token_byte as is_token_byte_of, trailer_parts, with_value};
-ghost use Rattle.gixobj_text.specs.Scanning.{after_token as after_token_of, read_parts};
+ghost use Rattle.gixobj_text.specs.BodyLines.{after_gap as after_gap_of, after_token as after_token_of, is_gap_byte as is_gap_byte_of, is_token_byte as is_token_byte_of, trailer_parts, with_value};
+ghost use Rattle.gixobj_text.specs.Scanning.{read_parts};
 
 /// Returns whether a byte is an ASCII letter, an ASCII digit or `-`.
 #[inline(always)]
@@ -80,7 +80,7 @@ fn parts_after_token<'a>(content: &'a [u8], rest: &'a [u8]) -> Option<(&'a [u8],
 
 /// Splits a trailer line's content into its token and the bytes after its colon.
 #[inline(always)]
-#[tactic(auto, using(crate::proofs::Reading::trailer_parts_of_token, crate::proofs::Reading::trailer_parts_none, crate::proofs::Reading::after_token_len_le))]
+#[tactic(auto, using(crate::proofs::Tokens::trailer_parts_of_token, crate::proofs::Tokens::trailer_parts_none, crate::proofs::Tokens::after_token_len_le))]
 pub(crate) fn split_trailer(content: &[u8]) -> Option<(&[u8], &[u8])>
     ensures { read_parts result ≡ trailer_parts content.now }
 {

@@ -1,5 +1,5 @@
 use Rattle.std.proofs.Common.{◌≡◌, length}
-use Rattle.gixobj_text.specs.Scanning.{after_token}
+use Rattle.gixobj_text.specs.BodyLines.{after_token}
 use Rattle.gixobj_text.proofs.commit.message.body.trailer_lines.skip_token.Given as goal
 
 -- the bytes after the token are the same from the rest as from the start
