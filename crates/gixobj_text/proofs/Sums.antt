@@ -2,15 +2,17 @@
 use Rattle.std.proofs.Common.{◌++◌, ◌+◌, ◌-◌, ◌<◌, ◌∙◌, ◌∷◌, ◌≡◌, ◌≢◌, Bool, List, None, Some, [], ap, append-nil, append_assoc, arith, cond, drop, false, length, length-drop, map, refl, reverse, slice_index, suc, sym, take, true, zero, ℕ}
 use Rattle.std.proofs.lemmas.Bool.{eqb-true, ne_eqb, eq-eqb, cond-true, cond-false}
 use Rattle.std.proofs.lemmas.List.{reverse-append, reverse-reverse}
+use Rattle.std.proofs.lemmas.List.Sums.{take_while-cons}
 use Rattle.std.specs.Prelude.{◌==◌}
-use Rattle.std.specs.Char.{is_whitespace}
-use Rattle.std.specs.List.{flat_map, prefix_len}
+use Rattle.std.specs.Char.{is_ascii_whitespace, is_whitespace}
+use Rattle.std.specs.List.{flat_map, list_all, onto_first, prefix_len, take_while}
 use Rattle.bstr.specs.Find.{IsFirstByte, is_byte}
 use Rattle.bstr.specs.Owned.{joined}
 use Rattle.bstr.specs.Trim.{trim_end_by}
+use Rattle.gixobj_text.proofs.LongestPrefixes.{drop_prefix_len_cons}
 use Rattle.gixobj_text.specs.Summing.{has_more, is_multiline, summary_of_rest}
-use Rattle.gixobj_text.specs.Titles.{before_empty, without_trailing_but_last, is_empty_piece, is_trailing_space, prepended_to_first, pieces_of, has_empty_piece, summary_of, summary_of_pieces, without_trailing}
-use Rattle.gixobj_hash.specs.ByteStrings.{trimmed}
+use Rattle.gixobj_text.specs.Titles.{without_trailing_but_last, pieces_of, summary_of, summary_of_pieces, without_trailing}
+use Rattle.gixobj_hash.specs.ByteStrings.{is_filled, trimmed}
 
 abbrev Pieces : Type 0
 Pieces = List (List ℕ)
@@ -24,14 +26,14 @@ pieces_of_first_newline [] place below is before = absurd (omega arith)
 pieces_of_first_newline (byte ∷ rest) zero below is before = cond-true _ _ _ (eq-eqb byte 10 is)
 pieces_of_first_newline (byte ∷ rest) (suc place) below is before =
     let other : byte ≢ 10 = before 0 (omega arith) in
-    cond-false _ _ _ (ne_eqb byte 10 other) ∙ ap (prepended_to_first byte)
+    cond-false _ _ _ (ne_eqb byte 10 other) ∙ ap (onto_first byte)
     (pieces_of_first_newline rest place (omega arith) is (λ k under. before (suc k) (omega arith)))
 
 pieces_of_no_newline : (content : List ℕ) → ((k : ℕ) → k < length content → slice_index content k ≢ 10) → pieces_of content ≡ content ∷ []
 pieces_of_no_newline [] none = refl
 pieces_of_no_newline (byte ∷ rest) none =
     let other : byte ≢ 10 = none 0 (omega arith) in
-    cond-false _ _ _ (ne_eqb byte 10 other) ∙ ap (prepended_to_first byte) (pieces_of_no_newline rest (λ k under. none (suc k) (omega arith)))
+    cond-false _ _ _ (ne_eqb byte 10 other) ∙ ap (onto_first byte) (pieces_of_no_newline rest (λ k under. none (suc k) (omega arith)))
 
 pub pieces_of_split : (content piece rest : List ℕ) (place : ℕ) → IsFirstByte (is_byte 10) content (Some place) → piece ≡ take place content
     → rest ≡ drop (place + 1) content → pieces_of content ≡ piece ∷ pieces_of rest
@@ -51,7 +53,7 @@ split_rest_len_lt content rest place (none, here) is =
 pub pieces_of_newline_free : (content : List ℕ) → IsFirstByte (is_byte 10) content None → pieces_of content ≡ content ∷ []
 pieces_of_newline_free content none = pieces_of_no_newline content (λ k below is. none k (omega arith) below (eq-eqb (slice_index content k) 10 is))
 
-prepended_pieces_ne_nil : (b : Bool) (byte : ℕ) (pieces : Pieces) → cond b ([] ∷ pieces) (prepended_to_first byte pieces) ≢ []
+prepended_pieces_ne_nil : (b : Bool) (byte : ℕ) (pieces : Pieces) → cond b ([] ∷ pieces) (onto_first byte pieces) ≢ []
 prepended_pieces_ne_nil true byte pieces = λ is. cc is
 prepended_pieces_ne_nil false byte [] = λ is. cc is
 prepended_pieces_ne_nil false byte (piece ∷ pieces) = λ is. cc is
@@ -63,29 +65,18 @@ pieces_of_ne_nil (byte ∷ rest) = prepended_pieces_ne_nil (byte == 10) byte (pi
 -- ---- trailing white space
 
 abbrev dropped : List ℕ → List ℕ
-dropped bytes = reverse (drop (prefix_len is_trailing_space bytes) bytes)
+dropped bytes = reverse (drop (prefix_len is_ascii_whitespace bytes) bytes)
 
-dropped_cons : (b : Bool) (byte : ℕ) (rest : List ℕ) → is_trailing_space byte ≡ b → dropped (byte ∷ rest) ≡ cond b (dropped rest)
-    (reverse (byte ∷ rest))
-dropped_cons b byte rest is = ap (λ (c : Bool). reverse (drop (cond c (1 + prefix_len is_trailing_space rest) 0) (byte ∷ rest))) is
-    ∙ by_test b byte rest
-  where
-    by_test : (b : Bool) (byte : ℕ) (rest : List ℕ) → reverse (drop (cond b (1 + prefix_len is_trailing_space rest) 0) (byte ∷ rest)) ≡ cond b
-        (dropped rest)
-        (reverse (byte ∷ rest))
-    by_test true byte rest = ap (λ (n : ℕ). reverse (drop n (byte ∷ rest)))
-        (let is : 1 + prefix_len is_trailing_space rest ≡ suc (prefix_len is_trailing_space rest) = omega arith in is)
-    by_test false byte rest = refl
-
-pub without_trailing_space : (bytes prefix : List ℕ) (byte : ℕ) → bytes ≡ prefix ++ byte ∷ [] → is_trailing_space byte ≡ true
+pub without_trailing_space : (bytes prefix : List ℕ) (byte : ℕ) → bytes ≡ prefix ++ byte ∷ [] → is_ascii_whitespace byte ≡ true
     → without_trailing bytes ≡ without_trailing prefix
 without_trailing_space bytes prefix byte joined is = ap dropped (ap reverse joined ∙ reverse-append prefix (byte ∷ []))
-    ∙ dropped_cons true byte (reverse prefix) is
+    ∙ ap reverse (drop_prefix_len_cons is_ascii_whitespace byte (reverse prefix) true is)
 
-pub without_trailing_of_other : (bytes prefix : List ℕ) (byte : ℕ) → bytes ≡ prefix ++ byte ∷ [] → is_trailing_space byte ≡ false
+pub without_trailing_of_other : (bytes prefix : List ℕ) (byte : ℕ) → bytes ≡ prefix ++ byte ∷ [] → is_ascii_whitespace byte ≡ false
     → without_trailing bytes ≡ bytes
 without_trailing_of_other bytes prefix byte joined is =
-    ap dropped (ap reverse joined ∙ reverse-append prefix (byte ∷ [])) ∙ dropped_cons false byte (reverse prefix) is
+    ap dropped (ap reverse joined ∙ reverse-append prefix (byte ∷ []))
+    ∙ ap reverse (drop_prefix_len_cons is_ascii_whitespace byte (reverse prefix) false is)
     ∙ ap reverse (sym (reverse-append prefix (byte ∷ []))) ∙ reverse-reverse (prefix ++ byte ∷ []) ∙ sym joined
 
 pub without_trailing_nil : (bytes : List ℕ) → length bytes ≡ 0 → without_trailing bytes ≡ bytes
@@ -115,16 +106,19 @@ cond_congruent true x y z w one two = one
 cond_congruent false x y z w one two = two
 
 summary_of_rest_cons : (out piece : List ℕ) (pieces : Pieces) → summary_of_rest out (piece ∷ pieces)
-    ≡ cond (has_empty_piece (piece ∷ pieces)) (trim (out ++ spaced (map without_trailing (before_empty (piece ∷ pieces)))))
-    (out ++ spaced (without_trailing_but_last (piece ∷ pieces)))
+    ≡ cond (list_all is_filled (piece ∷ pieces)) (out ++ spaced (without_trailing_but_last (piece ∷ pieces)))
+    (trim (out ++ spaced (map without_trailing (take_while is_filled (piece ∷ pieces)))))
 summary_of_rest_cons out [] [] = ap trim (sym (append-nil out))
 summary_of_rest_cons out [] (next ∷ pieces) = ap trim (sym (append-nil out))
 summary_of_rest_cons out (byte ∷ piece) [] = ap (λ (bytes : List ℕ). out ++ bytes) (sym (append-nil (32 ∷ byte ∷ piece)))
 summary_of_rest_cons out (byte ∷ piece) (next ∷ pieces) =
-    summary_of_rest_cons (out ++ 32 ∷ without_trailing (byte ∷ piece)) next pieces
-    ∙ cond_congruent (has_empty_piece (next ∷ pieces)) _ _ _ _
-    (ap trim (append_assoc out (32 ∷ without_trailing (byte ∷ piece)) (spaced (map without_trailing (before_empty (next ∷ pieces))))))
-    (append_assoc out (32 ∷ without_trailing (byte ∷ piece)) (spaced (without_trailing_but_last (next ∷ pieces))))
+    let trimmed_piece : List ℕ = 32 ∷ without_trailing (byte ∷ piece) in
+    summary_of_rest_cons (out ++ trimmed_piece) next pieces
+    ∙ cond_congruent (list_all is_filled (next ∷ pieces)) _ _ _ _
+    (append_assoc out trimmed_piece (spaced (without_trailing_but_last (next ∷ pieces))))
+    (ap trim (append_assoc out trimmed_piece (spaced (map without_trailing (take_while is_filled (next ∷ pieces)))))
+    ∙ ap (λ (ps : Pieces). trim (out ++ spaced (map without_trailing ps)))
+    (sym (take_while-cons is_filled (byte ∷ piece) (next ∷ pieces))))
 
 summary_of_pieces_cons : (first : List ℕ) (pieces : Pieces) → pieces ≢ [] → summary_of_rest (without_trailing first) pieces ≡ summary_of_pieces (first ∷ pieces)
 summary_of_pieces_cons first [] some = absurd (some refl)
@@ -133,15 +127,15 @@ summary_of_pieces_cons first (piece ∷ pieces) some = summary_of_rest_cons (wit
 pub summary_of_first_piece : (first rest : List ℕ) → summary_of_rest (without_trailing first) (pieces_of rest) ≡ summary_of_pieces (first ∷ pieces_of rest)
 summary_of_first_piece first rest = summary_of_pieces_cons first (pieces_of rest) (pieces_of_ne_nil rest)
 
-summary_of_rest_filled_cons : (out : List ℕ) (piece : List ℕ) (pieces : Pieces) → pieces ≢ [] → is_empty_piece piece ≡ false
+summary_of_rest_filled_cons : (out : List ℕ) (piece : List ℕ) (pieces : Pieces) → pieces ≢ [] → is_filled piece ≡ true
     → summary_of_rest out (piece ∷ pieces) ≡ summary_of_rest (out ++ 32 ∷ without_trailing piece) pieces
 summary_of_rest_filled_cons out piece [] some is = absurd (some refl)
 summary_of_rest_filled_cons out piece (next ∷ pieces) some is =
-    ap (λ (b : Bool). cond b (trim out) (summary_of_rest (out ++ 32 ∷ without_trailing piece) (next ∷ pieces))) is
+    ap (λ (b : Bool). cond b (summary_of_rest (out ++ 32 ∷ without_trailing piece) (next ∷ pieces)) (trim out)) is
 
-is_empty_piece_false_of_len : (piece : List ℕ) (b : Bool) → b ≡ false → b ≡ (length piece == 0) → is_empty_piece piece ≡ false
-is_empty_piece_false_of_len [] b not is = cc (not, is)
-is_empty_piece_false_of_len (byte ∷ piece) b not is = refl
+is_filled_of_len : (piece : List ℕ) (b : Bool) → b ≡ false → b ≡ (length piece == 0) → is_filled piece ≡ true
+is_filled_of_len [] b not is = cc (not, is)
+is_filled_of_len (byte ∷ piece) b not is = refl
 
 nil_of_len_test : (piece : List ℕ) (b : Bool) → b ≡ true → b ≡ (length piece == 0) → piece ≡ []
 nil_of_len_test [] b so is = refl
@@ -151,7 +145,7 @@ pub summary_of_next_piece : (out content piece rest : List ℕ) (b : Bool) → p
     → summary_of_rest (out ++ 32 ∷ without_trailing piece) (pieces_of rest) ≡ summary_of_rest out (pieces_of content)
 summary_of_next_piece out content piece rest b is not test =
     sym (ap (summary_of_rest out) is ∙ summary_of_rest_filled_cons out piece (pieces_of rest) (pieces_of_ne_nil rest)
-    (is_empty_piece_false_of_len piece b not test))
+    (is_filled_of_len piece b not test))
 
 summary_of_rest_empty_cons : (out : List ℕ) (pieces : Pieces) → summary_of_rest out ([] ∷ pieces) ≡ trim out
 summary_of_rest_empty_cons out [] = refl
@@ -166,7 +160,7 @@ summary_at_empty_piece out content piece rest b is so test =
 pub summary_of_last_piece : (out content : List ℕ) (b : Bool) → pieces_of content ≡ content ∷ [] → b ≡ false → b ≡ (length content == 0)
     → out ++ 32 ∷ content ≡ summary_of_rest out (pieces_of content)
 summary_of_last_piece out content b is not test =
-    sym (ap (summary_of_rest out) is ∙ ap (λ (c : Bool). cond c (trim out) (out ++ 32 ∷ content)) (is_empty_piece_false_of_len content b not test))
+    sym (ap (summary_of_rest out) is ∙ ap (λ (c : Bool). cond c (out ++ 32 ∷ content) (trim out)) (is_filled_of_len content b not test))
 
 pub summary_of_empty_last_piece : (out content : List ℕ) (b : Bool) → pieces_of content ≡ content ∷ [] → b ≡ true → b ≡ (length content == 0)
     → trim_end_by is_whitespace out ≡ summary_of_rest out (pieces_of content)

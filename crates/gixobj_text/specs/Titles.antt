@@ -1,11 +1,11 @@
 -- The title, the body and the summary of a message.
-use Rattle.std.specs.Prelude.{◌≡◌, ◌≢◌, ◌⊎◌, ◌≤◌, ◌==◌, ◌||◌, ℕ, Bool, true, false, cond, List, [], ◌∷◌, ◌++◌, Option, Some, None, drop, length, map, reverse}
-use Rattle.std.specs.Char.{is_whitespace}
-use Rattle.std.specs.List.{prefix_len}
+use Rattle.std.specs.Prelude.{◌≡◌, ◌≢◌, ◌⊎◌, ◌≤◌, ◌==◌, ℕ, if◌then◌else◌, List, [], ◌∷◌, ◌++◌, Option, Some, None, drop, length, map, reverse}
+use Rattle.std.specs.Char.{is_ascii_whitespace, is_whitespace}
+use Rattle.std.specs.List.{list_all, prefix_len, slice_split, take_while}
 use Rattle.bstr.specs.Owned.{joined}
-use Rattle.gixobj_hash.specs.Bytes.{newline, space, tab}
+use Rattle.gixobj_hash.specs.Bytes.{newline, space}
 use Rattle.gixobj_text.specs.BodyLines.{carriage_return}
-use Rattle.gixobj_hash.specs.ByteStrings.{trimmed}
+use Rattle.gixobj_hash.specs.ByteStrings.{is_filled, trimmed}
 use Rattle.bstr.specs.Trim.{trim_end_by}
 
 -- ---- title and body
@@ -35,42 +35,13 @@ SplitsTitle message title (Some body) = IsSplitAtBreaks message title body × (b
 
 -- ---- summaries
 
--- the pieces with one more byte at the start of the first
-abbrev pub prepended_to_first : ℕ → List (List ℕ) → List (List ℕ)
-prepended_to_first byte [] = (byte ∷ []) ∷ []
-prepended_to_first byte (piece ∷ pieces) = (byte ∷ piece) ∷ pieces
-
 -- the pieces between newlines
 abbrev pub pieces_of : List ℕ → List (List ℕ)
-pieces_of [] = [] ∷ []
-pieces_of (byte ∷ rest) = cond (byte == newline) ([] ∷ pieces_of rest) (prepended_to_first byte (pieces_of rest))
-
--- a form feed
-abbrev pub form_feed : ℕ
-form_feed = 12
-
--- ASCII white space
-abbrev pub is_trailing_space : ℕ → Bool
-is_trailing_space byte = byte == tab || byte == newline || byte == form_feed || byte == carriage_return || byte == space
+pieces_of bytes = slice_split (λ byte. byte == newline) bytes
 
 -- a piece without the ASCII white space at its end
 abbrev pub without_trailing : List ℕ → List ℕ
-without_trailing piece = reverse (drop (prefix_len is_trailing_space (reverse piece)) (reverse piece))
-
--- the piece is empty
-abbrev pub is_empty_piece : List ℕ → Bool
-is_empty_piece [] = true
-is_empty_piece (byte ∷ rest) = false
-
--- a piece is empty
-abbrev pub has_empty_piece : List (List ℕ) → Bool
-has_empty_piece [] = false
-has_empty_piece (piece ∷ pieces) = is_empty_piece piece || has_empty_piece pieces
-
--- the pieces before the first empty one, or all
-abbrev pub before_empty : List (List ℕ) → List (List ℕ)
-before_empty [] = []
-before_empty (piece ∷ pieces) = cond (is_empty_piece piece) [] (piece ∷ before_empty pieces)
+without_trailing piece = reverse (drop (prefix_len is_ascii_whitespace (reverse piece)) (reverse piece))
 
 -- each piece without the ASCII white space at its end; the last piece of all is unchanged
 abbrev pub without_trailing_but_last : List (List ℕ) → List (List ℕ)
@@ -83,9 +54,8 @@ without_trailing_but_last (piece ∷ next ∷ pieces) = without_trailing piece �
 abbrev pub summary_of_pieces : List (List ℕ) → List ℕ
 summary_of_pieces [] = []
 summary_of_pieces (first ∷ pieces) =
-    cond (has_empty_piece pieces)
-    (trim_end_by is_whitespace (joined (space ∷ []) (map without_trailing (first ∷ before_empty pieces))))
-    (joined (space ∷ []) (without_trailing_but_last (first ∷ pieces)))
+    if list_all is_filled pieces then joined (space ∷ []) (without_trailing_but_last (first ∷ pieces))
+    else trim_end_by is_whitespace (joined (space ∷ []) (map without_trailing (first ∷ take_while is_filled pieces)))
 
 -- the summary of the trimmed bytes
 abbrev pub summary_of : List ℕ → List ℕ

@@ -5,7 +5,7 @@ ghost use Rattle.std.specs.Cow.{cow_slice_items};
 ghost use Rattle.bstr.specs.Trim.{trim_end_by};
 ghost use Rattle.gixobj_text.specs.TrailerSteps.{is_owned};
 ghost use Rattle.gixobj_text.specs.Summing.{is_multiline};
-ghost use Rattle.gixobj_text.specs.Titles.{is_trailing_space as is_trailing_space_of, pieces_of, summary_of, summary_of_pieces, without_trailing as without_trailing_of};
+ghost use Rattle.gixobj_text.specs.Titles.{pieces_of, summary_of, summary_of_pieces, without_trailing as without_trailing_of};
 
 use bstr::ByteSlice;
 use gixobj_hash::memory::OutOfMemory;
@@ -53,13 +53,6 @@ fn split_newline(content: &[u8]) -> Option<(&[u8], &[u8])>
     }
 }
 
-/// Returns whether a byte is ASCII white space.
-fn is_trailing_space(byte: u8) -> bool
-    ensures { result ≡ is_trailing_space_of byte }
-{
-    byte == b'\t' || byte == b'\n' || byte == 12 || byte == b'\r' || byte == b' '
-}
-
 /// Returns a piece without the ASCII white space at its end.
 #[tactic(auto, using(crate::proofs::Sums::without_trailing_space, crate::proofs::Sums::without_trailing_of_other, crate::proofs::Sums::without_trailing_nil))]
 fn without_trailing(piece: &[u8]) -> &[u8]
@@ -67,7 +60,7 @@ fn without_trailing(piece: &[u8]) -> &[u8]
 {
     let mut rest = piece;
     'bytes: while let Some((byte, prefix)) = rest.split_last() {
-        if !is_trailing_space(*byte) {
+        if !byte.is_ascii_whitespace() {
             return rest;
         }
         rest = prefix;
