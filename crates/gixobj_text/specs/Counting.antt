@@ -1,5 +1,5 @@
 -- The counts of the lines of a run.
-use Rattle.std.specs.Prelude.{◌≡◌, ℕ, Bool, cond, false, List}
+use Rattle.std.specs.Prelude.{◌≡◌, ℕ, Bool, if◌then◌else◌, false, List}
 use Rattle.std.specs.List.{list_any}
 use Rattle.gixobj_text.specs.BodyLines.{is_indented, is_recognised}
 use Rattle.gixobj_text.specs.Scanning.{is_below_trailer_after}
@@ -9,7 +9,10 @@ use Rattle.gixobj_text.specs.declared.commit.message.body.run.Run.{Run}
 -- what a line adds to the number of other lines; `above` is whether the last line before it that isn't indented counts
 -- as a trailer
 abbrev pub other_count_of : Bool → List ℕ → ℕ
-other_count_of above line = cond (counts_as_trailer line) 0 (cond (is_indented line) (cond above 0 1) 1)
+other_count_of above line =
+    if counts_as_trailer line then 0
+    else if is_indented line then (if above then 0 else 1)
+    else 1
 
 -- the counts of this run
 pub record Counts (run : List (List ℕ)) (it : Run) : Type 0 where

@@ -1,5 +1,5 @@
 -- The trailer block at the end of a body (git-interpret-trailers).
-use Rattle.std.specs.Prelude.{◌≡◌, ◌≢◌, ◌⊎◌, ◌<◌, ◌≤◌, ◌+◌, ◌*◌, ℕ, Bool, true, false, cond, List, [], ◌∷◌, ◌++◌, ◌||◌, All, IsTrue, IsFalse, count_by, length}
+use Rattle.std.specs.Prelude.{◌≡◌, ◌≢◌, ◌⊎◌, ◌<◌, ◌≤◌, ◌+◌, ◌*◌, ℕ, Bool, true, false, if◌then◌else◌, List, [], ◌∷◌, ◌++◌, ◌||◌, All, IsTrue, IsFalse, count_by, length}
 use Rattle.std.specs.List.{concat, list_any}
 use Rattle.bstr.specs.Text.{lines_of}
 use Rattle.gixobj_text.specs.BodyLines.{is_blank, is_indented, is_recognised, is_trailer_line, trimmed_line}
@@ -31,8 +31,10 @@ counts_as_trailer line = is_recognised line || is_trailer_line line
 -- at the first line
 abbrev pub count_others : Bool → List (List ℕ) → ℕ
 count_others above [] = 0
-count_others above (line ∷ run) = cond (counts_as_trailer line) (count_others true run)
-    (cond (is_indented line) (cond above 0 1 + count_others above run) (1 + count_others false run))
+count_others above (line ∷ run) =
+    if counts_as_trailer line then count_others true run
+    else if is_indented line then (if above then 0 else 1) + count_others above run
+    else 1 + count_others false run
 
 -- the number of lines that count as trailers
 abbrev pub trailers_in : List (List ℕ) → ℕ

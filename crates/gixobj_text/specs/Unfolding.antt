@@ -1,5 +1,5 @@
 -- The unfolding of a value, line by line.
-use Rattle.std.specs.Prelude.{◌≡◌, ◌<◌, ◌++◌, ℕ, Bool, true, false, cond, Some, List, [], ◌∷◌, length, map}
+use Rattle.std.specs.Prelude.{◌≡◌, ◌<◌, ◌++◌, ℕ, Bool, true, false, if◌then◌else◌, Some, List, [], ◌∷◌, length, map}
 use Rattle.std.specs.List.{take_while}
 use Rattle.bstr.specs.Text.{lines_of}
 use Rattle.gixobj_hash.specs.Bytes.{space}
@@ -10,7 +10,8 @@ use Rattle.gixobj_hash.specs.ByteStrings.{is_filled, trimmed}
 
 -- the items with a piece appended, unless it is empty; a space separates two pieces
 abbrev pub with_piece : List ℕ → List ℕ → List ℕ
-with_piece items piece = cond (is_filled piece) (cond (is_filled items) (items ++ space ∷ piece) piece) items
+with_piece items piece =
+    if is_filled piece then (if is_filled items then items ++ space ∷ piece else piece) else items
 
 -- the items with all pieces appended
 abbrev pub with_pieces : List ℕ → List (List ℕ) → List ℕ
@@ -33,8 +34,8 @@ has_lines (line ∷ lines) = true
 -- the first trailer has continuation lines
 abbrev pub first_is_folded : List (List ℕ) → Bool
 first_is_folded [] = false
-first_is_folded (line ∷ lines) = cond (is_trailer_line line) (has_lines (take_while is_continuation_line lines))
-    (first_is_folded lines)
+first_is_folded (line ∷ lines) =
+    if is_trailer_line line then has_lines (take_while is_continuation_line lines) else first_is_folded lines
 
 -- the token of the next trailer line, the bytes after its colon, and the lines after it
 pub record IsNextTrailer (bytes token first rest : List ℕ) : Type 0 where

@@ -1,5 +1,5 @@
 //! The counts of trailers and other lines in a run of lines that aren't blank.
-ghost use Rattle.std.specs.Prelude.{◌≡◌, ◌+◌, ◌*◌, ◌<◌, ◌≤◌, ◌^◌, ◌||◌, ◌↔◌, ◌⊎◌, IsTrue, cond, true, false};
+ghost use Rattle.std.specs.Prelude.{◌≡◌, ◌+◌, ◌*◌, ◌<◌, ◌≤◌, ◌^◌, ◌||◌, ◌↔◌, ◌⊎◌, IsTrue, if◌then◌else◌, true, false};
 ghost use Rattle.gixobj_text.specs.BodyLines.{begins_recognised as begins_recognised_of, is_indented as is_indented_of, is_recognised as is_recognised_of};
 ghost use Rattle.gixobj_text.specs.TrailerBlocks.{counts_as_trailer as is_trailing_of};
 
@@ -30,7 +30,7 @@ fn begins_recognised(bytes: &[u8]) -> bool
 /// Returns what a line adds to the number of other lines.
 #[inline(always)]
 fn other_of(trailing: bool, indented: bool, above: bool) -> usize
-    ensures value { result ≡ cond trailing 0 (cond indented (cond above 0 1) 1) }
+    ensures value { result ≡ (if trailing then 0 else if indented then (if above then 0 else 1) else 1) }
     ensures bounded { result ≤ 1 }
 {
     if trailing || indented && above { 0 } else { 1 }
@@ -39,7 +39,7 @@ fn other_of(trailing: bool, indented: bool, above: bool) -> usize
 /// Returns whether the last line that isn't indented, up to this one, counts as a trailer.
 #[inline(always)]
 fn above_after(trailing: bool, indented: bool, above: bool) -> bool
-    ensures { result ≡ cond trailing true (cond indented above false) }
+    ensures { result ≡ (if trailing then true else if indented then above else false) }
 {
     trailing || indented && above
 }
@@ -69,11 +69,11 @@ impl Run {
         requires others { self.others + 1 < 2 ^ 64 }
         ensures max_trailers { result.trailers ≤ self.trailers + 1 }
         ensures max_others { result.others ≤ self.others + 1 }
-        ensures trailers { result.trailers ≡ self.trailers + cond (is_trailing_of line.now) 1 0 }
+        ensures trailers { result.trailers ≡ self.trailers + (if is_trailing_of line.now then 1 else 0) }
         ensures others { result.others ≡ self.others + other_of_of self.above line.now }
         ensures recognised { result.recognised ≡ (self.recognised || is_recognised_of line.now) }
-        ensures above { result.above ≡ cond (is_trailing_of line.now) true
-            (cond (is_indented_of line.now) self.above false) }
+        ensures above { result.above ≡ (if is_trailing_of line.now then true
+            else if is_indented_of line.now then self.above else false) }
     {
         let bytes = line_content(line);
         let (recognised, indented) = (begins_recognised(bytes), begins_indented(bytes));
