@@ -1,11 +1,12 @@
 -- The bytes after a prefix of a status line, and the fields that single spaces separate.
-use Rattle.std.specs.Prelude.{ℕ, List, [], ◌∷◌, Option, Some, None, cond, drop, length, nat_eq, slice_get, ◌==◌}
+use Rattle.std.specs.Prelude.{ℕ, List, [], ◌∷◌, Option, Some, None, if◌then◌else◌, drop, length, nat_eq, slice_get, ◌==◌}
 use Rattle.std.specs.List.{starts_with}
 use Rattle.gixobj_hash.specs.Bytes.{space}
 
 -- the bytes after this prefix, or none without this prefix
 abbrev pub after_prefix : List ℕ → List ℕ → Option (List ℕ)
-after_prefix beginning line = cond (starts_with nat_eq line beginning) (Some (drop (length beginning) line)) None
+after_prefix beginning line =
+    if starts_with nat_eq line beginning then Some (drop (length beginning) line) else None
 
 -- the first option, or the second if the first is none
 abbrev pub either : {X : Type 0} → Option X → Option X → Option X
@@ -20,12 +21,12 @@ unless_empty (byte ∷ rest) = Some (byte ∷ rest)
 -- the bytes before the first space, or all without one
 abbrev pub first_token : List ℕ → List ℕ
 first_token [] = []
-first_token (byte ∷ rest) = cond (byte == space) [] (byte ∷ first_token rest)
+first_token (byte ∷ rest) = if byte == space then [] else byte ∷ first_token rest
 
 -- the bytes after the first space, or nothing without one
 abbrev pub after_space : List ℕ → List ℕ
 after_space [] = []
-after_space (byte ∷ rest) = cond (byte == space) rest (after_space rest)
+after_space (byte ∷ rest) = if byte == space then rest else after_space rest
 
 -- the fields with one more byte at the start of the first
 abbrev pub one_more_byte : ℕ → List (List ℕ) → List (List ℕ)
@@ -35,7 +36,7 @@ one_more_byte byte (field ∷ fields) = (byte ∷ field) ∷ fields
 -- the fields that single spaces separate
 abbrev pub fields_of : List ℕ → List (List ℕ)
 fields_of [] = [] ∷ []
-fields_of (byte ∷ rest) = cond (byte == space) ([] ∷ fields_of rest) (one_more_byte byte (fields_of rest))
+fields_of (byte ∷ rest) = if byte == space then [] ∷ fields_of rest else one_more_byte byte (fields_of rest)
 
 -- the field, or none if it is missing or empty
 abbrev pub if_not_empty : Option (List ℕ) → Option (List ℕ)

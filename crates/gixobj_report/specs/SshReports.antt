@@ -1,5 +1,5 @@
 -- Reports of SSH programs (ssh-keygen(1), "-Y verify").
-use Rattle.std.specs.Prelude.{ℕ, false, List, [], ◌∷◌, Option, None, cond, codes, nat_eq}
+use Rattle.std.specs.Prelude.{ℕ, false, List, [], ◌∷◌, Option, None, if◌then◌else◌, codes, nat_eq}
 use Rattle.std.specs.List.{starts_with}
 use Rattle.bstr.specs.Text.{lines_of, without_terminator}
 use Rattle.gixobj_text.specs.declared.signature.Format.TheVariants as format
@@ -21,7 +21,8 @@ first_line (line ∷ lines) = without_terminator line
 
 -- good if the output begins with `Good "git" signature`, bad otherwise
 abbrev pub ssh_status : List ℕ → Status
-ssh_status output = cond (starts_with nat_eq output (codes "Good \"git\" signature")) status.Good status.Bad
+ssh_status output =
+    if starts_with nat_eq output (codes "Good \"git\" signature") then status.Good else status.Bad
 
 -- the fingerprint of the key, which is also its ID: the bytes after the last ` key ` of the first line
 abbrev pub ssh_key : List ℕ → Option (List ℕ)

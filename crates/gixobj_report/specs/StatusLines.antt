@@ -1,5 +1,5 @@
 -- Walks over the lines of a report, one line after the other.
-use Rattle.std.specs.Prelude.{ℕ, zero, suc, List, [], ◌∷◌, Option, Some, None, cond, codes, ◌==◌, ◌≡◌}
+use Rattle.std.specs.Prelude.{ℕ, zero, suc, List, [], ◌∷◌, Option, Some, None, if◌then◌else◌, codes, ◌==◌, ◌≡◌}
 use Rattle.std.specs.Borrow.{Bor}
 use Rattle.std.specs.List.{cons_option, filter_map}
 use Rattle.std.specs.Option.{option_map}
@@ -65,7 +65,7 @@ reported_after bytes lines = filter_map (status_after bytes) lines
 -- the bytes after the first space, or none without one
 abbrev pub after_some_space : List ℕ → Option (List ℕ)
 after_some_space [] = None
-after_some_space (byte ∷ rest) = cond (byte == space) (Some rest) (after_some_space rest)
+after_some_space (byte ∷ rest) = if byte == space then Some rest else after_some_space rest
 
 -- the result of `next` for an item, or none without an item
 abbrev pub if_some : {X Y : Type 0} → (X → Option Y) → Option X → Option Y

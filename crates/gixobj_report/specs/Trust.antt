@@ -1,5 +1,5 @@
 -- The trust in the key of a signature (git-config, "gpg.minTrustLevel").
-use Rattle.std.specs.Prelude.{ℕ, List, Option, Some, None, cond, codes}
+use Rattle.std.specs.Prelude.{ℕ, List, Option, Some, None, if◌then◌else◌, codes}
 use Rattle.std.specs.Str.{str_eq_ignore_ascii_case}
 use Rattle.gixobj_report.specs.declared.report.TrustLevel.{TrustLevel}
 use Rattle.gixobj_report.specs.declared.report.TrustLevel.TheVariants as trust
@@ -7,11 +7,12 @@ use Rattle.gixobj_report.specs.declared.report.TrustLevel.TheVariants as trust
 -- the trust level of this name, ASCII case ignored, or none of an unknown name
 abbrev pub trust_of : List ℕ → Option TrustLevel
 trust_of name =
-    cond (str_eq_ignore_ascii_case name (codes "undefined")) (Some trust.Undefined)
-    (cond (str_eq_ignore_ascii_case name (codes "never")) (Some trust.Never)
-    (cond (str_eq_ignore_ascii_case name (codes "marginal")) (Some trust.Marginal)
-    (cond (str_eq_ignore_ascii_case name (codes "fully")) (Some trust.Fully)
-    (cond (str_eq_ignore_ascii_case name (codes "ultimate")) (Some trust.Ultimate) None))))
+    if str_eq_ignore_ascii_case name (codes "undefined") then Some trust.Undefined
+    else if str_eq_ignore_ascii_case name (codes "never") then Some trust.Never
+    else if str_eq_ignore_ascii_case name (codes "marginal") then Some trust.Marginal
+    else if str_eq_ignore_ascii_case name (codes "fully") then Some trust.Fully
+    else if str_eq_ignore_ascii_case name (codes "ultimate") then Some trust.Ultimate
+    else None
 
 -- the trust level, or undefined without one
 abbrev pub or_undefined : Option TrustLevel → TrustLevel
