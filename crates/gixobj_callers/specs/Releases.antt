@@ -1,6 +1,6 @@
 -- The encoding of a signed commit; and what an accepted signature implies: the bytes that it is of, and the answers of
 -- programs about it. The truth of these answers is no part of this.
-use Rattle.std.specs.Prelude.{◌≡◌, ◌⊎◌, ⊤, ℕ, true, false, List, [], ◌∷◌, ◌++◌, Option, Some, None, Result, Ok, Err, cond, codes, nat_eq}
+use Rattle.std.specs.Prelude.{◌≡◌, ◌⊎◌, ⊤, ℕ, true, false, List, [], ◌∷◌, ◌++◌, Option, Some, None, Result, Ok, Err, if◌then◌else◌, codes, nat_eq}
 use Rattle.std.specs.List.{filter_map, starts_with}
 use Rattle.std.specs.Cow.{cow_slice_items}
 use Rattle.std.specs.declared.alloc.Global.{Global}
@@ -74,9 +74,9 @@ IsObjectSignature kind.Tag ids bytes signature signed = (format : Format)
     × tags.HasTagSignature bytes signature signed format
 IsObjectSignature other ids bytes signature signed = ⊥
 
--- the signed bytes say what the object says. Of a commit they are the same commit without its first signature header: it
--- has the same tree, parents, actors and message. Of a tag they have the same target, name and tagger. Whoever decodes
--- the object therefore has decoded what was signed
+-- the signed bytes say what the object says. Of a commit they are the same commit without its first signature header:
+-- it has the same tree, parents, actors and message. Of a tag they have the same target, name and tagger. Whoever
+-- decodes the object therefore has decoded what was signed
 abbrev pub SignsObject : Kind → hash.Kind → List ℕ → List ℕ → List ℕ → Type 0
 SignsObject kind.Commit ids bytes signature signed = (commit : CommitLines) → DecodesToCommit ids bytes commit
     → SignsCommit ids commit signature signed
@@ -115,8 +115,8 @@ IsSignatureError kind ids bytes (audit.Verify cause) = ⊥
 -- ---- calls and answers
 
 -- the result of verifying a signature of these bytes, by the format of its marker
-abbrev pub IsOutcomeOfVerifying : {S : Type 0} → (S → CallView → Answer → S → Type 0) → VerifyOptionsView → List ℕ → List ℕ
-    → S → Result Outcome Error → S → Type 0
+abbrev pub IsOutcomeOfVerifying : {S : Type 0} → (S → CallView → Answer → S → Type 0) → VerifyOptionsView → List ℕ
+    → List ℕ → S → Result Outcome Error → S → Type 0
 IsOutcomeOfVerifying runs it signature signed old result new =
     (format : Option Format) × IsFormatOf signature format
     × IsOutcomeOf runs (verify_plan it signature signed format) old result new
@@ -163,7 +163,7 @@ pub record AcceptsPrincipal {S : Type 0} (runs : S → CallView → Answer → S
   pub good : starts_with nat_eq (human yielded) (codes "Good \"git\" signature") ≡ true
   pub trusted : is_trusted by.minimum trust.Fully ≡ true
   pub reported : outcome ≡ evaluated yielded.success by.minimum
-      (ssh_report (human yielded) (cond (accepts yielded) (Some principal) None) trust.Fully)
+      (ssh_report (human yielded) (if accepts yielded then Some principal else None) trust.Fully)
   pub last : accepts yielded ≡ false → following ≡ []
 
 -- an accepted signature of these bytes: the calls, and their answers
@@ -179,23 +179,23 @@ Vouches runs (by_ssh by ssh) signature signed old outcome new =
 -- ---- signatures of an object
 
 -- the result of an audit: the outcome for the object's signature; or it has none, and no call was made
-abbrev pub IsAudit : {S : Type 0} → (S → CallView → Answer → S → Type 0) → VerifyOptionsView → Kind → hash.Kind → List ℕ → S
-    → S → Option Outcome → Type 0
+abbrev pub IsAudit : {S : Type 0} → (S → CallView → Answer → S → Type 0) → VerifyOptionsView → Kind → hash.Kind
+    → List ℕ → S → S → Option Outcome → Type 0
 IsAudit runs it kind ids bytes old new (Some outcome) =
     (signature signed : List ℕ) × IsObjectSignature kind ids bytes signature signed
     × IsOutcomeOfVerifying runs it signature signed old (Ok outcome) new
 IsAudit runs it kind ids bytes old new None = IsUnsigned kind ids bytes × (new ≡ old)
 
 -- the object's signature is accepted, and the signed bytes say what the object says
-abbrev pub IsAccepted : {S : Type 0} → (S → CallView → Answer → S → Type 0) → VerifyOptionsView → Kind → hash.Kind → List ℕ
-    → S → OutcomeView → S → Type 0
+abbrev pub IsAccepted : {S : Type 0} → (S → CallView → Answer → S → Type 0) → VerifyOptionsView → Kind → hash.Kind
+    → List ℕ → S → OutcomeView → S → Type 0
 IsAccepted runs it kind ids bytes old outcome new =
     (signature signed : List ℕ) × IsObjectSignature kind ids bytes signature signed
     × Vouches runs it signature signed old outcome new × SignsObject kind ids bytes signature signed
 
 -- the errors of an audit: no signature is found, and no call was made; or the signature isn't verified
-abbrev pub IsAuditError : {S : Type 0} → (S → CallView → Answer → S → Type 0) → VerifyOptionsView → Kind → hash.Kind → List ℕ
-    → S → S → AuditError → Type 0
+abbrev pub IsAuditError : {S : Type 0} → (S → CallView → Answer → S → Type 0) → VerifyOptionsView → Kind → hash.Kind
+    → List ℕ → S → S → AuditError → Type 0
 IsAuditError runs it kind ids bytes old new (audit.Verify cause) =
     (signature signed : List ℕ) × IsObjectSignature kind ids bytes signature signed
     × IsOutcomeOfVerifying runs it signature signed old (Err cause) new
