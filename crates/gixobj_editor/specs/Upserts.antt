@@ -140,8 +140,8 @@ pub record IsUpserted {S : Type 0} (trees : Trees) (old : State S) (path : Path)
 
 -- the directories on a path are opened in part: those on a prefix of it, and no other. At most the next one was looked
 -- up without success, as the error says
-pub record OpensInPart (StopsBefore : EntryView → Type 0) (objects : Objects) (may_fail : ObjectId → Bool) (trees : Trees)
-    (path : Path) (old new : Dirs) (before after : ℕ) (failure : Error) : Type 0 where
+pub record OpensInPart (StopsBefore : EntryView → Type 0) (objects : Objects) (may_fail : ObjectId → Bool)
+    (trees : Trees) (path : Path) (old new : Dirs) (before after : ℕ) (failure : Error) : Type 0 where
   pub reached : Path
   pub more : Path
   pub on_the_way : path ≡ reached ++ more
