@@ -1,11 +1,14 @@
 -- The calls of programs that sign, and the outcomes of their answers.
-use Rattle.std.specs.Prelude.{◌≡◌, ℕ, Bool, false, List, [], ◌∷◌, ◌++◌, Option, Some, None, Result, Ok, Err, cond, codes, drop, map, nat_eq, ◌&&◌, ◌==◌}
+use Rattle.std.specs.Prelude.{◌≡◌, ℕ, Bool, false, List, [], ◌∷◌, ◌++◌, Option, Some, None, Result, Ok, Err, cond, if◌then◌else◌, codes, map, nat_eq, ◌&&◌, ◌==◌}
 use Rattle.std.specs.List.{list_any, starts_with}
 use Rattle.bstr.specs.Owned.{bstring_bytes}
 use Rattle.bstr.specs.Text.{lines_of, without_terminator}
 use Rattle.bstr.specs.declared.bstring.BString.{BString}
 use Rattle.gixobj_fields.specs.declared.encode.Error as encode
 use Rattle.gixobj_hash.specs.declared.decode.Error as decode
+use Rattle.gixobj_hash.specs.Bytes.{newline}
+use Rattle.gixobj_report.specs.Fields.{after_prefix, either}
+use Rattle.gixobj_text.specs.BodyLines.{carriage_return}
 use Rattle.gixobj_text.specs.declared.signature.Format.{Format}
 use Rattle.gixobj_text.specs.declared.signature.Format.TheVariants as format
 use Rattle.gixobj_signature.specs.Calls.{Answer, CallView, Failure, OutputView, WordView, failed, file, no_file, no_memory, no_time, not_spawned, not_reported, pair_view, ran, plain}
@@ -36,8 +39,7 @@ sign_options_view it = record {
 -- the literal SSH key of a signing key, or none if it is the path of a key file (git-config, "user.signingKey")
 abbrev pub literal_key : List ℕ → Option (List ℕ)
 literal_key key =
-    cond (starts_with nat_eq key (codes "key::")) (Some (drop 5 key))
-    (cond (starts_with nat_eq key (codes "ssh-")) (Some key) None)
+    either (after_prefix (codes "key::") key) (if starts_with nat_eq key (codes "ssh-") then Some key else None)
 
 -- ---- the calls
 
@@ -101,7 +103,7 @@ pub data SignOutcome : Type 0 where
 -- the byte is a carriage return, and the next one is a newline
 abbrev pub is_return_before : ℕ → List ℕ → Bool
 is_return_before byte [] = false
-is_return_before byte (next ∷ rest) = byte == 13 && next == 10
+is_return_before byte (next ∷ rest) = byte == carriage_return && next == newline
 
 -- the bytes without each carriage return directly before a newline
 abbrev pub without_returns : List ℕ → List ℕ
