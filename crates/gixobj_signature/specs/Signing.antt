@@ -1,5 +1,5 @@
 -- The calls of programs that sign, and the outcomes of their answers.
-use Rattle.std.specs.Prelude.{◌≡◌, ℕ, Bool, false, List, [], ◌∷◌, ◌++◌, Option, Some, None, Result, Ok, Err, cond, if◌then◌else◌, codes, map, nat_eq, ◌&&◌, ◌==◌}
+use Rattle.std.specs.Prelude.{◌≡◌, ℕ, Bool, false, List, [], ◌∷◌, ◌++◌, Option, Some, None, Result, Ok, Err, if◌then◌else◌, codes, map, nat_eq, ◌&&◌, ◌==◌}
 use Rattle.std.specs.List.{list_any, starts_with}
 use Rattle.bstr.specs.Owned.{bstring_bytes}
 use Rattle.bstr.specs.Text.{lines_of, without_terminator}
@@ -108,7 +108,8 @@ is_return_before byte (next ∷ rest) = byte == carriage_return && next == newli
 -- the bytes without each carriage return directly before a newline
 abbrev pub without_returns : List ℕ → List ℕ
 without_returns [] = []
-without_returns (byte ∷ rest) = cond (is_return_before byte rest) (without_returns rest) (byte ∷ without_returns rest)
+without_returns (byte ∷ rest) =
+    if is_return_before byte rest then without_returns rest else byte ∷ without_returns rest
 
 -- a line of the standard error reports that a signature was made (gnupg, doc/DETAILS, "SIG_CREATED")
 abbrev pub confirms : List ℕ → Bool
@@ -126,9 +127,8 @@ sign_fails other = other
 -- standard output
 abbrev pub gpg_signed : List ℕ → OutputView → SignOutcome
 gpg_signed program it =
-    cond it.success
-    (cond (confirms it.stderr) (signature (without_returns it.stdout)) not_confirmed)
-    (program_failed program it.stderr)
+    if it.success then (if confirms it.stderr then signature (without_returns it.stdout) else not_confirmed)
+    else program_failed program it.stderr
 
 -- the signature in the file that an SSH program wrote, if it wrote one
 abbrev pub written_signature : Option (List ℕ) → SignOutcome
@@ -137,7 +137,7 @@ written_signature None = without_signature
 
 -- the outcome of an SSH program's output: it has to succeed and to write a signature file
 abbrev pub ssh_signed : List ℕ → OutputView → SignOutcome
-ssh_signed program it = cond it.success (written_signature it.result) (program_failed program it.stderr)
+ssh_signed program it = if it.success then written_signature it.result else program_failed program it.stderr
 
 -- the rest of the plan after the answer of a signing program
 abbrev pub on_signer : (OutputView → SignOutcome) → Answer → Plan SignOutcome

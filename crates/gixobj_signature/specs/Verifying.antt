@@ -1,5 +1,5 @@
 -- The plans of verification, and the outcomes of their answers.
-use Rattle.std.specs.Prelude.{ℕ, Bool, false, List, [], ◌∷◌, ◌++◌, Option, Some, None, Result, Ok, Err, cond, codes, filter, map, nat_eq, ◌&&◌}
+use Rattle.std.specs.Prelude.{ℕ, Bool, false, List, [], ◌∷◌, ◌++◌, Option, Some, None, Result, Ok, Err, if◌then◌else◌, codes, filter, map, nat_eq, ◌&&◌}
 use Rattle.std.specs.List.{starts_with}
 use Rattle.std.specs.Str.{encode_utf8_all}
 use Rattle.bstr.specs.BStr.{bstr_bytes}
@@ -95,14 +95,14 @@ unfoldable pub tries : ProgramView → SshView → List ℕ → List ℕ → Lis
 tries by ssh signature signed [] last = rest_plan by ssh signature signed last
 tries by ssh signature signed (principal ∷ principals) last =
     run_then (principal_call by ssh signature signed principal) (λ answer. on_output answer (λ it.
-    cond (accepts it) (done (ssh_verified by it.success trust.Fully (Some principal) it))
-    (tries by ssh signature signed principals (Some it))))
+    if accepts it then done (ssh_verified by it.success trust.Fully (Some principal) it)
+    else tries by ssh signature signed principals (Some it)))
 
 -- the plan of an SSH program: the principals are listed and then tried. There are none if that call doesn't succeed
 abbrev pub ssh_verify_plan : ProgramView → SshView → List ℕ → List ℕ → Plan Verified
 ssh_verify_plan by ssh signature signed =
     run_then (principals_call by ssh signature) (λ answer. on_output answer (λ it.
-    tries by ssh signature signed (cond it.success (principals_in it.stdout) []) None))
+    tries by ssh signature signed (if it.success then principals_in it.stdout else []) None))
 
 -- ---- all formats
 
@@ -142,10 +142,11 @@ pub record Verifies {S : Type 0} (runs : S → CallView → Answer → S → Typ
     (signed : SignedData) (old : S) (result : Result Outcome Error) (new : S) : Type 0 where
   pub format : Option Format
   pub is_format : IsFormatOf (bstr_bytes signature) format
-  pub called : IsOutcomeOf runs (verify_plan (verify_options_view options) (bstr_bytes signature) (signed_bytes signed) format)
-      old result new
+  pub called : IsOutcomeOf runs
+      (verify_plan (verify_options_view options) (bstr_bytes signature) (signed_bytes signed) format) old result new
   pub consumed : AllocatesForCalls
-      (verify_plan (verify_options_view options) (bstr_bytes signature) (signed_bytes signed) format) (verify_view result)
+      (verify_plan (verify_options_view options) (bstr_bytes signature) (signed_bytes signed) format)
+      (verify_view result)
 
 -- the error of verifying for an error of the runner
 abbrev pub failed_run : RunError → Error
