@@ -2,7 +2,7 @@ pub use Rattle.gixobj_actor.specs.Actor
 pub use Rattle.gixobj_actor.specs.ActorWriting
 pub use Rattle.gixobj_actor.specs.Date
 pub use Rattle.gixobj_actor.specs.declared as actor
-pub use Rattle.gixobj_codec.specs.Agreeing
+pub use Rattle.gixobj_codec.specs.SameSignatures
 pub use Rattle.gixobj_codec.specs.LineFields
 pub use Rattle.gixobj_codec.specs.OneMarker
 pub use Rattle.gixobj_codec.specs.Received
@@ -90,7 +90,7 @@ pub use Rattle.gixobj_object.specs.Parts
 pub use Rattle.gixobj_object.specs.declared as object
 pub use Rattle.gixobj_ref_iter.specs.CommitRuns
 pub use Rattle.gixobj_ref_iter.specs.CommitTokens
-pub use Rattle.gixobj_ref_iter.specs.Extracting
+pub use Rattle.gixobj_ref_iter.specs.CommitSignatures
 pub use Rattle.gixobj_ref_iter.specs.Readers
 pub use Rattle.gixobj_ref_iter.specs.TagExtracting
 pub use Rattle.gixobj_ref_iter.specs.TagReaders

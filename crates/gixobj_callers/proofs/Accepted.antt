@@ -18,7 +18,7 @@ use Rattle.gix_object.specs.report.report.TrustLevel.TheVariants as trust
 use Rattle.gix_object.specs.signature.signature.verify.Error.{Error}
 use Rattle.gix_object.specs.message.signature.Format.{Format}
 use Rattle.gix_object.specs.message.signature.Format.TheVariants as format
-use Rattle.gixobj_callers.specs.Releases.{AcceptsPrincipal, TriesInVain, ReportsGood, Vouches}
+use Rattle.gixobj_callers.specs.AcceptedSignatures.{AcceptsPrincipal, TriesInVain, ReportsGood, Vouches}
 
 -- ---- accepted outcomes
 

@@ -1,7 +1,7 @@
 -- A signature of an object signs what the object says, by the laws on received commits and tags, for an audit.
 use Rattle.std.proofs.Common.{ℕ, List}
 use Rattle.gix_object.specs.Commit.{CommitLines, DecodesToCommit}
-use Rattle.gix_object.specs.Extracting.{HasCommitSignature}
+use Rattle.gix_object.specs.CommitSignatures.{HasCommitSignature}
 use Rattle.gix_object.specs.Received.{SignsCommit, SignsTag}
 use Rattle.gix_object.specs.TagExtracting.{HasTagSignature}
 use Rattle.gix_object.specs.TagFormat.{DecodesToTag, TagLines}
@@ -9,7 +9,7 @@ use Rattle.gix_object.specs.hash.hash.kind.Kind as hash
 use Rattle.gix_object.specs.hash.kind.Kind.{Kind}
 use Rattle.gix_object.specs.hash.kind.Kind.TheVariants as kind
 use Rattle.gix_object.specs.message.signature.Format.{Format}
-use Rattle.gixobj_callers.specs.Releases.{IsObjectSignature, SignsObject}
+use Rattle.gixobj_callers.specs.AcceptedSignatures.{IsObjectSignature, SignsObject}
 
 module _ (commits : (ids : hash.Kind) (content : List ℕ) (commit : CommitLines) (signature signed : List ℕ) → DecodesToCommit ids content commit
     → HasCommitSignature ids content signature signed → SignsCommit ids commit signature signed)

@@ -7,7 +7,7 @@ use Rattle.bstr.specs.Text.{lines_of}
 use Rattle.gix_object.specs.BodyLines.{is_continuation_line, is_trailer_line}
 use Rattle.gix_object.specs.FirstLines.{HasLastLines}
 use Rattle.gix_object.specs.MessageTrailers.{HasTrailerBlock}
-use Rattle.gix_object.specs.TrailerSteps.{NextTrailer, next_is_folded, remaining_bytes}
+use Rattle.gix_object.specs.TrailerSteps.{NextTrailer, next_allocates, remaining_bytes}
 use Rattle.gix_object.specs.Unfolding.{has_lines, first_is_folded}
 use Rattle.gix_object.specs.message.commit.message.body.trailers.TrailerRef.{TrailerRef}
 use Rattle.gix_object.specs.message.commit.message.body.trailers.Trailers.{Trailers}
@@ -76,7 +76,7 @@ has_last_lines_of_yields start (one ∷ seen) at (middle, step, more) =
     }
 
 pub has_continued_line : (message : List ℕ) (start : Trailers) (seen : List TrailerRef) (at : Trailers) → HasTrailerBlock message (remaining_bytes start)
-    → Yields NextTrailer start (map (λ it. Ok it) seen) at → next_is_folded at ≡ true → HasContinuedLine message
+    → Yields NextTrailer start (map (λ it. Ok it) seen) at → next_allocates at ≡ true → HasContinuedLine message
 has_continued_line message start seen at block yields folded =
     let last = has_last_lines_of_yields start seen at yields in
     let it = has_folded_of_first_is_folded (lines_of (remaining_bytes at)) folded in

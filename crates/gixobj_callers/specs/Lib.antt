@@ -5,7 +5,7 @@ pub mod Copies
 pub mod Imports
 pub mod Plans
 pub mod Rebuilds
-pub mod Releases
+pub mod AcceptedSignatures
 pub mod Shelves
 pub mod Signers
 pub mod CopiesById

@@ -25,7 +25,7 @@ use Rattle.gixobj_line.specs.declared.lines.State.{State}
 use Rattle.gixobj_line.specs.declared.lines.State.TheVariants as state
 use Rattle.gixobj_hash.specs.Bytes.{newline, space}
 use Rattle.gixobj_hash.specs.ByteStrings.{IsByteFree}
-use Rattle.gixobj_ref_iter.specs.Extracting.{HasCommitSignature, IsNamedLine}
+use Rattle.gixobj_ref_iter.specs.CommitSignatures.{HasCommitSignature, IsNamedLine}
 use Rattle.gixobj_commit.specs.CommitSigning.{is_header_named, with_signature, without_headers}
 use Rattle.gixobj_codec.specs.LineFields.{HasHeaderNames, HasLineFields, IsOneLine}
 

@@ -17,7 +17,7 @@ use Rattle.gixobj_line.specs.Lines.{BeginsWithLine, LineView}
 use Rattle.gixobj_line.specs.declared.lines.State.{State}
 use Rattle.gixobj_line.specs.declared.lines.State.TheVariants as state
 use Rattle.gixobj_codec.proofs.CommitsExtracted.{Blocks, IsBlockLine, block_line_of_header, has_header_last, has_header_before_last, ends_header_append, blocks_append, blocks_nil, read_again, signature_field_is_header_name, signed_payload, the_header, unsigned_prefix, written_blocks, encode_header_decodes}
-use Rattle.gixobj_ref_iter.specs.Extracting.{HasNoSignature, IsNamedLine, IsCommitSignatureError}
+use Rattle.gixobj_ref_iter.specs.CommitSignatures.{HasNoSignature, IsNamedLine, IsCommitSignatureError}
 use Rattle.gixobj_commit.specs.CommitSigning.{with_signature}
 use Rattle.gixobj_codec.specs.LineFields.{HasHeaderNames, HasLineFields}
 

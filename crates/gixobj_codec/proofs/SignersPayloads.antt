@@ -18,7 +18,7 @@ use Rattle.gixobj_tag.specs.TagFormat.{TagLines}
 use Rattle.gixobj_tag.specs.TagViews as tag_views
 use Rattle.gixobj_tag.specs.TagWriting.{encode_tag}
 use Rattle.gixobj_tag.specs.declared.tag.Tag.{Tag}
-use Rattle.gixobj_ref_iter.specs.Extracting as commits
+use Rattle.gixobj_ref_iter.specs.CommitSignatures as commits
 use Rattle.gixobj_codec.proofs.CommitsExtracted.{payload_extracted}
 use Rattle.gixobj_codec.proofs.ReceivedCommits.{signature_of_decoded}
 use Rattle.gixobj_codec.proofs.SignaturesFound.{signature_is_there}

@@ -22,7 +22,7 @@ use Rattle.gixobj_hash.specs.ByteStrings.{IsByteFree}
 use Rattle.gixobj_signature.specs.SignedBytes.{signed_bytes}
 use Rattle.gixobj_signature.specs.declared.signature.signed_data.SignedData.{SignedData}
 use Rattle.gixobj_codec.proofs.TagsExtracted.{marks_place_after_prefix, append_split_unique}
-use Rattle.gixobj_codec.specs.Agreeing.{AreTheSame}
+use Rattle.gixobj_codec.specs.SameSignatures.{AreTheSame}
 
 -- ---- positions of markers after lines
 

@@ -1,4 +1,4 @@
-pub mod Agreeing
+pub mod SameSignatures
 pub mod LineFields
 pub mod OneMarker
 pub mod Received
@@ -45,7 +45,7 @@ pub use Rattle.gixobj_object.specs.Parts
 pub use Rattle.gixobj_object.specs.declared as object
 pub use Rattle.gixobj_ref_iter.specs.CommitRuns
 pub use Rattle.gixobj_ref_iter.specs.CommitTokens
-pub use Rattle.gixobj_ref_iter.specs.Extracting
+pub use Rattle.gixobj_ref_iter.specs.CommitSignatures
 pub use Rattle.gixobj_ref_iter.specs.Readers
 pub use Rattle.gixobj_ref_iter.specs.TagExtracting
 pub use Rattle.gixobj_ref_iter.specs.TagReaders

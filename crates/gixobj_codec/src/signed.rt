@@ -9,7 +9,7 @@ ghost use Rattle.gixobj_hash.specs.Hash.{id_kind};
 ghost use Rattle.gixobj_hash.specs.declared.decode.Error.TheVariants.{Malformed};
 ghost use Rattle.gixobj_hash.specs.declared.hash.kind.Kind.{Kind};
 ghost use Rattle.gixobj_line.specs.Commit.{CommitLines, DecodesToCommit, IsCommit};
-ghost use Rattle.gixobj_codec.specs.Agreeing.{AreTheSame};
+ghost use Rattle.gixobj_codec.specs.SameSignatures.{AreTheSame};
 ghost use Rattle.gixobj_codec.specs.LineFields.{HasHeaderNames, HasLineFields};
 ghost use Rattle.gixobj_codec.specs.OneMarker.{HasOneMarker};
 ghost use Rattle.gixobj_codec.specs.SignedEncodings.{CommitPayloadIsSigned, FindsSigned, TagPayloadIsSigned, decoded_value};
@@ -22,7 +22,7 @@ ghost use Rattle.gixobj_tag.specs.TagSigning as tag_signing;
 ghost use Rattle.gixobj_tag.specs.TagFormat.{DecodesToTag, TagLines};
 ghost use Rattle.gixobj_tag.specs.TagViews as tag_views;
 ghost use Rattle.gixobj_tag.specs.TagWriting.{encode_tag};
-ghost use Rattle.gixobj_ref_iter.specs.Extracting.{HasNoSignature, HasCommitSignature, IsCommitSignatureError};
+ghost use Rattle.gixobj_ref_iter.specs.CommitSignatures.{HasNoSignature, HasCommitSignature, IsCommitSignatureError};
 ghost use Rattle.gixobj_signature.specs.declared.signature.signed_data.SignedData.{SignedData};
 
 use crate::one_line::{actor_has_one_line, id_has_one_line, ids_have_one_line};

@@ -23,8 +23,8 @@ commit_lines commit = record {
 }
 
 -- header values of one line are borrowed, values of several lines are owned
-abbrev pub BorrowsLines : CommitRef → Type 0
-BorrowsLines commit = All (λ header. BorrowsOneLine header.1) commit.extra_headers.items
+abbrev pub BorrowsOneLineValues : CommitRef → Type 0
+BorrowsOneLineValues commit = All (λ header. BorrowsOneLine header.1) commit.extra_headers.items
 
 -- the parts of an owned commit: ids in lower-case hex, and actors and times encoded
 abbrev pub owned_commit_lines : Commit → CommitLines

@@ -14,19 +14,19 @@ use Rattle.gixobj_hash.specs.declared.hash.kind.Kind as hash
 use Rattle.gixobj_hash.specs.declared.hash.object_id.ObjectId.{ObjectId}
 use Rattle.gixobj_tree.specs.Entries.{EntryView, Pair}
 use Rattle.gixobj_editor.specs.Replies.{Denies, ReturnsTreeId}
-use Rattle.gixobj_tree.specs.TreeEncoding.{IsAnsweredDigest}
+use Rattle.gixobj_tree.specs.TreeEncoding.{IsDigestResult}
 
 module _ {F : Type 0} (hash : hash.Kind) (of : Mut F (Bor (List EntryView) × Unit {0}) (Result ObjectId encode.Error)) (out : F)
     (calls : (requested : F) (tree : Bor (List EntryView)) (answer : Result ObjectId encode.Error) (answered : F) → requested ≡ out
-    → Called of requested (tree, tt) answer answered → IsAnsweredDigest hash tree.now answer × (answered ≡ requested)) where
+    → Called of requested (tree, tt) answer answered → IsDigestResult hash tree.now answer × (answered ≡ requested)) where
   answered_so : (requested answered : F) (tree : List EntryView) (answer : Result ObjectId encode.Error) → requested ≡ out
-      → CalledAt of requested tree answer answered → IsAnsweredDigest hash tree answer × (answered ≡ out)
+      → CalledAt of requested tree answer answered → IsDigestResult hash tree answer × (answered ≡ out)
   answered_so requested answered tree answer same one =
       let it = calls requested one.shown answer answered same one.called in
-      (subst (λ (t : List EntryView). IsAnsweredDigest hash t answer) one.shows it.0, it.1 ∙ same)
+      (subst (λ (t : List EntryView). IsDigestResult hash t answer) one.shows it.0, it.1 ∙ same)
 
   folds : (requested last : F) (pairs : List Pair) → requested ≡ out → FoldsTo (λ f p g. CalledAt of f p.1 (Ok p.0) g) requested pairs last
-      → FoldsTo (ReturnsTreeId (IsAnsweredDigest hash)) tt pairs tt × (last ≡ out)
+      → FoldsTo (ReturnsTreeId (IsDigestResult hash)) tt pairs tt × (last ≡ out)
   folds requested last [] same folded = (refl, sym folded ∙ same)
   folds requested last (pair ∷ pairs) same (next, one, rest) =
       let now = answered_so requested next pair.1 (Ok pair.0) same one in
@@ -34,7 +34,7 @@ module _ {F : Type 0} (hash : hash.Kind) (of : Mut F (Bor (List EntryView) × Un
       ((tt, now.0, later.0), later.1)
 
   pub written : {S : Type 0} (old new : State S) (it : Written) → (last : F) × IsWrittenEditor (λ f p g. CalledAt of f p.1 (Ok p.0) g) out old it new last
-      → IsWrittenEditor (ReturnsTreeId (IsAnsweredDigest hash)) tt old it new tt
+      → IsWrittenEditor (ReturnsTreeId (IsDigestResult hash)) tt old it new tt
   written old new it (last, wrote) = record {
     emitted = wrote.emitted;
     called = (folds out last it.trees.items refl wrote.called).0;
@@ -52,7 +52,7 @@ module _ {F : Type 0} (hash : hash.Kind) (of : Mut F (Bor (List EntryView) × Un
 
   pub stopped : (EmitsPairs : List Pair → Type 0) (error : WriteError encode.Error) → (last : F) × Stopped (λ f p g. CalledAt of f p.1 (Ok p.0) g)
       (λ f t e g. CalledAt of f t (Err e) g) EmitsPairs out last error
-      → Stopped (ReturnsTreeId (IsAnsweredDigest hash)) (Denies (IsAnsweredDigest hash)) EmitsPairs tt tt error
+      → Stopped (ReturnsTreeId (IsDigestResult hash)) (Denies (IsDigestResult hash)) EmitsPairs tt tt error
   stopped EmitsPairs (write.Out e) (last, (before, tree, between, folded, one, goes)) =
       let so_far = folds out between before refl folded in
       (before, tree, tt, so_far.0, (answered_so between last tree (Err e) so_far.1 one).0, goes)

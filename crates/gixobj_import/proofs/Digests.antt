@@ -17,7 +17,7 @@ use Rattle.gixobj_hash.specs.declared.hash.object_id.ObjectId.{ObjectId}
 use Rattle.gixobj_hash.specs.declared.kind.Kind as kind
 use Rattle.gixobj_hash.specs.declared.kind.Kind.TheVariants.{Commit, Tree}
 use Rattle.gixobj_keep.specs.Keeping.{commit_object, tree_object, with_commit, with_tree, with_trees}
-use Rattle.gixobj_tree.specs.TreeEncoding.{IsAnsweredDigest, encode_tree}
+use Rattle.gixobj_tree.specs.TreeEncoding.{IsDigestResult, encode_tree}
 use Rattle.gixobj_editor.specs.Replies.{ReturnsTreeId}
 use Rattle.gixobj_import.specs.ByDigest.{AddsByDigest, NamesByDigest, digest_id}
 use Rattle.gixobj_import.specs.Steps.{HaveHex}
@@ -89,7 +89,7 @@ module _ (laws : Inserted) where
       }
 
 -- the emitted trees have their digests as ids
-pub written_pairs_are_digests : (hash : hash.Kind) (pairs : List Pair) → FoldsTo (ReturnsTreeId (IsAnsweredDigest hash)) tt pairs tt → All (IsDigest hash) pairs
+pub written_pairs_are_digests : (hash : hash.Kind) (pairs : List Pair) → FoldsTo (ReturnsTreeId (IsDigestResult hash)) tt pairs tt → All (IsDigest hash) pairs
 written_pairs_are_digests hash [] folded = All-nil (IsDigest hash)
 written_pairs_are_digests hash (pair ∷ pairs) (next, one, rest) = All-cons (IsDigest hash) pair pairs one.1 (written_pairs_are_digests hash pairs rest)
 
@@ -99,7 +99,7 @@ last_holds_of_all_snoc P (y ∷ xs) x all = last_holds_of_all_snoc P xs x (All-t
 
 -- the id of the root is a digest of this kind
 pub written_root_id_kind : {S : Type 0} (k : hash.Kind) (old new : State S) (it : Written)
-    → IsWrittenEditor (ReturnsTreeId (IsAnsweredDigest k)) tt old it new tt
+    → IsWrittenEditor (ReturnsTreeId (IsDigestResult k)) tt old it new tt
     → id_kind it.id ≡ k
 written_root_id_kind k old new it wrote =
     let all = subst (All (IsDigest k)) wrote.last (written_pairs_are_digests k it.trees.items wrote.called) in

@@ -8,7 +8,7 @@ use Rattle.gixobj_tree.specs.Entries.{Pair}
 use Rattle.gixobj_hash.specs.declared.hash.kind.Kind as hash
 use Rattle.gixobj_hash.specs.declared.hash.object_id.ObjectId.{ObjectId}
 use Rattle.gixobj_keep.specs.Keeping.{StopsKeepingAt, with_trees}
-use Rattle.gixobj_tree.specs.TreeEncoding.{IsEncodableTree, IsAnsweredDigest}
+use Rattle.gixobj_tree.specs.TreeEncoding.{IsEncodableTree, IsDigestResult}
 use Rattle.gixobj_keep.specs.declared.keeping.KeepError.{KeepError}
 use Rattle.gixobj_editor.specs.Commands.{at_root}
 use Rattle.gixobj_editor.specs.Replies.{ReturnsTreeId, IsWriteKept, IsWrittenAt, KeepsAll}
@@ -16,7 +16,7 @@ use Rattle.gixobj_editor.specs.declared.reply.EditReply.TheVariants as reply
 use Rattle.gixobj_import.specs.Edited.{IsWriteReplied}
 
 module _ {S : Type 0} (model : StoreModel S) (hash : hash.Kind) (old between new : State S) (start remaining : S) (it : Written) (lent : List Pair)
-    (written : IsWrittenEditor (ReturnsTreeId (IsAnsweredDigest hash)) tt old it between tt)
+    (written : IsWrittenEditor (ReturnsTreeId (IsDigestResult hash)) tt old it between tt)
     (starts : start ≡ between.store) (all : lent ≡ it.trees.items) (rest : new ≡ with_store between remaining)
     (may_fail : (id : ObjectId) → model.may_fail remaining id ≡ model.may_fail start id) where
   start_is : start ≡ old.store
@@ -26,7 +26,7 @@ module _ {S : Type 0} (model : StoreModel S) (hash : hash.Kind) (old between new
   remaining_is = ap (λ (s : State S). s.store) rest
 
   kept_so : (Keeps : Objects → Objects → Type 0) → Keeps (model.objects start) (model.objects remaining)
-      → IsWriteKept model (IsWrittenAt (IsAnsweredDigest hash) at_root it old) Keeps old new
+      → IsWriteKept model (IsWrittenAt (IsDigestResult hash) at_root it old) Keeps old new
   kept_so Keeps kept = record {
     between = between;
     written = written;

@@ -14,7 +14,7 @@ use Rattle.gixobj_editor.specs.Replies.{Answers, IsEditReply}
 use Rattle.gixobj_editor.specs.declared.reply.EditReply.{EditReply}
 use Rattle.gixobj_editor.specs.declared.reply.EditReply.TheVariants as reply
 use Rattle.gixobj_mode.specs.Mode.{mode_of_kind}
-use Rattle.gixobj_tree.specs.TreeEncoding.{IsAnsweredDigest}
+use Rattle.gixobj_tree.specs.TreeEncoding.{IsDigestResult}
 
 -- the steps of a history that an edit is; a write is none
 abbrev pub steps_if_done : Edit → List Step
@@ -34,7 +34,7 @@ module _ {S : Type 0} (model : StoreModel S) where
 
   -- a write by digests, whose trees the store then keeps, may get this reply, by the rules of a run
   abbrev pub IsWriteReplied : hash.Kind → State S → EditReply encode.Error → State S → Type 0
-  IsWriteReplied hash old its_reply new = IsEditReply model (IsAnsweredDigest hash) at_root old edit.Write its_reply new
+  IsWriteReplied hash old its_reply new = IsEditReply model (IsDigestResult hash) at_root old edit.Write its_reply new
 
   -- the edits are done, one after the other
   abbrev pub AreDone : State S → List Edit → State S → Type 0

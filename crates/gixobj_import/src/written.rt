@@ -6,7 +6,7 @@ ghost use Rattle.gixobj_files.specs.Emission.{EmitsSome};
 ghost use Rattle.gixobj_files.specs.State.{open_bases, open_dirs};
 ghost use Rattle.gixobj_hash.specs.Hash.{IsId};
 ghost use Rattle.gixobj_import.specs.Edited.{IsWriteAfter, IsWriteReplied};
-ghost use Rattle.gixobj_tree.specs.TreeEncoding.{IsAnsweredDigest};
+ghost use Rattle.gixobj_tree.specs.TreeEncoding.{IsDigestResult};
 ghost use Rattle.gixobj_import.specs.Steps.{HaveHex, IsStepEditsError, IsStepWriteError};
 ghost use Rattle.gixobj_editor.specs.Replies.{Denies, ReturnsTreeId};
 ghost use Rattle.hex.specs.Hex.{IsBytes};
@@ -90,14 +90,14 @@ fn write_by_digests<S>(
     hash: hash::Kind,
 ) -> Result<Written, WriteError<encode::Error>>
     ensures written { IfOk result (λ it.
-        IsWrittenEditor (ReturnsTreeId (IsAnsweredDigest hash)) tt editor.old it editor.new tt) }
+        IsWrittenEditor (ReturnsTreeId (IsDigestResult hash)) tt editor.old it editor.new tt) }
     ensures error { IfErr result (λ error.
-        Stopped (ReturnsTreeId (IsAnsweredDigest hash)) (Denies (IsAnsweredDigest hash))
+        Stopped (ReturnsTreeId (IsDigestResult hash)) (Denies (IsDigestResult hash))
         (EmitsSome (open_dirs editor.old) (open_bases editor.old)) tt tt error) }
     ensures unchanged { OnErr result (editor.new ≡ editor.old) }
 {
     let digest = |tree: &Tree|
-        ensures { IsAnsweredDigest hash tree.now result }
+        ensures { IsDigestResult hash tree.now result }
     { tree.compute_id(alloc, hash) };
     match editor.write(digest) {
         Ok(written) => Ok(written),

@@ -131,8 +131,8 @@ pub record DecodesToMode (digits : List ℕ) (mode : ℕ) : Type 0 where
   pub value : mode ≡ mode_of_digits digits
 
 -- if byte 6 of the bytes is a space and byte 5 is not, there are six digits
-abbrev pub HasSixDigits : List ℕ → List ℕ → Type 0
-HasSixDigits bytes digits = slice_index bytes 6 ≡ space → slice_index bytes 5 ≢ space → length digits ≡ 6
+abbrev pub ObeysByteSix : List ℕ → List ℕ → Type 0
+ObeysByteSix bytes digits = slice_index bytes 6 ≡ space → slice_index bytes 5 ≢ space → length digits ≡ 6
 
 -- a mode ends here: at a space, or at the end of the bytes
 abbrev pub EndsMode : List ℕ → Type 0
@@ -146,7 +146,7 @@ pub record BeginsWithMode (bytes : List ℕ) (mode : ℕ) (rest : List ℕ) : Ty
   pub joined : bytes ≡ digits ++ rest
   pub ends : EndsMode rest
   pub decodes : DecodesToMode digits mode
-  pub byte_six : HasSixDigits bytes digits
+  pub byte_six : ObeysByteSix bytes digits
 
 -- the bytes begin with the mode of this kind and a space, and the rest follows from the space on
 pub record BeginsWithKind (bytes : List ℕ) (kind : EntryKind) (rest : List ℕ) : Type 0 where

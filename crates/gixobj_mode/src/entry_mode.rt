@@ -6,7 +6,7 @@ ghost use Rattle.std.specs.Str.Parse.{AllDigits, digits_value};
 ghost use Rattle.bstr.specs.BStr.{bstr_bytes};
 ghost use Rattle.gixobj_mode.specs.declared.entry_kind.EntryKind.{EntryKind};
 ghost use Rattle.gixobj_hash.specs.ByteStrings.{IsByteFree};
-ghost use Rattle.gixobj_mode.specs.Mode.{BeginsWithKind, BeginsWithMode, IsModeNumber, HasSixDigits, EndsMode, blob_type, commit_type, entry_kind_name, is_tree_mode, kind_of_mode, link_type, mode_of_digits, mode_of_kind, encode_mode, mode_type, mode_value, tree_type, type_bits, is_blob_mode, is_commit_mode, is_link_mode, mode_bits};
+ghost use Rattle.gixobj_mode.specs.Mode.{BeginsWithKind, BeginsWithMode, IsModeNumber, ObeysByteSix, EndsMode, blob_type, commit_type, entry_kind_name, is_tree_mode, kind_of_mode, link_type, mode_of_digits, mode_of_kind, encode_mode, mode_type, mode_value, tree_type, type_bits, is_blob_mode, is_commit_mode, is_link_mode, mode_bits};
 ghost use Rattle.gixobj_hash.specs.Bytes.{digit, space};
 
 use crate::EntryKind;

@@ -2,7 +2,7 @@
 -- "objects").
 use Rattle.std.specs.Prelude.{◌≡◌, ◌≢◌, ℕ, List, [], ⊤}
 use Rattle.gixobj_commit.specs.CommitOwned.{IsOwnedFormOfCommit as IsOwnedCommit, IsIntoOwnedCommitError}
-use Rattle.gixobj_commit.specs.CommitViews.{BorrowsLines, commit_lines}
+use Rattle.gixobj_commit.specs.CommitViews.{BorrowsOneLineValues, commit_lines}
 use Rattle.gixobj_commit.specs.CommitWriting.{HasIds, IsCommitLinesError, encode_commit, in_lower_case}
 use Rattle.gixobj_fields.specs.Writing.{RejectedValue}
 use Rattle.gixobj_hash.specs.Hash.{IsIdHex}
@@ -49,7 +49,7 @@ IsReadyToWrite (object.Tag tag) = ⊤
 abbrev pub BorrowsHeaderLines : ObjectRef → Type 0
 BorrowsHeaderLines (object.Tree tree) = ⊤
 BorrowsHeaderLines (object.Blob blob) = ⊤
-BorrowsHeaderLines (object.Commit commit) = BorrowsLines commit
+BorrowsHeaderLines (object.Commit commit) = BorrowsOneLineValues commit
 BorrowsHeaderLines (object.Tag tag) = ⊤
 
 -- ---- encoding

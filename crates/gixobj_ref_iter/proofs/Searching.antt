@@ -15,7 +15,7 @@ use Rattle.gixobj_line.specs.Lines.{BeginsWithLine, LineView, IsLineError, autho
 use Rattle.gixobj_line.specs.declared.lines.State.{State}
 use Rattle.gixobj_line.specs.declared.lines.State.TheVariants as state
 use Rattle.gixobj_commit.specs.ExtraHeaders.{signature_field}
-use Rattle.gixobj_ref_iter.specs.Extracting.{IsNamedLine, IsCommitSignatureError}
+use Rattle.gixobj_ref_iter.specs.CommitSignatures.{IsNamedLine, IsCommitSignatureError}
 
 -- the bytes of a line are a prefix of the input
 pub token_bytes_are_prefix : (kind : Kind) (before : State) (input : List ℕ) (line : LineView) (after : State) (rest : List ℕ)

@@ -1,6 +1,6 @@
 pub mod CommitRuns
 pub mod CommitTokens
-pub mod Extracting
+pub mod CommitSignatures
 pub mod Readers
 pub mod TagExtracting
 pub mod TagReaders

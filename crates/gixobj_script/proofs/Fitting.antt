@@ -24,7 +24,7 @@ use Rattle.gixobj_editor.specs.declared.reply.Reply.{Reply}
 use Rattle.gixobj_keep.specs.declared.memory.Memory.{Memory}
 use Rattle.gixobj_tree.specs.Rewriting.{RoundTrips}
 use Rattle.gixobj_tree.specs.Entries.{EntryView, Pair}
-use Rattle.gixobj_tree.specs.TreeEncoding.{encode_tree, IsAnsweredDigest}
+use Rattle.gixobj_tree.specs.TreeEncoding.{encode_tree, IsDigestResult}
 use Rattle.gixobj_script.specs.Digests.{HaveDistinctIds}
 use Rattle.gixobj_script.specs.Edits.{memory_model}
 
@@ -39,16 +39,16 @@ module _ (hash : Kind) where
   abbrev IsOfKind : Pair → Type 0
   IsOfKind pair = id_kind pair.0 ≡ hash
 
-  of_kind : (pair : Pair) → IsAnswered memory_model (IsAnsweredDigest hash) pair → IsOfKind pair
+  of_kind : (pair : Pair) → IsAnswered memory_model (IsDigestResult hash) pair → IsOfKind pair
   of_kind pair answered = ap id_kind answered.1 ∙ tree_id_kind hash (encode_tree pair.1)
 
   -- emitted trees have ids of the hash kind
   pub emitted_kinds : (old new : State Memory) (commands : List Command) (replies : List (Reply Error))
-      → IsRun memory_model (IsAnsweredDigest hash) old commands replies new
+      → IsRun memory_model (IsDigestResult hash) old commands replies new
       → All (λ pair. id_kind pair.0 ≡ hash) (emitted_pairs replies)
   emitted_kinds old new commands replies run =
-      All-weaker (IsAnswered memory_model (IsAnsweredDigest hash)) IsOfKind of_kind (emitted_pairs replies)
-      (run_answered memory_model (IsAnsweredDigest hash) old new commands replies run)
+      All-weaker (IsAnswered memory_model (IsDigestResult hash)) IsOfKind of_kind (emitted_pairs replies)
+      (run_answered memory_model (IsDigestResult hash) old new commands replies run)
 
   -- kept trees decode to themselves if their entries round-trip
   pub kept_as_themselves : ((pair : Pair) → All (RoundTrips (id_kind pair.0)) pair.1 → DecodesToItself pair) → (replies : List (Reply Error))

@@ -11,7 +11,7 @@ use Rattle.gixobj_hash.specs.declared.hash.object_id.ObjectId.{ObjectId}
 use Rattle.gixobj_fields.specs.declared.encode.Error.{Error}
 use Rattle.gixobj_keep.specs.declared.memory.Memory.{Memory}
 use Rattle.gixobj_tree.specs.Entries.{EntryView}
-use Rattle.gixobj_tree.specs.TreeEncoding.{IsAnsweredDigest}
+use Rattle.gixobj_tree.specs.TreeEncoding.{IsDigestResult}
 use Rattle.gixobj_script.specs.Edits.{IsEdit, IsNewEditor, IsReported, memory_model}
 use Rattle.gixobj_script.specs.declared.script.ScriptError.{ScriptError}
 use Rattle.gixobj_script.proofs.Wider.{run_wider}
@@ -19,7 +19,7 @@ use Rattle.gixobj_script.proofs.Wider.{run_wider}
 -- the report of a run is that of `edit` if the closure returns digests only
 pub is_edit_of_report : {F : Type 0} (of : Shared F (Bor (List EntryView) × Unit {0}) (Result ObjectId Error)) (out : F) (hash : hash.Kind) (script : List ℕ)
     (old new : State Memory) (result : Result (Vec ℕ Global) ScriptError)
-    → ((tree : List EntryView) (answer : Result ObjectId Error) → FnReturnsAt of out tree answer → IsAnsweredDigest hash tree answer)
+    → ((tree : List EntryView) (answer : Result ObjectId Error) → FnReturnsAt of out tree answer → IsDigestResult hash tree answer)
     → IsNewEditor hash old
     → IfOk result (λ bytes. IsReported memory_model (λ tree answer. FnReturnsAt of out tree answer) hash script old bytes.items new)
     → IfOk result (λ bytes. IsEdit hash script bytes.items)
@@ -31,7 +31,7 @@ is_edit_of_report of out hash script old new (Ok bytes) within begun seen = reco
     commands = seen.commands;
     replies = seen.replies;
     decodes = seen.decodes;
-    ran = run_wider memory_model (λ tree answer. FnReturnsAt of out tree answer) (IsAnsweredDigest hash) within old new seen.commands seen.replies seen.ran;
+    ran = run_wider memory_model (λ tree answer. FnReturnsAt of out tree answer) (IsDigestResult hash) within old new seen.commands seen.replies seen.ran;
     yields = seen.yields;
   };
 }

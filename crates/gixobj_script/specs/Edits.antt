@@ -4,7 +4,7 @@ use Rattle.std.specs.FinMap as finite
 use Rattle.gixobj_editor.specs.Views.{CommandView, command_view}
 use Rattle.gixobj_editor.specs.declared.command.Command.{Command}
 use Rattle.gixobj_store.specs.Stores.{StoreModel}
-use Rattle.gixobj_tree.specs.TreeEncoding.{IsAnsweredDigest}
+use Rattle.gixobj_tree.specs.TreeEncoding.{IsDigestResult}
 use Rattle.gixobj_script.specs.Reporting.{report_lines_of}
 use Rattle.gixobj_files.specs.State.{State, root_alone}
 use Rattle.gixobj_hash.specs.declared.hash.kind.Kind as hash
@@ -51,7 +51,7 @@ pub record IsEdit (hash : hash.Kind) (script bytes : List ℕ) : Type 0 where
   pub old : State Memory
   pub new : State Memory
   pub begun : IsNewEditor hash old
-  pub yielded : IsReported memory_model (IsAnsweredDigest hash) hash script old bytes new
+  pub yielded : IsReported memory_model (IsDigestResult hash) hash script old bytes new
 
 -- the error of a run: the first bad line; or out of memory, for a command before any bad line, or if no line is bad
 abbrev pub IsScriptRunError : hash.Kind → List ℕ → ScriptError → Type 0

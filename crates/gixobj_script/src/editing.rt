@@ -2,7 +2,7 @@
 ghost use Rattle.std.specs.Prelude.{◌≡◌, ◌⊎◌, ℕ, IfErr, IfOk, OnErr};
 ghost use Rattle.std.specs.Fn.{FnReturnsAt};
 ghost use Rattle.gixobj_store.specs.Stores.{store_model};
-ghost use Rattle.gixobj_tree.specs.TreeEncoding.{IsAnsweredDigest};
+ghost use Rattle.gixobj_tree.specs.TreeEncoding.{IsDigestResult};
 ghost use Rattle.gixobj_script.specs.Edits.{IsEdit, IsReported, IsScriptRunError, WasRun};
 ghost use Rattle.gixobj_script.specs.declared.script.ScriptError.TheVariants.{BadLine};
 ghost use Rattle.gixobj_editor.specs.Replies.{IsCallable};
@@ -39,7 +39,7 @@ pub fn edit(alloc: Global, script: &[u8], hash: Kind) -> Result<Vec<u8>, ScriptE
         script,
         hash,
         |tree: &Tree|
-            ensures { IsAnsweredDigest hash tree.now result }
+            ensures { IsDigestResult hash tree.now result }
         { tree.compute_id(alloc, hash) },
     )
 }

@@ -128,4 +128,4 @@ pub path_has_names : (path rest name following : List ℕ) (names : List Name) �
 path_has_names path rest name following names are split none =
     append_cons_ne_nil names name (path_names following)
     (sym (are ∙ ap (λ (it : List Name). names ++ it) (path_names_of_split rest name following split))
-      ∙ path_names_unique path (path_names path) [] (are_names_of_path path) none)
+    ∙ path_names_unique path (path_names path) [] (are_names_of_path path) none)

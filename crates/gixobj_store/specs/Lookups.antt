@@ -73,14 +73,14 @@ IsAtPath objects first names (Some e) = LeadsTo objects first names e
 IsAtPath objects first names None = (e : EntryView) → ¬ LeadsTo objects first names e
 
 -- a proper prefix of the names leads to this entry
-abbrev pub LeadsOn : Objects → Option StoredObject → List Name → EntryView → Type 0
-LeadsOn objects first names e = (begun more : List Name) × (names ≡ begun ++ more) × (more ≢ [])
+abbrev pub ProperPrefixLeadsTo : Objects → Option StoredObject → List Name → EntryView → Type 0
+ProperPrefixLeadsTo objects first names e = (begun more : List Name) × (names ≡ begun ++ more) × (more ≢ [])
     × LeadsTo objects first begun e
 
 -- Store: a proper prefix of the names leads to an entry with an id whose lookup may fail; OutOfMemory: the first name
 -- was found
 abbrev pub IsPathError : Objects → (ObjectId → Bool) → Option StoredObject → List Name → Error → Type 0
-IsPathError objects may_fail first names (Store message) = (e : EntryView) × LeadsOn objects first names e
+IsPathError objects may_fail first names (Store message) = (e : EntryView) × ProperPrefixLeadsTo objects first names e
     × IsTrue (may_fail e.id)
 IsPathError objects may_fail first names OutOfMemory = (name : Name) × (more : List Name) × (e : EntryView)
     × (names ≡ name ∷ more) × FoundIn first name e

@@ -5,7 +5,7 @@ use Rattle.std.specs.Prelude.{false, IsFalse, IsTrue}
 use Rattle.bstr.proofs.Computing.{computing}
 use Rattle.bstr.specs.Text.{lines_of}
 use Rattle.gixobj_text.specs.BodyLines.{is_blank}
-use Rattle.gixobj_text.specs.TrailerBlocks.{IsTrailerBlock, IsTrailerBlockStart, count_others, trailers_in}
+use Rattle.gixobj_text.specs.TrailerBlocks.{IsTrailerBlock, IsTrailerBlockStart, count_others, trailer_count}
 use Rattle.gixobj_text.proofs.LastRuns.{no_block_of_parts, parts_of}
 
 abbrev F : List ℕ → Type 0
@@ -59,7 +59,7 @@ long = codes "text\n\nSigned-off-by: A <a@b>\nnot a trailer\nnot a trailer\nnot 
 
 -- one trailer and four other lines
 abbrev IsOneOfFive : List (List ℕ) → Type 0
-IsOneOfFive run = (trailers_in run ≡ 1) × (count_others false run ≡ 4)
+IsOneOfFive run = (trailer_count run ≡ 1) × (count_others false run ≡ 4)
 
 no_block_of_one_of_five : (run : List (List ℕ)) → IsOneOfFive run → ¬ IsTrailerBlock run
 no_block_of_one_of_five run five (inl (some, none)) = omega arith

@@ -4,7 +4,7 @@ use Rattle.std.specs.Prelude.{false}
 use Rattle.bstr.proofs.Computing.{computing}
 use Rattle.bstr.specs.Text.{lines_of}
 use Rattle.gixobj_text.specs.Titles.{summary_of}
-use Rattle.gixobj_text.specs.TrailerBlocks.{count_others, trailers_in}
+use Rattle.gixobj_text.specs.TrailerBlocks.{count_others, trailer_count}
 use Rattle.gixobj_text.specs.Trailers.{TrailerView, trailers_of_bytes}
 
 abbrev only : List ℕ → List ℕ → List TrailerView
@@ -47,7 +47,7 @@ unfolding computing
 summary_skips_empty_lines = refl
 
 -- one trailer and three other lines
-one_trailer_in_four_lines : trailers_in (lines_of (codes "Signed-off-by: A <a@b>\nnot a trailer\nnot a trailer\nnot a trailer\n")) ≡ 1
+one_trailer_in_four_lines : trailer_count (lines_of (codes "Signed-off-by: A <a@b>\nnot a trailer\nnot a trailer\nnot a trailer\n")) ≡ 1
 unfolding computing
 one_trailer_in_four_lines = refl
 

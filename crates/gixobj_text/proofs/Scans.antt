@@ -10,7 +10,7 @@ use Rattle.gixobj_text.specs.Counting.{Counts}
 use Rattle.gixobj_text.specs.FirstLines.{IsFirstLine}
 use Rattle.gixobj_text.specs.BodyLines.{is_blank, trimmed_line}
 use Rattle.gixobj_text.specs.Scanned.{EndsAfter, HasRun, IsWalked, Scanned}
-use Rattle.gixobj_text.specs.TrailerBlocks.{EndsBlank, IsTrailerBlock, IsTrailerBlockStart, IsLastRun, StartsAfter, count_others, trailers_in}
+use Rattle.gixobj_text.specs.TrailerBlocks.{EndsBlank, IsTrailerBlock, IsTrailerBlockStart, IsLastRun, StartsAfter, count_others, trailer_count}
 use Rattle.gixobj_text.specs.declared.commit.message.body.run.Run.{Run}
 use Rattle.gixobj_text.specs.declared.commit.message.body.scan.Scan.{Scan}
 use Rattle.gixobj_text.proofs.LastRuns.{Parts, parts_of_last_run}
@@ -164,7 +164,7 @@ trailer_block_of_counts run it counts (inl (some, none)) = inl (subst (λ (n : �
 trailer_block_of_counts run it counts (inr (is, few)) =
     inr (
       sym counts.recognised ∙ is,
-      subst (λ (n : ℕ). n ≤ 3 * trailers_in run) counts.others
+      subst (λ (n : ℕ). n ≤ 3 * trailer_count run) counts.others
           (subst (λ (n : ℕ). it.others ≤ 3 * n) counts.trailers few),
     )
 

@@ -1,9 +1,9 @@
 -- The counts of the lines of a run.
 use Rattle.std.specs.Prelude.{◌≡◌, ℕ, Bool, if◌then◌else◌, false, List}
 use Rattle.std.specs.List.{list_any}
-use Rattle.gixobj_text.specs.BodyLines.{is_indented, is_recognised}
+use Rattle.gixobj_text.specs.BodyLines.{is_indented, is_git_generated}
 use Rattle.gixobj_text.specs.Scanning.{is_below_trailer_after}
-use Rattle.gixobj_text.specs.TrailerBlocks.{counts_as_trailer, count_others, trailers_in}
+use Rattle.gixobj_text.specs.TrailerBlocks.{counts_as_trailer, count_others, trailer_count}
 use Rattle.gixobj_text.specs.declared.commit.message.body.run.Run.{Run}
 
 -- what a line adds to the number of other lines; `above` is whether the last line before it that isn't indented counts
@@ -16,7 +16,7 @@ other_count_of above line =
 
 -- the counts of this run
 pub record Counts (run : List (List ℕ)) (it : Run) : Type 0 where
-  pub trailers : it.trailers ≡ trailers_in run
+  pub trailers : it.trailers ≡ trailer_count run
   pub others : it.others ≡ count_others false run
-  pub recognised : it.recognised ≡ list_any is_recognised run
+  pub recognised : it.recognised ≡ list_any is_git_generated run
   pub above : it.above ≡ is_below_trailer_after false run

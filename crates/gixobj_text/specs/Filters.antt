@@ -3,7 +3,7 @@ use Rattle.std.specs.Prelude.{◌≡◌, ℕ, Bool, List, [], ◌∷◌, IsFalse
 use Rattle.std.specs.Iterator.{Count}
 use Rattle.gixobj_hash.specs.declared.memory.OutOfMemory.{OutOfMemory}
 use Rattle.gixobj_text.specs.TrailerSteps.{NextTrailer, remaining_trailer_count, trailer_view, remaining_trailers}
-use Rattle.gixobj_text.specs.TrailerNames.{is_named, names_author, names_part}
+use Rattle.gixobj_text.specs.TrailerNames.{is_named, names_author, names_attribution}
 use Rattle.gixobj_text.specs.Trailers.{TrailerView}
 use Rattle.gixobj_text.specs.declared.commit.message.body.filters.Filter.{Filter}
 use Rattle.gixobj_text.specs.declared.commit.message.body.filters.Filter.TheVariants as filter
@@ -17,7 +17,7 @@ passes_filter filter.SignedOffBy token = is_named (codes "Signed-off-by") token
 passes_filter filter.CoAuthoredBy token = is_named (codes "Co-authored-by") token
 passes_filter filter.AssistedBy token = is_named (codes "Assisted-by") token
 passes_filter filter.Authors token = names_author token
-passes_filter filter.Attributions token = names_part token
+passes_filter filter.Attributions token = names_attribution token
 
 -- the unfiltered iterator
 abbrev pub all_of : Filtered → Trailers

@@ -2,7 +2,7 @@
 use Rattle.std.specs.Prelude.{◌≡◌, ◌≢◌, ◌⊎◌, ◌<◌, ◌≤◌, ◌+◌, ◌*◌, ℕ, Bool, true, false, if◌then◌else◌, List, [], ◌∷◌, ◌++◌, ◌||◌, All, IsTrue, IsFalse, count_by, length}
 use Rattle.std.specs.List.{concat, list_any}
 use Rattle.bstr.specs.Text.{lines_of}
-use Rattle.gixobj_text.specs.BodyLines.{is_blank, is_indented, is_recognised, is_trailer_line, trimmed_line}
+use Rattle.gixobj_text.specs.BodyLines.{is_blank, is_indented, is_git_generated, is_trailer_line, trimmed_line}
 
 -- ---- the last run
 
@@ -24,7 +24,7 @@ pub record IsLastRun (lines before run after : List (List ℕ)) : Type 0 where
 
 -- a line that counts as a trailer: git generates it, or it is a trailer line
 abbrev pub counts_as_trailer : List ℕ → Bool
-counts_as_trailer line = is_recognised line || is_trailer_line line
+counts_as_trailer line = is_git_generated line || is_trailer_line line
 
 -- the number of other lines: those that don't count as trailers, without indented lines that continue a trailer; an
 -- indented line continues a trailer if the last unindented line before it counts as one; `above` is whether this holds
@@ -37,14 +37,14 @@ count_others above (line ∷ run) =
     else 1 + count_others false run
 
 -- the number of lines that count as trailers
-abbrev pub trailers_in : List (List ℕ) → ℕ
-trailers_in run = count_by counts_as_trailer run
+abbrev pub trailer_count : List (List ℕ) → ℕ
+trailer_count run = count_by counts_as_trailer run
 
 -- a trailer block: trailers and no other line; or a line that git generates, and at least one trailer for three other
 -- lines
 abbrev pub IsTrailerBlock : List (List ℕ) → Type 0
-IsTrailerBlock run = ((0 < trailers_in run) × (count_others false run ≡ 0))
-    ⊎ (IsTrue (list_any is_recognised run) × (count_others false run ≤ 3 * trailers_in run))
+IsTrailerBlock run = ((0 < trailer_count run) × (count_others false run ≡ 0))
+    ⊎ (IsTrue (list_any is_git_generated run) × (count_others false run ≤ 3 * trailer_count run))
 
 -- ---- the start of a block
 

@@ -11,9 +11,8 @@ abbrev pub names_author : List ℕ → Bool
 names_author token = is_named (codes "Signed-off-by") token || is_named (codes "Co-authored-by") token
 
 -- the token of anyone who had a part in the change
-abbrev pub names_part : List ℕ → Bool
-names_part token =
-    is_named (codes "Signed-off-by")
-    token || (is_named (codes "Co-authored-by") token || (is_named (codes "Assisted-by") token
-    || (is_named (codes "Acked-by") token || (is_named (codes "Reviewed-by") token || is_named
-    (codes "Tested-by") token))))
+abbrev pub names_attribution : List ℕ → Bool
+names_attribution token =
+    is_named (codes "Signed-off-by") token || (is_named (codes "Co-authored-by") token
+    || (is_named (codes "Assisted-by") token || (is_named (codes "Acked-by") token
+    || (is_named (codes "Reviewed-by") token || is_named (codes "Tested-by") token))))

@@ -31,20 +31,20 @@ remaining_bytes it = it.cursor.now
 abbrev pub remaining_trailers : Trailers → List TrailerView
 remaining_trailers it = trailers_of_bytes (remaining_bytes it)
 
--- the next trailer has a value of several lines
-abbrev pub next_is_folded : Trailers → Bool
-next_is_folded it = first_is_folded (lines_of (remaining_bytes it))
+-- reading the next trailer allocates: its value has several lines, which are joined
+abbrev pub next_allocates : Trailers → Bool
+next_allocates it = first_is_folded (lines_of (remaining_bytes it))
 
 -- a step yields the next trailer, owned if and only if its value has several lines, and then the last lines remain; or
 -- an error for such a value, and then nothing remains; or nothing, if no trailer remains
 abbrev pub NextTrailer : Trailers → Option (Result TrailerRef OutOfMemory) → Trailers → Type 0
 NextTrailer before (Some (Ok trailer)) after =
     (remaining_trailers before ≡ trailer_view trailer ∷ remaining_trailers after)
-    × (is_owned trailer.value ≡ next_is_folded before)
+    × (is_owned trailer.value ≡ next_allocates before)
     × (length (remaining_bytes after) < length (remaining_bytes before))
     × HasLastLines (remaining_bytes before) (remaining_bytes after)
 NextTrailer before (Some (Err error)) after =
-    (next_is_folded before ≡ true) × (remaining_bytes after ≡ [])
+    (next_allocates before ≡ true) × (remaining_bytes after ≡ [])
     × (length (remaining_bytes after) < length (remaining_bytes before))
 NextTrailer before None after = (remaining_trailers before ≡ []) × (remaining_bytes after ≡ [])
 

@@ -14,7 +14,7 @@ use Rattle.gixobj_hash.proofs.Splits.{no_split_of_byte_free, split_parts_unique}
 use Rattle.gixobj_hash.specs.ByteStrings.{IsByteFree, SplitsAt}
 use Rattle.gixobj_mode.proofs.EncodedModes.{octal_digits_space_free}
 use Rattle.gixobj_tree.specs.Entries.{EntryView, entry_of}
-use Rattle.gixobj_mode.specs.Mode.{BeginsWithMode, HasSixDigits, mode_of_digits}
+use Rattle.gixobj_mode.specs.Mode.{BeginsWithMode, ObeysByteSix, mode_of_digits}
 use Rattle.gixobj_tree.proofs.EntryRuns.{entry_run_unique, decodes_to_tree_of_run, yields_entries_iff}
 use Rattle.gixobj_tree.proofs.OneEntry.{Parted, entry_of_parts, no_entry_without_id, no_entry_without_name, parted_of_begins, entry_rest_len_lt}
 use Rattle.gixobj_tree.specs.TreeDecoding.{BeginsWithEntry, BeginsWithId, BeginsWithNoEntry, IsMalformedTree, DecodesToTree, YieldsEntries}
@@ -45,13 +45,13 @@ all_octal_or_not (first ∷ content) =
     (cases_lt (digit_value first) 8)
 
 -- byte 6 of the content allows these digits, or not
-has_six_digits_or_not : (content digits : List ℕ) → HasSixDigits content digits ⊎ (HasSixDigits content digits → ⊥)
+has_six_digits_or_not : (content digits : List ℕ) → ObeysByteSix content digits ⊎ (ObeysByteSix content digits → ⊥)
 has_six_digits_or_not content digits =
     ⊎_elim (λ six. inl (λ is other. six))
     (λ not_six. ⊎_elim (λ is. six_digits_needed not_six is) (λ other. inl (λ is. absurd (other is))) (cases_eq (get_or content 6 0) 32))
     (cases_eq (length digits) 6)
   where
-    six_digits_needed : (length digits ≡ 6 → ⊥) → get_or content 6 0 ≡ 32 → HasSixDigits content digits ⊎ (HasSixDigits content digits → ⊥)
+    six_digits_needed : (length digits ≡ 6 → ⊥) → get_or content 6 0 ≡ 32 → ObeysByteSix content digits ⊎ (ObeysByteSix content digits → ⊥)
     six_digits_needed not_six is =
         ⊎_elim (λ five. inl (λ six other. absurd (other five))) (λ other. inr (λ keeps. not_six (keeps is other))) (cases_eq (get_or content 5 0) 32)
 
@@ -108,7 +108,7 @@ module _ (kind : Kind) (input digits after : List ℕ) (split : SplitsAt 32 inpu
       let p = parted_of_begins kind input e rest has in
       fails (subst P (parted_digits_before_space kind input digits after e rest split p) (holds e rest p))
 
-  mode_there : AllDigits 8 digits → length digits ≤ 7 → HasSixDigits input digits → BeginsWithMode input (mode_of_digits digits) (32 ∷ after)
+  mode_there : AllDigits 8 digits → length digits ≤ 7 → ObeysByteSix input digits → BeginsWithMode input (mode_of_digits digits) (32 ∷ after)
   mode_there octal short six = record {
     digits = digits;
     some = λ bare. append_cons_ne_nil digits after 32 (sym split.joined ∙ bare);
@@ -121,7 +121,7 @@ module _ (kind : Kind) (input digits after : List ℕ) (split : SplitsAt 32 inpu
   by_byte_six : AllDigits 8 digits → length digits ≤ 7 → AnEntry kind input ⊎ BeginsWithNoEntry kind input
   by_byte_six octal short =
       ⊎_elim (λ six. entry_or_none_after_mode kind input (32 ∷ after) after (mode_of_digits digits) (mode_there octal short six) refl)
-      (λ other. inr (no_entry (HasSixDigits input) (λ e rest p. p.byte_six) other)) (has_six_digits_or_not input digits)
+      (λ other. inr (no_entry (ObeysByteSix input) (λ e rest p. p.byte_six) other)) (has_six_digits_or_not input digits)
 
   by_length : AllDigits 8 digits → AnEntry kind input ⊎ BeginsWithNoEntry kind input
   by_length octal = ⊎_elim (λ long. inr (no_entry (λ it. length it ≤ 7) (λ e rest p. p.mode.short) (λ short. omega arith))) (by_byte_six octal)

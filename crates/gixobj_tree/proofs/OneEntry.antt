@@ -12,7 +12,7 @@ use Rattle.gixobj_hash.proofs.Splits.{no_split_of_byte_free, split_parts_unique}
 use Rattle.gixobj_hash.specs.ByteStrings.{IsByteFree, SplitsAt}
 use Rattle.gixobj_mode.proofs.EncodedModes.{octal_digits_space_free, split_at_space_unique}
 use Rattle.gixobj_tree.specs.Entries.{EntryView, entry_of}
-use Rattle.gixobj_mode.specs.Mode.{BeginsWithMode, HasSixDigits, DecodesToMode, mode_of_digits}
+use Rattle.gixobj_mode.specs.Mode.{BeginsWithMode, ObeysByteSix, DecodesToMode, mode_of_digits}
 use Rattle.gixobj_tree.specs.TreeDecoding.{BeginsWithEntry, BeginsWithId, BeginsWithNoEntry, IsIdOf}
 
 -- ---- ids
@@ -45,7 +45,7 @@ pub record Parted (kind : Kind) (input : List ℕ) (e : EntryView) (rest : List 
   pub digits : List ℕ
   pub joined : input ≡ digits ++ 32 ∷ (e.name ++ 0 ∷ (id_bytes e.id ++ rest))
   pub mode : DecodesToMode digits e.mode
-  pub byte_six : HasSixDigits input digits
+  pub byte_six : ObeysByteSix input digits
   pub name : IsByteFree 0 e.name
   pub id : IsIdOf kind e.id
 
@@ -60,13 +60,13 @@ twenty_le_id_len : (kind : Kind) (it : ObjectId) → IsIdOf kind it → 20 ≤ l
 twenty_le_id_len kind it is = (let some = twenty_le_hash_len kind in omega (arith, some, is.1))
 
 -- byte 6 of an input that begins with an entry is that of the entry
-six_digits_append : (content rest digits : List ℕ) → 22 ≤ length content → HasSixDigits content digits → HasSixDigits (content ++ rest) digits
+six_digits_append : (content rest digits : List ℕ) → 22 ≤ length content → ObeysByteSix content digits → ObeysByteSix (content ++ rest) digits
 six_digits_append content rest digits len six = λ is other.
     let at_six : get_or (content ++ rest) 6 0 ≡ get_or content 6 0 = get_or_append_left content rest 0 6 (omega (arith, len)) in
     let at_five : get_or (content ++ rest) 5 0 ≡ get_or content 5 0 = get_or_append_left content rest 0 5 (omega (arith, len)) in
     six (sym at_six ∙ is) (λ five. other (at_five ∙ five))
 
-six_digits_of_append : (content rest digits : List ℕ) → 22 ≤ length content → HasSixDigits (content ++ rest) digits → HasSixDigits content digits
+six_digits_of_append : (content rest digits : List ℕ) → 22 ≤ length content → ObeysByteSix (content ++ rest) digits → ObeysByteSix content digits
 six_digits_of_append content rest digits len six = λ is other.
     let at_six : get_or (content ++ rest) 6 0 ≡ get_or content 6 0 = get_or_append_left content rest 0 6 (omega (arith, len)) in
     let at_five : get_or (content ++ rest) 5 0 ≡ get_or content 5 0 = get_or_append_left content rest 0 5 (omega (arith, len)) in
@@ -89,7 +89,7 @@ begins_of_parted kind input e rest p =
     let content = p.digits ++ 32 ∷ (e.name ++ 0 ∷ id_bytes e.id) in
     let entire : input ≡ content ++ rest = p.joined ∙ sym (encoded_entry_append p.digits e.name (id_bytes e.id) rest) in
     let len = twenty_two_le_entry_len p.digits e.name (id_bytes e.id) (twenty_le_id_len kind e.id p.id) in
-    let P : List ℕ → Type 0 = λ it. HasSixDigits it p.digits in (
+    let P : List ℕ → Type 0 = λ it. ObeysByteSix it p.digits in (
       content,
       entire,
       record {

@@ -10,7 +10,7 @@ use Rattle.gixobj_mode.proofs.ByteSix.{encode_mode_has_six_digits}
 use Rattle.gixobj_mode.proofs.ModesRoundTrip.{mode_round_trips}
 use Rattle.gixobj_tree.proofs.TreeWrites.{AreFree, no_error_of_written_tree, encode_tree_take_succ}
 use Rattle.gixobj_tree.specs.Entries.{EntryView}
-use Rattle.gixobj_mode.specs.Mode.{HasSixDigits, encode_mode}
+use Rattle.gixobj_mode.specs.Mode.{ObeysByteSix, encode_mode}
 use Rattle.gixobj_tree.specs.TreeEncoding.{IsTreeEncodeError, encode_entry, encode_tree}
 use Rattle.gixobj_tree.proofs.Viewed.{map_view_at, map_view_index_lt}
 use Rattle.gixobj_tree.specs.Rewriting.{HasCanonicalModes, DecodesToCanonicalEntry, RoundTrips}
@@ -73,7 +73,7 @@ encode_entry_decodes : (kind : Kind) (e : EntryView) → RoundTrips kind e → D
 encode_entry_decodes kind e it =
     let joined = append_space_name_assoc (encode_mode e.mode) e.name (id_bytes e.id) in
     let six = encode_mode_has_six_digits e.mode (e.name ++ 0 ∷ id_bytes e.id) it.some in
-    let P : List ℕ → Type 0 = λ bytes. HasSixDigits bytes (encode_mode e.mode) in
+    let P : List ℕ → Type 0 = λ bytes. ObeysByteSix bytes (encode_mode e.mode) in
     record {
       digits = encode_mode e.mode;
       joined = joined;

@@ -12,6 +12,6 @@ pub record EntryView : Type 0 where
 abbrev pub entry_of : ℕ → List ℕ → ObjectId → EntryView
 entry_of mode name id = record { mode = mode; name = name; id = id }
 
--- an id and the tree that it names
+-- a tree and an id given to it, which nothing here says to be its digest
 abbrev pub Pair : Type 0
 Pair = ObjectId × List EntryView

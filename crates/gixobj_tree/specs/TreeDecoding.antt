@@ -11,7 +11,7 @@ use Rattle.gixobj_hash.specs.declared.hash.object_id.ObjectId.{ObjectId}
 use Rattle.gixobj_hash.specs.Bytes.{space}
 use Rattle.gixobj_hash.specs.ByteStrings.{IsByteFree}
 use Rattle.gixobj_tree.specs.Entries.{EntryView}
-use Rattle.gixobj_mode.specs.Mode.{HasSixDigits, DecodesToMode}
+use Rattle.gixobj_mode.specs.Mode.{ObeysByteSix, DecodesToMode}
 
 -- an id of this kind, with the number of bytes of the kind
 abbrev pub IsIdOf : Kind → ObjectId → Type 0
@@ -22,7 +22,7 @@ pub record DecodesToEntry (kind : Kind) (e : EntryView) (content : List ℕ) : T
   pub digits : List ℕ
   pub joined : content ≡ digits ++ space ∷ (e.name ++ 0 ∷ id_bytes e.id)
   pub mode : DecodesToMode digits e.mode
-  pub byte_six : HasSixDigits content digits
+  pub byte_six : ObeysByteSix content digits
   pub name : IsByteFree 0 e.name
   pub id : IsIdOf kind e.id
 

@@ -24,11 +24,12 @@ encode_entry e = before_name e ++ e.name ++ 0 ∷ id_bytes e.id
 abbrev pub encode_tree : List EntryView → List ℕ
 encode_tree entries = flat_map encode_entry entries
 
--- the name of an entry is rejected for a zero byte, after the mode and the space
+-- the name of an entry is rejected for a zero byte; written before the error are the mode and the space
 abbrev pub IsEntryEncodeError : EntryView → RejectedValue → List ℕ → Type 0
 IsEntryEncodeError e value parts = Contains e.name 0 × (value ≡ name_with_zero_byte e.name) × (parts ≡ before_name e)
 
--- the first name with a zero byte is rejected, after the entries before it
+-- the first name with a zero byte is rejected; written before the error are the entries before it, its mode and the
+-- space
 pub record IsTreeEncodeError (entries : List EntryView) (value : RejectedValue) (parts : List ℕ) : Type 0 where
   pub prefix : List EntryView
   pub entry : EntryView
@@ -47,7 +48,7 @@ IsEncodableTree entries = RejectsNothing (IsTreeEncodeError entries)
 abbrev pub IsUnencodableTree : List EntryView → Type 0
 IsUnencodableTree entries = (value : RejectedValue) × (parts : List ℕ) × IsTreeEncodeError entries value parts
 
--- Ok: the id is the digest of the tree's encoding; an error: that of a writer of the tree to an empty list
-abbrev pub IsAnsweredDigest : hash.Kind → List EntryView → Result ObjectId Error → Type 0
-IsAnsweredDigest hash tree (Ok id) = IsEncodableTree tree × (id ≡ id_of hash Tree (encode_tree tree))
-IsAnsweredDigest hash tree (Err error) = IsEncodingError (IsTreeEncodeError tree) (encode_tree tree) error
+-- Ok: the id is the digest of the tree's encoding; Err: the error of writing the tree to an empty list
+abbrev pub IsDigestResult : hash.Kind → List EntryView → Result ObjectId Error → Type 0
+IsDigestResult hash tree (Ok id) = IsEncodableTree tree × (id ≡ id_of hash Tree (encode_tree tree))
+IsDigestResult hash tree (Err error) = IsEncodingError (IsTreeEncodeError tree) (encode_tree tree) error

@@ -1,4 +1,6 @@
--- Well-formed trees, and the parts of the check for them (gitdatamodel, "trees"; git-fsck reports other trees).
+-- Well-formed trees, and the parts of the check for them. git-fsck reports other trees as `emptyName`, `fullPathname`,
+-- `duplicateEntries` and `treeNotSorted`; what it reports as `hasDot`, `hasDotdot`, `hasDotgit` or `nullSha1` is
+-- well-formed here.
 use Rattle.std.specs.Prelude.{◌≡◌, ◌≢◌, ℕ, List, [], ◌∷◌, All, Contains, IsTrue}
 use Rattle.std.specs.List.{AllByRecursion}
 use Rattle.gixobj_tree.specs.Entries.{EntryView}
@@ -35,6 +37,6 @@ AreApart entries = EachLater (λ x y. x.name ≢ y.name) entries
 abbrev pub HasKey : List EntryView → List ℕ → Type 0
 HasKey entries key = (e : EntryView) × Contains entries e × (entry_key e ≡ key)
 
--- the entry is a tree, and its bare name is the key of an entry, which can only be a file's
+-- the entry is a tree, and its bare name is the key of an entry; if names have no slash, that is a file's
 abbrev pub HasNamesake : List EntryView → EntryView → Type 0
 HasNamesake entries e = IsTrue (is_tree_mode e.mode) × HasKey entries e.name

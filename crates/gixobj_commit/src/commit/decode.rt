@@ -1,6 +1,6 @@
 //! Decoding of entire commits (gitdatamodel, "commits").
 ghost use Rattle.std.specs.Prelude.{◌≡◌, ◌≤◌, [], IfErr, IfOk, OnOk};
-ghost use Rattle.gixobj_commit.specs.CommitViews.{BorrowsLines, commit_lines};
+ghost use Rattle.gixobj_commit.specs.CommitViews.{BorrowsOneLineValues, commit_lines};
 ghost use Rattle.gixobj_commit.specs.CommitWriting.{HasIds};
 ghost use Rattle.gixobj_hash.specs.declared.decode.Error.TheVariants.{OutOfMemory};
 ghost use Rattle.gixobj_line.specs.Commit.{DecodesToCommit, IsCommitDecodeError};
@@ -46,7 +46,7 @@ impl<'a> CommitRef<'a> {
         ensures found { IfOk result (λ commit.
             DecodesToCommit hash_kind bytes.now (commit_lines commit)) }
         ensures has_ids { IfOk result (λ commit. HasIds (commit_lines commit)) }
-        ensures borrowed { IfOk result BorrowsLines }
+        ensures borrowed { IfOk result BorrowsOneLineValues }
         ensures error { IfErr result (IsCommitDecodeError hash_kind bytes.now) }
     {
         let mut commit = CommitRef::without_lines(alloc);
@@ -85,8 +85,8 @@ impl<'a> CommitRef<'a> {
         ensures appended { OnOk result (commit_lines self.new
             ≡ gather (commit_lines self.old) (line_view line.entry)) }
         ensures has_capacity { OnOk result (1 ≤ self.new.parents.capacity) }
-        ensures borrowed { OnOk result (BorrowsLines self.old → IsParsedLine line.entry
-            → BorrowsLines self.new) }
+        ensures borrowed { OnOk result (BorrowsOneLineValues self.old → IsParsedLine line.entry
+            → BorrowsOneLineValues self.new) }
         ensures error { IfErr result (λ e. (e ≡ OutOfMemory)
             × Allocates (commit_lines self.old) (line_view line.entry)) }
     {

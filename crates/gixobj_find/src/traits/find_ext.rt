@@ -1,6 +1,6 @@
 //! Lookups of objects that have to exist and to be of a kind.
 ghost use Rattle.std.specs.Prelude.{◌≡◌, [], IfErr, IfOk, IsOk};
-ghost use Rattle.gixobj_commit.specs.CommitViews.{BorrowsLines, commit_lines};
+ghost use Rattle.gixobj_commit.specs.CommitViews.{BorrowsOneLineValues, commit_lines};
 ghost use Rattle.gixobj_commit.specs.CommitWriting.{HasIds};
 ghost use Rattle.gixobj_store.specs.EntrySteps.{IsAtEntry};
 ghost use Rattle.gixobj_store.specs.Stores.{Names, stored};
@@ -178,7 +178,7 @@ pub trait FindExt: Find {
         ensures found { IfOk result (λ commit.
             NamesSuch (Self.objects self.now) (borrowed_id id.entry) object.Commit
             (λ hash content. DecodesToCommit hash content (commit_lines commit))) }
-        ensures borrowed { IfOk result BorrowsLines }
+        ensures borrowed { IfOk result BorrowsOneLineValues }
         ensures has_ids { IfOk result (λ commit. HasIds (commit_lines commit)) }
         ensures error { IfErr result (IsFindObjectError (Self.objects self.now)
             (Self.may_fail self.now) object.Commit (borrowed_id id.entry)) }

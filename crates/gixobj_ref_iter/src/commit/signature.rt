@@ -4,7 +4,7 @@ ghost use Rattle.std.specs.Prelude.{◌≡◌, IfErr, IfOk, IfSome, MatchOption}
 ghost use Rattle.std.specs.Cow.{cow_slice_items};
 ghost use Rattle.gixobj_fields.specs.HeaderReading.{BorrowsOneLine};
 ghost use Rattle.gixobj_line.specs.Lines.{IsParsedLine, header_line, line_view};
-ghost use Rattle.gixobj_ref_iter.specs.Extracting.{FindsSignatureOfCommit, HasNoSignature, HasCommitSignature, IsNamedLine, IsCommitSignatureError};
+ghost use Rattle.gixobj_ref_iter.specs.CommitSignatures.{FindsSignatureOfCommit, HasNoSignature, HasCommitSignature, IsNamedLine, IsCommitSignatureError};
 ghost use Rattle.gixobj_signature.specs.SignedBytes.{signed_bytes};
 
 use super::CommitRefIter;

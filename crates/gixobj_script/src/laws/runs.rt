@@ -3,7 +3,7 @@ ghost use Rattle.std.specs.Prelude.{◌≡◌, All, List};
 ghost use Rattle.std.specs.FinMap as finite;
 ghost use Rattle.gixobj_editor.specs.declared.command.Command.{Command};
 ghost use Rattle.gixobj_script.specs.Digests.{HaveDistinctIds};
-ghost use Rattle.gixobj_tree.specs.TreeEncoding.{IsAnsweredDigest};
+ghost use Rattle.gixobj_tree.specs.TreeEncoding.{IsDigestResult};
 ghost use Rattle.gixobj_script.specs.Edits.{memory_model};
 ghost use Rattle.gixobj_files.specs.Files.{Table};
 ghost use Rattle.gixobj_files.specs.State.{State};
@@ -26,7 +26,7 @@ use gixobj_fields::encode;
 pub fn digest_run_has_table(replies: &[Reply<encode::Error>])
     ensures { (hash : Kind) (before after : State Memory) (commands : List Command)
         → memory_objects before.store ≡ finite.empty
-        → IsRun memory_model (IsAnsweredDigest hash) before commands replies.now after
+        → IsRun memory_model (IsDigestResult hash) before commands replies.now after
         → HaveDistinctIds hash (emitted_pairs replies.now)
         → All (λ pair. All (RoundTrips hash) pair.1) (kept_pairs replies.now) → (T : Table)
         × AgreesWithRun T (memory_objects before.store) replies.now }

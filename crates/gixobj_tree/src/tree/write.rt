@@ -8,7 +8,7 @@ ghost use Rattle.gixobj_hash.specs.ByteStrings.{IsByteFree};
 ghost use Rattle.gixobj_tree.specs.Entries.{entry_of};
 ghost use Rattle.gixobj_mode.specs.Mode.{mode_bits, encode_mode};
 ghost use Rattle.gixobj_tree.specs.TreeViews.{entry_view};
-ghost use Rattle.gixobj_tree.specs.TreeEncoding.{IsAnsweredDigest, IsEntryEncodeError, encode_entry};
+ghost use Rattle.gixobj_tree.specs.TreeEncoding.{IsDigestResult, IsEntryEncodeError, encode_entry};
 ghost use Rattle.gixobj_tree.specs.TreeSizes.{encode_mode_and_name, with_ids};
 ghost use Rattle.gixobj_fields.specs.Streams.{AppendsAll, AppendsOrFails};
 ghost use Rattle.gixobj_fields.specs.Writing.{AddsSize, IsWritingError, LacksRoom};
@@ -116,7 +116,7 @@ impl Tree {
     /// filled.store.keep(id, &tree).ok()?;
     /// ```
     pub fn compute_id(&self, alloc: Global, hash: hash::Kind) -> Result<ObjectId, Error>
-        ensures { IsAnsweredDigest hash self.now result }
+        ensures { IsDigestResult hash self.now result }
     {
         <Self as WriteTo>::compute_id(self, alloc, hash)
     }

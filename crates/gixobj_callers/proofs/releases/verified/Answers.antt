@@ -3,7 +3,7 @@ use Rattle.bstr.specs.BStr.{bstr_bytes}
 use Rattle.gix_object.specs.Outcomes.{outcome_view}
 use Rattle.gix_object.specs.SignedBytes.{signed_bytes}
 use Rattle.gix_object.specs.Verifiers.{verify_options_view}
-use Rattle.gixobj_callers.specs.Releases.{Vouches}
+use Rattle.gixobj_callers.specs.AcceptedSignatures.{Vouches}
 use Rattle.gixobj_callers.proofs.Accepted.{vouches_of_valid_outcome}
 use Rattle.gixobj_callers.proofs.releases.verified.Goals as goal
 

@@ -3,7 +3,7 @@ use Rattle.std.proofs.Common.{◌≡◌, ◌++◌, ◌∙◌, ◌∷◌, Err, Li
 use Rattle.std.specs.Iterator.{Yields}
 use Rattle.std.specs.List.{last_or}
 use Rattle.bstr.specs.BStr.{bstr_bytes}
-use Rattle.gix_object.specs.TrailerSteps.{NextTrailer, next_is_folded, remaining_bytes, remaining_trailers, trailer_view}
+use Rattle.gix_object.specs.TrailerSteps.{NextTrailer, next_allocates, remaining_bytes, remaining_trailers, trailer_view}
 use Rattle.gix_object.specs.hash.memory.OutOfMemory.{OutOfMemory}
 use Rattle.gix_object.specs.message.commit.message.body.trailers.TrailerRef.{TrailerRef}
 use Rattle.gix_object.specs.message.commit.message.body.trailers.Trailers.{Trailers}

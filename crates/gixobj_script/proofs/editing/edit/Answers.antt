@@ -2,7 +2,7 @@ use Rattle.std.proofs.Common.{List, ap, subst, ◌∙◌}
 use Rattle.gixobj_files.specs.State.{root_alone}
 use Rattle.gixobj_keep.specs.Memory.{memory_objects}
 use Rattle.gixobj_tree.specs.Entries.{EntryView}
-use Rattle.gixobj_tree.specs.TreeEncoding.{IsAnsweredDigest}
+use Rattle.gixobj_tree.specs.TreeEncoding.{IsDigestResult}
 use Rattle.gixobj_script.specs.Edits.{IsNewEditor}
 use Rattle.gixobj_script.proofs.Reported.{is_edit_of_report}
 use Rattle.gixobj_script.proofs.editing.edit.Goals as goal
@@ -17,4 +17,4 @@ returns-clause-reported c =
       object_hash = c.new-editor.ensures.object_hash;
     } in
     is_edit_of_report _ _ c.args.hash c.args.script.now c.new-editor.result _ c.edit_on.result
-    (λ tree answer said. subst (λ (t : List EntryView). IsAnsweredDigest c.args.hash t answer) said.shows said.says.met) begun c.edit_on.ensures.reported
+    (λ tree answer said. subst (λ (t : List EntryView). IsDigestResult c.args.hash t answer) said.shows said.says.met) begun c.edit_on.ensures.reported

@@ -2,7 +2,7 @@ use Rattle.std.proofs.Common.{arith, ℕ, List, subst, sym, ◌∙◌}
 use Rattle.gixobj_line.proofs.OneLine.{line_len_lt}
 use Rattle.gixobj_commit.specs.ExtraHeaders.{signature_field}
 use Rattle.gixobj_line.specs.Lines.{line_view}
-use Rattle.gixobj_ref_iter.specs.Extracting.{IsNamedLine}
+use Rattle.gixobj_ref_iter.specs.CommitSignatures.{IsNamedLine}
 use Rattle.gixobj_ref_iter.proofs.Searching.{ended, token_bytes_are_prefix, nil_of_test, passes_on, offset_advances, rejected, not_nil_of_test}
 use Rattle.gixobj_ref_iter.proofs.commit.CommitRefIter.signature.Goals as goal
 

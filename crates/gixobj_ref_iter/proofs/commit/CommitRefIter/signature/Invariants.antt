@@ -3,7 +3,7 @@ use Rattle.gixobj_commit.specs.ExtraHeaders.{signature_field}
 use Rattle.gixobj_fields.specs.Runs.{PassesNone}
 use Rattle.gixobj_line.specs.Lines.{BeginsWithLine}
 use Rattle.gixobj_line.specs.declared.lines.State.TheVariants as state
-use Rattle.gixobj_ref_iter.specs.Extracting.{IsNamedLine}
+use Rattle.gixobj_ref_iter.specs.CommitSignatures.{IsNamedLine}
 use Rattle.gixobj_ref_iter.proofs.commit.CommitRefIter.signature.Given as goal
 
 -- no line so far is a signature, and the rest is the input from this position on

@@ -11,13 +11,13 @@ pub returns-in_err-from_slice-clause-error : goal.returns-in_err-from_slice-clau
 returns-in_err-from_slice-clause-error c =
     let from = err_from_is_err_and c.from_residual.result c.from_residual.ensures.1 in
     rw from.1 (path_has_names c.args.path.now c.loop-name.rest.now c.in-Some.name.now c.in-Some.following.now
-        (map bstring_bytes c.loop-name.names.items) c.loop-name.invariant c.in-Some.ensures.found)
+    (map bstring_bytes c.loop-name.names.items) c.loop-name.invariant c.in-Some.ensures.found)
 
 pub returns-in_err-push-clause-error : goal.returns-in_err-push-clause-error
 returns-in_err-push-clause-error c =
     let from = err_from_is_err_and c.from_residual-in_err-push.result c.from_residual-in_err-push.ensures.1 in
     rw from.1 (path_has_names c.args.path.now c.loop-name.rest.now c.in-Some.name.now c.in-Some.following.now
-        (map bstring_bytes c.loop-name.names.items) c.loop-name.invariant c.in-Some.ensures.found)
+    (map bstring_bytes c.loop-name.names.items) c.loop-name.invariant c.in-Some.ensures.found)
 
 pub loop-name-smaller : goal.loop-name-smaller
 loop-name-smaller c = rest_names_len_lt c.loop-name.rest.now c.in-Some.name.now c.in-Some.following.now c.in-Some.ensures.found
@@ -25,7 +25,7 @@ loop-name-smaller c = rest_names_len_lt c.loop-name.rest.now c.in-Some.name.now 
 pub loop-name-preserved : goal.loop-name-preserved
 loop-name-preserved c =
     let more = path_names_snoc c.args.path.now c.loop-name.rest.now c.in-Some.name.now c.in-Some.following.now
-        (map bstring_bytes c.loop-name.names.items) c.loop-name.invariant c.in-Some.ensures.found in
+    (map bstring_bytes c.loop-name.names.items) c.loop-name.invariant c.in-Some.ensures.found in
     let copied : bstring_bytes c.in_ok-from_slice.field-0 ≡ c.in-Some.name.now = search rules in
     let items : c.push.new.self.items ≡ c.loop-name.names.items ++ c.in_ok-from_slice.field-0 ∷ [] = search rules in
     rw (items, map-append, copied) more

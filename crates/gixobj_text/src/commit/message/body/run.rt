@@ -1,6 +1,6 @@
 //! The counts of trailers and other lines in a run of lines that aren't blank.
 ghost use Rattle.std.specs.Prelude.{◌≡◌, ◌+◌, ◌*◌, ◌<◌, ◌≤◌, ◌^◌, ◌||◌, ◌↔◌, ◌⊎◌, IsTrue, if◌then◌else◌, true, false};
-ghost use Rattle.gixobj_text.specs.BodyLines.{begins_recognised as begins_recognised_of, is_indented as is_indented_of, is_recognised as is_recognised_of};
+ghost use Rattle.gixobj_text.specs.BodyLines.{begins_git_generated as begins_recognised_of, is_indented as is_indented_of, is_git_generated as is_recognised_of};
 ghost use Rattle.gixobj_text.specs.TrailerBlocks.{counts_as_trailer as is_trailing_of};
 
 use crate::commit::message::body::lines::{begins_indented, line_content};

@@ -6,7 +6,7 @@ ghost use Rattle.bstr.specs.Text.{lines_of};
 ghost use Rattle.gixobj_text.specs.TrailerSteps.{NextTrailer, remaining_trailer_count, is_owned, remaining_bytes};
 ghost use Rattle.gixobj_text.specs.BodyLines.{is_continuation_line, trimmed_line};
 ghost use Rattle.gixobj_text.specs.FirstLines.{HasLastLines};
-ghost use Rattle.gixobj_text.specs.TrailerNames.{is_named, names_part};
+ghost use Rattle.gixobj_text.specs.TrailerNames.{is_named, names_attribution};
 ghost use Rattle.gixobj_text.specs.Trailers.{trailers_of_bytes, unfolded as unfolded_of};
 ghost use Rattle.gixobj_hash.specs.ByteStrings.{trimmed};
 ghost use Rattle.gixobj_text.specs.Unfolding.{IsNextTrailer, has_lines, continuation_lines, with_folded, with_piece};
@@ -77,7 +77,7 @@ impl TrailerRef<'_> {
     /// Returns whether the token names anyone who had a part in the change, ASCII case ignored. Authors:
     /// `Signed-off-by`, `Co-authored-by`. Others: `Assisted-by`, `Acked-by`, `Reviewed-by`, `Tested-by`.
     pub fn is_attribution(&self) -> bool
-        ensures { result ≡ names_part (bstr_bytes self.now.token) }
+        ensures { result ≡ names_attribution (bstr_bytes self.now.token) }
     {
         self.is_signed_off_by()
             || self.is_co_authored_by()
