@@ -1,0 +1,13 @@
+-- Signatures of tags, found in two ways (gitformat-signature, "Tag signatures").
+use Rattle.std.specs.Prelude.{◌≡◌, Option, Some, None, ⊤}
+use Rattle.bstr.specs.BStr.{bstr_bytes}
+use Rattle.gixobj_text.specs.declared.signature.SignatureRef.{SignatureRef}
+use Rattle.gixobj_signature.specs.declared.signature.signed_data.SignedData.{SignedData}
+
+-- a tag's own signature, and the one found in an encoding with the data that it signs: both none, or the same bytes and
+-- format
+abbrev pub AreTheSame : Option SignatureRef → Option (SignatureRef × SignedData) → Type 0
+AreTheSame None None = ⊤
+AreTheSame None (Some found) = ⊥
+AreTheSame (Some own) None = ⊥
+AreTheSame (Some own) (Some found) = (bstr_bytes found.0.bytes ≡ bstr_bytes own.bytes) × (found.0.format ≡ own.format)
