@@ -7,8 +7,7 @@ use Rattle.gixobj_files.specs.Files.{Path, Trees}
 use Rattle.gixobj_files.specs.OpeningStops.{StopsOpening, IsNextUnopened}
 use Rattle.gixobj_files.specs.Opening.{Dirs}
 use Rattle.gixobj_files.specs.Unopened.{unopened_count}
-use Rattle.gixobj_files.proofs.StoppedOpenings.{halted_count}
-use Rattle.gixobj_editor.proofs.Halted.{failed_ids, halts_opens}
+use Rattle.gixobj_files.proofs.StoppedOpenings.{failed_ids, halted_count, halts_opens}
 use Rattle.gixobj_files.proofs.UnopenedCounts.{opens_at_most}
 use Rattle.gixobj_store.specs.Stores.{Objects}
 use Rattle.gixobj_directories.specs.Openings.{IsOpenErrorAt}

@@ -5,7 +5,6 @@ mod Calling
 mod CursorStays
 mod Edited
 mod FoundBelow
-mod Halted
 mod InPart
 mod Keeping
 mod Kept

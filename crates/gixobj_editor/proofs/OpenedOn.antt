@@ -18,7 +18,7 @@ use Rattle.gixobj_files.specs.Files.{Path, Trees}
 use Rattle.gixobj_files.specs.OpeningStops.{StopsOpening}
 use Rattle.gixobj_files.specs.Opening.{Dirs}
 use Rattle.gixobj_files.proofs.Calls.{ensured_null_based, are_null_based_of_none, opened_null_based, removed_null_based, upserted_null_based, written_null_based}
-use Rattle.gixobj_editor.proofs.Halted.{halts_opens}
+use Rattle.gixobj_files.proofs.StoppedOpenings.{halts_opens}
 use Rattle.gixobj_files.proofs.StillOpenedOpenings.{is_opened_of_opens}
 use Rattle.gixobj_store.specs.Stores.{Objects}
 use Rattle.gixobj_editor.specs.Upserts.{OpensInPart}

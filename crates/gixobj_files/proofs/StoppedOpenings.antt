@@ -13,6 +13,11 @@ use Rattle.gixobj_files.specs.Opening.{Dirs, in_dir}
 use Rattle.gixobj_files.specs.Unopened.{needs_opening, needs_lookup, needs_tree_lookup, is_unopened, looked_up_entry, unopened_count}
 use Rattle.gixobj_files.proofs.UnopenedCounts.{IsIdle, count_found, count_open, count_vain, found_below, lookup_needed, first_entry_of_has_at, known_open, unopened_found, unopened_here, unopened_nowhere, unopened_open, needs_no_lookup}
 
+-- the id that was looked up without success, if there is one
+abbrev pub failed_ids : Option ObjectId → List ObjectId
+failed_ids None = []
+failed_ids (Some id) = id ∷ []
+
 module _ (trees : Trees) where
   -- a path has a name after each of its directories
   one_more : (rest : Path) (last : List ℕ) (after : Path) → (next : List ℕ) × (more : Path) × (rest ++ last ∷ after ≡ next ∷ more)
@@ -53,14 +58,14 @@ module _ (trees : Trees) where
         named,
       )
 
-  -- before the error the directories of a prefix of the path were opened, and at most one more id was looked up
+  -- before the error the directories of a prefix of the path were opened, and the one more id that was looked up, if any, is that of the failed lookup
   pub halts_opens : {StopsBefore : EntryView → Type 0} (path : Path) (old new : Dirs) (looked_up : List ObjectId) (failed_lookup : Option ObjectId)
       → StopsOpening StopsBefore trees path old new looked_up failed_lookup
       → (prefix back : Path) × (answered tried : List ObjectId) × (path ≡ prefix ++ back) × Opens StopsBefore trees prefix old new answered
-      × (looked_up ≡ answered ++ tried) × (length tried ≤ 1)
+      × (looked_up ≡ answered ++ tried) × (tried ≡ failed_ids failed_lookup)
       × ((it : ObjectId) → tried ≡ it ∷ [] → IsNextUnopened trees old prefix back it)
   halts_opens path old new looked_up failed_lookup (at_once name rest d e entry tree free none) =
-      ([], name ∷ rest, [], [], refl, arrived d, refl, omega arith, λ it is. absurd (cc is))
+      ([], name ∷ rest, [], [], refl, arrived d, refl, refl, λ it is. absurd (cc is))
   halts_opens path old new looked_up failed_lookup (without_answer name rest d e entry tree free none filled) = (
     [],
     name ∷ rest,
@@ -69,7 +74,7 @@ module _ (trees : Trees) where
     refl,
     arrived d,
     refl,
-    omega arith,
+    refl,
     λ it is. (
       name,
       rest,
