@@ -1,7 +1,7 @@
 -- What one entry emits, what a walk along the entries emits, and where it stops: for the functions of `write`, and the
 -- errors of the editor.
 use mathlib.Core.Bool.{true≢false}
-use Rattle.std.proofs.Common.{◌≡◌, ◌≢◌, ◌⊎◌, inl, inr, ⊎_elim, ◌∙◌, ◌≤◌, ◌<◌, ◌+◌, ℕ, suc, zero, max, min, Bool, true, false, cond, List, [], ◌∷◌, ◌++◌, Option, Some, None, length, get_or, drop, Ok, Err, Result, refl, sym, ap, subst, arith, append_assoc, append-nil, add-one, drop-cons}
+use Rattle.std.proofs.Common.{◌≡◌, ◌≢◌, ◌⊎◌, inl, inr, ⊎_elim, ◌∙◌, ◌≤◌, ◌<◌, ◌+◌, ℕ, suc, zero, max, Bool, true, false, cond, List, [], ◌∷◌, ◌++◌, Option, Some, None, length, get_or, drop, Ok, Err, Result, refl, sym, ap, subst, arith, append_assoc, append-nil, add-one, drop-cons}
 use Rattle.std.specs.Prelude.{◌==◌, ◌&&◌, IfErr, IsFalse}
 use Rattle.std.specs.List.{AllByRecursion, FoldsTo}
 use Rattle.std.specs.Option.{option_copied}
@@ -16,7 +16,7 @@ use Rattle.gixobj_hash.specs.declared.hash.object_id.ObjectId.{ObjectId}
 use denote.Ref.{Bor}
 use Rattle.gixobj_directories.specs.Calls.{IsCallableOnTrees, IsStorable}
 use Rattle.gixobj_files.specs.Editing.{same_name}
-use Rattle.gixobj_files.specs.Edits.{max_count, raised}
+use Rattle.gixobj_files.specs.Edits.{raised}
 use Rattle.gixobj_files.specs.Files.{Path, is_null}
 use Rattle.gixobj_directories.specs.Emitting.{Stopped, EmitsEntry, child_side}
 use Rattle.gixobj_hash.specs.declared.hash.object_id.ObjectId.TheVariants.{Sha1}
@@ -26,6 +26,7 @@ use Rattle.gixobj_directories.specs.declared.open.Child.{Child}
 use Rattle.gixobj_files.specs.Opening.{Dirs, in_dir}
 use Rattle.gixobj_directories.specs.declared.write.WriteError.{WriteError}
 use Rattle.gixobj_directories.specs.declared.write.WriteError.TheVariants as write
+use Rattle.gixobj_files.proofs.Counts.{raised_raised}
 use Rattle.gixobj_files.proofs.Sublists.{all_weaker}
 use Rattle.gixobj_directories.proofs.Levels.{tied, tied_cons}
 use Rattle.gixobj_files.proofs.SameTrees.{entries_eq_or_ne}
@@ -37,12 +38,6 @@ pub walks_of_count : {dirs bases : Dirs} {entries : List EntryView} {below : Lis
 walks_of_count {dirs} {bases} {entries} {below} {own} m n is walk = subst (EmitsEntries dirs bases entries below own) is walk
 
 -- increments add up
-raised_raised : (n first then : ℕ) → raised (raised n first) then ≡ raised n (first + then)
-raised_raised n zero then = let is : then ≡ 0 + then = omega arith in ap (λ k. raised n k) is
-raised_raised n (suc first) then =
-    let is : suc (first + then) ≡ suc first + then = omega arith in
-    raised_raised (min (n + 1) max_count) first then ∙ ap (λ k. raised n k) is
-
 pub raised_append : (old between new first then : ℕ) → between ≡ raised old first → new ≡ raised between then → new ≡ raised old (first + then)
 raised_append old between new first then before after = after ∙ ap (λ n. raised n then) before ∙ raised_raised old first then
 

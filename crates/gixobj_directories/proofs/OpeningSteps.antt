@@ -1,6 +1,6 @@
 -- One step of the opening of the directories on a path: for `open_along` and the other calls that take a path, and for
 -- the editor's openings.
-use Rattle.std.proofs.Common.{◌≡◌, ◌≢◌, inl, inr, ◌∙◌, ◌≤◌, ◌+◌, ℕ, min, true, false, cond, List, [], ◌∷◌, ◌++◌, Option, Some, None, get_or, length, refl, sym, ap, subst, arith}
+use Rattle.std.proofs.Common.{◌≡◌, ◌≢◌, inl, inr, ◌∙◌, ◌≤◌, ℕ, true, false, cond, List, [], ◌∷◌, ◌++◌, Option, Some, None, get_or, length, length-append, refl, sym, ap, subst, arith}
 use Rattle.std.specs.Prelude.{IfNone, set}
 use Rattle.std.specs.Option.{option_copied}
 use denote.Ref.{Bor}
@@ -14,7 +14,7 @@ use Rattle.gixobj_hash.specs.declared.hash.object_id.ObjectId.{ObjectId}
 use Rattle.bstr.specs.declared.bstring.BString.{BString}
 use Rattle.gixobj_directories.specs.Calls.{names_of}
 use Rattle.gixobj_files.specs.Editing.{same_name}
-use Rattle.gixobj_files.specs.Edits.{Finds, IsEntryOf, Opens, counted, down, found, max_count, only_open, stops, with_dir}
+use Rattle.gixobj_files.specs.Edits.{Finds, IsEntryOf, Opens, counted, down, found, only_open, raised, stops, with_dir}
 use Rattle.gixobj_files.specs.Files.{ContainsEntry, Path, Trees}
 use Rattle.gixobj_directories.specs.Nested.{IsLevel, Opened, Part, dirs_of, in_part, opened, parts, with_part}
 use Rattle.gixobj_files.specs.OpeningStops.{StopsOpening, at_once, without_answer}
@@ -25,6 +25,7 @@ use Rattle.gixobj_directories.specs.Openings.{EndsBefore}
 use Rattle.gixobj_directories.specs.declared.open.Child.{Child}
 use Rattle.gixobj_directories.specs.declared.opening.NotLookedUp.{NotLookedUp}
 use Rattle.gixobj_directories.specs.declared.opening.NotLookedUp.TheVariants as not_looked_up
+use Rattle.gixobj_files.proofs.Counts.{raised_raised}
 use Rattle.gixobj_files.proofs.UnopenedCounts.{IsIdle}
 use Rattle.gixobj_files.proofs.StillOpenedOpenings.{is_opened_in_dir, is_opened_of_only, is_opened_with_dir}
 use Rattle.gixobj_files.proofs.HasTrees.{entry_of_has_tree, has_tree_of_entry}
@@ -76,8 +77,8 @@ entry_name_ne name (x ∷ xs) is e h =
     here (inr l) apart_so k = k l
 
 pub counted_append : (n : ℕ) (first looked_up : List ObjectId) → counted (counted n first) looked_up ≡ counted n (first ++ looked_up)
-counted_append n [] looked_up = refl
-counted_append n (id ∷ first) looked_up = counted_append (min (n + 1) max_count) first looked_up
+counted_append n first looked_up =
+    raised_raised n (length first) (length looked_up) ∙ ap (λ k. raised n k) (sym (length-append first looked_up))
 
 pub requested_len_le_one : (trees : Trees) (id : ObjectId) (entries : List EntryView) (looked_up : List ObjectId) → Finds trees id entries looked_up
     → length looked_up ≤ 1

@@ -3,6 +3,7 @@ pub mod Based
 pub mod BelowPrefix
 pub mod Calls
 pub mod Canonical
+pub mod Counts
 pub mod ReachedDirectories
 pub mod CursorFiles
 pub mod EditedFiles

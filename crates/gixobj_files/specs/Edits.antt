@@ -100,10 +100,10 @@ Finds trees id entries looked_up =
 abbrev pub max_count : ℕ
 max_count = 2 ^ 64 - 1
 
--- a count after `times` increments by one, each of which saturates at the maximum
+-- a count after `times` increments by one, which saturates at the maximum; none leaves it unchanged
 abbrev pub raised : ℕ → ℕ → ℕ
 raised n zero = n
-raised n (suc times) = raised (min (n + 1) max_count) times
+raised n (suc times) = min (n + suc times) max_count
 
 -- a count after these lookups
 abbrev pub counted : ℕ → List ObjectId → ℕ
