@@ -1,11 +1,11 @@
 -- After each edit by a cursor the directory at its prefix is still open; the proofs of the cursor's `try_` edits use
 -- it.
-use Rattle.std.proofs.Common.{◌≡◌, ◌≢◌, ◌∙◌, ℕ, List, [], ◌∷◌, ◌++◌, Some, None, Result, Ok, Err, ap, arith, refl, subst, sym}
+use Rattle.std.proofs.Common.{◌≡◌, ◌≢◌, ◌∙◌, ℕ, List, [], ◌∷◌, ◌++◌, Some, None, Result, Ok, Err, ap, refl, subst, sym}
 use Rattle.std.specs.Prelude.{IfErr, OnOk}
 use Rattle.gixobj_store.specs.Stores.{Objects, StoreModel}
 use Rattle.gixobj_directories.specs.Openings.{AreTreesOf}
 use Rattle.gixobj_directories.proofs.NamedTrees.{trees_of_objects_exist}
-use Rattle.gixobj_files.specs.Edits.{arrived, Opens}
+use Rattle.gixobj_files.specs.Edits.{Opens}
 use Rattle.gixobj_files.specs.Files.{Path, Trees}
 use Rattle.gixobj_files.specs.Opening.{Dirs, IsOpened}
 use Rattle.gixobj_files.specs.State.{EditorFiles, State, open_bases, open_dirs}
@@ -21,6 +21,7 @@ use Rattle.gixobj_files.specs.Bases.{opened_bases}
 use Rattle.gixobj_directories.specs.declared.opening.NotLookedUp.TheVariants as not_looked_up
 use Rattle.gixobj_editor.specs.Upserts.{IsAfterFailedEdit, IsLookupError, IsUpserted, directory_of}
 use Rattle.gixobj_editor.specs.declared.editor.error.Error.{Error}
+use Rattle.gixobj_editor.proofs.InPart.{none_in_part}
 
 -- if each open directory is still open, this one is
 open_of_unchanged_at : (old new : Dirs) (at : Path) → ((entries : List EntryView) → old at ≡ Some entries → new at ≡ Some entries) → old at ≢ None
@@ -95,18 +96,9 @@ pub edit_failure_unchanged : {S : Type 0} (model : StoreModel S) (trees : Trees)
     → IsAfterFailedEdit model trees old path failure old
 edit_failure_unchanged model trees old path failure other all idle = record {
   not_looked_up = not_looked_up.Opened;
-  reached = [];
-  more = path;
-  on_the_way = refl;
-  looked_up = [];
-  opens = arrived (open_dirs old);
+  opening = none_in_part (model.objects old.store) (model.may_fail old.store) trees path (open_dirs old) old.lookups failure other;
   bases = idle;
   stays = λ at entries is. is;
-  failed_lookup = [];
-  cause = other;
-  next = λ it is. absurd (cc is);
-  at_most_unopened = omega arith;
-  lookups = refl;
   rest = refl;
   is_opened = all;
   files = λ T n agrees. same_files_refl (EditorFiles T n old);

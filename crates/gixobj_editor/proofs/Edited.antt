@@ -1,5 +1,5 @@
 -- The record of an edit follows from its effect on the open directories; the proofs of the editor's calls use it.
-use Rattle.std.proofs.Common.{◌≡◌, ◌≢◌, ◌∙◌, ◌≤◌, inl, inr, ℕ, Bool, true, List, [], ◌∷◌, ◌++◌, Option, Some, None, Result, Ok, Err, length, refl, sym, ap, subst}
+use Rattle.std.proofs.Common.{◌≡◌, ◌≢◌, ◌∙◌, inl, inr, ℕ, Bool, true, List, [], ◌∷◌, ◌++◌, Option, Some, None, Result, Ok, Err, refl, sym, ap, subst}
 use Rattle.std.proofs.lemmas.Cmp.{lists_total, nat_list_cmp_total}
 use Rattle.std.proofs.lemmas.List.Elements.{All-nil, recursion_from_All}
 use Rattle.std.specs.Prelude.{IfOk, OnOk}
@@ -14,7 +14,7 @@ use Rattle.gixobj_hash.specs.declared.hash.object_id.ObjectId.{ObjectId}
 use Rattle.gixobj_store.specs.Stores.{Objects, StoreModel}
 use Rattle.gixobj_files.specs.Edits.{IsNoTree, Opens, arrived, counted, upserted_dirs, raised}
 use Rattle.gixobj_files.specs.Files.{Path, SameFiles, Trees, Upserted}
-use Rattle.gixobj_files.specs.OpeningStops.{StopsOpening, IsNextUnopened, IsUnopenedAbove}
+use Rattle.gixobj_files.specs.OpeningStops.{StopsOpening, IsUnopenedAbove}
 use Rattle.gixobj_files.specs.Opening.{Dirs, IsOpened, OpenFiles}
 use Rattle.gixobj_files.specs.State.{DirMap, EditorFiles, State, open_bases, open_dirs}
 use Rattle.gixobj_files.specs.Unopened.{is_unopened, looked_up_entry, unopened_count}
@@ -301,33 +301,31 @@ module _ {S : Type 0} (store : S) (hash : Kind) (prefix : Path) (trees : Trees) 
   InPart model it ds ds' n m path failure =
       OpensInPart (EndsBefore it) (model.objects store) (model.may_fail store) trees path (dirs_of ds) (dirs_of ds') n m failure
 
+  -- the directories that an editor shows are opened in part, as those of the list are
+  abbrev map_in_part : (model : StoreModel S) (it : NotLookedUp) (ds ds' : Opened) (n m : ℕ) (path : Path) (failure : Error)
+      → InPart model it ds ds' n m path failure
+      → OpensInPart (EndsBefore it) (model.objects store) (model.may_fail store) trees path (map_dirs ds) (map_dirs ds') n m failure
+  map_in_part model it ds ds' n m path failure so =
+      subst (λ (d : Dirs). OpensInPart (EndsBefore it) (model.objects store) (model.may_fail store) trees path d (map_dirs ds') n m failure)
+      (sym (map_dirs_eq ds))
+      (subst (λ (d : Dirs). OpensInPart (EndsBefore it) (model.objects store) (model.may_fail store) trees path (dirs_of ds) d n m failure)
+      (sym (map_dirs_eq ds')) so)
+
   pub stay : (model : StoreModel S) (it : NotLookedUp) (ds ds' : Opened) (n m : ℕ) (path : Path) (failure : Error) → InPart model it ds ds' n m path failure
       → OpenedOn ds
       → OpenedSo ds ds' → IsAfterFailedEdit model trees (made ds n) path failure (made ds' m)
   stay model it ds ds' n m path failure so was first =
-      let opened : Opens (EndsBefore it) trees so.reached (map_dirs ds) (map_dirs ds') so.looked_up =
-      subst (λ (d : Dirs). Opens (EndsBefore it) trees so.reached d (map_dirs ds') so.looked_up) (sym (map_dirs_eq ds))
-      (subst (λ (d : Dirs). Opens (EndsBefore it) trees so.reached (dirs_of ds) d so.looked_up) (sym (map_dirs_eq ds')) so.opens) in
+      let part = map_in_part model it ds ds' n m path failure so in
       record {
         not_looked_up = it;
-        reached = so.reached;
-        more = so.more;
-        on_the_way = so.on_the_way;
-        looked_up = so.looked_up;
-        opens = opened;
+        opening = part;
         bases = only_opened_bases_of_map ds ds' first;
-        stays = opens_keeps_open_lists trees so.reached (map_dirs ds) (map_dirs ds') so.looked_up opened;
-        failed_lookup = so.failed_lookup;
-        cause = so.cause;
-        next = λ it is. subst (λ (d : Dirs). IsNextUnopened trees d so.reached so.more it) (sym (map_dirs_eq ds)) (so.next it is);
-        lookups = so.lookups;
-        at_most_unopened = subst (λ (d : Dirs). length (so.looked_up ++ so.failed_lookup) ≤ unopened_count trees d path)
-            (sym (map_dirs_eq ds)) so.at_most_unopened;
+        stays = opens_keeps_open_lists trees part.reached (map_dirs ds) (map_dirs ds') part.looked_up part.opens;
         rest = refl;
         is_opened = map_is_opened ds' (is_opened_of_opens trees so.reached (dirs_of ds) (dirs_of ds') so.looked_up so.opens was.opened);
-        files = λ T k agrees. opens_keeps_files T trees agrees so.reached (map_dirs ds) (map_dirs ds') so.looked_up opened k;
+        files = λ T k agrees. opens_keeps_files T trees agrees part.reached (map_dirs ds) (map_dirs ds') part.looked_up part.opens k;
         has_bases = λ T agrees has. opened_based T trees hash (map_dirs ds) (map_bases ds) (map_dirs ds') (map_bases ds')
-            (map_is_opened_on ds was) agrees has so.reached so.looked_up opened (only_opened_bases_of_map ds ds' first);
+            (map_is_opened_on ds was) agrees has part.reached part.looked_up part.opens (only_opened_bases_of_map ds ds' first);
       }
 
   pub stay_at : (model : StoreModel S) (it : NotLookedUp) (ds ds' : Opened) (n m : ℕ) (old : State S) → made ds n ≡ old → (path : Path) (failure : Error)

@@ -139,8 +139,8 @@ module _ (T : Table) (pairs : List Pair) (known : AgreesWithPairs T pairs) where
     plain_failed model path failure h = (
       h.is_opened,
       carried (open_dirs new) (opened_bases (open_dirs old) (open_dirs new) (open_bases old)) (open_dirs new) (open_bases new) (λ at. refl) h.bases
-          (everywhere_opened (Plain pairs) trees (null_id old.object_hash) (plain_lasts T pairs known trees (null_id old.object_hash) agrees) h.reached
-          (open_dirs old) (open_dirs new) h.looked_up h.opens (open_bases old) holds.1),
+          (everywhere_opened (Plain pairs) trees (null_id old.object_hash) (plain_lasts T pairs known trees (null_id old.object_hash) agrees) h.opening.reached
+          (open_dirs old) (open_dirs new) h.opening.looked_up h.opening.opens (open_bases old) holds.1),
     )
 
   -- the emitted pairs are of these pairs, and the trees of the open directories are built up from them

@@ -139,7 +139,8 @@ pub record IsUpserted {S : Type 0} (trees : Trees) (old : State S) (path : Path)
       → HasBases T (open_dirs new) (open_bases new)
 
 -- the directories on a path are opened in part: those on a prefix of it, and no other. At most the next one was looked
--- up without success, as the error says
+-- up without success, as the error says. Each lookup is counted; there are at most as many as unopened directories
+-- above the path
 pub record OpensInPart (StopsBefore : EntryView → Type 0) (objects : Objects) (may_fail : ObjectId → Bool)
     (trees : Trees) (path : Path) (old new : Dirs) (before after : ℕ) (failure : Error) : Type 0 where
   pub reached : Path
@@ -153,25 +154,15 @@ pub record OpensInPart (StopsBefore : EntryView → Type 0) (objects : Objects) 
   pub lookups : after ≡ counted before (looked_up ++ failed_lookup)
   pub at_most_unopened : length (looked_up ++ failed_lookup) ≤ unopened_count trees old path
 
--- the effect of an edit that fails with this error: the directories on a prefix of the path are opened, and no other.
--- At most the next one was looked up without success, as the error says. An open directory is still open, with its
--- entries. Each lookup is counted; there are at most as many as unopened directories above the path. The files and the
--- rest are unchanged
+-- the effect of an edit that fails with this error: directories on the path are opened in part. An open directory is
+-- still open, with its entries. The files and the rest are unchanged
 pub record IsAfterFailedEdit {S : Type 0} (model : StoreModel S) (trees : Trees) (old : State S) (path : Path)
     (failure : Error) (new : State S) : Type 0 where
   pub not_looked_up : NotLookedUp
-  pub reached : Path
-  pub more : Path
-  pub on_the_way : path ≡ reached ++ more
-  pub looked_up : List ObjectId
-  pub opens : Opens (EndsBefore not_looked_up) trees reached (open_dirs old) (open_dirs new) looked_up
+  pub opening : OpensInPart (EndsBefore not_looked_up) (model.objects old.store) (model.may_fail old.store) trees path
+      (open_dirs old) (open_dirs new) old.lookups new.lookups failure
   pub bases : (at : Path) → open_bases new at ≡ opened_bases (open_dirs old) (open_dirs new) (open_bases old) at
   pub stays : (at : Path) (entries : List EntryView) → open_dirs old at ≡ Some entries → open_dirs new at ≡ Some entries
-  pub failed_lookup : List ObjectId
-  pub cause : IsErrorAfterLookup (model.objects old.store) (model.may_fail old.store) failed_lookup failure
-  pub next : (it : ObjectId) → failed_lookup ≡ it ∷ [] → IsNextUnopened trees (open_dirs old) reached more it
-  pub lookups : new.lookups ≡ raised old.lookups (length (looked_up ++ failed_lookup))
-  pub at_most_unopened : length (looked_up ++ failed_lookup) ≤ unopened_count trees (open_dirs old) path
   pub rest : new ≡ record old { dirs = new.dirs; bases = new.bases; lookups = new.lookups }
   pub is_opened : IsOpened (open_dirs new)
   pub files : (T : Table) (n : ℕ) → AgreesWithStore T trees → SameFiles (EditorFiles T n new) (EditorFiles T n old)
