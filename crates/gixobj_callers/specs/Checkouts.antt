@@ -4,7 +4,7 @@ use Rattle.gix_object.specs.Entries.{Pair, EntryView}
 use Rattle.gix_object.specs.Calls.{names_of}
 use Rattle.gix_object.specs.Cursors.{IsEnsured, IsCursorError, IsCursorEditError, from_root}
 use Rattle.gix_object.specs.Files.{Path}
-use Rattle.gix_object.specs.Emitting.{Stopped}
+use Rattle.gix_object.specs.Emitting.{IsWriteError}
 use Rattle.gix_object.specs.Emission.{EmitsSome}
 use Rattle.gix_object.specs.History.{Step, ensure, upsert}
 use Rattle.gix_object.specs.Mode.{mode_of_kind}
@@ -86,4 +86,4 @@ module _ {S : Type 0} (model : StoreModel S) where
   IsCheckoutError old prefix entries gave denied out (checkout.Edit error) = IsNotFilled old prefix entries error
   IsCheckoutError {F} old prefix entries gave denied out (checkout.Write error) = (filled : State S) × (last : F)
       × IsFilled old prefix entries filled
-      × Stopped gave denied (EmitsSome (open_dirs filled) (open_bases filled)) out last error
+      × IsWriteError gave denied (EmitsSome (open_dirs filled) (open_bases filled)) out last error

@@ -6,7 +6,7 @@ use Rattle.gix_object.specs.Stores.{StoreModel, Objects}
 use Rattle.gix_object.specs.Openings.{OfTrees, NamesMalformed, NamesTree}
 use Rattle.gix_object.specs.Existing.{IsEmptyId, NamesSuch, IsFindObjectError}
 use Rattle.gix_object.specs.Files.{Path}
-use Rattle.gix_object.specs.Emitting.{Stopped}
+use Rattle.gix_object.specs.Emitting.{IsWriteError}
 use Rattle.gix_object.specs.Emission.{EmitsSome}
 use Rattle.gix_object.specs.Hash.{id_kind}
 use Rattle.gix_object.specs.State.{State, open_bases, open_dirs, root_alone}
@@ -85,4 +85,4 @@ module _ {S : Type 0} (model : StoreModel S) (store : S) (root_id : ObjectId) (p
   IsPlanError gave denied out (plan.Root error) = IsRootError (model.objects store) (model.may_fail store) root_id error
   IsPlanError gave denied out (plan.Edit error) = IsNotInserted error
   IsPlanError {F} gave denied out (plan.Write error) = (edited : State S) × (last : F) × IsInserted edited
-      × Stopped gave denied (EmitsSome (open_dirs edited) (open_bases edited)) out last error
+      × IsWriteError gave denied (EmitsSome (open_dirs edited) (open_bases edited)) out last error

@@ -1,7 +1,7 @@
 //! A planner of uploads, which returns the trees of an editor's files that a store lacks.
 ghost use Rattle.std.specs.Prelude.{◌≡◌, IfErr, IfOk, OnErr};
 ghost use Rattle.gix_object.specs.Calls.{answered, denied, IsCallableOnTrees};
-ghost use Rattle.gix_object.specs.Emitting.{Stopped};
+ghost use Rattle.gix_object.specs.Emitting.{IsWriteError};
 ghost use Rattle.gix_object.specs.Emission.{EmitsSome};
 ghost use Rattle.gix_object.specs.State.{open_bases, open_dirs};
 ghost use Rattle.gix_object.specs.Writes.{IsWrittenEditor};
@@ -49,7 +49,7 @@ pub fn upload_of<S, E, F: FnMut(&Tree) -> Result<ObjectId, E>>(
     ensures complete { IfOk result (IsEnough editor.old) }
     ensures written { IfOk result (λ it. IsWrittenEditor (answered F.FnMut) out.old editor.old
         (record { id = it.id; trees = it.trees; saved = it.unchanged }) editor.new out.new) }
-    ensures error { IfErr result (Stopped (answered F.FnMut) (denied F.FnMut)
+    ensures error { IfErr result (IsWriteError (answered F.FnMut) (denied F.FnMut)
         (EmitsSome (open_dirs editor.old) (open_bases editor.old)) out.old out.new) }
     ensures unchanged { OnErr result (editor.new ≡ editor.old) }
 {

@@ -18,7 +18,7 @@ use Rattle.gixobj_directories.specs.Calls.{IsCallableOnTrees, IsStorable}
 use Rattle.gixobj_files.specs.Editing.{same_name}
 use Rattle.gixobj_files.specs.Edits.{raised}
 use Rattle.gixobj_files.specs.Files.{Path, is_null}
-use Rattle.gixobj_directories.specs.Emitting.{Stopped, EmitsEntry, child_side}
+use Rattle.gixobj_directories.specs.Emitting.{IsWriteError, EmitsEntry, child_side}
 use Rattle.gixobj_hash.specs.declared.hash.object_id.ObjectId.TheVariants.{Sha1}
 use Rattle.gixobj_files.specs.Emission.{EmitsSome, EmitsBelow, EmitsEntries, left_out_if_empty, end, entry_unless_null, of_entries, unopened, unchanged, written}
 use Rattle.gixobj_directories.specs.Nested.{Level, Opened, at_side, bases_of, dirs_of}
@@ -137,22 +137,30 @@ pub stopped_after_folds : {F E : Type 0} (gave : F → Pair → F → Type 0) (r
     (old mid new : F)
     (ps : List Pair)
     → FoldsTo gave old ps mid → ((qs : List Pair) → P qs → (more : List Pair) × Q (ps ++ (qs ++ more))) → (error : WriteError E)
-    → Stopped gave rejected P mid new error → Stopped gave rejected Q old new error
-stopped_after_folds gave rejected P Q old mid new ps calls goes (write.Out e) s = (
-  ps ++ s.0,
-  s.1,
-  s.2,
-  folds_to_append gave old ps mid s.0 s.2 calls s.3,
-  s.4,
-  λ id. let one = s.5 id in let more = goes (s.0 ++ (id, s.1) ∷ one.0) one.1 in (one.0 ++ more.0, subst Q (joined s.0 (id, s.1) one.0 more.0) more.1),
-)
+    → IsWriteError gave rejected P mid new error → IsWriteError gave rejected Q old new error
+stopped_after_folds gave rejected P Q old mid new ps calls goes (write.Out e) s = record {
+  before = ps ++ s.before;
+  tree = s.tree;
+  between = s.between;
+  called = folds_to_append gave old ps mid s.before s.between calls s.called;
+  failed = s.failed;
+  emitted = λ id.
+      let one = s.emitted id in
+      let more = goes (s.before ++ (id, s.tree) ∷ one.0) one.1 in
+      (one.0 ++ more.0, subst Q (joined s.before (id, s.tree) one.0 more.0) more.1);
+}
   where
     joined : (before : List Pair) (pair : Pair) (rest more : List Pair)
         → ps ++ ((before ++ pair ∷ rest) ++ more) ≡ (ps ++ before) ++ pair ∷ (rest ++ more)
     joined before pair rest more = rw (append_assoc, append_assoc) refl
 stopped_after_folds gave rejected P Q old mid new ps calls goes write.OutOfMemory s =
-    let more = goes (s.0 ++ s.1) s.3 in
-    (ps ++ s.0, s.1 ++ more.0, folds_to_append gave old ps mid s.0 new calls s.2, subst Q (joined s.0 s.1 more.0) more.1)
+    let more = goes (s.before ++ s.rest) s.emitted in
+    record {
+      before = ps ++ s.before;
+      rest = s.rest ++ more.0;
+      called = folds_to_append gave old ps mid s.before new calls s.called;
+      emitted = subst Q (joined s.before s.rest more.0) more.1;
+    }
   where
     joined : (before rest more : List Pair) → ps ++ ((before ++ rest) ++ more) ≡ (ps ++ before) ++ (rest ++ more)
     joined before rest more = rw (append_assoc, append_assoc) refl
@@ -161,8 +169,9 @@ stopped_after_folds gave rejected P Q old mid new ps calls goes write.OutOfMemor
 pub stopped_at_call : {F E : Type 0} (gave : F → Pair → F → Type 0) (rejected : F → List EntryView → E → F → Type 0) (Q : List Pair → Type 0)
     (old new : F)
     (ps rest : List Pair)
-    → FoldsTo gave old ps new → Q (ps ++ rest) → (error : WriteError E) → error ≡ write.OutOfMemory → Stopped gave rejected Q old new error
-stopped_at_call {F} {E} gave rejected Q old new ps rest calls goes error is = subst (Stopped gave rejected Q old new) (sym is) (ps, rest, calls, goes)
+    → FoldsTo gave old ps new → Q (ps ++ rest) → (error : WriteError E) → error ≡ write.OutOfMemory → IsWriteError gave rejected Q old new error
+stopped_at_call {F} {E} gave rejected Q old new ps rest calls goes error is = subst (IsWriteError gave rejected Q old new) (sym is)
+    (record { before = ps; rest = rest; called = calls; emitted = goes })
 
 -- directories whose paths are of bounded length emit some list
 pub walk_exists : (n : ℕ) (dirs bases : Dirs) → ((path : Path) → n ≤ length path → dirs path ≡ None) → (entries : List EntryView) → (below : List Pair)
@@ -333,12 +342,12 @@ walks_at_end dirs bases items i ps acc count high so_far =
 pub emits_some_append : (dirs bases : Dirs) (below : List Pair) (own : List EntryView) (saved : ℕ) → EmitsBelow dirs bases below own saved
     → (more : List Pair)
     × EmitsSome dirs bases (below ++ more)
-emits_some_append dirs bases below own saved found = ((Sha1 [], own) ∷ [], (saved, below, Sha1 [], own, found, refl))
+emits_some_append dirs bases below own saved found = ((Sha1 [], own) ∷ [], (raised 0 saved, (below, Sha1 [], own, (saved, found, refl), refl)))
 
 -- a write that stops does so in equal open directories
 pub stopped_of_same_dirs : {F E : Type 0} (gave : F → Pair → F → Type 0) (rejected : F → List EntryView → E → F → Type 0) (dirs dirs' bases bases' : Dirs)
     → dirs ≡ dirs' → bases ≡ bases' → (old new : F) (error : WriteError E)
-    → Stopped gave rejected (EmitsSome dirs bases) old new error → Stopped gave rejected (EmitsSome dirs' bases') old new error
+    → IsWriteError gave rejected (EmitsSome dirs bases) old new error → IsWriteError gave rejected (EmitsSome dirs' bases') old new error
 stopped_of_same_dirs gave rejected dirs dirs' bases bases' same same_bases old new error stopped =
-    subst (λ (b : Dirs). Stopped gave rejected (EmitsSome dirs' b) old new error) same_bases
-    (subst (λ (d : Dirs). Stopped gave rejected (EmitsSome d bases) old new error) same stopped)
+    subst (λ (b : Dirs). IsWriteError gave rejected (EmitsSome dirs' b) old new error) same_bases
+    (subst (λ (d : Dirs). IsWriteError gave rejected (EmitsSome d bases) old new error) same stopped)

@@ -1,4 +1,4 @@
--- A write of open directories: which one is next, what one entry emits, and where a write stops.
+-- A write of open directories: which one is next, what one entry emits, and the errors of a write.
 use Rattle.std.specs.Prelude.{◌≡◌, ◌+◌, ℕ, List, [], ◌∷◌, ◌++◌, Option, Some, None, if◌then◌else◌}
 use Rattle.std.specs.List.{FoldsTo}
 use Rattle.gixobj_tree.specs.Entries.{EntryView, Pair}
@@ -26,16 +26,29 @@ abbrev pub entry_if_some : EntryView → Option ObjectId → List EntryView
 entry_if_some e None = []
 entry_if_some e (Some id) = entry_unless_null e id
 
--- a write stopped with an error; `out` returned ids for a prefix of the emitted pairs, and then an error for the next
--- tree, or an allocation failed
-abbrev pub Stopped : {F E : Type 0} → (F → Pair → F → Type 0) → (F → List EntryView → E → F → Type 0)
+-- `out` returned ids for a prefix of the emitted pairs, and then this error for the next tree
+pub record IsOutError {F E : Type 0} (gave : F → Pair → F → Type 0) (denies : F → List EntryView → E → F → Type 0)
+    (EmitsPairs : List Pair → Type 0) (old new : F) (error : E) : Type 0 where
+  pub before : List Pair
+  pub tree : List EntryView
+  pub between : F
+  pub called : FoldsTo gave old before between
+  pub failed : denies between tree error new
+  pub emitted : (id : ObjectId) → (rest : List Pair) × EmitsPairs (before ++ (id, tree) ∷ rest)
+
+-- `out` returned ids for a prefix of the emitted pairs, and then an allocation failed
+pub record IsMemoryError {F : Type 0} (gave : F → Pair → F → Type 0) (EmitsPairs : List Pair → Type 0)
+    (old new : F) : Type 0 where
+  pub before : List Pair
+  pub rest : List Pair
+  pub called : FoldsTo gave old before new
+  pub emitted : EmitsPairs (before ++ rest)
+
+-- the error of a write that would emit such pairs: one of `out`, or out of memory
+abbrev pub IsWriteError : {F E : Type 0} → (F → Pair → F → Type 0) → (F → List EntryView → E → F → Type 0)
     → (List Pair → Type 0) → F → F → WriteError E → Type 0
-Stopped {F} gave rejected EmitsPairs old new (write.Out e) =
-    (before : List Pair) × (tree : List EntryView) × (state : F) × FoldsTo gave old before state
-    × rejected state tree e new
-    × ((id : ObjectId) → (rest : List Pair) × EmitsPairs (before ++ (id, tree) ∷ rest))
-Stopped {F} gave rejected EmitsPairs old new write.OutOfMemory = (before rest : List Pair) × FoldsTo gave old before new
-    × EmitsPairs (before ++ rest)
+IsWriteError gave denies EmitsPairs old new (write.Out error) = IsOutError gave denies EmitsPairs old new error
+IsWriteError gave denies EmitsPairs old new write.OutOfMemory = IsMemoryError gave EmitsPairs old new
 
 -- the first of these open directories, if it has this name
 abbrev pub next_child : List ℕ → List Child → Option Child

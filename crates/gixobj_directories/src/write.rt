@@ -11,7 +11,7 @@ ghost use Rattle.gixobj_files.specs.Files.{Path, is_null};
 ghost use Rattle.gixobj_files.specs.Emission.{EmitsSome, EmitsBelow, Saves};
 ghost use Rattle.gixobj_files.specs.Opening.{in_path};
 ghost use Rattle.gixobj_directories.specs.Calls.{IsCallableOnTrees, IsStorable, names_of, answered, denied};
-ghost use Rattle.gixobj_directories.specs.Emitting.{Stopped, EmitsEntry, pairs_after_next, child_side, entry_if_some, next_child};
+ghost use Rattle.gixobj_directories.specs.Emitting.{IsWriteError, EmitsEntry, pairs_after_next, child_side, entry_if_some, next_child};
 ghost use Rattle.gixobj_directories.specs.Nested.{base_side, bases_of, dirs_of, entries_side, opened};
 ghost use Rattle.gixobj_files.specs.WrittenTrees.{SharesBase, so_far};
 ghost use Rattle.gixobj_files.specs.FilteredTrees.{IsFilteredTree};
@@ -97,7 +97,7 @@ fn emit_below<E, F: FnMut(&Tree) -> Result<ObjectId, E>>(
         × Adds pairs.old.items pairs.new.items (leaf_trees (inside_of node.now)) below
         × FoldsTo (answered F.FnMut) out.old below out.new) }
     ensures storable { IfOk result (λ own. IsStorable (so_far base.now own)) }
-    ensures error { IfErr result (Stopped (answered F.FnMut) (denied F.FnMut)
+    ensures error { IfErr result (IsWriteError (answered F.FnMut) (denied F.FnMut)
         (λ ps. (own : List EntryView) × (count : ℕ)
         × EmitsBelow (dirs_of node.now) (bases_of node.now) ps own count) out.old out.new) }
 {
@@ -143,7 +143,7 @@ fn emit_entry<E, F: FnMut(&Tree) -> Result<ObjectId, E>>(
         (entry_if_some entry.now id) count × (saved.new ≡ raised saved.old count)
         × Adds pairs.old.items pairs.new.items (child_leaf_trees (option_copied child.entry)) inner
         × FoldsTo (answered F.FnMut) out.old inner out.new) }
-    ensures error { IfErr result (Stopped (answered F.FnMut) (denied F.FnMut)
+    ensures error { IfErr result (IsWriteError (answered F.FnMut) (denied F.FnMut)
         (λ inner. (kept : List EntryView) × (count : ℕ)
         × EmitsEntry (child_side entries_side (option_copied child.entry))
         (child_side base_side (option_copied child.entry)) entry.now inner kept count) out.old
@@ -188,7 +188,7 @@ fn emit_below_copied<E, F: FnMut(&Tree) -> Result<ObjectId, E>>(
         × FoldsTo (answered F.FnMut) out.old below out.new) }
     ensures storable { IfOk result (λ it. IsStorable it.0) }
     ensures is_at { IfOk result (λ it. IsTrue it.1 → dirs_of node.now [] ≡ Some it.0) }
-    ensures error { IfErr result (Stopped (answered F.FnMut) (denied F.FnMut)
+    ensures error { IfErr result (IsWriteError (answered F.FnMut) (denied F.FnMut)
         (λ ps. (own : List EntryView) × (count : ℕ)
         × EmitsBelow (dirs_of node.now) (bases_of node.now) ps own count) out.old out.new) }
 {
@@ -233,7 +233,7 @@ fn emit_tree<E, F: FnMut(&Tree) -> Result<ObjectId, E>>(
     requires storable { IsStorable tree }
     ensures emitted { IfOk result (λ id. (pairs.new.items ≡ pairs.old.items ++ (id, tree) ∷ [])
         × CalledAt F.FnMut out.old tree (Ok id) out.new) }
-    ensures error { IfErr result (Stopped (answered F.FnMut) (denied F.FnMut)
+    ensures error { IfErr result (IsWriteError (answered F.FnMut) (denied F.FnMut)
         (λ ps. (id : ObjectId) × (ps ≡ (id, tree) ∷ [])) out.old out.new) }
 {
     let id = emit(&tree, out, pairs)?;
@@ -252,7 +252,7 @@ fn emit_leaf_tree<E, F: FnMut(&Tree) -> Result<ObjectId, E>>(
     requires storable { IsStorable tree.now }
     ensures emitted { IfOk result (λ id. (pairs.new.items ≡ pairs.old.items ++ (id, []) ∷ [])
         × CalledAt F.FnMut out.old tree.now (Ok id) out.new) }
-    ensures error { IfErr result (Stopped (answered F.FnMut) (denied F.FnMut)
+    ensures error { IfErr result (IsWriteError (answered F.FnMut) (denied F.FnMut)
         (λ ps. (id : ObjectId) × (ps ≡ (id, tree.now) ∷ [])) out.old out.new) }
 {
     let id = emit(tree, out, pairs)?;
@@ -271,7 +271,7 @@ fn emit<E, F: FnMut(&Tree) -> Result<ObjectId, E>>(
     ensures emitted { IfOk result (λ id. CalledAt F.FnMut out.old tree.now (Ok id) out.new) }
     ensures has_capacity { OnOk result (vec_len pairs.new < vec_capacity pairs.new) }
     ensures items { pairs.new.items ≡ pairs.old.items }
-    ensures error { IfErr result (Stopped (answered F.FnMut) (denied F.FnMut)
+    ensures error { IfErr result (IsWriteError (answered F.FnMut) (denied F.FnMut)
         (λ ps. (id : ObjectId) × (ps ≡ (id, tree.now) ∷ [])) out.old out.new) }
 {
     pairs.reserve(1)?;
@@ -349,7 +349,7 @@ pub fn write_all<E, F: FnMut(&Tree) -> Result<ObjectId, E>>(
     ensures bases { OnOk result ((at : Path)
         → bases_of node.new at ≡ edited_bases (dirs_of node.old) (dirs_of node.new)
         (bases_of node.old) at) }
-    ensures error { IfErr result (Stopped (answered F.FnMut) (denied F.FnMut)
+    ensures error { IfErr result (IsWriteError (answered F.FnMut) (denied F.FnMut)
         (EmitsSome (dirs_of node.old) (bases_of node.old)) out.old out.new) }
     ensures unchanged { OnErr result (node.new ≡ node.old) }
 {
@@ -410,7 +410,7 @@ pub fn write_at<E, F: FnMut(&Tree) -> Result<ObjectId, E>>(
     ensures bases { OnOk result ((at : Path)
         → bases_of node.new at ≡ edited_bases (dirs_of node.old) (dirs_of node.new)
         (bases_of node.old) at) }
-    ensures error { IfErr result (Stopped (answered F.FnMut) (denied F.FnMut)
+    ensures error { IfErr result (IsWriteError (answered F.FnMut) (denied F.FnMut)
         (EmitsSome (in_path (names_of path.now) (dirs_of node.old))
         (in_path (names_of path.now) (bases_of node.old))) out.old out.new) }
     ensures unchanged { OnErr result (node.new ≡ node.old) }

@@ -5,7 +5,7 @@ use Rattle.std.specs.Fn.{Called, CalledAt, FnReturnsAt, Mut, Shared}
 use Rattle.std.specs.List.{FoldsTo}
 use denote.Ref.{Bor}
 use Rattle.gixobj_directories.specs.Calls.{IsCallableOnTrees, IsStorable}
-use Rattle.gixobj_directories.specs.Emitting.{Stopped}
+use Rattle.gixobj_directories.specs.Emitting.{IsWriteError}
 use Rattle.gixobj_directories.specs.declared.write.Written.{Written}
 use Rattle.gixobj_directories.specs.declared.write.WriteError.{WriteError}
 use Rattle.gixobj_directories.specs.declared.write.WriteError.TheVariants as write
@@ -97,10 +97,18 @@ module _ {F E : Type 0} (of : Shared F (Bor (List EntryView) × Unit {0}) (Resul
     has_bases = wrote.has_bases;
   }
 
-  pub stopped : (EmitsPairs : List Pair → Type 0) (error : WriteError E) → (last : Bor F) × Stopped (λ f p g. CalledAt lent f p.1 (Ok p.0) g)
+  pub stopped : (EmitsPairs : List Pair → Type 0) (error : WriteError E) → (last : Bor F) × IsWriteError (λ f p g. CalledAt lent f p.1 (Ok p.0) g)
       (λ f t e g. CalledAt lent f t (Err e) g) EmitsPairs out last error → AreCalls
-      → Stopped (ReturnsTreeId answers) (Denies answers) EmitsPairs tt tt error
-  stopped EmitsPairs (write.Out e) (last, (before, tree, between, folded, one, goes)) calls =
-      let so_far = folds out before between refl folded calls in
-      (before, tree, tt, so_far.0, (answered_so between last tree (Err e) so_far.1 one calls).1, goes)
-  stopped EmitsPairs write.OutOfMemory (last, (before, rest, folded, goes)) calls = (before, rest, (folds out before last refl folded calls).0, goes)
+      → IsWriteError (ReturnsTreeId answers) (Denies answers) EmitsPairs tt tt error
+  stopped EmitsPairs (write.Out e) (last, is) calls =
+      let so_far = folds out is.before is.between refl is.called calls in
+      record {
+        before = is.before;
+        tree = is.tree;
+        between = tt;
+        called = so_far.0;
+        failed = (answered_so is.between last is.tree (Err e) so_far.1 is.failed calls).1;
+        emitted = is.emitted;
+      }
+  stopped EmitsPairs write.OutOfMemory (last, is) calls =
+      record { before = is.before; rest = is.rest; called = (folds out is.before last refl is.called calls).0; emitted = is.emitted }

@@ -8,7 +8,7 @@ use Rattle.gixobj_editor.specs.declared.command.Edit.{Edit}
 use Rattle.gixobj_editor.specs.declared.command.Edit.TheVariants as edit
 use Rattle.gixobj_store.specs.Stores.{StoreModel, Objects}
 use Rattle.gixobj_directories.specs.Calls.{IsStorable, names_of}
-use Rattle.gixobj_directories.specs.Emitting.{Stopped}
+use Rattle.gixobj_directories.specs.Emitting.{IsWriteError}
 use Rattle.gixobj_directories.specs.declared.write.WriteError.{WriteError}
 use Rattle.gixobj_directories.specs.declared.write.Written.{Written}
 use Rattle.gixobj_editor.specs.Cursors.{IsEnsured, IsWrittenBelow, IsCursorError, IsCursorEditError, cursor_path}
@@ -92,10 +92,10 @@ pub record IsWriteKept {S : Type 0} (model : StoreModel S) (Writes : State S →
 abbrev pub KeepsAll : List Pair → Objects → Objects → Type 0
 KeepsAll pairs before after = (after ≡ with_trees pairs before) × All (λ pair. IsEncodableTree pair.1) pairs
 
--- the effect of a failed write: it stopped at an error of the closure or for memory, and the editor is unchanged
+-- the effect of a failed write, and its cause: the editor is unchanged
 pub record IsFailedWrite {S E : Type 0} (answers : Answers E) (place : Place) (old : State S) (error : WriteError E)
     (new : State S) : Type 0 where
-  pub stopped : Stopped (ReturnsTreeId answers) (Denies answers)
+  pub cause : IsWriteError (ReturnsTreeId answers) (Denies answers)
       (EmitsSome (dirs_at place (open_dirs old)) (dirs_at place (open_bases old))) tt tt error
   pub unchanged : new ≡ old
 

@@ -14,7 +14,7 @@ ghost use Rattle.gixobj_files.specs.Bases.{HasBases};
 ghost use Rattle.gixobj_files.specs.State.{EditorFiles, open_bases, open_dirs, root_alone, with_store};
 ghost use Rattle.gixobj_files.specs.Emission.{EmitsSome};
 ghost use Rattle.gixobj_directories.specs.Calls.{IsCallableOnTrees, answered, denied, names_of};
-ghost use Rattle.gixobj_directories.specs.Emitting.{Stopped};
+ghost use Rattle.gixobj_directories.specs.Emitting.{IsWriteError};
 ghost use Rattle.gixobj_editor.specs.Writes.{IsWrittenEditor};
 ghost use Rattle.gixobj_directories.specs.Openings.{OfTrees};
 ghost use Rattle.gixobj_editor.specs.Upserts.{IsNameError, IsFailedEditIn, IsUpserted, IsErrorIn, IsUpsertError, StartsInvalid};
@@ -449,7 +449,7 @@ impl<S> Editor<S> {
         ensures written { IfOk result (λ it. (last : F)
             × IsWrittenEditor (answered F.FnMut) out self.old it self.new last) }
         ensures error { IfErr result (λ error. (last : F)
-            × Stopped (answered F.FnMut) (denied F.FnMut)
+            × IsWriteError (answered F.FnMut) (denied F.FnMut)
             (EmitsSome (open_dirs self.old) (open_bases self.old)) out last error) }
         ensures unchanged { OnErr result (self.new ≡ self.old) }
     {
@@ -489,7 +489,7 @@ impl<S> Editor<S> {
         requires { IsCallableOnTrees F.pre (answered F.FnMut) out.old }
         ensures written { IfOk result (λ it.
             IsWrittenEditor (answered F.FnMut) out.old self.old it self.new out.new) }
-        ensures error { IfErr result (Stopped (answered F.FnMut) (denied F.FnMut)
+        ensures error { IfErr result (IsWriteError (answered F.FnMut) (denied F.FnMut)
             (EmitsSome (open_dirs self.old) (open_bases self.old)) out.old out.new) }
         ensures unchanged { OnErr result (self.new ≡ self.old) }
     {

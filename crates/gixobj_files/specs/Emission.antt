@@ -59,5 +59,4 @@ Emits dirs bases saved pairs = (below : List Pair) × (id : ObjectId) × (own : 
 
 -- a write of these directories emits these pairs, for some number of unchanged directories
 abbrev pub EmitsSome : Dirs → Dirs → List Pair → Type 0
-EmitsSome dirs bases pairs = (count : ℕ) × (below : List Pair) × (id : ObjectId) × (own : List EntryView)
-    × EmitsBelow dirs bases below own count × (pairs ≡ below ++ (id, own) ∷ [])
+EmitsSome dirs bases pairs = (saved : ℕ) × Emits dirs bases saved pairs

@@ -3,7 +3,7 @@ use Rattle.std.proofs.Common.{◌≡◌, ◌∙◌, List, [], ◌∷◌, Err, Ok
 use Rattle.std.specs.Fn.{Called, CalledAt, Mut}
 use Rattle.std.specs.List.{FoldsTo}
 use denote.Ref.{Bor}
-use Rattle.gixobj_directories.specs.Emitting.{Stopped}
+use Rattle.gixobj_directories.specs.Emitting.{IsWriteError}
 use Rattle.gixobj_directories.specs.declared.write.WriteError.{WriteError}
 use Rattle.gixobj_directories.specs.declared.write.WriteError.TheVariants as write
 use Rattle.gixobj_directories.specs.declared.write.Written.{Written}
@@ -50,10 +50,18 @@ module _ {F : Type 0} (hash : hash.Kind) (of : Mut F (Bor (List EntryView) × Un
     has_bases = wrote.has_bases;
   }
 
-  pub stopped : (EmitsPairs : List Pair → Type 0) (error : WriteError encode.Error) → (last : F) × Stopped (λ f p g. CalledAt of f p.1 (Ok p.0) g)
+  pub stopped : (EmitsPairs : List Pair → Type 0) (error : WriteError encode.Error) → (last : F) × IsWriteError (λ f p g. CalledAt of f p.1 (Ok p.0) g)
       (λ f t e g. CalledAt of f t (Err e) g) EmitsPairs out last error
-      → Stopped (ReturnsTreeId (IsDigestResult hash)) (Denies (IsDigestResult hash)) EmitsPairs tt tt error
-  stopped EmitsPairs (write.Out e) (last, (before, tree, between, folded, one, goes)) =
-      let so_far = folds out between before refl folded in
-      (before, tree, tt, so_far.0, (answered_so between last tree (Err e) so_far.1 one).0, goes)
-  stopped EmitsPairs write.OutOfMemory (last, (before, rest, folded, goes)) = (before, rest, (folds out last before refl folded).0, goes)
+      → IsWriteError (ReturnsTreeId (IsDigestResult hash)) (Denies (IsDigestResult hash)) EmitsPairs tt tt error
+  stopped EmitsPairs (write.Out e) (last, is) =
+      let so_far = folds out is.between is.before refl is.called in
+      record {
+        before = is.before;
+        tree = is.tree;
+        between = tt;
+        called = so_far.0;
+        failed = (answered_so is.between last is.tree (Err e) so_far.1 is.failed).0;
+        emitted = is.emitted;
+      }
+  stopped EmitsPairs write.OutOfMemory (last, is) =
+      record { before = is.before; rest = is.rest; called = (folds out last is.before refl is.called).0; emitted = is.emitted }

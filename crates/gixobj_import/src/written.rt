@@ -1,6 +1,6 @@
 //! The write after the edits of a step: the id of each tree is the digest of its encoding.
 ghost use Rattle.std.specs.Prelude.{◌≡◌, ◌∷◌, [], Contains, IfErr, IfOk, OnErr};
-ghost use Rattle.gixobj_directories.specs.Emitting.{Stopped};
+ghost use Rattle.gixobj_directories.specs.Emitting.{IsWriteError};
 ghost use Rattle.gixobj_editor.specs.Writes.{IsWrittenEditor};
 ghost use Rattle.gixobj_files.specs.Emission.{EmitsSome};
 ghost use Rattle.gixobj_files.specs.State.{open_bases, open_dirs};
@@ -92,7 +92,7 @@ fn write_by_digests<S>(
     ensures written { IfOk result (λ it.
         IsWrittenEditor (ReturnsTreeId (IsDigestResult hash)) tt editor.old it editor.new tt) }
     ensures error { IfErr result (λ error.
-        Stopped (ReturnsTreeId (IsDigestResult hash)) (Denies (IsDigestResult hash))
+        IsWriteError (ReturnsTreeId (IsDigestResult hash)) (Denies (IsDigestResult hash))
         (EmitsSome (open_dirs editor.old) (open_bases editor.old)) tt tt error) }
     ensures unchanged { OnErr result (editor.new ≡ editor.old) }
 {

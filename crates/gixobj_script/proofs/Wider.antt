@@ -7,7 +7,7 @@ use Rattle.gixobj_editor.specs.declared.command.Edit.{Edit}
 use Rattle.gixobj_editor.specs.declared.command.Edit.TheVariants as edit
 use Rattle.gixobj_store.specs.Stores.{StoreModel, Objects}
 use Rattle.gixobj_directories.specs.Calls.{names_of}
-use Rattle.gixobj_directories.specs.Emitting.{Stopped}
+use Rattle.gixobj_directories.specs.Emitting.{IsWriteError}
 use Rattle.gixobj_directories.specs.declared.write.WriteError.{WriteError}
 use Rattle.gixobj_directories.specs.declared.write.WriteError.TheVariants as write
 use Rattle.gixobj_directories.specs.declared.write.Written.{Written}
@@ -75,17 +75,24 @@ module _ {S E : Type 0} (model : StoreModel S) (answers wider : Answers E) (with
         may_fail = is.may_fail;
       }
 
-  stopped : (EmitsPairs : List Pair → Type 0) (error : WriteError E) → Stopped (ReturnsTreeId answers) (Denies answers) EmitsPairs tt tt error
-      → Stopped (ReturnsTreeId wider) (Denies wider) EmitsPairs tt tt error
-  stopped EmitsPairs (write.Out cause) (before, tree, requested_hash, folded, one, goes) =
-      (before, tree, requested_hash, folds tt before requested_hash folded, within tree (Err cause) one, goes)
-  stopped EmitsPairs write.OutOfMemory (before, rest, folded, goes) = (before, rest, folds tt before tt folded, goes)
+  stopped : (EmitsPairs : List Pair → Type 0) (error : WriteError E) → IsWriteError (ReturnsTreeId answers) (Denies answers) EmitsPairs tt tt error
+      → IsWriteError (ReturnsTreeId wider) (Denies wider) EmitsPairs tt tt error
+  stopped EmitsPairs (write.Out cause) is =
+      record {
+        before = is.before;
+        tree = is.tree;
+        between = is.between;
+        called = folds tt is.before is.between is.called;
+        failed = within is.tree (Err cause) is.failed;
+        emitted = is.emitted;
+      }
+  stopped EmitsPairs write.OutOfMemory is = record { before = is.before; rest = is.rest; called = folds tt is.before tt is.called; emitted = is.emitted }
 
   failed_write : (place : Place) (old : State S) (error : WriteError E) (new : State S) → IsFailedWrite answers place old error new
       → IsFailedWrite wider place old error new
   failed_write place old error new is =
       record {
-        stopped = stopped (EmitsSome (dirs_at place (open_dirs old)) (dirs_at place (open_bases old))) error is.stopped;
+        cause = stopped (EmitsSome (dirs_at place (open_dirs old)) (dirs_at place (open_bases old))) error is.cause;
         unchanged = is.unchanged;
       }
 

@@ -3,7 +3,7 @@ ghost use Rattle.std.specs.Prelude.{◌≡◌, ◌≢◌, [], IfErr, IfOk, IsOk,
 ghost use Rattle.std.specs.Borrow.{RestsIfErr, sem};
 ghost use Rattle.std.specs.Option.{option_copied};
 ghost use Rattle.gixobj_directories.specs.Calls.{IsCallableOnTrees, answered, denied, names_of};
-ghost use Rattle.gixobj_directories.specs.Emitting.{Stopped};
+ghost use Rattle.gixobj_directories.specs.Emitting.{IsWriteError};
 ghost use Rattle.gixobj_directories.specs.Openings.{OfTrees};
 ghost use Rattle.gixobj_editor.specs.Cursors.{IsEnsured, IsWrittenBelow, IsErrorBelow, IsCursorError, from_root, cursor_path};
 ghost use Rattle.gixobj_editor.specs.Removals.{IsLeafRemoved, IsRemoved, IsLeafRemovalError, IsRemovalError};
@@ -211,7 +211,7 @@ impl<S> Editor<S> {
         ensures written { IfOk result (λ it.
             IsWrittenBelow (answered F.FnMut) out.old self.old self.old.prefix it self.new
             out.new) }
-        ensures error { IfErr result (Stopped (answered F.FnMut) (denied F.FnMut)
+        ensures error { IfErr result (IsWriteError (answered F.FnMut) (denied F.FnMut)
             (EmitsSome (in_path self.old.prefix (open_dirs self.old))
             (in_path self.old.prefix (open_bases self.old))) out.old out.new) }
         ensures unchanged { OnErr result (self.new ≡ self.old) }
@@ -440,7 +440,7 @@ impl<S> Cursor<'_, S> {
             × IsWrittenBelow (answered F.FnMut) out self.old.editor.now self.old.editor.now.prefix
             it self.new.editor.now last) }
         ensures error { IfErr result (λ error. (last : F)
-            × Stopped (answered F.FnMut) (denied F.FnMut)
+            × IsWriteError (answered F.FnMut) (denied F.FnMut)
             (EmitsSome (in_path self.old.editor.now.prefix (open_dirs self.old.editor.now))
             (in_path self.old.editor.now.prefix (open_bases self.old.editor.now))) out last error) }
         ensures unchanged { OnErr result (self.new.editor.now ≡ self.old.editor.now) }
@@ -479,7 +479,7 @@ impl<S> Cursor<'_, S> {
         ensures written { IfOk result (λ it.
             IsWrittenBelow (answered F.FnMut) out.old self.old.editor.now self.old.editor.now.prefix
             it self.new.editor.now out.new) }
-        ensures error { IfErr result (Stopped (answered F.FnMut) (denied F.FnMut)
+        ensures error { IfErr result (IsWriteError (answered F.FnMut) (denied F.FnMut)
             (EmitsSome (in_path self.old.editor.now.prefix (open_dirs self.old.editor.now))
             (in_path self.old.editor.now.prefix (open_bases self.old.editor.now))) out.old
             out.new) }

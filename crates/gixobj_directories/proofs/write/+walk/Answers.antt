@@ -9,7 +9,7 @@ use Rattle.gixobj_tree.specs.Entries.{EntryView, Pair}
 use Rattle.gixobj_tree.specs.WellFormed.{IsWellFormed}
 use Rattle.gixobj_hash.specs.declared.hash.object_id.ObjectId.{ObjectId}
 use Rattle.gixobj_directories.specs.Calls.{IsStorable}
-use Rattle.gixobj_directories.specs.Emitting.{Stopped, EmitsEntry, child_side, entry_if_some, next_child}
+use Rattle.gixobj_directories.specs.Emitting.{IsWriteError, EmitsEntry, child_side, entry_if_some, next_child}
 use Rattle.gixobj_files.specs.Emission.{EmitsBelow, entry_unless_null, of_entries}
 use Rattle.gixobj_directories.specs.Nested.{Opened, base_side, bases_of, below, dirs_of, entries_side, parts}
 use Rattle.gixobj_files.specs.WrittenTrees.{so_far}
@@ -121,7 +121,7 @@ emit_below-returns-in_err-id-clause-error g t c =
     ∙ ap Some (sym c.entries_of-entry-items.ensures) in
     let rest = walk_exists_of_open node (drop (c.loop-entry.entry-index + 1) items) in
     if_err_weaken c.from_residual.result _ _ c.from_residual.ensures.1
-    (λ error is. subst (Stopped (λ f p h. CalledAt g.F.FnMut f p.1 (Ok p.0) h) (λ f tree x h. CalledAt g.F.FnMut f tree (Err x) h)
+    (λ error is. subst (IsWriteError (λ f p h. CalledAt g.F.FnMut f p.1 (Ok p.0) h) (λ f tree x h. CalledAt g.F.FnMut f tree (Err x) h)
     (λ ps. (own : List EntryView) × (n : ℕ) × EmitsBelow dirs bases ps own n) c.args.out.now c.emit_entry.new.out) (sym is)
     (stopped_after_folds (λ f p h. CalledAt g.F.FnMut f p.1 (Ok p.0) h) (λ f tree x h. CalledAt g.F.FnMut f tree (Err x) h)
     (λ inner. (kept : List EntryView) × (n : ℕ) × EmitsEntry inside based e inner kept n)
@@ -268,7 +268,7 @@ emit_entry-returns-in_err-passed-clause-error g t c =
     let found : EmitsBelow inside based [] tree 0 = emits_below_of_both _ _ inside based there base [] tree 0 goes.found in
     let changed : based [] ≢ Some tree = λ is. goes.changed (some_injective _ _ (sym is ∙ sym (ap (λ (d : Dirs). d []) base) ∙ goes.based)) in
     if_err_weaken c.from_residual.result _ _ c.from_residual.ensures.1
-    (λ error is. subst (Stopped (λ f p h. CalledAt g.F.FnMut f p.1 (Ok p.0) h) (λ f tree x h. CalledAt g.F.FnMut f tree (Err x) h)
+    (λ error is. subst (IsWriteError (λ f p h. CalledAt g.F.FnMut f p.1 (Ok p.0) h) (λ f tree x h. CalledAt g.F.FnMut f tree (Err x) h)
     (λ inner. (kept : List EntryView) × (n : ℕ) × EmitsEntry inside based e inner kept n) c.args.out.now c.emit_leaf_tree.new.out) (sym is)
     (stopped_after_folds (λ f p h. CalledAt g.F.FnMut f p.1 (Ok p.0) h) (λ f tree x h. CalledAt g.F.FnMut f tree (Err x) h)
     (λ ps. (id : ObjectId) × (ps ≡ (id, tree) ∷ [])) (λ inner. (kept : List EntryView) × (n : ℕ) × EmitsEntry inside based e inner kept n)
@@ -293,7 +293,7 @@ emit_entry-returns-in_err-own-clause-error g t c =
     let there = side_of_open_child entries_side c.args.child c.in-Some.child c.in-Some.is in
     let base = side_of_open_child base_side c.args.child c.in-Some.child c.in-Some.is in
     if_err_weaken c.from_residual-in_err-own.result _ _ c.from_residual-in_err-own.ensures.1
-    (λ error is. subst (Stopped (λ f p h. CalledAt g.F.FnMut f p.1 (Ok p.0) h) (λ f tree x h. CalledAt g.F.FnMut f tree (Err x) h)
+    (λ error is. subst (IsWriteError (λ f p h. CalledAt g.F.FnMut f p.1 (Ok p.0) h) (λ f tree x h. CalledAt g.F.FnMut f tree (Err x) h)
     (λ inner. (kept : List EntryView) × (n : ℕ) × EmitsEntry inside based e inner kept n) c.args.out.now c.emit_below.new.out) (sym is)
     (stopped_after_folds (λ f p h. CalledAt g.F.FnMut f p.1 (Ok p.0) h) (λ f tree x h. CalledAt g.F.FnMut f tree (Err x) h)
     (λ ps. (own : List EntryView) × (n : ℕ) × EmitsBelow (dirs_of child.open) (bases_of child.open) ps own n)
@@ -392,7 +392,7 @@ emit_entry-returns-in_err-id-clause-error g t c =
     let tree = c.in_ok-tree.tree in
     let made : own ≡ tree = sym c.in_ok-tree.ensures.tree in
     if_err_weaken c.from_residual-in_err-id.result _ _ c.from_residual-in_err-id.ensures.1
-    (λ error is. subst (Stopped (λ f p h. CalledAt g.F.FnMut f p.1 (Ok p.0) h) (λ f tree x h. CalledAt g.F.FnMut f tree (Err x) h)
+    (λ error is. subst (IsWriteError (λ f p h. CalledAt g.F.FnMut f p.1 (Ok p.0) h) (λ f tree x h. CalledAt g.F.FnMut f tree (Err x) h)
     (λ inner. (kept : List EntryView) × (n : ℕ) × EmitsEntry inside based e inner kept n) c.args.out.now c.emit_tree.new.out) (sym is)
     (stopped_after_folds (λ f p h. CalledAt g.F.FnMut f p.1 (Ok p.0) h) (λ f tree x h. CalledAt g.F.FnMut f tree (Err x) h)
     (λ ps. (id : ObjectId) × (ps ≡ (id, tree) ∷ [])) (λ inner. (kept : List EntryView) × (n : ℕ) × EmitsEntry inside based e inner kept n)

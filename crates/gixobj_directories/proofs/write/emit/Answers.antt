@@ -17,4 +17,4 @@ out-requires g c = c.requires.callable [] c.args.out.now refl _ c.requires.stora
 pub returns-in-Err-clause-error : goal.returns-in-Err-clause-error
 returns-in-Err-clause-error g c =
     let requested : CalledAt g.F.FnMut c.args.out.now c.args.tree.now (Err c.in-Err.error) c.out.new.self = search rules in
-    ([], c.args.tree.now, c.args.out.now, refl, requested, λ id. ([], (id, refl)))
+    record { before = []; tree = c.args.tree.now; between = c.args.out.now; called = refl; failed = requested; emitted = λ id. ([], (id, refl)) }

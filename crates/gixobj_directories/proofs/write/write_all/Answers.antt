@@ -5,7 +5,8 @@ use Rattle.std.specs.Fn.{CalledAt}
 use Rattle.gixobj_tree.specs.Entries.{EntryView, Pair}
 use Rattle.gixobj_tree.specs.WellFormed.{EachLater}
 use Rattle.gixobj_hash.specs.declared.hash.object_id.ObjectId.{ObjectId}
-use Rattle.gixobj_directories.specs.Emitting.{Stopped}
+use Rattle.gixobj_directories.specs.Emitting.{IsWriteError}
+use Rattle.gixobj_files.specs.Edits.{raised}
 use Rattle.gixobj_files.specs.Emission.{EmitsSome, EmitsBelow}
 use Rattle.gixobj_directories.specs.Nested.{Opened, bases_of, below, dirs_of, opened, parts}
 use Rattle.gixobj_directories.proofs.Emitting.{folds_to_append, folds_to_one, callable_after_folds, if_err_weaken, emits_some_append, stopped_after_folds, stopped_at_call}
@@ -28,7 +29,7 @@ returns-in_err-own-clause-error g c =
     let dirs = dirs_of c.args.node.now in
     let bases = bases_of c.args.node.now in
     if_err_weaken c.from_residual.result _ _ c.from_residual.ensures.1
-    (λ error is. subst (Stopped (λ f p h. CalledAt g.F.FnMut f p.1 (Ok p.0) h) (λ f tree x h. CalledAt g.F.FnMut f tree (Err x) h)
+    (λ error is. subst (IsWriteError (λ f p h. CalledAt g.F.FnMut f p.1 (Ok p.0) h) (λ f tree x h. CalledAt g.F.FnMut f tree (Err x) h)
     (EmitsSome dirs bases) c.args.out.now c.emit_below_copied.new.out) (sym is)
     (stopped_after_folds (λ f p h. CalledAt g.F.FnMut f p.1 (Ok p.0) h) (λ f tree x h. CalledAt g.F.FnMut f tree (Err x) h)
     (λ ps. (own : List EntryView) × (n : ℕ) × EmitsBelow dirs bases ps own n) (EmitsSome dirs bases)
@@ -53,12 +54,12 @@ returns-in_err-id-clause-error g c =
     let ok = (c.in_ok-own.ensures {u = tt}).emitted in
     let own = c.in_ok-own.own in
     if_err_weaken c.from_residual-in_err-id.result _ _ c.from_residual-in_err-id.ensures.1
-    (λ error is. subst (Stopped (λ f p h. CalledAt g.F.FnMut f p.1 (Ok p.0) h) (λ f tree x h. CalledAt g.F.FnMut f tree (Err x) h)
+    (λ error is. subst (IsWriteError (λ f p h. CalledAt g.F.FnMut f p.1 (Ok p.0) h) (λ f tree x h. CalledAt g.F.FnMut f tree (Err x) h)
     (EmitsSome dirs bases) c.args.out.now c.emit.new.out) (sym is)
     (stopped_after_folds (λ f p h. CalledAt g.F.FnMut f p.1 (Ok p.0) h) (λ f tree x h. CalledAt g.F.FnMut f tree (Err x) h)
     (λ ps. (id : ObjectId) × (ps ≡ (id, own) ∷ [])) (EmitsSome dirs bases)
     c.args.out.now c.emit_below_copied.new.out c.emit.new.out ok.0 ok.5
-    (λ qs one. ([], (ok.1, ok.0, one.0, own, ok.2, ap (λ ps. ok.0 ++ ps) (append-nil qs ∙ one.1)))) c.in_err-id.field-0.0
+    (λ qs one. ([], (raised 0 ok.1, (ok.0, one.0, own, (ok.1, ok.2, refl), ap (λ ps. ok.0 ++ ps) (append-nil qs ∙ one.1))))) c.in_err-id.field-0.0
     (c.in_err-id.ensures {u = tt}).error))
 
 pub returns-clause-written : goal.returns-clause-written

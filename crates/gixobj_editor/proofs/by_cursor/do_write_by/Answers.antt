@@ -18,7 +18,7 @@ pub returns-in-Err-clause-reply : goal.returns-in-Err-clause-reply
 returns-in-Err-clause-reply g c =
     let done = c.in-Err.ensures {u = tt} in
     record {
-      stopped = stopped g.F.Fn _ c.args.out (EmitsSome (in_path c.args.cursor.now.editor.now.prefix (open_dirs c.args.cursor.now.editor.now))
+      cause = stopped g.F.Fn _ c.args.out (EmitsSome (in_path c.args.cursor.now.editor.now.prefix (open_dirs c.args.cursor.now.editor.now))
           (in_path c.args.cursor.now.editor.now.prefix (open_bases c.args.cursor.now.editor.now))) c.in-Err.error done.error
           (λ requested tree answer answered it. (it.met.1, it.met.0));
       unchanged = done.unchanged;

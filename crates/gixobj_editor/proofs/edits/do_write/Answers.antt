@@ -18,7 +18,7 @@ returns-in-Err g c =
     let done = c.in-Err.ensures {u = tt} in
     record {
       reply = record {
-        stopped = stopped g.F.Fn _ c.args.out (EmitsSome (open_dirs c.args.editor.now) (open_bases c.args.editor.now)) c.in-Err.error done.error
+        cause = stopped g.F.Fn _ c.args.out (EmitsSome (open_dirs c.args.editor.now) (open_bases c.args.editor.now)) c.in-Err.error done.error
             (λ requested tree answer answered it. (it.met.1, it.met.0));
         unchanged = done.unchanged;
       };

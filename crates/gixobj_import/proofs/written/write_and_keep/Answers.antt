@@ -29,4 +29,4 @@ returns-in-Err-keep_all-clause-error g c =
     )
 
 pub returns-in-Err-clause-error : goal.returns-in-Err-clause-error
-returns-in-Err-clause-error g c = record { stopped = (c.in-Err.ensures {u = tt}).error; unchanged = (c.in-Err.ensures {u = tt}).unchanged }
+returns-in-Err-clause-error g c = record { cause = (c.in-Err.ensures {u = tt}).error; unchanged = (c.in-Err.ensures {u = tt}).unchanged }

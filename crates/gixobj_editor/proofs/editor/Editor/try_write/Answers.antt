@@ -4,7 +4,7 @@ use Rattle.std.specs.Prelude.{IfErr}
 use Rattle.std.specs.Fn.{CalledAt}
 use Rattle.std.proofs.lemmas.Result.{IfOk-weaker}
 use Rattle.gixobj_directories.specs.Calls.{names_of}
-use Rattle.gixobj_directories.specs.Emitting.{Stopped}
+use Rattle.gixobj_directories.specs.Emitting.{IsWriteError}
 use Rattle.gixobj_directories.specs.Nested.{bases_of}
 use Rattle.gixobj_files.specs.Emission.{EmitsSome}
 use Rattle.gixobj_files.specs.Opening.{Dirs}
@@ -28,9 +28,11 @@ returns-clause-written g c = if_ok_and c.write_all.result _ _ _ c.write_all.ensu
 
 pub returns-clause-error : goal.returns-clause-error
 returns-clause-error g c =
-    subst (λ (b : Dirs). IfErr c.write_all.result (Stopped (λ f p h. CalledAt g.F.FnMut f p.1 (Ok p.0) h) (λ f tree e h. CalledAt g.F.FnMut f tree (Err e) h)
+    subst (λ (b : Dirs). IfErr c.write_all.result (IsWriteError (λ f p h. CalledAt g.F.FnMut f p.1 (Ok p.0) h)
+    (λ f tree e h. CalledAt g.F.FnMut f tree (Err e) h)
     (EmitsSome (open_dirs c.args.self.now) b) c.args.out.now c.write_all.new.out))
     (sym (map_bases_eq c.self.inside.root) ∙ ap (λ (o : State g.row.S.Denot). open_bases o) c.self.view_is)
-    (subst (λ (d : Dirs). IfErr c.write_all.result (Stopped (λ f p h. CalledAt g.F.FnMut f p.1 (Ok p.0) h) (λ f tree e h. CalledAt g.F.FnMut f tree (Err e) h)
+    (subst (λ (d : Dirs). IfErr c.write_all.result (IsWriteError (λ f p h. CalledAt g.F.FnMut f p.1 (Ok p.0) h)
+    (λ f tree e h. CalledAt g.F.FnMut f tree (Err e) h)
     (EmitsSome d (bases_of c.self.inside.root)) c.args.out.now c.write_all.new.out))
     (sym (map_dirs_eq c.self.inside.root) ∙ ap (λ (o : State g.row.S.Denot). open_dirs o) c.self.view_is) c.write_all.ensures.error)

@@ -3,7 +3,7 @@ use Rattle.std.proofs.Common.{◌≢◌, ◌∙◌, List, Err, None, Ok, ap, sub
 use Rattle.std.specs.Prelude.{IfErr}
 use Rattle.std.specs.Fn.{CalledAt}
 use Rattle.gixobj_directories.specs.Calls.{names_of}
-use Rattle.gixobj_directories.specs.Emitting.{Stopped}
+use Rattle.gixobj_directories.specs.Emitting.{IsWriteError}
 use Rattle.gixobj_directories.specs.Nested.{bases_of, dirs_of}
 use Rattle.gixobj_files.specs.Files.{Path}
 use Rattle.gixobj_files.specs.Edits.{only_open, with_path}
@@ -46,14 +46,17 @@ returns-clause-written g c = if_ok_and c.write_at.result _ _ _ c.write_at.ensure
 pub returns-clause-error : goal.returns-clause-error
 returns-clause-error g c =
     subst (λ (o : State g.row.S.Denot). IfErr c.write_at.result
-    (Stopped (λ f p h. CalledAt g.F.FnMut f p.1 (Ok p.0) h) (λ f tree e h. CalledAt g.F.FnMut f tree (Err e) h)
+    (IsWriteError (λ f p h. CalledAt g.F.FnMut f p.1 (Ok p.0) h) (λ f tree e h. CalledAt g.F.FnMut f tree (Err e) h)
     (EmitsSome (in_path o.prefix (open_dirs o)) (in_path o.prefix (open_bases o))) c.args.out.now c.write_at.new.out)) c.self.view_is
-    (subst (λ (b : Dirs). IfErr c.write_at.result (Stopped (λ f p h. CalledAt g.F.FnMut f p.1 (Ok p.0) h) (λ f tree e h. CalledAt g.F.FnMut f tree (Err e) h)
+    (subst (λ (b : Dirs). IfErr c.write_at.result (IsWriteError (λ f p h. CalledAt g.F.FnMut f p.1 (Ok p.0) h)
+    (λ f tree e h. CalledAt g.F.FnMut f tree (Err e) h)
     (EmitsSome (in_path (names_of c.self.inside.prefix.items) (map_dirs c.self.inside.root)) (in_path (names_of c.self.inside.prefix.items) b))
     c.args.out.now c.write_at.new.out)) (sym (map_bases_eq c.self.inside.root))
-    (subst (λ (d : Dirs). IfErr c.write_at.result (Stopped (λ f p h. CalledAt g.F.FnMut f p.1 (Ok p.0) h) (λ f tree e h. CalledAt g.F.FnMut f tree (Err e) h)
+    (subst (λ (d : Dirs). IfErr c.write_at.result (IsWriteError (λ f p h. CalledAt g.F.FnMut f p.1 (Ok p.0) h)
+    (λ f tree e h. CalledAt g.F.FnMut f tree (Err e) h)
     (EmitsSome (in_path (names_of c.self.inside.prefix.items) d) (in_path (names_of c.self.inside.prefix.items) (bases_of c.self.inside.root)))
     c.args.out.now c.write_at.new.out)) (sym (map_dirs_eq c.self.inside.root))
-    (subst (λ (p : Path). IfErr c.write_at.result (Stopped (λ f p h. CalledAt g.F.FnMut f p.1 (Ok p.0) h) (λ f tree e h. CalledAt g.F.FnMut f tree (Err e) h)
+    (subst (λ (p : Path). IfErr c.write_at.result (IsWriteError (λ f p h. CalledAt g.F.FnMut f p.1 (Ok p.0) h)
+    (λ f tree e h. CalledAt g.F.FnMut f tree (Err e) h)
     (EmitsSome (in_path p (dirs_of c.self.inside.root)) (in_path p (bases_of c.self.inside.root))) c.args.out.now c.write_at.new.out))
     (ap names_of c.deref.ensures.value) c.write_at.ensures.error)))
