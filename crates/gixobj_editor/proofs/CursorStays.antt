@@ -16,7 +16,7 @@ use Rattle.gixobj_hash.specs.Hash.{null_id}
 use Rattle.gixobj_hash.specs.declared.hash.object_id.ObjectId.{ObjectId}
 use Rattle.gixobj_tree.specs.Entries.{EntryView}
 use Rattle.gixobj_editor.specs.Cursors.{from_root}
-use Rattle.gixobj_editor.specs.Removals.{IsRemoved}
+use Rattle.gixobj_editor.specs.Removals.{IsRemovedUpTo}
 use Rattle.gixobj_files.specs.Bases.{opened_bases}
 use Rattle.gixobj_directories.specs.declared.opening.NotLookedUp.TheVariants as not_looked_up
 use Rattle.gixobj_editor.specs.Upserts.{IsAfterFailedEdit, IsLookupError, IsUpserted, directory_of}
@@ -58,7 +58,7 @@ upserted_keeps_prefix_open trees old new prefix (name ∷ path) mode id h there 
     (sym (h.dirs prefix) ∙ none)
 
 removed_keeps_prefix_open : {S : Type 0} {StopsBefore : EntryView → Type 0} (trees : Trees) (old new : State S) (prefix path : Path)
-    → IsRemoved StopsBefore trees old (from_root prefix path) new → open_dirs old prefix ≢ None → open_dirs new prefix ≢ None
+    → IsRemovedUpTo StopsBefore trees old (from_root prefix path) new → open_dirs old prefix ≢ None → open_dirs new prefix ≢ None
 removed_keeps_prefix_open trees old new prefix [] h there = λ none. opens_keeps_open trees [] (open_dirs old) h.opened h.looked_up h.opens prefix there
     (sym (h.dirs prefix) ∙ none)
 removed_keeps_prefix_open trees old new prefix (name ∷ path) h there =
@@ -71,7 +71,7 @@ stays_upserted {S} trees old new path mode id h = stays_of_open_prefix old new (
     (upserted_keeps_prefix_open trees old new old.prefix path mode id h)
 
 pub stays_removed : {S : Type 0} {StopsBefore : EntryView → Type 0} (trees : Trees) (old new : State S) (path : Path)
-    → IsRemoved StopsBefore trees old (from_root old.prefix path) new → Stays old new
+    → IsRemovedUpTo StopsBefore trees old (from_root old.prefix path) new → Stays old new
 stays_removed {S} trees old new path h = stays_of_open_prefix old new (ap (λ (o : State S). o.prefix) h.rest)
     (removed_keeps_prefix_open trees old new old.prefix path h)
 

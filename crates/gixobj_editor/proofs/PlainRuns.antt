@@ -8,7 +8,7 @@ use Rattle.std.proofs.lemmas.List.Elements.{recursion_from_All}
 use Rattle.gixobj_directories.specs.Calls.{IsStorable}
 use Rattle.gixobj_directories.specs.declared.write.Written.{Written}
 use Rattle.gixobj_editor.specs.Cursors.{IsEnsured, IsWrittenBelow}
-use Rattle.gixobj_editor.specs.Removals.{IsRemoved}
+use Rattle.gixobj_editor.specs.Removals.{IsRemovedUpTo}
 use Rattle.gixobj_editor.specs.Upserts.{IsAfterFailedEdit, IsUpserted, directory_of}
 use Rattle.gixobj_editor.specs.Writes.{IsWrittenEditor}
 use Rattle.gixobj_files.proofs.EnsuredFiles.{is_open_along_of_opens}
@@ -113,7 +113,7 @@ module _ (T : Table) (pairs : List Pair) (known : AgreesWithPairs T pairs) where
           (directory_of path) (open_dirs old) h.opened h.looked_up h.opens (open_bases old) holds.1)),
     )
 
-    pub plain_removed : {StopsBefore : EntryView → Type 0} (path : Path) → IsRemoved StopsBefore trees old path new → IsPlainState new
+    pub plain_removed : {StopsBefore : EntryView → Type 0} (path : Path) → IsRemovedUpTo StopsBefore trees old path new → IsPlainState new
     plain_removed path h = (
       h.is_opened,
       edited (open_dirs old) (open_bases old) h.opened (removed_dirs path h.opened) (open_dirs new) (open_bases new) h.dirs h.bases

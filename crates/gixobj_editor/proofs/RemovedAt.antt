@@ -22,7 +22,7 @@ use Rattle.gixobj_editor.specs.Upserts.{IsAfterFailedEdit, IsLookupError, direct
 use Rattle.gixobj_editor.specs.declared.editor.error.Error.{Error}
 use Rattle.gixobj_editor.specs.declared.editor.error.Error.TheVariants as error
 use Rattle.gixobj_store.specs.Stores.{StoreModel}
-use Rattle.gixobj_editor.specs.Removals.{IsLeafDirectoryError, IsRemoved}
+use Rattle.gixobj_editor.specs.Removals.{IsLeafDirectoryError, IsRemovedUpTo}
 use Rattle.gixobj_editor.proofs.Edited.{EditedSo, OpenedOn, OpenedSo, map_is_opened, edited_bases_of_map, tree_known_above, map_bases, map_dirs, no_error_above, map_is_opened_on, map_dirs_eq, state_of, stay_at}
 use Rattle.gixobj_directories.proofs.OpeningSteps.{ends_before_is_idle}
 use Rattle.gixobj_directories.specs.Openings.{EndsBefore}
@@ -104,7 +104,7 @@ module _ {S : Type 0} (store : S) (hash : Kind) (prefix : Path) (trees : Trees) 
 
   taken_out : (ds mid ds' : Opened) (n m : ℕ) (path : Path) (queries : List ObjectId) → IsOpenedFor StopsBefore trees path (dirs_of ds) (dirs_of mid) queries
       → m ≡ counted n queries → ((at : Path) → dirs_of ds' at ≡ removed_dirs path (dirs_of mid) at)
-      → OpenedOn ds → OpenedSo ds mid → EditedSo mid ds' → IsRemoved StopsBefore trees (made ds n) path (made ds' m)
+      → OpenedOn ds → OpenedSo ds mid → EditedSo mid ds' → IsRemovedUpTo StopsBefore trees (made ds n) path (made ds' m)
   taken_out ds mid ds' n m path queries opened count take was first then =
       let so = for_map ds (dirs_of mid) path queries opened in
       let new_is : map_dirs ds' ≡ removed_dirs path (dirs_of mid) = map_dirs_eq ds' ∙ (λ i at. take at i) in
@@ -132,9 +132,9 @@ module _ {S : Type 0} (store : S) (hash : Kind) (prefix : Path) (trees : Trees) 
   pub removed_at : (ds mid ds' : Opened) (n m : ℕ) (old : State S) → made ds n ≡ old → (path : Path) (queries : List ObjectId)
       → IsOpenedFor StopsBefore trees path (dirs_of ds) (dirs_of mid) queries → m ≡ counted n queries
       → ((at : Path) → dirs_of ds' at ≡ removed_dirs path (dirs_of mid) at) → OpenedOn ds → OpenedSo ds mid → EditedSo mid ds'
-      → IsRemoved StopsBefore trees old path (made ds' m)
+      → IsRemovedUpTo StopsBefore trees old path (made ds' m)
   removed_at ds mid ds' n m old view path queries opened count take was first then =
-      subst (λ (o : State S). IsRemoved StopsBefore trees o path (made ds' m)) view
+      subst (λ (o : State S). IsRemovedUpTo StopsBefore trees o path (made ds' m)) view
       (taken_out ds mid ds' n m path queries opened count take was first then)
 
   -- the entry at the path, before and after the opening

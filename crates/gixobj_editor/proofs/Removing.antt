@@ -18,7 +18,7 @@ use Rattle.gixobj_files.proofs.ReachedDirectories.{comes_open, open_comes, opens
 use Rattle.gixobj_files.proofs.StoppedOpenings.{halted_at, halted_unopened}
 use Rattle.gixobj_files.proofs.UnopenedCounts.{IsIdle}
 use Rattle.gixobj_editor.specs.Upserts.{SplitsAtFirstInvalid, OpensInPart, IsEntryNameError, IsFirstNameError, StartsInvalid, directory_of, edit_error}
-use Rattle.gixobj_editor.specs.Removals.{ValidatesUpTo, IsRemovalError}
+use Rattle.gixobj_editor.specs.Removals.{ValidatesUpTo, IsRemovalErrorUpTo}
 use Rattle.gixobj_editor.specs.declared.editor.error.Error.{Error}
 use Rattle.gixobj_editor.specs.declared.editor.error.Error.TheVariants as error
 use Rattle.gixobj_editor.proofs.Edited.{no_lookup_of_name}
@@ -90,26 +90,26 @@ opens_nothing trees path none old new requested (found name rest d inner e entri
 -- the effect of a failed removal: the opened directories, the lookups and the error
 abbrev pub IsRejectedSo : (EntryView → Type 0) → Objects → (ObjectId → Bool) → Trees → Path → Dirs → Dirs → ℕ → ℕ → Error → Type 0
 IsRejectedSo StopsBefore objects may_fail trees path old new before after failure =
-    OpensInPart StopsBefore objects may_fail trees path old new before after failure × IsRemovalError StopsBefore objects may_fail trees old path failure
+    OpensInPart StopsBefore objects may_fail trees path old new before after failure × IsRemovalErrorUpTo StopsBefore objects may_fail trees old path failure
 
 module _ {StopsBefore : EntryView → Type 0} (idle : IsIdle StopsBefore) (objects : Objects) (may_fail : ObjectId → Bool) (trees : Trees) where
   -- a directory isn't opened
   stopped_opening_fails : (path names : Path) (last : List ℕ) (following : Path) → path ≡ names ++ last ∷ following → AreNames names
       → (old new : Dirs) (requested : List ObjectId) (failed_lookup : Option ObjectId) → StopsOpening StopsBefore trees names old new requested failed_lookup
       → (cause : directory.Error) → IsOpenErrorAt objects may_fail failed_lookup cause
-      → IsRemovalError StopsBefore objects may_fail trees old path (edit_error cause)
+      → IsRemovalErrorUpTo StopsBefore objects may_fail trees old path (edit_error cause)
   stopped_opening_fails path names last following is good old new requested failed_lookup halts opening.OutOfMemory at =
-      subst (λ p. IsRemovalError StopsBefore objects may_fail trees old p error.OutOfMemory) (sym is)
+      subst (λ p. IsRemovalErrorUpTo StopsBefore objects may_fail trees old p error.OutOfMemory) (sym is)
       (halted_unopened trees names last following old new requested failed_lookup halts)
   stopped_opening_fails path names last following is good old new requested None halts opening.MalformedTree at = absurd (cc at)
   stopped_opening_fails path names last following is good old new requested (Some it) halts opening.MalformedTree at =
       let h = halted_at trees names last following old new requested (Some it) halts it refl in
-      subst (λ p. IsRemovalError StopsBefore objects may_fail trees old p error.MalformedTree) (sym is)
+      subst (λ p. IsRemovalErrorUpTo StopsBefore objects may_fail trees old p error.MalformedTree) (sym is)
       (it, h.0, are_names_prefix h.0.place h.1 (subst AreNames h.2 good), at)
   stopped_opening_fails path names last following is good old new requested None halts (opening.FindExistingObject why) at = absurd (cc at)
   stopped_opening_fails path names last following is good old new requested (Some it) halts (opening.FindExistingObject why) at =
       let h = halted_at trees names last following old new requested (Some it) halts it refl in
-      subst (λ p. IsRemovalError StopsBefore objects may_fail trees old p (error.FindExistingObject why)) (sym is)
+      subst (λ p. IsRemovalErrorUpTo StopsBefore objects may_fail trees old p (error.FindExistingObject why)) (sym is)
       (it, h.0, are_names_prefix h.0.place h.1 (subst AreNames h.2 good), at)
 
   pub halted_removal : (path names rejected : Path) → SplitsAtFirstInvalid path names rejected
@@ -128,7 +128,7 @@ module _ {StopsBefore : EntryView → Type 0} (idle : IsIdle StopsBefore) (objec
   -- a name is invalid
   first_failed : (path names : Path) (name : List ℕ) (rest : Path) → AreNames names → path ≡ names ++ name ∷ rest → (old new : Dirs) (requested : List ObjectId)
       → Opens StopsBefore trees names old new requested → (entries : List EntryView) → new names ≡ Some entries
-      → (failure : Error) → IsEntryNameError name failure → IsRemovalError StopsBefore objects may_fail trees old path failure
+      → (failure : Error) → IsEntryNameError name failure → IsRemovalErrorUpTo StopsBefore objects may_fail trees old path failure
   first_failed path names name rest good is old new requested opens entries there error.EmptyPathComponent h =
       (name, (names, rest, is, good, open_comes idle trees names old new requested opens entries there), h)
   first_failed path names name rest good is old new requested opens entries there error.SlashInPathComponent h =

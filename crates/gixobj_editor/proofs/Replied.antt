@@ -13,7 +13,6 @@ use Rattle.gixobj_editor.specs.Cursors.{IsEnsured}
 use Rattle.gixobj_editor.specs.Removals.{IsLeafRemoved, IsRemoved, IsLeafRemovalError, IsRemovalError}
 use Rattle.gixobj_editor.specs.Upserts.{IsNameError, IsAfterFailedEdit, IsUpserted, IsUpsertError}
 use Rattle.gixobj_editor.specs.declared.editor.error.Error.{Error}
-use Rattle.gixobj_files.specs.Edits.{IsNoTree}
 use Rattle.gixobj_files.specs.Files.{Files, Path, SameFiles, Table, Trees}
 use Rattle.gixobj_files.specs.Bases.{HasBases}
 use Rattle.gixobj_store.specs.Stores.{StoreModel}
@@ -45,7 +44,7 @@ module _ {S E : Type 0} (model : StoreModel S) (answers : Answers E) (place : Pl
       (path_at place (names_of l))) error
 
   abbrev Removes : List BString → Error → Trees → Type 0
-  Removes l error trees = IsEditErrorAt place (names_of l) (IsRemovalError IsNoTree (model.objects old.store) (model.may_fail old.store) trees (open_dirs old)
+  Removes l error trees = IsEditErrorAt place (names_of l) (IsRemovalError (model.objects old.store) (model.may_fail old.store) trees (open_dirs old)
       (path_at place (names_of l))) error
 
   abbrev RemovesLeaf : List BString → Error → Trees → Type 0
@@ -63,11 +62,11 @@ module _ {S E : Type 0} (model : StoreModel S) (answers : Answers E) (place : Pl
   upsert_replied kind id (Err error) upserted pending failure not_looked_up =
       (failed_reply error (λ l trees. Upserts l error trees) pending failure, not_looked_up)
 
-  pub removal_replied : (done : Result (Unit {0}) Error) → OnOk done (Of (λ trees. IsRemoved IsNoTree trees old (path_at place (names_of lent)) new))
+  pub removal_replied : (done : Result (Unit {0}) Error) → OnOk done (Of (λ trees. IsRemoved trees old (path_at place (names_of lent)) new))
       → IfErr done (λ error. Of (λ trees. IsAfterFailedEdit model trees old (path_at place (names_of lent)) error new))
       → IfErr done (λ error. Of (Removes lent error))
       → IsEditReply model answers place old (edit.Remove path) (reply_to done) new
-  removal_replied (Ok it) removed pending failure = subst (λ (l : List BString). Of (λ trees. IsRemoved IsNoTree trees old (path_at place (names_of l)) new)) is
+  removal_replied (Ok it) removed pending failure = subst (λ (l : List BString). Of (λ trees. IsRemoved trees old (path_at place (names_of l)) new)) is
       removed
   removal_replied (Err error) removed pending failure = failed_reply error (λ l trees. Removes l error trees) pending failure
 

@@ -7,7 +7,7 @@ use Rattle.gixobj_directories.specs.Openings.{IsDirectoryError}
 use Rattle.gixobj_directories.specs.declared.opening.Error as directory
 use Rattle.gixobj_directories.specs.declared.opening.Error.TheVariants as opening
 use Rattle.gixobj_files.specs.Bases.{HasBases, edited_bases, opened_bases}
-use Rattle.gixobj_files.specs.Edits.{IsNotLookedUp, Opens, removed_dirs, raised}
+use Rattle.gixobj_files.specs.Edits.{IsNoTree, IsNotLookedUp, Opens, removed_dirs, raised}
 use Rattle.gixobj_files.specs.Files.{Path, Removed, SameFiles, Table, Trees}
 use Rattle.gixobj_files.specs.OpeningStops.{ReachesDirectory, IsUnopenedOnPath, IsUnopenedAbove}
 use Rattle.gixobj_files.specs.Opening.{Dirs, IsOpened}
@@ -19,7 +19,7 @@ use Rattle.gixobj_hash.specs.Bytes.{slash}
 use Rattle.gixobj_tree.specs.Entries.{EntryView}
 use Rattle.gixobj_tree.specs.WellFormed.{IsEntryName}
 use Rattle.gixobj_mode.specs.Mode.{is_tree_mode}
-use Rattle.gixobj_editor.specs.Upserts.{IsEntryNameError, directory_of}
+use Rattle.gixobj_editor.specs.Upserts.{EditErrors, IsEntryNameError, directory_of}
 use Rattle.gixobj_editor.specs.declared.editor.error.Error.{Error}
 use Rattle.gixobj_editor.specs.declared.editor.error.Error.TheVariants as error
 
@@ -38,21 +38,25 @@ abbrev pub IsOpenErrorOnPath : Objects → (ObjectId → Bool) → Trees → Dir
 IsOpenErrorOnPath objects may_fail trees dirs path cause = (it : ObjectId) × (h : IsUnopenedAbove trees dirs path it)
     × AreNames h.place × IsDirectoryError objects may_fail it cause
 
--- the errors of a removal, the first on the way from the root: that of an invalid name; that of an unopened directory,
--- which the store doesn't have as a well-formed tree, or whose lookup fails. Or out of memory, if a directory is to be
--- opened
-abbrev pub IsRemovalError : (EntryView → Type 0) → Objects → (ObjectId → Bool) → Trees → Dirs → Path → Error → Type 0
-IsRemovalError StopsBefore objects may_fail trees dirs path error.EmptyPathComponent =
+-- the errors of a removal whose opening ends before such entries, the first on the way from the root: that of an
+-- invalid name; that of an unopened directory, which the store doesn't have as a well-formed tree, or whose lookup
+-- fails. Or out of memory, if a directory is to be opened
+abbrev pub IsRemovalErrorUpTo : (EntryView → Type 0) → EditErrors
+IsRemovalErrorUpTo StopsBefore objects may_fail trees dirs path error.EmptyPathComponent =
     HasInvalidName StopsBefore trees dirs path error.EmptyPathComponent
-IsRemovalError StopsBefore objects may_fail trees dirs path error.SlashInPathComponent =
+IsRemovalErrorUpTo StopsBefore objects may_fail trees dirs path error.SlashInPathComponent =
     HasInvalidName StopsBefore trees dirs path error.SlashInPathComponent
-IsRemovalError StopsBefore objects may_fail trees dirs path (error.FindExistingObject cause) =
+IsRemovalErrorUpTo StopsBefore objects may_fail trees dirs path (error.FindExistingObject cause) =
     IsOpenErrorOnPath objects may_fail trees dirs path (opening.FindExistingObject cause)
-IsRemovalError StopsBefore objects may_fail trees dirs path error.MalformedTree =
+IsRemovalErrorUpTo StopsBefore objects may_fail trees dirs path error.MalformedTree =
     IsOpenErrorOnPath objects may_fail trees dirs path opening.MalformedTree
-IsRemovalError StopsBefore objects may_fail trees dirs path (error.CannotRemoveNonLeaf at) = ⊥
-IsRemovalError StopsBefore objects may_fail trees dirs path error.OutOfMemory =
+IsRemovalErrorUpTo StopsBefore objects may_fail trees dirs path (error.CannotRemoveNonLeaf at) = ⊥
+IsRemovalErrorUpTo StopsBefore objects may_fail trees dirs path error.OutOfMemory =
     IsUnopenedOnPath StopsBefore trees dirs path
+
+-- the errors of a removal; its opening ends only before an entry that isn't of tree mode
+abbrev pub IsRemovalError : EditErrors
+IsRemovalError = IsRemovalErrorUpTo IsNoTree
 
 -- a directory is at the path: by the open directories, else by the store's trees
 abbrev pub IsDirectory : Trees → Dirs → Path → Type 0
@@ -71,11 +75,12 @@ IsLeafDirectoryError path error.OutOfMemory = ⊤
 -- the errors of the removal of a leaf: those of a removal, and that for a directory at the path
 abbrev pub IsLeafRemovalError : Objects → (ObjectId → Bool) → Trees → Dirs → Path → Error → Type 0
 IsLeafRemovalError objects may_fail trees dirs path error =
-    IsRemovalError IsNotLookedUp objects may_fail trees dirs path error
+    IsRemovalErrorUpTo IsNotLookedUp objects may_fail trees dirs path error
     ⊎ (IsDirectory trees dirs path × IsLeafDirectoryError path error)
 
--- the effect of an accepted removal: the open directories, the lookups and the files; the rest is unchanged
-pub record IsRemoved {S : Type 0} (StopsBefore : EntryView → Type 0) (trees : Trees) (old : State S) (path : Path)
+-- the effect of an accepted removal whose opening ends before such entries: the open directories, the lookups and the
+-- files; the rest is unchanged
+pub record IsRemovedUpTo {S : Type 0} (StopsBefore : EntryView → Type 0) (trees : Trees) (old : State S) (path : Path)
     (new : State S) : Type 0 where
   -- each name that it reaches is valid
   pub names : (name : List ℕ) → ValidatesUpTo StopsBefore trees (open_dirs old) path name → IsEntryName name
@@ -98,7 +103,11 @@ pub record IsRemoved {S : Type 0} (StopsBefore : EntryView → Type 0) (trees : 
   pub has_bases : (T : Table) → AgreesWithStore T trees → HasBases T (open_dirs old) (open_bases old)
       → HasBases T (open_dirs new) (open_bases new)
 
+-- the effect of an accepted removal; its opening ends only before an entry that isn't of tree mode
+abbrev pub IsRemoved : {S : Type 0} → Trees → State S → Path → State S → Type 0
+IsRemoved trees old path new = IsRemovedUpTo IsNoTree trees old path new
+
 -- the effect of an accepted removal of a leaf: no directory was at the path
 pub record IsLeafRemoved {S : Type 0} (trees : Trees) (old : State S) (path : Path) (new : State S) : Type 0 where
-  pub removed : IsRemoved IsNotLookedUp trees old path new
+  pub removed : IsRemovedUpTo IsNotLookedUp trees old path new
   pub leaf : (e : EntryView) → looked_up_entry trees path (open_dirs old) ≡ Some e → is_tree_mode e.mode ≡ false

@@ -18,7 +18,6 @@ use Rattle.gixobj_editor.specs.Writes.{IsWrittenEditor}
 use Rattle.gixobj_editor.specs.declared.editor.error.Error.{Error}
 use Rattle.gixobj_editor.specs.declared.editor.error.Error.TheVariants as editing
 use Rattle.gixobj_files.specs.Bases.{HasBases}
-use Rattle.gixobj_files.specs.Edits.{IsNoTree}
 use Rattle.gixobj_files.specs.Files.{Files, Path, SameFiles, Table, Trees}
 use Rattle.gixobj_files.specs.Emission.{EmitsSome}
 use Rattle.gixobj_files.specs.Opening.{Dirs, in_path}
@@ -119,10 +118,10 @@ module _ {S E : Type 0} (model : StoreModel S) (answers : Answers E) where
       × (IsNameError error → new ≡ old)
   IsEditReply place old (edit.Remove path) edit_reply.Done new =
       OfTrees (model.objects old.store)
-      (λ trees. IsRemoved IsNoTree trees old (path_at place (names_of path.items)) new)
+      (λ trees. IsRemoved trees old (path_at place (names_of path.items)) new)
   IsEditReply place old (edit.Remove path) (edit_reply.Refused error) new =
       IsFailedEdit model (λ trees. IsEditErrorAt place (names_of path.items)
-      (IsRemovalError IsNoTree (model.objects old.store) (model.may_fail old.store) trees (open_dirs old)
+      (IsRemovalError (model.objects old.store) (model.may_fail old.store) trees (open_dirs old)
       (path_at place (names_of path.items))) error) old (path_at place (names_of path.items)) error new
   IsEditReply place old (edit.RemoveLeaf path) edit_reply.Done new =
       OfTrees (model.objects old.store) (λ trees. IsLeafRemoved trees old (path_at place (names_of path.items)) new)

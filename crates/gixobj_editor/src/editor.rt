@@ -7,7 +7,7 @@ ghost use Rattle.std.specs.Option.{option_copied};
 ghost use Rattle.gixobj_store.specs.Stores.{store_model};
 ghost use Rattle.gixobj_tree.specs.WellFormed.{IsWellFormed};
 ghost use Rattle.gixobj_mode.specs.Mode.{mode_of_kind};
-ghost use Rattle.gixobj_files.specs.Edits.{IsNoTree, entry_at};
+ghost use Rattle.gixobj_files.specs.Edits.{entry_at};
 ghost use Rattle.gixobj_files.specs.Files.{Files, SameFiles, Table};
 ghost use Rattle.gixobj_files.specs.Opening.{IsOpened};
 ghost use Rattle.gixobj_files.specs.Bases.{HasBases};
@@ -213,9 +213,9 @@ impl<S: Find> Editor<S> {
         ensures same_reference { IfOk result (λ it. it.ghost_name ≡ self.entry.ghost_name) }
         ensures removed { IfOk result (λ it.
             OfTrees (S.objects self.old.store)
-            (λ trees. IsRemoved IsNoTree trees self.old (names_of path.now) it.now)) }
+            (λ trees. IsRemoved trees self.old (names_of path.now) it.now)) }
         ensures error { IfErr result (IsErrorIn (store_model S.objects S.may_fail) self.old
-            (IsRemovalError IsNoTree) (names_of path.now)) }
+            IsRemovalError (names_of path.now)) }
     {
         self.try_remove(path)?;
         Ok(self)
@@ -326,11 +326,11 @@ impl<S: Find> Editor<S> {
     /// ```
     pub fn try_remove(&mut self, path: &[BString]) -> Result<(), Error>
         ensures removed { OnOk result (OfTrees (S.objects self.old.store)
-            (λ trees. IsRemoved IsNoTree trees self.old (names_of path.now) self.new)) }
+            (λ trees. IsRemoved trees self.old (names_of path.now) self.new)) }
         ensures after_error { IfErr result (IsFailedEditIn (store_model S.objects S.may_fail)
             self.old (names_of path.now) self.new) }
         ensures error { IfErr result (IsErrorIn (store_model S.objects S.may_fail) self.old
-            (IsRemovalError IsNoTree) (names_of path.now)) }
+            IsRemovalError (names_of path.now)) }
         ensures unchanged { OnErr result (StartsInvalid (names_of path.now) → self.new ≡ self.old) }
     {
         let alloc = *self.prefix.allocator();

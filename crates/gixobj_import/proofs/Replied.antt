@@ -10,7 +10,6 @@ use Rattle.gixobj_directories.specs.Calls.{names_of}
 use Rattle.gixobj_editor.specs.Removals.{IsLeafRemoved, IsRemoved, IsLeafRemovalError, IsRemovalError}
 use Rattle.gixobj_editor.specs.Upserts.{IsNameError, IsAfterFailedEdit, IsUpserted, IsUpsertError}
 use Rattle.gixobj_editor.specs.declared.editor.error.Error.{Error}
-use Rattle.gixobj_files.specs.Edits.{IsNoTree}
 use Rattle.gixobj_files.specs.Files.{Trees}
 use Rattle.gixobj_files.specs.State.{State, open_dirs}
 use Rattle.gixobj_hash.specs.declared.hash.object_id.ObjectId.{ObjectId}
@@ -34,7 +33,7 @@ module _ {S : Type 0} (model : StoreModel S) (old new : State S) (path : Vec BSt
   Upserts l error trees = IsUpsertError (model.objects old.store) (model.may_fail old.store) trees (open_dirs old) (names_of l) error
 
   abbrev Removes : List BString → Error → Trees → Type 0
-  Removes l error trees = IsRemovalError IsNoTree (model.objects old.store) (model.may_fail old.store) trees (open_dirs old) (names_of l) error
+  Removes l error trees = IsRemovalError (model.objects old.store) (model.may_fail old.store) trees (open_dirs old) (names_of l) error
 
   abbrev RemovesLeaf : List BString → Error → Trees → Type 0
   RemovesLeaf l error trees = IsLeafRemovalError (model.objects old.store) (model.may_fail old.store) trees (open_dirs old) (names_of l) error
@@ -49,10 +48,10 @@ module _ {S : Type 0} (model : StoreModel S) (old new : State S) (path : Vec BSt
   upsert_replied kind id (Err error) upserted pending failure not_looked_up =
       (failed_reply error (λ l trees. Upserts l error trees) pending failure, not_looked_up)
 
-  pub removal_replied : (done : Result (Unit {0}) Error) → OnOk done (Of (λ trees. IsRemoved IsNoTree trees old (names_of lent) new))
+  pub removal_replied : (done : Result (Unit {0}) Error) → OnOk done (Of (λ trees. IsRemoved trees old (names_of lent) new))
       → IfErr done (λ error. Of (λ trees. IsAfterFailedEdit model trees old (names_of lent) error new)) → IfErr done (λ error. Of (Removes lent error))
       → IsReplied model old (edit.Remove path) (reply_to done) new
-  removal_replied (Ok it) removed pending failure = subst (λ (l : List BString). Of (λ trees. IsRemoved IsNoTree trees old (names_of l) new)) is removed
+  removal_replied (Ok it) removed pending failure = subst (λ (l : List BString). Of (λ trees. IsRemoved trees old (names_of l) new)) is removed
   removal_replied (Err error) removed pending failure = failed_reply error (λ l trees. Removes l error trees) pending failure
 
   pub leaf_removal_replied : (done : Result (Unit {0}) Error) → OnOk done (Of (λ trees. IsLeafRemoved trees old (names_of lent) new))

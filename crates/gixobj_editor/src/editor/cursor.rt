@@ -9,7 +9,7 @@ ghost use Rattle.gixobj_editor.specs.Cursors.{IsEnsured, IsWrittenBelow, IsError
 ghost use Rattle.gixobj_editor.specs.Removals.{IsLeafRemoved, IsRemoved, IsLeafRemovalError, IsRemovalError};
 ghost use Rattle.gixobj_editor.specs.Upserts.{IsNameError, IsFailedEditIn, IsUpserted, IsErrorIn, IsUpsertError};
 ghost use Rattle.gixobj_editor.specs.contracts.editor.Editor.{the_row};
-ghost use Rattle.gixobj_files.specs.Edits.{IsNoTree, entry_at};
+ghost use Rattle.gixobj_files.specs.Edits.{entry_at};
 ghost use Rattle.gixobj_files.specs.Files.{Path};
 ghost use Rattle.gixobj_files.specs.Emission.{EmitsSome};
 ghost use Rattle.gixobj_files.specs.Bases.{opened_bases};
@@ -309,10 +309,10 @@ impl<S: Find> Cursor<'_, S> {
         ensures prefix { IfOk result (λ it. it.now.editor.now.prefix ≡ self.old.editor.now.prefix) }
         ensures removed { IfOk result (λ it.
             OfTrees (S.objects self.old.editor.now.store)
-            (λ trees. IsRemoved IsNoTree trees self.old.editor.now
+            (λ trees. IsRemoved trees self.old.editor.now
             (from_root self.old.editor.now.prefix (names_of path.now)) it.now.editor.now)) }
         ensures error { IfErr result (IsErrorBelow (store_model S.objects S.may_fail)
-            self.old.editor.now (IsRemovalError IsNoTree) (names_of path.now)) }
+            self.old.editor.now IsRemovalError (names_of path.now)) }
     {
         self.try_remove(path)?;
         Ok(self)
@@ -330,12 +330,12 @@ impl<S: Find> Cursor<'_, S> {
         ensures same_reference { self.new.editor.ghost_name ≡ self.old.editor.ghost_name }
         ensures prefix { self.new.editor.now.prefix ≡ self.old.editor.now.prefix }
         ensures removed { OnOk result (OfTrees (S.objects self.old.editor.now.store)
-            (λ trees. IsRemoved IsNoTree trees self.old.editor.now
+            (λ trees. IsRemoved trees self.old.editor.now
             (from_root self.old.editor.now.prefix (names_of path.now)) self.new.editor.now)) }
         ensures after_error { IfErr result (IsFailedEditIn (store_model S.objects S.may_fail)
             self.old.editor.now (from_root self.old.editor.now.prefix (names_of path.now)) self.new.editor.now) }
         ensures error { IfErr result (IsErrorBelow (store_model S.objects S.may_fail)
-            self.old.editor.now (IsRemovalError IsNoTree) (names_of path.now)) }
+            self.old.editor.now IsRemovalError (names_of path.now)) }
     {
         let path = self.editor.path_from_root(path)?;
         self.editor.try_remove(&path)

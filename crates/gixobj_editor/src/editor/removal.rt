@@ -14,7 +14,7 @@ ghost use Rattle.gixobj_tree.specs.Entries.{EntryView};
 ghost use Rattle.gixobj_tree.specs.WellFormed.{IsEntryName};
 ghost use Rattle.gixobj_mode.specs.Mode.{is_tree_mode};
 ghost use Rattle.gixobj_editor.specs.Upserts.{OpensInPart, IsFirstNameError, StartsInvalid, directory_of};
-ghost use Rattle.gixobj_editor.specs.Removals.{ValidatesUpTo, IsLeafDirectoryError, IsRemovalError};
+ghost use Rattle.gixobj_editor.specs.Removals.{ValidatesUpTo, IsLeafDirectoryError, IsRemovalErrorUpTo};
 
 use crate::editor::error::Error;
 use crate::editor::names::{split_at_first_invalid, validate_names};
@@ -43,7 +43,7 @@ pub(crate) fn open_for_removal<S: Find>(
         OfTrees (S.objects store.now) (λ trees.
         OpensInPart (EndsBefore not_looked_up) (S.objects store.now) (S.may_fail store.now) trees
         (names_of path.now) (dirs_of root.old) (dirs_of root.new) lookups.old lookups.new error
-        × IsRemovalError (EndsBefore not_looked_up) (S.objects store.now) (S.may_fail store.now) trees
+        × IsRemovalErrorUpTo (EndsBefore not_looked_up) (S.objects store.now) (S.may_fail store.now) trees
         (dirs_of root.old) (names_of path.now) error)) }
     ensures unchanged { StartsInvalid (names_of path.now)
         → (dirs_of root.new ≡ dirs_of root.old) × (lookups.new ≡ lookups.old) }

@@ -1,6 +1,5 @@
 -- The directories above the path are opened as far as they exist, and then the entry is removed.
 use Rattle.std.proofs.Common.{sym, ap, subst}
-use Rattle.gixobj_files.specs.Edits.{IsNoTree}
 use Rattle.gixobj_files.specs.Opening.{Dirs}
 use Rattle.gixobj_files.specs.State.{State, open_dirs}
 use Rattle.gixobj_directories.specs.Calls.{names_of}
@@ -38,11 +37,11 @@ returns-in_err-open_for_removal-clause-error g c =
     let stored = ap (λ (o : State _). o.store) c.self.view_is in
     let path = names_of c.args.path.now in
     let bad = (c.in_err-open_for_removal.ensures {u = tt}).after_error trees (subst (λ o. AreTreesOf (g.S.Store.objects o) trees) (sym stored) fits) in
-    let entire = subst (λ (d : Dirs). IsRemovalError IsNoTree (g.S.Store.objects s.store)
+    let entire = subst (λ (d : Dirs). IsRemovalError (g.S.Store.objects s.store)
     (g.S.Store.may_fail s.store) trees d path c.in_err-open_for_removal.field-0.0) (sym (map_dirs_eq s.root)) bad.1 in
-    subst (IsRemovalError IsNoTree (g.S.Store.objects c.args.self.now.store) (g.S.Store.may_fail c.args.self.now.store) trees (open_dirs c.args.self.now) path)
+    subst (IsRemovalError (g.S.Store.objects c.args.self.now.store) (g.S.Store.may_fail c.args.self.now.store) trees (open_dirs c.args.self.now) path)
     (sym is)
-    (subst (λ (o : State _). IsRemovalError IsNoTree (g.S.Store.objects o.store) (g.S.Store.may_fail o.store) trees
+    (subst (λ (o : State _). IsRemovalError (g.S.Store.objects o.store) (g.S.Store.may_fail o.store) trees
     (open_dirs o) path c.in_err-open_for_removal.field-0.0) c.self.view_is entire))
 
 pub invariant_of-self : goal.invariant_of-self

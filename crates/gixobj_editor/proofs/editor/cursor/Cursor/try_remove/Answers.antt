@@ -1,6 +1,5 @@
 -- The editor's own edit, at the path from the root.
 use Rattle.std.proofs.Common.{◌∙◌, ap, subst, sym}
-use Rattle.gixobj_files.specs.Edits.{IsNoTree}
 use Rattle.gixobj_files.specs.Files.{Path}
 use Rattle.gixobj_directories.specs.Calls.{names_of}
 use Rattle.gixobj_directories.proofs.Emitting.{if_err_weaken}
@@ -28,9 +27,9 @@ invariant_of-self-2 g c =
     let is = ap names_of c.deref.ensures.value ∙ (c.in_ok-path.ensures {u = tt}).joined in
     let model : StoreModel g.row.S.Denot = record { objects = g.S.Store.objects; may_fail = g.S.Store.may_fail } in
     let kept : Stays old new = known_of_either c.try_remove.result (g.S.Store.objects old.store) (Stays old new)
-    (λ trees. IsRemoved IsNoTree trees old entire new)
+    (λ trees. IsRemoved trees old entire new)
     (λ error trees. IsAfterFailedEdit model trees old entire error new) c.try_remove.ensures.removed c.try_remove.ensures.after_error
-    (λ trees h. stays_removed trees old new path (subst (λ (p : Path). IsRemoved IsNoTree trees old p new) is h))
+    (λ trees h. stays_removed trees old new path (subst (λ (p : Path). IsRemoved trees old p new) is h))
     (λ error trees h. stays_failed model trees old new entire error h) in
     record { is_open = kept.1 c.args.self.now.is_open }
 
@@ -43,8 +42,8 @@ returns-clause-prefix g c =
     let is = ap names_of c.deref.ensures.value ∙ (c.in_ok-path.ensures {u = tt}).joined in
     let model : StoreModel g.row.S.Denot = record { objects = g.S.Store.objects; may_fail = g.S.Store.may_fail } in
     let kept : Stays old new = known_of_either c.try_remove.result (g.S.Store.objects old.store) (Stays old new)
-    (λ trees. IsRemoved IsNoTree trees old entire new)
+    (λ trees. IsRemoved trees old entire new)
     (λ error trees. IsAfterFailedEdit model trees old entire error new) c.try_remove.ensures.removed c.try_remove.ensures.after_error
-    (λ trees h. stays_removed trees old new path (subst (λ (p : Path). IsRemoved IsNoTree trees old p new) is h))
+    (λ trees h. stays_removed trees old new path (subst (λ (p : Path). IsRemoved trees old p new) is h))
     (λ error trees h. stays_failed model trees old new entire error h) in
     kept.0
