@@ -19,7 +19,7 @@ use Rattle.gixobj_files.specs.Unopened.{in_directory, unopened_count}
 use Rattle.gixobj_hash.specs.Hash.{null_id}
 use Rattle.gixobj_hash.specs.declared.hash.object_id.ObjectId.{ObjectId}
 use Rattle.gixobj_tree.specs.Entries.{EntryView, Pair}
-use Rattle.gixobj_editor.specs.Upserts.{IsFirstNameError, IsUnopenedError, EditErrors}
+use Rattle.gixobj_editor.specs.Upserts.{IsFailedEditIn, IsFirstNameError, IsNameError, IsUnopenedError, EditErrors}
 use Rattle.gixobj_editor.specs.declared.editor.error.Error.{Error}
 use Rattle.gixobj_editor.specs.declared.editor.error.Error.TheVariants as error
 
@@ -46,6 +46,12 @@ IsCursorError objects may_fail trees dirs path error.MalformedTree = AreNames pa
     × IsUnopenedError objects may_fail trees dirs (in_directory path) opening.MalformedTree
 IsCursorError objects may_fail trees dirs path (error.CannotRemoveNonLeaf at) = ⊥
 IsCursorError objects may_fail trees dirs path error.OutOfMemory = AreNames path × (path ≢ [])
+
+-- the effect of a cursor at a path that fails with this error: that of a failed edit in the directory; the editor is
+-- unchanged after an invalid name
+abbrev pub IsFailedCursorIn : {S : Type 0} → StoreModel S → State S → Path → State S → Error → Type 0
+IsFailedCursorIn model old path new failure =
+    IsFailedEditIn model old (in_directory path) new failure × (IsNameError failure → new ≡ old)
 
 -- the errors of an edit by a cursor: those of the editor; and out of memory for the path from the root, if the path has
 -- names

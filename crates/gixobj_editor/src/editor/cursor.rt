@@ -5,7 +5,7 @@ ghost use Rattle.std.specs.Option.{option_copied};
 ghost use Rattle.gixobj_directories.specs.Calls.{IsCallableOnTrees, answered, denied, names_of};
 ghost use Rattle.gixobj_directories.specs.Emitting.{IsWriteError};
 ghost use Rattle.gixobj_directories.specs.Openings.{OfTrees};
-ghost use Rattle.gixobj_editor.specs.Cursors.{IsEnsured, IsWrittenBelow, IsErrorBelow, IsCursorError, from_root, cursor_path};
+ghost use Rattle.gixobj_editor.specs.Cursors.{IsEnsured, IsFailedCursorIn, IsWrittenBelow, IsErrorBelow, IsCursorError, from_root, cursor_path};
 ghost use Rattle.gixobj_editor.specs.Removals.{IsLeafRemoved, IsRemoved, IsLeafRemovalError, IsRemovalError};
 ghost use Rattle.gixobj_editor.specs.Upserts.{IsNameError, IsFailedEditIn, IsUpserted, IsErrorIn, IsUpsertError};
 ghost use Rattle.gixobj_editor.specs.contracts.editor.Editor.{the_row};
@@ -114,10 +114,11 @@ impl<S: Find> Editor<S> {
     /// Ok(())
     /// ```
     pub fn cursor_at(&mut self, path: &[BString]) -> Result<Cursor<'_, S>, Error>
-        ensures* rejected { sem 𝓛 (RestsIfErr (the_row S.row) self.entry (λ c. c.editor.ghost_name)
-            result (λ remaining. IfErr result (IsFailedEditIn (store_model S.objects S.may_fail)
-            self.old (in_directory (cursor_path (names_of path.now))) remaining)
-            × IfErr result (λ error. IsNameError error → remaining ≡ self.old))) }
+        // Starred, since a cursor borrows the editor: the clause says what remains of the editor after an
+        // error, when nothing borrows it.
+        ensures* after_error { sem 𝓛 (RestsIfErr (the_row S.row) self.entry (λ c. c.editor.ghost_name)
+            result (λ remaining. IfErr result (IsFailedCursorIn (store_model S.objects S.may_fail)
+            self.old (cursor_path (names_of path.now)) remaining))) }
         ensures same_reference { IfOk result (λ c. c.editor.ghost_name ≡ self.entry.ghost_name) }
         ensures prefix { IfOk result (λ c. c.editor.now.prefix ≡ cursor_path (names_of path.now)) }
         ensures ensured { IfOk result (λ c.
