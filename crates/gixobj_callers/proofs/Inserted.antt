@@ -11,14 +11,13 @@ use Rattle.gix_object.specs.Files.{Ensured, Files, NamedFiles, Path, SameFiles, 
 use Rattle.gix_object.specs.History.{FilesAfter}
 use Rattle.gix_object.specs.Mode.{mode_of_kind}
 use Rattle.gix_object.specs.Openings.{AreTreesOf, OfTrees}
-use Rattle.gix_object.specs.State.{EditorFiles, State, open_bases, open_dirs}
+use Rattle.gix_object.specs.State.{EditorFiles, State, new_state, open_bases, open_dirs}
 use Rattle.gix_object.specs.Tables.{AgreesWithPairs, AgreesWithStore}
 use Rattle.gix_object.specs.Upserts.{IsUpserted, IsUpsertError}
 use Rattle.gix_object.specs.directories.write.Written.{Written}
 use Rattle.gix_object.specs.editor.editor.error.Error.{Error}
 use Rattle.gix_object.specs.hash.hash.kind.Kind.{Kind}
 use Rattle.gixobj_callers.specs.Checkouts.{AreNotInserted, AreInserted, IsCheckedOut, IsFilled, IsMade, IsNotFilled, IsNotInsertedAt, IsInsertedAt, insert_at, steps_of_checkout}
-use Rattle.gixobj_callers.specs.Plans.{started}
 use Rattle.gixobj_callers.specs.declared.checkout.Planned.{Planned}
 use Rattle.gixobj_callers.proofs.Histories.{history_congruent, same_files_refl, same_files_trans}
 use Rattle.gix_object.specs.Stores.{StoreModel}
@@ -137,13 +136,13 @@ module _ {S : Type 0} (model : StoreModel S) (prefix : Path) where
     -- the named tree has the files that the steps make of the root's
     pub checked_out_files : {F : Type 0} (gave : F → Pair → F → Type 0) (out : F) (store : S) (object_hash : Kind) (root : List EntryView)
         (entries : List Planned) (written : Written)
-        → HasBases T (open_dirs (started store object_hash root)) (open_bases (started store object_hash root))
-        → SameFiles (EditorFiles T n (started store object_hash root)) (Files T n root)
-        → IsCheckedOut model (started store object_hash root) prefix entries gave out written → AreTreesOf (model.objects store) trees
+        → HasBases T (open_dirs (new_state root store object_hash)) (open_bases (new_state root store object_hash))
+        → SameFiles (EditorFiles T n (new_state root store object_hash)) (Files T n root)
+        → IsCheckedOut model (new_state root store object_hash) prefix entries gave out written → AreTreesOf (model.objects store) trees
         → AgreesWithPairs T written.trees.items
         → SameFiles (NamedFiles T n written.id) (FilesAfter T n (steps_of_checkout prefix entries) (Files T n root))
     checked_out_files gave out store object_hash root entries written bases begun (filled, remaining, last, is_filled, wrote) fits pairs =
-        let has = filled_based (started store object_hash root) filled entries is_filled fits bases in
+        let has = filled_based (new_state root store object_hash) filled entries is_filled fits bases in
         same_files_trans _ _ _ (wrote.files T n pairs has)
-        (same_files_trans _ _ _ (filled_files (started store object_hash root) filled entries is_filled fits)
-        (history_congruent T n (steps_of_checkout prefix entries) (EditorFiles T n (started store object_hash root)) (Files T n root) begun))
+        (same_files_trans _ _ _ (filled_files (new_state root store object_hash) filled entries is_filled fits)
+        (history_congruent T n (steps_of_checkout prefix entries) (EditorFiles T n (new_state root store object_hash)) (Files T n root) begun))

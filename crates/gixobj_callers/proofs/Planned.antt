@@ -7,25 +7,17 @@ use Rattle.gix_object.specs.Existing.{IsEmptyId}
 use Rattle.gix_object.specs.Files.{Files, NamedFiles, Path, SameFiles, Table, Trees, Upserted, is_null}
 use Rattle.gix_object.specs.Hash.{id_kind, id_of}
 use Rattle.gix_object.specs.Openings.{AreTreesOf, OfTrees}
-use Rattle.gix_object.specs.State.{EditorFiles, State, open_bases, open_dirs, root_alone}
+use Rattle.gix_object.specs.State.{EditorFiles, State, new_state, open_bases, open_dirs}
 use Rattle.gix_object.specs.Stores.{Objects, StoreModel}
 use Rattle.gix_object.specs.Tables.{AgreesWithPairs, AgreesWithStore}
 use Rattle.gix_object.specs.Upserts.{IsUpserted, IsUpsertError}
 use Rattle.gix_object.specs.Writes.{IsWrittenEditor}
 use Rattle.gix_object.specs.directories.write.Written.{Written}
 use Rattle.gix_object.specs.editor.editor.error.Error.{Error}
-use Rattle.gix_object.specs.hash.hash.kind.Kind.{Kind}
 use Rattle.gix_object.specs.hash.hash.object_id.ObjectId.{ObjectId}
 use Rattle.gix_object.specs.hash.kind.Kind.TheVariants.{Tree}
 use Rattle.gixobj_callers.proofs.Histories.{same_files_trans, upserted_congruent}
-use Rattle.gixobj_callers.specs.Plans.{IsNotInserted, IsInserted, IsRoot, started}
-
--- an editor with these parts is a new one
-pub state_is_started : {S : Type 0} (state : State S) (store : S) (object_hash : Kind) (entries : List EntryView) → state.dirs ≡ root_alone entries
-    → state.bases ≡ root_alone [] → state.store ≡ store → state.lookups ≡ 0
-    → state.object_hash ≡ object_hash → state.prefix ≡ [] → state ≡ started store object_hash entries
-state_is_started state store object_hash entries root bare same_store none same_kind no_prefix i =
-    record { dirs = root i; bases = bare i; store = same_store i; lookups = none i; object_hash = same_kind i; prefix = no_prefix i }
+use Rattle.gixobj_callers.specs.Plans.{IsNotInserted, IsInserted, IsRoot}
 
 -- a table that agrees with the store has the root by its id, if that isn't null; by the law that ids are equal or not
 module _ (same_or_not : (x y : ObjectId) → (x ≡ y) ⊎ (x ≢ y)) (T : Table) (objects : Objects) (trees : Trees) (it : ObjectId) (entries : List EntryView)
@@ -47,7 +39,7 @@ module _ (same_or_not : (x y : ObjectId) → (x ≡ y) ⊎ (x ≢ y)) (T : Table
 module _ {S : Type 0} (model : StoreModel S) (store : S) (root_id : ObjectId) (path : Path) (mode : ℕ) (id : ObjectId) where
   -- the errors and the effect of an edit by an editor of the stored root
   pub inserted_in_root : (editor edited : State S) (entries : List EntryView) → IsRoot (model.objects store) root_id entries
-      → editor ≡ started store (id_kind root_id) entries
+      → editor ≡ new_state entries store (id_kind root_id)
       → ((trees : Trees) → AreTreesOf (model.objects editor.store) trees → IsUpserted trees editor path mode id edited)
       → IsInserted model store root_id path mode id edited
   inserted_in_root editor edited entries is same appended = record {
@@ -58,7 +50,7 @@ module _ {S : Type 0} (model : StoreModel S) (store : S) (root_id : ObjectId) (p
   }
 
   pub not_inserted_in_root : (editor : State S) (entries : List EntryView) (error : Error) → IsRoot (model.objects store) root_id entries
-      → editor ≡ started store (id_kind root_id) entries
+      → editor ≡ new_state entries store (id_kind root_id)
       → ((trees : Trees) → AreTreesOf (model.objects editor.store) trees → IsUpsertError (model.objects editor.store) (model.may_fail editor.store) trees
       (open_dirs editor) path error)
       → IsNotInserted model store root_id path mode id error
@@ -71,7 +63,7 @@ module _ {S : Type 0} (model : StoreModel S) (store : S) (root_id : ObjectId) (p
 
   -- the named tree has the files that the edit makes of the root's
   module _ (editor : State S) (entries : List EntryView) (is_root : IsRoot (model.objects store) root_id entries)
-      (new : editor ≡ started store (id_kind root_id) entries)
+      (new : editor ≡ new_state entries store (id_kind root_id))
       (bases : (T : Table) → HasBases T (open_dirs editor) (open_bases editor))
       (begun : (T : Table) (n : ℕ) → SameFiles (EditorFiles T n editor) (Files T n entries)) where
     pub planned_files : ((x y : ObjectId) → (x ≡ y) ⊎ (x ≢ y)) → {F : Type 0} (gave : F → Pair → F → Type 0) (out last : F) (edited remaining : State S)

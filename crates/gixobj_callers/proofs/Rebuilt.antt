@@ -6,13 +6,12 @@ use Rattle.gix_object.specs.History.{Step}
 use Rattle.gix_object.specs.OneId.{IdsDetermineFiles, IsPlainRun, files_before}
 use Rattle.gix_object.specs.PlainHistory.{NoFiles, PlainFilesAfter}
 use Rattle.gix_object.specs.Replies.{Answers, IsRun}
-use Rattle.gix_object.specs.State.{State}
+use Rattle.gix_object.specs.State.{State, new_state}
 use Rattle.gix_object.specs.directories.write.Written.{Written}
 use Rattle.gix_object.specs.editor.command.Command.{Command}
 use Rattle.gix_object.specs.editor.reply.Reply.{Reply}
 use Rattle.gix_object.specs.hash.hash.kind.Kind.{Kind}
 use Rattle.gix_object.specs.hash.hash.object_id.ObjectId.{ObjectId}
-use Rattle.gixobj_callers.specs.Plans.{started}
 use Rattle.gixobj_callers.specs.Rebuilds.{AreReplies, IsCompared, NamesWritten, IsComparisonError, id_named, up_to}
 use Rattle.gixobj_callers.specs.declared.rebuilder.CompareError.{CompareError}
 use Rattle.gixobj_callers.specs.declared.rebuilder.CompareError.TheVariants as compare
@@ -89,12 +88,12 @@ module _ {S E : Type 0} (model : StoreModel S) (commands : List Command) (start 
 
 module _ {S E : Type 0} (model : StoreModel S) (answers : Answers E) (store : S) (object_hash : Kind) (commands : List Command) where
   -- the replies of a new editor
-  pub replied : (start remaining : State S) (replies : List (Reply E)) → start ≡ started store object_hash []
+  pub replied : (start remaining : State S) (replies : List (Reply E)) → start ≡ new_state [] store object_hash
       → IsRun model answers start commands replies remaining → AreReplies model answers store object_hash commands replies
   replied start remaining replies new run = (remaining, subst (λ (state : State S). IsRun model answers state commands replies remaining) new run)
 
   pub compared : (start remaining : State S) (replies : List (Reply E)) (place other : ℕ) (same : Bool) (first second : Written)
-      → start ≡ started store object_hash [] → IsRun model answers start commands replies remaining
+      → start ≡ new_state [] store object_hash → IsRun model answers start commands replies remaining
       → OneId model commands start replies
       → written_at replies place ≡ Some first → written_at replies other ≡ Some second → IsTrue same ↔ (first.id ≡ second.id)
       → IsCompared model answers store object_hash commands place other same
@@ -115,7 +114,7 @@ module _ {S E : Type 0} (model : StoreModel S) (answers : Answers E) (store : S)
 
   -- the result by ids that were found in equal lists of replies
   pub is_reported : (start remaining : State S) (replies shown again : List (Reply E)) (place other : ℕ) (same : Bool) (id its_id : ObjectId)
-      → start ≡ started store object_hash [] → IsRun model answers start commands replies remaining
+      → start ≡ new_state [] store object_hash → IsRun model answers start commands replies remaining
       → OneId model commands start replies
       → shown ≡ replies → again ≡ replies → NamesWritten shown place id → NamesWritten again other its_id → IsTrue same ↔ (id ≡ its_id)
       → IsCompared model answers store object_hash commands place other same
@@ -129,7 +128,7 @@ module _ {S E : Type 0} (model : StoreModel S) (answers : Answers E) (store : S)
 
   -- the first index has no write
   pub none_at_first : (start remaining : State S) (replies shown : List (Reply E)) (place other : ℕ) (error : CompareError)
-      → start ≡ started store object_hash [] → IsRun model answers start commands replies remaining
+      → start ≡ new_state [] store object_hash → IsRun model answers start commands replies remaining
       → shown ≡ replies → error ≡ compare.NoWrite place → written_at shown place ≡ None
       → IsComparisonError model answers store object_hash commands place other error
   none_at_first start remaining replies shown place other error new run is_shown is none =
@@ -139,7 +138,7 @@ module _ {S E : Type 0} (model : StoreModel S) (answers : Answers E) (store : S)
 
   -- the first index has a write, the second has none
   pub none_at_second : (start remaining : State S) (replies shown again : List (Reply E)) (place other : ℕ) (id : ObjectId) (error : CompareError)
-      → start ≡ started store object_hash [] → IsRun model answers start commands replies remaining
+      → start ≡ new_state [] store object_hash → IsRun model answers start commands replies remaining
       → shown ≡ replies → again ≡ replies → NamesWritten shown place id → error ≡ compare.NoWrite other → written_at again other ≡ None
       → IsComparisonError model answers store object_hash commands place other error
   none_at_second start remaining replies shown again place other id error new run is_shown is_again (first, first_at, first_is) is none =

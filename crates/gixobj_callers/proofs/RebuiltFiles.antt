@@ -10,7 +10,7 @@ use Rattle.gix_object.specs.Openings.{AreTreesOf, OfTrees}
 use Rattle.gix_object.specs.PlainHistory.{NoFiles}
 use Rattle.gix_object.specs.Replies.{Answers, IsRun}
 use Rattle.gix_object.specs.RunTables.{AgreesWithRun, DecodesToItself}
-use Rattle.gix_object.specs.State.{EditorFiles, State, open_bases, open_dirs}
+use Rattle.gix_object.specs.State.{EditorFiles, State, new_state, open_bases, open_dirs}
 use Rattle.gix_object.specs.Stores.{Objects, StoreModel}
 use Rattle.gix_object.specs.Tables.{AgreesWithPairs, IsConsistentWith}
 use Rattle.gix_object.specs.directories.write.Written.{Written}
@@ -20,7 +20,6 @@ use Rattle.gix_object.specs.hash.hash.kind.Kind.{Kind}
 use Rattle.gix_object.specs.hash.hash.object_id.ObjectId.{ObjectId}
 use Rattle.gixobj_callers.proofs.Histories.{history_congruent, same_files_trans}
 use Rattle.gixobj_callers.proofs.Rebuilt.{replied}
-use Rattle.gixobj_callers.specs.Plans.{started}
 use Rattle.gixobj_callers.specs.Rebuilds.{HasFilesInTable, IsConsistentRun, IsRebuildError, IsRebuilt, NamesWritten}
 use Rattle.gixobj_callers.specs.declared.rebuilder.CompareError.{CompareError}
 use Rattle.gixobj_callers.specs.declared.rebuilder.CompareError.TheVariants as compare
@@ -48,7 +47,7 @@ HaveWritesFiles objects start commands replies = (T : Table) (n k : ℕ) (writte
     → SameFiles (NamedFiles T n written.id) (FilesAfter T n (accepted_steps (take k commands) (take k replies)) (EditorFiles T n start))
 
 module _ {S E : Type 0} (model : StoreModel S) (answers : Answers E) (store : S) (object_hash : Kind) (commands : List Command)
-    (start remaining : State S) (replies : List (Reply E)) (place : ℕ) (new : start ≡ started store object_hash [])
+    (start remaining : State S) (replies : List (Reply E)) (place : ℕ) (new : start ≡ new_state [] store object_hash)
     (run : IsRun model answers start commands replies remaining) where
   module _ (entries : List EntryView) (is_empty : entries ≡ []) (begun : (T : Table) (n : ℕ) → SameFiles (EditorFiles T n start) (Files T n entries))
       (bases : (T : Table) → HasBases T (open_dirs start) (open_bases start)) (files_of_root : HaveWritesFiles model.objects start commands replies)

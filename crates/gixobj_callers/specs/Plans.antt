@@ -9,13 +9,12 @@ use Rattle.gix_object.specs.Files.{Path}
 use Rattle.gix_object.specs.Emitting.{IsWriteError}
 use Rattle.gix_object.specs.Emission.{EmitsSome}
 use Rattle.gix_object.specs.Hash.{id_kind}
-use Rattle.gix_object.specs.State.{State, open_bases, open_dirs, root_alone}
+use Rattle.gix_object.specs.State.{State, new_state, open_bases, open_dirs}
 use Rattle.gix_object.specs.TreeDecoding.{DecodesToTree}
 use Rattle.gix_object.specs.Upserts.{IsUpserted, IsUpsertError}
 use Rattle.gix_object.specs.Writes.{IsWrittenEditor}
 use Rattle.gix_object.specs.directories.write.Written.{Written}
 use Rattle.gix_object.specs.editor.editor.error.Error.{Error}
-use Rattle.gix_object.specs.hash.hash.kind.Kind as hash
 use Rattle.gix_object.specs.hash.hash.object_id.ObjectId.{ObjectId}
 use Rattle.gix_object.specs.hash.kind.Kind.TheVariants.{Tree}
 use Rattle.gixobj_callers.specs.declared.planner.PlanError.{PlanError}
@@ -44,18 +43,6 @@ IsStoredRootError objects may_fail id root.OutOfMemory = NamesFilled objects id
 abbrev pub IsRootError : Objects → (ObjectId → Bool) → ObjectId → RootError → Type 0
 IsRootError objects may_fail id error = (¬ IsEmptyId Tree id) × IsStoredRootError objects may_fail id error
 
--- a new editor of this root
-abbrev pub started : {S : Type 0} → S → hash.Kind → List EntryView → State S
-started store object_hash entries =
-    record {
-      dirs = root_alone entries;
-      bases = root_alone [];
-      store = store;
-      lookups = 0;
-      object_hash = object_hash;
-      prefix = [];
-    }
-
 -- a plan: an entry of this mode and id at this path of the tree with this id in a store
 module _ {S : Type 0} (model : StoreModel S) (store : S) (root_id : ObjectId) (path : Path) (mode : ℕ)
     (id : ObjectId) where
@@ -64,7 +51,7 @@ module _ {S : Type 0} (model : StoreModel S) (store : S) (root_id : ObjectId) (p
     pub entries : List EntryView
     pub is_root : IsRoot (model.objects store) root_id entries
     pub inserted : OfTrees (model.objects store)
-        (λ trees. IsUpserted trees (started store (id_kind root_id) entries) path mode id edited)
+        (λ trees. IsUpserted trees (new_state entries store (id_kind root_id)) path mode id edited)
 
   -- a new editor of the stored root fails to insert the entry
   abbrev pub IsNotInserted : Error → Type 0
@@ -72,7 +59,7 @@ module _ {S : Type 0} (model : StoreModel S) (store : S) (root_id : ObjectId) (p
       (entries : List EntryView) × IsRoot (model.objects store) root_id entries
       × OfTrees (model.objects store)
       (λ trees. IsUpsertError (model.objects store) (model.may_fail store) trees
-      (open_dirs (started store (id_kind root_id) entries)) path error)
+      (open_dirs (new_state entries store (id_kind root_id))) path error)
 
   -- the entry is inserted, and then the write succeeds
   abbrev pub IsPlanned : {F : Type 0} → (F → Pair → F → Type 0) → F → Written → Type 0

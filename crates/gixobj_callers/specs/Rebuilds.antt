@@ -8,7 +8,7 @@ use Rattle.gix_object.specs.Openings.{OfTrees}
 use Rattle.gix_object.specs.PlainHistory.{NoFiles}
 use Rattle.gix_object.specs.Replies.{Answers, IsRun}
 use Rattle.gix_object.specs.RunTables.{AgreesWithRun, DecodesToItself}
-use Rattle.gix_object.specs.State.{State}
+use Rattle.gix_object.specs.State.{State, new_state}
 use Rattle.gix_object.specs.Stores.{Objects, StoreModel}
 use Rattle.gix_object.specs.Tables.{IsConsistentWith}
 use Rattle.gix_object.specs.directories.write.Written.{Written}
@@ -16,7 +16,6 @@ use Rattle.gix_object.specs.editor.command.Command.{Command}
 use Rattle.gix_object.specs.editor.reply.Reply.{Reply}
 use Rattle.gix_object.specs.hash.hash.kind.Kind as hash
 use Rattle.gix_object.specs.hash.hash.object_id.ObjectId.{ObjectId}
-use Rattle.gixobj_callers.specs.Plans.{started}
 use Rattle.gixobj_callers.specs.declared.rebuilder.CompareError.{CompareError}
 use Rattle.gixobj_callers.specs.declared.rebuilder.CompareError.TheVariants as compare
 
@@ -52,7 +51,7 @@ module _ {S E : Type 0} (model : StoreModel S) (answers : Answers E) (store : S)
   -- a new editor of the empty root may get these replies
   abbrev pub AreReplies : List (Reply E) → Type 0
   AreReplies replies = (remaining : State S)
-      × IsRun model answers (started store object_hash []) commands replies remaining
+      × IsRun model answers (new_state [] store object_hash) commands replies remaining
 
   -- the index is that of a successful write of the root, which names this id. The id's tree has the files of the
   -- commands before it, if the emitted trees are consistent with the store's trees before the run
@@ -79,7 +78,7 @@ module _ {S E : Type 0} (model : StoreModel S) (answers : Answers E) (store : S)
     pub first_at : written_at replies place ≡ Some first
     pub second_at : written_at replies other ≡ Some second
     pub ids : IsTrue same ↔ (first.id ≡ second.id)
-    pub files : (T : Table) → IsPlainRun T (model.objects store) (started store object_hash [])
+    pub files : (T : Table) → IsPlainRun T (model.objects store) (new_state [] store object_hash)
         (take (up_to place other) commands) (take (up_to place other) replies)
         → IsTrue same ↔ SameFiles (files_before place commands replies) (files_before other commands replies)
 

@@ -8,7 +8,7 @@ ghost use Rattle.gix_object.specs.Files.{Files, NamedFiles, SameFiles, Table, Tr
 ghost use Rattle.gix_object.specs.History.{FilesAfter};
 ghost use Rattle.gix_object.specs.Tables.{AgreesWithPairs, AgreesWithStore};
 ghost use Rattle.gixobj_callers.specs.Checkouts.{AreNotInserted, AreInserted, IsCheckedOut, IsFilled, IsNotFilled, IsCheckoutError, steps_of_checkout};
-ghost use Rattle.gixobj_callers.specs.Plans.{started};
+ghost use Rattle.gix_object.specs.State.{new_state};
 ghost use Rattle.gix_object.specs.Stores.{store_model};
 
 use bstr::BString;
@@ -74,10 +74,10 @@ pub fn with_entries_at<S: Find + Drop, E: Drop, F: FnMut(&Tree) -> Result<Object
     // The directory is filled, and then the write succeeds; or the error reports which of them failed, and
     // why.
     ensures written { IfOk result (IsCheckedOut (store_model S.objects S.may_fail)
-        (started store object_hash root) (cursor_path (names_of prefix.now)) entries.now
+        (new_state root store object_hash) (cursor_path (names_of prefix.now)) entries.now
         (answered F.FnMut) out) }
     ensures error { IfErr result (IsCheckoutError (store_model S.objects S.may_fail)
-        (started store object_hash root) (cursor_path (names_of prefix.now)) entries.now
+        (new_state root store object_hash) (cursor_path (names_of prefix.now)) entries.now
         (answered F.FnMut) (denied F.FnMut) out) }
 {
     let mut editor = Editor::new(root, store, object_hash);

@@ -11,7 +11,7 @@ ghost use Rattle.gixobj_files.specs.Edits.{entry_at};
 ghost use Rattle.gixobj_files.specs.Files.{Files, SameFiles, Table};
 ghost use Rattle.gixobj_files.specs.Opening.{IsOpened};
 ghost use Rattle.gixobj_files.specs.Bases.{HasBases};
-ghost use Rattle.gixobj_files.specs.State.{EditorFiles, open_bases, open_dirs, root_alone, with_store};
+ghost use Rattle.gixobj_files.specs.State.{EditorFiles, new_state, open_bases, open_dirs, root_alone, with_store};
 ghost use Rattle.gixobj_files.specs.Emission.{EmitsSome};
 ghost use Rattle.gixobj_directories.specs.Calls.{IsCallableOnTrees, answered, denied, names_of};
 ghost use Rattle.gixobj_directories.specs.Emitting.{IsWriteError};
@@ -102,12 +102,7 @@ impl<S> Editor<S> {
     /// ```
     pub fn new(root: Tree, store: S, object_hash: hash::Kind) -> Editor<S>
         requires { IsWellFormed root }
-        ensures dirs { result.dirs ≡ root_alone root }
-        ensures store { result.store ≡ store }
-        ensures lookups { result.lookups ≡ 0 }
-        ensures object_hash { result.object_hash ≡ object_hash }
-        ensures prefix { result.prefix ≡ [] }
-        ensures bases { result.bases ≡ root_alone [] }
+        ensures state { result ≡ new_state root store object_hash }
         ensures has_bases { (T : Table) → HasBases T (open_dirs result) (open_bases result) }
         ensures is_opened { IsOpened (open_dirs result) }
         ensures files { (T : Table) (n : ℕ) → SameFiles (EditorFiles T n result) (Files T n root) }

@@ -36,6 +36,18 @@ open_bases state = λ path. map.get state.bases path
 abbrev pub root_alone : List EntryView → DirMap
 root_alone entries = map.insert map.empty [] entries
 
+-- the state of a new editor of this root over this store, with ids of this kind
+abbrev pub new_state : {S : Type 0} → List EntryView → S → Kind → State S
+new_state root store object_hash =
+    record {
+      dirs = root_alone root;
+      bases = root_alone [];
+      store = store;
+      lookups = 0;
+      object_hash = object_hash;
+      prefix = [];
+    }
+
 -- the files of an editor
 abbrev pub EditorFiles : {S : Type 0} → Table → ℕ → State S → FileSet
 EditorFiles T n state = OpenFiles T n (open_dirs state)

@@ -6,7 +6,7 @@ use Rattle.gixobj_store.specs.Stores.{Objects}
 use Rattle.gixobj_files.specs.Bases.{HasBases}
 use Rattle.gixobj_files.specs.Files.{FileSet, NamedFiles, SameFiles, Table}
 use Rattle.gixobj_files.specs.History as history
-use Rattle.gixobj_files.specs.State.{EditorFiles, State, open_bases, open_dirs, root_alone}
+use Rattle.gixobj_files.specs.State.{EditorFiles, State, new_state, open_bases, open_dirs}
 use Rattle.gixobj_tree.specs.Entries.{Pair}
 use Rattle.gixobj_files.specs.Tables.{AgreesWithPairs}
 use Rattle.gixobj_hash.specs.Hash.{id_of}
@@ -24,14 +24,9 @@ use Rattle.gixobj_import.specs.declared.import.Importer.{Importer}
 use Rattle.gixobj_import.specs.declared.import.Step.{Step}
 use Rattle.gixobj_files.specs.PlainHistory.{NoFiles}
 
--- a new editor without files
-abbrev pub without_files : {S : Type 0} → S → hash.Kind → State S
-without_files store hash =
-    record { dirs = root_alone []; bases = root_alone []; store = store; lookups = 0; object_hash = hash; prefix = [] }
-
 -- a new importer: it has no files and no commits, and hasn't failed
 pub record IsNewImporter {S : Type 0} (importer : Importer S) : Type 0 where
-  pub editor : importer.editor ≡ without_files importer.editor.store importer.hash
+  pub editor : importer.editor ≡ new_state [] importer.editor.store importer.hash
   pub last : importer.last ≡ None
   pub ready : importer.failed ≡ false
 

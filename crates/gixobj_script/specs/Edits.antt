@@ -6,7 +6,7 @@ use Rattle.gixobj_editor.specs.declared.command.Command.{Command}
 use Rattle.gixobj_store.specs.Stores.{StoreModel}
 use Rattle.gixobj_tree.specs.TreeEncoding.{IsDigestResult}
 use Rattle.gixobj_script.specs.Reporting.{report_lines_of}
-use Rattle.gixobj_files.specs.State.{State, root_alone}
+use Rattle.gixobj_files.specs.State.{State, new_state}
 use Rattle.gixobj_hash.specs.declared.hash.kind.Kind as hash
 use Rattle.gixobj_editor.specs.Replies.{Answers, IsRun}
 use Rattle.gixobj_editor.specs.declared.reply.Reply.{Reply}
@@ -40,11 +40,9 @@ memory_model = record { objects = memory_objects; may_fail = λ store id. false 
 
 -- a new editor on the empty root, over an empty store, with ids of this hash kind
 pub record IsNewEditor (hash : hash.Kind) (state : State Memory) : Type 0 where
-  pub root : state.dirs ≡ root_alone []
-  pub bases : state.bases ≡ root_alone []
-  pub nothing : memory_objects state.store ≡ finite.empty
-  pub lookups : state.lookups ≡ 0
-  pub object_hash : state.object_hash ≡ hash
+  pub store : Memory
+  pub nothing : memory_objects store ≡ finite.empty
+  pub is_new : state ≡ new_state [] store hash
 
 -- the bytes report a run of the script on a new editor
 pub record IsEdit (hash : hash.Kind) (script bytes : List ℕ) : Type 0 where

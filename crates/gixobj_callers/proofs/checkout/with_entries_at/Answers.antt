@@ -1,7 +1,6 @@
 -- A new editor of the root inserts the entries, and then writes.
 use Rattle.std.proofs.Common.{subst}
 use Rattle.gixobj_callers.specs.Checkouts.{IsFilled, IsNotFilled}
-use Rattle.gixobj_callers.proofs.Planned.{state_is_started}
 use Rattle.gixobj_callers.proofs.Inserted.{checked_out_files}
 use Rattle.gixobj_callers.proofs.checkout.with_entries_at.Goals as goal
 use Rattle.gix_object.specs.Stores.{StoreModel}
@@ -15,8 +14,7 @@ pub returns-in-Err-clause-error : goal.returns-in-Err-clause-error
 returns-in-Err-clause-error g c =
     let model : StoreModel g.row.S.Denot = record { objects = g.S.Store.objects; may_fail = g.S.Store.may_fail } in
     let new = c.new-editor.ensures in
-    let begun = state_is_started c.new-editor.result c.args.store c.args.object_hash c.args.root new.dirs new.bases new.store new.lookups new.object_hash
-    new.prefix in
+    let begun = new.state in
     subst (λ (state : State g.row.S.Denot). IsNotFilled model state (cursor_path (names_of c.args.prefix.now)) c.args.entries.now c.in-Err.error) begun
     (c.in-Err.ensures {u = tt}).error
 
@@ -24,8 +22,7 @@ pub returns-in-Ok-clause-files : goal.returns-in-Ok-clause-files
 returns-in-Ok-clause-files g c = λ trees fits T n agrees pairs.
     let model : StoreModel g.row.S.Denot = record { objects = g.S.Store.objects; may_fail = g.S.Store.may_fail } in
     let new = c.new-editor.ensures in
-    let begun = state_is_started c.new-editor.result c.args.store c.args.object_hash c.args.root new.dirs new.bases new.store new.lookups new.object_hash
-    new.prefix in
+    let begun = new.state in
     let filled = subst (λ (state : State g.row.S.Denot). IsFilled model state (cursor_path (names_of c.args.prefix.now)) c.args.entries.now
     c.insert_entries_at.new.editor) begun (c.in_default.ensures {u = tt}).inserted in
     let (last, wrote) = (c.in-Ok.ensures {u = tt}).written in
@@ -39,8 +36,7 @@ pub returns-in-Ok-clause-written : goal.returns-in-Ok-clause-written
 returns-in-Ok-clause-written g c =
     let model : StoreModel g.row.S.Denot = record { objects = g.S.Store.objects; may_fail = g.S.Store.may_fail } in
     let new = c.new-editor.ensures in
-    let begun = state_is_started c.new-editor.result c.args.store c.args.object_hash c.args.root new.dirs new.bases new.store new.lookups new.object_hash
-    new.prefix in
+    let begun = new.state in
     let filled = subst (λ (state : State g.row.S.Denot). IsFilled model state (cursor_path (names_of c.args.prefix.now)) c.args.entries.now
     c.insert_entries_at.new.editor) begun (c.in_default.ensures {u = tt}).inserted in
     let (last, wrote) = (c.in-Ok.ensures {u = tt}).written in
@@ -50,8 +46,7 @@ pub returns-clause-error : goal.returns-clause-error
 returns-clause-error g c =
     let model : StoreModel g.row.S.Denot = record { objects = g.S.Store.objects; may_fail = g.S.Store.may_fail } in
     let new = c.new-editor.ensures in
-    let begun = state_is_started c.new-editor.result c.args.store c.args.object_hash c.args.root new.dirs new.bases new.store new.lookups new.object_hash
-    new.prefix in
+    let begun = new.state in
     let filled = subst (λ (state : State g.row.S.Denot). IsFilled model state (cursor_path (names_of c.args.prefix.now)) c.args.entries.now
     c.insert_entries_at.new.editor) begun (c.in_default.ensures {u = tt}).inserted in
     let (last, stopped) = (c.in-Err-write.ensures {u = tt}).error in

@@ -1,11 +1,10 @@
 -- The root of a write of the run of commands on an editor without files.
-use Rattle.std.proofs.Common.{◌∙◌, List, [], Result, ap}
+use Rattle.std.proofs.Common.{◌∙◌, List, Result, ap}
 use Rattle.std.specs.Fn.{FnReturnsAt}
 use Rattle.gix_object.specs.Entries.{EntryView}
-use Rattle.gix_object.specs.State.{root_alone}
+use Rattle.gix_object.specs.State.{new_state}
 use Rattle.gix_object.specs.Stores.{StoreModel}
 use Rattle.gix_object.specs.hash.hash.object_id.ObjectId.{ObjectId}
-use Rattle.gixobj_callers.proofs.Planned.{state_is_started}
 use Rattle.gixobj_callers.proofs.RebuiltFiles.{error_of_result, rebuilt_of_result}
 use Rattle.gixobj_callers.proofs.rebuilder.rebuild.Goals as goal
 
@@ -14,9 +13,7 @@ returns-clause-files g c =
     let model : StoreModel g.row.S.Denot = record { objects = g.S.Store.objects; may_fail = g.S.Store.may_fail } in
     let answers = λ (tree : List EntryView) (answer : Result ObjectId g.row.E.Denot). FnReturnsAt g.F.Fn c.args.out tree answer in
     let new = c.new-editor.ensures in
-    let begun = state_is_started c.new-editor.result c.args.store c.args.object_hash [] (new.dirs
-    ∙ ap root_alone c.empty.ensures) new.bases new.store new.lookups
-    new.object_hash new.prefix in
+    let begun = new.state ∙ ap (λ (root : List EntryView). new_state root c.args.store c.args.object_hash) c.empty.ensures in
     let ran = c.in_ok-replies.ensures {u = tt} in
     rebuilt_of_result model answers c.args.store c.args.object_hash c.args.commands.items c.new-editor.result c.run.new.editor c.in_ok-replies.replies.items
     c.args.place begun ran.replies _ c.empty.ensures new.files new.has_bases ran.files_of_root c.deref.result.now c.deref-2.result.now c.deref-3.result.now
@@ -28,9 +25,7 @@ returns-clause-error g c =
     let model : StoreModel g.row.S.Denot = record { objects = g.S.Store.objects; may_fail = g.S.Store.may_fail } in
     let answers = λ (tree : List EntryView) (answer : Result ObjectId g.row.E.Denot). FnReturnsAt g.F.Fn c.args.out tree answer in
     let new = c.new-editor.ensures in
-    let begun = state_is_started c.new-editor.result c.args.store c.args.object_hash [] (new.dirs
-    ∙ ap root_alone c.empty.ensures) new.bases new.store new.lookups
-    new.object_hash new.prefix in
+    let begun = new.state ∙ ap (λ (root : List EntryView). new_state root c.args.store c.args.object_hash) c.empty.ensures in
     error_of_result model answers c.args.store c.args.object_hash c.args.commands.items c.new-editor.result c.run.new.editor c.in_ok-replies.replies.items
     c.args.place begun (c.in_ok-replies.ensures {u = tt}).replies c.deref-3.result.now c.deref-3.ensures.value c.id_written.result c.id_written.ensures.error
     c.id_written.ensures.none

@@ -1,10 +1,9 @@
 -- Two writes of the run of commands on an editor without files.
-use Rattle.std.proofs.Common.{◌∙◌, List, [], Result, ap}
+use Rattle.std.proofs.Common.{◌∙◌, List, Result, ap}
 use Rattle.std.specs.Fn.{FnReturnsAt}
 use Rattle.gix_object.specs.Entries.{EntryView}
-use Rattle.gix_object.specs.State.{root_alone}
+use Rattle.gix_object.specs.State.{new_state}
 use Rattle.gix_object.specs.hash.hash.object_id.ObjectId.{ObjectId}
-use Rattle.gixobj_callers.proofs.Planned.{state_is_started}
 use Rattle.gixobj_callers.proofs.Rebuilt.{is_reported, none_at_first, none_at_second}
 use Rattle.gixobj_callers.proofs.rebuilder.wrote_the_same.Goals as goal
 use Rattle.gix_object.specs.Stores.{StoreModel}
@@ -14,9 +13,7 @@ returns-in-Err-clause-error g c =
     let model : StoreModel g.row.S.Denot = record { objects = g.S.Store.objects; may_fail = g.S.Store.may_fail } in
     let answers = λ (tree : List EntryView) (answer : Result ObjectId g.row.E.Denot). FnReturnsAt g.F.Fn c.args.out tree answer in
     let new = c.new-editor.ensures in
-    let begun = state_is_started c.new-editor.result c.args.store c.args.object_hash [] (new.dirs
-    ∙ ap root_alone c.empty.ensures) new.bases new.store new.lookups
-    new.object_hash new.prefix in
+    let begun = new.state ∙ ap (λ (root : List EntryView). new_state root c.args.store c.args.object_hash) c.empty.ensures in
     none_at_first model answers c.args.store c.args.object_hash c.args.commands.items c.new-editor.result c.run.new.editor c.in_ok-replies.replies.items
     c.deref.result.now c.args.place c.args.other c.in-Err.error begun
     (c.in_ok-replies.ensures {u = tt}).replies c.deref.ensures.value c.in-Err.ensures.error c.in-Err.ensures.none
@@ -26,9 +23,7 @@ returns-in-Err-id_written-clause-error g c =
     let model : StoreModel g.row.S.Denot = record { objects = g.S.Store.objects; may_fail = g.S.Store.may_fail } in
     let answers = λ (tree : List EntryView) (answer : Result ObjectId g.row.E.Denot). FnReturnsAt g.F.Fn c.args.out tree answer in
     let new = c.new-editor.ensures in
-    let begun = state_is_started c.new-editor.result c.args.store c.args.object_hash [] (new.dirs
-    ∙ ap root_alone c.empty.ensures) new.bases new.store new.lookups
-    new.object_hash new.prefix in
+    let begun = new.state ∙ ap (λ (root : List EntryView). new_state root c.args.store c.args.object_hash) c.empty.ensures in
     none_at_second model answers c.args.store c.args.object_hash c.args.commands.items c.new-editor.result c.run.new.editor c.in_ok-replies.replies.items
     c.deref.result.now c.deref-2.result.now c.args.place c.args.other c.in-Ok.first c.in-Err-id_written.error begun
     (c.in_ok-replies.ensures {u = tt}).replies c.deref.ensures.value c.deref-2.ensures.value c.in-Ok.ensures.found c.in-Err-id_written.ensures.error
@@ -39,9 +34,7 @@ returns-clause-compared g c =
     let model : StoreModel g.row.S.Denot = record { objects = g.S.Store.objects; may_fail = g.S.Store.may_fail } in
     let answers = λ (tree : List EntryView) (answer : Result ObjectId g.row.E.Denot). FnReturnsAt g.F.Fn c.args.out tree answer in
     let new = c.new-editor.ensures in
-    let begun = state_is_started c.new-editor.result c.args.store c.args.object_hash [] (new.dirs
-    ∙ ap root_alone c.empty.ensures) new.bases new.store new.lookups
-    new.object_hash new.prefix in
+    let begun = new.state ∙ ap (λ (root : List EntryView). new_state root c.args.store c.args.object_hash) c.empty.ensures in
     is_reported model answers c.args.store c.args.object_hash c.args.commands.items c.new-editor.result c.run.new.editor c.in_ok-replies.replies.items
     c.deref.result.now c.deref-2.result.now c.args.place c.args.other c.are_same.result c.in-Ok.first c.in-Ok-id_written.second begun
     (c.in_ok-replies.ensures {u = tt}).replies (c.in_ok-replies.ensures {u = tt}).one_id c.deref.ensures.value c.deref-2.ensures.value c.in-Ok.ensures.found

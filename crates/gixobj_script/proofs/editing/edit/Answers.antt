@@ -1,6 +1,5 @@
 use Rattle.std.proofs.Common.{List, ap, subst, ◌∙◌}
-use Rattle.gixobj_files.specs.State.{root_alone}
-use Rattle.gixobj_keep.specs.Memory.{memory_objects}
+use Rattle.gixobj_files.specs.State.{new_state}
 use Rattle.gixobj_tree.specs.Entries.{EntryView}
 use Rattle.gixobj_tree.specs.TreeEncoding.{IsDigestResult}
 use Rattle.gixobj_script.specs.Edits.{IsNewEditor}
@@ -10,11 +9,9 @@ use Rattle.gixobj_script.proofs.editing.edit.Goals as goal
 pub returns-clause-reported : goal.returns-clause-reported
 returns-clause-reported c =
     let begun : IsNewEditor c.args.hash c.new-editor.result = record {
-      root = c.new-editor.ensures.dirs ∙ ap root_alone c.empty.ensures;
-      bases = c.new-editor.ensures.bases;
-      nothing = ap memory_objects c.new-editor.ensures.store ∙ c.new.ensures;
-      lookups = c.new-editor.ensures.lookups;
-      object_hash = c.new-editor.ensures.object_hash;
+      store = c.new.result;
+      nothing = c.new.ensures;
+      is_new = c.new-editor.ensures.state ∙ ap (λ (root : List EntryView). new_state root c.new.result c.args.hash) c.empty.ensures;
     } in
     is_edit_of_report _ _ c.args.hash c.args.script.now c.new-editor.result _ c.edit_on.result
     (λ tree answer said. subst (λ (t : List EntryView). IsDigestResult c.args.hash t answer) said.shows said.says.met) begun c.edit_on.ensures.reported

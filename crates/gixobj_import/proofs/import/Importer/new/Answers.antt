@@ -1,17 +1,13 @@
-use Rattle.std.proofs.Common.{◌∙◌, ap, refl}
-use Rattle.gixobj_files.specs.State.{root_alone}
+use Rattle.std.proofs.Common.{◌∙◌, ap, refl, sym}
+use Rattle.gixobj_files.specs.State.{State, new_state}
+use Rattle.gixobj_tree.specs.Entries.{EntryView}
 use Rattle.gixobj_import.proofs.import.Importer.new.Goals as goal
 
 pub returns-clause-new : goal.returns-clause-new
-returns-clause-new g c = record {
-  editor = λ i. record {
-    dirs = (c.new.ensures.dirs ∙ ap root_alone c.empty.ensures) i;
-    bases = c.new.ensures.bases i;
-    store = c.new.result.store;
-    lookups = c.new.ensures.lookups i;
-    object_hash = c.new.ensures.object_hash i;
-    prefix = c.new.ensures.prefix i;
-  };
-  last = refl;
-  ready = refl;
-}
+returns-clause-new g c =
+    let is = c.new.ensures.state ∙ ap (λ (root : List EntryView). new_state root c.args.store c.args.hash) c.empty.ensures in
+    record {
+      editor = is ∙ ap (λ (store : g.row.S.Denot). new_state [] store c.args.hash) (sym (ap (λ (s : State _). s.store) is));
+      last = refl;
+      ready = refl;
+    }
