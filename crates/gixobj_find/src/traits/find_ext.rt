@@ -1,5 +1,5 @@
 //! Lookups of objects that have to exist and to be of a kind.
-ghost use Rattle.std.specs.Prelude.{◌≡◌, [], IfErr, IfOk, IsOk};
+ghost use Rattle.std.specs.Prelude.{◌≡◌, [], IfErr, IfOk, IsOkAnd};
 ghost use Rattle.gixobj_commit.specs.CommitViews.{BorrowsOneLineValues, commit_lines};
 ghost use Rattle.gixobj_commit.specs.CommitWriting.{HasIds};
 ghost use Rattle.gixobj_store.specs.EntrySteps.{IsAtEntry};
@@ -81,9 +81,8 @@ pub trait FindExt: Find {
         id: oid<'_>,
         buffer: &'a mut Vec<u8>,
     ) -> Result<BlobRef<'a>, existing_object::Error>
-        ensures empty { IsEmptyId object.Blob (borrowed_id id.entry) → IsOk result }
-        ensures empty_bytes { IsEmptyId object.Blob (borrowed_id id.entry)
-            → IfOk result (λ blob. blob.bytes.now ≡ []) }
+        ensures empty { IsEmptyId object.Blob (borrowed_id id.entry)
+            → IsOkAnd result (λ blob. blob.bytes.now ≡ []) }
         ensures found { ¬ IsEmptyId object.Blob (borrowed_id id.entry)
             → IfOk result (λ blob. NamesSuch (Self.objects self.now) (borrowed_id id.entry)
             object.Blob (λ hash content. blob.bytes.now ≡ content)) }
@@ -127,9 +126,8 @@ pub trait FindExt: Find {
         id: oid<'_>,
         buffer: &'a mut Vec<u8>,
     ) -> Result<TreeRef<'a>, existing_object::Error>
-        ensures empty { IsEmptyId object.Tree (borrowed_id id.entry) → IsOk result }
-        ensures no_entries { IsEmptyId object.Tree (borrowed_id id.entry)
-            → IfOk result (λ tree. tree_entries tree ≡ []) }
+        ensures empty { IsEmptyId object.Tree (borrowed_id id.entry)
+            → IsOkAnd result (λ tree. tree_entries tree ≡ []) }
         ensures found { ¬ IsEmptyId object.Tree (borrowed_id id.entry)
             → IfOk result (λ tree. NamesSuch (Self.objects self.now) (borrowed_id id.entry)
             object.Tree (λ hash content. DecodesToTree hash content (tree_entries tree))) }
