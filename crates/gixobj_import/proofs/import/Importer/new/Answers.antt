@@ -1,4 +1,4 @@
-use Rattle.std.proofs.Common.{◌∙◌, ap, refl, sym}
+use Rattle.std.proofs.Common.{◌∙◌, List, [], ap, refl, sym}
 use Rattle.gixobj_files.specs.State.{State, new_state}
 use Rattle.gixobj_tree.specs.Entries.{EntryView}
 use Rattle.gixobj_import.proofs.import.Importer.new.Goals as goal
@@ -11,3 +11,6 @@ returns-clause-new g c =
       last = refl;
       ready = refl;
     }
+
+pub returns-clause-store : goal.returns-clause-store
+returns-clause-store g c = ap (λ (s : State _). s.store) c.new.ensures.state
