@@ -119,6 +119,11 @@ impl Exists for Failing {
 }
 
 impl Keep for Failing {
+    ghost use Rattle.gixobj_keep.specs.Keeping.{IsKeepError};
+    ghost use Rattle.std.specs.Prelude.{true};
+
+    ghost keep_errors = { λ store. IsKeepError (λ id. true) };
+
     fn keep(&mut self, id: ObjectId, tree: &Tree) -> Result<(), KeepError> {
         self.count_keep()?;
         self.objects.keep(id, tree)
@@ -126,6 +131,11 @@ impl Keep for Failing {
 }
 
 impl KeepCommit for Failing {
+    ghost use Rattle.gixobj_keep.specs.Keeping.{IsKeepCommitError};
+    ghost use Rattle.std.specs.Prelude.{true};
+
+    ghost keep_commit_errors = { λ store id bytes. IsKeepCommitError (λ other. true) id };
+
     fn keep_commit(&mut self, id: ObjectId, bytes: &[u8]) -> Result<(), KeepError> {
         self.commits = self.commits.saturating_add(1);
         self.count_keep()?;

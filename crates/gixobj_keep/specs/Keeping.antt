@@ -37,7 +37,24 @@ pub record StopsKeepingAt (may_fail : ObjectId → Bool) (trees : List Pair) (ol
   pub stored : new ≡ with_trees (take number trees) old
   pub have_encodings : All (λ it. IsEncodableTree it.1) (take number trees)
 
+-- the errors that keeping a tree under an id may return, by the state of the store
+abbrev pub KeepErrors : Type 0 → Type 1
+KeepErrors S = S → ObjectId → List EntryView → KeepError → Type 0
+
+-- the error is one of the store's for the tree at this index, in a state in which the trees before it are kept
+pub record IsCauseAt {S : Type 0} (objects : S → Objects) (errors : KeepErrors S) (old : S) (trees : List Pair)
+    (number : ℕ) (error : KeepError) : Type 0 where
+  pub failed_pair : Pair
+  pub at : slice_get trees number ≡ Some failed_pair
+  pub reached : S
+  pub stored : objects reached ≡ with_trees (take number trees) (objects old)
+  pub cause : errors reached failed_pair.0 failed_pair.1 error
+
 -- ---- commits
+
+-- the errors that keeping a commit of some bytes under an id may return, by the state of the store
+abbrev pub KeepCommitErrors : Type 0 → Type 1
+KeepCommitErrors S = S → ObjectId → List ℕ → KeepError → Type 0
 
 -- the bytes as a stored commit with ids of the hash kind of this id
 abbrev pub commit_object : ObjectId → List ℕ → StoredObject

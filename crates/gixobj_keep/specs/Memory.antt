@@ -1,11 +1,16 @@
 -- The model of the store in memory.
-use Rattle.std.specs.Prelude.{map, ⊤}
+use Rattle.std.specs.Prelude.{◌≡◌, List, codes, map, ⊤}
 use Rattle.std.specs.FinMap as finite
+use Rattle.bstr.specs.Owned.{bstring_bytes}
 use Rattle.gixobj_store.specs.Stores.{Objects, StoredObject}
 use Rattle.gixobj_fields.specs.declared.encode.Error.{Error}
 use Rattle.gixobj_fields.specs.declared.encode.Error.TheVariants.{OutOfMemory, Writer}
+use Rattle.gixobj_keep.specs.declared.keeping.KeepError.{KeepError}
+use Rattle.gixobj_keep.specs.declared.keeping.KeepError.TheVariants as keep
 use Rattle.gixobj_keep.specs.declared.memory.Memory.{Memory}
 use Rattle.gixobj_keep.specs.declared.memory.Stored.{Stored}
+use Rattle.gixobj_tree.specs.Entries.{EntryView}
+use Rattle.gixobj_tree.specs.TreeEncoding.{IsUnencodableTree}
 
 -- the stored object of a kept object
 abbrev pub stored_object : Stored → StoredObject
@@ -20,3 +25,12 @@ abbrev pub IsForAValue : Error → Type 0
 IsForAValue (Writer cause) = ⊥
 IsForAValue OutOfMemory = ⊥
 IsForAValue other = ⊤
+
+-- the error for a tree that cannot be encoded has this message; or out of memory
+abbrev pub IsUnwritten : Type 0 → KeepError → Type 0
+IsUnwritten Rejected (keep.Store message) = Rejected × (bstring_bytes message ≡ codes "a file name with a zero byte")
+IsUnwritten Rejected keep.OutOfMemory = ⊤
+
+-- the error of keeping a tree in memory: a name has a zero byte; or out of memory
+abbrev pub IsMemoryKeepError : List EntryView → KeepError → Type 0
+IsMemoryKeepError entries error = IsUnwritten (IsUnencodableTree entries) error

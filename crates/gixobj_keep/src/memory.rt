@@ -1,12 +1,12 @@
 //! An object store in memory.
 
-ghost use Rattle.std.specs.Prelude.{◌≡◌, ◌⊎◌, IfErr, IfOk, IsOk, IsSome, OnErr, is_some};
+ghost use Rattle.std.specs.Prelude.{◌≡◌, IfErr, IfOk, IsOk, IsSome, OnErr, is_some};
 ghost use Rattle.std.specs.FinMap as map;
 ghost use Rattle.gixobj_store.specs.Stores.{IsFound, IsHeaderFound, named};
 ghost use Rattle.gixobj_store.specs.declared.find.Error.TheVariants as find_error;
 ghost use Rattle.gixobj_hash.specs.Hash.{id_of};
 ghost use Rattle.gixobj_hash.specs.Hash.Borrowed.{borrowed_id};
-ghost use Rattle.gixobj_keep.specs.Memory.{IsForAValue, memory_objects};
+ghost use Rattle.gixobj_keep.specs.Memory.{IsForAValue, IsUnwritten, memory_objects};
 
 use crate::{Keep, KeepCommit, KeepError};
 use bstr::BString;
@@ -144,9 +144,14 @@ impl Exists for Memory {
     }
 }
 
-/// Keeping fails only for a tree with a zero byte in a name, or if an allocation fails. Allocates the
-/// encoding of the tree, and an entry of the store.
+/// Keeping fails with [`KeepError::Store`] only for a tree with a zero byte in a name, and with
+/// [`KeepError::OutOfMemory`] if an allocation fails. Allocates the encoding of the tree, and an entry of the
+/// store.
 impl Keep for Memory {
+    ghost use Rattle.gixobj_keep.specs.Memory.{IsMemoryKeepError};
+
+    ghost keep_errors = { λ store id. IsMemoryKeepError };
+
     fn keep(&mut self, id: ObjectId, tree: &Tree) -> Result<(), KeepError> {
         let mut bytes = Vec::new(self.alloc);
         match tree.write_to_vec(self.alloc, &mut bytes) {
@@ -165,6 +170,11 @@ impl Keep for Memory {
 
 /// Keeping fails only if an allocation fails. Allocates a copy of the bytes, and an entry of the store.
 impl KeepCommit for Memory {
+    ghost use Rattle.std.specs.Prelude.{◌≡◌};
+    ghost use Rattle.gixobj_keep.specs.declared.keeping.KeepError.TheVariants as keep;
+
+    ghost keep_commit_errors = { λ store id bytes error. error ≡ keep.OutOfMemory };
+
     fn keep_commit(&mut self, id: ObjectId, bytes: &[u8]) -> Result<(), KeepError> {
         let commit = Stored {
             kind: Kind::Commit,
@@ -178,7 +188,7 @@ impl KeepCommit for Memory {
 
 /// Converts the error of a tree that was not encoded: a zero byte in a name, or out of memory.
 fn unwritten(alloc: Global, error: encode::Error) -> KeepError
-    ensures { IsForAValue error ⊎ (result ≡ KeepError.OutOfMemory) }
+    ensures { IsUnwritten (IsForAValue error) result }
 {
     match error {
         encode::Error::Writer(_) | encode::Error::OutOfMemory => KeepError::OutOfMemory,
