@@ -2,6 +2,7 @@ mod Agreeing
 pub mod Answered
 mod EnsuredAt
 mod Calling
+mod Causes
 mod CursorStays
 mod Edited
 mod FoundBelow

@@ -1,6 +1,7 @@
 //! Edits and writes of the editor, with their replies.
 ghost use Rattle.std.specs.Prelude.{◌≡◌, ◌+◌, ◌≤◌, ◌<◌, ◌++◌, ◌∷◌, [], vec_capacity, vec_len};
 ghost use Rattle.std.specs.Fn.{FnReturnsAt};
+ghost use Rattle.gixobj_editor.specs.Causes.{HasKeepCause};
 ghost use Rattle.gixobj_editor.specs.Commands.{at_root};
 ghost use Rattle.gixobj_editor.specs.Replies.{IsCallable, IsEditReply, reply_to};
 ghost use Rattle.gixobj_store.specs.Stores.{store_model};
@@ -21,6 +22,7 @@ pub(crate) fn do_edit<S: Keep, E, F: Fn(&Tree) -> Result<ObjectId, E>>(
     requires callable { IsCallable F.pre out.now }
     ensures reply { IsEditReply (store_model S.objects S.may_fail) (FnReturnsAt F.Fn out.now) at_root
         editor.old edit result editor.new }
+    ensures cause { HasKeepCause S.objects S.keep_errors result }
 {
     match edit {
         Edit::Upsert { path, kind, id } => reply_to_edit(editor.try_upsert(&path, kind, id)),
@@ -38,6 +40,7 @@ fn do_write<S: Keep, E, F: Fn(&Tree) -> Result<ObjectId, E>>(
     requires callable { IsCallable F.pre out.now }
     ensures reply { IsEditReply (store_model S.objects S.may_fail) (FnReturnsAt F.Fn out.now) at_root
         editor.old Edit.Write result editor.new }
+    ensures cause { HasKeepCause S.objects S.keep_errors result }
 {
     let written = match editor.write(out) {
         Ok(written) => written,

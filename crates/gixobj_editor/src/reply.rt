@@ -13,8 +13,8 @@ pub enum EditReply<E> {
     Written(Written),
     /// The write failed with this error. The editor is unchanged.
     WriteRefused(WriteError<E>),
-    /// The result of a write, the number of emitted trees that the store has kept, in order, and why it
-    /// didn't keep the next one.
+    /// The result of a write, the number of emitted trees that the store has kept, in order, and the error
+    /// that [`Keep::keep`](gixobj_keep::Keep::keep) returned for the next one.
     NotKept(Written, usize, KeepError),
 }
 

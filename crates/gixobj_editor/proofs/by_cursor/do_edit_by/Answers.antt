@@ -4,6 +4,7 @@ use Rattle.gixobj_hash.specs.declared.hash.object_id.ObjectId.{ObjectId}
 use Rattle.gixobj_store.specs.Stores.{StoreModel}
 use Rattle.gixobj_tree.specs.Entries.{EntryView}
 use Rattle.gixobj_editor.specs.Commands.{at_cursor}
+use Rattle.gixobj_editor.proofs.Causes.{reply_to_has_keep_cause}
 use Rattle.gixobj_editor.proofs.Replied.{leaf_removal_replied, removal_replied, upsert_replied}
 use Rattle.gixobj_editor.proofs.by_cursor.do_edit_by.Goals as goal
 
@@ -36,3 +37,15 @@ returns-in-RemoveLeaf-clause-reply g c =
     (leaf_removal_replied model answers (at_cursor c.args.cursor.now.editor.now.prefix) c.args.cursor.now.editor.now call.new.self.editor.now
     c.in-RemoveLeaf.path c.deref-in-RemoveLeaf.result.now c.deref-in-RemoveLeaf.ensures.value call.result
     call.ensures.removed call.ensures.after_error call.ensures.error)
+
+pub returns-in-Upsert-clause-cause : goal.returns-in-Upsert-clause-cause
+returns-in-Upsert-clause-cause g c =
+    reply_to_has_keep_cause g.S.Store.objects g.S.Keep.keep_errors c.try_upsert.result c.reply_to_edit.result c.reply_to_edit.ensures.reply
+
+pub returns-in-Remove-clause-cause : goal.returns-in-Remove-clause-cause
+returns-in-Remove-clause-cause g c =
+    reply_to_has_keep_cause g.S.Store.objects g.S.Keep.keep_errors c.try_remove.result c.reply_to_edit-in-Remove.result c.reply_to_edit-in-Remove.ensures.reply
+
+pub returns-in-RemoveLeaf-clause-cause : goal.returns-in-RemoveLeaf-clause-cause
+returns-in-RemoveLeaf-clause-cause g c =
+    reply_to_has_keep_cause g.S.Store.objects g.S.Keep.keep_errors c.try_remove_leaf.result c.reply_to_edit-in-RemoveLeaf.result c.reply_to_edit-in-RemoveLeaf.ensures.reply

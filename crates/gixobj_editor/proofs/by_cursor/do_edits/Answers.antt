@@ -4,8 +4,10 @@ use Rattle.gixobj_files.specs.Files.{Path}
 use Rattle.gixobj_hash.specs.declared.hash.object_id.ObjectId.{ObjectId}
 use Rattle.gixobj_store.specs.Stores.{StoreModel}
 use Rattle.gixobj_tree.specs.Entries.{EntryView}
+use Rattle.gixobj_editor.specs.Causes.{HasKeepCause}
 use Rattle.gixobj_editor.specs.Commands.{at_cursor}
 use Rattle.gixobj_editor.specs.Replies.{IsEditReply}
+use Rattle.gixobj_editor.proofs.Causes.{all_snoc}
 use Rattle.gixobj_editor.proofs.OneMore.{no_more_edits, one_more_edit}
 use Rattle.gixobj_editor.proofs.by_cursor.do_edits.Goals as goal
 
@@ -23,6 +25,7 @@ loop-edit-preserved g c =
       same = refl;
       same_reference = c.do_edit_by-reply.ensures.same_reference ∙ c.loop-edit.invariant.same_reference;
       prefix = c.do_edit_by-reply.ensures.prefix ∙ c.loop-edit.invariant.prefix;
+      causes = all_snoc (HasKeepCause {E = g.row.E.Denot} g.S.Store.objects g.S.Keep.keep_errors) _ _ c.do_edit_by-reply.result c.push_reserved.ensures.items c.loop-edit.invariant.causes c.do_edit_by-reply.ensures.cause;
     }
 
 pub returns-clause-replies : goal.returns-clause-replies

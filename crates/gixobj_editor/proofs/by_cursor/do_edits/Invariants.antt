@@ -1,10 +1,11 @@
-use Rattle.std.proofs.Common.{Result, ◌≡◌, ◌+◌, ◌≤◌, ◌++◌, List, length, vec_len, vec_capacity}
+use Rattle.std.proofs.Common.{Result, ◌≡◌, ◌+◌, ◌≤◌, ◌++◌, All, List, length, vec_len, vec_capacity}
 use Rattle.std.specs.Fn.{FnReturnsAt}
 use Rattle.std.specs.Vec.Iter.{into_iter_items}
 use Rattle.gixobj_files.specs.State.{State}
 use Rattle.gixobj_hash.specs.declared.hash.object_id.ObjectId.{ObjectId}
 use Rattle.gixobj_store.specs.Stores.{StoreModel}
 use Rattle.gixobj_tree.specs.Entries.{EntryView}
+use Rattle.gixobj_editor.specs.Causes.{HasKeepCause}
 use Rattle.gixobj_editor.specs.Commands.{at_cursor}
 use Rattle.gixobj_editor.specs.Replies.{AreEditReplies}
 use Rattle.gixobj_editor.specs.declared.reply.EditReply.{EditReply}
@@ -22,4 +23,5 @@ invariant-loop-edit g l =
       same : l.out ≡ l.fn.out;
       same_reference : l.cursor.editor.ghost_name ≡ l.fn.cursor.editor.ghost_name;
       prefix : l.cursor.editor.now.prefix ≡ l.fn.cursor.editor.now.prefix;
+      causes : All (HasKeepCause g.S.Store.objects g.S.Keep.keep_errors) l.replies.items;
     }

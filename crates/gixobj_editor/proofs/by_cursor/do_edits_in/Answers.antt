@@ -25,7 +25,7 @@ returns-in-Ok g c =
     λ new outside. done_at model answers (cursor_path (names_of c.args.prefix.now)) c.in-Ok.cursor.editor.now.prefix c.args.editor.now c.in-Ok.cursor.editor.now
     pending new c.args.edits.items c.do_edits.result
     made.prefix made.ensured c.do_edits.ensures.replies outside in
-    record { reply = done _ (search rules) }
+    record { reply = done _ (search rules); causes = c.do_edits.ensures.causes }
 
 pub returns-in-Err : goal.returns-in-Err
 returns-in-Err g c =
@@ -34,4 +34,4 @@ returns-in-Err g c =
     (λ trees. IsAfterFailedEdit (record { objects = g.S.Store.objects; may_fail = g.S.Store.may_fail }) trees c.args.editor.now
     (in_directory (cursor_path (names_of c.args.prefix.now))) c.in-Err.error pending)
     × (IsNameError c.in-Err.error → pending ≡ c.args.editor.now) = search rules in
-    record { reply = inr (record { effect = rejected.0; cause = (c.in-Err.ensures {u = tt}).error }, rejected.1) }
+    record { reply = inr (record { effect = rejected.0; cause = (c.in-Err.ensures {u = tt}).error }, rejected.1); causes = tt }

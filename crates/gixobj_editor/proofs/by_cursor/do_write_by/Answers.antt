@@ -7,6 +7,7 @@ use Rattle.gixobj_hash.specs.declared.hash.object_id.ObjectId.{ObjectId}
 use Rattle.gixobj_store.specs.Stores.{StoreModel}
 use Rattle.gixobj_tree.specs.Entries.{EntryView}
 use Rattle.gixobj_editor.specs.Commands.{at_cursor}
+use Rattle.gixobj_editor.proofs.Causes.{cause_of_borrowed_trees}
 use Rattle.gixobj_editor.proofs.Calling.{callable, stopped, written_below}
 use Rattle.gixobj_editor.proofs.Kept.{kept_all, not_kept}
 use Rattle.gixobj_editor.proofs.by_cursor.do_write_by.Goals as goal
@@ -44,3 +45,8 @@ returns-in-Err-keep_all-clause-reply g c =
     not_kept model answers (at_cursor c.args.cursor.now.editor.now.prefix) c.args.cursor.now.editor.now c.write.new.self.editor.now _ c.store_mut.result.now
     c.keep_all.new.store c.in-Ok.written c.deref.result.now wrote (ap (λ (s : State g.row.S.Denot). s.store) wrote.rest) c.store_mut.ensures.value
     c.deref.ensures.value refl c.keep_all.ensures.same_may_fail c.in-Err-keep_all.count c.in-Err-keep_all.error (c.in-Err-keep_all.ensures {u = tt}).error
+
+pub returns-in-Err-keep_all-clause-cause : goal.returns-in-Err-keep_all-clause-cause
+returns-in-Err-keep_all-clause-cause g c =
+    cause_of_borrowed_trees g.S.Store.objects g.S.Keep.keep_errors c.store_mut.result.now c.in-Ok.written.trees.items c.deref.result.now
+    c.in-Err-keep_all.count c.in-Err-keep_all.error c.deref.ensures.value (c.in-Err-keep_all.ensures {u = tt}).cause

@@ -4,6 +4,7 @@ use Rattle.gixobj_hash.specs.declared.hash.object_id.ObjectId.{ObjectId}
 use Rattle.gixobj_store.specs.Stores.{StoreModel}
 use Rattle.gixobj_tree.specs.Entries.{EntryView}
 use Rattle.gixobj_editor.specs.Commands.{at_root}
+use Rattle.gixobj_editor.proofs.Causes.{reply_to_has_keep_cause}
 use Rattle.gixobj_editor.proofs.Replied.{leaf_removal_replied, removal_replied, upsert_replied}
 use Rattle.gixobj_editor.proofs.edits.do_edit.Goals as goal
 
@@ -17,6 +18,7 @@ returns-in-Upsert g c =
           (upsert_replied model answers at_root c.args.editor.now call.new.self c.in-Upsert.path c.deref.result.now c.deref.ensures.value c.in-Upsert.kind
           c.in-Upsert.id call.result
           call.ensures.upserted call.ensures.after_error call.ensures.error call.ensures.not_looked_up);
+      cause = reply_to_has_keep_cause g.S.Store.objects g.S.Keep.keep_errors call.result c.reply_to_edit.result c.reply_to_edit.ensures.reply;
     }
 
 pub returns-in-Remove : goal.returns-in-Remove
@@ -29,6 +31,7 @@ returns-in-Remove g c =
           (removal_replied model answers at_root c.args.editor.now call.new.self c.in-Remove.path c.deref-in-Remove.result.now c.deref-in-Remove.ensures.value
           call.result
           call.ensures.removed call.ensures.after_error call.ensures.error);
+      cause = reply_to_has_keep_cause g.S.Store.objects g.S.Keep.keep_errors call.result c.reply_to_edit-in-Remove.result c.reply_to_edit-in-Remove.ensures.reply;
     }
 
 pub returns-in-RemoveLeaf : goal.returns-in-RemoveLeaf
@@ -41,4 +44,6 @@ returns-in-RemoveLeaf g c =
           (leaf_removal_replied model answers at_root c.args.editor.now call.new.self c.in-RemoveLeaf.path c.deref-in-RemoveLeaf.result.now
           c.deref-in-RemoveLeaf.ensures.value call.result
           call.ensures.removed call.ensures.after_error call.ensures.error);
+      cause = reply_to_has_keep_cause g.S.Store.objects g.S.Keep.keep_errors call.result c.reply_to_edit-in-RemoveLeaf.result
+          c.reply_to_edit-in-RemoveLeaf.ensures.reply;
     }

@@ -6,6 +6,7 @@ use Rattle.gixobj_hash.specs.declared.hash.object_id.ObjectId.{ObjectId}
 use Rattle.gixobj_store.specs.Stores.{StoreModel}
 use Rattle.gixobj_tree.specs.Entries.{EntryView}
 use Rattle.gixobj_editor.specs.Commands.{at_root}
+use Rattle.gixobj_editor.proofs.Causes.{cause_of_borrowed_trees}
 use Rattle.gixobj_editor.proofs.Calling.{callable, stopped, written}
 use Rattle.gixobj_editor.proofs.Kept.{kept_all, not_kept}
 use Rattle.gixobj_editor.proofs.edits.do_write.Goals as goal
@@ -22,6 +23,7 @@ returns-in-Err g c =
             (λ requested tree answer answered it. (it.met.1, it.met.0));
         unchanged = done.unchanged;
       };
+      cause = tt;
     }
 
 pub returns-in-Ok-keep_all : goal.returns-in-Ok-keep_all
@@ -35,6 +37,7 @@ returns-in-Ok-keep_all g c =
       reply = kept_all model answers at_root c.args.editor.now c.write.new.self _ c.store_mut.result.now c.keep_all.new.store c.in-Ok.written
           c.deref.result.now wrote (ap (λ (s : State g.row.S.Denot). s.store) wrote.rest) c.store_mut.ensures.value c.deref.ensures.value refl
           c.keep_all.ensures.same_may_fail kept.stored kept.have_encodings;
+      cause = tt;
     }
 
 pub returns-in-Err-keep_all : goal.returns-in-Err-keep_all
@@ -47,4 +50,6 @@ returns-in-Err-keep_all g c =
       reply = not_kept model answers at_root c.args.editor.now c.write.new.self _ c.store_mut.result.now c.keep_all.new.store c.in-Ok.written
           c.deref.result.now wrote (ap (λ (s : State g.row.S.Denot). s.store) wrote.rest) c.store_mut.ensures.value c.deref.ensures.value refl
           c.keep_all.ensures.same_may_fail c.in-Err-keep_all.count c.in-Err-keep_all.error (c.in-Err-keep_all.ensures {u = tt}).error;
+      cause = cause_of_borrowed_trees g.S.Store.objects g.S.Keep.keep_errors c.store_mut.result.now c.in-Ok.written.trees.items c.deref.result.now
+          c.in-Err-keep_all.count c.in-Err-keep_all.error c.deref.ensures.value (c.in-Err-keep_all.ensures {u = tt}).cause;
     }

@@ -3,6 +3,8 @@ use Rattle.std.specs.Fn.{FnReturnsAt}
 use Rattle.gixobj_hash.specs.declared.hash.object_id.ObjectId.{ObjectId}
 use Rattle.gixobj_store.specs.Stores.{StoreModel}
 use Rattle.gixobj_tree.specs.Entries.{EntryView}
+use Rattle.gixobj_editor.specs.Causes.{HasKeepCauses}
+use Rattle.gixobj_editor.proofs.Causes.{all_snoc}
 use Rattle.gixobj_editor.proofs.Named.{names_history, run_keeps_pairs}
 use Rattle.gixobj_editor.proofs.OneId.{ids_determine_files}
 use Rattle.gixobj_editor.proofs.OneMore.{no_more, one_more}
@@ -18,6 +20,7 @@ loop-command-preserved g c =
           c.push_reserved.ensures.items c.loop-command.invariant.so_far h;
       room = let e = ap length steps.0 in grind (arith, c.loop-command.invariant.room);
       same = refl;
+      causes = all_snoc (HasKeepCauses {E = g.row.E.Denot} g.S.Store.objects g.S.Keep.keep_errors) _ _ c.do_command-reply.result c.push_reserved.ensures.items c.loop-command.invariant.causes c.do_command-reply.ensures.causes;
     }
 
 pub returns-clause-replies : goal.returns-clause-replies
