@@ -1,5 +1,6 @@
 mod Adding
 mod Calling
+mod Causes
 mod Committing
 mod Digests
 mod Doing

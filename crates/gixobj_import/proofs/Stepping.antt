@@ -26,6 +26,11 @@ slice_get_of_get_or [] (suc index) it within is = absurd (omega arith)
 slice_get_of_get_or (step ∷ steps) zero it within is = ap Some (sym is)
 slice_get_of_get_or (step ∷ steps) (suc index) it within is = slice_get_of_get_or steps index it (omega arith) is
 
+-- the step after those that were imported
+pub slice_get_length_of_get_or : (steps : List Step) (imported : List Imported) (index : ℕ) (step : Step) → index < length steps → step ≡ get_or steps index step
+    → length imported ≡ index → slice_get steps (length imported) ≡ Some step
+slice_get_length_of_get_or steps imported index step within is as_many = ap (slice_get steps) as_many ∙ slice_get_of_get_or steps index step within is
+
 -- one of the edits is a write, by the test of the borrowed list
 pub contains_write_of_reply : (items lent : List Edit) (b : Bool) → lent ≡ items → b ≡ true → IsTrue b ↔ Contains lent edit.Write → Contains items edit.Write
 contains_write_of_reply items lent b same is iff = subst (λ (es : List Edit). Contains es edit.Write) same (iff.0 is)
@@ -72,7 +77,7 @@ module _ {S : Type 0} (model : StoreModel S) where
       → Stops model old steps imported error new
   stopped_at old between new steps imported index step error within is done as_many failure = inl (record {
     failed_step = step;
-    at = ap (slice_get steps) as_many ∙ slice_get_of_get_or steps index step within is;
+    at = slice_get_length_of_get_or steps imported index step within is as_many;
     reached = between;
     imported = subst (λ (k : ℕ). AreImported model old (take k steps) imported between) (sym as_many) done;
     cause = failure;

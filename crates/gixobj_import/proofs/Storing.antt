@@ -1,13 +1,12 @@
 -- The objects of a store after steps are imported, and after a step fails: for the contract of `import_all`.
-use Rattle.std.proofs.Common.{◌≡◌, ◌∙◌, ⊎_elim, inl, inr, List, [], ◌∷◌, Option, Some, ap, length, refl, take}
+use Rattle.std.proofs.Common.{◌≡◌, ◌∙◌, ⊎_elim, inl, inr, List, [], ◌∷◌, Option, Some, ap, length, take}
 use Rattle.gixobj_editor.specs.declared.command.Edit.{Edit}
 use Rattle.gixobj_store.specs.Stores.{StoreModel, Objects}
 use Rattle.gixobj_files.specs.State.{State}
 use Rattle.gixobj_hash.specs.declared.hash.kind.Kind as hash
 use Rattle.gixobj_hash.specs.declared.hash.object_id.ObjectId.{ObjectId}
-use Rattle.gixobj_keep.specs.Keeping.{with_commit, with_trees}
+use Rattle.gixobj_keep.specs.Keeping.{with_trees}
 use Rattle.gixobj_tree.specs.Entries.{Pair}
-use Rattle.gixobj_import.specs.Commits.{encode_step}
 use Rattle.gixobj_import.specs.Edited.{AreDone}
 use Rattle.gixobj_import.specs.Imports.{before, with_imports}
 use Rattle.gixobj_import.specs.Steps.{AreImported, IsStepFailed, IsStepEditsError, IsStepError, IsStepCommitError, IsStepWriteError, Stops}

@@ -2,6 +2,7 @@
 ghost use Rattle.std.specs.Prelude.{◌≡◌, IfErr, IfOk, OnOk};
 ghost use Rattle.gixobj_actor.specs.ActorWriting.{IsLegal, encode_owned_actor};
 ghost use Rattle.gixobj_commit.specs.CommitViews.{owned_commit_lines};
+ghost use Rattle.gixobj_import.specs.StepCauses.{HasCommitCause};
 ghost use Rattle.gixobj_import.specs.Commits.{NamesSignature, SameActor, only_parent, step_commit, encode_step};
 ghost use Rattle.gixobj_import.specs.Steps.{IsCommitKept, IsStepCommitError, IsStepEncodeError};
 ghost use Rattle.gixobj_store.specs.Stores.{store_model};
@@ -36,6 +37,8 @@ pub(crate) fn keep_commit_of<S: KeepCommit>(
     ensures error { IfErr result (λ error.
         IsStepCommitError (store_model S.objects S.may_fail) hash step.now tree parent editor.old error
         editor.new) }
+    ensures cause { IfErr result (HasCommitCause S.keep_commit_errors editor.old.store hash step.now
+        tree parent) }
 {
     hex_round_trips();
     let content = match bytes_of(alloc, step, tree, parent) {

@@ -5,6 +5,7 @@ ghost use Rattle.gixobj_files.specs.Bases.{HasBases};
 ghost use Rattle.gixobj_files.specs.Files.{Table};
 ghost use Rattle.gixobj_files.specs.State.{open_bases, open_dirs};
 ghost use Rattle.gixobj_import.specs.ByDigest.{AddsByDigest};
+ghost use Rattle.gixobj_import.specs.StepCauses.{HasImportCause, HasStepCause};
 ghost use Rattle.gixobj_import.specs.Imports.{AgreesWithStep, AreCommitsOf, HasFilesOf, HaveFilesOfNothing, IsNewImporter, before, with_imports};
 ghost use Rattle.gixobj_import.specs.Steps.{AreImported, IsImported, IsStepError, Stops, over_store};
 ghost use Rattle.gixobj_import.specs.contracts.import.Importer.{the_row};
@@ -69,7 +70,8 @@ pub enum ImportError {
     /// The trees weren't written, with this error: one has a name with a zero byte, or an allocation failed.
     #[error("not written: {0}")]
     Write(WriteError<encode::Error>),
-    /// The store didn't keep a tree or the commit, with this error.
+    /// The store didn't keep a tree or the commit. The payload is the error that [`Keep::keep`] or
+    /// [`KeepCommit::keep_commit`] returned for it.
     #[error("not kept: {0}")]
     NotKept(KeepError),
     /// The commit can't be encoded, since no commit may have its author or committer. The payload is
@@ -172,7 +174,8 @@ impl<S: Keep + KeepCommit> Importer<S> {
     /// - [`ImportError::Edit`] with the number and the error of the first edit that fails.
     /// - [`ImportError::Write`] with the write's error, if a tree has a name with a zero byte, or an
     ///   allocation fails for the trees or their bytes.
-    /// - [`ImportError::NotKept`] with the store's error, if the store doesn't keep a tree or the commit.
+    /// - [`ImportError::NotKept`] with the error that [`Keep::keep`] or [`KeepCommit::keep_commit`] returned,
+    ///   if the store doesn't keep a tree or the commit.
     /// - [`ImportError::Commit`] with `IllegalActor`, if no commit may have the author or the committer.
     /// - [`ImportError::OutOfMemory`] if an allocation fails for the commit.
     pub fn step(&mut self, step: &Step) -> Result<Imported, ImportError>
@@ -180,6 +183,8 @@ impl<S: Keep + KeepCommit> Importer<S> {
             IsImported (store_model S.objects S.may_fail) self.old step.now it self.new) }
         ensures after_error { IfErr result (λ error.
             IsStepError (store_model S.objects S.may_fail) self.old step.now error self.new) }
+        ensures cause { IfErr result (HasStepCause S.objects S.keep_errors S.keep_commit_errors
+            self.old.hash step.now self.old.last) }
         ensures adds { AddsByDigest (S.objects self.old.editor.store)
             (S.objects self.new.editor.store) }
         // The files, in each table that agrees with the store and with the emitted trees.
@@ -255,6 +260,8 @@ pub fn import_all<S: Keep + KeepCommit>(
     ensures error { IfErr result (λ it.
         Stops (store_model S.objects S.may_fail) importer.old steps.now it.done.items it.error
         importer.new) }
+    ensures cause { IfErr result (λ it. HasImportCause S.objects S.keep_errors S.keep_commit_errors
+        importer.old.hash steps.now it.done.items it.error) }
     ensures adds { AddsByDigest (S.objects importer.old.editor.store)
         (S.objects importer.new.editor.store) }
     // The store has its former objects, with the trees and commits of the imported steps inserted in order.

@@ -5,6 +5,7 @@ ghost use Rattle.gixobj_editor.specs.Writes.{IsWrittenEditor};
 ghost use Rattle.gixobj_files.specs.Emission.{EmitsSome};
 ghost use Rattle.gixobj_files.specs.State.{open_bases, open_dirs};
 ghost use Rattle.gixobj_hash.specs.Hash.{IsId};
+ghost use Rattle.gixobj_import.specs.StepCauses.{HasTreeCause};
 ghost use Rattle.gixobj_import.specs.Edited.{IsWriteAfter, IsWriteReplied};
 ghost use Rattle.gixobj_tree.specs.TreeEncoding.{IsDigestResult};
 ghost use Rattle.gixobj_import.specs.Steps.{HaveHex, IsStepEditsError, IsStepWriteError};
@@ -37,6 +38,7 @@ pub(crate) fn write_edits<S: Keep>(
     ensures root { IfOk result (λ it. HaveHex hash (it.id ∷ [])) }
     ensures error { IfErr result (λ error.
         IsStepEditsError (store_model S.objects S.may_fail) hash edits.now editor.old error editor.new) }
+    ensures cause { IfErr result (HasTreeCause S.objects S.keep_errors) }
 {
     if let Err((index, error)) = do_edits(editor, edits) {
         return Err(ImportError::Edit { index, error });
@@ -56,6 +58,7 @@ fn write_and_keep<S: Keep>(
     ensures root { IfOk result (λ it. HaveHex hash (it.id ∷ [])) }
     ensures error { IfErr result (λ error.
         IsStepWriteError (store_model S.objects S.may_fail) hash editor.old error editor.new) }
+    ensures cause { IfErr result (HasTreeCause S.objects S.keep_errors) }
 {
     hex_round_trips();
     let written = match write_by_digests(alloc, editor, hash) {

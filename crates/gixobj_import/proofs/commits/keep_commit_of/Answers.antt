@@ -4,6 +4,7 @@ use Rattle.gixobj_hash.specs.declared.kind.Kind.TheVariants.{Commit}
 use Rattle.gixobj_hash.specs.declared.hash.object_id.ObjectId.{ObjectId}
 use Rattle.gixobj_keep.specs.Keeping.{IsKeepCommitError, with_commit}
 use Rattle.gixobj_import.specs.Commits.{encode_step}
+use Rattle.gixobj_import.proofs.Causes.{commit_cause_of_encode_error}
 use Rattle.gixobj_import.proofs.Digests.{have_hex_of_id, digest_id_kind}
 use Rattle.gixobj_import.proofs.Legal.{encode_step_decodes}
 use Rattle.gixobj_import.proofs.Stepping.{encoding_failed}
@@ -48,3 +49,19 @@ returns-clause-error g c =
       unchanged = c.in-Err-keep_commit.ensures.unchanged ∙ ap (λ (s : g.row.S.Denot). model.objects s) c.store_mut.ensures.value;
       may_fail = λ id. c.keep_commit.ensures.same_may_fail id ∙ ap (λ (s : g.row.S.Denot). model.may_fail s id) c.store_mut.ensures.value;
     }
+
+pub returns-clause-cause : goal.returns-clause-cause
+returns-clause-cause g c =
+    let errors = g.S.KeepCommit.keep_commit_errors in
+    let error = c.in-Err-keep_commit.error in
+    let content = encode_step c.args.step.now c.args.tree c.args.parent in
+    subst (λ (id : ObjectId). errors c.args.editor.now.store id content error)
+    (c.compute_hash-commit.ensures ∙ ap (λ (bytes : List ℕ). id_of c.args.hash Commit bytes) (c.deref.ensures.value ∙ c.in-Ok.ensures.encoded))
+    (subst (λ (bytes : List ℕ). errors c.args.editor.now.store c.compute_hash-commit.result bytes error) (c.deref-2.ensures.value ∙ c.in-Ok.ensures.encoded)
+    (subst (λ (s : g.row.S.Denot). errors s c.compute_hash-commit.result c.deref-2.result.now error) c.store_mut.ensures.value
+    c.in-Err-keep_commit.ensures.cause))
+
+pub returns-in-Err-clause-cause : goal.returns-in-Err-clause-cause
+returns-in-Err-clause-cause g c =
+    commit_cause_of_encode_error g.S.KeepCommit.keep_commit_errors c.args.editor.now.store c.args.hash c.args.step.now c.args.tree c.args.parent
+    c.in-Err.error c.in-Err.ensures.error

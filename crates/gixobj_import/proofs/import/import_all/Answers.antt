@@ -3,12 +3,13 @@ use Rattle.std.proofs.Common.{◌+◌, ◌∷◌, ◌∙◌, [], arith, ap, inr,
 use Rattle.std.proofs.lemmas.List.{length-append}
 use Rattle.gixobj_import.specs.Steps.{AreImported, Stops}
 use Rattle.gixobj_import.specs.declared.import.Imported.{Imported}
+use Rattle.gixobj_import.proofs.Causes.{import_cause_of_step, import_cause_out_of_memory, imported_same_hash}
 use Rattle.gixobj_import.proofs.Committing.{commits_of_new}
 use Rattle.gixobj_import.proofs.Digests.{adds_by_digest_nil}
 use Rattle.gixobj_import.proofs.Filing.{files_of_new}
 use Rattle.gixobj_import.proofs.Adding.{steps_add}
 use Rattle.gixobj_import.proofs.Known.{OfStores}
-use Rattle.gixobj_import.proofs.Stepping.{all_imported, one_more_imported, stopped_at}
+use Rattle.gixobj_import.proofs.Stepping.{all_imported, slice_get_length_of_get_or, one_more_imported, stopped_at}
 use Rattle.gixobj_import.proofs.Stopping.{commits_of_stopped, files_of_stopped, stopped_adds}
 use Rattle.gixobj_import.proofs.Storing.{steps_stored, stopped_stores}
 use Rattle.gixobj_import.proofs.import.import_all.Goals as goal
@@ -48,6 +49,8 @@ returns-in-Err g c =
     record {
       imported = tt;
       error = stops;
+      cause = import_cause_out_of_memory g.S.Store.objects g.S.Keep.keep_errors g.S.KeepCommit.keep_commit_errors old.hash c.args.steps.now done error
+          c.no_list.ensures.error;
       adds = stopped_adds model laws old old c.args.steps.now done error stops;
       stored = tt;
       stored_done = stopped_stores model laws old old c.args.steps.now done error stops;
@@ -76,6 +79,11 @@ returns-in-Err-step g c =
     record {
       imported = tt;
       error = stops;
+      cause = import_cause_of_step g.S.Store.objects g.S.Keep.keep_errors g.S.KeepCommit.keep_commit_errors c.args.importer.now.hash
+          c.loop-step.importer.hash c.args.steps.now done c.step-item.result c.loop-step.importer.last c.in-Err-step.error
+          (imported_same_hash model c.args.importer.now c.loop-step.importer (take c.loop-step.step-index c.args.steps.now) done inv.imported)
+          (slice_get_length_of_get_or c.args.steps.now done c.loop-step.step-index c.step-item.result c.loop-step-test.true c.step-item.is inv.count)
+          (c.in-Err-step.ensures {u = tt}).cause;
       adds = stopped_adds model laws c.args.importer.now c.step.new.self c.args.steps.now done c.in-Err-step.error stops;
       stored = tt;
       stored_done = stopped_stores model laws c.args.importer.now c.step.new.self c.args.steps.now done c.in-Err-step.error stops;
@@ -104,6 +112,7 @@ returns g c =
     record {
       imported = all;
       error = tt;
+      cause = tt;
       adds = steps_add model laws old new c.args.steps.now imported all;
       stored = steps_stored model laws old new c.args.steps.now imported all;
       stored_done = tt;

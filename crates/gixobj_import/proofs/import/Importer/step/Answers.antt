@@ -28,7 +28,7 @@ pub returns-then-self : goal.returns-then-self
 returns-then-self g c =
     let model = store_model g.S.Store.objects g.S.Store.may_fail in
     let objects = model.objects c.args.self.now.editor.store in
-    record { imported = tt; after_error = (c.if-self.true, refl); adds = adds_by_digest_nil objects objects refl; files = tt; bases = tt }
+    record { imported = tt; after_error = (c.if-self.true, refl); cause = inl tt; adds = adds_by_digest_nil objects objects refl; files = tt; bases = tt }
 
 pub returns-then-hold_a_write : goal.returns-then-hold_a_write
 returns-then-hold_a_write g c =
@@ -42,6 +42,7 @@ returns-then-hold_a_write g c =
             c.hold_a_write.ensures,
         refl,
       );
+      cause = inl tt;
       adds = adds_by_digest_nil objects objects refl;
       files = tt;
       bases = tt;
@@ -68,7 +69,14 @@ returns-in-Err g c =
           (c.in-Err.ensures {u = tt}).error);
       rest = refl;
     }) in
-    record { imported = tt; after_error = rejected; adds = rejected_adds model laws old new c.args.step.now c.in-Err.error rejected; files = tt; bases = tt }
+    record {
+      imported = tt;
+      after_error = rejected;
+      cause = inl (c.in-Err.ensures {u = tt}).cause;
+      adds = rejected_adds model laws old new c.args.step.now c.in-Err.error rejected;
+      files = tt;
+      bases = tt;
+    }
 
 pub returns-in-Err-kept : goal.returns-in-Err-kept
 returns-in-Err-kept g c =
@@ -99,6 +107,7 @@ returns-in-Err-kept g c =
     record {
       imported = tt;
       after_error = rejected;
+      cause = inr (c.write_edits.new.editor.store, c.in-Ok.written.id, (c.in-Err-kept.ensures {u = tt}).cause);
       adds = rejected_adds model laws old new c.args.step.now c.in-Err-kept.error rejected;
       files = tt;
       bases = tt;
@@ -132,6 +141,7 @@ returns g c =
     record {
       imported = one;
       after_error = tt;
+      cause = tt;
       adds = step_adds model laws old c.args.step.now it new one;
       files = λ T n agrees. step_files model laws old c.args.step.now it new one T n agrees;
       bases = step_bases model laws old c.args.step.now it new one;
