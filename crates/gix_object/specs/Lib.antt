@@ -18,17 +18,18 @@ pub use Rattle.gixobj_commit.specs.RemainingParents
 pub use Rattle.gixobj_commit.specs.Rewriting
 pub use Rattle.gixobj_commit.specs.declared as commit
 pub use Rattle.gixobj_directories.specs.Calls
-pub use Rattle.gixobj_directories.specs.Emitting
+pub use Rattle.gixobj_directories.specs.WriteErrors
 pub use Rattle.gixobj_directories.specs.LookedUp
 pub use Rattle.gixobj_directories.specs.Openings
 pub use Rattle.gixobj_directories.specs.declared as directories
 pub use Rattle.gixobj_editor.specs.Commands
 pub use Rattle.gixobj_editor.specs.Cursors
-pub use Rattle.gixobj_editor.specs.OneId
+pub use Rattle.gixobj_editor.specs.PlainRuns
 pub use Rattle.gixobj_editor.specs.Removals
 pub use Rattle.gixobj_editor.specs.Replies
 pub use Rattle.gixobj_editor.specs.RunTables
 pub use Rattle.gixobj_editor.specs.Upserts
+pub use Rattle.gixobj_editor.specs.FailedEdits
 pub use Rattle.gixobj_editor.specs.Writes
 pub use Rattle.gixobj_editor.specs.declared as editor
 pub use Rattle.gixobj_fields.specs.FieldWriting

@@ -3,7 +3,7 @@ use Rattle.std.proofs.Common.{◌≡◌, ◌<◌, ◌≤◌, ◌↔◌, ℕ, zer
 use Rattle.gix_object.specs.Commands.{accepted_steps, written_at, written_by}
 use Rattle.gix_object.specs.Files.{SameFiles, Table}
 use Rattle.gix_object.specs.History.{Step}
-use Rattle.gix_object.specs.OneId.{IdsDetermineFiles, IsPlainRun, files_before}
+use Rattle.gix_object.specs.PlainRuns.{IdsDetermineFiles, IsPlainRun, files_before}
 use Rattle.gix_object.specs.PlainHistory.{NoFiles, PlainFilesAfter}
 use Rattle.gix_object.specs.Replies.{Answers, IsRun}
 use Rattle.gix_object.specs.State.{State, new_state}

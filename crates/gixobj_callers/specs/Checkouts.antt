@@ -4,7 +4,7 @@ use Rattle.gix_object.specs.Entries.{Pair, EntryView}
 use Rattle.gix_object.specs.Calls.{names_of}
 use Rattle.gix_object.specs.Cursors.{IsEnsured, IsCursorError, IsCursorEditError, from_root}
 use Rattle.gix_object.specs.Files.{Path}
-use Rattle.gix_object.specs.Emitting.{IsWriteError}
+use Rattle.gix_object.specs.WriteErrors.{IsWriteError}
 use Rattle.gix_object.specs.Emission.{EmitsSome}
 use Rattle.gix_object.specs.History.{Step, ensure, upsert}
 use Rattle.gix_object.specs.Mode.{mode_of_kind}

@@ -6,7 +6,7 @@ use Rattle.gix_object.specs.Stores.{StoreModel, Objects}
 use Rattle.gix_object.specs.Openings.{OfTrees, NamesMalformed, NamesTree}
 use Rattle.gix_object.specs.Existing.{IsEmptyId, NamesSuch, IsFindObjectError}
 use Rattle.gix_object.specs.Files.{Path}
-use Rattle.gix_object.specs.Emitting.{IsWriteError}
+use Rattle.gix_object.specs.WriteErrors.{IsWriteError}
 use Rattle.gix_object.specs.Emission.{EmitsSome}
 use Rattle.gix_object.specs.Hash.{id_kind}
 use Rattle.gix_object.specs.State.{State, new_state, open_bases, open_dirs}

@@ -3,7 +3,7 @@ use Rattle.std.specs.Prelude.{◌≡◌, ◌≢◌, ◌⊎◌, ◌↔◌, ℕ, s
 use Rattle.gix_object.specs.Commands.{accepted_steps, emitted_pairs, kept_pairs, written_at}
 use Rattle.gix_object.specs.Files.{NamedFiles, SameFiles, Table, Trees}
 use Rattle.gix_object.specs.History.{FilesAfter}
-use Rattle.gix_object.specs.OneId.{IsPlainRun, files_before}
+use Rattle.gix_object.specs.PlainRuns.{IsPlainRun, files_before}
 use Rattle.gix_object.specs.Openings.{OfTrees}
 use Rattle.gix_object.specs.PlainHistory.{NoFiles}
 use Rattle.gix_object.specs.Replies.{Answers, IsRun}

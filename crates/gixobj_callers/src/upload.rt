@@ -1,7 +1,7 @@
 //! A planner of uploads, which returns the trees of an editor's files that a store lacks.
 ghost use Rattle.std.specs.Prelude.{◌≡◌, IfErr, IfOk, OnErr};
 ghost use Rattle.gix_object.specs.Calls.{answered, denied, IsCallableOnTrees};
-ghost use Rattle.gix_object.specs.Emitting.{IsWriteError};
+ghost use Rattle.gix_object.specs.WriteErrors.{IsWriteError};
 ghost use Rattle.gix_object.specs.Emission.{EmitsSome};
 ghost use Rattle.gix_object.specs.State.{open_bases, open_dirs};
 ghost use Rattle.gix_object.specs.Writes.{IsWrittenEditor};

@@ -19,7 +19,7 @@ use Rattle.gixobj_tree.specs.KeyOrder.{ComesBefore, entry_key, key_of}
 use Rattle.gixobj_tree.specs.WellFormed.{EachLater}
 use Rattle.gixobj_mode.specs.Mode.{is_tree_mode}
 use Rattle.gixobj_directories.specs.declared.open.Child.{Child}
-use Rattle.gixobj_directories.specs.Emitting.{pairs_after_next, child_side, next_child}
+use Rattle.gixobj_directories.specs.WriteErrors.{pairs_after_next, child_side, next_child}
 use Rattle.gixobj_directories.specs.Nested.{AreOrdered, IsLevel, Level, Opened, Part, at_side, below, length-under, opened, part, part_at, part_key, parts, under}
 use Rattle.gixobj_directories.proofs.Levels.{level_at_by}
 use Rattle.gixobj_directories.proofs.Ordered.{Before, names_differ, level_names_apart}

@@ -18,7 +18,7 @@ use Rattle.gixobj_directories.specs.Calls.{IsCallableOnTrees, IsStorable}
 use Rattle.gixobj_files.specs.Editing.{same_name}
 use Rattle.gixobj_files.specs.Edits.{raised}
 use Rattle.gixobj_files.specs.Files.{Path, is_null}
-use Rattle.gixobj_directories.specs.Emitting.{IsWriteError, EmitsEntry, child_side}
+use Rattle.gixobj_directories.specs.WriteErrors.{IsWriteError, EmitsEntry, child_side}
 use Rattle.gixobj_hash.specs.declared.hash.object_id.ObjectId.TheVariants.{Sha1}
 use Rattle.gixobj_files.specs.Emission.{EmitsSome, EmitsBelow, EmitsEntries, left_out_if_empty, end, entry_unless_null, of_entries, unopened, unchanged, written}
 use Rattle.gixobj_directories.specs.Nested.{Level, Opened, at_side, bases_of, dirs_of}

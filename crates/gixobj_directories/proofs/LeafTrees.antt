@@ -20,7 +20,7 @@ use Rattle.gixobj_files.specs.Emission.{EmitsBelow, EmitsEntries, end, of_entrie
 use Rattle.gixobj_files.proofs.OpenedFiles.{same_name_refl, same_name_false}
 use Rattle.gixobj_files.proofs.Sublists.{all_weaker}
 use Rattle.gixobj_directories.specs.declared.open.Child.{Child}
-use Rattle.gixobj_directories.specs.Emitting.{next_child, pairs_after_next}
+use Rattle.gixobj_directories.specs.WriteErrors.{next_child, pairs_after_next}
 use Rattle.gixobj_directories.specs.Nested.{AreOrdered, Level, Opened, Part, bases_of, below, dirs_of, length-under, opened, part, parts, under}
 use Rattle.gixobj_directories.specs.LeafTrees.{Adds, Fills, child_leaf_trees, is_at_or_below, is_above, is_leaf_tree, leaf_trees}
 use Rattle.gixobj_directories.proofs.Alongside.{Ahead}

@@ -1,6 +1,6 @@
 pub mod Calls
 pub mod Decreases
-pub mod Emitting
+pub mod WriteErrors
 pub mod LookedUp
 pub mod Nested
 pub mod Openings

@@ -11,7 +11,7 @@ ghost use Rattle.gixobj_files.specs.Files.{Path, is_null};
 ghost use Rattle.gixobj_files.specs.Emission.{EmitsSome, EmitsBelow, Saves};
 ghost use Rattle.gixobj_files.specs.Opening.{in_path};
 ghost use Rattle.gixobj_directories.specs.Calls.{IsCallableOnTrees, IsStorable, names_of, answered, denied};
-ghost use Rattle.gixobj_directories.specs.Emitting.{IsWriteError, EmitsEntry, pairs_after_next, child_side, entry_if_some, next_child};
+ghost use Rattle.gixobj_directories.specs.WriteErrors.{IsWriteError, EmitsEntry, pairs_after_next, child_side, entry_if_some, next_child};
 ghost use Rattle.gixobj_directories.specs.Nested.{base_side, bases_of, dirs_of, entries_side, opened};
 ghost use Rattle.gixobj_files.specs.WrittenTrees.{SharesBase, so_far};
 ghost use Rattle.gixobj_files.specs.FilteredTrees.{IsFilteredTree};

@@ -5,7 +5,7 @@ use Rattle.std.specs.Fn.{Called, CalledAt, FnReturnsAt, Mut, Shared}
 use Rattle.std.specs.List.{FoldsTo}
 use denote.Ref.{Bor}
 use Rattle.gixobj_directories.specs.Calls.{IsCallableOnTrees, IsStorable}
-use Rattle.gixobj_directories.specs.Emitting.{IsWriteError}
+use Rattle.gixobj_directories.specs.WriteErrors.{IsWriteError}
 use Rattle.gixobj_directories.specs.declared.write.Written.{Written}
 use Rattle.gixobj_directories.specs.declared.write.WriteError.{WriteError}
 use Rattle.gixobj_directories.specs.declared.write.WriteError.TheVariants as write

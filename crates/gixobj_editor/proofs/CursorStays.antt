@@ -19,7 +19,8 @@ use Rattle.gixobj_editor.specs.Cursors.{from_root}
 use Rattle.gixobj_editor.specs.Removals.{IsRemovedUpTo}
 use Rattle.gixobj_files.specs.Bases.{opened_bases}
 use Rattle.gixobj_directories.specs.declared.opening.NotLookedUp.TheVariants as not_looked_up
-use Rattle.gixobj_editor.specs.Upserts.{IsAfterFailedEdit, IsLookupError, IsUpserted, directory_of}
+use Rattle.gixobj_editor.specs.Upserts.{IsUpserted, directory_of}
+use Rattle.gixobj_editor.specs.FailedEdits.{IsAfterFailedEdit, IsLookupError}
 use Rattle.gixobj_editor.specs.declared.editor.error.Error.{Error}
 use Rattle.gixobj_editor.proofs.InPart.{none_in_part}
 

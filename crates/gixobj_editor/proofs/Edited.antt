@@ -35,7 +35,8 @@ use Rattle.gixobj_files.specs.Bases.{AreOpenedOn, base_edited, base_opened, edit
 use Rattle.gixobj_files.proofs.Calls.{opened_based, upserted_based}
 use Rattle.gixobj_directories.specs.declared.opening.Error as directory
 use Rattle.gixobj_directories.specs.declared.opening.Error.TheVariants as opening
-use Rattle.gixobj_editor.specs.Upserts.{OpensInPart, IsAfterFailedEdit, IsUpserted, IsEntryNameError, IsFirstNameError, IsLookupError, IsUpsertError, directory_of, edit_error}
+use Rattle.gixobj_editor.specs.Upserts.{IsUpserted, IsEntryNameError, IsFirstNameError, IsUpsertError, directory_of}
+use Rattle.gixobj_editor.specs.FailedEdits.{OpensInPart, IsAfterFailedEdit, IsLookupError, edit_error}
 use Rattle.gixobj_editor.specs.declared.editor.error.Error.{Error}
 use Rattle.gixobj_editor.specs.declared.editor.error.Error.TheVariants as error
 use Rattle.gixobj_editor.proofs.InPart.{halted_in_part, none_in_part, opened_in_part}

@@ -28,7 +28,8 @@ use Rattle.gixobj_hash.specs.declared.hash.object_id.ObjectId.{ObjectId}
 use Rattle.gixobj_tree.specs.Entries.{EntryView}
 use Rattle.gixobj_tree.specs.WellFormed.{IsEntryName}
 use Rattle.gixobj_editor.specs.Cursors.{IsEnsured, IsCursorError}
-use Rattle.gixobj_editor.specs.Upserts.{IsFirstNameError, edit_error}
+use Rattle.gixobj_editor.specs.Upserts.{IsFirstNameError}
+use Rattle.gixobj_editor.specs.FailedEdits.{edit_error}
 use Rattle.gixobj_editor.specs.declared.editor.error.Error.{Error}
 use Rattle.gixobj_editor.specs.declared.editor.error.Error.TheVariants as error
 use Rattle.gixobj_editor.proofs.Edited.{EditedSo, OpenedOn, OpenedSo, map_is_opened, no_tree_is_idle, map_dirs_at, edited_bases_of_map, tree_known_above, map_bases, map_dirs, no_other_error, map_is_opened_on, map_dirs_eq, state_of}

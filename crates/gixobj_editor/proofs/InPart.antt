@@ -12,7 +12,7 @@ use Rattle.gixobj_files.proofs.UnopenedCounts.{opens_at_most}
 use Rattle.gixobj_store.specs.Stores.{Objects}
 use Rattle.gixobj_directories.specs.Openings.{IsOpenErrorAt}
 use Rattle.gixobj_directories.specs.declared.opening.Error as directory
-use Rattle.gixobj_editor.specs.Upserts.{IsErrorAfterLookup, IsLookupError, OpensInPart, edit_error}
+use Rattle.gixobj_editor.specs.FailedEdits.{IsErrorAfterLookup, IsLookupError, OpensInPart, edit_error}
 use Rattle.gixobj_editor.specs.declared.editor.error.Error.{Error}
 
 -- the next directory on a path is the next on each longer path

@@ -21,7 +21,7 @@ use Rattle.gixobj_files.proofs.Calls.{ensured_null_based, are_null_based_of_none
 use Rattle.gixobj_files.proofs.StoppedOpenings.{halts_opens}
 use Rattle.gixobj_files.proofs.StillOpenedOpenings.{is_opened_of_opens}
 use Rattle.gixobj_store.specs.Stores.{Objects}
-use Rattle.gixobj_editor.specs.Upserts.{OpensInPart}
+use Rattle.gixobj_editor.specs.FailedEdits.{OpensInPart}
 use Rattle.gixobj_editor.specs.declared.editor.error.Error.{Error}
 use Rattle.gixobj_editor.proofs.EnsuredAt.{is_opened_after_ensured}
 use Rattle.gixobj_editor.proofs.Edited.{EditedSo, OpenedOn, OpenedSo, is_opened_after_upsert}

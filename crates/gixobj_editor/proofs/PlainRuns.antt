@@ -9,7 +9,8 @@ use Rattle.gixobj_directories.specs.Calls.{IsStorable}
 use Rattle.gixobj_directories.specs.declared.write.Written.{Written}
 use Rattle.gixobj_editor.specs.Cursors.{IsEnsured, IsWrittenBelow}
 use Rattle.gixobj_editor.specs.Removals.{IsRemovedUpTo}
-use Rattle.gixobj_editor.specs.Upserts.{IsAfterFailedEdit, IsUpserted, directory_of}
+use Rattle.gixobj_editor.specs.Upserts.{IsUpserted, directory_of}
+use Rattle.gixobj_editor.specs.FailedEdits.{IsAfterFailedEdit}
 use Rattle.gixobj_editor.specs.Writes.{IsWrittenEditor}
 use Rattle.gixobj_files.proofs.EnsuredFiles.{is_open_along_of_opens}
 use Rattle.gixobj_files.proofs.Canonical.{IsClean}

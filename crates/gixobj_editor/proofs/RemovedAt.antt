@@ -18,7 +18,8 @@ use Rattle.gixobj_files.proofs.RemovedFiles.{IsReached, removed_dirs_files}
 use Rattle.gixobj_files.proofs.StillOpenedOpenings.{is_opened_of_opens}
 use Rattle.gixobj_files.proofs.StillOpenedRemovals.{is_opened_removed}
 use Rattle.gixobj_files.proofs.UnopenedCounts.{IsIdle, requested_count}
-use Rattle.gixobj_editor.specs.Upserts.{IsAfterFailedEdit, IsLookupError, directory_of}
+use Rattle.gixobj_editor.specs.Upserts.{directory_of}
+use Rattle.gixobj_editor.specs.FailedEdits.{IsAfterFailedEdit, IsLookupError}
 use Rattle.gixobj_editor.specs.declared.editor.error.Error.{Error}
 use Rattle.gixobj_editor.specs.declared.editor.error.Error.TheVariants as error
 use Rattle.gixobj_store.specs.Stores.{StoreModel}

@@ -17,7 +17,8 @@ use Rattle.gixobj_files.specs.Opening.{Dirs}
 use Rattle.gixobj_files.proofs.ReachedDirectories.{comes_open, open_comes, opens_of_longer_path}
 use Rattle.gixobj_files.proofs.StoppedOpenings.{halted_at, halted_unopened}
 use Rattle.gixobj_files.proofs.UnopenedCounts.{IsIdle}
-use Rattle.gixobj_editor.specs.Upserts.{SplitsAtFirstInvalid, OpensInPart, IsEntryNameError, IsFirstNameError, StartsInvalid, directory_of, edit_error}
+use Rattle.gixobj_editor.specs.Upserts.{SplitsAtFirstInvalid, IsEntryNameError, IsFirstNameError, StartsInvalid, directory_of}
+use Rattle.gixobj_editor.specs.FailedEdits.{OpensInPart, edit_error}
 use Rattle.gixobj_editor.specs.Removals.{ValidatesUpTo, IsRemovalErrorUpTo}
 use Rattle.gixobj_editor.specs.declared.editor.error.Error.{Error}
 use Rattle.gixobj_editor.specs.declared.editor.error.Error.TheVariants as error

@@ -28,7 +28,7 @@ use Rattle.gixobj_mode.specs.Mode.{is_tree_mode, mode_of_kind}
 use Rattle.gixobj_mode.specs.declared.entry_kind.EntryKind.{EntryKind}
 use Rattle.gixobj_mode.specs.declared.entry_kind.EntryKind.TheVariants as kind
 use Rattle.gixobj_editor.specs.Commands.{Place, accepted_steps, at_cursor, at_root, steps_of, steps_of_edit, steps_of_edits}
-use Rattle.gixobj_editor.specs.OneId.{NamesNoTree, InsertsNoTree, files_before}
+use Rattle.gixobj_editor.specs.PlainRuns.{NamesNoTree, InsertsNoTree, files_before}
 use Rattle.gixobj_editor.specs.declared.reply.EditReply.{EditReply}
 use Rattle.gixobj_editor.specs.declared.reply.EditReply.TheVariants as edit_reply
 use Rattle.gixobj_editor.specs.declared.reply.Reply.{Reply}

@@ -19,7 +19,8 @@ use Rattle.gixobj_files.specs.Unopened.{in_directory, unopened_count}
 use Rattle.gixobj_hash.specs.Hash.{null_id}
 use Rattle.gixobj_hash.specs.declared.hash.object_id.ObjectId.{ObjectId}
 use Rattle.gixobj_tree.specs.Entries.{EntryView, Pair}
-use Rattle.gixobj_editor.specs.Upserts.{IsFailedEditIn, IsFirstNameError, IsNameError, IsUnopenedError, EditErrors}
+use Rattle.gixobj_editor.specs.Upserts.{IsFirstNameError, IsNameError, IsUnopenedError, EditErrors}
+use Rattle.gixobj_editor.specs.FailedEdits.{IsFailedEditIn}
 use Rattle.gixobj_editor.specs.declared.editor.error.Error.{Error}
 use Rattle.gixobj_editor.specs.declared.editor.error.Error.TheVariants as error
 

@@ -1,7 +1,8 @@
 pub mod Causes
 pub mod Commands
 pub mod Cursors
-pub mod OneId
+pub mod FailedEdits
+pub mod PlainRuns
 pub mod Removals
 pub mod Replies
 pub mod RunTables

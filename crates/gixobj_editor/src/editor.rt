@@ -1,6 +1,6 @@
 //! Edits of nested trees by paths, and writes of the changed trees (gitdatamodel, "trees").
 //!
-//! A directory is opened, that is looked up in the store, only if an edit needs it.
+//! A directory is opened only if an edit needs it: by a lookup, or as empty if its id is null or the empty tree's.
 ghost use Rattle.std.specs.Prelude.{◌≡◌, [], IfErr, IfOk, IsOk, OnErr, OnOk, ℕ};
 ghost use Rattle.std.specs.Borrow.{Lends, sem};
 ghost use Rattle.std.specs.Option.{option_copied};
@@ -14,10 +14,11 @@ ghost use Rattle.gixobj_files.specs.Bases.{HasBases};
 ghost use Rattle.gixobj_files.specs.State.{EditorFiles, new_state, open_bases, open_dirs, root_alone, with_store};
 ghost use Rattle.gixobj_files.specs.Emission.{EmitsSome};
 ghost use Rattle.gixobj_directories.specs.Calls.{IsCallableOnTrees, answered, denied, names_of};
-ghost use Rattle.gixobj_directories.specs.Emitting.{IsWriteError};
+ghost use Rattle.gixobj_directories.specs.WriteErrors.{IsWriteError};
 ghost use Rattle.gixobj_editor.specs.Writes.{IsWrittenEditor};
 ghost use Rattle.gixobj_directories.specs.Openings.{OfTrees};
-ghost use Rattle.gixobj_editor.specs.Upserts.{IsNameError, IsFailedEditIn, IsUpserted, IsErrorIn, IsUpsertError, StartsInvalid};
+ghost use Rattle.gixobj_editor.specs.Upserts.{IsNameError, IsUpserted, IsErrorIn, IsUpsertError, StartsInvalid};
+ghost use Rattle.gixobj_editor.specs.FailedEdits.{IsFailedEditIn};
 ghost use Rattle.gixobj_editor.specs.Removals.{IsLeafRemoved, IsRemoved, IsLeafRemovalError, IsRemovalError};
 ghost use Rattle.gixobj_editor.specs.contracts.editor.Editor.{the_row};
 
@@ -273,7 +274,7 @@ impl<S: Find> Editor<S> {
             self.old (names_of path.now) self.new) }
         ensures error { IfErr result (IsErrorIn (store_model S.objects S.may_fail) self.old
             IsUpsertError (names_of path.now)) }
-        ensures not_looked_up { IfErr result (λ error. IsNameError error → self.new ≡ self.old) }
+        ensures unchanged { IfErr result (λ error. IsNameError error → self.new ≡ self.old) }
     {
         let alloc = *self.prefix.allocator();
         validate_names(path)?;

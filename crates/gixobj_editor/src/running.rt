@@ -8,7 +8,7 @@ ghost use Rattle.gixobj_files.specs.State.{EditorFiles, open_bases, open_dirs};
 ghost use Rattle.gixobj_files.specs.Tables.{AgreesWithPairs};
 ghost use Rattle.gixobj_editor.specs.Causes.{HasKeepCauses};
 ghost use Rattle.gixobj_editor.specs.Commands.{accepted_steps, kept_pairs, written_at};
-ghost use Rattle.gixobj_editor.specs.OneId.{IdsDetermineFiles, IsPlainRun};
+ghost use Rattle.gixobj_editor.specs.PlainRuns.{IdsDetermineFiles, IsPlainRun};
 ghost use Rattle.gixobj_editor.specs.Replies.{IsCallable, IsReply, IsRun};
 ghost use Rattle.gixobj_editor.specs.RunTables.{AgreesWithRun};
 ghost use Rattle.gixobj_keep.specs.Keeping.{with_trees};

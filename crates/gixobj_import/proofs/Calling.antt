@@ -3,7 +3,7 @@ use Rattle.std.proofs.Common.{◌≡◌, ◌∙◌, List, [], ◌∷◌, Err, Ok
 use Rattle.std.specs.Fn.{Called, CalledAt, Mut}
 use Rattle.std.specs.List.{FoldsTo}
 use denote.Ref.{Bor}
-use Rattle.gixobj_directories.specs.Emitting.{IsWriteError}
+use Rattle.gixobj_directories.specs.WriteErrors.{IsWriteError}
 use Rattle.gixobj_directories.specs.declared.write.WriteError.{WriteError}
 use Rattle.gixobj_directories.specs.declared.write.WriteError.TheVariants as write
 use Rattle.gixobj_directories.specs.declared.write.Written.{Written}

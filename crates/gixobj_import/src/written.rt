@@ -1,6 +1,6 @@
 //! The write after the edits of a step: the id of each tree is the digest of its encoding.
 ghost use Rattle.std.specs.Prelude.{◌≡◌, ◌∷◌, [], Contains, IfErr, IfOk, OnErr};
-ghost use Rattle.gixobj_directories.specs.Emitting.{IsWriteError};
+ghost use Rattle.gixobj_directories.specs.WriteErrors.{IsWriteError};
 ghost use Rattle.gixobj_editor.specs.Writes.{IsWrittenEditor};
 ghost use Rattle.gixobj_files.specs.Emission.{EmitsSome};
 ghost use Rattle.gixobj_files.specs.State.{open_bases, open_dirs};

@@ -3,11 +3,12 @@ ghost use Rattle.std.specs.Prelude.{◌≡◌, ◌≢◌, [], IfErr, IfOk, IsOk,
 ghost use Rattle.std.specs.Borrow.{RestsIfErr, sem};
 ghost use Rattle.std.specs.Option.{option_copied};
 ghost use Rattle.gixobj_directories.specs.Calls.{IsCallableOnTrees, answered, denied, names_of};
-ghost use Rattle.gixobj_directories.specs.Emitting.{IsWriteError};
+ghost use Rattle.gixobj_directories.specs.WriteErrors.{IsWriteError};
 ghost use Rattle.gixobj_directories.specs.Openings.{OfTrees};
 ghost use Rattle.gixobj_editor.specs.Cursors.{IsEnsured, IsFailedCursorIn, IsWrittenBelow, IsErrorBelow, IsCursorError, from_root, cursor_path};
 ghost use Rattle.gixobj_editor.specs.Removals.{IsLeafRemoved, IsRemoved, IsLeafRemovalError, IsRemovalError};
-ghost use Rattle.gixobj_editor.specs.Upserts.{IsNameError, IsFailedEditIn, IsUpserted, IsErrorIn, IsUpsertError};
+ghost use Rattle.gixobj_editor.specs.Upserts.{IsNameError, IsUpserted, IsErrorIn, IsUpsertError, StartsInvalid};
+ghost use Rattle.gixobj_editor.specs.FailedEdits.{IsFailedEditIn};
 ghost use Rattle.gixobj_editor.specs.contracts.editor.Editor.{the_row};
 ghost use Rattle.gixobj_files.specs.Edits.{entry_at};
 ghost use Rattle.gixobj_files.specs.Files.{Path};
@@ -144,7 +145,7 @@ impl<S: Find> Editor<S> {
             self.old (in_directory (cursor_path (names_of path.now))) self.new) }
         ensures error { IfErr result (IsErrorIn (store_model S.objects S.may_fail) self.old
             IsCursorError (cursor_path (names_of path.now))) }
-        ensures not_looked_up { IfErr result (λ error. IsNameError error → self.new ≡ self.old) }
+        ensures unchanged { IfErr result (λ error. IsNameError error → self.new ≡ self.old) }
     {
         self.ensure_directory(cursor_path_of(path))
     }
@@ -159,7 +160,7 @@ impl<S: Find> Editor<S> {
             self.old (in_directory (names_of path.now)) self.new) }
         ensures error { IfErr result (IsErrorIn (store_model S.objects S.may_fail) self.old
             IsCursorError (names_of path.now)) }
-        ensures not_looked_up { IfErr result (λ error. IsNameError error → self.new ≡ self.old) }
+        ensures unchanged { IfErr result (λ error. IsNameError error → self.new ≡ self.old) }
     {
         let alloc = *self.prefix.allocator();
         validate_names(path)?;
@@ -288,7 +289,7 @@ impl<S: Find> Cursor<'_, S> {
             self.old.editor.now (from_root self.old.editor.now.prefix (names_of path.now)) self.new.editor.now) }
         ensures error { IfErr result (IsErrorBelow (store_model S.objects S.may_fail)
             self.old.editor.now IsUpsertError (names_of path.now)) }
-        ensures not_looked_up { IfErr result (λ error. IsNameError error
+        ensures unchanged { IfErr result (λ error. IsNameError error
             → self.new.editor.now ≡ self.old.editor.now) }
     {
         let path = self.editor.path_from_root(path)?;
@@ -337,6 +338,8 @@ impl<S: Find> Cursor<'_, S> {
             self.old.editor.now (from_root self.old.editor.now.prefix (names_of path.now)) self.new.editor.now) }
         ensures error { IfErr result (IsErrorBelow (store_model S.objects S.may_fail)
             self.old.editor.now IsRemovalError (names_of path.now)) }
+        ensures unchanged { OnErr result (StartsInvalid (from_root self.old.editor.now.prefix
+            (names_of path.now)) → self.new.editor.now ≡ self.old.editor.now) }
     {
         let path = self.editor.path_from_root(path)?;
         self.editor.try_remove(&path)
@@ -385,6 +388,8 @@ impl<S: Find> Cursor<'_, S> {
             self.old.editor.now (from_root self.old.editor.now.prefix (names_of path.now)) self.new.editor.now) }
         ensures error { IfErr result (IsErrorBelow (store_model S.objects S.may_fail)
             self.old.editor.now IsLeafRemovalError (names_of path.now)) }
+        ensures unchanged { OnErr result (StartsInvalid (from_root self.old.editor.now.prefix
+            (names_of path.now)) → self.new.editor.now ≡ self.old.editor.now) }
     {
         let path = self.editor.path_from_root(path)?;
         self.editor.try_remove_leaf(&path)

@@ -44,7 +44,7 @@ impl From<AllocError> for Error {
 
 impl From<opening::Error> for Error {
     ghost use Rattle.std.specs.Prelude.{◌≡◌};
-    ghost use Rattle.gixobj_editor.specs.Upserts.{edit_error};
+    ghost use Rattle.gixobj_editor.specs.FailedEdits.{edit_error};
 
     ghost from_gives = { λ cause error. error ≡ edit_error cause };
 

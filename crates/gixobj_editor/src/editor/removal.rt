@@ -13,7 +13,8 @@ ghost use Rattle.gixobj_hash.specs.Bytes.{slash};
 ghost use Rattle.gixobj_tree.specs.Entries.{EntryView};
 ghost use Rattle.gixobj_tree.specs.WellFormed.{IsEntryName};
 ghost use Rattle.gixobj_mode.specs.Mode.{is_tree_mode};
-ghost use Rattle.gixobj_editor.specs.Upserts.{OpensInPart, IsFirstNameError, StartsInvalid, directory_of};
+ghost use Rattle.gixobj_editor.specs.Upserts.{IsFirstNameError, StartsInvalid, directory_of};
+ghost use Rattle.gixobj_editor.specs.FailedEdits.{OpensInPart};
 ghost use Rattle.gixobj_editor.specs.Removals.{ValidatesUpTo, IsLeafDirectoryError, IsRemovalErrorUpTo};
 
 use crate::editor::error::Error;

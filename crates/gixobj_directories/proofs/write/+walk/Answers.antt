@@ -9,7 +9,7 @@ use Rattle.gixobj_tree.specs.Entries.{EntryView, Pair}
 use Rattle.gixobj_tree.specs.WellFormed.{IsWellFormed}
 use Rattle.gixobj_hash.specs.declared.hash.object_id.ObjectId.{ObjectId}
 use Rattle.gixobj_directories.specs.Calls.{IsStorable}
-use Rattle.gixobj_directories.specs.Emitting.{IsWriteError, EmitsEntry, child_side, entry_if_some, next_child}
+use Rattle.gixobj_directories.specs.WriteErrors.{IsWriteError, EmitsEntry, child_side, entry_if_some, next_child}
 use Rattle.gixobj_files.specs.Emission.{EmitsBelow, entry_unless_null, of_entries}
 use Rattle.gixobj_directories.specs.Nested.{Opened, base_side, bases_of, below, dirs_of, entries_side, parts}
 use Rattle.gixobj_files.specs.WrittenTrees.{so_far}

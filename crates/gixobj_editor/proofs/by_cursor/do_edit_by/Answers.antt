@@ -16,7 +16,7 @@ returns-in-Upsert-clause-reply g c =
     rw (c.in-Upsert.is, c.reply_to_edit.ensures.reply)
     (upsert_replied model answers (at_cursor c.args.cursor.now.editor.now.prefix) c.args.cursor.now.editor.now call.new.self.editor.now c.in-Upsert.path
     c.deref.result.now c.deref.ensures.value c.in-Upsert.kind c.in-Upsert.id call.result
-    call.ensures.upserted call.ensures.after_error call.ensures.error call.ensures.not_looked_up)
+    call.ensures.upserted call.ensures.after_error call.ensures.error call.ensures.unchanged)
 
 pub returns-in-Remove-clause-reply : goal.returns-in-Remove-clause-reply
 returns-in-Remove-clause-reply g c =

@@ -3,7 +3,8 @@ use Rattle.std.specs.Fn.{FnReturnsAt}
 use Rattle.gixobj_directories.specs.Calls.{names_of}
 use Rattle.gixobj_directories.specs.Openings.{OfTrees}
 use Rattle.gixobj_editor.specs.Cursors.{cursor_path}
-use Rattle.gixobj_editor.specs.Upserts.{IsNameError, IsAfterFailedEdit}
+use Rattle.gixobj_editor.specs.Upserts.{IsNameError}
+use Rattle.gixobj_editor.specs.FailedEdits.{IsAfterFailedEdit}
 use Rattle.gixobj_files.specs.State.{State}
 use Rattle.gixobj_files.specs.Unopened.{in_directory}
 use Rattle.gixobj_hash.specs.declared.hash.object_id.ObjectId.{ObjectId}

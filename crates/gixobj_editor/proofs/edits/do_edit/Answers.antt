@@ -17,7 +17,7 @@ returns-in-Upsert g c =
       reply = rw (c.in-Upsert.is, c.reply_to_edit.ensures.reply)
           (upsert_replied model answers at_root c.args.editor.now call.new.self c.in-Upsert.path c.deref.result.now c.deref.ensures.value c.in-Upsert.kind
           c.in-Upsert.id call.result
-          call.ensures.upserted call.ensures.after_error call.ensures.error call.ensures.not_looked_up);
+          call.ensures.upserted call.ensures.after_error call.ensures.error call.ensures.unchanged);
       cause = reply_to_has_keep_cause g.S.Store.objects g.S.Keep.keep_errors call.result c.reply_to_edit.result c.reply_to_edit.ensures.reply;
     }
 

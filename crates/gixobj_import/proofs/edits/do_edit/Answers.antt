@@ -8,7 +8,7 @@ returns-in-Upsert g c =
     let call = c.try_upsert in
     rw c.in-Upsert.is (upsert_replied model c.args.editor.now call.new.self c.in-Upsert.path c.deref.result.now c.deref.ensures.value c.in-Upsert.kind
     c.in-Upsert.id call.result
-    call.ensures.upserted call.ensures.after_error call.ensures.error call.ensures.not_looked_up)
+    call.ensures.upserted call.ensures.after_error call.ensures.error call.ensures.unchanged)
 
 pub returns-in-Remove : goal.returns-in-Remove
 returns-in-Remove g c =

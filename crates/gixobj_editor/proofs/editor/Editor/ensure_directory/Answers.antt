@@ -11,7 +11,8 @@ use Rattle.gixobj_directories.specs.Nested.{Opened, dirs_of}
 use Rattle.gixobj_directories.specs.Openings.{AreTreesOf, IsOpenErrorAt}
 use Rattle.gixobj_directories.proofs.Emitting.{if_err_weaken}
 use Rattle.gixobj_store.specs.Stores.{StoreModel}
-use Rattle.gixobj_editor.specs.Upserts.{IsAfterFailedEdit, IsFirstNameError, IsLookupError}
+use Rattle.gixobj_editor.specs.Upserts.{IsFirstNameError}
+use Rattle.gixobj_editor.specs.FailedEdits.{IsAfterFailedEdit, IsLookupError}
 use Rattle.gixobj_editor.specs.declared.editor.error.Error.{Error}
 use Rattle.gixobj_editor.specs.Cursors.{IsCursorError}
 use Rattle.gixobj_editor.proofs.EnsuredAt.{ensured_at, ensured_path_is_open, cursor_error_of_name, rejects_at, path_not_nil}

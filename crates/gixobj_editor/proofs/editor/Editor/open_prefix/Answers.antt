@@ -6,7 +6,7 @@ use Rattle.gixobj_files.specs.State.{open_dirs}
 use Rattle.gixobj_files.specs.Unopened.{in_directory}
 use Rattle.gixobj_directories.specs.Openings.{AreTreesOf}
 use Rattle.gixobj_editor.specs.Cursors.{IsEnsured, IsCursorError}
-use Rattle.gixobj_editor.specs.Upserts.{IsAfterFailedEdit}
+use Rattle.gixobj_editor.specs.FailedEdits.{IsAfterFailedEdit}
 use Rattle.gixobj_editor.proofs.editor.Editor.open_prefix.Goals as goal
 
 pub returns-clause-prefix : goal.returns-clause-prefix

@@ -13,7 +13,8 @@ use Rattle.gixobj_directories.specs.declared.opening.NotLookedUp.TheVariants as 
 use Rattle.gixobj_editor.proofs.RemovedAt.{removed_at}
 use Rattle.gixobj_editor.proofs.OpenedOn.{in_part_on, taken_on}
 use Rattle.gixobj_store.specs.Stores.{StoreModel}
-use Rattle.gixobj_editor.specs.Upserts.{IsAfterFailedEdit, directory_of}
+use Rattle.gixobj_editor.specs.Upserts.{directory_of}
+use Rattle.gixobj_editor.specs.FailedEdits.{IsAfterFailedEdit}
 use Rattle.gixobj_editor.specs.declared.editor.error.Error.{Error}
 use Rattle.gixobj_editor.proofs.editor.Editor.try_remove.Goals as goal
 

@@ -14,7 +14,8 @@ use Rattle.gixobj_directories.specs.declared.opening.NotLookedUp.TheVariants as 
 use Rattle.gixobj_editor.proofs.RemovedAt.{no_lookup_of_leaf, rejected_at, removed_at, known_at}
 use Rattle.gixobj_editor.proofs.OpenedOn.{in_part_on, opened_on, taken_on}
 use Rattle.gixobj_store.specs.Stores.{StoreModel}
-use Rattle.gixobj_editor.specs.Upserts.{IsAfterFailedEdit, IsLookupError, directory_of}
+use Rattle.gixobj_editor.specs.Upserts.{directory_of}
+use Rattle.gixobj_editor.specs.FailedEdits.{IsAfterFailedEdit, IsLookupError}
 use Rattle.gixobj_editor.specs.declared.editor.error.Error.{Error}
 use Rattle.gixobj_editor.proofs.editor.Editor.try_remove_leaf.Goals as goal
 

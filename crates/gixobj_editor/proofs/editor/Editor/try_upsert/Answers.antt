@@ -12,7 +12,8 @@ use Rattle.gixobj_directories.specs.Openings.{AreTreesOf, IsOpenErrorAt}
 use Rattle.gixobj_directories.proofs.Emitting.{if_err_weaken}
 use Rattle.gixobj_directories.proofs.OpeningSteps.{names_of_nil}
 use Rattle.gixobj_store.specs.Stores.{StoreModel}
-use Rattle.gixobj_editor.specs.Upserts.{IsAfterFailedEdit, IsFirstNameError, IsLookupError, IsUpsertError}
+use Rattle.gixobj_editor.specs.Upserts.{IsFirstNameError, IsUpsertError}
+use Rattle.gixobj_editor.specs.FailedEdits.{IsAfterFailedEdit, IsLookupError}
 use Rattle.gixobj_editor.specs.declared.editor.error.Error.{Error}
 use Rattle.gixobj_editor.proofs.Edited.{OpenedOn, OpenedSo, edited_bases_idle, halted_so, upsert_error_of_name, is_upserted_unchanged, is_opened_of_editor, opened_so, fails, no_lookup_of_name, unchanged_at, upserted_at, state_of}
 use Rattle.gixobj_directories.specs.declared.opening.NotLookedUp.TheVariants as not_looked_up

@@ -1,13 +1,14 @@
 -- The editor's own edit, at the path from the root.
-use Rattle.std.proofs.Common.{◌∙◌, ap, subst, sym}
+use Rattle.std.proofs.Common.{◌≡◌, ◌∙◌, OnErr, ap, subst, sym}
 use Rattle.gixobj_files.specs.Files.{Path}
 use Rattle.gixobj_directories.specs.Calls.{names_of}
 use Rattle.gixobj_directories.proofs.Emitting.{if_err_weaken}
 use Rattle.gixobj_store.specs.Stores.{StoreModel}
 use Rattle.gixobj_editor.specs.declared.editor.error.Error.{Error}
 use Rattle.gixobj_editor.specs.Cursors.{from_root}
+use Rattle.gixobj_editor.specs.Upserts.{StartsInvalid}
 use Rattle.gixobj_editor.specs.Removals.{IsRemoved}
-use Rattle.gixobj_editor.specs.Upserts.{IsAfterFailedEdit, IsLookupError}
+use Rattle.gixobj_editor.specs.FailedEdits.{IsAfterFailedEdit, IsLookupError}
 use Rattle.gixobj_editor.proofs.CursorStays.{Stays, known_of_either, edit_failure_unchanged, stays_failed, stays_removed}
 use Rattle.gixobj_editor.proofs.editor.cursor.Cursor.try_remove.Goals as goal
 
@@ -47,3 +48,10 @@ returns-clause-prefix g c =
     (λ trees h. stays_removed trees old new path (subst (λ (p : Path). IsRemoved trees old p new) is h))
     (λ error trees h. stays_failed model trees old new entire error h) in
     kept.0
+
+pub returns-clause-unchanged : goal.returns-clause-unchanged
+returns-clause-unchanged g c =
+    let old = c.args.self.now.editor.now in
+    let new = c.try_remove.new.self in
+    let is = ap names_of c.deref.ensures.value ∙ (c.in_ok-path.ensures {u = tt}).joined in
+    subst (λ (p : Path). OnErr c.try_remove.result (StartsInvalid p → new ≡ old)) is c.try_remove.ensures.unchanged

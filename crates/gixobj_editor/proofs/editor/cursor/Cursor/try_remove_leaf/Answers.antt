@@ -1,5 +1,5 @@
 -- The editor's own edit, at the path from the root.
-use Rattle.std.proofs.Common.{◌∙◌, ap, subst, sym}
+use Rattle.std.proofs.Common.{◌≡◌, ◌∙◌, OnErr, ap, subst, sym}
 use Rattle.std.proofs.lemmas.Result.{MatchResult-weaker}
 use Rattle.gixobj_files.specs.Files.{Path}
 use Rattle.gixobj_directories.specs.Calls.{names_of}
@@ -7,8 +7,9 @@ use Rattle.gixobj_directories.proofs.Emitting.{if_err_weaken}
 use Rattle.gixobj_store.specs.Stores.{StoreModel}
 use Rattle.gixobj_editor.specs.declared.editor.error.Error.{Error}
 use Rattle.gixobj_editor.specs.Cursors.{from_root}
+use Rattle.gixobj_editor.specs.Upserts.{StartsInvalid}
 use Rattle.gixobj_editor.specs.Removals.{IsLeafRemoved}
-use Rattle.gixobj_editor.specs.Upserts.{IsAfterFailedEdit, IsLookupError}
+use Rattle.gixobj_editor.specs.FailedEdits.{IsAfterFailedEdit, IsLookupError}
 use Rattle.gixobj_editor.proofs.CursorStays.{Stays, known_of_either, edit_failure_unchanged, stays_failed, stays_removed}
 use Rattle.gixobj_editor.proofs.editor.cursor.Cursor.try_remove_leaf.Goals as goal
 
@@ -53,3 +54,10 @@ pub returns-clause-removed : goal.returns-clause-removed
 returns-clause-removed g c = MatchResult-weaker c.try_remove_leaf.result c.try_remove_leaf.ensures.removed (λ _ removed trees fits.
     let is = ap names_of c.deref.ensures.value ∙ (c.in_ok-path.ensures {u = tt}).joined in
     subst (λ (p : Path). IsLeafRemoved trees c.args.self.now.editor.now p c.try_remove_leaf.new.self) is (removed trees fits)) (λ _ u. u)
+
+pub returns-clause-unchanged : goal.returns-clause-unchanged
+returns-clause-unchanged g c =
+    let old = c.args.self.now.editor.now in
+    let new = c.try_remove_leaf.new.self in
+    let is = ap names_of c.deref.ensures.value ∙ (c.in_ok-path.ensures {u = tt}).joined in
+    subst (λ (p : Path). OnErr c.try_remove_leaf.result (StartsInvalid p → new ≡ old)) is c.try_remove_leaf.ensures.unchanged

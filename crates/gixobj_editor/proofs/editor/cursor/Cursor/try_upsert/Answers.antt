@@ -7,7 +7,8 @@ use Rattle.gixobj_directories.proofs.Emitting.{if_err_weaken}
 use Rattle.gixobj_store.specs.Stores.{StoreModel}
 use Rattle.gixobj_editor.specs.declared.editor.error.Error.{Error}
 use Rattle.gixobj_editor.specs.Cursors.{from_root}
-use Rattle.gixobj_editor.specs.Upserts.{IsAfterFailedEdit, IsLookupError, IsUpserted}
+use Rattle.gixobj_editor.specs.Upserts.{IsUpserted}
+use Rattle.gixobj_editor.specs.FailedEdits.{IsAfterFailedEdit, IsLookupError}
 use Rattle.gixobj_editor.proofs.CursorStays.{Stays, known_of_either, edit_failure_unchanged, stays_failed, stays_upserted}
 use Rattle.gixobj_editor.proofs.editor.cursor.Cursor.try_upsert.Goals as goal
 
