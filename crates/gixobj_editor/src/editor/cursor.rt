@@ -117,9 +117,10 @@ impl<S: Find> Editor<S> {
     pub fn cursor_at(&mut self, path: &[BString]) -> Result<Cursor<'_, S>, Error>
         // Starred, since a cursor borrows the editor: the clause says what remains of the editor after an
         // error, when nothing borrows it.
-        ensures* after_error { sem 𝓛 (RestsIfErr (the_row S.row) self.entry (λ c. c.editor.ghost_name)
-            result (λ remaining. IfErr result (IsFailedCursorIn (store_model S.objects S.may_fail)
-            self.old (cursor_path (names_of path.now)) remaining))) }
+        ensures* after_error { sem 𝓛 (RestsIfErr (the_row S.row) self.entry
+            (λ c. c.editor.ghost_name) result (λ remaining. IfErr result
+            (IsFailedCursorIn (store_model S.objects S.may_fail) self.old
+            (cursor_path (names_of path.now)) remaining))) }
         ensures same_reference { IfOk result (λ c. c.editor.ghost_name ≡ self.entry.ghost_name) }
         ensures prefix { IfOk result (λ c. c.editor.now.prefix ≡ cursor_path (names_of path.now)) }
         ensures ensured { IfOk result (λ c.

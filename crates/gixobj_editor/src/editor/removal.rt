@@ -44,8 +44,8 @@ pub(crate) fn open_for_removal<S: Find>(
         OfTrees (S.objects store.now) (λ trees.
         OpensInPart (EndsBefore not_looked_up) (S.objects store.now) (S.may_fail store.now) trees
         (names_of path.now) (dirs_of root.old) (dirs_of root.new) lookups.old lookups.new error
-        × IsRemovalErrorUpTo (EndsBefore not_looked_up) (S.objects store.now) (S.may_fail store.now) trees
-        (dirs_of root.old) (names_of path.now) error)) }
+        × IsRemovalErrorUpTo (EndsBefore not_looked_up) (S.objects store.now)
+        (S.may_fail store.now) trees (dirs_of root.old) (names_of path.now) error)) }
     ensures unchanged { StartsInvalid (names_of path.now)
         → (dirs_of root.new ≡ dirs_of root.old) × (lookups.new ≡ lookups.old) }
     ensures still_opened { IsOpened (dirs_of root.old) → IsOpened (dirs_of root.new) }
