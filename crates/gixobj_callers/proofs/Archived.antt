@@ -1,7 +1,8 @@
 -- An archived history; the proof of `archive` uses it.
-use Rattle.std.proofs.Common.{◌≡◌, ℕ, All, List, [], None, subst}
+use Rattle.std.proofs.Common.{◌≡◌, ℕ, ◌≤◌, All, List, [], None, arith, length, subst, take}
+use Rattle.std.proofs.lemmas.List.{length-take}
 use Rattle.gix_object.specs.Files.{Table, Trees}
-use Rattle.gix_object.specs.Imports.{AgreesWithImports, AreCommitsOf, HaveFilesOfNothing, pairs_of_imports}
+use Rattle.gix_object.specs.Imports.{AgreesWithImports, AreCommitsOf, HaveFilesOfNothing, before, pairs_of_imports}
 use Rattle.gix_object.specs.Openings.{AreTreesOf}
 use Rattle.gix_object.specs.RunTables.{DecodesToItself}
 use Rattle.gix_object.specs.Stores.{Objects}
@@ -9,6 +10,7 @@ use Rattle.gix_object.specs.Tables.{IsConsistentWith}
 use Rattle.gix_object.specs.hash.hash.kind.Kind as hash
 use Rattle.gix_object.specs.import.import.Imported.{Imported}
 use Rattle.gix_object.specs.import.import.Step.{Step}
+use Rattle.gixobj_callers.proofs.Tips.{imported_len_eq_steps_len}
 use Rattle.gixobj_callers.specs.Archives.{IsArchived}
 
 -- the law that some table agrees with an import
@@ -31,3 +33,12 @@ module _ (hash : hash.Kind) (objects final : Objects) (steps : List Step) (impor
       → IsArchived hash objects steps imported final
   is_archived its_steps shown is_steps is_shown some_table =
       archived (subst (λ (ss : List Step). SomeTable ss imported) is_steps (subst (λ (all : List Imported). SomeTable its_steps all) is_shown some_table))
+
+-- there are no more imports than steps
+pub done_len_le_steps_len : (hash : hash.Kind) (steps : List Step) (done : List Imported) (final : Objects)
+    → AreCommitsOf hash None (before done steps) done final → length done ≤ length steps
+done_len_le_steps_len hash steps done final commits = omega (
+  arith,
+  imported_len_eq_steps_len hash None (before done steps) done final commits,
+  length-take (length done) steps,
+)

@@ -1,7 +1,7 @@
 //! An archive, which imports a history into an object store: all its commits, or the last one.
 ghost use Rattle.std.specs.Prelude.{◌≡◌, ◌↔◌, [], IfErr, IfOk, IfSome, IsNone};
 ghost use Rattle.gixobj_callers.specs.Archives.{IsArchiveError, IsArchived, IsTip};
-ghost use Rattle.gix_object.specs.Imports.{IsNewImporter};
+ghost use Rattle.gix_object.specs.Imports.{IsNewImporter, before};
 ghost use Rattle.gix_object.specs.Steps.{Stops};
 ghost use Rattle.gix_object.specs.Stores.{store_model};
 
@@ -26,7 +26,7 @@ use std::alloc::Global;
 ///
 /// # Errors
 ///
-/// [`Stopped`] at the first step that fails, as [`import_all`].
+/// [`Stopped`] at the first step that fails, as [`import_all`]. The above holds of the steps before it.
 pub fn archive<S: Keep + KeepCommit>(
     importer: &mut Importer<S>,
     steps: &[Step],
@@ -34,6 +34,9 @@ pub fn archive<S: Keep + KeepCommit>(
     requires new { IsNewImporter importer.old }
     ensures archived { IfOk result (λ all. IsArchived importer.old.hash
         (S.objects importer.old.editor.store) steps.now all.items
+        (S.objects importer.new.editor.store)) }
+    ensures archived_before { IfErr result (λ it. IsArchived importer.old.hash
+        (S.objects importer.old.editor.store) (before it.done.items steps.now) it.done.items
         (S.objects importer.new.editor.store)) }
     ensures error { IfErr result (λ it. Stops (store_model S.objects S.may_fail) importer.old steps.now
         it.done.items it.error importer.new) }
@@ -43,7 +46,11 @@ pub fn archive<S: Keep + KeepCommit>(
             consistent_import_has_table(steps, &imported);
             Ok(imported)
         }
-        Err(stopped) => Err(stopped),
+        Err(stopped) => {
+            let before = &steps[..stopped.done.len()];
+            consistent_import_has_table(before, &stopped.done);
+            Err(stopped)
+        }
     }
 }
 
