@@ -1,6 +1,4 @@
-mod Accepted
 mod Alone
-mod Audited
 mod Archived
 mod Commits
 mod Histories
@@ -12,8 +10,5 @@ mod Planned
 mod Inserted
 mod Rebuilt
 mod RebuiltFiles
-mod Errors
 mod Tips
-mod Yielded
 mod Uploaded
-mod LastTrailers

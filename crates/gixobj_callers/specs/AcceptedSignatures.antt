@@ -42,8 +42,8 @@ use Rattle.gix_object.specs.signature.signature.signed_data.SignedData.{SignedDa
 use Rattle.gix_object.specs.signature.signature.verify.Error.{Error}
 use Rattle.gix_object.specs.message.signature.Format.{Format}
 use Rattle.gix_object.specs.message.signature.Format.TheVariants as format
-use Rattle.gixobj_callers.specs.declared.releases.AuditError.{AuditError}
-use Rattle.gixobj_callers.specs.declared.releases.AuditError.TheVariants as audit
+use Rattle.gixobj_object_callers.specs.declared.releases.AuditError.{AuditError}
+use Rattle.gixobj_object_callers.specs.declared.releases.AuditError.TheVariants as audit
 
 -- ---- signed commits
 

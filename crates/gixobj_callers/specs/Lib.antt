@@ -1,13 +1,8 @@
 pub mod Ancestors
 pub mod Archives
 pub mod Checkouts
-pub mod Copies
 pub mod Imports
 pub mod Plans
 pub mod Rebuilds
-pub mod AcceptedSignatures
 pub mod Shelves
-pub mod Signers
-pub mod CopiesById
-pub mod Yielded
 pub mod Uploads

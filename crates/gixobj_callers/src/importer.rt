@@ -1,28 +1,23 @@
-//! An importer of history, by edits whose trees are kept, and by commits that are copied and encoded.
+//! An importer of files, by edits whose trees are kept.
 ghost use Rattle.std.specs.Prelude.{◌≡◌, ◌↔◌, ℕ, Contains, Err, IfErr, IfOk, IsTrue, OnErr, not, position};
 ghost use Rattle.std.specs.Fn.{FnReturnsAt};
 ghost use Rattle.gix_object.specs.Bases.{HasBases};
-ghost use Rattle.gix_object.specs.Commit.{CommitLines, DecodesToCommit};
-ghost use Rattle.gix_object.specs.CommitWriting.{encode_commit};
 ghost use Rattle.gix_object.specs.Files.{NamedFiles, SameFiles, Table};
 ghost use Rattle.gix_object.specs.History.{FilesAfter};
 ghost use Rattle.gix_object.specs.Keeping.{with_trees};
 ghost use Rattle.gix_object.specs.Replies.{IsCallable};
-ghost use Rattle.gix_object.specs.Rewriting.{AreNormalizedPartsOfCommit};
 ghost use Rattle.gix_object.specs.RunTables.{AgreesWithObjects};
 ghost use Rattle.gix_object.specs.State.{EditorFiles, open_bases, open_dirs};
 ghost use Rattle.gix_object.specs.Tables.{AgreesWithPairs};
-ghost use Rattle.gixobj_callers.specs.Copies.{FailsForPart};
 ghost use Rattle.gixobj_callers.specs.Imports.{Decides, FailsImport, HasWriteReply, edits_and_write, import_steps, is_done};
 ghost use Rattle.gix_object.specs.Stores.{store_model};
 
-use crate::store::CopyError;
 use gix_object::hash::{Kind, ObjectId};
-use gix_object::laws::{commit_decodes_uniquely, owned_commit_has_same_parts, store_has_tree_map};
+use gix_object::laws::store_has_tree_map;
 use gix_object::tree::editor::{
     Command, Edit, EditReply, Editor, Error, Reply, WriteError, Written, run,
 };
-use gix_object::{CommitRef, Keep, KeepError, OutOfMemory, Tree, WriteTo};
+use gix_object::{Keep, KeepError, OutOfMemory, Tree};
 use std::alloc::Global;
 use std::fmt::Display;
 
@@ -185,39 +180,4 @@ fn position_of_reply<E>(replies: &[Reply<E>]) -> Option<usize>
     replies
         .iter()
         .position(|reply| !matches!(reply, Reply::Edit(EditReply::Done)))
-}
-
-/// Decodes a commit, and encodes an owned copy of it.
-///
-/// The copy has the decoded parts, with ids in lower case, and with actors and times as they are encoded.
-/// Allocates the decoded commit, its owned copy and the encoding.
-///
-/// # Errors
-///
-/// - [`CopyError::Read`] if the bytes are malformed, or allocation fails;
-/// - [`CopyError::Write`] with `IllegalActor` if an actor has a byte that no owned one may have;
-/// - [`CopyError::Write`] with `EmptyValue` if the encoding header is empty, or with `Writer` if allocation
-///   fails.
-pub fn owned_copy_of(alloc: Global, bytes: &[u8], kind: Kind) -> Result<Vec<u8>, CopyError>
-    ensures parts { IfOk result (λ copy. (commit own : CommitLines)
-        × DecodesToCommit kind bytes.now commit × AreNormalizedPartsOfCommit commit own
-        × (copy.items ≡ encode_commit own)) }
-    ensures error { IfErr result (λ error. (commit : CommitLines)
-        → DecodesToCommit kind bytes.now commit → FailsForPart commit error) }
-{
-    owned_commit_has_same_parts();
-    commit_decodes_uniquely();
-    let commit = match CommitRef::from_bytes(alloc, bytes, kind) {
-        Ok(commit) => commit,
-        Err(error) => return Err(CopyError::Read(error)),
-    };
-    let owned = match commit.into_owned(alloc) {
-        Ok(owned) => owned,
-        Err(error) => return Err(CopyError::Read(error)),
-    };
-    let mut copy = Vec::new(alloc);
-    match owned.write_to_vec(alloc, &mut copy) {
-        Ok(()) => Ok(copy),
-        Err(error) => Err(CopyError::Write(error)),
-    }
 }

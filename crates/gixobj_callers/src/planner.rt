@@ -1,5 +1,5 @@
 //! A planner of checkouts, which iterates over trees, and makes a tree of a stored one.
-ghost use Rattle.std.specs.Prelude.{◌≡◌, ℕ, All, IfErr, IfOk, IsFalse, List, MatchBool};
+ghost use Rattle.std.specs.Prelude.{ℕ, IfErr, IfOk, IsFalse, List, MatchBool};
 ghost use Rattle.gix_object.specs.Calls.{answered, denied, IsCallableOnTrees, names_of};
 ghost use Rattle.gix_object.specs.Openings.{OfTrees, AreTreesOf};
 ghost use Rattle.gix_object.specs.Entries.{EntryView};
@@ -7,23 +7,16 @@ ghost use Rattle.gix_object.specs.Files.{NamedFiles, SameFiles, Table, Trees, Up
 ghost use Rattle.gix_object.specs.Mode.{mode_of_kind};
 ghost use Rattle.gix_object.specs.Tables.{AgreesWithPairs, AgreesWithStore};
 ghost use Rattle.gix_object.specs.TreeDecoding.{IsMalformedTree, DecodesToTree};
-ghost use Rattle.gix_object.specs.TreeRewriting.{RoundTrips};
-ghost use Rattle.gixobj_callers.specs.Copies.{FailsForRoom};
 ghost use Rattle.gixobj_callers.specs.Plans.{IsPlanned, IsRoot, IsPlanError, IsRootError};
 ghost use Rattle.gix_object.specs.Stores.{store_model};
 
-use crate::store::CopyError;
 use bstr::BString;
 use gix_object::find::existing_object;
 use gix_object::hash::{Kind, ObjectId};
-use gix_object::laws::{
-    consumed_entries_are_prefix, id_equality_is_decidable, tree_decodes_uniquely,
-    tree_readers_agree, tree_reencodes_identically, tree_round_trips,
-    write_error_implies_sink_error,
-};
+use gix_object::laws::{consumed_entries_are_prefix, id_equality_is_decidable, tree_readers_agree};
 use gix_object::tree::EntryKind;
 use gix_object::tree::editor::{Editor, Error, WriteError, Written};
-use gix_object::{Find, FindExt, Tree, TreeRef, TreeRefIter, WriteTo};
+use gix_object::{Find, FindExt, Tree, TreeRefIter};
 use std::alloc::Global;
 use std::fmt::Display;
 
@@ -40,38 +33,6 @@ pub fn is_tree(content: &[u8], kind: Kind) -> bool
         }
     }
     true
-}
-
-/// Encodes a tree and decodes it again. The result equals the tree if each entry round-trips.
-///
-/// Allocates the encoding, and the entries of the result.
-///
-/// # Errors
-///
-/// - [`CopyError::Write`] if the tree can't be encoded, or allocation fails;
-/// - [`CopyError::Read`] if decoding fails.
-///
-/// If each entry round-trips, the call fails only for memory.
-pub fn read_back(alloc: Global, tree: &Tree, kind: Kind) -> Result<Tree, CopyError>
-    ensures unchanged { IfOk result (λ back. All (RoundTrips kind) tree.now → back ≡ tree.now) }
-    ensures error { IfErr result (λ error. All (RoundTrips kind) tree.now → FailsForRoom error) }
-{
-    tree_decodes_uniquely();
-    tree_round_trips();
-    tree_reencodes_identically();
-    write_error_implies_sink_error(tree);
-    let mut bytes = Vec::new(alloc);
-    if let Err(error) = tree.write_to_vec(alloc, &mut bytes) {
-        return Err(CopyError::Write(error));
-    }
-    let back = match TreeRef::from_bytes(alloc, &bytes, kind) {
-        Ok(back) => back,
-        Err(error) => return Err(CopyError::Read(error)),
-    };
-    match back.into_owned(alloc) {
-        Ok(copy) => Ok(copy),
-        Err(error) => Err(CopyError::Read(error.into())),
-    }
 }
 
 /// The error of [`root_in`].

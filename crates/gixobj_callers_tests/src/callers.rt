@@ -17,10 +17,9 @@ use bstr::BStr;
 use gix_object::CommitRef;
 use gix_object::hash::{Kind, ObjectId};
 use gix_object_tests::samples::id;
-use gixobj_callers::auditor::{position_of, value_of, values_of};
-use gixobj_callers::importer::owned_copy_of;
-use gixobj_callers::store::{CopyError, copy_of};
-use gixobj_callers::walker::{ends_after_errors, message_of, parents_of, tree_of};
+use gixobj_object_callers::auditor::{position_of, value_of, values_of};
+use gixobj_object_callers::store::{CopyError, copy_of, owned_copy_of};
+use gixobj_object_callers::walker::{ends_after_errors, message_of, parents_of, tree_of};
 use std::alloc::Global;
 
 const TREE: &[u8] = b"4b825dc642cb6eb9a060e54bf8d69288fbee4904";

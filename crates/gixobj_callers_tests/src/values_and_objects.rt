@@ -6,8 +6,8 @@ use bstr::BStr;
 use gix_object::hash::{Kind as HashKind, ObjectId, oid};
 use gix_object::{CommitRef, Data, Exists, FindHeader, Kind};
 use gix_object_tests::samples::id;
-use gixobj_callers::auditor::value_of;
 use gixobj_callers::shelf::Shelf;
+use gixobj_object_callers::auditor::value_of;
 use std::alloc::Global;
 
 /// A signed commit with a header `x`.

@@ -4,8 +4,8 @@ use super::is_copy;
 use gix_object::hash::Kind;
 use gix_object::{Tree, TreeRef, decode};
 use gix_object_tests::samples::id;
-use gixobj_callers::planner::{is_tree, read_back};
-use gixobj_callers::store::{TakeError, taken_over, tree_copy_of};
+use gixobj_callers::planner::is_tree;
+use gixobj_object_callers::store::{TakeError, read_back, taken_over, tree_copy_of};
 use std::alloc::Global;
 
 /// The encoding of a tree with the file `test.txt`, as `git mktree` writes it.

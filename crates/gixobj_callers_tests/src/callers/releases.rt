@@ -9,7 +9,7 @@ use gix_object::signature::verify::{self, Outcome, TrustLevel};
 use gix_object::signature::{Call, Format, Output, RunError, Runner, sign};
 use gix_object::{Commit, CommitRef, CommitRefIter, Kind, Tag, TagRef, WriteTo, decode};
 use gix_object_tests::samples::string_of;
-use gixobj_callers::releases::{AuditError, audit, signed_payload};
+use gixobj_object_callers::releases::{AuditError, audit, signed_payload};
 use std::alloc::Global;
 
 const SIGNATURE: &[u8] = b"-----BEGIN PGP SIGNATURE-----\n\nA\n-----END PGP SIGNATURE-----\n";

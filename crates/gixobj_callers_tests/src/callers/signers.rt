@@ -5,7 +5,7 @@ use gix_object::commit::message::BodyRef;
 use gix_object::commit::message::body::TrailerRef;
 use gix_object::hash::Kind;
 use gix_object::{CommitRef, decode};
-use gixobj_callers::signers::{last_trailer_of, parts_of, signers_of};
+use gixobj_object_callers::signers::{last_trailer_of, parts_of, signers_of};
 use std::alloc::Global;
 
 /// A commit with two sign-offs, one of them folded over two lines.

@@ -7,9 +7,9 @@ use bstr::BStr;
 use gix_object::hash::Kind;
 use gix_object::{CommitRef, TagRef};
 use gix_object_tests::samples::id;
-use gixobj_callers::auditor::merged_tags_of;
-use gixobj_callers::publisher::{checked_name, tag_copy_of, target_of};
-use gixobj_callers::verifier::read_both_ways;
+use gixobj_object_callers::auditor::merged_tags_of;
+use gixobj_object_callers::publisher::{checked_name, tag_copy_of, target_of};
+use gixobj_object_callers::verifier::read_both_ways;
 use std::alloc::Global;
 
 /// A tag of the empty tree.

@@ -1,0 +1,5 @@
+mod Accepted
+mod Audited
+mod Errors
+mod LastTrailers
+mod Yielded
