@@ -126,11 +126,15 @@ module _ {S E : Type 0} (model : StoreModel S) (answers : Answers E) (trees_of :
     bases_remaining old new edits written after = subst (λ (s : State S). HasBases T (open_dirs s) (open_bases s)) (sym after.write.rest)
         (after.write.written.has_bases T)
 
+  pub decides_of_eq : (old new : State S) (edits : List Edit) (index : ℕ) (its_reply shown : EditReply E) → Decides model answers old edits index its_reply new
+      → its_reply ≡ shown → Decides model answers old edits index shown new
+  decides_of_eq old new edits index its_reply shown decides is = subst (λ (r : EditReply E). Decides model answers old edits index r new) is decides
+
   -- if the deciding reply is that of a write, the write succeeded with this result
   pub write_done : (old new : State S) (edits : List Edit) (index : ℕ) (its_reply : EditReply E) (written : Written)
       → Decides model answers old edits index its_reply new → its_reply ≡ edit_reply.Written written
       → HasWriteReply model answers old edits (edit_reply.Written written) new
-  write_done old new edits index its_reply written decides is = subst (λ (r : EditReply E). Decides model answers old edits index r new) is decides
+  write_done old new edits index its_reply written decides is = decides_of_eq old new edits index its_reply (edit_reply.Written written) decides is
 
   pub all_kept : (old new : State S) (edits : List Edit) (written : Written) → HasWriteReply model answers old edits (edit_reply.Written written) new
       → model.objects new.store ≡ with_trees written.trees.items (model.objects old.store)
