@@ -1,5 +1,5 @@
 pub mod Copies
 pub mod CopiesById
-pub mod Releases
+pub mod AcceptedSignatures
 pub mod Signers
 pub mod Yielded
