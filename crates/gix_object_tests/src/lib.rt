@@ -8,15 +8,9 @@ mod editor;
 #[cfg(test)]
 mod listing;
 #[cfg(test)]
-mod more_tasks;
-#[cfg(test)]
 mod ordinary_lists;
 #[cfg(test)]
 mod public_paths;
 #[cfg(test)]
-mod readme;
-#[cfg(test)]
 mod run_scripts;
 pub mod samples;
-#[cfg(test)]
-mod tasks;

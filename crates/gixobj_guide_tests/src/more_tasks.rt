@@ -1,6 +1,5 @@
 //! Calls more examples of docs/GUIDE.md once: values from nothing, stores in memory, work lists.
 
-use crate::samples::{id, path_of, string_of, tree_of};
 use crate::tasks::{
     BLOB, FIRST, FIRST_BYTES, SECOND, SECOND_BYTES, TREE, TREE_BYTES, batches, depths, differences,
     histories, memories, names, one_error, values,
@@ -10,6 +9,7 @@ use gix_object::find::existing_object::Error;
 use gix_object::hash::{Kind as HashKind, ObjectId};
 use gix_object::tree::EntryKind;
 use gix_object::{Header, Keep, Kind, Memory, OutOfMemory};
+use gix_object_tests::samples::{id, path_of, string_of, tree_of};
 use std::alloc::Global;
 
 /// Whether the store has the blob, and no object has the id of the first commit.

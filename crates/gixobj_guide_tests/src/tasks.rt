@@ -33,12 +33,12 @@ mod walks;
 mod writes;
 mod writing;
 
-use crate::samples::{Row, edits_of, id, path_of, step_by, string_of};
 use bstr::BStr;
 use gix_object::hash::{Kind as HashKind, ObjectId};
 use gix_object::signature::Output;
 use gix_object::tree::editor::{Editor, Error};
 use gix_object::{Commit, CommitRef, Data, Exists, Find, Kind, Memory, OutOfMemory, Tree, decode};
+use gix_object_tests::samples::{Row, edits_of, id, path_of, step_by, string_of};
 use std::alloc::Global;
 
 pub const BLOB: &[u8] = b"ce013625030ba8dba906f756967f9e9ca394464a";

@@ -1,0 +1,9 @@
+//! Tests of the examples of README and of the tasks of the guide.
+#![tactic(auto)]
+
+#[cfg(test)]
+mod more_tasks;
+#[cfg(test)]
+mod readme;
+#[cfg(test)]
+mod tasks;
