@@ -2,7 +2,7 @@
 
 use crate::limited::Limited;
 use bstr::BStr;
-use gixobj_base::actor::SignatureRef;
+use gixobj_base::actor::{Signature, SignatureRef};
 use gixobj_base::date::TimeBuf;
 use gixobj_base::encode::Error;
 use std::alloc::Global;
@@ -28,13 +28,21 @@ fn rejects_newline_in_name(rt: HostRuntime) {
     assert!(rt; is_illegal(rt.alloc(), &actor));
 }
 
+/// Returns whether a clone of an actor equals it.
+fn is_copied(actor: &Signature) -> bool {
+    match actor.clone() {
+        Ok(copy) => copy == *actor,
+        Err(_) => false,
+    }
+}
+
 /// Returns whether `to_owned`, `to_ref` and `clone` leave an actor unchanged.
 fn is_kept(alloc: Global, actor: &SignatureRef<'_>) -> bool {
     let Ok(owned) = actor.to_owned(alloc) else {
         return false;
     };
     let mut buf = TimeBuf::new();
-    owned.to_ref(&mut buf) == *actor && owned.clone().is_ok_and(|copy| copy == owned)
+    owned.to_ref(&mut buf) == *actor && is_copied(&owned)
 }
 
 #[test]
@@ -52,6 +60,21 @@ fn owned_copies_keep_fields(rt: HostRuntime) {
     assert!(rt; actor < later);
 }
 
+/// Returns a writer with room for `room` bytes.
+fn writer(alloc: Global, room: usize) -> Limited {
+    Limited {
+        held: Vec::new(alloc),
+        room,
+    }
+}
+
+/// Returns whether a writer with room for `room` bytes fails after that prefix of an actor's line.
+fn stops_at(alloc: Global, actor: &SignatureRef<'_>, line: &[u8], room: usize) -> bool {
+    let mut writer = writer(alloc, room);
+    let outcome = actor.write_to(&mut writer);
+    writer.stopped_at(&outcome, line, room)
+}
+
 #[test]
 fn returns_writer_error_after_each_prefix(rt: HostRuntime) {
     let line: &[u8] = b"A <a@b> 1 +0530";
@@ -61,11 +84,7 @@ fn returns_writer_error_after_each_prefix(rt: HostRuntime) {
         time: BStr::new(b"1 +0530"),
     };
     for room in 0..line.len() {
-        let held = Vec::new(rt.alloc());
-        let mut writer = Limited { held, room };
-        let outcome = actor.write_to(&mut writer);
-        assert!(rt; writer.stopped_at(&outcome, line, room), "{room}");
+        assert!(rt; stops_at(rt.alloc(), &actor, line, room), "{room}");
     }
-    let (held, room) = (Vec::new(rt.alloc()), line.len());
-    assert!(rt; actor.write_to(&mut Limited { held, room }).is_ok());
+    assert!(rt; actor.write_to(&mut writer(rt.alloc(), line.len())).is_ok());
 }

@@ -1,16 +1,10 @@
 //! Borrowed ids, which have the properties and hashes of owned ids, and borrowed header values of one line.
 
+use crate::helpers::hash_of;
 use gixobj_base::hash::ObjectId;
 use gixobj_base::parse::any_header_field;
 use std::alloc::Global;
 use std::borrow::CowSlice;
-use std::hash::{DefaultHasher, Hash, Hasher};
-
-fn hash_of<T: Hash>(value: &T) -> u64 {
-    let mut state = DefaultHasher::new();
-    value.hash(&mut state);
-    state.finish()
-}
 
 /// An id that is almost null, and the ids of the empty blob and the empty tree.
 const IDS: &[&str] = &[

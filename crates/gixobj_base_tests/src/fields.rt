@@ -1,7 +1,7 @@
 //! Header fields: their encodings and sizes.
 //! The encodings follow gitdatamodel, "commits", and gitformat-signature, "Commit signatures".
 
-use bstr::BString;
+use crate::helpers::string_of;
 use gixobj_actor::actor::Signature;
 use gixobj_actor::date::Time;
 use gixobj_actor::encode::{size_with_signature, trusted_header_signature};
@@ -13,72 +13,73 @@ use gixobj_fields::streams::write_parts;
 use gixobj_hash::hash::{Kind, ObjectId};
 use gixobj_hash::parse::{hex_hash, id_of_hex};
 use gixobj_hash::split::{are_digits, number_from_digits};
-use std::test::Fail;
+use std::alloc::Global;
 
 const TREE: &[u8] = b"4b825dc642cb6eb9a060e54bf8d69288fbee4904";
 
 #[test]
-fn writes_parts_and_fields_of_one_line(rt: HostRuntime) -> Result<(), Fail> {
+fn writes_parts_and_fields_of_one_line(rt: HostRuntime) {
     let mut out = Vec::new(rt.alloc());
-    write_parts(&[b"a", b"", b"b "], &mut out)?;
-    trusted_header_field(b"author", b"A", &mut out)?;
-    header_field(rt.alloc(), b"encoding", b"UTF-8", &mut out)?;
+    assert!(rt; write_parts(&[b"a", b"", b"b "], &mut out).is_ok());
+    assert!(rt; trusted_header_field(b"author", b"A", &mut out).is_ok());
+    assert!(rt; header_field(rt.alloc(), b"encoding", b"UTF-8", &mut out).is_ok());
     assert!(rt; out.as_slice() == b"ab author A\nencoding UTF-8\n".as_slice());
     assert!(rt; size_plus_field(1, b"author", b"A") == Some(10));
-    Ok(())
 }
 
 #[test]
-fn writes_fields_of_ids(rt: HostRuntime) -> Result<(), Fail> {
+fn writes_fields_of_ids(rt: HostRuntime) {
     let mut out = Vec::new(rt.alloc());
     let id = ObjectId::empty_tree(Kind::Sha1);
-    trusted_header_id(b"tree", &id, &mut out)?;
+    assert!(rt; trusted_header_id(b"tree", &id, &mut out).is_ok());
     assert!(rt; out.as_slice() == b"tree 4b825dc642cb6eb9a060e54bf8d69288fbee4904\n".as_slice());
     assert!(rt; size_plus_id(0, b"tree", &id) == Some(46));
-    Ok(())
 }
 
 #[test]
-fn writes_fields_of_hex_in_lowercase(rt: HostRuntime) -> Result<(), Fail> {
+fn writes_fields_of_hex_in_lowercase(rt: HostRuntime) {
     let mut out = Vec::new(rt.alloc());
     let hex = b"4B825DC642cb6eb9a060e54bf8d69288FBEE4904";
-    trusted_header_hex(b"tree", hex, &mut out)?;
+    assert!(rt; trusted_header_hex(b"tree", hex, &mut out).is_ok());
     assert!(rt; out.as_slice() == b"tree 4b825dc642cb6eb9a060e54bf8d69288fbee4904\n".as_slice());
     assert!(rt; size_with_hex(0, b"tree", hex) == Some(46));
-    Ok(())
+}
+
+/// Values of a header, and its encodings.
+const FIELDS: &[(&[u8], &[u8])] = &[
+    (b"", b"x \n"),
+    (b"A", b"x A\n"),
+    (b"A\nB", b"x A\n B\n"),
+    (b"A\n\nB\n", b"x A\n \n B\n"),
+];
+
+/// Returns whether a header with this value has this encoding, and the size of the encoding.
+fn is_field(alloc: Global, value: &[u8], bytes: &[u8]) -> bool {
+    let mut out = Vec::new(alloc);
+    header_field_multi_line(b"x", value, &mut out).is_ok()
+        && out.as_slice() == bytes
+        && size_with_multi_line(0, b"x", value) == Some(bytes.len() as u64)
 }
 
 #[test]
-fn writes_fields_of_several_lines(rt: HostRuntime) -> Result<(), Fail> {
-    let rows: &[(&str, &str)] = &[
-        ("", "x \n"),
-        ("A", "x A\n"),
-        ("A\nB", "x A\n B\n"),
-        ("A\n\nB\n", "x A\n \n B\n"),
-    ];
-    for &(value, bytes) in rows {
-        let mut out = Vec::new(rt.alloc());
-        header_field_multi_line(b"x", value.as_bytes(), &mut out)?;
-        assert!(rt; out.as_slice() == bytes.as_bytes());
-        let size = size_with_multi_line(0, b"x", value.as_bytes());
-        assert!(rt; size == Some(bytes.len() as u64));
+fn writes_fields_of_several_lines(rt: HostRuntime) {
+    for &(value, bytes) in FIELDS {
+        assert!(rt; is_field(rt.alloc(), value, bytes), "{value:?}");
     }
-    Ok(())
 }
 
 #[test]
-fn writes_fields_of_actors(rt: HostRuntime) -> Result<(), Fail> {
+fn writes_fields_of_actors(rt: HostRuntime) {
     let alloc = rt.alloc();
     let actor = Signature {
-        name: BString::from_slice(alloc, b"A")?,
-        email: BString::from_slice(alloc, b"a@b")?,
-        time: Time::new(1, 0).ok_or("a time")?,
+        name: string_of(alloc, b"A"),
+        email: string_of(alloc, b"a@b"),
+        time: Time::new(1, 0).unwrap_or_default(),
     };
     let mut out = Vec::new(alloc);
-    trusted_header_signature(b"author", &actor, &mut out)?;
+    assert!(rt; trusted_header_signature(b"author", &actor, &mut out).is_ok());
     assert!(rt; out.as_slice() == b"author A <a@b> 1 +0000\n".as_slice());
     assert!(rt; size_with_signature(0, b"author", &actor) == Some(23));
-    Ok(())
 }
 
 #[test]
@@ -92,13 +93,19 @@ fn rejects_empty_value_and_newline(rt: HostRuntime) {
     assert!(rt; out.is_empty());
 }
 
+/// Returns whether these are the hex digits of the empty tree's id.
+fn is_empty_tree(hex: &[u8]) -> bool {
+    match hex_hash(hex, Kind::Sha1) {
+        Some(hex) => id_of_hex(hex).is_empty_tree(),
+        None => false,
+    }
+}
+
 #[test]
-fn parses_digits_and_hex(rt: HostRuntime) -> Result<(), Fail> {
+fn parses_digits_and_hex(rt: HostRuntime) {
     assert!(rt; are_digits(b"18446744073709551615"));
     assert!(rt; !are_digits(b"0x1"));
     assert!(rt; number_from_digits(b"18446744073709551615") == Some(u64::MAX));
     assert!(rt; number_from_digits(b"18446744073709551616") == None);
-    let hex = hex_hash(TREE, Kind::Sha1).ok_or("an id")?;
-    assert!(rt; id_of_hex(hex).is_empty_tree());
-    Ok(())
+    assert!(rt; is_empty_tree(TREE));
 }

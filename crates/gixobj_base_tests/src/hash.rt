@@ -1,15 +1,8 @@
 //! The order and the hash of ids.
 
+use crate::helpers::hash_of;
 use gixobj_base::hash::{Kind, ObjectId};
 use std::cmp::Ordering;
-use std::hash::{DefaultHasher, Hash, Hasher};
-
-/// Returns the hash of a value.
-pub(crate) fn hash_of<T: Hash>(value: &T) -> u64 {
-    let mut state = DefaultHasher::new();
-    value.hash(&mut state);
-    state.finish()
-}
 
 #[test]
 fn ids_compare_and_hash_by_bytes(rt: HostRuntime) {

@@ -16,6 +16,8 @@ mod fields;
 #[cfg(test)]
 mod hash;
 #[cfg(test)]
+mod helpers;
+#[cfg(test)]
 mod kind;
 pub mod limited;
 #[cfg(test)]

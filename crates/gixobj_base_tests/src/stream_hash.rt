@@ -4,9 +4,8 @@ use crate::limited::Stepping;
 use gixobj_base::hash::ObjectId;
 use gixobj_base::stream_hash::{Error, compute_slice_hash, compute_source_hash};
 use gixobj_base::{Kind, compute_hash, compute_stream_hash, hash};
-use std::alloc::{AllocError, Global};
+use std::alloc::Global;
 use std::io::Read;
-use std::test::Fail;
 
 const HELLO: &[u8] = b"ce013625030ba8dba906f756967f9e9ca394464a";
 
@@ -80,13 +79,13 @@ fn reads_nothing_after_content(rt: HostRuntime) {
     assert!(rt; blob_id(&mut failing, 6).ok() == ObjectId::from_hex(HELLO));
 }
 
-/// Returns `len` bytes, which count from 0 to 250 again and again.
-fn content_of(alloc: Global, len: u64) -> Result<Vec<u8>, AllocError> {
+/// Returns `len` bytes, which count from 0 to 250 again and again. Fewer if memory runs out.
+fn content_of(alloc: Global, len: u64) -> Vec<u8> {
     let mut content = Vec::new(alloc);
     for i in 0..len {
-        content.push((i % 251) as u8)?;
+        let _ = content.push((i % 251) as u8);
     }
-    Ok(content)
+    content
 }
 
 /// Lengths of blobs from `content_of`, kinds of ids, and the ids of these blobs.
@@ -150,20 +149,18 @@ fn is_read_entire(content: &[u8], len: u64, hash: hash::Kind, id: Option<ObjectI
 
 /// Hashes contents with lengths near that of one buffer.
 #[test]
-fn hashes_sizes_near_buffer_length(rt: HostRuntime) -> Result<(), Fail> {
+fn hashes_sizes_near_buffer_length(rt: HostRuntime) {
     for &(len, hash, want) in SIZES {
-        let content = content_of(rt.alloc(), len)?;
+        let content = content_of(rt.alloc(), len);
         assert!(rt; has_id(&content, len, hash, want), "{len}");
     }
-    Ok(())
 }
 
 /// Hashes a content of many buffers.
 #[test]
-fn hashes_ten_million_bytes(rt: HostRuntime) -> Result<(), Fail> {
-    let content = content_of(rt.alloc(), 10_000_000)?;
+fn hashes_ten_million_bytes(rt: HostRuntime) {
+    let content = content_of(rt.alloc(), 10_000_000);
     let id = ObjectId::from_hex(b"95599bd33aac764385e09e5640f1a17e09df4e78");
     assert!(rt; is_read_entire(&content, 10_000_000, hash::Kind::Sha1, id));
     assert!(rt; Some(compute_hash(hash::Kind::Sha1, Kind::Blob, &content)) == id);
-    Ok(())
 }

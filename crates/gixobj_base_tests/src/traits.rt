@@ -3,12 +3,12 @@ ghost use Rattle.std.specs.Prelude.{◌≡◌, ◌++◌, ℕ, List, IfOk};
 ghost use Rattle.gixobj_base.specs.Encode.{encode_loose_header};
 ghost use Rattle.gixobj_base.specs.Writing.{RejectsNothing};
 
-use bstr::BString;
+use crate::helpers::owned_blob;
+use crate::tree::tree_of;
 use gixobj_base::hash::{self, ObjectId};
-use gixobj_base::tree::{Entry, EntryKind};
+use gixobj_base::tree::EntryKind;
 use gixobj_base::{Blob, BlobRef, Kind, Tree, WriteTo, compute_hash, encode};
-use std::alloc::{AllocError, Global};
-use std::test::Fail;
+use std::alloc::Global;
 
 /// Returns the encoding of any object.
 fn bytes_of<T: WriteTo>(alloc: Global, object: &T) -> Result<Vec<u8>, encode::Error>
@@ -19,18 +19,6 @@ fn bytes_of<T: WriteTo>(alloc: Global, object: &T) -> Result<Vec<u8>, encode::Er
     let mut out = Vec::new(alloc);
     object.write_to_vec(alloc, &mut out)?;
     Ok(out)
-}
-
-/// Returns the loose form of any object, uncompressed; `None` if its size is `None`.
-fn loose<T: WriteTo>(alloc: Global, object: &T) -> Result<Option<Vec<u8>>, encode::Error>
-    requires { T.can_write object.now }
-{
-    let Some(header) = object.loose_header(alloc) else {
-        return Ok(None);
-    };
-    let mut out = Vec::from_slice(alloc, header.as_slice())?;
-    object.write_to(alloc, &mut out)?;
-    Ok(Some(out))
 }
 
 /// Returns the SHA-1 id of any object.
@@ -55,13 +43,30 @@ fn has_encoding<T: WriteTo>(alloc: Global, object: &T, kind: Kind, content: &[u8
     }
 }
 
-/// Returns whether the loose form of an object has `len` bytes and begins with `prefix`.
+/// Returns whether `header` and the encoding of an object have `len` bytes and begin with `prefix`.
+fn has_bytes_after<T: WriteTo>(
+    alloc: Global,
+    object: &T,
+    header: &[u8],
+    len: usize,
+    prefix: &[u8],
+) -> bool
+    requires { T.can_write object.now }
+{
+    let mut out = Vec::new(alloc);
+    out.extend_from_slice(header).is_ok()
+        && object.write_to(alloc, &mut out).is_ok()
+        && out.len() == len
+        && out.starts_with(prefix)
+}
+
+/// Returns whether the loose form of an object, uncompressed, has `len` bytes and begins with `prefix`.
 fn has_loose_form<T: WriteTo>(alloc: Global, object: &T, len: usize, prefix: &[u8]) -> bool
     requires { T.can_write object.now }
 {
-    match loose(alloc, object) {
-        Ok(Some(bytes)) => bytes.len() == len && bytes.starts_with(prefix),
-        _ => false,
+    match object.loose_header(alloc) {
+        Some(header) => has_bytes_after(alloc, object, header.as_slice(), len, prefix),
+        None => false,
     }
 }
 
@@ -79,30 +84,22 @@ fn hello_blob(rt: HostRuntime) {
     assert!(rt; has_encoding(rt.alloc(), &&hello, Kind::Blob, b"hello"));
 }
 
-/// Returns a blob of `hello world`, made from one of `hello`.
-fn greeting(alloc: Global) -> Result<Blob, Fail> {
-    let mut blob = BlobRef::from_bytes(b"hello").into_owned(alloc)?;
-    blob.bytes.extend_from_slice(b" world")?;
-    Ok(blob)
-}
-
-/// Returns the bytes written of a blob, and then of its borrowed form.
-fn written_twice(alloc: Global, blob: &Blob) -> Result<Vec<u8>, encode::Error> {
+/// Returns whether these bytes are written of a blob, and then of its borrowed form.
+fn is_written_twice(alloc: Global, blob: &Blob, bytes: &[u8]) -> bool {
     let mut out = Vec::new(alloc);
-    blob.write_to(alloc, &mut out)?;
-    blob.to_ref().write_to_vec(alloc, &mut out)?;
-    Ok(out)
+    blob.write_to(alloc, &mut out).is_ok()
+        && blob.to_ref().write_to_vec(alloc, &mut out).is_ok()
+        && out.as_slice() == bytes
 }
 
 #[test]
-fn writes_blob_after_append(rt: HostRuntime) -> Result<(), Fail> {
+fn writes_blob_after_append(rt: HostRuntime) {
     let alloc = rt.alloc();
-    let blob = greeting(alloc)?;
+    let mut blob = owned_blob(alloc, BlobRef::from_bytes(b"hello"));
+    assert!(rt; blob.bytes.extend_from_slice(b" world").is_ok());
     assert!(rt; has_encoding(alloc, &blob, Kind::Blob, b"hello world"));
     assert!(rt; has_loose_form(alloc, &blob, 19, b"blob 11\0hello world"));
-    let twice = written_twice(alloc, &blob)?;
-    assert!(rt; twice.as_slice() == b"hello worldhello world".as_slice());
-    Ok(())
+    assert!(rt; is_written_twice(alloc, &blob, b"hello worldhello world"));
 }
 
 /// Empty objects have the ids that `git hash-object` prints.
@@ -119,24 +116,18 @@ fn empty_objects_have_ids_of_git(rt: HostRuntime) {
     assert!(rt; has_loose_form(alloc, &tree, 7, b"tree 0\0"));
 }
 
-/// Returns the tree that `git mktree` makes of one empty file.
-fn tree_of_empty(alloc: Global) -> Result<Tree, AllocError> {
-    let mut tree = Tree::empty(alloc);
-    tree.entries.push(Entry {
-        mode: EntryKind::Blob.into(),
-        filename: BString::from_slice(alloc, b"empty")?,
-        oid: ObjectId::empty_blob(hash::Kind::Sha1),
-    })?;
-    Ok(tree)
-}
+/// Id that `git mktree` prints for one empty file.
+const TREE_OF_EMPTY: &[u8] = b"417c01c8795a35b8e835113a85a5c0c1c77f67fb";
 
 /// Writing a reference writes the object that it refers to.
 #[test]
-fn writes_object_through_reference(rt: HostRuntime) -> Result<(), Fail> {
-    let tree = tree_of_empty(rt.alloc())?;
-    let id = ObjectId::from_hex(b"417c01c8795a35b8e835113a85a5c0c1c77f67fb").ok_or("an id")?;
-    assert!(rt; has_id(rt.alloc(), &&tree, id));
-    assert!(rt; has_loose_form(rt.alloc(), &&tree, 41, b"tree 33\0100644 empty\0"));
+fn writes_object_through_reference(rt: HostRuntime) {
+    let alloc = rt.alloc();
+    let null = ObjectId::null(hash::Kind::Sha1);
+    let empty = ObjectId::empty_blob(hash::Kind::Sha1);
+    let tree = tree_of(alloc, &[(EntryKind::Blob, b"empty")], empty);
+    let id = ObjectId::from_hex(TREE_OF_EMPTY).unwrap_or(null);
+    assert!(rt; has_id(alloc, &&tree, id));
+    assert!(rt; has_loose_form(alloc, &&tree, 41, b"tree 33\0100644 empty\0"));
     assert!(rt; <&Tree as WriteTo>::size(&&tree) == Some(33));
-    Ok(())
 }

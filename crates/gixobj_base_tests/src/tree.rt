@@ -2,42 +2,59 @@
 
 mod write;
 
-use crate::hash::hash_of;
-use bstr::BString;
+use crate::helpers::{hash_of, string_of};
 use gixobj_base::hash::{Kind, ObjectId};
 use gixobj_base::tree::{Entry, EntryKind, Tree};
-use std::alloc::{AllocError, Global};
+use std::alloc::Global;
 use std::cmp::Ordering;
-use std::test::Fail;
 
-/// Returns an entry of this kind.
-fn entry(alloc: Global, mode: EntryKind, name: &[u8], oid: ObjectId) -> Result<Entry, AllocError> {
-    Ok(Entry {
-        mode: mode.into(),
-        filename: BString::from_slice(alloc, name)?,
+/// Appends an entry with this kind, name and id to a tree. The tree is unchanged if memory runs out.
+fn append(alloc: Global, tree: &mut Tree, kind: EntryKind, name: &[u8], oid: ObjectId) {
+    let entry = Entry {
+        mode: kind.into(),
+        filename: string_of(alloc, name),
         oid,
-    })
+    };
+    let _ = tree.entries.push(entry);
 }
 
-/// Returns a tree whose entries are in ascending order.
-fn ascending(alloc: Global) -> Result<Tree, AllocError> {
-    let null = ObjectId::null(Kind::Sha1);
-    let empty = ObjectId::empty_blob(Kind::Sha1);
-    let rows: &[(EntryKind, &[u8], ObjectId)] = &[
-        (EntryKind::Blob, b"a", null),
-        (EntryKind::Blob, b"a", empty),
-        (EntryKind::BlobExecutable, b"a", null),
-        (EntryKind::Blob, b"a.b", null),
-        (EntryKind::Tree, b"a", null),
-        (EntryKind::Blob, b"a/", null),
-        (EntryKind::Blob, b"a/x", null),
-        (EntryKind::Blob, b"a0", null),
-    ];
+/// Returns a tree of these entries, all with this id. Shorter if memory runs out.
+pub(crate) fn tree_of(alloc: Global, rows: &[(EntryKind, &[u8])], oid: ObjectId) -> Tree {
     let mut tree = Tree::empty(alloc);
-    for &(kind, name, oid) in rows {
-        tree.entries.push(entry(alloc, kind, name, oid)?)?;
+    for &(kind, name) in rows {
+        append(alloc, &mut tree, kind, name, oid);
     }
-    Ok(tree)
+    tree
+}
+
+/// Kinds and names of entries, and whether the id is the empty blob's and not the null id.
+const ROWS: &[(EntryKind, &[u8], bool)] = &[
+    (EntryKind::Blob, b"a", false),
+    (EntryKind::Blob, b"a", true),
+    (EntryKind::BlobExecutable, b"a", false),
+    (EntryKind::Blob, b"a.b", false),
+    (EntryKind::Tree, b"a", false),
+    (EntryKind::Blob, b"a/", false),
+    (EntryKind::Blob, b"a/x", false),
+    (EntryKind::Blob, b"a0", false),
+];
+
+/// Returns the id of a row.
+fn id_of(is_of_blob: bool) -> ObjectId {
+    if is_of_blob {
+        ObjectId::empty_blob(Kind::Sha1)
+    } else {
+        ObjectId::null(Kind::Sha1)
+    }
+}
+
+/// Returns a tree whose entries are in ascending order. Shorter if memory runs out.
+fn ascending(alloc: Global) -> Tree {
+    let mut tree = Tree::empty(alloc);
+    for &(kind, name, is_of_blob) in ROWS {
+        append(alloc, &mut tree, kind, name, id_of(is_of_blob));
+    }
+    tree
 }
 
 /// Returns whether entries compare as wanted, and are equal with one hash if and only if `Equal` is wanted.
@@ -48,39 +65,44 @@ fn compare_as(first: &Entry, second: &Entry, wanted: Ordering) -> bool {
         && (hash_of(first) == hash_of(second)) == wanted.is_eq()
 }
 
-#[test]
-fn entries_compare_in_tree_order(rt: HostRuntime) -> Result<(), Fail> {
-    let tree = ascending(rt.alloc())?;
-    for (at, first) in tree.entries.iter().enumerate() {
-        for (other_at, second) in tree.entries.iter().enumerate() {
-            assert!(rt;
-                compare_as(first, second, at.cmp(&other_at)),
-                "{at} {other_at}"
-            );
+/// Returns whether the entry at a position is greater than those before it, and less than those after it.
+fn is_at(entries: &[Entry], at: usize, entry: &Entry) -> bool {
+    for (other_at, other) in entries.iter().enumerate() {
+        if !compare_as(entry, other, at.cmp(&other_at)) {
+            return false;
         }
     }
-    Ok(())
-}
-
-fn tree_of_one(alloc: Global, name: &[u8]) -> Result<Tree, AllocError> {
-    let mut entries = Vec::new(alloc);
-    let null = ObjectId::null(Kind::Sha1);
-    entries.push(entry(alloc, EntryKind::Blob, name, null)?)?;
-    Ok(Tree { entries })
+    true
 }
 
 #[test]
-fn trees_compare_by_entries(rt: HostRuntime) -> Result<(), Fail> {
+fn entries_compare_in_tree_order(rt: HostRuntime) {
+    let tree = ascending(rt.alloc());
+    assert!(rt; tree.entries.len() == ROWS.len());
+    for (at, entry) in tree.entries.iter().enumerate() {
+        assert!(rt; is_at(&tree.entries, at, entry), "{at}");
+    }
+}
+
+/// Returns a tree of one file with this name and the null id. Empty if memory runs out.
+fn tree_of_one(alloc: Global, name: &[u8]) -> Tree {
+    tree_of(
+        alloc,
+        &[(EntryKind::Blob, name)],
+        ObjectId::null(Kind::Sha1),
+    )
+}
+
+#[test]
+fn trees_compare_by_entries(rt: HostRuntime) {
     let alloc = rt.alloc();
-    let empty = Tree::empty(alloc);
-    let one = tree_of_one(alloc, b"a")?;
-    let same = tree_of_one(alloc, b"a")?;
-    let other = tree_of_one(alloc, b"b")?;
-    assert!(rt; empty < one);
+    let one = tree_of_one(alloc, b"a");
+    let same = tree_of_one(alloc, b"a");
+    let other = tree_of_one(alloc, b"b");
+    assert!(rt; Tree::empty(alloc) < one);
     assert!(rt; one < other);
     assert!(rt; one != other);
     assert!(rt; same == one);
     assert!(rt; same.cmp(&one) == Ordering::Equal);
     assert!(rt; hash_of(&same) == hash_of(&one));
-    Ok(())
 }

@@ -1,23 +1,12 @@
 //! Written trees: rejected names, failing writers, and ids.
 
-use super::entry;
+use super::tree_of;
 use crate::limited::Limited;
 use gixobj_base::encode::Error;
 use gixobj_base::hash::{Kind, ObjectId};
 use gixobj_base::tree::EntryKind;
 use gixobj_base::{Tree, WriteTo};
-use std::alloc::{AllocError, Global};
-use std::test::Fail;
-
-/// Returns a tree of these entries, all with the id of the empty blob.
-fn tree_of(alloc: Global, rows: &[(EntryKind, &[u8])]) -> Result<Tree, AllocError> {
-    let oid = ObjectId::empty_blob(Kind::Sha1);
-    let mut tree = Tree::empty(alloc);
-    for &(kind, name) in rows {
-        tree.entries.push(entry(alloc, kind, name, oid)?)?;
-    }
-    Ok(tree)
-}
+use std::alloc::Global;
 
 /// Three entries. The second and the third name have a zero byte.
 const WITH_A_ZERO_BYTE: &[(EntryKind, &[u8])] = &[
@@ -28,7 +17,7 @@ const WITH_A_ZERO_BYTE: &[(EntryKind, &[u8])] = &[
 
 /// Returns whether writing a tree fails with `NullbyteInFilename` for this name.
 fn is_rejected_for(alloc: Global, tree: &Tree, out: &mut Vec<u8>, name: &[u8]) -> bool {
-    match tree.write_to(alloc, out) {
+    match &tree.write_to(alloc, out) {
         Err(Error::NullbyteInFilename { name: rejected }) => rejected.as_slice() == name,
         _ => false,
     }
@@ -36,15 +25,16 @@ fn is_rejected_for(alloc: Global, tree: &Tree, out: &mut Vec<u8>, name: &[u8]) -
 
 /// Writes the entry before a rejected name, and its own mode and space.
 #[test]
-fn rejects_name_with_zero_byte(rt: HostRuntime) -> Result<(), Fail> {
-    let tree = tree_of(rt.alloc(), WITH_A_ZERO_BYTE)?;
-    let mut out = Vec::from_slice(rt.alloc(), b"before")?;
-    assert!(rt; is_rejected_for(rt.alloc(), &tree, &mut out, b"b\0c"));
+fn rejects_name_with_zero_byte(rt: HostRuntime) {
+    let alloc = rt.alloc();
+    let tree = tree_of(alloc, WITH_A_ZERO_BYTE, ObjectId::empty_blob(Kind::Sha1));
+    let mut out = Vec::new(alloc);
+    assert!(rt; out.extend_from_slice(b"before").is_ok());
+    assert!(rt; is_rejected_for(alloc, &tree, &mut out, b"b\0c"));
     assert!(rt; out.len() == 6 + 29 + 7);
     assert!(rt; out.starts_with(b"before100644 a\0"));
     assert!(rt; out.ends_with(b"120000 "));
     assert!(rt; tree.size() == Some(29 + 31 + 30));
-    Ok(())
 }
 
 /// Entries of each kind, in the order of a tree.
@@ -57,19 +47,24 @@ const OF_EACH_KIND: &[(EntryKind, &[u8])] = &[
     (EntryKind::BlobExecutable, b"run.sh"),
 ];
 
+/// Returns whether a writer with room for `room` bytes fails after that prefix of a tree's encoding.
+fn stops_at(alloc: Global, tree: &Tree, bytes: &[u8], room: usize) -> bool {
+    let held = Vec::new(alloc);
+    let mut writer = Limited { held, room };
+    let outcome = tree.write_to(alloc, &mut writer);
+    writer.stopped_at(&outcome, bytes, room)
+}
+
 #[test]
-fn returns_writer_error_after_each_prefix(rt: HostRuntime) -> Result<(), Fail> {
-    let tree = tree_of(rt.alloc(), OF_EACH_KIND)?;
-    let mut bytes = Vec::new(rt.alloc());
-    tree.write_to_vec(rt.alloc(), &mut bytes)?;
+fn returns_writer_error_after_each_prefix(rt: HostRuntime) {
+    let alloc = rt.alloc();
+    let tree = tree_of(alloc, OF_EACH_KIND, ObjectId::empty_blob(Kind::Sha1));
+    let mut bytes = Vec::new(alloc);
+    assert!(rt; tree.write_to_vec(alloc, &mut bytes).is_ok());
     assert!(rt; bytes.len() == 36 + 31 + 37 + 32 + 34 + 34);
     for room in 0..bytes.len() {
-        let held = Vec::new(rt.alloc());
-        let mut writer = Limited { held, room };
-        let outcome = tree.write_to(rt.alloc(), &mut writer);
-        assert!(rt; writer.stopped_at(&outcome, &bytes, room), "{room}");
+        assert!(rt; stops_at(alloc, &tree, &bytes, room), "{room}");
     }
-    Ok(())
 }
 
 /// The ids that `git mktree` prints for no entries.
@@ -82,7 +77,7 @@ const EMPTY_TREES: &[(Kind, &[u8])] = &[
 ];
 
 #[test]
-fn computes_ids_of_empty_tree(rt: HostRuntime) -> Result<(), Fail> {
+fn computes_ids_of_empty_tree(rt: HostRuntime) {
     let tree = Tree::empty(rt.alloc());
     for &(kind, hex) in EMPTY_TREES {
         assert!(rt;
@@ -90,5 +85,4 @@ fn computes_ids_of_empty_tree(rt: HostRuntime) -> Result<(), Fail> {
             "{kind:?}"
         );
     }
-    Ok(())
 }
