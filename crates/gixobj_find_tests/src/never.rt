@@ -10,7 +10,6 @@ use gixobj_hash::hash::{Kind as HashKind, ObjectId};
 use gixobj_object::ObjectRef;
 use gixobj_store::{Exists, Find, FindHeader};
 use std::alloc::Global;
-use std::test::Fail;
 
 /// The id of the blob of `hello` and a newline.
 const HELLO: &[u8] = b"ce013625030ba8dba906f756967f9e9ca394464a";
@@ -29,16 +28,21 @@ fn finds_nothing(rt: HostRuntime) {
     assert!(rt; has_nothing(rt.alloc(), id(HELLO)));
 }
 
+/// Returns whether the id of the blob of these bytes is returned when it is written.
+fn returns_id_of_blob(alloc: Global, bytes: &[u8], id: ObjectId) -> bool {
+    match ObjectRef::from_bytes(alloc, bytes, Kind::Blob, HashKind::Sha256) {
+        Ok(blob) => is_id(Never.write(alloc, &blob), id),
+        Err(_) => false,
+    }
+}
+
 #[test]
-fn returns_ids(rt: HostRuntime) -> Result<(), Fail> {
-    let alloc = rt.alloc();
-    let blob = ObjectRef::from_bytes(alloc, b"hello\n", Kind::Blob, HashKind::Sha256)?;
-    let known = id_of_bytes(1);
-    assert!(rt; is_id(Never.write(alloc, &blob), id(HELLO)));
+fn returns_ids(rt: HostRuntime) {
+    let (alloc, known) = (rt.alloc(), id_of_bytes(1));
+    assert!(rt; returns_id_of_blob(alloc, b"hello\n", id(HELLO)));
     assert!(rt; is_id(Never.write_buf(alloc, Kind::Blob, b"hello\n"), id(HELLO)));
     let answer = Never.write_buf_with_known_id(alloc, Kind::Blob, b"hello\n", known);
     assert!(rt; is_id(answer, known));
-    Ok(())
 }
 
 #[test]

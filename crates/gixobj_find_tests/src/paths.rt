@@ -1,7 +1,10 @@
 //! Lookups of entries along paths through the trees of a store.
 
 use crate::failing::{Failing, OFFLINE};
-use crate::samples::{BAK, ROOT, ROOT_BYTES, VERSION_1, id, id_of_bytes, names, two_trees};
+use crate::samples::{
+    BAK, ROOT, ROOT_BYTES, VERSION_1, id, id_of_bytes, names, stored_trees, two_trees,
+};
+use bstr::BString;
 use gixobj_find::{FindExt, find};
 use gixobj_hash::Kind;
 use gixobj_hash::hash::{Kind as HashKind, ObjectId};
@@ -11,7 +14,6 @@ use gixobj_store::tree::path_names;
 use gixobj_store::{Find, TreeRefIter};
 use gixobj_tree::tree::Entry;
 use std::alloc::Global;
-use std::test::Fail;
 
 /// Returns whether an entry is a file with this id and this name.
 fn is_file(found: &Option<Entry>, id: ObjectId, name: &[u8]) -> bool {
@@ -44,11 +46,17 @@ fn at_path(alloc: Global, path: &[u8]) -> Result<Option<Entry>, find::Error> {
     entry_from(alloc, &store, ROOT_BYTES, HashKind::Sha1, path)
 }
 
+/// Returns whether a lookup found the file `test.txt`.
+fn is_found(answer: &Result<Option<Entry>, find::Error>) -> bool {
+    match answer {
+        Ok(found) => is_file(found, id(VERSION_1), b"test.txt"),
+        Err(_) => false,
+    }
+}
+
 #[test]
-fn finds_file_in_directory(rt: HostRuntime) -> Result<(), Fail> {
-    let found = at_path(rt.alloc(), b"bak//test.txt")?;
-    assert!(rt; is_file(&found, id(VERSION_1), b"test.txt"));
-    Ok(())
+fn finds_file_in_directory(rt: HostRuntime) {
+    assert!(rt; is_found(&at_path(rt.alloc(), b"bak//test.txt")));
 }
 
 /// Returns the id of the entry at a path, or `Some(None)` if there is no entry, or `None` if the lookup
@@ -102,13 +110,28 @@ const NAMES: &[(&[&str], bool)] = &[
 /// Returns whether there is an entry at these names from the tree [`ROOT`] in a store of two trees; `None` if
 /// a lookup fails.
 fn is_there(alloc: Global, path: &[&str]) -> Option<bool> {
-    let store = two_trees(alloc).ok()?;
-    let path = names(alloc, path).ok()?;
-    let mut tree = Vec::new(alloc);
-    let mut buffer = Vec::new(alloc);
-    let reader = store.find_tree_iter(id(ROOT).as_oid(), &mut tree).ok()?;
-    let found = reader.lookup_entry(alloc, &store, &mut buffer, &path).ok()?;
-    Some(found.is_some())
+    match (&two_trees(alloc), &names(alloc, path)) {
+        (Ok(store), Ok(path)) => is_there_in(alloc, store, path),
+        _ => None,
+    }
+}
+
+/// Returns whether there is an entry at these names from the tree [`ROOT`] in a store; `None` if a lookup
+/// fails.
+fn is_there_in(alloc: Global, store: &Memory, path: &[BString]) -> Option<bool> {
+    let (mut tree, mut buffer) = (Vec::new(alloc), Vec::new(alloc));
+    match store.find_tree_iter(id(ROOT).as_oid(), &mut tree) {
+        Ok(reader) => is_some(&reader.lookup_entry(alloc, store, &mut buffer, path)),
+        Err(_) => None,
+    }
+}
+
+/// Returns whether a lookup found an entry; `None` if it failed.
+fn is_some(answer: &Result<Option<Entry>, find::Error>) -> Option<bool> {
+    match answer {
+        Ok(found) => Some(found.is_some()),
+        Err(_) => None,
+    }
 }
 
 /// Names are looked up unchanged: an empty one, or one with a slash, like others.
@@ -128,22 +151,18 @@ const MIXED: &[u8] = b"40000 blob\0\
 /// Returns whether there is an entry at a path from the tree with these bytes, in a store; `None` if the
 /// lookup fails.
 fn is_there_from<S: Find>(alloc: Global, store: &S, tree: &[u8], path: &[u8]) -> Option<bool> {
-    match entry_from(alloc, store, tree, HashKind::Sha1, path) {
-        Ok(found) => Some(found.is_some()),
-        Err(_) => None,
-    }
+    is_some(&entry_from(alloc, store, tree, HashKind::Sha1, path))
 }
 
 /// A path through a blob finds nothing, and one through an entry with a file's mode and a tree's id finds the
 /// entry.
 #[test]
-fn follows_kinds_of_objects_and_not_modes(rt: HostRuntime) -> Result<(), Fail> {
-    let mut store = two_trees(rt.alloc())?;
-    let blob = store.insert(Kind::Blob, HashKind::Sha1, b"100644 q\0")?;
-    assert!(rt; blob == id(b"7c4f37277fed15cf3c1f1a8136b75abd996338ee"));
+fn follows_kinds_of_objects_and_not_modes(rt: HostRuntime) {
+    let mut store = stored_trees(rt.alloc());
+    let blob = store.insert(Kind::Blob, HashKind::Sha1, b"100644 q\0");
+    assert!(rt; blob.ok() == Some(id(b"7c4f37277fed15cf3c1f1a8136b75abd996338ee")));
     assert!(rt; is_there_from(rt.alloc(), &store, MIXED, b"blob/q") == Some(false));
     assert!(rt; is_there_from(rt.alloc(), &store, MIXED, b"file/test.txt") == Some(true));
-    Ok(())
 }
 
 /// Returns whether a lookup along a path from the tree [`ROOT_BYTES`] fails with the error of the store.
@@ -156,15 +175,14 @@ fn fails<S: Find>(alloc: Global, store: &S, path: &[u8]) -> bool {
 
 /// The path `bak/test.txt` needs one lookup, which fails the first time; the path `bak` needs none.
 #[test]
-fn fails_if_store_fails(rt: HostRuntime) -> Result<(), Fail> {
+fn fails_if_store_fails(rt: HostRuntime) {
     let alloc = rt.alloc();
-    let store = Failing::new(alloc, two_trees(alloc)?, &[1], &[]);
+    let store = Failing::new(alloc, stored_trees(alloc), &[1], &[]);
     assert!(rt; is_there_from(alloc, &store, ROOT_BYTES, b"bak") == Some(true));
     assert!(rt; store.lookups() == 0);
     assert!(rt; fails(alloc, &store, b"bak/test.txt") && store.lookups() == 1);
     assert!(rt; is_there_from(alloc, &store, ROOT_BYTES, b"bak/test.txt") == Some(true));
     assert!(rt; store.lookups() == 2);
-    Ok(())
 }
 
 /// A tree of one entry, the tree [`ROOT`] as `top`.
@@ -204,14 +222,6 @@ fn fail_with_message(alloc: Global, store: &Failing, count: u64) -> bool {
 /// The lookups that fail if the store fails for the first entry on the path, or for the second, both times.
 /// With each, the number of lookups along the path.
 const FAILURES: &[(&'static [u64], u64)] = &[(&[1, 2], 1), (&[2, 4], 2)];
-
-/// Returns whether a lookup found the file `test.txt`.
-fn is_found(answer: &Result<Option<Entry>, find::Error>) -> bool {
-    match answer {
-        Ok(found) => is_file(found, id(VERSION_1), b"test.txt"),
-        Err(_) => false,
-    }
-}
 
 /// Returns whether lookups in a store of two trees that fails in these lookups fail as [`fail_with_message`]
 /// says, and the next ones find the file.
@@ -266,14 +276,15 @@ const FILE_OF_SHA256: &[u8] = b"100644 b\0\
 
 /// A lookup along a path of trees with SHA-256 ids.
 #[test]
-fn finds_entry_by_sha256(rt: HostRuntime) -> Result<(), Fail> {
+fn finds_entry_by_sha256(rt: HostRuntime) {
     let mut store = Memory::new(rt.alloc());
-    let below = store.insert(Kind::Tree, HashKind::Sha256, FILE_OF_SHA256)?;
-    let mut encoding = Vec::from_slice(rt.alloc(), b"40000 a\0")?;
-    encoding.extend_from_slice(below.as_bytes())?;
+    let below = store.insert(Kind::Tree, HashKind::Sha256, FILE_OF_SHA256);
+    let below = below.unwrap_or(id_of_bytes(1));
+    let mut encoding = Vec::new(rt.alloc());
+    assert!(rt; encoding.extend_from_slice(b"40000 a\0").is_ok());
+    assert!(rt; encoding.extend_from_slice(below.as_bytes()).is_ok());
     let found = id_from(rt.alloc(), &store, &encoding, HashKind::Sha256, b"a/b");
     assert!(rt; found == Some(ObjectId::Sha256([7; 32])));
-    Ok(())
 }
 
 /// Paths with their names: empty parts are skipped, and dots are names.

@@ -74,6 +74,11 @@ pub(crate) fn two_trees(alloc: Global) -> Result<Memory, OutOfMemory> {
     Ok(store)
 }
 
+/// Makes the same store. It lacks trees if memory runs out.
+pub(crate) fn stored_trees(alloc: Global) -> Memory {
+    two_trees(alloc).unwrap_or(Memory::new(alloc))
+}
+
 /// Builds a path of these names.
 pub(crate) fn names(alloc: Global, path: &[&str]) -> Result<Vec<BString>, AllocError> {
     let mut names = Vec::new(alloc);

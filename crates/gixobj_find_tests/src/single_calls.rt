@@ -1,8 +1,9 @@
 //! Single calls: writes into a shared store and into one that keeps nothing; a step into a tree with a
 //! malformed first byte.
 
-use crate::recording::{Recorder, Stream};
+use crate::recording::Recorder;
 use crate::samples::{is_id, names};
+use crate::written::has_alone;
 use gixobj_find::Write;
 use gixobj_find::find::Never;
 use gixobj_hash::Kind;
@@ -12,7 +13,6 @@ use gixobj_store::tree::next_entry;
 use std::alloc::Global;
 use std::ops::ControlFlow;
 use std::rc::Rc;
-use std::test::Fail;
 
 /// Returns whether a store returns the null id for bytes.
 fn returns_null_id<W: Write>(alloc: Global, store: &W) -> bool {
@@ -22,18 +22,17 @@ fn returns_null_id<W: Write>(alloc: Global, store: &W) -> bool {
     )
 }
 
+/// Returns whether a shared store returns the null id for bytes, and then has them.
+fn is_written_shared(alloc: Global) -> bool {
+    match &Rc::new(alloc, Recorder::new(alloc)) {
+        Ok(store) => returns_null_id(alloc, store) && has_alone(alloc, store, Kind::Tag, b"a"),
+        Err(_) => false,
+    }
+}
+
 #[test]
-fn writes_to_shared_store(rt: HostRuntime) -> Result<(), Fail> {
-    let alloc = rt.alloc();
-    let store = Rc::new(alloc, Recorder::new(alloc))?;
-    assert!(rt; returns_null_id(alloc, &store));
-    let wanted = Stream {
-        kind: Kind::Tag,
-        size: 1,
-        bytes: Vec::from_slice(alloc, b"a")?,
-    };
-    assert!(rt; store.has(&[wanted]));
-    Ok(())
+fn writes_to_shared_store(rt: HostRuntime) {
+    assert!(rt; is_written_shared(rt.alloc()));
 }
 
 /// The id is that of an object of the stated kind.
@@ -47,8 +46,9 @@ fn returns_id_of_stated_kind(rt: HostRuntime) {
 
 /// No entry is found after the malformed one.
 #[test]
-fn finds_nothing_after_damaged_first_entry(rt: HostRuntime) -> Result<(), Fail> {
-    let path = names(rt.alloc(), &["a"])?;
+fn finds_nothing_after_damaged_first_entry(rt: HostRuntime) {
+    let path = names(rt.alloc(), &["a"]).unwrap_or(Vec::new(rt.alloc()));
+    assert!(rt; path.len() == 1);
     let mut remaining = path.as_slice();
     let tree = Data::new(
         b"!100644 a\0aaaaaaaaaaaaaaaaaaaa",
@@ -56,5 +56,4 @@ fn finds_nothing_after_damaged_first_entry(rt: HostRuntime) -> Result<(), Fail> 
         HashKind::Sha1,
     );
     assert!(rt; matches!(next_entry(&mut remaining, tree), ControlFlow::Break(None)));
-    Ok(())
 }
