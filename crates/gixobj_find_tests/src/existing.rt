@@ -273,7 +273,7 @@ fn finds_empty_objects_without_store(rt: HostRuntime) {
 }
 
 /// Returns the answer to a lookup of any object by this id, in a store with one empty blob.
-fn answer_beside_blob(alloc: Global, id: ObjectId) -> Option<Answer> {
+fn answer_next_to_blob(alloc: Global, id: ObjectId) -> Option<Answer> {
     match &store_of(alloc, Kind::Blob, b"", false) {
         Ok((store, _)) => Some(found_reader(alloc, store, Kind::Blob, id)),
         Err(_) => None,
@@ -284,7 +284,7 @@ fn answer_beside_blob(alloc: Global, id: ObjectId) -> Option<Answer> {
 #[test]
 fn finds_no_empty_tree_as_any_object(rt: HostRuntime) {
     let empty = ObjectId::empty_tree(HashKind::Sha1);
-    assert!(rt; answer_beside_blob(rt.alloc(), empty) == Some(Answer::Missing));
+    assert!(rt; answer_next_to_blob(rt.alloc(), empty) == Some(Answer::Missing));
 }
 
 /// Returns whether the header of an object of this kind has its kind and its size in bytes.

@@ -51,20 +51,21 @@ fn encodes_values_from_nothing(rt: HostRuntime) {
     assert!(rt; values::tag_id(rt.alloc(), id(BLOB), id(FIRST)).ok() == Some(tag));
 }
 
-/// Whether a path has these names.
-fn has_names(alloc: Global, path: &[u8], wanted: &[&str]) -> bool {
-    match names::names_of(alloc, path) {
-        Ok(names) => names == path_of(alloc, wanted),
+/// Whether the last name of a path is this one, or whether it has none.
+fn has_file_name(alloc: Global, path: &[u8], wanted: Option<&[u8]>) -> bool {
+    match names::file_name(alloc, path) {
+        Ok(Some(name)) => Some(name.as_bytes()) == wanted,
+        Ok(None) => wanted.is_none(),
         Err(_) => false,
     }
 }
 
 #[test]
-fn splits_path_into_names(rt: HostRuntime) {
+fn finds_last_names_of_paths(rt: HostRuntime) {
     let alloc = rt.alloc();
-    assert!(rt; has_names(alloc, b"a/b/c", &["a", "b", "c"]));
-    assert!(rt; has_names(alloc, b"/docs//a.txt/", &["docs", "a.txt"]));
-    assert!(rt; has_names(alloc, b"", &[]));
+    assert!(rt; has_file_name(alloc, b"a/b/c", Some(b"c")));
+    assert!(rt; has_file_name(alloc, b"/docs//a.txt/", Some(b"a.txt")));
+    assert!(rt; has_file_name(alloc, b"", None));
 }
 
 /// A store of both commits and of the tree of the second.

@@ -2,15 +2,11 @@
 
 use bstr::BString;
 use gix_object::OutOfMemory;
+use gix_object::tree::path_names;
 use std::alloc::Global;
 
-/// Splits a path such as `docs/a.txt` into its names. Empty parts are skipped.
-pub fn names_of(alloc: Global, path: &[u8]) -> Result<Vec<BString>, OutOfMemory> {
-    let mut names = Vec::new(alloc);
-    for name in path.split(|byte| *byte == b'/') {
-        if !name.is_empty() {
-            names.push(BString::from_slice(alloc, name)?)?;
-        }
-    }
-    Ok(names)
+/// Returns the last name of a path such as `docs/a.txt`, or `None` if the path has no names.
+pub fn file_name(alloc: Global, path: &[u8]) -> Result<Option<BString>, OutOfMemory> {
+    let mut names = path_names(alloc, path)?;
+    Ok(names.pop())
 }

@@ -224,8 +224,8 @@ fn next_entry_in_bytes<'a>(
 /// # Examples
 ///
 /// ```rust
-/// let path = path_names(alloc, b"src/lib.rs")?;
-/// editor.upsert(alloc, store, path.as_slice(), EntryKind::Blob, id)?;
+/// let mut names = path_names(alloc, path)?;
+/// Ok(names.pop())
 /// ```
 pub fn path_names(alloc: Global, path: &[u8]) -> Result<Vec<BString>, OutOfMemory>
     ensures found { IfOk result (λ names. AreNamesOf path.now (map bstring_bytes names.items)) }
