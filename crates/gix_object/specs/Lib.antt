@@ -22,6 +22,7 @@ pub use Rattle.gixobj_directories.specs.WriteErrors
 pub use Rattle.gixobj_directories.specs.LookedUp
 pub use Rattle.gixobj_directories.specs.Openings
 pub use Rattle.gixobj_directories.specs.declared as directories
+pub use Rattle.gixobj_editor.specs.Causes
 pub use Rattle.gixobj_editor.specs.Commands
 pub use Rattle.gixobj_editor.specs.Cursors
 pub use Rattle.gixobj_editor.specs.PlainRuns
@@ -69,6 +70,7 @@ pub use Rattle.gixobj_import.specs.ByDigest
 pub use Rattle.gixobj_import.specs.Commits
 pub use Rattle.gixobj_import.specs.Edited
 pub use Rattle.gixobj_import.specs.Imports
+pub use Rattle.gixobj_import.specs.StepCauses
 pub use Rattle.gixobj_import.specs.Steps
 pub use Rattle.gixobj_import.specs.declared as import
 pub use Rattle.gixobj_keep.specs.ExistingTrees

@@ -3,8 +3,9 @@
 use crate::import::samples::{
     COMMITS, Outcome, STEPS, import, import_rows, importer_of, imports_plain, outcome_by,
 };
+use gix_object::encode;
 use gix_object::import::ImportError;
-use gix_object::tree::editor::Error;
+use gix_object::tree::editor::{Error, WriteError};
 use gix_object_tests::samples::Row;
 use std::alloc::Global;
 
@@ -77,9 +78,23 @@ fn reports_index_of_failed_edit(rt: HostRuntime) {
     assert!(rt; failed_edit(alloc, UNKNOWN) == Some((2, 3)));
 }
 
+/// Whether the error of a step is that of the encoding of a tree with this name.
+fn rejects_name(error: &Option<ImportError>, name: &[u8]) -> bool {
+    match error {
+        Some(
+            ImportError::Write(
+                WriteError::Out(encode::Error::NullbyteInFilename { name: rejected }),
+            ),
+        ) => rejected.as_bytes() == name,
+        _ => false,
+    }
+}
+
 #[test]
 fn rejects_name_with_zero_byte(rt: HostRuntime) {
-    assert!(rt; fails_in(rt.alloc(), "A", &[Row::File(&["a\0b"], FILE)], 3));
+    let outcome = import_with(rt.alloc(), "A", &[Row::File(&["a\0b"], FILE)]);
+    assert!(rt; outcome.has(&COMMITS, 3));
+    assert!(rt; rejects_name(&outcome.error, b"a\0b"));
 }
 
 #[test]

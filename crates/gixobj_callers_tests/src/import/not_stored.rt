@@ -3,10 +3,10 @@
 use crate::import::samples::{
     COMMITS, STEPS, are_first_commits, has_all, import_rows, imports_plain, outcome_by,
 };
-use gix_object::Memory;
 use gix_object::hash::Kind as HashKind;
-use gix_object::import::{Imported, Importer};
-use gixobj_find_tests::failing::Failing;
+use gix_object::import::{ImportError, Imported, Importer};
+use gix_object::{KeepError, Memory};
+use gixobj_find_tests::failing::{Failing, OFFLINE};
 use std::alloc::Global;
 
 /// The calls that fail; how many steps are imported before; how many calls are made, and how many of them
@@ -45,11 +45,19 @@ fn keeps_only_done_steps(
         && has_all(alloc, importer.store_mut(), done)
 }
 
+/// Whether the import stopped at the error that the store returned.
+fn is_offline(error: &Option<ImportError>) -> bool {
+    match error {
+        Some(ImportError::NotKept(KeepError::Store(message))) => message.as_bytes() == OFFLINE,
+        _ => false,
+    }
+}
+
 /// Whether an import stops after `before` steps, and the importer rejects a later step.
 fn stops(alloc: Global, rejected: &'static [u64], before: usize, counts: (u64, u64)) -> bool {
     let mut importer = failing(alloc, rejected);
     let outcome = import_rows(alloc, &mut importer, &STEPS);
-    outcome.number() == 4
+    is_offline(&outcome.error)
         && outcome.done.len() == before
         && are_first_commits(&outcome.done)
         && keeps_only_done_steps(alloc, &mut importer, &outcome.done, counts)

@@ -1,6 +1,7 @@
 -- The last import of the list.
 use Rattle.std.proofs.Common.{None, subst}
 use Rattle.gix_object.specs.Imports.{AreCommitsOf, HaveFilesOfNothing}
+use Rattle.gix_object.specs.StepCauses.{HasImportCause}
 use Rattle.gix_object.specs.hash.hash.kind.Kind.{Kind}
 use Rattle.gixobj_callers.proofs.Tips.{is_tip_of_option, tip_none_iff_no_steps}
 use Rattle.gixobj_callers.proofs.archive.tip_of.Goals as goal
@@ -20,3 +21,10 @@ returns-in-Ok-clause-tip g c =
     (subst (λ (k : Kind). AreCommitsOf k None c.args.steps.now imported final) c.new-importer.ensures.hash (done.commits c.new-importer.ensures.new))
     (subst (λ (s : g.row.S.Denot). HaveFilesOfNothing (g.S.Store.objects s) c.args.steps.now imported) c.new-importer.ensures.store
     (done.files c.new-importer.ensures.new))
+
+pub returns-in-Err-clause-cause : goal.returns-in-Err-clause-cause
+returns-in-Err-clause-cause g c = (
+  c.in-Err.stopped.done.items,
+  subst (λ (k : Kind). HasImportCause g.S.Store.objects g.S.Keep.keep_errors g.S.KeepCommit.keep_commit_errors k c.args.steps.now
+      c.in-Err.stopped.done.items c.in-Err.stopped.error) c.new-importer.ensures.hash (c.in-Err.ensures {u = tt}).cause,
+)
