@@ -105,12 +105,10 @@ pub fn audit<R: Runner>(
 {
     signature_signs_object(kind, hash_kind, bytes);
     match signature_of(alloc, kind, hash_kind, bytes) {
-        Ok(Some((signature, signed))) => {
-            match verified(alloc, signature.as_slice(), &signed, options, runner) {
-                Ok(outcome) => Ok(Some(outcome)),
-                Err(error) => Err(AuditError::Verify(error)),
-            }
-        }
+        Ok(Some(found)) => match verified(alloc, found, options, runner) {
+            Ok(outcome) => Ok(Some(outcome)),
+            Err(error) => Err(AuditError::Verify(error)),
+        },
         Ok(None) => Ok(None),
         Err(error) => Err(error),
     }
@@ -155,16 +153,16 @@ fn signature_of(
 /// Has a runner verify a signature of these bytes.
 fn verified<R: Runner>(
     alloc: Global,
-    signature: &[u8],
-    signed: &SignedData<'_>,
+    found: (CowSlice<'_, u8>, SignedData<'_>),
     options: Options,
     runner: &mut R,
 ) -> Result<Outcome, verify::Error>
-    ensures outcome { IsOutcomeOfVerifying R.runs (verify_options_view options) signature.now
-        (signed_bytes signed.now) runner.old result runner.new }
+    ensures outcome { IsOutcomeOfVerifying R.runs (verify_options_view options)
+        (cow_slice_items found.entry.0) (signed_bytes found.entry.1) runner.old result runner.new }
     ensures accepted { IfOk result (λ outcome. (outcome_view outcome).valid ≡ true
-        → Vouches R.runs (verify_options_view options) signature.now (signed_bytes signed.now) runner.old
-        (outcome_view outcome) runner.new) }
+        → Vouches R.runs (verify_options_view options) (cow_slice_items found.entry.0)
+        (signed_bytes found.entry.1) runner.old (outcome_view outcome) runner.new) }
 {
-    signed.verify(alloc, BStr::new(signature), options, runner)
+    let (signature, signed) = found;
+    signed.verify(alloc, BStr::new(signature.as_slice()), options, runner)
 }
