@@ -1,5 +1,5 @@
 -- An archived history; the proof of `archive` uses it.
-use Rattle.std.proofs.Common.{◌≡◌, ℕ, ◌≤◌, All, List, [], None, arith, length, subst, take}
+use Rattle.std.proofs.Common.{◌≡◌, ◌≤◌, All, List, None, arith, length, subst}
 use Rattle.std.proofs.lemmas.List.{length-take}
 use Rattle.gix_object.specs.Files.{Table, Trees}
 use Rattle.gix_object.specs.Imports.{AgreesWithImports, AreCommitsOf, HaveFilesOfNothing, before, pairs_of_imports}
