@@ -5,7 +5,7 @@ pub use Rattle.gixobj_actor.specs.declared as actor
 pub use Rattle.gixobj_codec.specs.SameSignatures
 pub use Rattle.gixobj_codec.specs.LineFields
 pub use Rattle.gixobj_codec.specs.OneMarker
-pub use Rattle.gixobj_codec.specs.Received
+pub use Rattle.gixobj_codec.specs.ReceivedSignatures
 pub use Rattle.gixobj_codec.specs.SignedEncodings
 pub use Rattle.gixobj_commit.specs.CommitOwned
 pub use Rattle.gixobj_commit.specs.CommitSigning

@@ -27,7 +27,7 @@ use Rattle.gixobj_codec.proofs.CommitsExtracted.{Blocks, before_header, blocks_a
 use Rattle.gixobj_codec.proofs.SameParts.{has_same_parts, leading, leading_blocks, line_fields_of_decoded}
 use Rattle.gixobj_codec.proofs.SignaturesFound.{ends_before_tail, none_there, signature_is_there}
 use Rattle.gixobj_codec.specs.LineFields.{HasHeaderNames, HasLineFields}
-use Rattle.gixobj_codec.specs.Received.{HasFirstValue, SignsCommit, without_first, without_first_header}
+use Rattle.gixobj_codec.specs.ReceivedSignatures.{HasFirstValue, SignsCommit, without_first, without_first_header}
 
 -- ---- the first header of a name
 

@@ -20,7 +20,7 @@ use Rattle.gixobj_text.proofs.MarkerPlaces.{no_marker_and_marker_place}
 use Rattle.gixobj_text.specs.declared.signature.Format.{Format}
 use Rattle.gixobj_codec.proofs.TagsAgree.{AreAfter, IsFoundIn, after_lines, after_newline_alone, also_after, lines_joined, no_marker_in_newlines, one_signature, tag_found}
 use Rattle.gixobj_codec.proofs.TagsExtracted.{cut, marks_place_after_prefix, signed_tag_bytes}
-use Rattle.gixobj_codec.specs.Received.{HasSameLines, SignsTag}
+use Rattle.gixobj_codec.specs.ReceivedSignatures.{HasSameLines, SignsTag}
 
 -- the signed bytes are the lines before the body, a newline and more
 abbrev BeginsWithLines : List ℕ → List ℕ → Type 0

@@ -22,7 +22,7 @@ use Rattle.gixobj_line.specs.declared.lines.State.TheVariants as state
 use Rattle.gixobj_codec.proofs.CommitsExtracted.{Blocks, blocks_append, encoding_blocks, encodings_join, prefix_blocks}
 use Rattle.gixobj_codec.proofs.SignaturesFound.{comes_here}
 use Rattle.gixobj_codec.specs.LineFields.{HasLineFields, IsOneLine}
-use Rattle.gixobj_codec.specs.Received.{HasSameParts}
+use Rattle.gixobj_codec.specs.ReceivedSignatures.{HasSameParts}
 
 -- ---- lines before the message encoding
 

@@ -1,7 +1,7 @@
 pub mod SameSignatures
 pub mod LineFields
 pub mod OneMarker
-pub mod Received
+pub mod ReceivedSignatures
 pub mod SignedEncodings
 pub use Rattle.gixobj_actor.specs.Actor
 pub use Rattle.gixobj_actor.specs.ActorWriting

@@ -1,7 +1,7 @@
 //! Laws on the signatures of received commits and tags (gitformat-signature): which bytes they sign. These
 //! functions compute nothing, and their contract is the law.
 ghost use Rattle.std.specs.Prelude.{ℕ, List};
-ghost use Rattle.gixobj_codec.specs.Received.{HasFirstValue, SignsCommit, SignsTag, without_first_header};
+ghost use Rattle.gixobj_codec.specs.ReceivedSignatures.{HasFirstValue, SignsCommit, SignsTag, without_first_header};
 ghost use Rattle.gixobj_commit.specs.CommitWriting.{encode_commit};
 ghost use Rattle.gixobj_commit.specs.ExtraHeaders.{signature_field};
 ghost use Rattle.gixobj_hash.specs.declared.hash.kind.Kind.{Kind};

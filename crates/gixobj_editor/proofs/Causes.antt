@@ -5,7 +5,7 @@ use Rattle.gixobj_editor.specs.Causes.{HasKeepCause}
 use Rattle.gixobj_editor.specs.Replies.{reply_to}
 use Rattle.gixobj_editor.specs.declared.editor.error.Error.{Error}
 use Rattle.gixobj_editor.specs.declared.reply.EditReply.{EditReply}
-use Rattle.gixobj_keep.specs.Keeping.{IsCauseAt, KeepErrors}
+use Rattle.gixobj_keep.specs.Keeping.{IsStoreErrorAt, KeepErrors}
 use Rattle.gixobj_keep.specs.declared.keeping.KeepError.{KeepError}
 use Rattle.gixobj_store.specs.Stores.{Objects}
 use Rattle.gixobj_tree.specs.Entries.{Pair}
@@ -16,9 +16,9 @@ all_snoc P seen seen' it pushed all one = subst (All P) (sym pushed) (All-append
 
 -- the cause of a write whose borrowed trees aren't all kept
 pub cause_of_borrowed_trees : {S : Type 0} (objects : S → Objects) (errors : KeepErrors S) (old : S) (trees lent : List Pair) (count : ℕ)
-    (error : KeepError) → lent ≡ trees → IsCauseAt objects errors old lent count error → (before : S) × IsCauseAt objects errors before trees count error
+    (error : KeepError) → lent ≡ trees → IsStoreErrorAt objects errors old lent count error → (before : S) × IsStoreErrorAt objects errors before trees count error
 cause_of_borrowed_trees objects errors old trees lent count error all cause =
-    (old, subst (λ (pairs : List Pair). IsCauseAt objects errors old pairs count error) all cause)
+    (old, subst (λ (pairs : List Pair). IsStoreErrorAt objects errors old pairs count error) all cause)
 
 module _ {S E : Type 0} (objects : S → Objects) (errors : KeepErrors S) where
   -- the reply to an edit has no cause of a store

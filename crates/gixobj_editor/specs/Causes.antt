@@ -4,7 +4,7 @@ use Rattle.gixobj_editor.specs.declared.reply.EditReply.{EditReply}
 use Rattle.gixobj_editor.specs.declared.reply.EditReply.TheVariants as edit_reply
 use Rattle.gixobj_editor.specs.declared.reply.Reply.{Reply}
 use Rattle.gixobj_editor.specs.declared.reply.Reply.TheVariants as reply
-use Rattle.gixobj_keep.specs.Keeping.{IsCauseAt, KeepErrors}
+use Rattle.gixobj_keep.specs.Keeping.{IsStoreErrorAt, KeepErrors}
 use Rattle.gixobj_store.specs.Stores.{Objects}
 
 module _ {S E : Type 0} (objects : S → Objects) (errors : KeepErrors S) where
@@ -12,7 +12,7 @@ module _ {S E : Type 0} (objects : S → Objects) (errors : KeepErrors S) where
   -- after the trees before it are kept in a store; other replies have no cause
   abbrev pub HasKeepCause : EditReply E → Type 0
   HasKeepCause (edit_reply.NotKept it count error) =
-      (before : S) × IsCauseAt objects errors before it.trees.items count error
+      (before : S) × IsStoreErrorAt objects errors before it.trees.items count error
   HasKeepCause its_reply = ⊤
 
   -- so is each cause in the reply to a command

@@ -1,4 +1,5 @@
--- The effect of a write of an editor's root (git-write-tree).
+-- The effect of a write of an editor's root (git-write-tree). Which trees it emits, and which directories it leaves out
+-- as empty or null, is in Emission.antt of gixobj_files.
 use Rattle.std.specs.Prelude.{◌≡◌, ◌++◌, ℕ, List, [], ◌∷◌, All}
 use Rattle.std.specs.List.{FoldsTo}
 use Rattle.gixobj_directories.specs.Calls.{IsStorable}

@@ -5,7 +5,7 @@ use Rattle.gixobj_hash.specs.Hash.{id_of}
 use Rattle.gixobj_hash.specs.declared.hash.kind.Kind as hash
 use Rattle.gixobj_hash.specs.declared.hash.object_id.ObjectId.{ObjectId}
 use Rattle.gixobj_hash.specs.declared.kind.Kind.TheVariants.{Commit}
-use Rattle.gixobj_keep.specs.Keeping.{IsCauseAt, KeepCommitErrors, KeepErrors}
+use Rattle.gixobj_keep.specs.Keeping.{IsStoreErrorAt, KeepCommitErrors, KeepErrors}
 use Rattle.gixobj_import.specs.Commits.{encode_step}
 use Rattle.gixobj_import.specs.declared.import.ImportError.{ImportError}
 use Rattle.gixobj_import.specs.declared.import.ImportError.TheVariants as import
@@ -17,7 +17,7 @@ use Rattle.gixobj_store.specs.Stores.{Objects}
 -- are kept in a store
 abbrev pub HasTreeCause : {S : Type 0} → (S → Objects) → KeepErrors S → ImportError → Type 0
 HasTreeCause {S} objects errors (import.NotKept error) = (before : S) × (it : Written) × (count : ℕ)
-    × IsCauseAt objects errors before it.trees.items count error
+    × IsStoreErrorAt objects errors before it.trees.items count error
 HasTreeCause {S} objects errors other = ⊤
 
 -- NotKept: the cause is an error of this store for the encoding of the step's commit, under its digest

@@ -42,7 +42,7 @@ abbrev pub KeepErrors : Type 0 → Type 1
 KeepErrors S = S → ObjectId → List EntryView → KeepError → Type 0
 
 -- the error is one of the store's for the tree at this index, in a state in which the trees before it are kept
-pub record IsCauseAt {S : Type 0} (objects : S → Objects) (errors : KeepErrors S) (old : S) (trees : List Pair)
+pub record IsStoreErrorAt {S : Type 0} (objects : S → Objects) (errors : KeepErrors S) (old : S) (trees : List Pair)
     (number : ℕ) (error : KeepError) : Type 0 where
   pub failed_pair : Pair
   pub at : slice_get trees number ≡ Some failed_pair

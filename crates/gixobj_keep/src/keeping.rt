@@ -2,7 +2,7 @@
 
 ghost use Rattle.std.specs.Prelude.{◌≡◌, All, IfErr, OnErr, OnOk};
 ghost use Rattle.gixobj_hash.specs.declared.hash.object_id.ObjectId.{ObjectId};
-ghost use Rattle.gixobj_keep.specs.Keeping.{IsCauseAt, IsKeepError, IsKeepCommitError, StopsKeepingAt, with_commit, with_tree, with_trees};
+ghost use Rattle.gixobj_keep.specs.Keeping.{IsStoreErrorAt, IsKeepError, IsKeepCommitError, StopsKeepingAt, with_commit, with_tree, with_trees};
 ghost use Rattle.gixobj_tree.specs.TreeEncoding.{IsEncodableTree};
 
 use bstr::BString;
@@ -145,7 +145,7 @@ pub fn keep_all<S: Keep>(
         StopsKeepingAt (S.may_fail store.old) trees.now (S.objects store.old) (S.objects store.new)
         it.0 it.1) }
     ensures cause { IfErr result (λ it.
-        IsCauseAt S.objects S.keep_errors store.old trees.now it.0 it.1) }
+        IsStoreErrorAt S.objects S.keep_errors store.old trees.now it.0 it.1) }
     ensures same_may_fail { (id : ObjectId) → S.may_fail store.new id ≡ S.may_fail store.old id }
 {
     for (number, (id, tree)) in trees.iter().enumerate() {

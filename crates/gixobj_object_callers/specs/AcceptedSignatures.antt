@@ -16,7 +16,7 @@ use Rattle.gix_object.specs.Markers.{HasNoMarker}
 use Rattle.gix_object.specs.Outcomes.{OutcomeView, is_trusted, evaluated}
 use Rattle.gix_object.specs.Plans.{CarriesOut}
 use Rattle.gix_object.specs.ProgramCalls.{Answer, CallView, OutputView, ran}
-use Rattle.gix_object.specs.Received.{SignsCommit, SignsTag}
+use Rattle.gix_object.specs.ReceivedSignatures.{SignsCommit, SignsTag}
 use Rattle.gix_object.specs.SignedBytes.{signed_bytes}
 use Rattle.gix_object.specs.Signing as signing
 use Rattle.gix_object.specs.Signing.{sign_plan}

@@ -10,7 +10,7 @@ use Rattle.gixobj_hash.specs.declared.hash.kind.Kind as hash
 use Rattle.gixobj_hash.specs.declared.hash.object_id.ObjectId.{ObjectId}
 use Rattle.gixobj_hash.proofs.SplitsAtEach.{split_at_each_unique, split_at_each_exists}
 use Rattle.gixobj_script.specs.Lines.{HasCommand, HasEdit, HasNoCommand, HasNoEdit, DecodesToCommand, IsEditAt, DecodesToEdit, IsEntryAt, IsHexOfId, keyword_and}
-use Rattle.gixobj_script.specs.Paths.{ArePathNames, root_path}
+use Rattle.gixobj_script.specs.ScriptPaths.{ArePathNames, root_path}
 use Rattle.gixobj_hash.proofs.Splits.{byte_free_of_all_pass, no_split_of_byte_free, split_parts_unique}
 use Rattle.gixobj_hash.specs.Bytes.{slash}
 use Rattle.gixobj_hash.specs.ByteStrings.{IsByteFree, SplitsAt}

@@ -3,7 +3,7 @@ pub mod Edits
 pub mod Engine
 pub mod Faults
 pub mod Lines
-pub mod Paths
+pub mod ScriptPaths
 pub mod Scripts
 pub mod Reporting
 pub mod Arguments

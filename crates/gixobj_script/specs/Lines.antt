@@ -4,7 +4,7 @@ use Rattle.gixobj_editor.specs.Views.{CommandView, EditView, edits_at, one_edit,
 use Rattle.gixobj_hash.specs.Hash.Hex.{IsIdHexOfKind, decoded_id}
 use Rattle.gixobj_hash.specs.declared.hash.kind.Kind as hash
 use Rattle.gixobj_hash.specs.declared.hash.object_id.ObjectId.{ObjectId}
-use Rattle.gixobj_script.specs.Paths.{ArePathNames}
+use Rattle.gixobj_script.specs.ScriptPaths.{ArePathNames}
 use Rattle.gixobj_hash.specs.Bytes.{space}
 use Rattle.gixobj_hash.specs.ByteStrings.{IsByteFree}
 use Rattle.gixobj_mode.specs.Mode.{entry_kind_name}

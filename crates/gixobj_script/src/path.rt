@@ -2,7 +2,7 @@
 ghost use Rattle.std.specs.Prelude.{◌≢◌, IfOk, OnErr};
 ghost use Rattle.gixobj_editor.specs.Views.{path_names};
 ghost use Rattle.gixobj_hash.specs.Splits.{IsSplitAtEach};
-ghost use Rattle.gixobj_script.specs.Paths.{ArePathNames, root_path};
+ghost use Rattle.gixobj_script.specs.ScriptPaths.{ArePathNames, root_path};
 
 use bstr::BString;
 use gixobj_hash::OutOfMemory;

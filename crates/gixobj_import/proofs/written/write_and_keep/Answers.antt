@@ -1,5 +1,5 @@
 use Rattle.std.proofs.Common.{List, refl, subst}
-use Rattle.gixobj_keep.specs.Keeping.{IsCauseAt}
+use Rattle.gixobj_keep.specs.Keeping.{IsStoreErrorAt}
 use Rattle.gixobj_tree.specs.Entries.{Pair}
 use Rattle.gixobj_import.proofs.Digests.{have_hex_of_id, written_root_id_kind}
 use Rattle.gixobj_import.proofs.Kept.{kept_all, not_kept}
@@ -38,6 +38,6 @@ returns-in-Err-keep_all-clause-cause g c = (
   c.store_mut.result.now,
   c.in-Ok.written,
   c.in-Err-keep_all._count,
-  subst (λ (pairs : List Pair). IsCauseAt g.S.Store.objects g.S.Keep.keep_errors c.store_mut.result.now pairs c.in-Err-keep_all._count
+  subst (λ (pairs : List Pair). IsStoreErrorAt g.S.Store.objects g.S.Keep.keep_errors c.store_mut.result.now pairs c.in-Err-keep_all._count
       c.in-Err-keep_all.error) c.deref.ensures.value (c.in-Err-keep_all.ensures {u = tt}).cause,
 )
