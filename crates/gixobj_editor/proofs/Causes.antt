@@ -16,7 +16,8 @@ all_snoc P seen seen' it pushed all one = subst (All P) (sym pushed) (All-append
 
 -- the cause of a write whose borrowed trees aren't all kept
 pub cause_of_borrowed_trees : {S : Type 0} (objects : S → Objects) (errors : KeepErrors S) (old : S) (trees lent : List Pair) (count : ℕ)
-    (error : KeepError) → lent ≡ trees → IsStoreErrorAt objects errors old lent count error → (before : S) × IsStoreErrorAt objects errors before trees count error
+    (error : KeepError) → lent ≡ trees → IsStoreErrorAt objects errors old lent count error
+    → (before : S) × IsStoreErrorAt objects errors before trees count error
 cause_of_borrowed_trees objects errors old trees lent count error all cause =
     (old, subst (λ (pairs : List Pair). IsStoreErrorAt objects errors old pairs count error) all cause)
 

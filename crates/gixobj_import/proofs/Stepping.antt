@@ -27,7 +27,8 @@ slice_get_of_get_or (step ∷ steps) zero it within is = ap Some (sym is)
 slice_get_of_get_or (step ∷ steps) (suc index) it within is = slice_get_of_get_or steps index it (omega arith) is
 
 -- the step after those that were imported
-pub slice_get_length_of_get_or : (steps : List Step) (imported : List Imported) (index : ℕ) (step : Step) → index < length steps → step ≡ get_or steps index step
+pub slice_get_length_of_get_or : (steps : List Step) (imported : List Imported) (index : ℕ) (step : Step) → index < length steps
+    → step ≡ get_or steps index step
     → length imported ≡ index → slice_get steps (length imported) ≡ Some step
 slice_get_length_of_get_or steps imported index step within is as_many = ap (slice_get steps) as_many ∙ slice_get_of_get_or steps index step within is
 

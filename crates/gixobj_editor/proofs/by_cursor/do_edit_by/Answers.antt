@@ -48,4 +48,5 @@ returns-in-Remove-clause-cause g c =
 
 pub returns-in-RemoveLeaf-clause-cause : goal.returns-in-RemoveLeaf-clause-cause
 returns-in-RemoveLeaf-clause-cause g c =
-    reply_to_has_keep_cause g.S.Store.objects g.S.Keep.keep_errors c.try_remove_leaf.result c.reply_to_edit-in-RemoveLeaf.result c.reply_to_edit-in-RemoveLeaf.ensures.reply
+    reply_to_has_keep_cause g.S.Store.objects g.S.Keep.keep_errors c.try_remove_leaf.result c.reply_to_edit-in-RemoveLeaf.result
+    c.reply_to_edit-in-RemoveLeaf.ensures.reply

@@ -25,7 +25,8 @@ loop-edit-preserved g c =
       same = refl;
       same_reference = c.do_edit_by-reply.ensures.same_reference ∙ c.loop-edit.invariant.same_reference;
       prefix = c.do_edit_by-reply.ensures.prefix ∙ c.loop-edit.invariant.prefix;
-      causes = all_snoc (HasKeepCause {E = g.row.E.Denot} g.S.Store.objects g.S.Keep.keep_errors) _ _ c.do_edit_by-reply.result c.push_reserved.ensures.items c.loop-edit.invariant.causes c.do_edit_by-reply.ensures.cause;
+      causes = all_snoc (HasKeepCause {E = g.row.E.Denot} g.S.Store.objects g.S.Keep.keep_errors) _ _ c.do_edit_by-reply.result c.push_reserved.ensures.items
+          c.loop-edit.invariant.causes c.do_edit_by-reply.ensures.cause;
     }
 
 pub returns-clause-replies : goal.returns-clause-replies

@@ -31,7 +31,8 @@ returns-in-Remove g c =
           (removal_replied model answers at_root c.args.editor.now call.new.self c.in-Remove.path c.deref-in-Remove.result.now c.deref-in-Remove.ensures.value
           call.result
           call.ensures.removed call.ensures.after_error call.ensures.error);
-      cause = reply_to_has_keep_cause g.S.Store.objects g.S.Keep.keep_errors call.result c.reply_to_edit-in-Remove.result c.reply_to_edit-in-Remove.ensures.reply;
+      cause = reply_to_has_keep_cause g.S.Store.objects g.S.Keep.keep_errors call.result c.reply_to_edit-in-Remove.result
+          c.reply_to_edit-in-Remove.ensures.reply;
     }
 
 pub returns-in-RemoveLeaf : goal.returns-in-RemoveLeaf

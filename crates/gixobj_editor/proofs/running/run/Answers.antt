@@ -20,7 +20,8 @@ loop-command-preserved g c =
           c.push_reserved.ensures.items c.loop-command.invariant.so_far h;
       room = let e = ap length steps.0 in grind (arith, c.loop-command.invariant.room);
       same = refl;
-      causes = all_snoc (HasKeepCauses {E = g.row.E.Denot} g.S.Store.objects g.S.Keep.keep_errors) _ _ c.do_command-reply.result c.push_reserved.ensures.items c.loop-command.invariant.causes c.do_command-reply.ensures.causes;
+      causes = all_snoc (HasKeepCauses {E = g.row.E.Denot} g.S.Store.objects g.S.Keep.keep_errors) _ _ c.do_command-reply.result c.push_reserved.ensures.items
+          c.loop-command.invariant.causes c.do_command-reply.ensures.causes;
     }
 
 pub returns-clause-replies : goal.returns-clause-replies
