@@ -22,8 +22,8 @@ returns-in-Ok-clause-tip g c =
     (subst (λ (s : g.row.S.Denot). HaveFilesOfNothing (g.S.Store.objects s) c.args.steps.now imported) c.new-importer.ensures.store
     (done.files c.new-importer.ensures.new))
 
-pub returns-in-Err-clause-cause : goal.returns-in-Err-clause-cause
-returns-in-Err-clause-cause g c = (
+pub returns-clause-cause : goal.returns-clause-cause
+returns-clause-cause g c = (
   c.in-Err.stopped.done.items,
   subst (λ (k : Kind). HasImportCause g.S.Store.objects g.S.Keep.keep_errors g.S.KeepCommit.keep_commit_errors k c.args.steps.now
       c.in-Err.stopped.done.items c.in-Err.stopped.error) c.new-importer.ensures.hash (c.in-Err.ensures {u = tt}).cause,
