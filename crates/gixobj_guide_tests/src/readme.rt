@@ -32,7 +32,7 @@ fn decodes_commit_and_edits_tree(rt: HostRuntime) -> Result<(), Fail> {
     let mut editor = Editor::new(Tree::empty(alloc), Never, HashKind::Sha1);
     editor.upsert(&path, EntryKind::Blob, blob)?;
     let Ok(written) = editor.write(|tree: &Tree| tree.compute_id(alloc, HashKind::Sha1)) else {
-        return Err("a refused write")?;
+        return Err("a failed write")?;
     };
     assert_eq!(rt; written.id, ObjectId::from_hex(TREE).ok_or("an id")?);
     Ok(())
