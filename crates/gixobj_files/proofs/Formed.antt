@@ -15,7 +15,7 @@ use Rattle.gixobj_files.specs.Files.{Path, is_null}
 use Rattle.gixobj_files.specs.Opening.{IsOpened}
 use Rattle.gixobj_files.specs.State.{root_alone}
 use Rattle.gixobj_files.proofs.KeyOrder.{comes_before_of_false, comes_before_of_true}
-use Rattle.gixobj_files.proofs.Sublists.{all_append, all_both, all_kept, all_pass, all_weaker, later_append, later_kept, later_parted}
+use Rattle.gixobj_sorted.proofs.Sublists.{all_append, all_both, all_kept, all_pass, all_weaker, later_append, later_kept, later_parted}
 use Rattle.gixobj_tree.proofs.WellFormed.{comes_before_trans}
 
 -- a filtered list is well-formed

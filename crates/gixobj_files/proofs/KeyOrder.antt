@@ -27,7 +27,7 @@ append_slash_injective (x ∷ []) [] e = absurd (cc e)
 append_slash_injective (x ∷ z ∷ xs) [] e = absurd (cc e)
 append_slash_injective (x ∷ xs) (y ∷ ys) e = let rest = append_slash_injective xs ys (cc e) in cc (e, rest)
 
-name_of_key_unique : (xs : List ℕ) (t : Bool) (ys : List ℕ) (u : Bool) → IsByteFree 47 xs → IsByteFree 47 ys → key_of xs t ≡ key_of ys u → xs ≡ ys
+pub name_of_key_unique : (xs : List ℕ) (t : Bool) (ys : List ℕ) (u : Bool) → IsByteFree 47 xs → IsByteFree 47 ys → key_of xs t ≡ key_of ys u → xs ≡ ys
 name_of_key_unique xs true ys true a b e = append_slash_injective xs ys e
 name_of_key_unique xs false ys false a b e = e
 name_of_key_unique xs true ys false a b e = absurd (no_slash_at_end xs (subst (IsByteFree 47) (sym e) b))

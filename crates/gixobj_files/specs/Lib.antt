@@ -5,7 +5,6 @@ pub mod Files
 pub mod OpeningStops
 pub mod Emission
 pub mod History
-pub mod KeyPlaces
 pub mod Opening
 pub mod WrittenTrees
 pub mod PlainHistory
@@ -13,3 +12,4 @@ pub mod FilteredTrees
 pub mod State
 pub mod Tables
 pub mod Unopened
+pub mod OpenEntries

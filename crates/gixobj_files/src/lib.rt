@@ -1,7 +1,7 @@
 //! Entries of one directory and files of trees, on which open directories and their editor are built.
 //!
-//! The code searches, inserts and copies entries, filters trees, and builds the tree that a write makes of a
-//! directory.
+//! The code holds the entries of open directories in pieces, filters and copies trees, and builds the tree that
+//! a write makes of a directory.
 //!
 //! Of files there are definitions and laws alone. They state what edits, openings and writes make of files,
 //! over lists of entries, tables from ids to such lists, and sets of files.
@@ -10,5 +10,5 @@
 pub mod entries;
 pub mod filtered;
 pub mod laws;
-pub mod places;
+pub mod open_entries;
 pub mod written_tree;

@@ -1,0 +1,7 @@
+pub mod BinarySearch
+pub mod Joined
+pub mod Keys
+pub mod OnePiece
+pub mod FlatIndices
+pub mod PrefixLengths
+pub mod Sublists

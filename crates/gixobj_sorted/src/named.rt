@@ -1,0 +1,39 @@
+//! Items of sorted lists.
+ghost use Rattle.std.specs.Prelude.{◌≡◌, ℕ, Bool, List};
+
+use gixobj_tree::tree::Entry;
+
+/// An item with a name, of a directory or of a file.
+///
+/// Its key is the name, with `/` appended for a directory.
+pub trait Named: Drop {
+    ghost name_of: { Self → List ℕ };
+
+    ghost is_tree_of: { Self → Bool };
+
+    /// Returns the name.
+    fn name(&self) -> &[u8]
+        ensures { result.now ≡ name_of self.now };
+
+    /// Returns `true` if the item is a directory.
+    fn is_tree(&self) -> bool
+        ensures { result ≡ is_tree_of self.now };
+}
+
+impl Named for Entry {
+    ghost use Rattle.gixobj_mode.specs.Mode.{is_tree_mode};
+
+    ghost name_of = { λ e. e.name };
+
+    ghost is_tree_of = { λ e. is_tree_mode e.mode };
+
+    #[inline(always)]
+    fn name(&self) -> &[u8] {
+        self.filename.as_bytes()
+    }
+
+    #[inline(always)]
+    fn is_tree(&self) -> bool {
+        self.mode.is_tree()
+    }
+}
