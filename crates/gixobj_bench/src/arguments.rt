@@ -1,5 +1,6 @@
 //! The command that the program's arguments name.
 
+use crate::editor::Order;
 use crate::fault::Fault;
 use std::env;
 use std::rt::Env;
@@ -13,8 +14,8 @@ pub(crate) enum Measure {
     Bodies,
     /// Reports of verifiers.
     Reports,
-    /// Edits of trees.
-    Editor,
+    /// Edits of trees, with the files in this order.
+    Editor(Order),
 }
 
 /// What is measured, and for how many rounds.
@@ -32,7 +33,7 @@ pub(crate) fn command_of_process<R: Env + AllocGlobal>(rt: &R) -> Result<Command
         "bench" => Measure::Objects(needed(arguments.next())?),
         "bodies" => Measure::Bodies,
         "reports" => Measure::Reports,
-        "editor" => Measure::Editor,
+        "editor" => Measure::Editor(order_of(&needed(arguments.next())?)?),
         _ => return Err(Fault::Usage),
     };
     let rounds = rounds_of(&needed(arguments.next())?)?;
@@ -47,6 +48,16 @@ fn needed(argument: Option<String>) -> Result<String, Fault> {
     match argument {
         Some(argument) => Ok(argument),
         None => Err(Fault::Usage),
+    }
+}
+
+/// The order of an argument.
+fn order_of(argument: &str) -> Result<Order, Fault> {
+    match argument {
+        "ascending" => Ok(Order::Ascending),
+        "descending" => Ok(Order::Descending),
+        "scattered" => Ok(Order::Scattered),
+        _ => Err(Fault::Usage),
     }
 }
 

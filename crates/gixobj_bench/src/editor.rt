@@ -11,6 +11,7 @@ use gixobj_base::hash::ObjectId;
 use gixobj_base::tree::EntryKind;
 use gixobj_editor::editor::{Editor, Written};
 use gixobj_find::find::Never;
+pub(crate) use paths::Order;
 use paths::{Shape, paths_of};
 use std::alloc::Global;
 use std::io;
@@ -28,6 +29,8 @@ const CASES: &[(Shape, u32)] = &[
     (Shape::Wide, 1_000),
     (Shape::Wide, 5_000),
     (Shape::Wide, 20_000),
+    (Shape::Wide, 100_000),
+    (Shape::Wide, 1_000_000),
     (Shape::Alone, 5_000),
     (Shape::Alone, 10_000),
     (Shape::Alone, 20_000),
@@ -46,13 +49,14 @@ struct Round {
     root: ObjectId,
 }
 
-/// Measures all cases.
+/// Measures all cases, with the files in this order.
 pub(crate) fn measure_all<R: Clock + Print + AllocGlobal>(
     rt: &R,
+    order: Order,
     rounds: u32,
 ) -> Result<(), Fault> {
     for (shape, files) in CASES {
-        measure_case(rt, rounds, *shape, *files)?;
+        measure_case(rt, order, rounds, *shape, *files)?;
     }
     Ok(())
 }
@@ -60,6 +64,7 @@ pub(crate) fn measure_all<R: Clock + Print + AllocGlobal>(
 /// Measures a case and prints its two rows: the minimum time of the upserts, and of the write.
 fn measure_case<R: Clock + Print + AllocGlobal>(
     rt: &R,
+    order: Order,
     rounds: u32,
     shape: Shape,
     files: u32,
@@ -67,7 +72,7 @@ fn measure_case<R: Clock + Print + AllocGlobal>(
     let Some(id) = ObjectId::from_hex(FILE) else {
         return Err(Fault::CallFailed);
     };
-    let paths = paths_of(rt.alloc(), shape, files)?;
+    let paths = paths_of(rt.alloc(), shape, order, files)?;
     let mut minimum = measure_round(rt, &paths, id)?;
     for _ in 1..rounds {
         let round = measure_round(rt, &paths, id)?;

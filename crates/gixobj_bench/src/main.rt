@@ -1,8 +1,8 @@
 //! Measures the public calls. `gixobj_bench bench FILE ROUNDS` prints a row for each kind of work on each
 //! kind of object in the file: decode, iterate, encode, size, copy, hash, look up, and the messages of
 //! commits. `gixobj_bench bodies ROUNDS` measures generated bodies of messages with up to a million lines.
-//! `gixobj_bench reports ROUNDS` measures reports of verifiers. `gixobj_bench editor ROUNDS` measures edits:
-//! upserts of files, and the write of the trees.
+//! `gixobj_bench reports ROUNDS` measures reports of verifiers. `gixobj_bench editor ORDER ROUNDS` measures edits:
+//! upserts of files, and the write of the trees. The order of the names is `ascending`, `descending` or `scattered`.
 #![tactic(auto)]
 
 mod arguments;
@@ -41,6 +41,6 @@ fn run(rt: &HostRuntime) -> Result<(), Fault> {
         }
         Measure::Bodies => bodies::measure_all(rt, rounds),
         Measure::Reports => reports::measure_all(rt, rounds),
-        Measure::Editor => editor::measure_all(rt, rounds),
+        Measure::Editor(order) => editor::measure_all(rt, order, rounds),
     }
 }

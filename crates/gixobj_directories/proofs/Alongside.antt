@@ -13,7 +13,7 @@ use Rattle.gixobj_files.specs.Editing.{has_tree, same_name}
 use Rattle.gixobj_files.specs.Files.{ContainsEntry, Path}
 use Rattle.gixobj_files.proofs.HasTrees.{entry_of_has_tree}
 use Rattle.gixobj_files.proofs.OpenedFiles.{same_name_false}
-use Rattle.gixobj_files.proofs.Sublists.{all_both, all_weaker}
+use Rattle.gixobj_sorted.proofs.Sublists.{all_both, all_weaker}
 use Rattle.gixobj_tree.specs.Entries.{EntryView}
 use Rattle.gixobj_tree.specs.KeyOrder.{ComesBefore, entry_key, key_of}
 use Rattle.gixobj_tree.specs.WellFormed.{EachLater}

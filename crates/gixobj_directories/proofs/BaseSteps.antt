@@ -1,9 +1,7 @@
 -- The bases after an edit of one level, or an opening in it: for the edits and openings of open directories, and for
 -- the editor.
-use Rattle.std.proofs.Common.{◌≡◌, ◌≢◌, ◌∙◌, ℕ, true, false, cond, get_or, List, [], ◌∷◌, Option, Some, None, refl, sym, ap, subst}
-use Rattle.std.specs.Prelude.{set}
-use Rattle.std.specs.List.{AllByRecursion, position}
-use Rattle.bstr.specs.Owned.{bstring_bytes}
+use Rattle.std.proofs.Common.{◌≡◌, ◌≢◌, ◌∙◌, ℕ, true, false, cond, List, [], ◌∷◌, Option, Some, None, refl, sym, ap, subst}
+use Rattle.std.specs.List.{AllByRecursion}
 use Rattle.gixobj_directories.specs.declared.open.Child.{Child}
 use Rattle.std.specs.Cmp.Lexicographic.{bytes_decides}
 use Rattle.gixobj_tree.specs.Entries.{EntryView}
@@ -16,7 +14,7 @@ use Rattle.gixobj_files.specs.Editing.{same_name}
 use Rattle.gixobj_files.specs.Files.{Path}
 use Rattle.gixobj_files.specs.Opening.{Dirs}
 use Rattle.gixobj_directories.specs.Nested.{IsLevel, Opened, Part, base_side, bases_in, bases_of, dirs_of, in_part, opened, other_parts, parts, with_part}
-use Rattle.gixobj_directories.proofs.Levels.{Becomes, BecomesBy, dirs_of_opened_cons, at_name_by, bases_of_cons, bases_of_nil, called, in_part_of_child, found_by, dirs_of_cons, is_level_with_part, dirs_of_nil, becomes_of_removal, others_becomes_by, becomes_of_with_part, with_becomes_by, becomes_of_set, set_becomes_by, tied}
+use Rattle.gixobj_directories.proofs.Levels.{Becomes, BecomesBy, IsChanged, IsChild, dirs_of_opened_cons, at_name_by, bases_of_cons, bases_of_nil, in_part_of_child, found_by, dirs_of_cons, is_level_set, is_level_with_part, dirs_of_nil, becomes_of_removal, others_becomes_by, becomes_of_with_part, with_becomes_by, becomes_of_set, set_becomes_by, tied}
 use Rattle.gixobj_directories.proofs.Ordered.{level_names_apart}
 
 -- a directory that isn't open has no base
@@ -109,17 +107,15 @@ base_edited_of_written old es own base root is (name ∷ path) = refl
 
 -- the bases after a directory in it was replaced, added or closed
 module _ (g : OfBase) (settles : Settles g) (old : Opened) (es : List EntryView) where
-  pub set_moved : (cs l : List Child) {base : List EntryView} → opened es base (parts cs) ≡ old → EachLater (λ x y. x.0 ≢ y.0) (parts cs)
-      → (name : List ℕ) (i : ℕ) (child next : Child) → EachLater (λ x y. x.0 ≢ y.0) (parts (set cs i next))
-      → l ≡ cs → Some i ≡ position (called name) l → child ≡ get_or cs i child → bstring_bytes next.name ≡ bstring_bytes child.name
+  pub set_moved : {cs new : List Child} {base : List EntryView} {name : List ℕ} {i : ℕ} {child next : Child} → IsChild name cs i child
+      → IsChanged cs new i child next → opened es base (parts cs) ≡ old → IsLevel es (parts cs)
       → ((path : Path) → bases_of next.open path ≡ g (dirs_of child.open path) (dirs_of next.open path) (bases_of child.open path))
-      → (at : Path) → bases_of (opened es base (parts (set cs i next))) at ≡ g (dirs_of old at) (dirs_of (opened es base (parts (set cs i next))) at)
-      (bases_of old at)
-  set_moved cs l view apart name i child next apart' same at is named inside =
-      moved g settles old es es (parts cs) (parts (set cs i next)) view apart apart' name (dirs_of next.open) (bases_of next.open)
-      (becomes_of_set name cs l i child next same at is named) (set_becomes_by base_side name cs l i child next same at is named)
-      (λ path. inside path ∙ ap (λ o. g o (dirs_of next.open path) (bases_of child.open path)) (sym (in_part_of_child name cs l i child same at is path))
-      ∙ ap (λ b. g (in_part name (parts cs) path) (dirs_of next.open path) b) (sym (found_by base_side name cs l i child same at is path)))
+      → (at : Path) → bases_of (opened es base (parts new)) at ≡ g (dirs_of old at) (dirs_of (opened es base (parts new)) at) (bases_of old at)
+  set_moved {cs} {new} {base} {name} {i} {child} {next} here now view level inside =
+      moved g settles old es es (parts cs) (parts new) view (level_names_apart level) (level_names_apart (is_level_set here now level)) name
+      (dirs_of next.open) (bases_of next.open) (becomes_of_set here now) (set_becomes_by base_side here now)
+      (λ path. inside path ∙ ap (λ o. g o (dirs_of next.open path) (bases_of child.open path)) (sym (in_part_of_child here path))
+      ∙ ap (λ b. g (in_part name (parts cs) path) (dirs_of next.open path) b) (sym (found_by base_side here path)))
 
   pub with_moved : (es' : List EntryView) (ps : List Part) {base : List EntryView} → opened es base ps ≡ old → EachLater (λ x y. x.0 ≢ y.0) ps
       → (name : List ℕ) (inner : Opened) → EachLater (λ x y. x.0 ≢ y.0) (with_part (name, inner) ps) → AllByRecursion (λ p. p.0 ≢ name) ps
@@ -160,4 +156,4 @@ base_opened_of_moved old es cs new {base} view level name others none e entry tr
     subst (λ (ps : List Part). bases_of (opened es base ps) at ≡ base_opened (dirs_of old at) (dirs_of (opened es base ps) at) (bases_of old at))
     (sym is)
     (with_moved base_opened opening old es es (parts cs) view (level_names_apart level) name inner
-    (level_names_apart (is_level_with_part name inner es (parts cs) (has_tree_of_entry name es e entry.0 entry.1 tree) others level)) others none inside at)
+    (level_names_apart (is_level_with_part name inner es (parts cs) (has_tree_of_entry name es e entry.0 entry.1 tree) level)) others none inside at)

@@ -27,7 +27,7 @@ use Rattle.gixobj_files.specs.Opening.{Dirs, in_dir}
 use Rattle.gixobj_directories.specs.declared.write.WriteError.{WriteError}
 use Rattle.gixobj_directories.specs.declared.write.WriteError.TheVariants as write
 use Rattle.gixobj_files.proofs.Counts.{raised_raised}
-use Rattle.gixobj_files.proofs.Sublists.{all_weaker}
+use Rattle.gixobj_sorted.proofs.Sublists.{all_weaker}
 use Rattle.gixobj_directories.proofs.Levels.{tied, tied_cons}
 use Rattle.gixobj_files.proofs.SameTrees.{entries_eq_or_ne}
 

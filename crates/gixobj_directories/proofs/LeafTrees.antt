@@ -18,7 +18,8 @@ use Rattle.gixobj_files.specs.Editing.{has_tree, same_name}
 use Rattle.gixobj_files.specs.Files.{Path, is_null}
 use Rattle.gixobj_files.specs.Emission.{EmitsBelow, EmitsEntries, end, of_entries, unopened}
 use Rattle.gixobj_files.proofs.OpenedFiles.{same_name_refl, same_name_false}
-use Rattle.gixobj_files.proofs.Sublists.{all_weaker}
+use Rattle.gixobj_sorted.proofs.Keys.{all_of_append_left, each_later_of_append_left, each_later_of_append_right}
+use Rattle.gixobj_sorted.proofs.Sublists.{all_weaker}
 use Rattle.gixobj_directories.specs.declared.open.Child.{Child}
 use Rattle.gixobj_directories.specs.WriteErrors.{next_child, pairs_after_next}
 use Rattle.gixobj_directories.specs.Nested.{AreOrdered, Level, Opened, Part, bases_of, below, dirs_of, length-under, opened, part, parts, under}
@@ -62,23 +63,15 @@ pub leaf_trees_below_cons : (p : Part) (ps : List Part) → AllByRecursion (λ q
     (below ps)
 leaf_trees_below_cons p ps others = leaf_trees_under_append p.0 p.1 (below ps) (λ path. not_is_above_below p.0 path ps others)
 
-all_prefix : {X : Type 0} (P : X → Type 0) (xs : List X) (x : X) → AllByRecursion P (xs ++ x ∷ []) → AllByRecursion P xs
-all_prefix P [] x h = tt
-all_prefix P (y ∷ ys) x h = (h.0, all_prefix P ys x h.1)
-
-pub each_later_prefix : {X : Type 0} (R : X → X → Type 0) (xs : List X) (x : X) → EachLater R (xs ++ x ∷ []) → EachLater R xs
-each_later_prefix R [] x h = tt
-each_later_prefix R (y ∷ ys) x h = (all_prefix (R y) ys x h.0, each_later_prefix R ys x h.1)
-
--- the leaf trees of the last name come last
-pub leaf_trees_below_snoc : (ps : List Part) (p : Part) → EachLater (λ x y. x.0 ≢ y.0) (ps ++ p ∷ []) → leaf_trees (below (ps ++ p ∷ [])) ≡ leaf_trees
-    (below ps) ++ leaf_trees p.1
-leaf_trees_below_snoc [] p apart = leaf_trees_below_cons p [] tt ∙ append-nil (leaf_trees p.1)
-leaf_trees_below_snoc (q ∷ qs) p apart =
-    leaf_trees_below_cons q (qs ++ p ∷ []) apart.0
-    ∙ ap (λ ts. leaf_trees q.1 ++ ts) (leaf_trees_below_snoc qs p apart.1)
-    ∙ sym (append_assoc (leaf_trees q.1) (leaf_trees (below qs)) (leaf_trees p.1))
-    ∙ ap (λ ts. ts ++ leaf_trees p.1) (sym (leaf_trees_below_cons q qs (all_prefix (λ x. q.0 ≢ x.0) qs p apart.0)))
+-- the leaf trees of the first of two lists of directories come first
+leaf_trees_below_append : (ps qs : List Part) → EachLater (λ x y. x.0 ≢ y.0) (ps ++ qs) → leaf_trees (below (ps ++ qs)) ≡ leaf_trees (below ps) ++ leaf_trees
+    (below qs)
+leaf_trees_below_append [] qs apart = refl
+leaf_trees_below_append (p ∷ ps) qs apart =
+    leaf_trees_below_cons p (ps ++ qs) apart.0
+    ∙ ap (λ ts. leaf_trees p.1 ++ ts) (leaf_trees_below_append ps qs apart.1)
+    ∙ sym (append_assoc (leaf_trees p.1) (leaf_trees (below ps)) (leaf_trees (below qs)))
+    ∙ ap (λ ts. ts ++ leaf_trees (below qs)) (sym (leaf_trees_below_cons p ps (all_of_append_left (λ x. p.0 ≢ x.0) ps qs apart.0)))
 
 -- pairs that are filled one after the other are filled as appended lists
 fills_append : (qs : List Pair) (ts : List (List EntryView)) (ps qs' : List Pair) (ts' : List (List EntryView)) (ps' : List Pair) → Fills qs ts ps
@@ -214,9 +207,31 @@ pub not_fills_nil : (q : Pair) (rest ps : List Pair) (ts : List (List EntryView)
 not_fills_nil q rest ps ts blank none (inl h) = h.1 blank
 not_fills_nil q rest ps ts blank none (inr h) = let both : h.0 ∷ h.1 ≡ [] = sym h.4 ∙ none in cc both
 
-below_snoc_len : (ps : List Part) (p : Part) → length (below (ps ++ p ∷ [])) ≡ length (below ps) + length p.1
-below_snoc_len [] p = omega (arith, length-append (under p.0 p.1) [], length-under p.0 p.1)
-below_snoc_len (q ∷ qs) p = omega (arith, length-append (under q.0 q.1) (below (qs ++ p ∷ [])), length-append (under q.0 q.1) (below qs), below_snoc_len qs p)
+below_append_len : (ps qs : List Part) → length (below (ps ++ qs)) ≡ length (below ps) + length (below qs)
+below_append_len [] qs = omega arith
+below_append_len (p ∷ ps) qs = omega (
+  arith,
+  length-append (under p.0 p.1) (below (ps ++ qs)),
+  length-append (under p.0 p.1) (below ps),
+  below_append_len ps qs,
+)
+
+-- children in two lists
+pub record Parted (old new last : List Child) : Type 0 where
+  pub trees : leaf_trees (below (parts old)) ≡ leaf_trees (below (parts new)) ++ leaf_trees (below (parts last))
+  pub apart : EachLater (λ x y. x.0 ≢ y.0) (parts new)
+  pub last_apart : EachLater (λ x y. x.0 ≢ y.0) (parts last)
+  pub sizes : length (below (parts old)) ≡ length (below (parts new)) + length (below (parts last))
+
+pub parted_of_append : (old new last : List Child) → old ≡ new ++ last → EachLater (λ x y. x.0 ≢ y.0) (parts old) → Parted old new last
+parted_of_append old new last is apart =
+    let split : parts old ≡ parts new ++ parts last = ap parts is ∙ map-append part new last in
+    let both : EachLater (λ x y. x.0 ≢ y.0) (parts new ++ parts last) = subst (EachLater (λ x y. x.0 ≢ y.0)) split apart in record {
+      trees = ap (λ ps. leaf_trees (below ps)) split ∙ leaf_trees_below_append (parts new) (parts last) both;
+      apart = each_later_of_append_left (λ x y. x.0 ≢ y.0) (parts new) (parts last) both;
+      last_apart = each_later_of_append_right (λ x y. x.0 ≢ y.0) (parts new) (parts last) both;
+      sizes = ap (λ ps. length (below ps)) split ∙ below_append_len (parts new) (parts last);
+    }
 
 -- the children without the last one
 pub record TakenOff (old new : List Child) (c : Child) : Type 0 where
@@ -226,9 +241,8 @@ pub record TakenOff (old new : List Child) (c : Child) : Type 0 where
 
 pub taken_off_of_parts : (old new : List Child) (c : Child) → old ≡ new ++ c ∷ [] → EachLater (λ x y. x.0 ≢ y.0) (parts old) → TakenOff old new c
 taken_off_of_parts old new c is apart =
-    let split : parts old ≡ parts new ++ part c ∷ [] = ap parts is ∙ map-append part new (c ∷ []) in
-    let both : EachLater (λ x y. x.0 ≢ y.0) (parts new ++ part c ∷ []) = subst (EachLater (λ x y. x.0 ≢ y.0)) split apart in record {
-      last = ap (λ ps. leaf_trees (below ps)) split ∙ leaf_trees_below_snoc (parts new) (part c) both;
-      apart = each_later_prefix (λ x y. x.0 ≢ y.0) (parts new) (part c) both;
-      fewer = ap (λ ps. length (below ps)) split ∙ below_snoc_len (parts new) (part c);
+    let parted = parted_of_append old new (c ∷ []) is apart in record {
+      last = parted.trees ∙ ap (λ ts. leaf_trees (below (parts new)) ++ ts) (leaf_trees_below_cons (part c) [] tt ∙ append-nil (leaf_trees c.open));
+      apart = parted.apart;
+      fewer = omega (arith, parted.sizes, length-append (under (bstring_bytes c.name) c.open) [], length-under (bstring_bytes c.name) c.open);
     }

@@ -1,12 +1,12 @@
 -- One level of open directories: what is open at the directory itself, and at and below each name in it. All proofs of
 -- open directories use it.
 use mathlib.Core.Bool.{true≢false}
-use Rattle.std.proofs.Common.{inl, inr, zero, suc, ◌≡◌, ◌≢◌, ◌<◌, ◌≤◌, ◌+◌, ℕ, Bool, true, false, not, cond, Less, List, [], ◌∷◌, ◌++◌, Option, Some, None, get_or, length, nat_lt, refl, sym, ap, subst, ◌∙◌, one-add, arith}
+use Rattle.std.proofs.Common.{inl, inr, zero, suc, ◌≡◌, ◌≢◌, ◌<◌, ◌≤◌, ◌+◌, ℕ, Bool, true, false, not, cond, Less, Equal, Greater, List, [], ◌∷◌, ◌++◌, Option, Some, None, get_or, length, nat_lt, refl, sym, ap, subst, ◌∙◌, one-add, arith}
 use Rattle.std.specs.Prelude.{◌&&◌, set}
 use Rattle.std.specs.Cmp.{tied_then}
 use Rattle.std.specs.Cmp.Lexicographic.{bytes_decides, slice_cmp, texts_ties}
-use Rattle.std.specs.List.{AllByRecursion, filter, position, position_or_len, remove}
-use Rattle.std.specs.Ordering.{eq_by_cmp, nat_cmp}
+use Rattle.std.specs.List.{AllByRecursion, filter, position, position_or_len}
+use Rattle.std.specs.Ordering.{eq_by_cmp, is_gt, is_lt, nat_cmp}
 use Rattle.std.proofs.lemmas.Bool.{ltb-false, ltb-true}
 use Rattle.bstr.specs.Owned.{bstring_bytes}
 use Rattle.gixobj_tree.specs.Entries.{EntryView}
@@ -16,24 +16,22 @@ use Rattle.gixobj_hash.specs.declared.hash.object_id.ObjectId.{ObjectId}
 use Rattle.gixobj_files.specs.Editing.{has_tree, same_name, with_entry, without}
 use Rattle.gixobj_files.specs.Edits.{with_directory}
 use Rattle.gixobj_files.specs.Files.{Path}
-use Rattle.gixobj_directories.specs.Nested.{IsLevel, Level, Opened, Part, at_side, base_side, bases_in, bases_of, below, dirs_of, entries_side, in_part, is_part_before, opened, other_parts, part, part_at, part_key, parts, under, with_part}
+use Rattle.gixobj_directories.specs.Nested.{IsLevel, Level, Opened, Part, at_side, base_side, bases_in, bases_of, below, called, dirs_of, entries_side, in_part, opened, other_parts, part, part_at, part_key, parts, under, with_part}
 use Rattle.gixobj_files.specs.Opening.{Dirs}
 use Rattle.gixobj_directories.specs.declared.open.Child.{Child}
 use Rattle.gixobj_files.proofs.Formed.{is_well_formed_with_entry, is_well_formed_without}
 use Rattle.gixobj_files.proofs.HasTrees.{is_well_formed_with_directory, has_tree_with_other_directory, has_tree_without_other, has_tree_with_entry, has_tree_with_directory}
-use Rattle.gixobj_files.proofs.Namesakes.{PassOnce, first_removed, none_passes}
-use Rattle.gixobj_files.proofs.Sublists.{all_weaker, later_kept}
+use Rattle.gixobj_sorted.proofs.Sublists.{all_pass, all_weaker, later_kept}
+use Rattle.gixobj_sorted.specs.Pieces.{is_after, is_before}
+use Rattle.gixobj_tree.proofs.WellFormed.{eq_of_slice_cmp_equal}
 use Rattle.gixobj_files.proofs.OpenedFiles.{same_name_refl, same_name_false, name_eq_or_ne}
-use Rattle.gixobj_directories.proofs.Ordered.{all_with_part, are_ordered_with_part}
+use Rattle.gixobj_directories.proofs.Ordered.{all_with_part, are_ordered_with_part, name_of_key_unique}
 
 abbrev pub tied : Path → Path → Bool
 tied = eq_by_cmp (slice_cmp (slice_cmp nat_cmp))
 
 pub tied_cons : (x y : List ℕ) (p q : Path) → tied (x ∷ p) (y ∷ q) ≡ same_name x y && tied p q
 tied_cons x y p q = sym (tied_then (slice_cmp nat_cmp x y) (slice_cmp (slice_cmp nat_cmp) p q)) ∙ ap (λ b. b && tied p q) (sym (texts_ties x y))
-
-abbrev pub called : List ℕ → Child → Bool
-called name child = same_name (bstring_bytes child.name) name
 
 pub true_of_cond_some : (b : Bool) (k i : ℕ) → Some i ≡ cond b (Some k) None → (b ≡ true) × (k ≡ i)
 true_of_cond_some true k i e = (refl, cc)
@@ -59,6 +57,16 @@ not_same_name_of_both x y first differ p q = true≢false (sym ((bytes_decides x
 -- the directory of one name is replaced or removed; those of other names are unchanged
 pub record BecomesBy (side : Level → List EntryView) (name : List ℕ) (next : Dirs) (old new : List Part) : Type 0 where
   pub says : (first : List ℕ) (path : Path) → part_at side first new path ≡ cond (same_name name first) (next path) (part_at side first old path)
+
+-- the child of a name is at this position
+pub record IsChild (name : List ℕ) (cs : List Child) (i : ℕ) (child : Child) : Type 0 where
+  pub found : Some i ≡ position (called name) cs
+  pub is : child ≡ get_or cs i child
+
+-- a child is replaced by another of its name
+pub record IsChanged (cs new : List Child) (i : ℕ) (child next : Child) : Type 0 where
+  pub named : bstring_bytes next.name ≡ bstring_bytes child.name
+  pub changed : new ≡ set cs i next
 
 -- for either list of the open directories
 module _ (side : Level → List EntryView) where
@@ -107,14 +115,13 @@ module _ (side : Level → List EntryView) where
       ] low
 
   -- the child at the position that the search returned is that of the name
-  pub found_by : (name : List ℕ) (cs l : List Child) (i : ℕ) (child : Child) → l ≡ cs → Some i ≡ position (called name) l → child ≡ get_or cs i child
-      → (path : Path) → part_at side name (parts cs) path ≡ at_side side child.open path
-  found_by name cs l i child same found_at is path =
-      let at : Some i ≡ position (called name) cs = subst (λ (m : List Child). Some i ≡ position (called name) m) same found_at in
+  pub found_by : {name : List ℕ} {cs : List Child} {i : ℕ} {child : Child} → IsChild name cs i child → (path : Path)
+      → part_at side name (parts cs) path ≡ at_side side child.open path
+  found_by {name} {cs} {i} {child} here path =
       let place : ℕ = position_or_len (called name) cs in
-      let chose = true_of_cond_some (nat_lt place (length cs)) place i at in
+      let chose = true_of_cond_some (nat_lt place (length cs)) place i here.found in
       found_first name cs child path (ltb-true _ _ chose.0) ∙ ap (λ (c : Child). at_side side c.open path)
-      (ap (λ k. get_or cs k child) chose.1 ∙ sym is)
+      (ap (λ k. get_or cs k child) chose.1 ∙ sym here.is)
 
   none_first : (name : List ℕ) (cs : List Child) (path : Path) → length cs ≤ position_or_len (called name) cs
       → part_at side name (parts cs) path ≡ None
@@ -126,11 +133,10 @@ module _ (side : Level → List EntryView) where
         | false ↦ λ l. none_first name cs path (omega (arith, l))
       ] high
 
-  pub not_found_by : (name : List ℕ) (cs l : List Child) → l ≡ cs → None ≡ position (called name) l → (path : Path)
+  pub not_found_by : (name : List ℕ) (cs : List Child) → None ≡ position (called name) cs → (path : Path)
       → part_at side name (parts cs) path ≡ None
-  not_found_by name cs l same found_at path =
-      let at : None ≡ position (called name) cs = subst (λ (m : List Child). None ≡ position (called name) m) same found_at in
-      none_first name cs path (ltb-false _ _ (false_of_cond_none (nat_lt (position_or_len (called name) cs) (length cs)) _ at))
+  not_found_by name cs found_at path =
+      none_first name cs path (ltb-false _ _ (false_of_cond_none (nat_lt (position_or_len (called name) cs) (length cs)) _ found_at))
 
   -- the open directories of a level, by its list of parts
   pub level_at_by : (ds : Opened) (es base : List EntryView) (ps : List Part) → opened es base ps ≡ ds → EachLater (λ x y. x.0 ≢ y.0) ps
@@ -156,19 +162,17 @@ module _ (side : Level → List EntryView) where
             (not_same_name_of_both (bstring_bytes c.name) name first is))
       ] refl low named
 
-  pub set_becomes_by : (name : List ℕ) (cs l : List Child) (i : ℕ) (child next : Child) → l ≡ cs → Some i ≡ position (called name) l
-      → child ≡ get_or cs i child
-      → bstring_bytes next.name ≡ bstring_bytes child.name
-      → BecomesBy side name (at_side side next.open) (parts cs) (parts (set cs i next))
-  set_becomes_by name cs l i child next same found_at is named =
-      let at : Some i ≡ position (called name) cs = subst (λ (m : List Child). Some i ≡ position (called name) m) same found_at in
+  pub set_becomes_by : {name : List ℕ} {cs new : List Child} {i : ℕ} {child next : Child} → IsChild name cs i child → IsChanged cs new i child next
+      → BecomesBy side name (at_side side next.open) (parts cs) (parts new)
+  set_becomes_by {name} {cs} {new} {i} {child} {next} here now =
       let place : ℕ = position_or_len (called name) cs in
-      let chose = true_of_cond_some (nat_lt place (length cs)) place i at in
+      let chose = true_of_cond_some (nat_lt place (length cs)) place i here.found in
       record {
-        says = λ first path. subst (λ k. part_at side first (parts (set cs k next)) path ≡ cond (same_name name first) (at_side side next.open path)
+        says = λ first path. ap (λ (l : List Child). part_at side first (parts l) path) now.changed
+            ∙ subst (λ k. part_at side first (parts (set cs k next)) path ≡ cond (same_name name first) (at_side side next.open path)
             (part_at side first (parts cs) path)) chose.1
             (set_first name cs child next first path (ltb-true _ _ chose.0)
-            (named ∙ ap (λ (c : Child). bstring_bytes c.name) (is ∙ ap (λ k. get_or cs k child) (sym chose.1))));
+            (now.named ∙ ap (λ (c : Child). bstring_bytes c.name) (here.is ∙ ap (λ k. get_or cs k child) (sym chose.1))));
       }
 
   others_first : (name : List ℕ) (ps : List Part) (first : List ℕ) (path : Path) → part_at side first (other_parts name ps) path ≡ cond
@@ -191,17 +195,40 @@ module _ (side : Level → List EntryView) where
   pub others_becomes_by : (name : List ℕ) (ps : List Part) → BecomesBy side name (λ _. None) ps (other_parts name ps)
   others_becomes_by name ps = record { says = λ first path. others_first name ps first path }
 
+  -- a directory before which none has its name can be searched first
+  part_at_swap : (first : List ℕ) (p q : Part) (xs ys : List Part) (path : Path) → p.0 ≢ q.0 → AllByRecursion (λ r. r.0 ≢ q.0) xs
+      → part_at side first (xs ++ p ∷ q ∷ ys) path ≡ cond (same_name q.0 first) (at_side side q.1 path) (part_at side first (xs ++ p ∷ ys) path)
+  part_at_swap first p q [] ys path differ others =
+      cond_swap_of_disjoint (same_name p.0 first) (same_name q.0 first) _ _ _ (not_same_name_of_both p.0 q.0 first (same_name_false p.0 q.0 differ))
+  part_at_swap first p q (r ∷ xs) ys path differ others =
+      ap (λ o. cond (same_name r.0 first) (at_side side r.1 path) o) (part_at_swap first p q xs ys path differ others.1)
+      ∙ cond_swap_of_disjoint (same_name r.0 first) (same_name q.0 first) _ _ _ (not_same_name_of_both r.0 q.0 first (same_name_false r.0 q.0 others.0))
+
+  -- what comes before a key doesn't have the name of what comes after it
+  names_before_differ : (k : List ℕ) (q : Part) (ps : List Part) → slice_cmp nat_cmp (part_key q) k ≡ Greater
+      → AllByRecursion (λ r. r.0 ≢ q.0) (filter (is_before part_key k) ps)
+  names_before_differ k q ps after = all_weaker (λ (r : Part). is_before part_key k r ≡ true) (λ (r : Part). r.0 ≢ q.0)
+      (λ r before same. true≢false (sym before ∙ ap (λ (n : List ℕ). is_lt (slice_cmp nat_cmp (key_of n true) k)) same ∙ ap is_lt after))
+      (filter (is_before part_key k) ps) (all_pass (is_before part_key k) ps)
+
   with_first : (name : List ℕ) (ds : Opened) (ps : List Part) → AllByRecursion (λ p. p.0 ≢ name) ps → (first : List ℕ) (path : Path)
       → part_at side first (with_part (name, ds) ps) path ≡ cond (same_name name first) (at_side side ds path) (part_at side first ps path)
   with_first name ds [] others first path = refl
-  with_first name ds (p ∷ ps) others first path =
-      elim (is_part_before p (name, ds)) as (λ b. part_at side first (cond b (p ∷ with_part (name, ds) ps) ((name, ds) ∷ p ∷ ps)) path ≡ cond
-      (same_name name first) (at_side side ds path) (cond (same_name p.0 first) (at_side side p.1 path) (part_at side first ps path))) [
-        | true ↦ rw (with_first name ds ps others.1 first path)
-            (cond_swap_of_disjoint (same_name p.0 first) (same_name name first) _ _ _
-            (not_same_name_of_both p.0 name first (same_name_false p.0 name others.0)))
-        | false ↦ refl
-      ]
+  with_first name ds (q ∷ ps) others first path =
+      let k : List ℕ = key_of name true in
+      let lower : List Part = filter (is_before part_key k) ps in
+      let upper : List Part = filter (is_after part_key k) ps in
+      let rest = with_first name ds ps others.1 first path in
+      let swap = cond_swap_of_disjoint (same_name q.0 first) (same_name name first) (at_side side q.1 path) (at_side side ds path)
+      (part_at side first ps path) (not_same_name_of_both q.0 name first (same_name_false q.0 name others.0)) in
+      let step = ap (λ o. cond (same_name q.0 first) (at_side side q.1 path) o) rest ∙ swap in
+      elim (slice_cmp nat_cmp (part_key q) k) as (λ o. slice_cmp nat_cmp (part_key q) k ≡ o
+      → part_at side first (cond (is_lt o) (q ∷ lower) lower ++ (name, ds) ∷ cond (is_gt o) (q ∷ upper) upper) path ≡ cond
+      (same_name name first) (at_side side ds path) (cond (same_name q.0 first) (at_side side q.1 path) (part_at side first ps path))) [
+        | Less ↦ λ is. step
+        | Equal ↦ λ is. absurd (others.0 (name_of_key_unique q.0 name (eq_of_slice_cmp_equal (part_key q) k is)))
+        | Greater ↦ λ is. part_at_swap first (name, ds) q lower upper path (λ same. others.0 (sym same)) (names_before_differ k q ps is) ∙ step
+      ] refl
 
   pub with_becomes_by : (name : List ℕ) (ds : Opened) (ps : List Part) → AllByRecursion (λ p. p.0 ≢ name) ps
       → BecomesBy side name (at_side side ds) ps (with_part (name, ds) ps)
@@ -220,12 +247,11 @@ pub dirs_of_opened_cons : (es base : List EntryView) (ps : List Part) (name : Li
 dirs_of_opened_cons = at_name_by entries_side
 
 -- the child at the position that the search returned is that of the name
-pub in_part_of_child : (name : List ℕ) (cs l : List Child) (i : ℕ) (child : Child) → l ≡ cs → Some i ≡ position (called name) l → child ≡ get_or cs i child
-    → (path : Path)
+pub in_part_of_child : {name : List ℕ} {cs : List Child} {i : ℕ} {child : Child} → IsChild name cs i child → (path : Path)
     → in_part name (parts cs) path ≡ dirs_of child.open path
-in_part_of_child = found_by entries_side
+in_part_of_child here = found_by entries_side here
 
-pub in_part_none : (name : List ℕ) (cs l : List Child) → l ≡ cs → None ≡ position (called name) l → (path : Path) → in_part name (parts cs) path ≡ None
+pub in_part_none : (name : List ℕ) (cs : List Child) → None ≡ position (called name) cs → (path : Path) → in_part name (parts cs) path ≡ None
 in_part_none = not_found_by entries_side
 
 -- the open directories of a level, by its list of parts
@@ -244,11 +270,9 @@ bases_of_cons ds es {base} ps is = level_at_by base_side ds es base ps is
 pub bases_of_nil : (ds : Opened) (es : List EntryView) {base : List EntryView} (ps : List Part) → opened es base ps ≡ ds → bases_of ds [] ≡ Some base
 bases_of_nil ds es {base} ps is = subst (λ (d : Opened). bases_of d [] ≡ Some base) is refl
 
-pub becomes_of_set : (name : List ℕ) (cs l : List Child) (i : ℕ) (child next : Child) → l ≡ cs → Some i ≡ position (called name) l
-    → child ≡ get_or cs i child
-    → bstring_bytes next.name ≡ bstring_bytes child.name
-    → Becomes name (dirs_of next.open) (parts cs) (parts (set cs i next))
-becomes_of_set = set_becomes_by entries_side
+pub becomes_of_set : {name : List ℕ} {cs new : List Child} {i : ℕ} {child next : Child} → IsChild name cs i child → IsChanged cs new i child next
+    → Becomes name (dirs_of next.open) (parts cs) (parts new)
+becomes_of_set here now = set_becomes_by entries_side here now
 
 pub becomes_of_removal : (name : List ℕ) (ps : List Part) → Becomes name (λ _. None) ps (other_parts name ps)
 becomes_of_removal = others_becomes_by entries_side
@@ -274,15 +298,15 @@ each_later_parts_set R (c ∷ cs) (suc i) next h named = (
       named,
 )
 
-pub is_level_set : (es : List EntryView) (cs : List Child) (i : ℕ) (child next : Child) → child ≡ get_or cs i child
-    → bstring_bytes next.name ≡ bstring_bytes child.name → IsLevel es (parts cs) → IsLevel es (parts (set cs i next))
-is_level_set es cs i child next is named level =
-    let own : bstring_bytes next.name ≡ bstring_bytes (get_or cs i next).name = own_name cs i child next is named in
-    record {
+pub is_level_set : {name : List ℕ} {es : List EntryView} {cs new : List Child} {i : ℕ} {child next : Child} → IsChild name cs i child
+    → IsChanged cs new i child next → IsLevel es (parts cs) → IsLevel es (parts new)
+is_level_set {name} {es} {cs} {new} {i} {child} {next} here now level =
+    let own : bstring_bytes next.name ≡ bstring_bytes (get_or cs i next).name = own_name cs i child next here.is now.named in
+    subst (λ (l : List Child). IsLevel es (parts l)) (sym now.changed) (record {
       formed = level.formed;
       ordered = each_later_parts_set (λ x y. slice_cmp nat_cmp (key_of x true) (key_of y true) ≡ Less) cs i next level.ordered own;
       above = all_parts_set (λ n. has_tree n es ≡ true) cs i next level.above own;
-    }
+    })
   where
     own_name : (cs : List Child) (i : ℕ) (child next : Child) → child ≡ get_or cs i child → bstring_bytes next.name ≡ bstring_bytes child.name
         → bstring_bytes next.name ≡ bstring_bytes (get_or cs i next).name
@@ -296,50 +320,10 @@ parts_set_same [] i child next is same = refl
 parts_set_same (c ∷ cs) zero child next is same = ap (λ p. p ∷ parts cs) (same ∙ ap part is)
 parts_set_same (c ∷ cs) (suc i) child next is same = ap (λ ps. part c ∷ ps) (parts_set_same cs i child next is same)
 
--- the children of other names are the parts of other names
-pub parts_filter_other : (name : List ℕ) (cs : List Child) → parts (filter (λ c. not (called name c)) cs) ≡ other_parts name (parts cs)
-parts_filter_other name [] = refl
-parts_filter_other name (c ∷ cs) =
-    elim (called name c) as (λ b. parts (cond (not b) (c ∷ filter (λ d. not (called name d)) cs) (filter (λ d. not (called name d)) cs)) ≡ cond
-    (not b)
-    (part c ∷ other_parts name (parts cs)) (other_parts name (parts cs))) [
-      | true ↦ parts_filter_other name cs
-      | false ↦ ap (λ ps. part c ∷ ps) (parts_filter_other name cs)
-    ]
-
-pass_once_of_names_differ : (name : List ℕ) (cs : List Child) → EachLater (λ x y. x.0 ≢ y.0) (parts cs) → PassOnce (called name) cs
-pass_once_of_names_differ name [] h = tt
-pass_once_of_names_differ name (c ∷ cs) h = (all_differ cs h.0, pass_once_of_names_differ name cs h.1)
-  where
-    all_differ : (ds : List Child) → AllByRecursion (λ p. bstring_bytes c.name ≢ p.0) (parts ds)
-        → AllByRecursion (λ d. called name c ≡ true → called name d ≡ false) ds
-    all_differ [] k = tt
-    all_differ (d ∷ ds) k = (
-      (λ is. same_name_false (bstring_bytes d.name) name (λ q. k.0 ((bytes_decides (bstring_bytes c.name) name).0 is ∙ sym q))),
-      all_differ ds k.1,
-    )
-
-pub parts_remove : (name : List ℕ) (cs l : List Child) (i : ℕ) → l ≡ cs → Some i ≡ position (called name) l
-    → EachLater (λ x y. x.0 ≢ y.0) (parts cs)
-    → parts (remove cs i) ≡ other_parts name (parts cs)
-parts_remove name cs l i same found_at apart =
-    let at : Some i ≡ position (called name) cs = subst (λ (m : List Child). Some i ≡ position (called name) m) same found_at in
-    let place : ℕ = position_or_len (called name) cs in
-    let chose = true_of_cond_some (nat_lt place (length cs)) place i at in
-    ap (λ k. parts (remove cs k)) (sym chose.1) ∙ ap parts (first_removed (called name) cs (pass_once_of_names_differ name cs apart) (ltb-true _ _ chose.0))
-    ∙ parts_filter_other name cs
-
-pub other_parts_of_absent : (name : List ℕ) (cs l : List Child) → l ≡ cs → None ≡ position (called name) l → parts cs ≡ other_parts name (parts cs)
-other_parts_of_absent name cs l same found_at =
-    let at : None ≡ position (called name) cs = subst (λ (m : List Child). None ≡ position (called name) m) same found_at in
-    sym (ap parts (none_passes (called name) cs (ltb-false _ _ (false_of_cond_none (nat_lt (position_or_len (called name) cs) (length cs)) _ at))))
-    ∙ parts_filter_other name cs
-
 -- if the search finds no child, no directory has the name
-pub all_names_differ : (name : List ℕ) (cs l : List Child) → l ≡ cs → None ≡ position (called name) l → AllByRecursion (λ p. p.0 ≢ name) (parts cs)
-all_names_differ name cs l same found_at =
-    let at : None ≡ position (called name) cs = subst (λ (m : List Child). None ≡ position (called name) m) same found_at in
-    each cs (ltb-false _ _ (false_of_cond_none (nat_lt (position_or_len (called name) cs) (length cs)) _ at))
+pub all_names_differ : (name : List ℕ) (cs : List Child) → None ≡ position (called name) cs → AllByRecursion (λ p. p.0 ≢ name) (parts cs)
+all_names_differ name cs found_at =
+    each cs (ltb-false _ _ (false_of_cond_none (nat_lt (position_or_len (called name) cs) (length cs)) _ found_at))
   where
     each : (ds : List Child) → length ds ≤ position_or_len (called name) ds → AllByRecursion (λ p. p.0 ≢ name) (parts ds)
     each [] high = tt
@@ -376,10 +360,10 @@ is_level_without name es ps level = record {
 }
 
 pub is_level_with_directory : (name : List ℕ) (null : ObjectId) (ds : Opened) (es : List EntryView) (ps : List Part) → IsEntryName name
-    → AllByRecursion (λ p. p.0 ≢ name) ps → IsLevel es ps → IsLevel (with_directory name null es) (with_part (name, ds) ps)
-is_level_with_directory name null ds es ps is_name others level = record {
+    → IsLevel es ps → IsLevel (with_directory name null es) (with_part (name, ds) ps)
+is_level_with_directory name null ds es ps is_name level = record {
   formed = is_well_formed_with_directory name null es level.formed is_name;
-  ordered = are_ordered_with_part (name, ds) ps others level.ordered;
+  ordered = are_ordered_with_part (name, ds) ps level.ordered;
   above = all_with_part (λ (p : Part). has_tree p.0 (with_directory name null es) ≡ true) (name, ds) ps (has_tree_with_directory name null es)
       (all_weaker (λ (p : Part). has_tree p.0 es ≡ true) (λ (p : Part). has_tree p.0 (with_directory name null es) ≡ true)
       (λ p h. has_tree_with_other_directory p.0 name null es h) ps level.above);
@@ -396,18 +380,17 @@ has_tree_of_position es name (c ∷ cs) low above =
       | false ↦ λ is l. has_tree_of_position es name cs (omega (arith, l)) above.1
     ] refl low
 
-pub child_has_tree : (es : List EntryView) (name : List ℕ) (cs l : List Child) (i : ℕ) → l ≡ cs → Some i ≡ position (called name) l
+pub child_has_tree : (es : List EntryView) {name : List ℕ} {cs : List Child} {i : ℕ} {child : Child} → IsChild name cs i child
     → AllByRecursion (λ p. has_tree p.0 es ≡ true) (parts cs) → has_tree name es ≡ true
-child_has_tree es name cs l i same found_at above =
-    let at : Some i ≡ position (called name) cs = subst (λ (m : List Child). Some i ≡ position (called name) m) same found_at in
+child_has_tree es {name} {cs} {i} here above =
     let place : ℕ = position_or_len (called name) cs in
-    has_tree_of_position es name cs (ltb-true _ _ (true_of_cond_some (nat_lt place (length cs)) place i at).0) above
+    has_tree_of_position es name cs (ltb-true _ _ (true_of_cond_some (nat_lt place (length cs)) place i here.found).0) above
 
 -- a level remains one with a directory more, if the directory has an entry of tree mode
-pub is_level_with_part : (name : List ℕ) (ds : Opened) (es : List EntryView) (ps : List Part) → has_tree name es ≡ true → AllByRecursion (λ p. p.0 ≢ name) ps
-    → IsLevel es ps → IsLevel es (with_part (name, ds) ps)
-is_level_with_part name ds es ps tree others level = record {
+pub is_level_with_part : (name : List ℕ) (ds : Opened) (es : List EntryView) (ps : List Part) → has_tree name es ≡ true → IsLevel es ps
+    → IsLevel es (with_part (name, ds) ps)
+is_level_with_part name ds es ps tree level = record {
   formed = level.formed;
-  ordered = are_ordered_with_part (name, ds) ps others level.ordered;
+  ordered = are_ordered_with_part (name, ds) ps level.ordered;
   above = all_with_part (λ (p : Part). has_tree p.0 es ≡ true) (name, ds) ps tree level.above;
 }

@@ -7,6 +7,7 @@ pub mod LookedUp
 pub mod NamedTrees
 pub mod OpeningSteps
 pub mod Ordered
+pub mod Pieces
 pub mod Steps
 pub mod StorablePairs
 pub mod LeafTrees

@@ -1,4 +1,4 @@
--- The entry at the end of a path through directories is a file.
+-- The entry at the end of a path through directories is a file; the law `looked_up_file_exists` uses it.
 use Rattle.std.proofs.Common.{◌≡◌, ◌++◌, ◌∷◌, ◌∙◌, ℕ, List, [], ap, arith, inl, inr, length, length-append, refl, subst, sym, true, false, None, Some}
 use Rattle.std.specs.Prelude.{All, Bool, IsFalse, MatchOption, Option, if◌then◌else◌}
 use Rattle.std.proofs.lemmas.List.Elements.{All-head, All-tail}

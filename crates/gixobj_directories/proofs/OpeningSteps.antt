@@ -1,12 +1,12 @@
 -- One step of the opening of the directories on a path: for `open_along` and the other calls that take a path, and for
 -- the editor's openings.
-use Rattle.std.proofs.Common.{◌≡◌, ◌≢◌, inl, inr, ◌∙◌, ◌≤◌, ℕ, true, false, cond, List, [], ◌∷◌, ◌++◌, Option, Some, None, get_or, length, length-append, refl, sym, ap, subst, arith}
-use Rattle.std.specs.Prelude.{IfNone, set}
+use Rattle.std.proofs.Common.{◌≡◌, ◌≢◌, inl, inr, ◌∙◌, ◌≤◌, ℕ, Bool, true, false, cond, List, [], ◌∷◌, ◌++◌, Option, Some, None, length, length-append, refl, sym, ap, subst, arith}
+use Rattle.std.specs.Prelude.{◌&&◌, IfNone}
+use Rattle.std.proofs.lemmas.Bool.{and_parts}
 use Rattle.std.specs.Option.{option_copied}
 use denote.Ref.{Bor}
-use Rattle.std.specs.List.{AllByRecursion, find, position}
+use Rattle.std.specs.List.{AllByRecursion, find}
 use Rattle.std.specs.Cmp.Lexicographic.{bytes_decides}
-use Rattle.bstr.specs.Owned.{bstring_bytes}
 use Rattle.gixobj_tree.specs.Entries.{EntryView}
 use Rattle.gixobj_tree.specs.WellFormed.{EachLater, IsWellFormed}
 use Rattle.gixobj_mode.specs.Mode.{is_tree_mode}
@@ -29,52 +29,67 @@ use Rattle.gixobj_files.proofs.Counts.{raised_raised}
 use Rattle.gixobj_files.proofs.UnopenedCounts.{IsIdle}
 use Rattle.gixobj_files.proofs.StillOpenedOpenings.{is_opened_in_dir, is_opened_of_only, is_opened_with_dir}
 use Rattle.gixobj_files.proofs.HasTrees.{entry_of_has_tree, has_tree_of_entry}
-use Rattle.gixobj_directories.proofs.Levels.{dirs_of_opened_cons, called, child_has_tree, is_level_with_part, is_level_set, becomes_of_with_part, becomes_of_set}
+use Rattle.gixobj_directories.proofs.Levels.{IsChanged, IsChild, dirs_of_opened_cons, child_has_tree, is_level_with_part, is_level_set, becomes_of_with_part, becomes_of_set}
 use Rattle.gixobj_directories.proofs.Levels as levels
 use Rattle.gixobj_directories.proofs.Steps.{replaced}
 use Rattle.gixobj_directories.proofs.Ordered.{level_names_apart}
 
--- the first entry of a name is the only one of it
-pub is_entry_of_first : (name : List ℕ) (es : List EntryView) (e : EntryView) → find (λ x. same_name x.name name) es ≡ Some e
-    → EachLater (λ x y. x.name ≢ y.name) es
-    → IsEntryOf name (Some es) e
-is_entry_of_first name [] e is apart = absurd (cc is)
-is_entry_of_first name (x ∷ xs) e is apart =
-    elim (same_name x.name name) as (λ b. same_name x.name name ≡ b → cond b (Some x) (find (λ y. same_name y.name name) xs) ≡ Some e
-    → IsEntryOf name (Some (x ∷ xs)) e) [
-      | true ↦ λ called_so k. let same : x ≡ e = cc k in let named : x.name ≡ name = (bytes_decides x.name name).0 called_so in
-          (inl same, ap (λ (y : EntryView). y.name) (sym same) ∙ named, λ other h n. only_first other h n same named)
-      | false ↦ λ other_name k. let rest = is_entry_of_first name xs e k apart.1 in
-          (inr rest.0, rest.1, λ other h n. later other h n other_name rest)
+-- an entry differs in its name from those after it
+name_ne_of_later : (x : EntryView) (ys : List EntryView) (other : EntryView) → AllByRecursion (λ y. x.name ≢ y.name) ys → ContainsEntry ys other
+    → x.name ≢ other.name
+name_ne_of_later x [] other h k = absurd k
+name_ne_of_later x (y ∷ ys) other h (inl same) = λ q. h.0 (q ∙ ap (λ (z : EntryView). z.name) (sym same))
+name_ne_of_later x (y ∷ ys) other h (inr k) = name_ne_of_later x ys other h.1 k
+
+-- the entry is of tree mode, and has the name
+abbrev pub is_tree_named : List ℕ → EntryView → Bool
+is_tree_named name e = same_name e.name name && is_tree_mode e.mode
+
+-- the first entry of tree mode of a name is the only one of that name
+pub is_entry_of_first_tree : (name : List ℕ) (es : List EntryView) (e : EntryView) → find (is_tree_named name) es ≡ Some e
+    → EachLater (λ x y. x.name ≢ y.name) es → IsEntryOf name (Some es) e × (is_tree_mode e.mode ≡ true)
+is_entry_of_first_tree name [] e is apart = absurd (cc is)
+is_entry_of_first_tree name (x ∷ xs) e is apart =
+    elim (is_tree_named name x) as (λ b. is_tree_named name x ≡ b → cond b (Some x) (find (is_tree_named name) xs) ≡ Some e
+    → IsEntryOf name (Some (x ∷ xs)) e × (is_tree_mode e.mode ≡ true)) [
+      | true ↦ λ passes k.
+          let same : x ≡ e = cc k in
+          let both = and_parts _ _ passes in
+          let named : x.name ≡ name = (bytes_decides x.name name).0 both.0 in (
+            (inl same, ap (λ (y : EntryView). y.name) (sym same) ∙ named, λ other h n. only_first other h n same named),
+            ap (λ (y : EntryView). is_tree_mode y.mode) (sym same) ∙ both.1,
+          )
+      | false ↦ λ fails k.
+          let rest = is_entry_of_first_tree name xs e k apart.1 in ((inr rest.0.0, rest.0.1, λ other h n. later other h n rest.0), rest.1)
     ] refl is
   where
-    differs : (ys : List EntryView) (other : EntryView) → AllByRecursion (λ y. x.name ≢ y.name) ys → ContainsEntry ys other → x.name ≢ other.name
-    differs [] other h k = absurd k
-    differs (y ∷ ys) other h (inl same) = λ q. h.0 (q ∙ ap (λ (z : EntryView). z.name) (sym same))
-    differs (y ∷ ys) other h (inr k) = differs ys other h.1 k
-
     only_first : (other : EntryView) → ContainsEntry (x ∷ xs) other → other.name ≡ name → x ≡ e → x.name ≡ name → other ≡ e
     only_first other (inl same) n is_e named = sym same ∙ is_e
-    only_first other (inr k) n is_e named = absurd (differs xs other apart.0 k (named ∙ sym n))
+    only_first other (inr k) n is_e named = absurd (name_ne_of_later x xs other apart.0 k (named ∙ sym n))
 
-    later : (other : EntryView) → ContainsEntry (x ∷ xs) other → other.name ≡ name → same_name x.name name ≡ false → IsEntryOf name (Some xs) e → other ≡ e
-    later other (inl same) n apart_so rest =
-        absurd (let yes : same_name x.name name ≡ true = (bytes_decides x.name name).1 (ap (λ (z : EntryView). z.name) same ∙ n) in let bad : true
-        ≡ false = sym yes ∙ apart_so in cc bad)
-    later other (inr k) n apart_so rest = rest.2 other k n
+    later : (other : EntryView) → ContainsEntry (x ∷ xs) other → other.name ≡ name → IsEntryOf name (Some xs) e → other ≡ e
+    later other (inl same) n rest = absurd (name_ne_of_later x xs e apart.0 rest.0 (ap (λ (z : EntryView). z.name) same ∙ n ∙ sym rest.1))
+    later other (inr k) n rest = rest.2 other k n
 
-pub entry_name_ne : (name : List ℕ) (es : List EntryView) → find (λ x. same_name x.name name) es ≡ None → (e : EntryView) → ContainsEntry es e → e.name ≢ name
-entry_name_ne name [] is e h = absurd h
-entry_name_ne name (x ∷ xs) is e h =
-    elim (same_name x.name name) as (λ b. same_name x.name name ≡ b → cond b (Some x) (find (λ y. same_name y.name name) xs) ≡ None → e.name ≢ name) [
-      | true ↦ λ called_so k. absurd (cc k)
-      | false ↦ λ other_name k. here h other_name (λ l. entry_name_ne name xs k e l)
+second_of_false_and : (a b : Bool) → a ≡ true → (a && b) ≡ false → b ≡ false
+second_of_false_and true b holds fails = fails
+second_of_false_and false b holds fails = absurd (cc holds)
+
+-- no entry of a name is of tree mode
+pub is_tree_false_of_none : (name : List ℕ) (es : List EntryView) → find (is_tree_named name) es ≡ None → (e : EntryView) → ContainsEntry es e
+    → e.name ≡ name → is_tree_mode e.mode ≡ false
+is_tree_false_of_none name [] is e h named = absurd h
+is_tree_false_of_none name (x ∷ xs) is e h named =
+    elim (is_tree_named name x) as (λ b. is_tree_named name x ≡ b → cond b (Some x) (find (is_tree_named name) xs) ≡ None → is_tree_mode e.mode ≡ false) [
+      | true ↦ λ passes k. absurd (cc k)
+      | false ↦ λ fails k. here h fails (λ l. is_tree_false_of_none name xs k e l named)
     ] refl is
   where
-    here : ContainsEntry (x ∷ xs) e → same_name x.name name ≡ false → (ContainsEntry xs e → e.name ≢ name) → e.name ≢ name
-    here (inl same) apart_so k = λ q. let yes : same_name x.name name ≡ true =
-        (bytes_decides x.name name).1 (ap (λ (z : EntryView). z.name) same ∙ q) in let bad : true ≡ false = sym yes ∙ apart_so in cc bad
-    here (inr l) apart_so k = k l
+    here : ContainsEntry (x ∷ xs) e → is_tree_named name x ≡ false → (ContainsEntry xs e → is_tree_mode e.mode ≡ false) → is_tree_mode e.mode ≡ false
+    here (inl same) fails k = ap (λ (y : EntryView). is_tree_mode y.mode) (sym same)
+        ∙ second_of_false_and (same_name x.name name) (is_tree_mode x.mode)
+        ((bytes_decides x.name name).1 (ap (λ (y : EntryView). y.name) same ∙ named)) fails
+    here (inr l) fails k = k l
 
 pub counted_append : (n : ℕ) (first looked_up : List ObjectId) → counted (counted n first) looked_up ≡ counted n (first ++ looked_up)
 counted_append n first looked_up =
@@ -118,21 +133,20 @@ opens_stopped_at_child trees es ps level name rest none other = stops name rest 
 
 module _ (Fits : EntryView → List EntryView → List ObjectId → Type 0) (R : Path → Dirs → Dirs → List ObjectId → Type 0) (goes_down : GoesDown R)
     (goes_in : GoesIn Fits R) (es : List EntryView) where
-  pub down_step : (cs l : List Child) → IsLevel es (parts cs) → (name : List ℕ) (rest : Path) (i : ℕ) (child next : Child) → l ≡ cs
-      → Some i ≡ position (called name) l → child ≡ get_or cs i child → bstring_bytes next.name ≡ bstring_bytes child.name
-      → (entries : List EntryView) → dirs_of child.open [] ≡ Some entries → (looked_up : List ObjectId)
+  pub down_step : {cs new : List Child} {name : List ℕ} {i : ℕ} {child next : Child} → IsChild name cs i child → IsChanged cs new i child next
+      → IsLevel es (parts cs) → (rest : Path) (entries : List EntryView) → dirs_of child.open [] ≡ Some entries → (looked_up : List ObjectId)
       → R rest (dirs_of child.open) (dirs_of next.open) looked_up
-      → R (name ∷ rest) (dirs_of (opened es [] (parts cs))) (dirs_of (opened es [] (parts (set cs i next)))) looked_up
-  down_step cs l level name rest i child next same at is named entries root looked_up opens =
+      → R (name ∷ rest) (dirs_of (opened es [] (parts cs))) (dirs_of (opened es [] (parts new))) looked_up
+  down_step {cs} {new} {name} {i} {child} {next} here now level rest entries root looked_up opens =
       let old : Dirs = dirs_of (opened es [] (parts cs)) in
-      let e = entry_of_has_tree name es (child_has_tree es name cs l i same at level.above) in
+      let e = entry_of_has_tree name es (child_has_tree es here level.above) in
       let inside : in_dir name old ≡ dirs_of child.open =
-      λ j path. (dirs_of_opened_cons es [] (parts cs) name path (level_names_apart level) ∙ levels.in_part_of_child name cs l i child same at is path) j in
-      let new_is : dirs_of (opened es [] (parts (set cs i next))) ≡ with_dir name (dirs_of next.open) old =
+      λ j path. (dirs_of_opened_cons es [] (parts cs) name path (level_names_apart level) ∙ levels.in_part_of_child here path) j in
+      let new_is : dirs_of (opened es [] (parts new)) ≡ with_dir name (dirs_of next.open) old =
       λ j path. replaced (opened es [] (parts cs)) es es
-      (parts cs) (parts (set cs i next)) refl (level_names_apart level) (level_names_apart (is_level_set es cs i child next is named level)) name
+      (parts cs) (parts new) refl (level_names_apart level) (level_names_apart (is_level_set here now level)) name
       (dirs_of next.open)
-      (becomes_of_set name cs l i child next same at is named) refl path j in
+      (becomes_of_set here now) refl path j in
       subst (λ (d : Dirs). R (name ∷ rest) old d looked_up) (sym new_is)
       (goes_down name rest old (dirs_of next.open) e.0 entries looked_up e.1 e.2 (ap (λ (d : Dirs). d []) inside ∙ root)
       (subst (λ (d : Dirs). R rest d (dirs_of next.open) looked_up) (sym inside) opens))
@@ -144,7 +158,7 @@ module _ (Fits : EntryView → List EntryView → List ObjectId → Type 0) (R :
       → R (name ∷ rest) (dirs_of (opened es [] ps)) (dirs_of (opened es [] (with_part (name, inner) ps))) (first ++ looked_up)
   found_step ps level name rest others none e entry tree entries first looked_up finds inner opens =
       let old : Dirs = dirs_of (opened es [] ps) in
-      let more = is_level_with_part name inner es ps (has_tree_of_entry name es e entry.0 entry.1 tree) others level in
+      let more = is_level_with_part name inner es ps (has_tree_of_entry name es e entry.0 entry.1 tree) level in
       let new_is : dirs_of (opened es [] (with_part (name, inner) ps)) ≡ with_dir name (dirs_of inner) old =
       λ j path. replaced (opened es [] ps) es es ps
       (with_part (name, inner) ps) refl (level_names_apart level) (level_names_apart more) name (dirs_of inner)
@@ -177,16 +191,14 @@ opens_stopped_here {StopsBefore = StopsBefore} trees es ds path name rest path_i
 -- the steps for an entire level, and a path that is known by its parts
 module _ (Fits : EntryView → List EntryView → List ObjectId → Type 0) (R : Path → Dirs → Dirs → List ObjectId → Type 0) (goes_down : GoesDown R)
     (goes_in : GoesIn Fits R) (es : List EntryView) (ds : Opened) (path : Path) (name : List ℕ) (rest : Path) (path_is : path ≡ name ∷ rest) where
-  pub down_in : (cs l : List Child) {base : List EntryView} → opened es base (parts cs) ≡ ds → IsLevel es (parts cs) → (i : ℕ) (child next : Child)
-      → l ≡ cs
-      → Some i ≡ position (called name) l → child ≡ get_or cs i child → bstring_bytes next.name ≡ bstring_bytes child.name
-      → (entries : List EntryView) → dirs_of child.open [] ≡ Some entries → (looked_up : List ObjectId)
-      → R rest (dirs_of child.open) (dirs_of next.open) looked_up
-      → R path (dirs_of ds) (dirs_of (opened es [] (parts (set cs i next)))) looked_up
-  down_in cs l view level i child next same at is named entries root looked_up opens =
-      subst (λ p. R p (dirs_of ds) (dirs_of (opened es [] (parts (set cs i next)))) looked_up) (sym path_is)
-      (subst (λ (d : Opened). R (name ∷ rest) (dirs_of d) (dirs_of (opened es [] (parts (set cs i next)))) looked_up) view
-      (down_step Fits R goes_down goes_in es cs l level name rest i child next same at is named entries root looked_up opens))
+  pub down_in : {cs new : List Child} {base : List EntryView} {i : ℕ} {child next : Child} → IsChild name cs i child → IsChanged cs new i child next
+      → opened es base (parts cs) ≡ ds → IsLevel es (parts cs) → (entries : List EntryView) → dirs_of child.open [] ≡ Some entries
+      → (looked_up : List ObjectId) → R rest (dirs_of child.open) (dirs_of next.open) looked_up
+      → R path (dirs_of ds) (dirs_of (opened es [] (parts new))) looked_up
+  down_in {new = new} here now view level entries root looked_up opens =
+      subst (λ p. R p (dirs_of ds) (dirs_of (opened es [] (parts new))) looked_up) (sym path_is)
+      (subst (λ (d : Opened). R (name ∷ rest) (dirs_of d) (dirs_of (opened es [] (parts new))) looked_up) view
+      (down_step Fits R goes_down goes_in es here now level rest entries root looked_up opens))
 
   pub found_in : (cs : List Child) {base : List EntryView} → opened es base (parts cs) ≡ ds → IsLevel es (parts cs)
       → AllByRecursion (λ p. p.0 ≢ name) (parts cs) → ((at : Path) → in_part name (parts cs) at ≡ None) → (e : EntryView) → IsEntryOf name (Some es) e
@@ -200,12 +212,11 @@ module _ (Fits : EntryView → List EntryView → List ObjectId → Type 0) (R :
       (subst (λ (d : Opened). R (name ∷ rest) (dirs_of d) (dirs_of (opened es [] (with_part (name, inner) (parts cs)))) (first ++ looked_up)) view
       (found_step Fits R goes_down goes_in es (parts cs) level name rest others none e entry tree entries first looked_up finds inner opens)))
 
-pub is_level_of_new_child : (name : List ℕ) (es : List EntryView) (cs : List Child) → IsLevel es (parts cs) → AllByRecursion (λ p. p.0 ≢ name) (parts cs)
-    → (e : EntryView)
+pub is_level_of_new_child : (name : List ℕ) (es : List EntryView) (cs : List Child) → IsLevel es (parts cs) → (e : EntryView)
     → IsEntryOf name (Some es) e → is_tree_mode e.mode ≡ true → (inner : Opened) (new : List Child) → parts new ≡ with_part (name, inner) (parts cs)
     → IsLevel es (parts new)
-is_level_of_new_child name es cs level others e entry tree inner new is =
-    subst (IsLevel es) (sym is) (is_level_with_part name inner es (parts cs) (has_tree_of_entry name es e entry.0 entry.1 tree) others level)
+is_level_of_new_child name es cs level e entry tree inner new is =
+    subst (IsLevel es) (sym is) (is_level_with_part name inner es (parts cs) (has_tree_of_entry name es e entry.0 entry.1 tree) level)
 
 pub names_of_nil : (path : List BString) → length path ≡ 0 → names_of path ≡ []
 names_of_nil [] h = refl

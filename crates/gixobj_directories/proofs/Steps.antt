@@ -1,6 +1,6 @@
 -- The open directories after an edit of one level: for the functions of `open`, and for openings.
 use mathlib.Core.Bool.{true≢false}
-use Rattle.std.proofs.Common.{◌≡◌, ◌≢◌, ◌∙◌, ◌++◌, ℕ, true, false, cond, get_or, List, [], ◌∷◌, Option, Some, None, length, refl, sym, ap, arith}
+use Rattle.std.proofs.Common.{◌≡◌, ◌≢◌, ◌∙◌, ◌++◌, ℕ, true, false, cond, List, [], ◌∷◌, Option, Some, None, length, refl, sym, ap, arith}
 use Rattle.std.specs.Prelude.{◌==◌, IfNone}
 use Rattle.std.specs.List.{position}
 use Rattle.std.proofs.lemmas.Bool.{eqb-true}
@@ -15,10 +15,10 @@ use Rattle.gixobj_directories.specs.Calls.{names_of}
 use Rattle.gixobj_files.specs.Editing.{same_name, with_entry, without}
 use Rattle.gixobj_files.specs.Edits.{ensured_dirs, entry_at, or_empty, removed_dirs, upserted_dirs, with_dir, with_directory, with_path}
 use Rattle.gixobj_files.specs.Files.{Path}
-use Rattle.gixobj_directories.specs.Nested.{Opened, Part, base_side, bases_of, dirs_of, in_part, opened, parts}
+use Rattle.gixobj_directories.specs.Nested.{Opened, Part, base_side, bases_of, called, dirs_of, in_part, opened, parts}
 use Rattle.gixobj_files.specs.Opening.{Dirs, in_dir}
 use Rattle.gixobj_directories.specs.declared.open.Child.{Child}
-use Rattle.gixobj_directories.proofs.Levels.{Becomes, dirs_of_opened_cons, bases_of_cons, called, in_part_of_child, found_by, dirs_of_cons, dirs_of_nil, in_part_none}
+use Rattle.gixobj_directories.proofs.Levels.{Becomes, IsChild, dirs_of_opened_cons, bases_of_cons, in_part_of_child, found_by, dirs_of_cons, dirs_of_nil, in_part_none}
 use Rattle.gixobj_files.proofs.RemovedFiles.{removed_dirs_of_none}
 
 -- a path of one name, and one of more
@@ -148,26 +148,23 @@ ensured_dirs_of_new (name ∷ rest) null [] = refl
 ensured_dirs_of_new (name ∷ rest) null (first ∷ at) = refl
 
 -- what is open at and below a path, after a search for its first name
-module _ (old : Opened) (es : List EntryView) (cs l : List Child) {base : List EntryView} (view : opened es base (parts cs) ≡ old)
-    (apart : EachLater (λ x y. x.0 ≢ y.0) (parts cs)) (path : Path) (name : List ℕ) (rest : Path) (path_is : path ≡ name ∷ rest) (same : l ≡ cs) where
-  pub path_down : (i : ℕ) (child : Child) → Some i ≡ position (called name) l → child ≡ get_or cs i child → (at : Path)
-      → dirs_of old (path ++ at) ≡ dirs_of child.open (rest ++ at)
-  path_down i child found_at is at =
-      rw path_is (dirs_of_cons old es (parts cs) view apart name (rest ++ at) ∙ in_part_of_child name cs l i child same found_at is (rest ++ at))
+module _ (old : Opened) (es : List EntryView) (cs : List Child) {base : List EntryView} (view : opened es base (parts cs) ≡ old)
+    (apart : EachLater (λ x y. x.0 ≢ y.0) (parts cs)) (path : Path) {name : List ℕ} (rest : Path) (path_is : path ≡ name ∷ rest) where
+  module _ {i : ℕ} {child : Child} (here : IsChild name cs i child) where
+    pub path_down : (at : Path) → dirs_of old (path ++ at) ≡ dirs_of child.open (rest ++ at)
+    path_down at = rw path_is (dirs_of_cons old es (parts cs) view apart name (rest ++ at) ∙ in_part_of_child here (rest ++ at))
 
-  pub path_based : (i : ℕ) (child : Child) → Some i ≡ position (called name) l → child ≡ get_or cs i child → (at : Path)
-      → bases_of old (path ++ at) ≡ bases_of child.open (rest ++ at)
-  path_based i child found_at is at =
-      rw path_is (bases_of_cons old es (parts cs) view apart name (rest ++ at) ∙ found_by base_side name cs l i child same found_at is (rest ++ at))
+    pub path_based : (at : Path) → bases_of old (path ++ at) ≡ bases_of child.open (rest ++ at)
+    path_based at = rw path_is (bases_of_cons old es (parts cs) view apart name (rest ++ at) ∙ found_by base_side here (rest ++ at))
 
-  pub place_down : (i : ℕ) (child : Child) → Some i ≡ position (called name) l → child ≡ get_or cs i child → dirs_of old path ≡ dirs_of child.open rest
-  place_down i child found_at is = rw path_is (dirs_of_cons old es (parts cs) view apart name rest ∙ in_part_of_child name cs l i child same found_at is rest)
+    pub place_down : dirs_of old path ≡ dirs_of child.open rest
+    place_down = rw path_is (dirs_of_cons old es (parts cs) view apart name rest ∙ in_part_of_child here rest)
 
-  pub place_unopened : None ≡ position (called name) l → dirs_of old path ≡ None
-  place_unopened found_at = rw path_is (dirs_of_cons old es (parts cs) view apart name rest ∙ in_part_none name cs l same found_at rest)
+  pub place_unopened : None ≡ position (called name) cs → dirs_of old path ≡ None
+  place_unopened found_at = rw path_is (dirs_of_cons old es (parts cs) view apart name rest ∙ in_part_none name cs found_at rest)
 
-  pub path_unopened : None ≡ position (called name) l → (at : Path) → dirs_of old (path ++ at) ≡ None
-  path_unopened found_at at = rw path_is (dirs_of_cons old es (parts cs) view apart name (rest ++ at) ∙ in_part_none name cs l same found_at (rest ++ at))
+  pub path_unopened : None ≡ position (called name) cs → (at : Path) → dirs_of old (path ++ at) ≡ None
+  path_unopened found_at at = rw path_is (dirs_of_cons old es (parts cs) view apart name (rest ++ at) ∙ in_part_none name cs found_at (rest ++ at))
 
 -- a clause about none implies a weaker one
 pub if_none_of : {X : Type 0} (r : Option X) {P Q : Type 0} → IfNone r P → (P → Q) → IfNone r Q

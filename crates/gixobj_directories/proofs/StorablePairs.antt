@@ -5,7 +5,7 @@ use Rattle.gixobj_tree.specs.Entries.{EntryView, Pair}
 use Rattle.gixobj_files.specs.Emission.{EmitsBelow, EmitsEntries, left_out_if_empty, end, of_entries, unopened, unchanged, written}
 use Rattle.gixobj_files.specs.Opening.{Dirs, in_dir}
 use Rattle.gixobj_files.proofs.StillOpened.{AreFormed}
-use Rattle.gixobj_files.proofs.Sublists.{all_append}
+use Rattle.gixobj_sorted.proofs.Sublists.{all_append}
 use Rattle.gixobj_directories.specs.Calls.{IsStorable}
 use Rattle.gixobj_directories.proofs.Emitting.{written_is_storable}
 

@@ -1,4 +1,5 @@
 pub mod Calls
+pub mod Children
 pub mod Decreases
 pub mod WriteErrors
 pub mod LookedUp

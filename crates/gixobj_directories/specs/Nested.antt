@@ -2,18 +2,22 @@
 use Rattle.std.specs.Prelude.{◌≡◌, ℕ, Bool, true, not, List, [], ◌∷◌, ◌++◌, map, length, None, if◌then◌else◌}
 use Rattle.std.proofs.Common.{arith}
 use Rattle.std.specs.List.{AllByRecursion, filter}
-use Rattle.std.specs.Ordering.{is_lt, nat_cmp}
+use Rattle.std.specs.Ordering.{nat_cmp}
 use Rattle.std.specs.declared.cmp.Ordering.TheVariants.{Less}
 use Rattle.std.specs.Cmp.Lexicographic.{slice_cmp}
 use Rattle.std.specs.FinMap.{find}
+use Rattle.std.specs.declared.alloc.Global.{Global}
+use Rattle.std.specs.declared.vec.Vec.{Vec}
 use Rattle.bstr.specs.Owned.{bstring_bytes}
 use Rattle.gixobj_tree.specs.Entries.{EntryView}
 use Rattle.gixobj_tree.specs.KeyOrder.{key_of}
 use Rattle.gixobj_tree.specs.WellFormed.{EachLater, IsWellFormed}
+use Rattle.gixobj_sorted.specs.Pieces.{AreNonEmpty, joined, with_item}
 use Rattle.gixobj_files.specs.Editing.{has_tree, same_name}
 use Rattle.gixobj_files.specs.Files.{Path}
 use Rattle.gixobj_files.specs.Opening.{Dirs}
 use Rattle.gixobj_directories.specs.declared.open.Child.{Child}
+use Rattle.gixobj_directories.specs.declared.open.Children.{Children}
 
 -- the entries of an open directory, and its base
 abbrev pub Level : Type 0
@@ -35,6 +39,22 @@ Part = List ℕ × Opened
 -- the name of a child, and what is open in it
 abbrev pub part : Child → Part
 part child = (bstring_bytes child.name, child.open)
+
+-- the name of the child is this one
+abbrev pub called : List ℕ → Child → Bool
+called name child = same_name (bstring_bytes child.name) name
+
+-- the key of the entry of a child
+abbrev pub child_key : Child → List ℕ
+child_key child = key_of (bstring_bytes child.name) true
+
+-- the children of a directory, in one list
+abbrev pub child_list : Children → List Child
+child_list children = joined (λ (p : Vec Child Global). p.items) children.first.items children.more.items
+
+-- no piece of the children but the first is empty
+abbrev pub AreFilled : Children → Type 0
+AreFilled children = AreNonEmpty (λ (p : Vec Child Global). p.items) children.more.items
 
 -- the names of children, and what is open in each
 abbrev pub parts : List Child → List Part
@@ -78,14 +98,6 @@ bases_of ds = at_side base_side ds
 abbrev pub part_key : Part → List ℕ
 part_key p = key_of p.0 true
 
--- the entry of the first directory comes before that of the second
-abbrev pub is_part_before : Part → Part → Bool
-is_part_before p q = is_lt (slice_cmp nat_cmp (part_key p) (part_key q))
-
--- the entry of the child comes before that of the directory of a name
-abbrev pub is_child_before : List ℕ → Child → Bool
-is_child_before name c = is_lt (slice_cmp nat_cmp (key_of (bstring_bytes c.name) true) (key_of name true))
-
 -- the directories are in the order of their entries
 abbrev pub AreOrdered : List Part → Type 0
 AreOrdered ps = EachLater (λ p q. slice_cmp nat_cmp (part_key p) (part_key q) ≡ Less) ps
@@ -96,6 +108,11 @@ pub record IsLevel (entries : List EntryView) (ps : List Part) : Type 0 where
   pub formed : IsWellFormed entries
   pub ordered : AreOrdered ps
   pub above : AllByRecursion (λ p. has_tree p.0 entries ≡ true) ps
+
+-- the invariant of an open directory: that of its level, with the open directories in it in pieces
+pub record IsPiecedLevel (entries : List EntryView) (children : Children) : Type 0 where
+  pub level : IsLevel entries (parts (child_list children))
+  pub filled : AreFilled children
 
 -- a name before each path leaves the number of open directories unchanged
 pub length-under : (name : List ℕ) (ds : Opened) → length (under name ds) ≡ length ds
@@ -119,7 +136,6 @@ bases_in name ps = part_at base_side name ps
 abbrev pub other_parts : List ℕ → List Part → List Part
 other_parts name ps = filter (λ p. not (same_name p.0 name)) ps
 
--- the directories with one more, before the first whose entry does not come before its own
+-- the directories with this one at the position of its key, in place of any of its key
 abbrev pub with_part : Part → List Part → List Part
-with_part p [] = p ∷ []
-with_part p (q ∷ qs) = if is_part_before q p then q ∷ with_part p qs else p ∷ q ∷ qs
+with_part p ps = with_item part_key p ps

@@ -8,7 +8,7 @@ ghost use Rattle.gixobj_directories.specs.Calls.{names_of};
 ghost use Rattle.gixobj_directories.specs.Nested.{bases_of, dirs_of};
 ghost use Rattle.gixobj_files.specs.Bases.{edited_bases};
 
-use crate::open::{Open, add_directory, child_at, place_for};
+use crate::open::{Open, add_directory};
 use bstr::BString;
 use gixobj_hash::hash::ObjectId;
 use gixobj_tree::Tree;
@@ -23,8 +23,8 @@ impl Open {
     ///
     /// Each name of the path must be a valid name of an entry: not empty, and without `/`.
     ///
-    /// Allocates the directories that aren't open and their entries. Allocates nothing if the directory is
-    /// open.
+    /// Allocates the directories that aren't open and their entries. In a directory of 128 entries or more it
+    /// also allocates parts of its lists, and room for a write. Allocates nothing if the directory is open.
     ///
     /// # Errors
     ///
@@ -44,18 +44,24 @@ impl Open {
         ensures unchanged { OnErr result (self.new ≡ self.old) }
         ensures unopened { OnErr result (dirs_of self.old (names_of path.now) ≡ None) }
     {
-        let _ = &self.tree;
+        let _ = &self.entries;
         let Some((name, rest)) = path.split_first() else {
             return Ok(());
         };
-        let Some(place) = child_at(&self.children, name) else {
+        let Some(place) = self.children.position(name) else {
             let mut inner = Open::new(alloc, Tree::empty(alloc));
             inner.ensure_directory(alloc, rest, null)?;
-            let place = place_for(&self.children, name);
-            add_directory(&mut self.tree, &mut self.children, name, null, inner, place)?;
+            add_directory(
+                alloc,
+                &mut self.entries,
+                &mut self.children,
+                name,
+                null,
+                inner,
+            )?;
             return Ok(());
         };
-        let child = &mut self.children[place];
+        let child = self.children.at_mut(place);
         child.open.ensure_directory(alloc, rest, null)
     }
 }

@@ -1,40 +1,108 @@
 //! Leaf trees: trees of directories that are emitted without a copy, and moved after the last call.
-ghost use Rattle.std.specs.Prelude.{◌≡◌, ◌≢◌, ◌≤◌, ◌+◌, ◌++◌, ◌∷◌, [], IfNone, IfSome, List, length, not, reverse, true, vec_capacity, vec_len};
-ghost use Rattle.std.specs.List.{list_all};
+ghost use Rattle.std.specs.Prelude.{◌≡◌, ◌≢◌, ◌≤◌, ◌+◌, ◌++◌, ◌∷◌, [], IfNone, IfOk, IfSome, IsFalse, IsTrue, List, Some, length, not, reverse, true, vec_capacity, vec_len};
+ghost use Rattle.std.specs.List.{flat_map, list_all};
 ghost use Rattle.gixobj_tree.specs.Entries.{EntryView, Pair};
 ghost use Rattle.gixobj_tree.specs.WellFormed.{EachLater};
 ghost use Rattle.gixobj_files.specs.Files.{is_null};
+ghost use Rattle.gixobj_sorted.specs.Pieces.{AreNonEmpty};
 ghost use Rattle.gixobj_directories.specs.Calls.{IsStorable};
-ghost use Rattle.gixobj_directories.specs.Nested.{below, opened, parts};
+ghost use Rattle.gixobj_directories.specs.Nested.{AreFilled, below, child_list, dirs_of, opened, parts};
 ghost use Rattle.gixobj_directories.specs.LeafTrees.{Fills, inside_of, is_leaf_tree, leaf_trees};
 
-use crate::open::{Child, Open};
+use crate::open::{Child, Children, Open};
 use crate::write::base_of;
 use gixobj_files::entries::is_non_null;
 use gixobj_hash::hash::ObjectId;
 use gixobj_tree::Tree;
 use gixobj_tree::tree::Entry;
+use std::alloc::{AllocError, Global};
 
 impl Open {
-    /// Returns the directory's tree if it is a leaf tree.
+    /// Returns the directory's tree if it is a leaf tree, as a copy in `slot` unless it is one piece.
     ///
     /// A leaf tree has entries, none of them with a null id, and isn't the directory's base; no directory in
     /// it is open.
-    pub(crate) fn leaf_tree(&self) -> Option<&Tree>
-        ensures found { IfSome result (λ tree. (base : List EntryView)
-            × (self.now ≡ opened tree.now base []) × (is_leaf_tree (tree.now, base) ≡ true)) }
-        ensures storable { IfSome result (λ tree. IsStorable tree.now) }
-        ensures none { IfNone result (leaf_trees self.now ≡ leaf_trees (inside_of self.now)) }
+    pub(crate) fn leaf_tree<'a>(
+        &'a self,
+        alloc: Global,
+        slot: &'a mut Tree,
+    ) -> Result<Option<&'a Tree>, AllocError>
+        ensures found { IfOk result (λ leaf. IfSome leaf (λ tree. (base : List EntryView)
+            × (self.now ≡ opened tree.now base []) × (is_leaf_tree (tree.now, base) ≡ true))) }
+        ensures storable { IfOk result (λ leaf. IfSome leaf (λ tree. IsStorable tree.now)) }
+        ensures none { IfOk result (λ leaf. IfNone leaf (leaf_trees self.now
+            ≡ leaf_trees (inside_of self.now))) }
+        ensures root { (entries : List EntryView) × (dirs_of self.now [] ≡ Some entries) }
     {
-        if let Some((child, _)) = self.children.split_first() {
-            let _ = base_of(&child.open);
-            return None;
+        let entries = &self.entries;
+        if self.has_open_directory() {
+            return Ok(None);
         }
-        if is_leaf_tree(&self.tree, &self.base) {
-            Some(&self.tree)
+        let tree = entries.tree_in(alloc, slot)?;
+        if is_leaf_tree(tree, &self.base) {
+            Ok(Some(tree))
         } else {
-            None
+            Ok(None)
         }
+    }
+
+    /// Returns `true` if a directory in it is open.
+    fn has_open_directory(&self) -> bool
+        ensures some { IsTrue result → leaf_trees self.now ≡ leaf_trees (inside_of self.now) }
+        ensures none { IsFalse result → inside_of self.now ≡ [] }
+    {
+        let Some(child) = self.children.first_child() else {
+            return false;
+        };
+        let _ = base_of(&child.open);
+        true
+    }
+}
+
+/// Settled directories.
+impl Open {
+    /// Makes one piece of the entries of each directory that is open in it, and of its own. Allocates nothing.
+    #[cycle(settling)]
+    pub(crate) fn settle(&mut self)
+        ensures { self.new ≡ self.old }
+    {
+        self.entries.settle();
+        self.children.settle();
+    }
+}
+
+impl Children {
+    /// Makes one piece of the entries of each open directory at and below these.
+    #[cycle(settling)]
+    fn settle(&mut self)
+        ensures list { parts (child_list self.new) ≡ parts (child_list self.old) }
+        ensures filled { AreFilled self.old → AreFilled self.new }
+    {
+        settle_all(&mut self.first);
+        settle_pieces(&mut self.more);
+    }
+}
+
+/// Makes one piece of the entries of each open directory at and below those in these pieces.
+#[cycle(settling)]
+fn settle_pieces(pieces: &mut [Vec<Child>])
+    ensures list { parts (flat_map (λ p. p.items) pieces.new)
+        ≡ parts (flat_map (λ p. p.items) pieces.old) }
+    ensures filled { AreNonEmpty (λ p. p.items) pieces.old
+        → AreNonEmpty (λ p. p.items) pieces.new }
+{
+    for piece in pieces.iter_mut() {
+        settle_all(piece);
+    }
+}
+
+/// Makes one piece of the entries of each open directory at and below these.
+#[cycle(settling)]
+fn settle_all(children: &mut [Child])
+    ensures { parts children.new ≡ parts children.old }
+{
+    for child in children.iter_mut() {
+        child.open.settle();
     }
 }
 
@@ -56,7 +124,24 @@ fn are_non_null(entries: &[Entry]) -> bool
 ///
 /// There must be capacity for them.
 #[cycle(taking)]
-pub(crate) fn take_leaf_trees(mut children: Vec<Child>, trees: &mut Vec<Tree>)
+pub(crate) fn take_leaf_trees(children: Children, trees: &mut Vec<Tree>)
+    requires apart { EachLater (λ x y. x.0 ≢ y.0) (parts (child_list children)) }
+    requires has_capacity { vec_len trees.old
+        + length (leaf_trees (below (parts (child_list children)))) ≤ vec_capacity trees.old }
+    ensures items { trees.new.items
+        ≡ trees.old.items ++ reverse (leaf_trees (below (parts (child_list children)))) }
+    ensures capacity { vec_capacity trees.old ≤ vec_capacity trees.new }
+{
+    let Children { first, mut more } = children;
+    while let Some(piece) = more.pop() {
+        take_from_piece(piece, trees);
+    }
+    take_from_piece(first, trees);
+}
+
+/// Moves the leaf trees at and below the directories of a piece to the end of `trees`, the last first.
+#[cycle(taking)]
+fn take_from_piece(mut children: Vec<Child>, trees: &mut Vec<Tree>)
     requires apart { EachLater (λ x y. x.0 ≢ y.0) (parts children.items) }
     requires has_capacity { vec_len trees.old + length (leaf_trees (below (parts children.items)))
         ≤ vec_capacity trees.old }
@@ -76,12 +161,15 @@ fn take_leaf_tree(node: Open, trees: &mut Vec<Tree>)
     ensures items { trees.new.items ≡ trees.old.items ++ reverse (leaf_trees node) }
     ensures capacity { vec_capacity trees.old ≤ vec_capacity trees.new }
 {
-    let is_entire = node.leaf_tree().is_some();
-    let Open { tree, children, .. } = node;
-    if is_entire {
-        let _ = trees.push(tree);
-    } else {
+    if node.has_open_directory() {
+        let Open { children, .. } = node;
         take_leaf_trees(children, trees);
+        return;
+    }
+    let Open { entries, base, .. } = node;
+    let tree = entries.into_tree();
+    if is_leaf_tree(&tree, &base) {
+        let _ = trees.push(tree);
     }
 }
 

@@ -1,6 +1,7 @@
 //! Open directories, each with the open directories in it: lookups, edits by paths, copies and writes.
 #![tactic(auto)]
 
+mod children;
 pub mod ensure_directory;
 pub mod laws;
 mod leaf_trees;

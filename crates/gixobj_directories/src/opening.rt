@@ -16,8 +16,9 @@ ghost use Rattle.gixobj_directories.specs.Nested.{bases_of, dirs_of};
 ghost use Rattle.gixobj_directories.specs.Openings.{EndsBefore, NamesTree, OfTrees, IsOpenErrorAt, IsDirectoryError};
 ghost use Rattle.gixobj_directories.specs.declared.opening.NotLookedUp.TheVariants.{Unopened};
 
-use crate::open::{Open, child_at, copy_tree, room_for, store_child, tree_id};
+use crate::open::{Open, copy_tree, tree_id};
 use bstr::BString;
+use gixobj_files::open_entries::Entries;
 use gixobj_hash::hash::ObjectId;
 use gixobj_hash::{OutOfMemory, decode};
 use gixobj_keep::find::{existing_object, existing_tree};
@@ -107,15 +108,15 @@ fn is_not_looked_up(id: ObjectId) -> bool
 }
 
 /// Returns the id of the directory of a name, if there is one that an opening enters.
-fn next_id(tree: &Tree, name: &BString, not_looked_up: NotLookedUp) -> Option<ObjectId>
-    requires { IsWellFormed tree.now }
+fn next_id(entries: &Entries, name: &BString, not_looked_up: NotLookedUp) -> Option<ObjectId>
+    requires { IsWellFormed entries.now }
     ensures found { IfSome result (λ id. (e : EntryView)
-        × IsEntryOf (bstring_bytes name.now) (Some tree.now) e × (is_tree_mode e.mode ≡ true)
+        × IsEntryOf (bstring_bytes name.now) (Some entries.now) e × (is_tree_mode e.mode ≡ true)
         × (¬ EndsBefore not_looked_up e) × (e.id ≡ id)) }
-    ensures none { IfNone result ((e : EntryView) → ContainsEntry tree.now e
+    ensures none { IfNone result ((e : EntryView) → ContainsEntry entries.now e
         → e.name ≡ bstring_bytes name.now → EndsBefore not_looked_up e) }
 {
-    let id = tree_id(tree, name)?;
+    let id = tree_id(entries, name)?;
     if not_looked_up.ends_above(id) {
         return None;
     }
@@ -186,7 +187,8 @@ impl Open {
     ///
     /// Each lookup is counted in `lookups`, a failed one too. The count saturates at the maximum of `u64`.
     ///
-    /// Allocates the trees that it opens, a base for each, and their names.
+    /// Allocates the trees that it opens, a base for each, and their names. In a directory with 128 open
+    /// directories or more it also allocates a part of their list.
     ///
     /// # Errors
     ///
@@ -221,24 +223,24 @@ impl Open {
         ensures same_root { dirs_of self.new [] ≡ dirs_of self.old [] }
         ensures root { (entries : List EntryView) × (dirs_of self.old [] ≡ Some entries) }
     {
-        let _ = &self.tree;
+        let _ = &self.entries;
         let Some((name, rest)) = path.split_first() else {
             return Ok(());
         };
-        if let Some(place) = child_at(&self.children, name) {
-            let child = &mut self.children[place];
+        if let Some(place) = self.children.position(name) {
+            let child = self.children.at_mut(place);
             return child
                 .open
                 .open_along(alloc, rest, not_looked_up, store, lookups);
         }
-        let Some(id) = next_id(&self.tree, name, not_looked_up) else {
+        let Some(id) = next_id(&self.entries, name, not_looked_up) else {
             return Ok(());
         };
-        let own_name = room_for(alloc, &mut self.children, name)?;
+        let (own_name, piece) = self.children.room_for(alloc, name)?;
         let (tree, base) = load(alloc, store, id, lookups)?;
         let mut inner = Open::with_base(alloc, tree, base);
         let opened = inner.open_along(alloc, rest, not_looked_up, store, lookups);
-        store_child(&mut self.children, own_name, inner);
+        self.children.insert(piece, own_name, inner);
         opened
     }
 }

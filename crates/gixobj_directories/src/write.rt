@@ -11,17 +11,17 @@ ghost use Rattle.gixobj_files.specs.Files.{Path, is_null};
 ghost use Rattle.gixobj_files.specs.Emission.{EmitsSome, EmitsBelow, Saves};
 ghost use Rattle.gixobj_files.specs.Opening.{in_path};
 ghost use Rattle.gixobj_directories.specs.Calls.{IsCallableOnTrees, IsStorable, names_of, answered, denied};
-ghost use Rattle.gixobj_directories.specs.WriteErrors.{IsWriteError, EmitsEntry, pairs_after_next, child_side, entry_if_some, next_child};
+ghost use Rattle.gixobj_directories.specs.WriteErrors.{IsWriteError, EmitsEntry, child_side, entry_if_some};
 ghost use Rattle.gixobj_directories.specs.Nested.{base_side, bases_of, dirs_of, entries_side, opened};
 ghost use Rattle.gixobj_files.specs.WrittenTrees.{SharesBase, so_far};
 ghost use Rattle.gixobj_files.specs.FilteredTrees.{IsFilteredTree};
 ghost use Rattle.gixobj_directories.specs.LeafTrees.{Adds, child_leaf_trees, inside_of, leaf_trees};
 
 use crate::leaf_trees::{fill, take_leaf_trees};
-use crate::open::{Child, Open, child_at};
+use crate::open::{Child, Children, Open};
 use bstr::BString;
 use gixobj_files::entries::copies;
-use gixobj_files::filtered::become_tree;
+use gixobj_files::open_entries::Entries;
 use gixobj_files::written_tree::WrittenTree;
 use gixobj_hash::hash::ObjectId;
 use gixobj_tree::Tree;
@@ -102,27 +102,16 @@ fn emit_below<E, F: FnMut(&Tree) -> Result<ObjectId, E>>(
         × EmitsBelow (dirs_of node.now) (bases_of node.now) ps own count) out.old out.new) }
 {
     let mut own = WrittenTree::new();
-    let mut remaining: &[Child] = &node.children;
-    for entry in entries_of(&node.tree) {
-        let (child, tail) = next_of(remaining, entry);
+    let mut slot = Tree::empty(alloc);
+    let tree = node.entries.tree_in(alloc, &mut slot)?;
+    let mut remaining = node.children.remaining();
+    for entry in entries_of(tree) {
+        let (child, tail) = remaining.next_of(entry);
         remaining = tail;
         let id = emit_entry(alloc, entry, child, out, pairs, saved)?;
-        append_unless_null(alloc, &mut own, base, entry, id, node.tree.entries.len())?;
+        append_unless_null(alloc, &mut own, base, entry, id, tree.entries.len())?;
     }
     Ok(own)
-}
-
-/// Returns the next open directory if it is the entry's, and those after it.
-///
-/// The open directories are in the order of their entries, so there is no search.
-fn next_of<'a>(remaining: &'a [Child], entry: &Entry) -> (Option<&'a Child>, &'a [Child])
-    ensures next { option_copied result.0 ≡ next_child entry.now.name remaining.now }
-    ensures following { result.1.now ≡ pairs_after_next entry.now.name remaining.now }
-{
-    match remaining.split_first() {
-        Some((child, tail)) if child.is_named(&entry.filename) => (Some(child), tail),
-        _ => (None, remaining),
-    }
 }
 
 /// Emits what is open at and below an entry, and returns the id that the entry gets. There is none if the
@@ -152,7 +141,9 @@ fn emit_entry<E, F: FnMut(&Tree) -> Result<ObjectId, E>>(
     let Some(child) = child else {
         return Ok(Some(entry.oid));
     };
-    if let Some(tree) = child.open.leaf_tree() {
+    let mut slot = Tree::empty(alloc);
+    let leaf = child.open.leaf_tree(alloc, &mut slot)?;
+    if let Some(tree) = leaf {
         let passed = emit_leaf_tree(alloc, tree, out, pairs)?;
         return Ok(Some(passed));
     }
@@ -192,7 +183,9 @@ fn emit_below_copied<E, F: FnMut(&Tree) -> Result<ObjectId, E>>(
         (λ ps. (own : List EntryView) × (count : ℕ)
         × EmitsBelow (dirs_of node.now) (bases_of node.now) ps own count) out.old out.new) }
 {
-    if let Some(tree) = node.leaf_tree() {
+    let mut slot = Tree::empty(alloc);
+    let leaf = node.leaf_tree(alloc, &mut slot)?;
+    if let Some(tree) = leaf {
         let entries = copies(alloc, &tree.entries)?;
         return Ok((Tree { entries }, true));
     }
@@ -353,29 +346,52 @@ pub fn write_all<E, F: FnMut(&Tree) -> Result<ObjectId, E>>(
         (EmitsSome (dirs_of node.old) (bases_of node.old)) out.old out.new) }
     ensures unchanged { OnErr result (node.new ≡ node.old) }
 {
+    node.settle();
+    write_settled(alloc, node, out)
+}
+
+/// Writes a directory by the rules of [`write_all`], with the entries of each directory in one piece.
+fn write_settled<E, F: FnMut(&Tree) -> Result<ObjectId, E>>(
+    alloc: Global,
+    node: &mut Open,
+    out: &mut F,
+) -> Result<Written, WriteError<E>>
+    requires { IsCallableOnTrees F.pre (answered F.FnMut) out.old }
+    ensures written { IfOk result (λ it. (below : List Pair) × (own : List EntryView)
+        × Saves (dirs_of node.old) (bases_of node.old) below own it.saved
+        × (it.trees.items ≡ below ++ (it.id, own) ∷ [])
+        × FoldsTo (answered F.FnMut) out.old (below ++ (it.id, own) ∷ []) out.new × IsStorable own
+        × ((base : List EntryView) × (node.new ≡ opened own base []))) }
+    ensures bases { OnOk result ((at : Path)
+        → bases_of node.new at ≡ edited_bases (dirs_of node.old) (dirs_of node.new)
+        (bases_of node.old) at) }
+    ensures error { IfErr result (IsWriteError (answered F.FnMut) (denied F.FnMut)
+        (EmitsSome (dirs_of node.old) (bases_of node.old)) out.old out.new) }
+    ensures unchanged { OnErr result (node.new ≡ node.old) }
+{
     let mut trees = Vec::new(alloc);
     let mut saved = 0;
     let (own, placed) = emit_below_copied(alloc, node, out, &mut trees, &mut saved)?;
     let mut complete_trees = Vec::with_capacity(alloc, trees.len())?;
     let id = emit(&own, out, &mut trees)?;
-    become_own(&mut node.tree, &own, placed);
-    let children = mem::replace(&mut node.children, Vec::new(alloc));
+    become_own(&mut node.entries, &own, placed);
+    let children = mem::replace(&mut node.children, Children::new(alloc));
     take_leaf_trees(children, &mut complete_trees);
     fill(&mut trees, complete_trees);
     let _ = trees.push((id, own));
     Ok(Written { id, trees, saved })
 }
 
-/// Makes a directory's tree its written tree, which it already is if `placed`.
-fn become_own(tree: &mut Tree, own: &Tree, placed: bool)
-    requires well_formed { IsWellFormed tree.old }
-    requires filtered { IsFilteredTree own.now tree.old }
+/// Makes a directory's entries those of its written tree, which they already are if `placed`.
+fn become_own(entries: &mut Entries, own: &Tree, placed: bool)
+    requires well_formed { IsWellFormed own.now }
+    requires filtered { IsFilteredTree own.now entries.old }
     requires non_null { All (λ e. IsFalse (is_null e.id)) own.now }
-    requires is_at { IsTrue placed → own.now ≡ tree.old }
-    ensures { tree.new ≡ own.now }
+    requires is_at { IsTrue placed → own.now ≡ entries.old }
+    ensures { entries.new ≡ own.now }
 {
     if !placed {
-        become_tree(tree, own);
+        entries.become_tree(own);
     }
 }
 
@@ -418,9 +434,9 @@ pub fn write_at<E, F: FnMut(&Tree) -> Result<ObjectId, E>>(
     let Some((name, rest)) = path.split_first() else {
         return write_all(alloc, node, out);
     };
-    let Some(place) = child_at(&node.children, name) else {
+    let Some(place) = node.children.position(name) else {
         unreachable!()
     };
-    let child = &mut node.children[place];
+    let child = node.children.at_mut(place);
     write_at(alloc, &mut child.open, rest, out)
 }

@@ -1,4 +1,4 @@
--- Paths, and their directories.
+-- Paths, and their directories; the proofs of the editor's calls that take a path use it.
 use Rattle.std.proofs.Common.{◌≡◌, ◌∙◌, ◌⊎◌, inl, inr, ℕ, List, [], ◌∷◌, ◌++◌, append-nil, arith, length, length-append, refl, sym, ap}
 use Rattle.std.proofs.lemmas.List.{map-append}
 use Rattle.bstr.specs.Owned.{bstring_bytes}

@@ -1,5 +1,5 @@
 -- Replies of a run follow from the contracts of the calls; the proofs of `do_edit`, `do_edit_by`, `do_edits_in` and
--- `do_command` use it.
+-- `run_command` use it.
 use Rattle.std.proofs.Common.{◌≡◌, ℕ, List, [], Err, Ok, Result, subst, sym}
 use Rattle.std.specs.Prelude.{IfErr, OnOk}
 use Rattle.std.specs.declared.alloc.Global.{Global}

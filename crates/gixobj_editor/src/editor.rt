@@ -174,10 +174,8 @@ impl<S: Find> Editor<S> {
     /// # Examples
     ///
     /// ```rust
-    /// let path = vec![in alloc; BString::from_slice(alloc, b"hello.txt")?]?;
-    /// let blob = ObjectId::from_hex(BLOB).ok_or("an id")?;
     /// let mut editor = Editor::new(Tree::empty(alloc), Never, HashKind::Sha1);
-    /// editor.upsert(&path, EntryKind::Blob, blob)?;
+    /// editor.upsert(&path_names(alloc, path)?, EntryKind::Blob, blob)?;
     /// ```
     pub fn upsert(
         &mut self,

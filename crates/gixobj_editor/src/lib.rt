@@ -13,4 +13,4 @@ mod running;
 
 pub use command::{Command, Edit};
 pub use reply::{EditReply, Reply};
-pub use running::run;
+pub use running::{run, run_command};

@@ -93,14 +93,20 @@ pub fn run<S: Keep, E: Drop, F: Fn(&Tree) -> Result<ObjectId, E> + Drop>(
 {
     let mut replies = Vec::with_capacity(alloc, commands.len())?;
     for command in commands {
-        let reply = do_command(alloc, editor, command, &out);
+        let reply = run_command(alloc, editor, command, &out);
         push_reserved(&mut replies, reply);
     }
     Ok(replies)
 }
 
-/// Does one command, and returns its reply.
-fn do_command<S: Keep, E: Drop, F: Fn(&Tree) -> Result<ObjectId, E>>(
+/// Does one command as [`run`] does each of its own, and returns the reply.
+///
+/// A caller that handles each reply at once holds one reply at a time. Replies to writes have the emitted
+/// trees, so [`run`] holds the trees of all writes. An edit that fails is reported in the reply. Allocates as
+/// the edit, the write or the edits at a prefix do, and the store as its [`Keep::keep`].
+///
+/// `out` must be callable on every well-formed tree without null ids.
+pub fn run_command<S: Keep, E: Drop, F: Fn(&Tree) -> Result<ObjectId, E>>(
     alloc: Global,
     editor: &mut Editor<S>,
     command: Command,

@@ -12,6 +12,8 @@ mod entries;
 #[cfg(test)]
 mod faulty;
 #[cfg(test)]
+mod many_directories;
+#[cfg(test)]
 mod references;
 #[cfg(test)]
 mod samples;

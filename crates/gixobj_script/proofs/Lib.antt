@@ -3,4 +3,5 @@ mod EncodedLines
 mod Reading
 mod Readings
 pub mod Reported
+pub mod RunsSoFar
 pub mod Wider

@@ -1,14 +1,16 @@
 -- Runs of scripts on an editor, and their reports.
-use Rattle.std.specs.Prelude.{◌≡◌, ◌⊎◌, ℕ, false, List, [], map}
+use Rattle.std.specs.Prelude.{◌≡◌, ◌⊎◌, ◌∷◌, ◌++◌, ℕ, false, List, Option, [], map}
+use Rattle.std.specs.declared.alloc.Global.{Global}
+use Rattle.std.specs.declared.vec.Vec.{Vec}
 use Rattle.std.specs.FinMap as finite
 use Rattle.gixobj_editor.specs.Views.{CommandView, command_view}
 use Rattle.gixobj_editor.specs.declared.command.Command.{Command}
 use Rattle.gixobj_store.specs.Stores.{StoreModel}
 use Rattle.gixobj_tree.specs.TreeEncoding.{IsDigestResult}
-use Rattle.gixobj_script.specs.Reporting.{report_lines_of}
+use Rattle.gixobj_script.specs.Reporting.{AreLinesOf, report_lines_of}
 use Rattle.gixobj_files.specs.State.{State, new_state}
 use Rattle.gixobj_hash.specs.declared.hash.kind.Kind as hash
-use Rattle.gixobj_editor.specs.Replies.{Answers, IsRun}
+use Rattle.gixobj_editor.specs.Replies.{Answers, IsReply, IsRun}
 use Rattle.gixobj_editor.specs.declared.reply.Reply.{Reply}
 use Rattle.gixobj_script.specs.Scripts.{IsFirstBad, IsScript, IsScriptParseError}
 use Rattle.gixobj_script.specs.declared.script.ScriptError.{ScriptError}
@@ -33,6 +35,13 @@ pub record WasRun {S E : Type 0} (model : StoreModel S) (answers : Answers E) (h
   pub replies : List (Reply E)
   pub decodes : IsScript hash script (map command_view commands)
   pub ran : IsRun model answers old commands replies new
+
+-- the command gets a reply; if the lines before report some replies, the lines after it report these and its own
+abbrev pub IsCommandReported : {S E : Type 0} → StoreModel S → Answers E → State S → Command → Option (Vec ℕ Global)
+    → Option (Vec ℕ Global) → State S → Type 0
+IsCommandReported {S} {E} model answers old command lines lines' new = (its_reply : Reply E)
+    × IsReply model answers old command its_reply new
+    × ((before : List (Reply E)) → AreLinesOf lines before → AreLinesOf lines' (before ++ its_reply ∷ []))
 
 -- the model of the store in memory: no lookup fails, except for memory
 abbrev pub memory_model : StoreModel Memory

@@ -1,6 +1,8 @@
 -- Lines that report the replies to a run.
-use Rattle.std.specs.Prelude.{ℕ, List, ◌++◌, codes, decimal, length}
+use Rattle.std.specs.Prelude.{◌≡◌, ℕ, List, None, Option, Some, ◌++◌, codes, decimal, length, ⊤}
 use Rattle.std.specs.List.{flat_map}
+use Rattle.std.specs.declared.alloc.Global.{Global}
+use Rattle.std.specs.declared.vec.Vec.{Vec}
 use Rattle.bstr.specs.Owned.{bstring_bytes}
 use Rattle.gixobj_directories.specs.declared.write.WriteError.TheVariants as write
 use Rattle.gixobj_editor.specs.declared.editor.error.Error.{Error}
@@ -53,3 +55,8 @@ lookups_line lookups = encode_line (keyword_and (codes "lookups") (decimal looku
 -- the lines that report the replies, in order, and then the lookups
 abbrev pub report_lines_of : {E : Type 0} → List (Reply E) → ℕ → List ℕ
 report_lines_of replies lookups = flat_map reply_lines replies ++ lookups_line lookups
+
+-- the lines report the replies, in order; or they are lost
+abbrev pub AreLinesOf : {E : Type 0} → Option (Vec ℕ Global) → List (Reply E) → Type 0
+AreLinesOf (Some lines) replies = lines.items ≡ flat_map reply_lines replies
+AreLinesOf None replies = ⊤

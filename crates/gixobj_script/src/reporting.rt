@@ -1,7 +1,8 @@
 //! Reports of the replies to a script, as lines.
-ghost use Rattle.std.specs.Prelude.{◌≡◌, ◌++◌, IfOk, OnOk};
+ghost use Rattle.std.specs.Prelude.{◌≡◌, ◌∷◌, ◌++◌, [], List, IfOk, OnOk};
 ghost use Rattle.std.specs.List.{flat_map};
-ghost use Rattle.gixobj_script.specs.Reporting.{edit_reply_line, edit_reply_bytes, edit_error_line, reply_lines, report_lines_of};
+ghost use Rattle.gixobj_script.specs.Reporting.{edit_reply_line, edit_reply_bytes, edit_error_line, AreLinesOf, lookups_line, reply_lines, report_lines_of};
+ghost use Rattle.gixobj_editor.specs.declared.reply.Reply.{Reply};
 ghost use Rattle.gixobj_fields.specs.HeaderFormat.{encode_line};
 
 use gixobj_editor::editor::{Error, WriteError};
@@ -35,15 +36,36 @@ pub fn report_lines<E>(
 ) -> Result<Vec<u8>, OutOfMemory>
     ensures { IfOk result (λ bytes. bytes.items ≡ report_lines_of replies.now lookups) }
 {
-    let mut digits = Buffer::new();
     let mut bytes = Vec::new(alloc);
     for reply in replies {
         push_reply(&mut bytes, reply)?;
     }
+    push_lookups(&mut bytes, lookups)?;
+    Ok(bytes)
+}
+
+/// Appends the lines that report a reply, if there are the lines of all replies before. Returns `None` if an
+/// allocation fails: the lines are lost then.
+pub(crate) fn with_reply<E>(lines: Option<Vec<u8>>, reply: &Reply<E>) -> Option<Vec<u8>>
+    ensures { (before : List (Reply E)) → AreLinesOf lines before
+        → AreLinesOf result (before ++ reply.now ∷ []) }
+{
+    let mut bytes = lines?;
+    match push_reply(&mut bytes, reply) {
+        Ok(()) => Some(bytes),
+        Err(_) => None,
+    }
+}
+
+/// Appends the line with the number of lookups.
+pub(crate) fn push_lookups(bytes: &mut Vec<u8>, lookups: u64) -> Result<(), OutOfMemory>
+    ensures { OnOk result (bytes.new.items ≡ bytes.old.items ++ lookups_line lookups) }
+{
+    let mut digits = Buffer::new();
     bytes.extend_from_slice(b"lookups ")?;
     bytes.extend_from_slice(digits.format(lookups).as_bytes())?;
     bytes.push(b'\n')?;
-    Ok(bytes)
+    Ok(())
 }
 
 /// Appends the lines that report a reply.

@@ -17,7 +17,7 @@ pub enum ScriptError {
     /// count empty lines. Nothing is run.
     #[error("line {0}")]
     BadLine(u64),
-    /// An allocation failed: for the commands, for the replies to them, or for the report.
+    /// An allocation failed, for the commands or for the report.
     #[error("out of memory")]
     OutOfMemory,
 }

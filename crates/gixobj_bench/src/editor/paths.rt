@@ -1,4 +1,5 @@
 //! The paths of the files that an editor inserts.
+ghost use Rattle.std.specs.Prelude.{◌<◌};
 
 use bstr::BString;
 use std::alloc::{AllocError, Global};
@@ -16,6 +17,17 @@ pub(super) enum Shape {
     Alone,
 }
 
+/// The order in which files are inserted.
+#[derive(Clone, Copy)]
+pub(crate) enum Order {
+    /// From the first name to the last.
+    Ascending,
+    /// From the last name to the first.
+    Descending,
+    /// In steps of about 0.618 of all names, so that each next name is far from those before.
+    Scattered,
+}
+
 impl fmt::Display for Shape {
     fn fmt<W: fmt::Write>(&self, f: &mut fmt::Formatter<W>) -> fmt::Result {
         match self {
@@ -26,20 +38,36 @@ impl fmt::Display for Shape {
     }
 }
 
-/// The paths of `files` files.
+/// The paths of `files` files, in this order.
 pub(super) fn paths_of(
     alloc: Global,
     shape: Shape,
+    order: Order,
     files: u32,
 ) -> Result<Vec<Vec<BString>>, AllocError> {
     let mut paths = Vec::new(alloc);
-    for number in 0..files {
+    for index in 0..files {
+        let number = number_at(order, index, files);
         let mut path = Vec::new(alloc);
         append_directories(alloc, shape, number, &mut path)?;
         path.push(BString::from(format!(in alloc; "f{number:08}")?))?;
         paths.push(path)?;
     }
     Ok(paths)
+}
+
+/// The number of the file at this index of the order. For the measured numbers of files each is at one index.
+fn number_at(order: Order, index: u32, files: u32) -> u32
+    requires { index < files }
+{
+    match order {
+        Order::Ascending => index,
+        Order::Descending => files - 1 - index,
+        Order::Scattered => {
+            let step = u64::from(files / 1000) * 618 + 1;
+            (u64::from(index) * step % u64::from(files)) as u32
+        }
+    }
 }
 
 /// Appends the directories of a file to a path.

@@ -65,7 +65,7 @@ fn check_reached(root: &Open, directory: &[BString], names: &[BString]) -> Resul
         × (dirs_of root.now (names_of directory.now) ≡ Some entries)
         × IsFirstNameError (names_of names.now) error) }
 {
-    let Some(_reached) = root.tree(directory) else {
+    let Some(_reached) = root.directory(directory) else {
         return Ok(());
     };
     validate_names(names)

@@ -1,32 +1,20 @@
-use Rattle.std.proofs.Common.{◌∙◌, sym, ap}
+use Rattle.std.proofs.Common.{◌∙◌, List, ℕ, sym, ap}
 use Rattle.bstr.specs.Owned.{bstring_bytes}
+use Rattle.std.specs.List.{find}
 use Rattle.gixobj_tree.specs.Entries.{EntryView}
-use Rattle.gixobj_mode.specs.Mode.{is_tree_mode}
-use Rattle.gixobj_directories.proofs.OpeningSteps.{option_of_copied_none, option_of_copied_some, is_entry_of_first, entry_name_ne, if_none_weaken}
+use Rattle.gixobj_directories.proofs.OpeningSteps.{is_entry_of_first_tree, is_tree_false_of_none, is_tree_named, option_of_copied_none, option_of_copied_some, if_none_weaken}
 use Rattle.gixobj_directories.proofs.open.tree_id.Goals as goal
 
 pub returns-in_err-entry-clause-none : goal.returns-in_err-entry-clause-none
 returns-in_err-entry-clause-none c =
+    let found = c.find_tree.ensures ∙ ap (λ (n : List ℕ). find (is_tree_named n) c.args.entries.now) c.as_bytes.ensures in
     if_none_weaken c.from_residual.result _ c.from_residual.ensures
-    (λ e h named. absurd
-    (entry_name_ne (bstring_bytes c.args.name.now) c.args.tree.now (option_of_copied_none c.find_entry.result _ c.find_entry.ensures c.in_err-entry.was) e h
-    named))
+    (is_tree_false_of_none (bstring_bytes c.args.name.now) c.args.entries.now (option_of_copied_none c.find_tree.result _ found c.in_err-entry.was))
 
-pub returns-then-is_tree-clause-found : goal.returns-then-is_tree-clause-found
-returns-then-is_tree-clause-found c =
+pub returns-clause-found : goal.returns-clause-found
+returns-clause-found c =
+    let found = c.find_tree.ensures ∙ ap (λ (n : List ℕ). find (is_tree_named n) c.args.entries.now) c.as_bytes.ensures in
     let e = c.in_ok-entry.entry.now in
-    let one = is_entry_of_first (bstring_bytes c.args.name.now) c.args.tree.now e
-    (option_of_copied_some c.find_entry.result _ c.in_ok-entry.entry c.find_entry.ensures c.in_ok-entry.was) c.requires.apart in (
-      e,
-      one,
-      ap (λ (x : EntryView). is_tree_mode x.mode) (sym c.entry.view_is) ∙ sym c.is_tree.ensures ∙ c.if-is_tree.true,
-      ap (λ (x : EntryView). x.id)
-          (sym c.entry.view_is),
-    )
-
-pub returns-else-is_tree-clause-none : goal.returns-else-is_tree-clause-none
-returns-else-is_tree-clause-none c = λ other h named.
-    let e = c.in_ok-entry.entry.now in
-    let one = is_entry_of_first (bstring_bytes c.args.name.now) c.args.tree.now e
-    (option_of_copied_some c.find_entry.result _ c.in_ok-entry.entry c.find_entry.ensures c.in_ok-entry.was) c.requires.apart in
-    ap (λ (x : EntryView). is_tree_mode x.mode) (one.2 other h named ∙ sym c.entry.view_is) ∙ sym c.is_tree.ensures ∙ c.if-is_tree.false
+    let one = is_entry_of_first_tree (bstring_bytes c.args.name.now) c.args.entries.now e
+    (option_of_copied_some c.find_tree.result _ c.in_ok-entry.entry found c.in_ok-entry.was) c.requires.apart in
+    (e, one.0, one.1, ap (λ (x : EntryView). x.id) (sym c.entry.view_is))

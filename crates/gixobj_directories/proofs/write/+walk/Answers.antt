@@ -11,7 +11,8 @@ use Rattle.gixobj_hash.specs.declared.hash.object_id.ObjectId.{ObjectId}
 use Rattle.gixobj_directories.specs.Calls.{IsStorable}
 use Rattle.gixobj_directories.specs.WriteErrors.{IsWriteError, EmitsEntry, child_side, entry_if_some, next_child}
 use Rattle.gixobj_files.specs.Emission.{EmitsBelow, entry_unless_null, of_entries}
-use Rattle.gixobj_directories.specs.Nested.{Opened, base_side, bases_of, below, dirs_of, entries_side, parts}
+use Rattle.gixobj_directories.specs.Children.{remaining_list}
+use Rattle.gixobj_directories.specs.Nested.{Opened, base_side, bases_of, below, child_list, dirs_of, entries_side, parts}
 use Rattle.gixobj_files.specs.WrittenTrees.{so_far}
 use Rattle.gixobj_directories.specs.LeafTrees.{Adds, child_leaf_trees, inside_of, leaf_trees}
 use Rattle.gixobj_directories.specs.declared.open.Child.{Child}
@@ -30,7 +31,7 @@ emit_below-loop-entry-init g t c = record {
     (
       [],
       adds_nil c.args.pairs.now.items,
-      ap (λ cs. leaf_trees (below (parts cs))) c.deref-remaining.ensures.value
+      ap (λ cs. leaf_trees (below (parts cs))) c.remaining-remaining.ensures.list
           ∙ ap (λ (ds : Opened). leaf_trees (inside_of ds)) c.node.view_is,
     ),
     refl,
@@ -40,8 +41,9 @@ emit_below-loop-entry-init g t c = record {
   );
   callable = c.requires.callable;
   shares_base = rw c.new-own.ensures (omega arith);
-  ahead = rw (c.entries_of-entry-items.ensures, c.deref-remaining.ensures.value)
-      (ahead_of_opened c.args.node.now c.node.inside.tree c.node.inside.base c.node.inside.children.items c.node.view_is c.node.invariant);
+  ahead = rw (c.entries_of-entry-items.ensures, c.in_ok-tree.ensures, c.remaining-remaining.ensures.list)
+      (ahead_of_opened c.args.node.now c.node.inside.entries c.node.inside.base (child_list c.node.inside.children) c.node.view_is c.node.invariant.level);
+  filled = c.remaining-remaining.ensures.filled;
 }
 
 pub emit_below-loop-entry-preserved : goal.emit_below-loop-entry-preserved
@@ -52,7 +54,7 @@ emit_below-loop-entry-preserved g t c =
     let dirs = dirs_of node in
     let bases = bases_of node in
     let items = c.entries_of-entry-items.result.now in
-    let go = stepped_succ node items c.loop-entry.entry-index e c.loop-entry.remaining.now c.loop-entry-test.true c.entry-item.is
+    let go = stepped_succ node items c.loop-entry.entry-index e (remaining_list c.loop-entry.remaining) c.loop-entry-test.true c.entry-item.is
     c.loop-entry.invariant.ahead in
     let next = option_copied c.next_of.result.0 in
     let inside = child_side entries_side next in
@@ -63,9 +65,9 @@ emit_below-loop-entry-preserved g t c =
     λ i path. (go.here base_side path ∙ ap (λ (o : Option Child). child_side base_side o path) (sym c.next_of.ensures.next)) i in
     let ok = c.in_ok-id.ensures.emitted in
     let kept = c.in_ok-append_unless_null.ensures in
-    let remaining = c.loop-entry.remaining.now in
-    let ahead : child_leaf_trees next ++ leaf_trees (below (parts c.next_of.result.1.now)) ≡ leaf_trees (below (parts remaining)) =
-    ap (λ o. child_leaf_trees o ++ leaf_trees (below (parts c.next_of.result.1.now))) c.next_of.ensures.next
+    let remaining = remaining_list c.loop-entry.remaining in
+    let ahead : child_leaf_trees next ++ leaf_trees (below (parts (remaining_list c.next_of.result.1))) ≡ leaf_trees (below (parts remaining)) =
+    ap (λ o. child_leaf_trees o ++ leaf_trees (below (parts (remaining_list c.next_of.result.1)))) c.next_of.ensures.next
     ∙ ap (λ cs. child_leaf_trees (next_child e.name remaining) ++ leaf_trees (below (parts cs))) c.next_of.ensures.following
     ∙ leaf_trees_of_next_child e.name remaining c.loop-entry.invariant.ahead.ordered in
     record {
@@ -88,13 +90,14 @@ emit_below-loop-entry-preserved g t c =
           c.loop-entry.invariant.callable;
       shares_base = kept.shares_base;
       ahead = subst (Ahead node (drop (c.loop-entry.entry-index + 1) items)) (sym c.next_of.ensures.following) go.ahead;
+      filled = c.next_of.ensures.filled;
     }
 
 pub emit_below-emit_entry-requires : goal.emit_below-emit_entry-requires
 emit_below-emit_entry-requires g t c =
     let node = c.args.node.now in
     let items = c.entries_of-entry-items.result.now in
-    let go = stepped_succ node items c.loop-entry.entry-index c.entry-item.result c.loop-entry.remaining.now c.loop-entry-test.true c.entry-item.is
+    let go = stepped_succ node items c.loop-entry.entry-index c.entry-item.result (remaining_list c.loop-entry.remaining) c.loop-entry-test.true c.entry-item.is
     c.loop-entry.invariant.ahead in
     let smaller : passed_size c.next_of.result.0 < length node = consumed_size_lt node c.next_of.result.0 _ c.next_of.ensures.next go.fewer
     (omega (arith, c.loop-entry.invariant.ahead.fewer)) in
@@ -108,7 +111,7 @@ emit_below-returns-in_err-id-clause-error g t c =
     let dirs = dirs_of node in
     let bases = bases_of node in
     let items = c.entries_of-entry-items.result.now in
-    let go = stepped_succ node items c.loop-entry.entry-index e c.loop-entry.remaining.now c.loop-entry-test.true c.entry-item.is
+    let go = stepped_succ node items c.loop-entry.entry-index e (remaining_list c.loop-entry.remaining) c.loop-entry-test.true c.entry-item.is
     c.loop-entry.invariant.ahead in
     let next = option_copied c.next_of.result.0 in
     let inside = child_side entries_side next in
@@ -117,10 +120,10 @@ emit_below-returns-in_err-id-clause-error g t c =
     let based = child_side base_side next in
     let base : in_dir e.name bases ≡ based =
     λ i path. (go.here base_side path ∙ ap (λ (o : Option Child). child_side base_side o path) (sym c.next_of.ensures.next)) i in
-    let root : dirs [] ≡ Some items = dirs_of_nil node c.node.inside.tree (parts c.node.inside.children.items) c.node.view_is
-    ∙ ap Some (sym c.entries_of-entry-items.ensures) in
+    let root : dirs [] ≡ Some items = dirs_of_nil node c.node.inside.entries (parts (child_list c.node.inside.children)) c.node.view_is
+    ∙ ap Some (sym (c.entries_of-entry-items.ensures ∙ c.in_ok-tree.ensures)) in
     let rest = walk_exists_of_open node (drop (c.loop-entry.entry-index + 1) items) in
-    if_err_weaken c.from_residual.result _ _ c.from_residual.ensures.1
+    if_err_weaken c.from_residual-in_err-id.result _ _ c.from_residual-in_err-id.ensures.1
     (λ error is. subst (IsWriteError (λ f p h. CalledAt g.F.FnMut f p.1 (Ok p.0) h) (λ f tree x h. CalledAt g.F.FnMut f tree (Err x) h)
     (λ ps. (own : List EntryView) × (n : ℕ) × EmitsBelow dirs bases ps own n) c.args.out.now c.emit_entry.new.out) (sym is)
     (stopped_after_folds (λ f p h. CalledAt g.F.FnMut f p.1 (Ok p.0) h) (λ f tree x h. CalledAt g.F.FnMut f tree (Err x) h)
@@ -147,7 +150,7 @@ emit_below-returns-in_err-append_unless_null-clause-error g t c =
     let dirs = dirs_of node in
     let bases = bases_of node in
     let items = c.entries_of-entry-items.result.now in
-    let go = stepped_succ node items c.loop-entry.entry-index e c.loop-entry.remaining.now c.loop-entry-test.true c.entry-item.is
+    let go = stepped_succ node items c.loop-entry.entry-index e (remaining_list c.loop-entry.remaining) c.loop-entry-test.true c.entry-item.is
     c.loop-entry.invariant.ahead in
     let next = option_copied c.next_of.result.0 in
     let inside = child_side entries_side next in
@@ -156,8 +159,8 @@ emit_below-returns-in_err-append_unless_null-clause-error g t c =
     let based = child_side base_side next in
     let base : in_dir e.name bases ≡ based =
     λ i path. (go.here base_side path ∙ ap (λ (o : Option Child). child_side base_side o path) (sym c.next_of.ensures.next)) i in
-    let root : dirs [] ≡ Some items = dirs_of_nil node c.node.inside.tree (parts c.node.inside.children.items) c.node.view_is
-    ∙ ap Some (sym c.entries_of-entry-items.ensures) in
+    let root : dirs [] ≡ Some items = dirs_of_nil node c.node.inside.entries (parts (child_list c.node.inside.children)) c.node.view_is
+    ∙ ap Some (sym (c.entries_of-entry-items.ensures ∙ c.in_ok-tree.ensures)) in
     let ok = c.in_ok-id.ensures.emitted in
     let kept = entry_if_some e c.in_ok-id.id in
     let acc = so_far c.args.base.now c.loop-entry.own in
@@ -180,8 +183,8 @@ emit_below-returns-clause-emitted g t c =
     let node = c.args.node.now in
     let dirs = dirs_of node in
     let items = c.entries_of-entry-items.result.now in
-    let root : dirs [] ≡ Some items = dirs_of_nil node c.node.inside.tree (parts c.node.inside.children.items) c.node.view_is
-    ∙ ap Some (sym c.entries_of-entry-items.ensures) in
+    let root : dirs [] ≡ Some items = dirs_of_nil node c.node.inside.entries (parts (child_list c.node.inside.children)) c.node.view_is
+    ∙ ap Some (sym (c.entries_of-entry-items.ensures ∙ c.in_ok-tree.ensures)) in
     let bases = bases_of node in
     let own = so_far c.args.base.now c.loop-entry.own in
     let none = remaining_nil node _ _ (drop_all c.loop-entry.entry-index items c.loop-entry-test.false) c.loop-entry.invariant.ahead in
@@ -204,7 +207,7 @@ emit_below-returns-clause-storable g t c =
     let bases = bases_of c.args.node.now in
     let own = so_far c.args.base.now c.loop-entry.own in
     written_is_storable dirs bases items so.0 own so.1 (walks_at_end dirs bases items c.loop-entry.entry-index so.0 own so.1 c.loop-entry-test.false so.5)
-    (subst IsWellFormed (sym c.entries_of-entry-items.ensures) c.node.invariant.formed)
+    (subst IsWellFormed (sym (c.entries_of-entry-items.ensures ∙ c.in_ok-tree.ensures)) c.node.invariant.level.formed)
 
 -- equal options have equal lists
 some_injective : (xs ys : List EntryView) → Some xs ≡ Some ys → xs ≡ ys
@@ -228,16 +231,16 @@ emit_entry-returns-in_default-clause-emitted g t c =
       refl,
     )
 
-pub emit_entry-returns-in-Some-leaf_tree-clause-emitted : goal.emit_entry-returns-in-Some-leaf_tree-clause-emitted
-emit_entry-returns-in-Some-leaf_tree-clause-emitted g t c =
+pub emit_entry-returns-in-Some-leaf-clause-emitted : goal.emit_entry-returns-in-Some-leaf-clause-emitted
+emit_entry-returns-in-Some-leaf-clause-emitted g t c =
     let e = c.args.entry.now in
     let inside = child_side entries_side (option_copied c.args.child) in
     let based = child_side base_side (option_copied c.args.child) in
     let child = c.in-Some.child.now in
     let there = side_of_open_child entries_side c.args.child c.in-Some.child c.in-Some.is in
     let base = side_of_open_child base_side c.args.child c.in-Some.child c.in-Some.is in
-    let tree = c.in-Some-leaf_tree.tree.now in
-    let some = c.in-Some-leaf_tree.ensures.found in
+    let tree = c.in-Some-leaf.tree.now in
+    let some = (rw c.in-Some-leaf.is at c.in_ok-leaf.ensures.found) in
     let goes = leaf_tree_has_base_or_is_emitted child.open tree some.0 some.1 some.2 in
     let found : EmitsBelow inside based [] tree 0 = emits_below_of_both _ _ inside based there base [] tree 0 goes.found in
     let changed : based [] ≢ Some tree = λ is. goes.changed (some_injective _ _ (sym is ∙ sym (ap (λ (d : Dirs). d []) base) ∙ goes.based)) in
@@ -262,12 +265,12 @@ emit_entry-returns-in_err-passed-clause-error g t c =
     let child = c.in-Some.child.now in
     let there = side_of_open_child entries_side c.args.child c.in-Some.child c.in-Some.is in
     let base = side_of_open_child base_side c.args.child c.in-Some.child c.in-Some.is in
-    let tree = c.in-Some-leaf_tree.tree.now in
-    let some = c.in-Some-leaf_tree.ensures.found in
+    let tree = c.in-Some-leaf.tree.now in
+    let some = (rw c.in-Some-leaf.is at c.in_ok-leaf.ensures.found) in
     let goes = leaf_tree_has_base_or_is_emitted child.open tree some.0 some.1 some.2 in
     let found : EmitsBelow inside based [] tree 0 = emits_below_of_both _ _ inside based there base [] tree 0 goes.found in
     let changed : based [] ≢ Some tree = λ is. goes.changed (some_injective _ _ (sym is ∙ sym (ap (λ (d : Dirs). d []) base) ∙ goes.based)) in
-    if_err_weaken c.from_residual.result _ _ c.from_residual.ensures.1
+    if_err_weaken c.from_residual-in_err-passed.result _ _ c.from_residual-in_err-passed.ensures.1
     (λ error is. subst (IsWriteError (λ f p h. CalledAt g.F.FnMut f p.1 (Ok p.0) h) (λ f tree x h. CalledAt g.F.FnMut f tree (Err x) h)
     (λ inner. (kept : List EntryView) × (n : ℕ) × EmitsEntry inside based e inner kept n) c.args.out.now c.emit_leaf_tree.new.out) (sym is)
     (stopped_after_folds (λ f p h. CalledAt g.F.FnMut f p.1 (Ok p.0) h) (λ f tree x h. CalledAt g.F.FnMut f tree (Err x) h)
@@ -321,7 +324,7 @@ emit_entry-returns-then-has_no_entries-clause-emitted g t c =
       emits_entry_emptied inside based e ok.0 own ok.1 bare found,
       ok.3,
       adds_leaf_trees_of_child c.args.child c.in-Some.child c.in-Some.is _
-          c.in_default-leaf_tree.ensures.none c.args.pairs.now.items _ ok.0 ok.4,
+          (rw c.in_default-leaf.is at c.in_ok-leaf.ensures.none) c.args.pairs.now.items _ ok.0 ok.4,
       ok.5,
     )
 
@@ -339,13 +342,14 @@ emit_entry-returns-then-is_base-clause-emitted g t c =
     let filled = not_nil_of_not_empty own (c.if-has_no_entries.ensures {u = tt} c.base_of-base.result.now c.in_ok-own.ensures.shares_base) in
     let is_same : based [] ≡ Some own = sym (ap (λ (d : Dirs). d []) base) ∙ c.base_of-base.ensures
     ∙ ap Some (sym ((c.if-is_base.ensures {u = tt}).0 refl)) in
-    let kept = subst (λ id. EmitsEntry inside based e ok.0 (entry_unless_null e id) (ok.1 + 1)) (sym (ap (λ (x : EntryView). x.id) c.entry.view_is))
+    let kept = subst (λ id. EmitsEntry inside based e ok.0 (entry_unless_null e id) (ok.1 + 1))
+    (sym (ap (λ (x : EntryView). x.id) c.entry-then-is_base.view_is))
     (emits_entry_unchanged inside based e ok.0 own ok.1 filled is_same found) in (
       ok.0,
       ok.1 + 1,
       kept,
       raised_append _ _ _ ok.1 1 ok.3 c.count.ensures,
-      adds_leaf_trees_of_child c.args.child c.in-Some.child c.in-Some.is _ c.in_default-leaf_tree.ensures.none
+      adds_leaf_trees_of_child c.args.child c.in-Some.child c.in-Some.is _ (rw c.in_default-leaf.is at c.in_ok-leaf.ensures.none)
           c.args.pairs.now.items _ ok.0 ok.4,
       ok.5,
     )
@@ -431,10 +435,38 @@ emit_entry-returns-clause-emitted g t c =
       subst (λ t'. EmitsEntry inside based e (ok.0 ++ (c.in_ok-id.id, t') ∷ []) (entry_unless_null e c.in_ok-id.id) ok.1) made
           (emits_entry_written inside based e ok.0 own ok.1 c.in_ok-id.id filled changed found),
       ok.3,
-      adds_leaf_trees_of_child c.args.child c.in-Some.child c.in-Some.is _ (c.in_default-leaf_tree.ensures.none ∙ sym (append-nil _)) c.args.pairs.now.items
+      adds_leaf_trees_of_child c.args.child c.in-Some.child c.in-Some.is _ ((rw c.in_default-leaf.is at c.in_ok-leaf.ensures.none)
+          ∙ sym (append-nil _)) c.args.pairs.now.items
           c.emit_tree.new.pairs.items (ok.0 ++ (c.in_ok-id.id, tree) ∷ [])
           (adds_append c.args.pairs.now.items c.emit_below.new.pairs.items c.emit_tree.new.pairs.items _ ok.0 [] ((c.in_ok-id.id, tree) ∷ []) ok.4
           (adds_pair _ _ (c.in_ok-id.id, tree) (λ none. filled (made ∙ none)) emitted.0)),
       folds_to_append gave c.args.out.now ok.0 c.emit_below.new.out ((c.in_ok-id.id, tree) ∷ []) c.emit_tree.new.out ok.5
           (folds_to_one gave c.emit_below.new.out (c.in_ok-id.id, tree) c.emit_tree.new.out emitted.1),
     )
+
+pub emit_below-returns-in_err-tree-clause-error : goal.emit_below-returns-in_err-tree-clause-error
+emit_below-returns-in_err-tree-clause-error g t c =
+    let node = c.args.node.now in
+    let rest = walk_exists_of_open node c.node.inside.entries in
+    let root = dirs_of_nil node c.node.inside.entries (parts (child_list c.node.inside.children)) c.node.view_is in
+    if_err_weaken c.from_residual.result _ _ c.from_residual.ensures.1
+    (stopped_at_call (λ f p h. CalledAt g.F.FnMut f p.1 (Ok p.0) h) (λ f tree x h. CalledAt g.F.FnMut f tree (Err x) h)
+    (λ ps. (own : List EntryView) × (n : ℕ) × EmitsBelow (dirs_of node) (bases_of node) ps own n) c.args.out.now c.args.out.now [] rest.0 refl
+    (rest.1, rest.2, of_entries (dirs_of node) (bases_of node) c.node.inside.entries _ _ _ root rest.3))
+
+pub emit_entry-returns-in_err-leaf-clause-error : goal.emit_entry-returns-in_err-leaf-clause-error
+emit_entry-returns-in_err-leaf-clause-error g t c =
+    let e = c.args.entry.now in
+    let inside = child_side entries_side (option_copied c.args.child) in
+    let based = child_side base_side (option_copied c.args.child) in
+    let child = c.in-Some.child.now in
+    let there = side_of_open_child entries_side c.args.child c.in-Some.child c.in-Some.is in
+    let base = side_of_open_child base_side c.args.child c.in-Some.child c.in-Some.is in
+    let root = c.leaf_tree.ensures.root in
+    let rest = walk_exists_of_open child.open root.0 in
+    let found = of_entries (dirs_of child.open) (bases_of child.open) root.0 rest.0 rest.1 rest.2 root.1 rest.3 in
+    let seen = emits_entry_open inside based e rest.0 rest.1 rest.2 (emits_below_of_both _ _ inside based there base rest.0 rest.1 rest.2 found) in
+    if_err_weaken c.from_residual.result _ _ c.from_residual.ensures.1
+    (stopped_at_call (λ f p h. CalledAt g.F.FnMut f p.1 (Ok p.0) h) (λ f tree x h. CalledAt g.F.FnMut f tree (Err x) h)
+    (λ inner. (kept : List EntryView) × (n : ℕ) × EmitsEntry inside based e inner kept n) c.args.out.now c.args.out.now [] (rest.0 ++ seen.0) refl
+    (seen.1, seen.2, seen.3))

@@ -16,12 +16,12 @@ loop-command-preserved g c =
     let answers = λ (tree : List EntryView) (answer : Result ObjectId g.row.E.Denot). FnReturnsAt g.F.Fn c.args.out tree answer in
     let steps = c.in-Some.ensures.steps in
     record {
-      so_far = λ replies new h. one_more model answers c.loop-command.editor _ _ _ _ _ _ _ _ _ _ _ c.do_command-reply.ensures.reply steps.0
+      so_far = λ replies new h. one_more model answers c.loop-command.editor _ _ _ _ _ _ _ _ _ _ _ c.run_command-reply.ensures.reply steps.0
           c.push_reserved.ensures.items c.loop-command.invariant.so_far h;
       room = let e = ap length steps.0 in grind (arith, c.loop-command.invariant.room);
       same = refl;
-      causes = all_snoc (HasKeepCauses {E = g.row.E.Denot} g.S.Store.objects g.S.Keep.keep_errors) _ _ c.do_command-reply.result c.push_reserved.ensures.items
-          c.loop-command.invariant.causes c.do_command-reply.ensures.causes;
+      causes = all_snoc (HasKeepCauses {E = g.row.E.Denot} g.S.Store.objects g.S.Keep.keep_errors) _ _ c.run_command-reply.result c.push_reserved.ensures.items
+          c.loop-command.invariant.causes c.run_command-reply.ensures.causes;
     }
 
 pub returns-clause-replies : goal.returns-clause-replies

@@ -9,16 +9,16 @@ use Rattle.gixobj_files.specs.OpeningStops.{StopsOpening}
 use Rattle.gixobj_files.specs.Opening.{IsOpened}
 use Rattle.gixobj_files.specs.Tables.{IsNeverLookedUp}
 use Rattle.gixobj_directories.specs.Calls.{names_of}
-use Rattle.gixobj_directories.specs.Nested.{Opened, bases_of, dirs_of, opened, parts, with_part}
+use Rattle.gixobj_directories.specs.Nested.{Opened, bases_of, child_list, dirs_of, opened, parts, with_part}
 use Rattle.gixobj_directories.specs.Openings.{EndsBefore, IsDirectoryError}
 use Rattle.gixobj_directories.specs.declared.open.Child.{Child}
 use Rattle.gixobj_directories.proofs.Emitting.{if_err_weaken}
-use Rattle.gixobj_directories.proofs.Levels.{dirs_of_nil, is_level_set, all_names_differ, in_part_none}
+use Rattle.gixobj_directories.proofs.Levels.{dirs_of_nil, all_names_differ, in_part_none}
+use Rattle.gixobj_directories.proofs.Pieces.{IsFound, is_changed, is_child, is_pieced_level_with_open}
 use Rattle.gixobj_directories.proofs.OpeningSteps.{HaltsAt, IsFormedList, OpensAs, StaysOpened, counted_append, down_in, found_in, halts_at_goes_down, halts_at_goes_in, stops_opening_here, is_level_of_new_child, names_of_nil, stops_opening_for_memory, stops_opening_not_found, opens_goes_down, opens_goes_in, stays_opened_goes_down, stays_opened_goes_in, is_opened_after_opening, opens_stopped_here}
 use Rattle.gixobj_tree.specs.Entries.{EntryView}
 use Rattle.gixobj_files.specs.Bases.{base_opened}
 use Rattle.gixobj_directories.proofs.BaseSteps.{base_opened_of_found, base_opened_of_moved, opening, set_moved, unmoved, base_of_unmoved}
-use Rattle.gixobj_directories.proofs.Ordered.{level_names_apart}
 use Rattle.gixobj_directories.proofs.open.Open.+open_along.Goals as goal
 
 pub returns-in_default-clause-opened : goal.returns-in_default-clause-opened
@@ -30,38 +30,44 @@ returns-in_default-clause-opened g t c = λ trees fits. (
 )
 
 pub invariant_of-self : goal.invariant_of-self
-invariant_of-self g t c = is_level_set c.self.inside.tree c.self.inside.children.items c.in-Some-child_at.place c.index_mut-child.result.now _
-    c.index_mut-child.ensures.value refl c.self.invariant
+invariant_of-self g t c =
+    let it = c.in-Some-position.ensures {u = tt} in
+    let found : IsFound (bstring_bytes c.in-Some.name.now) c.self.inside.children _ _ c.at_mut-child.result.now =
+    record { within = it.within; found = it.found; is = c.at_mut-child.ensures.value } in
+    is_pieced_level_with_open found c.open_along.new.self c.self.invariant
 
-pub returns-in-Some-child_at-clause-opened : goal.returns-in-Some-child_at-clause-opened
-returns-in-Some-child_at-clause-opened g t c = MatchResult-weaker c.open_along.result c.open_along.ensures.opened (λ _ ok trees fits.
+pub returns-in-Some-position-clause-opened : goal.returns-in-Some-position-clause-opened
+returns-in-Some-position-clause-opened g t c = MatchResult-weaker c.open_along.result c.open_along.ensures.opened (λ _ ok trees fits.
     let root = c.open_along.ensures.root in
+    let it = c.in-Some-position.ensures {u = tt} in
+    let found : IsFound (bstring_bytes c.in-Some.name.now) c.self.inside.children _ _ c.at_mut-child.result.now =
+    record { within = it.within; found = it.found; is = c.at_mut-child.ensures.value } in
     let below = ok trees fits in (
       below.0,
       down_in (OpensAs (EndsBefore c.args.not_looked_up) trees) (Opens (EndsBefore c.args.not_looked_up) trees)
-          (opens_goes_down (EndsBefore c.args.not_looked_up) trees) (opens_goes_in (EndsBefore c.args.not_looked_up) trees) c.self.inside.tree c.args.self.now
+          (opens_goes_down (EndsBefore c.args.not_looked_up) trees) (opens_goes_in (EndsBefore c.args.not_looked_up) trees) c.self.inside.entries
+          c.args.self.now
           (names_of c.args.path.now) (bstring_bytes c.in-Some.name.now) (names_of c.in-Some.rest.now) (ap names_of c.in-Some.ensures.cases.0)
-          c.self.inside.children.items c.deref.result.now c.self.view_is c.self.invariant c.in-Some-child_at.place c.index_mut-child.result.now
-          (record { name = c.index_mut-child.result.now.name; «open» = c.open_along.new.self })
-          c.deref.ensures.value (c.in-Some-child_at.ensures {u = tt}) c.index_mut-child.ensures.value refl root.0 root.1 below.0 below.1,
+          (is_child found) (is_changed found c.open_along.new.self) c.self.view_is c.self.invariant.level root.0 root.1 below.0 below.1,
       below.2,
     )) (λ _ u. u)
 
-pub returns-in-Some-child_at-clause-stopped_opening : goal.returns-in-Some-child_at-clause-stopped_opening
-returns-in-Some-child_at-clause-stopped_opening g t c = MatchResult-weaker c.open_along.result c.open_along.ensures.stopped_opening (λ _ u. u)
+pub returns-in-Some-position-clause-stopped_opening : goal.returns-in-Some-position-clause-stopped_opening
+returns-in-Some-position-clause-stopped_opening g t c = MatchResult-weaker c.open_along.result c.open_along.ensures.stopped_opening (λ _ u. u)
     (λ error bad trees fits.
     let root = c.open_along.ensures.root in
+    let it = c.in-Some-position.ensures {u = tt} in
+    let found : IsFound (bstring_bytes c.in-Some.name.now) c.self.inside.children _ _ c.at_mut-child.result.now =
+    record { within = it.within; found = it.found; is = c.at_mut-child.ensures.value } in
     let below = bad trees fits in (
       below.0,
       below.1,
       down_in (OpensAs (EndsBefore c.args.not_looked_up) trees) (HaltsAt (EndsBefore c.args.not_looked_up) trees below.1)
           (halts_at_goes_down (EndsBefore c.args.not_looked_up) trees below.1)
-          (halts_at_goes_in (EndsBefore c.args.not_looked_up) trees below.1) c.self.inside.tree
+          (halts_at_goes_in (EndsBefore c.args.not_looked_up) trees below.1) c.self.inside.entries
           c.args.self.now (names_of c.args.path.now) (bstring_bytes c.in-Some.name.now) (names_of c.in-Some.rest.now)
           (ap names_of c.in-Some.ensures.cases.0)
-          c.self.inside.children.items c.deref.result.now c.self.view_is c.self.invariant c.in-Some-child_at.place c.index_mut-child.result.now
-          (record { name = c.index_mut-child.result.now.name; «open» = c.open_along.new.self })
-          c.deref.ensures.value (c.in-Some-child_at.ensures {u = tt}) c.index_mut-child.ensures.value refl root.0 root.1 below.0 below.2,
+          (is_child found) (is_changed found c.open_along.new.self) c.self.view_is c.self.invariant.level root.0 root.1 below.0 below.2,
       below.3,
       below.4,
     ))
@@ -69,11 +75,10 @@ returns-in-Some-child_at-clause-stopped_opening g t c = MatchResult-weaker c.ope
 pub returns-in_default-next_id-clause-opened : goal.returns-in_default-next_id-clause-opened
 returns-in_default-next_id-clause-opened g t c = λ trees fits. (
   [],
-  opens_stopped_here trees c.self.inside.tree c.args.self.now (names_of c.args.path.now) (bstring_bytes c.in-Some.name.now) (names_of c.in-Some.rest.now)
+  opens_stopped_here trees c.self.inside.entries c.args.self.now (names_of c.args.path.now) (bstring_bytes c.in-Some.name.now) (names_of c.in-Some.rest.now)
       (ap names_of c.in-Some.ensures.cases.0)
-      (parts c.self.inside.children.items) c.self.view_is c.self.invariant
-      (in_part_none (bstring_bytes c.in-Some.name.now) c.self.inside.children.items c.deref.result.now c.deref.ensures.value
-      (c.in_default-child_at.ensures {u = tt}))
+      (parts (child_list c.self.inside.children)) c.self.view_is c.self.invariant.level
+      (in_part_none (bstring_bytes c.in-Some.name.now) (child_list c.self.inside.children) (c.in_default-position.ensures {u = tt}).none)
       (c.in_default-next_id.ensures {u = tt}).none,
   refl,
 )
@@ -82,15 +87,15 @@ pub returns-in_err-own_name-clause-stopped_opening : goal.returns-in_err-own_nam
 returns-in_err-own_name-clause-stopped_opening g t c = if_err_weaken c.from_residual.result _ _ c.from_residual.ensures.1 (λ error is trees fits.
     let StopsBefore = EndsBefore c.args.not_looked_up in
     let name = bstring_bytes c.in-Some.name.now in
-    let cs = c.self.inside.children.items in
+    let cs = child_list c.self.inside.children in
     let there = (c.in-Some-next_id.ensures {u = tt}).found in (
       [],
       None,
-      stops_opening_here StopsBefore trees (names_of c.args.path.now) name (names_of c.in-Some.rest.now) c.self.inside.tree c.args.self.now cs
-          c.room_for.new.children.items
-          (ap names_of c.in-Some.ensures.cases.0) c.self.view_is c.room_for.ensures.items [] None
-          (stops_opening_for_memory StopsBefore trees name (names_of c.in-Some.rest.now) c.self.inside.tree cs c.self.invariant
-          (in_part_none name cs c.deref.result.now c.deref.ensures.value (c.in_default-child_at.ensures {u = tt})) there.0 there.1 there.2 there.3),
+      stops_opening_here StopsBefore trees (names_of c.args.path.now) name (names_of c.in-Some.rest.now) c.self.inside.entries c.args.self.now cs
+          (child_list c.room_for.new.self)
+          (ap names_of c.in-Some.ensures.cases.0) c.self.view_is c.room_for.ensures.list [] None
+          (stops_opening_for_memory StopsBefore trees name (names_of c.in-Some.rest.now) c.self.inside.entries cs c.self.invariant.level
+          (in_part_none name cs (c.in_default-position.ensures {u = tt}).none) there.0 there.1 there.2 there.3),
       refl,
       is,
     ))
@@ -100,18 +105,18 @@ returns-in_err-tree-clause-stopped_opening g t c = if_err_weaken c.from_residual
     (λ error is trees fits.
     let StopsBefore = EndsBefore c.args.not_looked_up in
     let name = bstring_bytes c.in-Some.name.now in
-    let cs = c.self.inside.children.items in
+    let cs = child_list c.self.inside.children in
     let there = (c.in-Some-next_id.ensures {u = tt}).found in
     let queries = (c.in_err-tree.ensures {u = tt}).lookups in (
       c.in-Some-next_id.id ∷ [],
       Some c.in-Some-next_id.id,
       subst (λ (id : ObjectId). StopsOpening StopsBefore trees (names_of c.args.path.now) (dirs_of c.args.self.now)
-          (dirs_of (opened c.self.inside.tree c.self.inside.base (parts c.room_for.new.children.items))) (id ∷ []) (Some id)) there.4
-          (stops_opening_here StopsBefore trees (names_of c.args.path.now) name (names_of c.in-Some.rest.now) c.self.inside.tree c.args.self.now cs
-          c.room_for.new.children.items (ap names_of c.in-Some.ensures.cases.0) c.self.view_is c.room_for.ensures.items (there.0.id ∷ [])
+          (dirs_of (opened c.self.inside.entries c.self.inside.base (parts (child_list c.room_for.new.self)))) (id ∷ []) (Some id)) there.4
+          (stops_opening_here StopsBefore trees (names_of c.args.path.now) name (names_of c.in-Some.rest.now) c.self.inside.entries c.args.self.now cs
+          (child_list c.room_for.new.self) (ap names_of c.in-Some.ensures.cases.0) c.self.view_is c.room_for.ensures.list (there.0.id ∷ [])
           (Some there.0.id)
-          (stops_opening_not_found StopsBefore trees name (names_of c.in-Some.rest.now) c.self.inside.tree cs c.self.invariant
-          (in_part_none name cs c.deref.result.now c.deref.ensures.value (c.in_default-child_at.ensures {u = tt})) there.0 there.1 there.2 there.3
+          (stops_opening_not_found StopsBefore trees name (names_of c.in-Some.rest.now) c.self.inside.entries cs c.self.invariant.level
+          (in_part_none name cs (c.in_default-position.ensures {u = tt}).none) there.0 there.1 there.2 there.3
           (subst (λ (id : ObjectId). IsNeverLookedUp id → ⊥) (sym there.4) queries.0))),
       queries.1,
       subst (IsDirectoryError (g.S.Store.objects c.args.store.now) (g.S.Store.may_fail c.args.store.now) c.in-Some-next_id.id) (sym is)
@@ -121,36 +126,38 @@ returns-in_err-tree-clause-stopped_opening g t c = if_err_weaken c.from_residual
 pub invariant_of-self-2 : goal.invariant_of-self-2
 invariant_of-self-2 g t c =
     let name = bstring_bytes c.in-Some.name.now in
-    let cs = c.self.inside.children.items in
+    let cs = child_list c.self.inside.children in
     let inner = c.open_along-opened.new.self in
-    let same : parts c.store_child.new.children.items ≡ with_part (name, inner) (parts cs) =
-    c.store_child.ensures ∙ ap (λ n. with_part (n, inner) (parts c.room_for.new.children.items)) (c.in_ok-own_name.ensures {u = tt}).found.0
-    ∙ ap (λ (l : List Child). with_part (name, inner) (parts l)) c.room_for.ensures.items in
+    let same : parts (child_list c.insert.new.self) ≡ with_part (name, inner) (parts cs) =
+    c.insert.ensures.inserted ∙ ap (λ n. with_part (n, inner) (parts (child_list c.room_for.new.self))) (c.in_ok-own_name.ensures {u = tt}).name
+    ∙ ap (λ (l : List Child). with_part (name, inner) (parts l)) c.room_for.ensures.list in
     let there = (c.in-Some-next_id.ensures {u = tt}).found in
-    is_level_of_new_child name c.self.inside.tree cs c.self.invariant
-    (all_names_differ name cs c.deref.result.now c.deref.ensures.value (c.in_default-child_at.ensures {u = tt}))
-    there.0 there.1 there.2 inner c.store_child.new.children.items same
+    record {
+      level = is_level_of_new_child name c.self.inside.entries cs c.self.invariant.level there.0 there.1 there.2 inner (child_list c.insert.new.self) same;
+      filled = c.insert.ensures.filled;
+    }
 
 pub returns-clause-opened : goal.returns-clause-opened
 returns-clause-opened g t c = MatchResult-weaker c.open_along-opened.result c.open_along-opened.ensures.opened (λ _ ok trees fits.
     let name = bstring_bytes c.in-Some.name.now in
-    let cs = c.self.inside.children.items in
+    let cs = child_list c.self.inside.children in
     let inner = c.open_along-opened.new.self in
-    let same : parts c.store_child.new.children.items ≡ with_part (name, inner) (parts cs) =
-    c.store_child.ensures ∙ ap (λ n. with_part (n, inner) (parts c.room_for.new.children.items)) (c.in_ok-own_name.ensures {u = tt}).found.0
-    ∙ ap (λ (l : List Child). with_part (name, inner) (parts l)) c.room_for.ensures.items in
+    let same : parts (child_list c.insert.new.self) ≡ with_part (name, inner) (parts cs) =
+    c.insert.ensures.inserted ∙ ap (λ n. with_part (n, inner) (parts (child_list c.room_for.new.self))) (c.in_ok-own_name.ensures {u = tt}).name
+    ∙ ap (λ (l : List Child). with_part (name, inner) (parts l)) c.room_for.ensures.list in
     let there = (c.in-Some-next_id.ensures {u = tt}).found in
     let below = ok trees fits in
     let finds = (c.in_ok-tree.ensures {u = tt}).found trees fits in (
       finds.0 ++ below.0,
       found_in (OpensAs (EndsBefore c.args.not_looked_up) trees) (Opens (EndsBefore c.args.not_looked_up) trees)
-          (opens_goes_down (EndsBefore c.args.not_looked_up) trees) (opens_goes_in (EndsBefore c.args.not_looked_up) trees) c.self.inside.tree c.args.self.now
+          (opens_goes_down (EndsBefore c.args.not_looked_up) trees) (opens_goes_in (EndsBefore c.args.not_looked_up) trees) c.self.inside.entries
+          c.args.self.now
           (names_of c.args.path.now) name (names_of c.in-Some.rest.now) (ap names_of c.in-Some.ensures.cases.0)
-          cs c.self.view_is c.self.invariant (all_names_differ name cs c.deref.result.now c.deref.ensures.value (c.in_default-child_at.ensures {u = tt}))
-          (in_part_none name cs c.deref.result.now c.deref.ensures.value (c.in_default-child_at.ensures {u = tt}))
+          cs c.self.view_is c.self.invariant.level (all_names_differ name cs (c.in_default-position.ensures {u = tt}).none)
+          (in_part_none name cs (c.in_default-position.ensures {u = tt}).none)
           there.0 there.1 there.2 c.in_ok-tree.tree finds.0 below.0
           (there.3, subst (λ id. Finds trees id c.in_ok-tree.tree finds.0) (sym there.4) finds.1)
-          inner c.store_child.new.children.items same
+          inner (child_list c.insert.new.self) same
           (subst (λ (d : Opened). Opens (EndsBefore c.args.not_looked_up) trees (names_of c.in-Some.rest.now) (dirs_of d)
           (dirs_of c.open_along-opened.new.self) below.0) c.with_base-inner.ensures below.1),
       below.2 ∙ ap (λ n. counted n below.0) finds.2 ∙ counted_append c.args.lookups.now finds.0 below.0,
@@ -160,11 +167,11 @@ pub returns-clause-stopped_opening : goal.returns-clause-stopped_opening
 returns-clause-stopped_opening g t c = MatchResult-weaker c.open_along-opened.result c.open_along-opened.ensures.stopped_opening (λ _ u. u)
     (λ error bad trees fits.
     let name = bstring_bytes c.in-Some.name.now in
-    let cs = c.self.inside.children.items in
+    let cs = child_list c.self.inside.children in
     let inner = c.open_along-opened.new.self in
-    let same : parts c.store_child.new.children.items ≡ with_part (name, inner) (parts cs) =
-    c.store_child.ensures ∙ ap (λ n. with_part (n, inner) (parts c.room_for.new.children.items)) (c.in_ok-own_name.ensures {u = tt}).found.0
-    ∙ ap (λ (l : List Child). with_part (name, inner) (parts l)) c.room_for.ensures.items in
+    let same : parts (child_list c.insert.new.self) ≡ with_part (name, inner) (parts cs) =
+    c.insert.ensures.inserted ∙ ap (λ n. with_part (n, inner) (parts (child_list c.room_for.new.self))) (c.in_ok-own_name.ensures {u = tt}).name
+    ∙ ap (λ (l : List Child). with_part (name, inner) (parts l)) c.room_for.ensures.list in
     let there = (c.in-Some-next_id.ensures {u = tt}).found in
     let below = bad trees fits in
     let finds = (c.in_ok-tree.ensures {u = tt}).found trees fits in (
@@ -172,80 +179,82 @@ returns-clause-stopped_opening g t c = MatchResult-weaker c.open_along-opened.re
       below.1,
       found_in (OpensAs (EndsBefore c.args.not_looked_up) trees) (HaltsAt (EndsBefore c.args.not_looked_up) trees below.1)
           (halts_at_goes_down (EndsBefore c.args.not_looked_up) trees below.1)
-          (halts_at_goes_in (EndsBefore c.args.not_looked_up) trees below.1) c.self.inside.tree
+          (halts_at_goes_in (EndsBefore c.args.not_looked_up) trees below.1) c.self.inside.entries
           c.args.self.now (names_of c.args.path.now) name (names_of c.in-Some.rest.now) (ap names_of c.in-Some.ensures.cases.0)
-          cs c.self.view_is c.self.invariant (all_names_differ name cs c.deref.result.now c.deref.ensures.value (c.in_default-child_at.ensures {u = tt}))
-          (in_part_none name cs c.deref.result.now c.deref.ensures.value (c.in_default-child_at.ensures {u = tt}))
+          cs c.self.view_is c.self.invariant.level (all_names_differ name cs (c.in_default-position.ensures {u = tt}).none)
+          (in_part_none name cs (c.in_default-position.ensures {u = tt}).none)
           there.0 there.1 there.2 c.in_ok-tree.tree finds.0 below.0
           (there.3, subst (λ id. Finds trees id c.in_ok-tree.tree finds.0) (sym there.4) finds.1)
-          inner c.store_child.new.children.items same
+          inner (child_list c.insert.new.self) same
           (subst (λ (d : Opened). StopsOpening (EndsBefore c.args.not_looked_up) trees (names_of c.in-Some.rest.now) (dirs_of d)
           (dirs_of c.open_along-opened.new.self) below.0 below.1) c.with_base-inner.ensures below.2),
       below.3 ∙ ap (λ n. counted n below.0) finds.2 ∙ counted_append c.args.lookups.now finds.0 below.0,
       below.4,
     ))
 
-pub returns-in-Some-child_at-clause-still_opened : goal.returns-in-Some-child_at-clause-still_opened
-returns-in-Some-child_at-clause-still_opened g t c =
+pub returns-in-Some-position-clause-still_opened : goal.returns-in-Some-position-clause-still_opened
+returns-in-Some-position-clause-still_opened g t c =
     let root = c.open_along.ensures.root in
-    down_in IsFormedList StaysOpened stays_opened_goes_down stays_opened_goes_in c.self.inside.tree c.args.self.now (names_of c.args.path.now)
+    let it = c.in-Some-position.ensures {u = tt} in
+    let found : IsFound (bstring_bytes c.in-Some.name.now) c.self.inside.children _ _ c.at_mut-child.result.now =
+    record { within = it.within; found = it.found; is = c.at_mut-child.ensures.value } in
+    down_in IsFormedList StaysOpened stays_opened_goes_down stays_opened_goes_in c.self.inside.entries c.args.self.now (names_of c.args.path.now)
     (bstring_bytes c.in-Some.name.now)
     (names_of c.in-Some.rest.now) (ap names_of c.in-Some.ensures.cases.0)
-    c.self.inside.children.items c.deref.result.now c.self.view_is c.self.invariant c.in-Some-child_at.place c.index_mut-child.result.now
-    (record { name = c.index_mut-child.result.now.name; «open» = c.open_along.new.self })
-    c.deref.ensures.value (c.in-Some-child_at.ensures {u = tt}) c.index_mut-child.ensures.value refl root.0 root.1
+    (is_child found) (is_changed found c.open_along.new.self) c.self.view_is c.self.invariant.level root.0 root.1
     [] c.open_along.ensures.still_opened
 
 pub returns-in_err-own_name-clause-still_opened : goal.returns-in_err-own_name-clause-still_opened
 returns-in_err-own_name-clause-still_opened g t c =
-    is_opened_after_opening c.self.inside.tree c.args.self.now c.self.inside.children.items c.room_for.new.children.items
-    c.self.view_is c.room_for.ensures.items
+    is_opened_after_opening c.self.inside.entries c.args.self.now (child_list c.self.inside.children) (child_list c.room_for.new.self)
+    c.self.view_is c.room_for.ensures.list
 
 pub returns-in_err-tree-clause-still_opened : goal.returns-in_err-tree-clause-still_opened
 returns-in_err-tree-clause-still_opened g t c =
-    is_opened_after_opening c.self.inside.tree c.args.self.now c.self.inside.children.items c.room_for.new.children.items
-    c.self.view_is c.room_for.ensures.items
+    is_opened_after_opening c.self.inside.entries c.args.self.now (child_list c.self.inside.children) (child_list c.room_for.new.self)
+    c.self.view_is c.room_for.ensures.list
 
 pub returns-clause-still_opened : goal.returns-clause-still_opened
 returns-clause-still_opened g t c =
     let name = bstring_bytes c.in-Some.name.now in
-    let cs = c.self.inside.children.items in
+    let cs = child_list c.self.inside.children in
     let inner = c.open_along-opened.new.self in
-    let same : parts c.store_child.new.children.items ≡ with_part (name, inner) (parts cs) =
-    c.store_child.ensures ∙ ap (λ n. with_part (n, inner) (parts c.room_for.new.children.items)) (c.in_ok-own_name.ensures {u = tt}).found.0
-    ∙ ap (λ (l : List Child). with_part (name, inner) (parts l)) c.room_for.ensures.items in
+    let same : parts (child_list c.insert.new.self) ≡ with_part (name, inner) (parts cs) =
+    c.insert.ensures.inserted ∙ ap (λ n. with_part (n, inner) (parts (child_list c.room_for.new.self))) (c.in_ok-own_name.ensures {u = tt}).name
+    ∙ ap (λ (l : List Child). with_part (name, inner) (parts l)) c.room_for.ensures.list in
     let there = (c.in-Some-next_id.ensures {u = tt}).found in
-    found_in IsFormedList StaysOpened stays_opened_goes_down stays_opened_goes_in c.self.inside.tree c.args.self.now (names_of c.args.path.now) name
+    found_in IsFormedList StaysOpened stays_opened_goes_down stays_opened_goes_in c.self.inside.entries c.args.self.now (names_of c.args.path.now) name
     (names_of c.in-Some.rest.now)
     (ap names_of c.in-Some.ensures.cases.0)
-    cs c.self.view_is c.self.invariant (all_names_differ name cs c.deref.result.now c.deref.ensures.value (c.in_default-child_at.ensures {u = tt}))
-    (in_part_none name cs c.deref.result.now c.deref.ensures.value (c.in_default-child_at.ensures {u = tt}))
-    there.0 there.1 there.2 c.in_ok-tree.tree [] [] (c.in_ok-tree.ensures {u = tt}).well_formed inner c.store_child.new.children.items same
+    cs c.self.view_is c.self.invariant.level (all_names_differ name cs (c.in_default-position.ensures {u = tt}).none)
+    (in_part_none name cs (c.in_default-position.ensures {u = tt}).none)
+    there.0 there.1 there.2 c.in_ok-tree.tree [] [] (c.in_ok-tree.ensures {u = tt}).well_formed inner (child_list c.insert.new.self) same
     (subst (λ (d : Opened). IsOpened (dirs_of d) → IsOpened (dirs_of c.open_along-opened.new.self)) c.with_base-inner.ensures
     c.open_along-opened.ensures.still_opened)
 
 pub returns-in_default-clause-root : goal.returns-in_default-clause-root
 returns-in_default-clause-root g t c =
-    (c.self.inside.tree, dirs_of_nil c.args.self.now c.self.inside.tree (parts c.self.inside.children.items) c.self.view_is)
+    (c.self.inside.entries, dirs_of_nil c.args.self.now c.self.inside.entries (parts (child_list c.self.inside.children)) c.self.view_is)
 
-pub returns-in-Some-child_at-clause-root : goal.returns-in-Some-child_at-clause-root
-returns-in-Some-child_at-clause-root g t c =
-    (c.self.inside.tree, dirs_of_nil c.args.self.now c.self.inside.tree (parts c.self.inside.children.items) c.self.view_is)
+pub returns-in-Some-position-clause-root : goal.returns-in-Some-position-clause-root
+returns-in-Some-position-clause-root g t c =
+    (c.self.inside.entries, dirs_of_nil c.args.self.now c.self.inside.entries (parts (child_list c.self.inside.children)) c.self.view_is)
 
 pub returns-in_default-next_id-clause-root : goal.returns-in_default-next_id-clause-root
 returns-in_default-next_id-clause-root g t c =
-    (c.self.inside.tree, dirs_of_nil c.args.self.now c.self.inside.tree (parts c.self.inside.children.items) c.self.view_is)
+    (c.self.inside.entries, dirs_of_nil c.args.self.now c.self.inside.entries (parts (child_list c.self.inside.children)) c.self.view_is)
 
 pub returns-in_err-tree-clause-root : goal.returns-in_err-tree-clause-root
 returns-in_err-tree-clause-root g t c =
-    (c.self.inside.tree, dirs_of_nil c.args.self.now c.self.inside.tree (parts c.self.inside.children.items) c.self.view_is)
+    (c.self.inside.entries, dirs_of_nil c.args.self.now c.self.inside.entries (parts (child_list c.self.inside.children)) c.self.view_is)
 
 pub returns-in_err-own_name-clause-root : goal.returns-in_err-own_name-clause-root
 returns-in_err-own_name-clause-root g t c =
-    (c.self.inside.tree, dirs_of_nil c.args.self.now c.self.inside.tree (parts c.self.inside.children.items) c.self.view_is)
+    (c.self.inside.entries, dirs_of_nil c.args.self.now c.self.inside.entries (parts (child_list c.self.inside.children)) c.self.view_is)
 
 pub returns-clause-root : goal.returns-clause-root
-returns-clause-root g t c = (c.self.inside.tree, dirs_of_nil c.args.self.now c.self.inside.tree (parts c.self.inside.children.items) c.self.view_is)
+returns-clause-root g t c =
+    (c.self.inside.entries, dirs_of_nil c.args.self.now c.self.inside.entries (parts (child_list c.self.inside.children)) c.self.view_is)
 
 pub returns-in_default-clause-bases : goal.returns-in_default-clause-bases
 returns-in_default-clause-bases g t c = λ at. unmoved base_opened opening c.args.self.now at
@@ -255,42 +264,37 @@ returns-in_default-next_id-clause-bases g t c = λ at. unmoved base_opened openi
 
 pub returns-in_err-own_name-clause-bases : goal.returns-in_err-own_name-clause-bases
 returns-in_err-own_name-clause-bases g t c =
-    base_of_unmoved base_opened opening c.args.self.now (opened c.self.inside.tree c.self.inside.base (parts c.room_for.new.children.items))
-    (ap (λ (l : List Child). opened c.self.inside.tree c.self.inside.base (parts l)) c.room_for.ensures.items ∙ c.self.view_is)
+    base_of_unmoved base_opened opening c.args.self.now (opened c.self.inside.entries c.self.inside.base (parts (child_list c.room_for.new.self)))
+    (ap (λ (l : List Child). opened c.self.inside.entries c.self.inside.base (parts l)) c.room_for.ensures.list ∙ c.self.view_is)
 
 pub returns-in_err-tree-clause-bases : goal.returns-in_err-tree-clause-bases
 returns-in_err-tree-clause-bases g t c =
-    base_of_unmoved base_opened opening c.args.self.now (opened c.self.inside.tree c.self.inside.base (parts c.room_for.new.children.items))
-    (ap (λ (l : List Child). opened c.self.inside.tree c.self.inside.base (parts l)) c.room_for.ensures.items ∙ c.self.view_is)
+    base_of_unmoved base_opened opening c.args.self.now (opened c.self.inside.entries c.self.inside.base (parts (child_list c.room_for.new.self)))
+    (ap (λ (l : List Child). opened c.self.inside.entries c.self.inside.base (parts l)) c.room_for.ensures.list ∙ c.self.view_is)
 
-pub returns-in-Some-child_at-clause-bases : goal.returns-in-Some-child_at-clause-bases
-returns-in-Some-child_at-clause-bases g t c =
-    let name = bstring_bytes c.in-Some.name.now in
-    let cs = c.self.inside.children.items in
-    let child = c.index_mut-child.result.now in
-    let here = c.in-Some-child_at.ensures {u = tt} in
-    let level = is_level_set c.self.inside.tree cs c.in-Some-child_at.place child (record { name = child.name; «open» = c.open_along.new.self })
-    c.index_mut-child.ensures.value refl c.self.invariant in
-    set_moved base_opened opening c.args.self.now c.self.inside.tree cs c.deref.result.now c.self.view_is
-    (level_names_apart c.self.invariant) name c.in-Some-child_at.place child _ (level_names_apart level) c.deref.ensures.value here
-    c.index_mut-child.ensures.value refl
-    c.open_along.ensures.bases
+pub returns-in-Some-position-clause-bases : goal.returns-in-Some-position-clause-bases
+returns-in-Some-position-clause-bases g t c =
+    let it = c.in-Some-position.ensures {u = tt} in
+    let found : IsFound (bstring_bytes c.in-Some.name.now) c.self.inside.children _ _ c.at_mut-child.result.now =
+    record { within = it.within; found = it.found; is = c.at_mut-child.ensures.value } in
+    set_moved base_opened opening c.args.self.now c.self.inside.entries (is_child found) (is_changed found c.open_along.new.self) c.self.view_is
+    c.self.invariant.level c.open_along.ensures.bases
 
 pub returns-clause-bases : goal.returns-clause-bases
 returns-clause-bases g t c =
     let name = bstring_bytes c.in-Some.name.now in
-    let cs = c.self.inside.children.items in
+    let cs = child_list c.self.inside.children in
     let inner = c.open_along-opened.new.self in
-    let same : parts c.store_child.new.children.items ≡ with_part (name, inner) (parts cs) =
-    c.store_child.ensures ∙ ap (λ n. with_part (n, inner) (parts c.room_for.new.children.items)) (c.in_ok-own_name.ensures {u = tt}).found.0
-    ∙ ap (λ (l : List Child). with_part (name, inner) (parts l)) c.room_for.ensures.items in
+    let same : parts (child_list c.insert.new.self) ≡ with_part (name, inner) (parts cs) =
+    c.insert.ensures.inserted ∙ ap (λ n. with_part (n, inner) (parts (child_list c.room_for.new.self))) (c.in_ok-own_name.ensures {u = tt}).name
+    ∙ ap (λ (l : List Child). with_part (name, inner) (parts l)) c.room_for.ensures.list in
     let there = (c.in-Some-next_id.ensures {u = tt}).found in
     let tree = c.in_ok-tree.tree in
     let inner_is : _ ≡ opened tree tree [] = c.with_base-inner.ensures ∙ ap (λ (b : List EntryView). opened tree b [])
     (c.in_ok-tree.ensures {u = tt}).base in
-    base_opened_of_moved c.args.self.now c.self.inside.tree cs c.store_child.new.children.items c.self.view_is c.self.invariant name
-    (all_names_differ name cs c.deref.result.now c.deref.ensures.value (c.in_default-child_at.ensures {u = tt}))
-    (in_part_none name cs c.deref.result.now c.deref.ensures.value (c.in_default-child_at.ensures {u = tt}))
+    base_opened_of_moved c.args.self.now c.self.inside.entries cs (child_list c.insert.new.self) c.self.view_is c.self.invariant.level name
+    (all_names_differ name cs (c.in_default-position.ensures {u = tt}).none)
+    (in_part_none name cs (c.in_default-position.ensures {u = tt}).none)
     there.0 there.1 there.2 inner same
     (λ path. subst (λ (d : Opened). bases_of inner path ≡ base_opened (dirs_of d path) (dirs_of inner path) (bases_of d path)) inner_is
     (c.open_along-opened.ensures.bases path)

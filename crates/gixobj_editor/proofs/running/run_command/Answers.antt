@@ -8,7 +8,7 @@ use Rattle.gixobj_store.specs.Stores.{StoreModel}
 use Rattle.gixobj_tree.specs.Entries.{EntryView}
 use Rattle.gixobj_editor.specs.Replies.{IsReplyAt}
 use Rattle.gixobj_editor.proofs.Replied.{is_root_set_of_reply}
-use Rattle.gixobj_editor.proofs.running.do_command.Goals as goal
+use Rattle.gixobj_editor.proofs.running.run_command.Goals as goal
 
 pub returns-in-At : goal.returns-in-At
 returns-in-At g c =
