@@ -33,6 +33,8 @@ pub use Rattle.gixobj_editor.specs.Upserts
 pub use Rattle.gixobj_editor.specs.FailedEdits
 pub use Rattle.gixobj_editor.specs.Writes
 pub use Rattle.gixobj_editor.specs.declared as editor
+pub use Rattle.gixobj_error.specs.Writes as ToolErrors
+pub use Rattle.gixobj_error.specs.declared as error
 pub use Rattle.gixobj_fields.specs.FieldWriting
 pub use Rattle.gixobj_fields.specs.HeaderReading
 pub use Rattle.gixobj_fields.specs.HeaderFormat
@@ -55,6 +57,7 @@ pub use Rattle.gixobj_files.specs.State
 pub use Rattle.gixobj_files.specs.Tables
 pub use Rattle.gixobj_files.specs.Unopened
 pub use Rattle.gixobj_find.specs.Existing
+pub use Rattle.gixobj_find.specs.InMemory as MemoryCells
 pub use Rattle.gixobj_find.specs.Nothing
 pub use Rattle.gixobj_find.specs.Writers
 pub use Rattle.gixobj_find.specs.declared as find

@@ -7,7 +7,8 @@
 //! - stores: how objects are looked up in them ([`find`]) and kept by them;
 //! - [`signature`]: how objects are signed and verified by other programs;
 //! - [`tree::editor`]: the editor of nested trees, with complete runs of commands;
-//! - [`import`]: histories imported from lists of edits.
+//! - [`import`]: histories imported from lists of edits;
+//! - [`Error`]: one error for tools, to which `?` converts each of the others.
 #![tactic(auto)]
 
 pub mod laws;
@@ -23,6 +24,7 @@ pub use gixobj_codec::{
     LooseDecodeError, Object, ObjectRef, Store, Tag, TagRef, TagRefIter, TreeRef, TreeRefIter,
     commit, data, tag,
 };
+pub use gixobj_error::Error;
 pub use gixobj_find::{FindExt, HeaderExt, Write, find, write};
 pub use gixobj_import::import;
-pub use gixobj_keep::{Keep, KeepCommit, KeepError, Memory};
+pub use gixobj_keep::{Keep, KeepCommit, KeepError, Memory, MemoryIds};

@@ -1,4 +1,5 @@
 pub mod Existing
+pub mod InMemory
 pub mod Nothing
 pub mod Writers
 pub use Rattle.gixobj_fields.specs.StreamHash

@@ -5,8 +5,8 @@ use Rattle.gixobj_fields.specs.declared.stream_hash.Error as stream
 use Rattle.gixobj_hash.specs.declared.hash.kind.Kind.TheVariants.{Sha1}
 use Rattle.gixobj_hash.specs.declared.hash.object_id.ObjectId.{ObjectId}
 use Rattle.gixobj_hash.specs.declared.kind.Kind.{Kind}
-use Rattle.gixobj_find.specs.declared.write.Error.{Error}
-use Rattle.gixobj_find.specs.declared.write.Error.TheVariants.{Read}
+use Rattle.gixobj_keep.specs.declared.write.Error.{Error}
+use Rattle.gixobj_keep.specs.declared.write.Error.TheVariants.{Read}
 
 -- the error of a read: the stream failed or is at its end, and fewer than `size` bytes were read
 abbrev pub IsReadError : Option (List ℕ) → Option (List ℕ) → ℕ → Error → Type 0

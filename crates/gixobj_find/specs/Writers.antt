@@ -5,8 +5,8 @@ use Rattle.gixobj_fields.specs.Writing.{RejectedValue, RejectsNothing, IsWriting
 use Rattle.gixobj_fields.specs.declared.encode.Error as encode
 use Rattle.gixobj_hash.specs.declared.hash.object_id.ObjectId.{ObjectId}
 use Rattle.gixobj_hash.specs.declared.kind.Kind.{Kind}
-use Rattle.gixobj_find.specs.declared.write.Error.{Error}
-use Rattle.gixobj_find.specs.declared.write.Error.TheVariants.{Encode}
+use Rattle.gixobj_keep.specs.declared.write.Error.{Error}
+use Rattle.gixobj_keep.specs.declared.write.Error.TheVariants.{Encode}
 
 -- the results of a store for an object of this kind and size, and a stream of these bytes if they are known
 abbrev pub AnswersStreams : Type 1

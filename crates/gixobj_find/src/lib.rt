@@ -3,6 +3,6 @@
 
 pub mod find;
 pub mod traits;
-pub mod write;
 
+pub use gixobj_keep::write;
 pub use traits::{FindExt, HeaderExt, Write};

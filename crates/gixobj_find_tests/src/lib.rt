@@ -9,6 +9,8 @@ pub mod failing;
 #[cfg(test)]
 mod ids;
 #[cfg(test)]
+mod memory;
+#[cfg(test)]
 mod never;
 #[cfg(test)]
 mod one_store;

@@ -1,10 +1,17 @@
 -- Causes in errors of steps and of imports, from those of the calls.
-use Rattle.std.proofs.Common.{◌≡◌, ◌∙◌, List, [], ◌∷◌, Option, Some, ap, length, subst}
-use Rattle.std.specs.Prelude.{slice_get}
+use Rattle.std.proofs.Common.{◌≡◌, ◌∙◌, ⊎_elim, List, [], ◌∷◌, Err, Ok, Option, Result, Some, ap, length, subst, sym, take}
+use Rattle.std.specs.Prelude.{IfErr, slice_get}
+use Rattle.gixobj_directories.specs.declared.write.WriteError.TheVariants as write
+use Rattle.gixobj_directories.specs.declared.write.Written.{Written}
+use Rattle.gixobj_editor.specs.declared.command.Edit.{Edit}
+use Rattle.gixobj_fields.specs.declared.encode.Error as encode
+use Rattle.gixobj_files.specs.State.{State}
 use Rattle.gixobj_hash.specs.declared.hash.kind.Kind as hash
 use Rattle.gixobj_hash.specs.declared.hash.object_id.ObjectId.{ObjectId}
-use Rattle.gixobj_import.specs.StepCauses.{HasCommitCause, HasImportCause, HasStepCause}
-use Rattle.gixobj_import.specs.Steps.{AreImported, IsStepEncodeError}
+use Rattle.gixobj_import.specs.Edited.{AreDone}
+use Rattle.gixobj_import.specs.OutCauses.{HasOutCause, HasOutCauseAfter}
+use Rattle.gixobj_import.specs.StepCauses.{HasCommitCause, HasEncodingCause, HasImportCause, HasStepCause}
+use Rattle.gixobj_import.specs.Steps.{AreImported, IsStepEncodeError, IsStepError, Stops}
 use Rattle.gixobj_import.specs.declared.import.ImportError.{ImportError}
 use Rattle.gixobj_import.specs.declared.import.ImportError.TheVariants as import
 use Rattle.gixobj_import.specs.declared.import.Imported.{Imported}
@@ -12,6 +19,7 @@ use Rattle.gixobj_import.specs.declared.import.Importer.{Importer}
 use Rattle.gixobj_import.specs.declared.import.Step.{Step}
 use Rattle.gixobj_keep.specs.Keeping.{KeepCommitErrors, KeepErrors}
 use Rattle.gixobj_store.specs.Stores.{Objects, StoreModel}
+use Rattle.gixobj_tree.specs.Entries.{EntryView, Pair}
 
 -- an importer keeps its hash kind
 pub imported_same_hash : {S : Type 0} (model : StoreModel S) (old new : Importer S) (steps : List Step) (imported : List Imported)
@@ -50,3 +58,38 @@ module _ {S : Type 0} (objects : S → Objects) (tree_errors : KeepErrors S) (co
   pub import_cause_out_of_memory : (hash : hash.Kind) (steps : List Step) (done : List Imported) (error : ImportError) → error ≡ import.OutOfMemory
       → HasImportCause objects tree_errors commit_errors hash steps done error
   import_cause_out_of_memory hash steps done error is = rw is tt
+
+-- the cause of a failed write is one of the write after its edits
+pub out_cause_after : {F : Type 0} (gave : F → Pair → F → Type 0) (denies : F → List EntryView → encode.Error → F → Type 0) {S : Type 0}
+    (model : StoreModel S) (old edited : State S) (edits : List Edit) (before after : F) (done : Result Written ImportError)
+    → AreDone model old edits edited → IfErr done (HasOutCause gave denies edited before after)
+    → IfErr done (HasOutCauseAfter gave denies model old edits before after)
+out_cause_after gave denies model old edited edits before after (Ok it) done cause = tt
+out_cause_after gave denies model old edited edits before after (Err (import.Write error)) done cause = (edited, done, cause)
+out_cause_after gave denies model old edited edits before after (Err (import.NotKept error)) done cause = tt
+out_cause_after gave denies model old edited edits before after (Err import.WriteInStep) done cause = tt
+out_cause_after gave denies model old edited edits before after (Err (import.Edit index error)) done cause = tt
+out_cause_after gave denies model old edited edits before after (Err (import.Commit error)) done cause = tt
+out_cause_after gave denies model old edited edits before after (Err import.OutOfMemory) done cause = tt
+out_cause_after gave denies model old edited edits before after (Err import.Failed) done cause = tt
+
+module _ {S : Type 0} (model : StoreModel S) where
+  pub encoding_cause_of_step_error : (old : Importer S) (step : Step) (error : ImportError) (new : Importer S) → IsStepError model old step error new
+      → HasEncodingCause old.hash error
+  encoding_cause_of_step_error old step (import.Write (write.Out error)) new is =
+      ⊎_elim (λ failed. let out = failed.2.cause in (out.tree, out.failed)) (λ uncommitted. absurd uncommitted.cause.0) is.cause
+  encoding_cause_of_step_error old step (import.Write write.OutOfMemory) new is = tt
+  encoding_cause_of_step_error old step (import.NotKept error) new is = tt
+  encoding_cause_of_step_error old step import.WriteInStep new is = tt
+  encoding_cause_of_step_error old step (import.Edit index error) new is = tt
+  encoding_cause_of_step_error old step (import.Commit error) new is = tt
+  encoding_cause_of_step_error old step import.OutOfMemory new is = tt
+  encoding_cause_of_step_error old step import.Failed new is = tt
+
+  pub encoding_cause_of_stopped : (old : Importer S) (steps : List Step) (done : List Imported) (error : ImportError) (new : Importer S)
+      → Stops model old steps done error new → HasEncodingCause old.hash error
+  encoding_cause_of_stopped old steps done error new is = ⊎_elim
+      (λ at. subst (λ (h : hash.Kind). HasEncodingCause h error) (imported_same_hash model old at.reached (take (length done) steps) done at.imported)
+      (encoding_cause_of_step_error at.reached at.failed_step error new at.cause))
+      (λ none. subst (HasEncodingCause old.hash) (sym none.memory) tt)
+      is

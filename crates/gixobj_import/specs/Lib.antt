@@ -2,6 +2,7 @@ pub mod ByDigest
 pub mod Commits
 pub mod Edited
 pub mod Imports
+pub mod OutCauses
 pub mod StepCauses
 pub mod Steps
 pub use Rattle.gixobj_editor.specs.Replies

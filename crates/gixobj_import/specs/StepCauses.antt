@@ -1,5 +1,6 @@
--- The causes in errors of steps whose trees or commit the store didn't keep.
-use Rattle.std.specs.Prelude.{◌≡◌, ◌⊎◌, ℕ, List, Option, Some, length, slice_get, ⊤}
+-- The causes in errors of steps: trees that weren't encoded, and trees or a commit that the store didn't keep.
+use Rattle.std.specs.Prelude.{◌≡◌, ◌⊎◌, ℕ, Err, List, Option, Some, length, slice_get, ⊤}
+use Rattle.gixobj_directories.specs.declared.write.WriteError.TheVariants.{Out}
 use Rattle.gixobj_directories.specs.declared.write.Written.{Written}
 use Rattle.gixobj_hash.specs.Hash.{id_of}
 use Rattle.gixobj_hash.specs.declared.hash.kind.Kind as hash
@@ -12,6 +13,13 @@ use Rattle.gixobj_import.specs.declared.import.ImportError.TheVariants as import
 use Rattle.gixobj_import.specs.declared.import.Imported.{Imported}
 use Rattle.gixobj_import.specs.declared.import.Step.{Step}
 use Rattle.gixobj_store.specs.Stores.{Objects}
+use Rattle.gixobj_tree.specs.Entries.{EntryView}
+use Rattle.gixobj_tree.specs.TreeEncoding.{IsDigestResult}
+
+-- Write: if the payload isn't out of memory, it is the error of computing a tree's digest
+abbrev pub HasEncodingCause : hash.Kind → ImportError → Type 0
+HasEncodingCause hash (import.Write (Out error)) = (tree : List EntryView) × IsDigestResult hash tree (Err error)
+HasEncodingCause hash other = ⊤
 
 -- NotKept: the cause is an error of the store for the first tree of a write that isn't kept, after the trees before it
 -- are kept in a store

@@ -5,7 +5,7 @@ ghost use Rattle.gixobj_files.specs.Bases.{HasBases};
 ghost use Rattle.gixobj_files.specs.Files.{Table};
 ghost use Rattle.gixobj_files.specs.State.{open_bases, open_dirs};
 ghost use Rattle.gixobj_import.specs.ByDigest.{AddsByDigest};
-ghost use Rattle.gixobj_import.specs.StepCauses.{HasImportCause, HasStepCause};
+ghost use Rattle.gixobj_import.specs.StepCauses.{HasEncodingCause, HasImportCause, HasStepCause};
 ghost use Rattle.gixobj_import.specs.Imports.{AgreesWithStep, AreCommitsOf, HasFilesOf, HaveFilesOfNothing, IsNewImporter, before, with_imports};
 ghost use Rattle.gixobj_import.specs.Steps.{AreImported, IsImported, IsStepError, Stops, over_store};
 ghost use Rattle.gixobj_import.specs.contracts.import.Importer.{the_row};
@@ -15,7 +15,7 @@ ghost use Rattle.gixobj_tree.specs.Entries.{Pair};
 
 use crate::commits::keep_commit_of;
 use crate::edits::hold_a_write;
-use crate::written::write_edits;
+use crate::written::write_by_digests;
 use bstr::BString;
 use gixobj_actor::actor::Signature;
 use gixobj_directories::laws::store_has_tree_map;
@@ -185,6 +185,7 @@ impl<S: Keep + KeepCommit> Importer<S> {
             IsStepError (store_model S.objects S.may_fail) self.old step.now error self.new) }
         ensures cause { IfErr result (HasStepCause S.objects S.keep_errors S.keep_commit_errors
             self.old.hash step.now self.old.last) }
+        ensures encoding { IfErr result (HasEncodingCause self.old.hash) }
         ensures adds { AddsByDigest (S.objects self.old.editor.store)
             (S.objects self.new.editor.store) }
         // The files, in each table that agrees with the store and with the emitted trees.
@@ -204,7 +205,7 @@ impl<S: Keep + KeepCommit> Importer<S> {
             return Err(ImportError::WriteInStep);
         }
         self.failed = true;
-        let written = match write_edits(self.alloc, &mut self.editor, self.hash, &step.edits) {
+        let written = match write_by_digests(self.alloc, &mut self.editor, self.hash, &step.edits) {
             Ok(written) => written,
             Err(error) => return Err(error),
         };
@@ -262,6 +263,7 @@ pub fn import_all<S: Keep + KeepCommit>(
         importer.new) }
     ensures cause { IfErr result (λ it. HasImportCause S.objects S.keep_errors S.keep_commit_errors
         importer.old.hash steps.now it.done.items it.error) }
+    ensures encoding { IfErr result (λ it. HasEncodingCause importer.old.hash it.error) }
     ensures adds { AddsByDigest (S.objects importer.old.editor.store)
         (S.objects importer.new.editor.store) }
     // The store has its former objects, with the trees and commits of the imported steps inserted in order.

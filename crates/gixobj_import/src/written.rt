@@ -1,21 +1,18 @@
 //! The write after the edits of a step: the id of each tree is the digest of its encoding.
-ghost use Rattle.std.specs.Prelude.{◌≡◌, ◌∷◌, [], Contains, IfErr, IfOk, OnErr};
-ghost use Rattle.gixobj_directories.specs.WriteErrors.{IsWriteError};
-ghost use Rattle.gixobj_editor.specs.Writes.{IsWrittenEditor};
-ghost use Rattle.gixobj_files.specs.Emission.{EmitsSome};
-ghost use Rattle.gixobj_files.specs.State.{open_bases, open_dirs};
+ghost use Rattle.std.specs.Prelude.{◌∷◌, [], Contains, IfErr, IfOk};
+ghost use Rattle.gixobj_directories.specs.Calls.{IsCallableOnTrees, answered, denied};
 ghost use Rattle.gixobj_hash.specs.Hash.{IsId};
+ghost use Rattle.gixobj_import.specs.OutCauses.{HasOutCause, HasOutCauseAfter, ReturnsDigests};
 ghost use Rattle.gixobj_import.specs.StepCauses.{HasTreeCause};
 ghost use Rattle.gixobj_import.specs.Edited.{IsWriteAfter, IsWriteReplied};
 ghost use Rattle.gixobj_tree.specs.TreeEncoding.{IsDigestResult};
 ghost use Rattle.gixobj_import.specs.Steps.{HaveHex, IsStepEditsError, IsStepWriteError};
-ghost use Rattle.gixobj_editor.specs.Replies.{Denies, ReturnsTreeId};
 ghost use Rattle.hex.specs.Hex.{IsBytes};
 ghost use Rattle.gixobj_store.specs.Stores.{store_model};
 
 use crate::edits::do_edits;
 use crate::import::ImportError;
-use gixobj_editor::editor::{Editor, WriteError, Written};
+use gixobj_editor::editor::{Editor, Written};
 use gixobj_editor::{Edit, EditReply};
 use gixobj_fields::encode;
 use gixobj_hash::hash::{self, ObjectId};
@@ -24,8 +21,9 @@ use gixobj_keep::{Keep, keep_all};
 use gixobj_tree::Tree;
 use std::alloc::Global;
 
-/// Does the edits, none of which may be a write, writes the root by digests, and has its trees kept.
-pub(crate) fn write_edits<S: Keep>(
+/// Does the edits, none of which may be a write, writes each tree by the digest of its encoding, and has the
+/// store keep the trees.
+pub(crate) fn write_by_digests<S: Keep>(
     alloc: Global,
     editor: &mut Editor<S>,
     hash: hash::Kind,
@@ -40,18 +38,51 @@ pub(crate) fn write_edits<S: Keep>(
         IsStepEditsError (store_model S.objects S.may_fail) hash edits.now editor.old error editor.new) }
     ensures cause { IfErr result (HasTreeCause S.objects S.keep_errors) }
 {
+    let mut out = |tree: &Tree|
+        ensures { IsDigestResult hash tree.now result }
+    { tree.compute_id(alloc, hash) };
+    write_edits(editor, &mut out, hash, edits)
+}
+
+/// Does the edits, none of which may be a write, writes the root with the ids that `out` returns, and has the
+/// store keep the trees.
+///
+/// `out` must return the digests of this kind of hash.
+fn write_edits<S: Keep, F: FnMut(&Tree) -> Result<ObjectId, encode::Error>>(
+    editor: &mut Editor<S>,
+    out: &mut F,
+    hash: hash::Kind,
+    edits: &[Edit],
+) -> Result<Written, ImportError>
+    requires no_write { ¬ Contains edits.now Edit.Write }
+    requires callable { IsCallableOnTrees F.pre (answered F.FnMut) out.old }
+    requires digests { ReturnsDigests hash F.FnMut out.old }
+    ensures written { IfOk result (λ it.
+        IsWriteAfter (store_model S.objects S.may_fail) hash editor.old edits.now
+        (EditReply.Written it) editor.new) }
+    ensures root { IfOk result (λ it. HaveHex hash (it.id ∷ [])) }
+    ensures error { IfErr result (λ error.
+        IsStepEditsError (store_model S.objects S.may_fail) hash edits.now editor.old error editor.new) }
+    ensures cause { IfErr result (HasTreeCause S.objects S.keep_errors) }
+    ensures out { IfErr result (HasOutCauseAfter (answered F.FnMut) (denied F.FnMut)
+        (store_model S.objects S.may_fail) editor.old edits.now out.old out.new) }
+{
     if let Err((index, error)) = do_edits(editor, edits) {
         return Err(ImportError::Edit { index, error });
     }
-    write_and_keep(alloc, editor, hash)
+    write_and_keep(editor, out, hash)
 }
 
-/// Writes the root, each tree by the digest of its encoding, and has the store keep the trees.
-fn write_and_keep<S: Keep>(
-    alloc: Global,
+/// Writes the root with the ids that `out` returns, and has the store keep the trees.
+///
+/// `out` must return the digests of this kind of hash.
+fn write_and_keep<S: Keep, F: FnMut(&Tree) -> Result<ObjectId, encode::Error>>(
     editor: &mut Editor<S>,
+    out: &mut F,
     hash: hash::Kind,
 ) -> Result<Written, ImportError>
+    requires callable { IsCallableOnTrees F.pre (answered F.FnMut) out.old }
+    requires digests { ReturnsDigests hash F.FnMut out.old }
     ensures written { IfOk result (λ it.
         IsWriteReplied (store_model S.objects S.may_fail) hash editor.old (EditReply.Written it)
         editor.new) }
@@ -59,9 +90,11 @@ fn write_and_keep<S: Keep>(
     ensures error { IfErr result (λ error.
         IsStepWriteError (store_model S.objects S.may_fail) hash editor.old error editor.new) }
     ensures cause { IfErr result (HasTreeCause S.objects S.keep_errors) }
+    ensures out { IfErr result (HasOutCause (answered F.FnMut) (denied F.FnMut) editor.old out.old
+        out.new) }
 {
     hex_round_trips();
-    let written = match write_by_digests(alloc, editor, hash) {
+    let written = match editor.try_write(out) {
         Ok(written) => written,
         Err(error) => return Err(ImportError::Write(error)),
     };
@@ -84,26 +117,4 @@ fn are_bytes(bytes: &[u8])
     ensures { IsBytes bytes.now }
 {
     let _length = bytes.len();
-}
-
-/// Writes the root, each tree by the digest of its encoding.
-fn write_by_digests<S>(
-    alloc: Global,
-    editor: &mut Editor<S>,
-    hash: hash::Kind,
-) -> Result<Written, WriteError<encode::Error>>
-    ensures written { IfOk result (λ it.
-        IsWrittenEditor (ReturnsTreeId (IsDigestResult hash)) tt editor.old it editor.new tt) }
-    ensures error { IfErr result (λ error.
-        IsWriteError (ReturnsTreeId (IsDigestResult hash)) (Denies (IsDigestResult hash))
-        (EmitsSome (open_dirs editor.old) (open_bases editor.old)) tt tt error) }
-    ensures unchanged { OnErr result (editor.new ≡ editor.old) }
-{
-    let digest = |tree: &Tree|
-        ensures { IsDigestResult hash tree.now result }
-    { tree.compute_id(alloc, hash) };
-    match editor.write(digest) {
-        Ok(written) => Ok(written),
-        Err(error) => Err(error),
-    }
 }

@@ -1,3 +1,5 @@
+mod ContentReads
 mod Contents
+mod IdsInOrder
 mod Objects
 pub mod Trees

@@ -12,6 +12,7 @@ use Rattle.gixobj_hash.specs.Hash.{id_kind}
 use Rattle.gixobj_hash.specs.Hash.Order.{id_cmp}
 use Rattle.gixobj_hash.specs.declared.hash.kind.Kind.{Kind}
 use Rattle.gixobj_hash.specs.declared.hash.object_id.ObjectId.{ObjectId}
+use Rattle.gixobj_hash.specs.declared.kind.Kind as object
 use Rattle.gixobj_hash.specs.declared.kind.Kind.TheVariants.{Commit, Tree}
 use Rattle.gixobj_keep.specs.Keeping.{commit_object, tree_object, with_commit, with_tree}
 use Rattle.gixobj_tree.specs.Entries.{EntryView}
@@ -72,4 +73,16 @@ memory_objects_with_commit before after id hash bytes content same_hash same upd
     let same_object : ◌≡◌ {A = StoredObject} (record { kind = Commit; object_hash = hash; bytes = bytes.items }) (commit_object id content) =
     λ i. record { kind = Commit; object_hash = same_hash i; bytes = same i } in
     memory_objects_of_updates before after id (record { kind = Commit; object_hash = hash; bytes = bytes }) updates
+    ∙ ap (finite.insert (memory_objects before) id) same_object
+
+-- the store has a new object under an id that the caller knows
+pub memory_objects_insert_known : (before after : Memory) (id : ObjectId) (kind : object.Kind) (hash : Kind) (bytes : Vec ℕ Global) (content : List ℕ)
+    → hash ≡ id_kind id
+    → bytes.items ≡ content
+    → Updates id_cmp before.objects after.objects id (Some (record { kind = kind; object_hash = hash; bytes = bytes }))
+    → memory_objects after ≡ finite.insert (memory_objects before) id (record { kind = kind; object_hash = id_kind id; bytes = content })
+memory_objects_insert_known before after id kind hash bytes content same_hash same updates =
+    let same_object : ◌≡◌ {A = StoredObject} (record { kind = kind; object_hash = hash; bytes = bytes.items })
+    (record { kind = kind; object_hash = id_kind id; bytes = content }) = λ i. record { kind = kind; object_hash = same_hash i; bytes = same i } in
+    memory_objects_of_updates before after id (record { kind = kind; object_hash = hash; bytes = bytes }) updates
     ∙ ap (finite.insert (memory_objects before) id) same_object

@@ -4,6 +4,7 @@
 pub mod find;
 pub mod keeping;
 pub mod memory;
+pub mod write;
 
 pub use keeping::{Keep, KeepCommit, KeepError, keep_all};
-pub use memory::Memory;
+pub use memory::{Memory, MemoryIds};

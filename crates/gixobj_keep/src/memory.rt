@@ -1,12 +1,16 @@
 //! An object store in memory.
 
-ghost use Rattle.std.specs.Prelude.{◌≡◌, IfErr, IfOk, IsOk, IsSome, OnErr, is_some};
+ghost use Rattle.std.specs.Prelude.{◌≡◌, ◌↔◌, IfErr, IfOk, IsOk, IsSome, IsTrue, OnErr, OnOk, is_some};
 ghost use Rattle.std.specs.FinMap as map;
 ghost use Rattle.gixobj_store.specs.Stores.{IsFound, IsHeaderFound, named};
 ghost use Rattle.gixobj_store.specs.declared.find.Error.TheVariants as find_error;
-ghost use Rattle.gixobj_hash.specs.Hash.{id_of};
+ghost use Rattle.gixobj_hash.specs.Hash.{id_kind, id_of};
 ghost use Rattle.gixobj_hash.specs.Hash.Borrowed.{borrowed_id};
-ghost use Rattle.gixobj_keep.specs.Memory.{IsForAValue, IsUnwritten, memory_objects};
+ghost use Rattle.gixobj_keep.specs.Memory.{IsForAValue, IsUnwritten, memory_objects, remaining_ids};
+
+mod content;
+mod ids;
+mod writes;
 
 use crate::{Keep, KeepCommit, KeepError};
 use bstr::BString;
@@ -15,6 +19,7 @@ use gixobj_hash::hash::{ObjectId, oid};
 use gixobj_hash::{Header, Kind, OutOfMemory, compute_hash, hash};
 use gixobj_store::{Data, Exists, Find, FindHeader, Store, find};
 use gixobj_tree::Tree;
+pub use ids::MemoryIds;
 use std::alloc::Global;
 use std::collections::BTreeMap;
 
@@ -84,6 +89,69 @@ impl Memory {
         };
         self.objects.insert(id, stored)?;
         Ok(id)
+    }
+
+    /// Stores `bytes` as an object of `kind` under a known id, whose hash is that of the ids in `bytes`.
+    ///
+    /// It replaces the object that the id named before. Neither the id nor the bytes are validated. Allocates
+    /// a copy of `bytes`, and an entry of the store.
+    ///
+    /// # Errors
+    ///
+    /// [`OutOfMemory`] if an allocation fails; then the store is unchanged.
+    pub fn insert_known(
+        &mut self,
+        id: ObjectId,
+        kind: Kind,
+        bytes: &[u8],
+    ) -> Result<(), OutOfMemory>
+        ensures inserted { OnOk result (memory_objects self.new
+            ≡ map.insert (memory_objects self.old) id
+            (record { kind = kind; object_hash = id_kind id; bytes = bytes.now })) }
+        ensures unchanged { OnErr result (memory_objects self.new ≡ memory_objects self.old) }
+    {
+        let stored = Stored {
+            kind,
+            object_hash: id.kind(),
+            bytes: Vec::from_slice(self.alloc, bytes)?,
+        };
+        self.objects.insert(id, stored)?;
+        Ok(())
+    }
+}
+
+/// Access
+impl Memory {
+    /// Returns the number of objects. Allocates nothing.
+    pub fn len(&self) -> usize
+        ensures { result ≡ map.len (memory_objects self.now) }
+    {
+        self.objects.len()
+    }
+
+    /// Returns whether the store has no object. Allocates nothing.
+    #[tactic(auto, using(crate::proofs::IdsInOrder::objects_len_zero_iff))]
+    pub fn is_empty(&self) -> bool
+        ensures { IsTrue result ↔ (memory_objects self.now ≡ map.empty) }
+    {
+        self.len() == 0
+    }
+
+    /// Returns an iterator over the ids of the objects, in the order of their bytes. Allocates nothing.
+    ///
+    /// # Examples
+    ///
+    /// ```rust
+    /// for id in store.ids() {
+    ///     ids.push(id)?;
+    /// }
+    /// ```
+    pub fn ids(&self) -> MemoryIds<'_>
+        ensures { remaining_ids result ≡ map.keys (memory_objects self.now) }
+    {
+        MemoryIds {
+            keys: self.objects.keys(),
+        }
     }
 }
 

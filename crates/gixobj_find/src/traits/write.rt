@@ -3,6 +3,7 @@ ghost use Rattle.std.specs.Prelude.{Some, length};
 ghost use Rattle.gixobj_find.specs.Writers.{IsWrittenObject};
 
 mod borrowed;
+mod memory;
 mod shared;
 
 use crate::write::Error;
@@ -22,7 +23,7 @@ pub trait Write {
     ghost use Rattle.std.specs.Prelude.{ℕ, List, Option, Result};
     ghost use Rattle.gixobj_hash.specs.declared.hash.object_id.ObjectId.{ObjectId};
     ghost use Rattle.gixobj_hash.specs.declared.kind.Kind.{Kind};
-    ghost use Rattle.gixobj_find.specs.declared.write.Error.{Error};
+    ghost use Rattle.gixobj_keep.specs.declared.write.Error.{Error};
 
     /// The results that the store may return for an object of this kind and size, and a stream of these bytes
     /// if they are known.

@@ -3,7 +3,7 @@ use Rattle.std.proofs.Common.{◌+◌, ◌∷◌, ◌∙◌, [], arith, ap, inr,
 use Rattle.std.proofs.lemmas.List.{length-append}
 use Rattle.gixobj_import.specs.Steps.{AreImported, Stops}
 use Rattle.gixobj_import.specs.declared.import.Imported.{Imported}
-use Rattle.gixobj_import.proofs.Causes.{import_cause_of_step, import_cause_out_of_memory, imported_same_hash}
+use Rattle.gixobj_import.proofs.Causes.{encoding_cause_of_stopped, import_cause_of_step, import_cause_out_of_memory, imported_same_hash}
 use Rattle.gixobj_import.proofs.Committing.{commits_of_new}
 use Rattle.gixobj_import.proofs.Digests.{adds_by_digest_nil}
 use Rattle.gixobj_import.proofs.Filing.{files_of_new}
@@ -51,6 +51,7 @@ returns-in-Err g c =
       error = stops;
       cause = import_cause_out_of_memory g.S.Store.objects g.S.Keep.keep_errors g.S.KeepCommit.keep_commit_errors old.hash c.args.steps.now done error
           c.no_list.ensures.error;
+      encoding = encoding_cause_of_stopped model old c.args.steps.now done error old stops;
       adds = stopped_adds model laws old old c.args.steps.now done error stops;
       stored = tt;
       stored_done = stopped_stores model laws old old c.args.steps.now done error stops;
@@ -84,6 +85,7 @@ returns-in-Err-step g c =
           (imported_same_hash model c.args.importer.now c.loop-step.importer (take c.loop-step.step-index c.args.steps.now) done inv.imported)
           (slice_get_length_of_get_or c.args.steps.now done c.loop-step.step-index c.step-item.result c.loop-step-test.true c.step-item.is inv.count)
           (c.in-Err-step.ensures {u = tt}).cause;
+      encoding = encoding_cause_of_stopped model c.args.importer.now c.args.steps.now done c.in-Err-step.error c.step.new.self stops;
       adds = stopped_adds model laws c.args.importer.now c.step.new.self c.args.steps.now done c.in-Err-step.error stops;
       stored = tt;
       stored_done = stopped_stores model laws c.args.importer.now c.step.new.self c.args.steps.now done c.in-Err-step.error stops;
@@ -113,6 +115,7 @@ returns g c =
       imported = all;
       error = tt;
       cause = tt;
+      encoding = tt;
       adds = steps_add model laws old new c.args.steps.now imported all;
       stored = steps_stored model laws old new c.args.steps.now imported all;
       stored_done = tt;

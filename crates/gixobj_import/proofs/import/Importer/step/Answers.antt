@@ -10,6 +10,7 @@ use Rattle.gixobj_import.specs.Steps.{IsImported, IsStepEditsError}
 use Rattle.gixobj_import.specs.declared.import.Imported.{Imported}
 use Rattle.gixobj_import.specs.declared.import.Importer.{Importer}
 use Rattle.gixobj_import.proofs.Adding.{rejected_adds, step_adds}
+use Rattle.gixobj_import.proofs.Causes.{encoding_cause_of_step_error}
 use Rattle.gixobj_import.proofs.Digests.{adds_by_digest_nil}
 use Rattle.gixobj_import.proofs.Filing.{step_bases, step_files}
 use Rattle.gixobj_import.proofs.Known.{OfStores}
@@ -17,8 +18,8 @@ use Rattle.gixobj_import.proofs.Stepping.{no_write_of_step, contains_write_of_re
 use Rattle.gixobj_import.proofs.import.Importer.step.Goals as goal
 use Rattle.gixobj_store.specs.Stores.{store_model}
 
-pub write_edits-requires : goal.write_edits-requires
-write_edits-requires g c = record {
+pub write_by_digests-requires : goal.write_by_digests-requires
+write_by_digests-requires g c = record {
   no_write = λ has.
       no_write_of_step c.args.step.now.edits.items c.deref.result.now c.hold_a_write.result c.deref.ensures.value c.if-hold_a_write.false c.hold_a_write.ensures
       (subst (λ (es : List Edit). Contains es edit.Write) c.deref-2.ensures.value has);
@@ -28,7 +29,15 @@ pub returns-then-self : goal.returns-then-self
 returns-then-self g c =
     let model = store_model g.S.Store.objects g.S.Store.may_fail in
     let objects = model.objects c.args.self.now.editor.store in
-    record { imported = tt; after_error = (c.if-self.true, refl); cause = inl tt; adds = adds_by_digest_nil objects objects refl; files = tt; bases = tt }
+    record {
+      imported = tt;
+      after_error = (c.if-self.true, refl);
+      cause = inl tt;
+      encoding = tt;
+      adds = adds_by_digest_nil objects objects refl;
+      files = tt;
+      bases = tt;
+    }
 
 pub returns-then-hold_a_write : goal.returns-then-hold_a_write
 returns-then-hold_a_write g c =
@@ -43,6 +52,7 @@ returns-then-hold_a_write g c =
         refl,
       );
       cause = inl tt;
+      encoding = tt;
       adds = adds_by_digest_nil objects objects refl;
       files = tt;
       bases = tt;
@@ -60,19 +70,20 @@ returns-in-Err g c =
       };
     } in
     let old = c.args.self.now in
-    let new : Importer g.row.S.Denot = record old { editor = c.write_edits.new.editor; failed = true } in
+    let new : Importer g.row.S.Denot = record old { editor = c.write_by_digests.new.editor; failed = true } in
     let rejected = rejects_step model old new c.args.step.now c.in-Err.error (record {
       ready = c.if-self.false;
       no_write = no_write_of_step c.args.step.now.edits.items c.deref.result.now c.hold_a_write.result c.deref.ensures.value c.if-hold_a_write.false
           c.hold_a_write.ensures;
-      cause = inl (subst (λ (es : List Edit). IsStepEditsError model old.hash es old.editor c.in-Err.error c.write_edits.new.editor) c.deref-2.ensures.value
-          (c.in-Err.ensures {u = tt}).error);
+      cause = inl (subst (λ (es : List Edit). IsStepEditsError model old.hash es old.editor c.in-Err.error c.write_by_digests.new.editor)
+          c.deref-2.ensures.value (c.in-Err.ensures {u = tt}).error);
       rest = refl;
     }) in
     record {
       imported = tt;
       after_error = rejected;
       cause = inl (c.in-Err.ensures {u = tt}).cause;
+      encoding = encoding_cause_of_step_error model old c.args.step.now c.in-Err.error new rejected;
       adds = rejected_adds model laws old new c.args.step.now c.in-Err.error rejected;
       files = tt;
       bases = tt;
@@ -97,8 +108,8 @@ returns-in-Err-kept g c =
           c.hold_a_write.ensures;
       cause = inr (record {
         it = c.in-Ok.written;
-        between = c.write_edits.new.editor;
-        trees = subst (λ (es : List Edit). IsWriteAfter model old.hash old.editor es (reply.Written c.in-Ok.written) c.write_edits.new.editor)
+        between = c.write_by_digests.new.editor;
+        trees = subst (λ (es : List Edit). IsWriteAfter model old.hash old.editor es (reply.Written c.in-Ok.written) c.write_by_digests.new.editor)
             c.deref-2.ensures.value (c.in-Ok.ensures {u = tt}).written;
         cause = (c.in-Err-kept.ensures {u = tt}).error;
       });
@@ -107,7 +118,8 @@ returns-in-Err-kept g c =
     record {
       imported = tt;
       after_error = rejected;
-      cause = inr (c.write_edits.new.editor.store, c.in-Ok.written.id, (c.in-Err-kept.ensures {u = tt}).cause);
+      cause = inr (c.write_by_digests.new.editor.store, c.in-Ok.written.id, (c.in-Err-kept.ensures {u = tt}).cause);
+      encoding = encoding_cause_of_step_error model old c.args.step.now c.in-Err-kept.error new rejected;
       adds = rejected_adds model laws old new c.args.step.now c.in-Err-kept.error rejected;
       files = tt;
       bases = tt;
@@ -131,8 +143,8 @@ returns g c =
       ready = c.if-self.false;
       no_write = no_write_of_step c.args.step.now.edits.items c.deref.result.now c.hold_a_write.result c.deref.ensures.value c.if-hold_a_write.false
           c.hold_a_write.ensures;
-      between = c.write_edits.new.editor;
-      trees = subst (λ (es : List Edit). IsWriteAfter model old.hash old.editor es (reply.Written c.in-Ok.written) c.write_edits.new.editor)
+      between = c.write_by_digests.new.editor;
+      trees = subst (λ (es : List Edit). IsWriteAfter model old.hash old.editor es (reply.Written c.in-Ok.written) c.write_by_digests.new.editor)
           c.deref-2.ensures.value (c.in-Ok.ensures {u = tt}).written;
       root = (c.in-Ok.ensures {u = tt}).root;
       commit = (c.in-Ok-kept.ensures {u = tt}).stored;
@@ -142,6 +154,7 @@ returns g c =
       imported = one;
       after_error = tt;
       cause = tt;
+      encoding = tt;
       adds = step_adds model laws old c.args.step.now it new one;
       files = λ T n agrees. step_files model laws old c.args.step.now it new one T n agrees;
       bases = step_bases model laws old c.args.step.now it new one;

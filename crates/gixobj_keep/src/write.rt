@@ -2,9 +2,9 @@
 use bstr::BString;
 use gixobj_fields::{encode, stream_hash};
 use gixobj_hash::OutOfMemory;
-use std::alloc::AllocError;
+use std::alloc::{AllocError, AllocFailed};
 
-/// The error of the calls of [`Write`](crate::Write).
+/// The error of a write: of [`Memory::write`](crate::Memory::write), and of the trait `Write`.
 #[derive(Debug, Drop, thiserror::Error)]
 pub enum Error {
     /// The store failed; the payload is the message of the store.
@@ -23,7 +23,7 @@ pub enum Error {
 
 impl From<encode::Error> for Error {
     ghost use Rattle.std.specs.Prelude.{◌≡◌};
-    ghost use Rattle.gixobj_find.specs.declared.write.Error.TheVariants as write;
+    ghost use Rattle.gixobj_keep.specs.declared.write.Error.TheVariants as write;
 
     ghost from_gives = { λ cause error. error ≡ write.Encode cause };
 
@@ -34,7 +34,7 @@ impl From<encode::Error> for Error {
 
 impl From<stream_hash::Error> for Error {
     ghost use Rattle.std.specs.Prelude.{◌≡◌};
-    ghost use Rattle.gixobj_find.specs.declared.write.Error.TheVariants as write;
+    ghost use Rattle.gixobj_keep.specs.declared.write.Error.TheVariants as write;
 
     ghost from_gives = { λ cause error. error ≡ write.Read cause };
 
@@ -45,7 +45,7 @@ impl From<stream_hash::Error> for Error {
 
 impl From<OutOfMemory> for Error {
     ghost use Rattle.std.specs.Prelude.{◌≡◌};
-    ghost use Rattle.gixobj_find.specs.declared.write.Error.TheVariants as write;
+    ghost use Rattle.gixobj_keep.specs.declared.write.Error.TheVariants as write;
 
     ghost from_gives = { λ _ error. error ≡ write.OutOfMemory };
 
@@ -56,11 +56,22 @@ impl From<OutOfMemory> for Error {
 
 impl From<AllocError> for Error {
     ghost use Rattle.std.specs.Prelude.{◌≡◌};
-    ghost use Rattle.gixobj_find.specs.declared.write.Error.TheVariants as write;
+    ghost use Rattle.gixobj_keep.specs.declared.write.Error.TheVariants as write;
 
     ghost from_gives = { λ _ error. error ≡ write.OutOfMemory };
 
     fn from(_: AllocError) -> Error {
+        Error::OutOfMemory
+    }
+}
+
+impl<T: Drop> From<AllocFailed<T>> for Error {
+    ghost use Rattle.std.specs.Prelude.{◌≡◌};
+    ghost use Rattle.gixobj_keep.specs.declared.write.Error.TheVariants as write;
+
+    ghost from_gives = { λ _ error. error ≡ write.OutOfMemory };
+
+    fn from(_: AllocFailed<T>) -> Error {
         Error::OutOfMemory
     }
 }
