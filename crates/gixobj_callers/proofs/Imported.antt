@@ -1,9 +1,8 @@
 -- The files and the store after accepted edits and a write; the proof of `import_files` uses it.
-use Rattle.std.proofs.Common.{◌≡◌, ◌∙◌, ◌++◌, ℕ, List, [], ◌∷◌, Option, Some, ap, subst, sym}
+use Rattle.std.proofs.Common.{◌≡◌, ◌∙◌, ℕ, List, [], ◌∷◌, Option, Some, ap, subst, sym}
 use Rattle.std.specs.FinMap as map
 use Rattle.std.specs.Prelude.{MatchOption}
-use Rattle.std.proofs.lemmas.List.Elements.{All-contains, Contains-push}
-use Rattle.gix_object.specs.Entries.{Pair, EntryView}
+use Rattle.gix_object.specs.Entries.{EntryView}
 use Rattle.gix_object.specs.Bases.{HasBases}
 use Rattle.gix_object.specs.Commands.{at_root}
 use Rattle.gix_object.specs.Edited.{steps_if_done}
@@ -16,7 +15,7 @@ use Rattle.gix_object.specs.Replies.{Answers, IsEditReply}
 use Rattle.gix_object.specs.RunTables.{AgreesWithObjects}
 use Rattle.gix_object.specs.State.{DirMap, EditorFiles, State, open_bases, open_dirs}
 use Rattle.gix_object.specs.Stores.{Objects, StoreModel}
-use Rattle.gix_object.specs.Tables.{AgreesWithPairs, AgreesWithStore}
+use Rattle.gix_object.specs.Tables.{AgreesWithPairs}
 use Rattle.gix_object.specs.directories.write.Written.{Written}
 use Rattle.gix_object.specs.editor.command.Edit.{Edit}
 use Rattle.gix_object.specs.editor.command.Edit.TheVariants as edit
@@ -24,18 +23,8 @@ use Rattle.gix_object.specs.editor.reply.EditReply.{EditReply}
 use Rattle.gix_object.specs.editor.reply.EditReply.TheVariants as edit_reply
 use Rattle.gixobj_callers.specs.Imports.{AreEditsDone, Decides, HasWriteReply, import_steps}
 use Rattle.gixobj_callers.proofs.Alone.{root_alone_files}
-use Rattle.gixobj_callers.proofs.Histories.{history_append, history_congruent, same_files_refl, same_files_sym, same_files_trans}
-
--- a table that agrees with the objects agrees with their trees
-agrees_with_store_of_objects : (T : Table) (objects : Objects) (trees : Trees) → AreTreesOf objects trees → AgreesWithObjects T objects
-    → AgreesWithStore T trees
-agrees_with_store_of_objects T objects trees fits agrees = λ id entries requested is. agrees id entries requested ((fits id entries).0 is)
-
--- a table that agrees with pairs has the last pair
-tree_at_last_pair : (T : Table) (pairs below : List Pair) (pair : Pair) → pairs ≡ below ++ pair ∷ [] → AgreesWithPairs T pairs → T.tree_at pair.0 ≡ Some pair.1
-tree_at_last_pair T pairs below pair is agrees =
-    let Known : Pair → Type 0 = λ p. T.tree_at p.0 ≡ Some p.1 in
-    All-contains Known (below ++ pair ∷ []) pair (subst (λ (ps : List Pair). AgreesWithPairs T ps) is agrees) (Contains-push below pair)
+use Rattle.gixobj_listings.proofs.Rooted.{agrees_with_store_of_objects, tree_at_last_pair}
+use Rattle.gixobj_listings.proofs.Histories.{history_append, history_congruent, same_files_refl, same_files_sym, same_files_trans}
 
 -- by the law that every store names trees
 module _ {S E : Type 0} (model : StoreModel S) (answers : Answers E) (trees_of : (objects : Objects) → (trees : Trees) × AreTreesOf objects trees) where

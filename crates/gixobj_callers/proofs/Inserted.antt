@@ -19,7 +19,7 @@ use Rattle.gix_object.specs.editor.editor.error.Error.{Error}
 use Rattle.gix_object.specs.hash.hash.kind.Kind.{Kind}
 use Rattle.gixobj_callers.specs.Checkouts.{AreNotInserted, AreInserted, IsCheckedOut, IsFilled, IsMade, IsNotFilled, IsNotInsertedAt, IsInsertedAt, insert_at, steps_of_checkout}
 use Rattle.gixobj_callers.specs.declared.checkout.Planned.{Planned}
-use Rattle.gixobj_callers.proofs.Histories.{history_congruent, same_files_refl, same_files_trans}
+use Rattle.gixobj_listings.proofs.Histories.{history_congruent, same_files_refl, same_files_trans}
 use Rattle.gix_object.specs.Stores.{StoreModel}
 
 module _ {S : Type 0} (model : StoreModel S) (prefix : Path) where

@@ -1,7 +1,6 @@
 mod Alone
 mod Archived
 mod Commits
-mod Histories
 mod Imported
 mod Importing
 mod Listed

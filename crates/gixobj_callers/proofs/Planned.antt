@@ -1,40 +1,23 @@
 -- An editor of a stored root, and the files of the named tree after an entry was inserted.
-use Rattle.std.proofs.Common.{◌≡◌, ◌≢◌, ◌⊎◌, ◌∙◌, ℕ, List, [], Some, ⊎_elim, ap, subst, sym}
-use Rattle.std.specs.Prelude.{IsFalse, MatchOption, Option}
+use Rattle.std.proofs.Common.{◌≡◌, ◌≢◌, ◌⊎◌, ◌∙◌, ℕ, List, ap, subst, sym}
+use Rattle.std.specs.Prelude.{IsFalse}
 use Rattle.gix_object.specs.Entries.{Pair, EntryView}
 use Rattle.gix_object.specs.Bases.{HasBases}
-use Rattle.gix_object.specs.Existing.{IsEmptyId}
 use Rattle.gix_object.specs.Files.{Files, NamedFiles, Path, SameFiles, Table, Trees, Upserted, is_null}
-use Rattle.gix_object.specs.Hash.{id_kind, id_of}
+use Rattle.gix_object.specs.Hash.{id_kind}
 use Rattle.gix_object.specs.Openings.{AreTreesOf, OfTrees}
 use Rattle.gix_object.specs.State.{EditorFiles, State, new_state, open_bases, open_dirs}
-use Rattle.gix_object.specs.Stores.{Objects, StoreModel}
+use Rattle.gix_object.specs.Stores.{StoreModel}
 use Rattle.gix_object.specs.Tables.{AgreesWithPairs, AgreesWithStore}
 use Rattle.gix_object.specs.Upserts.{IsUpserted, IsUpsertError}
 use Rattle.gix_object.specs.Writes.{IsWrittenEditor}
 use Rattle.gix_object.specs.directories.write.Written.{Written}
 use Rattle.gix_object.specs.editor.editor.error.Error.{Error}
 use Rattle.gix_object.specs.hash.hash.object_id.ObjectId.{ObjectId}
-use Rattle.gix_object.specs.hash.kind.Kind.TheVariants.{Tree}
-use Rattle.gixobj_callers.proofs.Histories.{same_files_trans, upserted_congruent}
-use Rattle.gixobj_callers.specs.Plans.{IsNotInserted, IsInserted, IsRoot}
-
--- a table that agrees with the store has the root by its id, if that isn't null; by the law that ids are equal or not
-module _ (same_or_not : (x y : ObjectId) → (x ≡ y) ⊎ (x ≢ y)) (T : Table) (objects : Objects) (trees : Trees) (it : ObjectId) (entries : List EntryView)
-    (filled : IsFalse (is_null it)) (fits : AreTreesOf objects trees) (agrees : AgreesWithStore T trees) (is : IsRoot objects it entries) where
-  empty_root : IsEmptyId Tree it → T.tree_at it ≡ Some entries
-  empty_root same = ap T.tree_at same ∙ T.none_in_empty (id_kind it) ∙ ap Some (sym (is.empty same))
-
-  stored_root : (IsEmptyId Tree it → ⊥) → T.tree_at it ≡ Some entries
-  stored_root other = agrees it entries (⊎_elim (λ null. cc (null, filled)) other) ((fits it entries).1 (is.stored other))
-
-  root_there : T.tree_at it ≡ Some entries
-  root_there = ⊎_elim empty_root stored_root (same_or_not it (id_of (id_kind it) Tree []))
-
-  root_named : (n : ℕ) → SameFiles (Files T n entries) (NamedFiles T n it)
-  root_named n path mode id =
-      let at : Option (List EntryView) → Type 0 = λ found. MatchOption found ⊥ (λ es. Files T n es path mode id) in
-      (subst at (sym root_there), subst at root_there)
+use Rattle.gixobj_listings.proofs.Histories.{same_files_trans, upserted_congruent}
+use Rattle.gixobj_listings.proofs.Rooted.{root_named}
+use Rattle.gixobj_listings.specs.Roots.{IsRoot}
+use Rattle.gixobj_callers.specs.Plans.{IsNotInserted, IsInserted}
 
 module _ {S : Type 0} (model : StoreModel S) (store : S) (root_id : ObjectId) (path : Path) (mode : ℕ) (id : ObjectId) where
   -- the errors and the effect of an edit by an editor of the stored root

@@ -1,4 +1,4 @@
--- The last of a list of imports.
+-- The last of a list of imports is the tip; the proofs of `tip_of` and `Archived` use it.
 use Rattle.std.proofs.Common.{◌≡◌, ◌∙◌, ℕ, suc, List, [], ◌∷◌, ◌++◌, None, Option, Some, ap, arith, length, refl, subst}
 use Rattle.std.proofs.lemmas.Bool.{false≢true, true≢false}
 use Rattle.std.proofs.lemmas.List.{length-append, take_all}

@@ -7,16 +7,16 @@ ghost use Rattle.gix_object.specs.Files.{NamedFiles, SameFiles, Table, Trees, Up
 ghost use Rattle.gix_object.specs.Mode.{mode_of_kind};
 ghost use Rattle.gix_object.specs.Tables.{AgreesWithPairs, AgreesWithStore};
 ghost use Rattle.gix_object.specs.TreeDecoding.{IsMalformedTree, DecodesToTree};
-ghost use Rattle.gixobj_callers.specs.Plans.{IsPlanned, IsRoot, IsPlanError, IsRootError};
+ghost use Rattle.gixobj_callers.specs.Plans.{IsPlanned, IsPlanError};
 ghost use Rattle.gix_object.specs.Stores.{store_model};
 
 use bstr::BString;
-use gix_object::find::existing_object;
 use gix_object::hash::{Kind, ObjectId};
 use gix_object::laws::{consumed_entries_are_prefix, id_equality_is_decidable, tree_readers_agree};
 use gix_object::tree::EntryKind;
 use gix_object::tree::editor::{Editor, Error, WriteError, Written};
-use gix_object::{Find, FindExt, Tree, TreeRefIter};
+use gix_object::{Find, Tree, TreeRefIter};
+pub use gixobj_listings::roots::{RootError, root_in};
 use std::alloc::Global;
 use std::fmt::Display;
 
@@ -35,20 +35,6 @@ pub fn is_tree(content: &[u8], kind: Kind) -> bool
     true
 }
 
-/// The error of [`root_in`].
-#[derive(Debug, Drop, thiserror::Error)]
-pub enum RootError {
-    /// The lookup failed, for this cause.
-    #[error("{0}")]
-    Find(existing_object::Error),
-    /// The stored tree isn't well-formed, as `Tree::is_well_formed` reports.
-    #[error("the root isn't well-formed")]
-    Malformed,
-    /// Allocation of the entries failed; the tree has entries.
-    #[error("out of memory")]
-    OutOfMemory,
-}
-
 /// The error of [`with_entry_in_stored`].
 #[derive(Debug, Drop, thiserror::Error)]
 #[error_bound(E: Display)]
@@ -62,35 +48,6 @@ pub enum PlanError<E> {
     /// The write failed.
     #[error("not written: {0}")]
     Write(WriteError<E>),
-}
-
-/// Returns the well-formed tree with this id from a store. For the empty tree's id it has no entries, and
-/// isn't looked up.
-///
-/// Allocates a buffer, and the entries of the tree.
-///
-/// # Errors
-///
-/// - [`RootError::Find`] with the lookup's error, if the id names no tree that decodes, or the lookup fails;
-/// - [`RootError::Malformed`] if the stored tree isn't well-formed;
-/// - [`RootError::OutOfMemory`] if allocation of its entries fails.
-pub fn root_in<S: Find>(alloc: Global, store: &S, id: ObjectId) -> Result<Tree, RootError>
-    ensures found { IfOk result (λ root. IsRoot (S.objects store.now) id root) }
-    ensures error { IfErr result (IsRootError (S.objects store.now) (S.may_fail store.now) id) }
-{
-    let mut content = Vec::new(alloc);
-    let stored = match store.find_tree(alloc, id.as_oid(), &mut content) {
-        Ok(stored) => stored,
-        Err(error) => return Err(RootError::Find(error)),
-    };
-    let root = match stored.into_owned(alloc) {
-        Ok(root) => root,
-        Err(_) => return Err(RootError::OutOfMemory),
-    };
-    if !root.is_well_formed() {
-        return Err(RootError::Malformed);
-    }
-    Ok(root)
 }
 
 /// Inserts an entry at a path of a stored root, and emits the changed trees to `out`.

@@ -1,4 +1,4 @@
-//! A walk through a caller's own store of two commits and their trees.
+//! Walks through a caller's own store of two commits and their trees, and logs of them.
 
 use gix_object::hash::{Kind as HashKind, ObjectId};
 use gix_object::tree::Entry;
@@ -6,6 +6,7 @@ use gix_object::{Data, Kind};
 use gix_object_tests::samples::{id, path_of};
 use gixobj_callers::history::{Error, ancestor, entry_of};
 use gixobj_callers::shelf::Shelf;
+use gixobj_listings::history::{CommitLog, LogEnd, LoggedCommit, log};
 use std::alloc::Global;
 
 /// Id that `git mktree --missing` prints for the file `test.txt` with the id
@@ -118,4 +119,44 @@ fn finds_entries_at_paths(rt: HostRuntime) {
 #[test]
 fn rejects_tree_as_commit(rt: HostRuntime) {
     assert!(rt; found_at(rt.alloc(), ROOT, &["bak"]) == "no commit");
+}
+
+/// Whether this is the commit of that id and title, by the author of both.
+fn is_logged(commit: &LoggedCommit, hex: &[u8], title: &[u8]) -> bool {
+    commit.id == id(hex)
+        && commit.title.as_bytes() == title
+        && commit.author.as_bytes() == b"A".as_slice()
+        && commit.email.as_bytes() == b"a@b".as_slice()
+}
+
+/// Names the end of a log of the second commit, over a store without these objects, with at most `max_commits`.
+fn logged(alloc: Global, without: &[u8], max_commits: u32) -> &'static str {
+    let kept = objects().map(|it| if it.0 == id(without) {
+        (id(ROOT), it.1)
+    } else {
+        it
+    });
+    let store = Shelf { objects: &kept };
+    let Ok(CommitLog { commits, end }) = log(alloc, &store, id(SECOND), max_commits) else {
+        return "no log";
+    };
+    match (commits.as_slice(), end) {
+        ([second, first], LogEnd::Root)
+            if is_logged(second, SECOND, b"second") && is_logged(first, FIRST, b"first") => {
+            "both"
+        }
+        ([_], LogEnd::Unread { id: at, .. }) if at == id(FIRST) => "second, without first",
+        ([_], LogEnd::TooLong { id: at }) if at == id(FIRST) => "second, before first",
+        ([], LogEnd::TooLong { .. }) => "none",
+        _ => "otherwise",
+    }
+}
+
+#[test]
+fn lists_commits_by_first_parents(rt: HostRuntime) {
+    let alloc = rt.alloc();
+    assert!(rt; logged(alloc, BAK, 2) == "both");
+    assert!(rt; logged(alloc, BAK, 1) == "second, before first");
+    assert!(rt; logged(alloc, BAK, 0) == "none");
+    assert!(rt; logged(alloc, FIRST, 2) == "second, without first");
 }

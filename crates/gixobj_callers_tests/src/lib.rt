@@ -2,10 +2,14 @@
 #![tactic(auto)]
 
 #[cfg(test)]
+mod audits;
+#[cfg(test)]
 mod callers;
 #[cfg(test)]
 mod history;
 #[cfg(test)]
 mod import;
+#[cfg(test)]
+mod listing;
 #[cfg(test)]
 mod values_and_objects;

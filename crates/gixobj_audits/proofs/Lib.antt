@@ -1,0 +1,7 @@
+mod EntryAfterImport
+mod LastReplies
+mod OneOpening
+mod OneWrite
+mod PathEntries
+mod RunChanged
+mod SameImports

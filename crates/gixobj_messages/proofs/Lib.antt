@@ -1,0 +1,5 @@
+mod AssembledBlocks
+mod AssembledTitles
+pub mod Assembling
+pub mod Returns
+pub mod Renaming

@@ -1,0 +1,3 @@
+mod BuiltTrees
+mod OneTree
+mod StoredTrees
