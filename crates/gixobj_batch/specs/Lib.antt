@@ -1,0 +1,6 @@
+pub mod CheckLines
+pub mod Checks
+pub mod Lines
+pub mod Objects
+pub mod Reports
+pub mod Trees

@@ -1,0 +1,159 @@
+//! The command `check`.
+ghost use Rattle.std.specs.Prelude.{◌≡◌, ◌++◌, ◌∷◌, [], OnOk, decimal};
+ghost use Rattle.gix_object.specs.Bytes.{newline};
+ghost use Rattle.gix_object.specs.Hash.{encode_id_hex};
+ghost use Rattle.gixobj_batch.specs.CheckLines.{IsFaultOfCounts, count_line, fault_line, other_line};
+
+use crate::checked::{BytesFault, bytes_fault, other_id};
+use crate::fault::Fault;
+use crate::lines::push_id;
+use crate::report::Report;
+use gix_object::hash::ObjectId;
+use gix_object::{Kind, OutOfMemory};
+use gixobj_records::Record;
+use itoa::Buffer;
+use std::alloc::{AllocError, Global};
+
+/// What the check of a record found.
+#[derive(Clone, Copy)]
+pub(crate) enum Verdict {
+    /// An object without a fault.
+    Sound,
+    /// An object with faults.
+    Faulty,
+    /// No object.
+    Missing,
+}
+
+/// Checks each object: its id has to be that of its bytes, and its bytes have to be those that its object encodes to.
+/// Prints a line for each fault and each missing object, and one with the numbers of objects.
+pub(crate) fn check(alloc: Global, records: &[Record<'_>]) -> Result<Report, Fault> {
+    let mut lines = Vec::new(alloc);
+    let mut buffer = Vec::new(alloc);
+    let (mut faulty, mut missing) = (0usize, 0usize);
+    for it in records {
+        match check_record(alloc, &mut lines, &mut buffer, *it)? {
+            Verdict::Sound => {}
+            Verdict::Faulty => faulty += 1,
+            Verdict::Missing => missing += 1,
+        }
+    }
+    push_counts(&mut lines, records.len() - missing, faulty, missing)?;
+    let fault = fault_of(faulty, missing);
+    Ok(Report { lines, fault })
+}
+
+/// The error after a check with these numbers of faulty and of missing objects, or `None`.
+fn fault_of(faulty: usize, missing: usize) -> Option<Fault>
+    ensures { IsFaultOfCounts faulty missing result }
+{
+    if faulty > 0 {
+        return Some(Fault::Faulty);
+    }
+    if missing > 0 {
+        return Some(Fault::Faulty);
+    }
+    None
+}
+
+/// Appends the lines of a record. The buffer is for encodings.
+fn check_record(
+    alloc: Global,
+    lines: &mut Vec<u8>,
+    buffer: &mut Vec<u8>,
+    it: Record<'_>,
+) -> Result<Verdict, OutOfMemory> {
+    match it {
+        Record::Object { id, kind, content } => {
+            check_object(alloc, lines, buffer, id, kind, content)
+        }
+        Record::Missing { id } => {
+            push_line(lines, id, b" is missing")?;
+            Ok(Verdict::Missing)
+        }
+    }
+}
+
+/// Appends a line for each fault of an object.
+fn check_object(
+    alloc: Global,
+    lines: &mut Vec<u8>,
+    buffer: &mut Vec<u8>,
+    id: ObjectId,
+    kind: Kind,
+    content: &[u8],
+) -> Result<Verdict, OutOfMemory> {
+    let other = other_id(id, kind, content);
+    let fault = bytes_fault(alloc, buffer, id.kind(), kind, content)?;
+    push_other(lines, id, other)?;
+    push_fault(lines, id, fault)?;
+    match (other, fault) {
+        (None, None) => Ok(Verdict::Sound),
+        _ => Ok(Verdict::Faulty),
+    }
+}
+
+/// Appends the line of an object with another id, or nothing.
+fn push_other(lines: &mut Vec<u8>, id: ObjectId, other: Option<ObjectId>) -> Result<(), AllocError>
+    ensures { OnOk result (lines.new.items ≡ lines.old.items ++ other_line id other) }
+{
+    match other {
+        None => Ok(()),
+        Some(actual) => {
+            push_id(lines, id)?;
+            lines.extend_from_slice(b" has the bytes of ")?;
+            push_line(lines, actual, b"")
+        }
+    }
+}
+
+/// Appends the line of a fault of the bytes of an object, or nothing.
+fn push_fault(
+    lines: &mut Vec<u8>,
+    id: ObjectId,
+    fault: Option<BytesFault>,
+) -> Result<(), AllocError>
+    ensures { OnOk result (lines.new.items ≡ lines.old.items ++ fault_line id fault) }
+{
+    match fault {
+        None => Ok(()),
+        Some(BytesFault::Malformed) => push_line(lines, id, b" is malformed"),
+        Some(BytesFault::OtherBytes) => push_line(lines, id, b" encodes to other bytes"),
+    }
+}
+
+/// Appends a line: an id, and what follows it.
+fn push_line(lines: &mut Vec<u8>, id: ObjectId, rest: &[u8]) -> Result<(), AllocError>
+    ensures { OnOk result (lines.new.items
+        ≡ lines.old.items ++ (encode_id_hex id ++ rest.now ++ newline ∷ [])) }
+{
+    push_id(lines, id)?;
+    lines.extend_from_slice(rest)?;
+    lines.push(b'\n')?;
+    Ok(())
+}
+
+/// Appends the line of the numbers of objects.
+fn push_counts(
+    lines: &mut Vec<u8>,
+    objects: usize,
+    faulty: usize,
+    missing: usize,
+) -> Result<(), AllocError>
+    ensures { OnOk result (lines.new.items
+        ≡ lines.old.items ++ count_line objects faulty missing) }
+{
+    push_count(lines, b"checked ", objects)?;
+    push_count(lines, b" objects: ", faulty)?;
+    push_count(lines, b" faulty, ", missing)?;
+    lines.extend_from_slice(b" missing\n")
+}
+
+/// Appends bytes, and a number in decimal.
+fn push_count(lines: &mut Vec<u8>, before: &[u8], number: usize) -> Result<(), AllocError>
+    ensures { OnOk result (lines.new.items ≡ lines.old.items ++ (before.now ++ decimal number)) }
+{
+    let mut digits = Buffer::new();
+    lines.extend_from_slice(before)?;
+    lines.extend_from_slice(digits.format(number).as_bytes())
+}

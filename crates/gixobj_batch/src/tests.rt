@@ -1,0 +1,147 @@
+//! Commands on recorded histories, and on damaged input.
+
+use crate::arguments::{Command, command_of};
+use crate::fault::Fault;
+use crate::recorded::*;
+use crate::report::report_of;
+use gix_object::hash::ObjectId;
+use std::alloc::Global;
+
+/// The id of recorded hex.
+fn id_of(hex: &[u8]) -> ObjectId {
+    match ObjectId::from_hex(hex) {
+        Some(id) => id,
+        None => ObjectId::default(),
+    }
+}
+
+/// Whether a command prints these lines, and then no error.
+fn prints(alloc: Global, command: Command, input: &[u8], expected: &[u8]) -> bool {
+    match report_of(alloc, command, input) {
+        Ok(report) => report.lines.as_slice() == expected && report.fault.is_none(),
+        Err(_) => false,
+    }
+}
+
+#[test]
+fn prints_what_git_prints_with_sha1(rt: HostRuntime) {
+    let (tip, first) = (id_of(SHA1_TIP), id_of(SHA1_FIRST));
+    assert!(rt; prints(rt.alloc(), Command::Log(tip), SHA1_BATCH, SHA1_LOG));
+    assert!(rt; prints(rt.alloc(), Command::List(tip), SHA1_BATCH, SHA1_LIST));
+    assert!(rt; prints(rt.alloc(), Command::Diff(first, tip), SHA1_BATCH, SHA1_DIFF));
+}
+
+#[test]
+fn prints_what_git_prints_with_sha256(rt: HostRuntime) {
+    let (tip, first) = (id_of(SHA256_TIP), id_of(SHA256_FIRST));
+    assert!(rt; prints(rt.alloc(), Command::Log(tip), SHA256_BATCH, SHA256_LOG));
+    assert!(rt; prints(rt.alloc(), Command::List(tip), SHA256_BATCH, SHA256_LIST));
+    assert!(rt;
+        prints(
+            rt.alloc(),
+            Command::Diff(first, tip),
+            SHA256_BATCH,
+            SHA256_DIFF
+        )
+    );
+}
+
+const CLEAN: &[u8] = b"checked 26 objects: 0 faulty, 0 missing\n";
+
+#[test]
+fn finds_no_fault_in_objects_of_git(rt: HostRuntime) {
+    assert!(rt; prints(rt.alloc(), Command::Check, SHA1_BATCH, CLEAN));
+    assert!(rt; prints(rt.alloc(), Command::Check, SHA256_BATCH, CLEAN));
+}
+
+/// Whether a command prints these lines, and then an error.
+fn prints_faults(alloc: Global, command: Command, input: &[u8], expected: &[u8]) -> bool {
+    match report_of(alloc, command, input) {
+        Ok(report) => report.lines.as_slice() == expected && report.fault.is_some(),
+        Err(_) => false,
+    }
+}
+
+/// A blob with another id, a missing object, a malformed tree, and a tree whose mode begins with a zero.
+const FAULTY: &[u8] = b"ce013625030ba8dba906f756967f9e9ca394464a blob 6\nHello\n\n\
+    4b825dc642cb6eb9a060e54bf8d69288fbee4904 missing\n\
+    f42941c78e101ff62b3e2f6e468c3e310f703259 tree 1\nx\n\
+    d5de3ff3d66b617815ed7ae15f47d88c2a9fd874 tree 30\n\
+    0100644 a\0\x11\x11\x11\x11\x11\x11\x11\x11\x11\x11\x11\x11\x11\x11\x11\x11\x11\x11\x11\x11\n";
+
+const FAULTS: &[u8] =
+    b"ce013625030ba8dba906f756967f9e9ca394464a has the bytes of e965047ad7c57865823c7d992b1d046ea66edf78\n\
+    4b825dc642cb6eb9a060e54bf8d69288fbee4904 is missing\n\
+    f42941c78e101ff62b3e2f6e468c3e310f703259 is malformed\n\
+    d5de3ff3d66b617815ed7ae15f47d88c2a9fd874 encodes to other bytes\n\
+    checked 3 objects: 3 faulty, 1 missing\n";
+
+#[test]
+fn lists_faults_of_objects(rt: HostRuntime) {
+    assert!(rt; prints_faults(rt.alloc(), Command::Check, FAULTY, FAULTS));
+}
+
+#[test]
+fn stops_at_first_commit_that_is_missing(rt: HostRuntime) {
+    let alone = b"2b09c4737e7ae776810443d28ff15aaacfd1bfbf missing\n".as_slice();
+    let id = id_of(b"2b09c4737e7ae776810443d28ff15aaacfd1bfbf");
+    assert!(rt; prints_faults(rt.alloc(), Command::Log(id), alone, b""));
+}
+
+/// Whether a command fails with this message.
+fn fails_with(alloc: Global, input: &[u8], expected: &str) -> bool {
+    let Err(fault) = report_of(alloc, Command::Check, input) else {
+        return false;
+    };
+    match format!(in alloc; "{fault}") {
+        Ok(message) => message.as_str() == expected,
+        Err(_) => false,
+    }
+}
+
+const DAMAGED: [(&[u8], &str); 10] = [
+    (
+        b"x",
+        "malformed record at byte 0: the header has no newline",
+    ),
+    (b"\n", "malformed record at byte 0: the header has no id"),
+    (
+        b"main missing\n",
+        "malformed record at byte 0: the header has no id",
+    ),
+    (
+        b"CE013625030BA8DBA906F756967F9E9CA394464A blob 0\n\n",
+        "malformed record at byte 0: the header has no id",
+    ),
+    (
+        b"ce013625030ba8dba906f756967f9e9ca394464a blub 0\n\n",
+        "malformed record at byte 0: the header has an unknown kind",
+    ),
+    (
+        b"ce013625030ba8dba906f756967f9e9ca394464a blob 01\nx\n",
+        "malformed record at byte 0: the header has an invalid size",
+    ),
+    (
+        b"ce013625030ba8dba906f756967f9e9ca394464a blob 18446744073709551616\n\n",
+        "malformed record at byte 0: the header has an invalid size",
+    ),
+    (
+        b"ce013625030ba8dba906f756967f9e9ca394464a blob 2\nx",
+        "malformed record at byte 0: the content is too short",
+    ),
+    (
+        b"ce013625030ba8dba906f756967f9e9ca394464a blob 1\nx",
+        "malformed record at byte 0: no newline follows the content",
+    ),
+    (
+        b"ce013625030ba8dba906f756967f9e9ca394464a missing\nx\n",
+        "malformed record at byte 49: the header has no id",
+    ),
+];
+
+#[test]
+fn reports_where_input_is_damaged(rt: HostRuntime) {
+    for (input, expected) in &DAMAGED {
+        assert!(rt; fails_with(rt.alloc(), input, expected));
+    }
+}

@@ -1,0 +1,4 @@
+mod Faults
+mod Fields
+mod Headers
+pub mod RecordLists
