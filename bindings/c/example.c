@@ -1,0 +1,203 @@
+/* Calls each function once, and compares with what git prints. Prints `ok`, or what differs, with status 1. */
+#include "gixobj.h"
+#include "gixobj_edit.h"
+#include <stdio.h>
+#include <string.h>
+
+#define WANT(it) do { if (!(it)) { printf("%s:%d: not %s\n", __FILE__, __LINE__, #it); return 1; } } while (0)
+#define BYTES(it) (const uint8_t *)(it), sizeof(it) - 1
+
+static const char commit[] =
+    "tree 4b825dc642cb6eb9a060e54bf8d69288fbee4904\n"
+    "author A <a@b> 0 +0000\ncommitter A <a@b> 0 +0000\n"
+    "gpgsig a\n b\n\nm\n\nbody\n\nAcked-by: B\n  C\n";
+static const char tree[] = "100644 a\0aaaaaaaaaaaaaaaaaaaa40000 b\0bbbbbbbbbbbbbbbbbbbb";
+
+static const char tag[] =
+    "object 4b825dc642cb6eb9a060e54bf8d69288fbee4904\ntype tree\ntag v1\ntagger A <a@b> 0 +0000\n\n"
+    "m\n-----BEGIN PGP SIGNATURE-----\n";
+
+static int ids(void) {
+  uint8_t id[20];
+  /* printf 'hello\n' | git hash-object --stdin */
+  static const uint8_t hello[20] = {0xce, 0x01, 0x36, 0x25, 0x03, 0x0b, 0xa8, 0xdb, 0xa9, 0x06,
+                                    0xf7, 0x56, 0x96, 0x7f, 0x9e, 0x9c, 0xa3, 0x94, 0x46, 0x4a};
+  WANT(gixobj_id(GIXOBJ_SHA1, GIXOBJ_BLOB, BYTES("hello\n"), id, 20) == GIXOBJ_DONE);
+  WANT(!memcmp(id, hello, 20));
+  WANT(gixobj_id(GIXOBJ_SHA1, GIXOBJ_BLOB, BYTES("hello\n"), id, 19) == GIXOBJ_BUFFER_TOO_SHORT);
+  WANT(gixobj_id(3, GIXOBJ_BLOB, BYTES("hello\n"), id, 20) == GIXOBJ_UNKNOWN_CODE);
+  WANT(gixobj_id(GIXOBJ_SHA1, 5, BYTES("hello\n"), id, 20) == GIXOBJ_UNKNOWN_CODE);
+  WANT(gixobj_verify(GIXOBJ_SHA1, GIXOBJ_BLOB, BYTES("hello\n"), id, 20) == GIXOBJ_DONE);
+  WANT(gixobj_verify(GIXOBJ_SHA1, GIXOBJ_BLOB, BYTES("hello"), id, 20) == GIXOBJ_MISMATCH);
+  WANT(gixobj_verify(GIXOBJ_SHA1, GIXOBJ_BLOB, BYTES("hello\n"), id, 19) == GIXOBJ_MISMATCH);
+  WANT(gixobj_check(GIXOBJ_SHA1, GIXOBJ_COMMIT, BYTES(commit)) == GIXOBJ_DONE);
+  WANT(gixobj_check(GIXOBJ_SHA1, GIXOBJ_COMMIT, BYTES("tree x\n")) == GIXOBJ_MALFORMED);
+  WANT(gixobj_check(GIXOBJ_SHA1, GIXOBJ_TREE, BYTES("")) == GIXOBJ_DONE);
+  return 0;
+}
+
+static int headers(void) {
+  gixobj_header header = {0, 0, 0};
+  WANT(gixobj_loose_header(BYTES("blob 6\0hello\n"), &header) == GIXOBJ_DONE);
+  WANT(header.kind == GIXOBJ_BLOB && header.size == 6 && header.len == 7);
+  WANT(gixobj_loose_header(BYTES("blab 6\0"), &header) == GIXOBJ_UNKNOWN_KIND && header.len == 7);
+  WANT(gixobj_loose_header(BYTES("blob x\0"), &header) == GIXOBJ_INVALID_SIZE);
+  WANT(gixobj_loose_header(BYTES("blob"), &header) == GIXOBJ_MALFORMED);
+  return 0;
+}
+
+static int entries(void) {
+  gixobj_entry entry, all[3];
+  size_t count = 9, end = sizeof tree - 1;
+  memset(&entry, 0, sizeof entry);
+  memset(all, 0, sizeof all);
+  WANT(gixobj_tree_entry(GIXOBJ_SHA1, BYTES(tree), 0, &entry) == GIXOBJ_DONE);
+  WANT(entry.mode == 0100644 && entry.name.len == 1 && tree[entry.name.start] == 'a');
+  WANT(entry.id.len == 20 && tree[entry.id.start] == 'a');
+  WANT(gixobj_tree_entry(GIXOBJ_SHA1, BYTES(tree), entry.next, &entry) == GIXOBJ_DONE);
+  WANT(entry.mode == 040000 && tree[entry.name.start] == 'b' && entry.next == end);
+  WANT(gixobj_tree_entry(GIXOBJ_SHA1, BYTES(tree), end, &entry) == GIXOBJ_AT_END);
+  WANT(gixobj_tree_entry(GIXOBJ_SHA1, BYTES(tree), end + 1, &entry) == GIXOBJ_BAD_OFFSET);
+  WANT(gixobj_tree_entry(GIXOBJ_SHA1, BYTES(tree), 7, &entry) == GIXOBJ_MALFORMED);
+  WANT(gixobj_tree_entries(GIXOBJ_SHA1, BYTES(tree), 0, all, 3, &count) == GIXOBJ_AT_END);
+  WANT(count == 2 && all[0].mode == 0100644 && all[1].next == end && all[2].next == 0);
+  WANT(gixobj_tree_entries(GIXOBJ_SHA1, BYTES(tree), 0, all, 2, &count) == GIXOBJ_DONE && count == 2);
+  WANT(gixobj_tree_entries(GIXOBJ_SHA1, BYTES(tree), 7, all, 3, &count) == GIXOBJ_MALFORMED && count == 0);
+  return 0;
+}
+
+static int tokens(void) {
+  gixobj_cursor cursor = {0, 0};
+  gixobj_token token;
+  gixobj_message_parts parts;
+  uint32_t kinds[8], n = 0;
+  memset(&token, 0, sizeof token);
+  memset(&parts, 0, sizeof parts);
+  while (gixobj_commit_token(GIXOBJ_SHA1, BYTES(commit), &cursor, &token) == GIXOBJ_DONE) {
+    kinds[n++] = token.kind;
+    if (token.kind == GIXOBJ_TOKEN_HEADER)
+      WANT(token.name.len == 6 && token.value.len == 5 && !memcmp(commit + token.value.start, "a\n b\n", 5));
+  }
+  WANT(n == 5 && kinds[0] == 1 && kinds[1] == 3 && kinds[2] == 4 && kinds[3] == 6 && kinds[4] == 7);
+  WANT(cursor.offset == sizeof commit - 1);
+  cursor.offset++;
+  WANT(gixobj_commit_token(GIXOBJ_SHA1, BYTES(commit), &cursor, &token) == GIXOBJ_BAD_OFFSET);
+  cursor.state = 9;
+  WANT(gixobj_commit_token(GIXOBJ_SHA1, BYTES(commit), &cursor, &token) == GIXOBJ_UNKNOWN_CODE);
+  WANT(gixobj_message((const uint8_t *)commit + token.value.start, token.value.len, &parts) == GIXOBJ_DONE);
+  WANT(parts.title.len == 1 && parts.has_body && parts.body.start == 3);
+  return 0;
+}
+
+static int tag_tokens(void) {
+  gixobj_cursor cursor = {0, 0};
+  gixobj_tag_parts parts;
+  uint32_t n = 0;
+  memset(&parts, 0, sizeof parts);
+  while (gixobj_tag_token(GIXOBJ_SHA1, BYTES(tag), &cursor, &parts) == GIXOBJ_DONE) {
+    n++;
+    if (parts.kind == GIXOBJ_TAG_TARGET)
+      WANT(parts.value.start == 7 && parts.value.len == 40);
+    if (parts.kind == GIXOBJ_TAG_TARGET_KIND)
+      WANT(parts.value.len == 4 && !memcmp(tag + parts.value.start, "tree", 4));
+    if (parts.kind == GIXOBJ_TAG_TAGGER)
+      WANT(parts.value.len == 15 && !memcmp(tag + parts.value.start, "A <a@b> 0 +0000", 15));
+  }
+  WANT(n == 5 && parts.kind == GIXOBJ_TAG_BODY && parts.has_signature == 1 && parts.value.len == 1);
+  WANT(tag[parts.value.start] == 'm' && parts.signature.start + parts.signature.len == sizeof tag - 1);
+  WANT(tag[parts.signature.start - 1] == '\n' && parts.signature.len == 30);
+  cursor.offset = cursor.state = 0;
+  WANT(gixobj_tag_token(GIXOBJ_SHA256, BYTES(tag), &cursor, &parts) == GIXOBJ_MALFORMED && parts.kind == 6);
+  cursor.state = 6;
+  WANT(gixobj_tag_token(GIXOBJ_SHA1, BYTES(tag), &cursor, &parts) == GIXOBJ_UNKNOWN_CODE);
+  return 0;
+}
+
+static int named_headers(void) {
+  uint8_t out[8];
+  size_t len = 0;
+  memset(out, 'x', 8);
+  WANT(gixobj_commit_header(GIXOBJ_SHA1, BYTES(commit), BYTES("gpgsig"), out, 3, &len) == GIXOBJ_BUFFER_TOO_SHORT);
+  WANT(len == 4 && out[0] == 'x');
+  WANT(gixobj_commit_header(GIXOBJ_SHA1, BYTES(commit), BYTES("gpgsig"), out, 8, &len) == GIXOBJ_DONE);
+  WANT(len == 4 && !memcmp(out, "a\nb\nxxxx", 8));
+  WANT(gixobj_commit_header(GIXOBJ_SHA1, BYTES(commit), BYTES("tree"), out, 8, &len) == GIXOBJ_NOT_FOUND && len == 4);
+  WANT(gixobj_commit_header(GIXOBJ_SHA1, BYTES("tree x\n"), BYTES("a"), out, 8, &len) == GIXOBJ_MALFORMED);
+  return 0;
+}
+
+static int buffers(void) {
+  uint8_t out[64], more[256];
+  size_t len = 0, more_len = 0;
+  WANT(gixobj_reencode(GIXOBJ_SHA1, GIXOBJ_TREE, BYTES(tree), out, 64, &len) == GIXOBJ_DONE);
+  WANT(len == sizeof tree - 1 && !memcmp(out, tree, len));
+  WANT(gixobj_reencode(GIXOBJ_SHA1, GIXOBJ_TREE, BYTES(tree), out, 3, &len) == GIXOBJ_BUFFER_TOO_SHORT);
+  WANT(len == sizeof tree - 1 && !memcmp(out, tree, len));
+  WANT(gixobj_summary(BYTES("a\nb\n\nc"), out, 64, &len) == GIXOBJ_DONE && len == 3 && !memcmp(out, "a b", 3));
+  WANT(gixobj_trailer(BYTES(commit), 0, out, 64, &len, more, 256, &more_len) == GIXOBJ_DONE);
+  WANT(len == 8 && !memcmp(out, "Acked-by", 8) && more_len == 3 && !memcmp(more, "B C", 3));
+  WANT(gixobj_trailer(BYTES(commit), 1, out, 64, &len, more, 256, &more_len) == GIXOBJ_NOT_FOUND && len == 8);
+  WANT(gixobj_commit_signature(GIXOBJ_SHA1, BYTES(commit), out, 64, &len, more, 256, &more_len) == GIXOBJ_DONE);
+  WANT(len == 4 && !memcmp(out, "a\nb\n", 4) && more_len == sizeof commit - 1 - 12);
+  memset(out, 'x', 64);
+  WANT(gixobj_commit_signature(GIXOBJ_SHA1, BYTES(commit), out, 64, &len, more, 2, &more_len) ==
+       GIXOBJ_BUFFER_TOO_SHORT);
+  WANT(len == 4 && out[0] == 'x' && more_len == sizeof commit - 1 - 12);
+  return 0;
+}
+
+/* The ids are those that git update-index and git write-tree print. */
+static int edits(void) {
+  static const uint8_t none[20] = {0};
+  static const uint8_t first[20] = {0x54, 0x02, 0xbd, 0x80, 0x62, 0x85, 0x6e, 0x83, 0xad, 0xe5,
+                                    0x0b, 0x9b, 0xe4, 0xaa, 0xfc, 0xb8, 0x71, 0x7c, 0xc2, 0x32};
+  static const uint8_t second[20] = {0x58, 0x01, 0xa0, 0x1a, 0xd6, 0x2e, 0x76, 0xee, 0x2f, 0xc8,
+                                     0x23, 0x1f, 0xcc, 0x07, 0x1a, 0x62, 0x8b, 0x40, 0x62, 0x69};
+  static const char add[] = "upsert blob ce013625030ba8dba906f756967f9e9ca394464a a/b\n";
+  static const char move[] = "upsert exe ce013625030ba8dba906f756967f9e9ca394464a a/c\n\nleaf a/b\n";
+  uint8_t out[256], more[256], id[20];
+  size_t len = 0, more_len = 0, id_len = 0;
+  uint64_t number = 9;
+  memset(out, 'x', 256);
+#define EDIT(trees, len, root, script, out, size, out_len) \
+  gixobj_edit(GIXOBJ_SHA1, trees, len, root, 20, BYTES(script), out, size, out_len, id, 20, &id_len, &number)
+  WANT(EDIT(none, 0, none, add, out, 3, &len) == GIXOBJ_BUFFER_TOO_SHORT && len == 73 && out[0] == 'x');
+  WANT(EDIT(none, 0, none, add, out, 256, &len) == GIXOBJ_DONE && len == 73 && number == 9);
+  WANT(id_len == 20 && !memcmp(id, first, 20) && !memcmp(out, "tree 29\0" "100644 b", 16));
+  WANT(EDIT(out, len, first, move, more, 256, &more_len) == GIXOBJ_DONE && !memcmp(id, second, 20));
+  WANT(EDIT(none, 0, first, move, more, 256, &more_len) == GIXOBJ_NOT_FOUND && !memcmp(id, first, 20) && number == 0);
+  WANT(EDIT(out + 37, len - 37, first, move, more, 256, &more_len) == GIXOBJ_NOT_FOUND && number == 1);
+  WANT(EDIT(out, len - 1, first, move, more, 256, &more_len) == GIXOBJ_MALFORMED && number == 0);
+  WANT(EDIT(out, len, first, "\nupsert x", more, 256, &more_len) == GIXOBJ_BAD_LINE && number == 2);
+  WANT(EDIT(out, len, first, "\nremove z\nwrite", more, 256, &more_len) == GIXOBJ_NOT_AN_EDIT && number == 2);
+  WANT(EDIT(out, len, first, "remove a//b", more, 256, &more_len) == GIXOBJ_INVALID_NAME && number == 1);
+  WANT(EDIT(out, len, first, "leaf a", more, 256, &more_len) == GIXOBJ_IS_DIRECTORY && number == 1);
+  WANT(gixobj_edit(3, none, 0, none, 20, none, 0, out, 0, &len, id, 0, &id_len, &number) == GIXOBJ_UNKNOWN_CODE);
+  return 0;
+}
+
+static int signatures(void) {
+  gixobj_span span = {0, 0};
+  WANT(gixobj_tag_signature(BYTES("any\n-----BEGIN SSH SIGNATURE-----\n"), &span) == GIXOBJ_DONE && span.start == 4);
+  WANT(gixobj_tag_signature(BYTES("any"), &span) == GIXOBJ_NOT_FOUND && span.start == 4);
+  return 0;
+}
+
+static int actors(void) {
+  gixobj_actor_parts actor;
+  memset(&actor, 0, sizeof actor);
+  WANT(gixobj_actor(BYTES("A B <a@b> -12 +0130"), &actor) == GIXOBJ_DONE);
+  WANT(actor.name.start == 0 && actor.name.len == 3 && actor.email.start == 5 && actor.email.len == 3);
+  WANT(actor.time.start == 10 && actor.has_time == 1 && actor.seconds == -12 && actor.offset == 5400);
+  WANT(gixobj_actor(BYTES("A <a@b> never"), &actor) == GIXOBJ_DONE && actor.has_time == 0 && actor.offset == 0);
+  WANT(gixobj_actor(BYTES("A a@b> 0"), &actor) == GIXOBJ_MALFORMED && actor.name.len == 1);
+  return 0;
+}
+
+int main(void) {
+  if (actors() || ids() || headers() || entries() || tokens() || tag_tokens() || named_headers() || buffers() ||
+      edits() || signatures())
+    return 1;
+  puts("ok");
+  return 0;
+}

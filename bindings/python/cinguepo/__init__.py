@@ -1,0 +1,272 @@
+"""Proved decoders of git's objects: a module over the static libraries gixobj_c and gixobj_edit, by ctypes alone.
+
+Input is `bytes`, which the library reads in place. Parts of objects are slices of it.
+"""
+from ctypes import Array, byref, c_size_t, c_uint64, create_string_buffer
+from enum import IntEnum
+from typing import Callable, Iterable, Iterator, NamedTuple, Optional
+
+from . import _library as raw
+from ._library import Error, InvalidSizeError, MalformedError, MissingTreeError, NotEncodableError, ScriptError
+from ._library import UnknownCodeError, UnknownKindError
+from ._library import error_of, lib, plain
+
+__all__ = [
+    "Actor", "Entry", "Error", "Hash", "InvalidSizeError", "Kind", "MalformedError", "MissingTreeError",
+    "NotEncodableError", "ScriptError", "UnknownCodeError", "UnknownKindError", "actor", "check", "commit_header",
+    "commit_signature", "edit", "entries", "loose_header", "message", "object_id", "reencode", "summary", "tag_signature", "tag_tokens", "tokens", "trailers", "unfold", "verify",
+]
+
+
+class Hash(IntEnum):
+    """A hash function."""
+
+    SHA1 = 1
+    SHA256 = 2
+
+
+class Kind(IntEnum):
+    """A kind of objects, with git's number."""
+
+    COMMIT = 1
+    TREE = 2
+    BLOB = 3
+    TAG = 4
+
+
+class Entry(NamedTuple):
+    """An entry of a tree."""
+
+    mode: int
+    name: bytes
+    id: bytes
+
+
+class Actor(NamedTuple):
+    """The actor of a line. The time is None if its bytes are malformed: seconds, and the offset in seconds."""
+
+    name: bytes
+    email: bytes
+    time: Optional[tuple[int, int]]
+
+
+TOKENS = ("", "tree", "parent", "author", "committer", "encoding", "header", "message")
+
+
+def object_id(kind: int, content: bytes, hash: int = Hash.SHA1) -> str:
+    """The id of an object in hex, as git hash-object prints it."""
+    buffer = create_string_buffer(32)
+    status = lib.gixobj_id(hash, kind, plain(content), len(content), buffer, len(buffer))
+    if status:
+        raise error_of(status)
+    return buffer.raw[: 20 if hash == Hash.SHA1 else 32].hex()
+
+
+def verify(kind: int, content: bytes, id: str, hash: int = Hash.SHA1) -> bool:
+    """Whether this is the id of the object, in hex."""
+    digest = bytes.fromhex(id)
+    status = lib.gixobj_verify(hash, kind, plain(content), len(content), digest, len(digest))
+    if status not in (raw.DONE, raw.MISMATCH):
+        raise error_of(status)
+    return status == raw.DONE
+
+
+def check(kind: int, data: bytes, hash: int = Hash.SHA1) -> bool:
+    """Whether the bytes are the encoding of an object of this kind."""
+    status = lib.gixobj_check(hash, kind, plain(data), len(data))
+    if status not in (raw.DONE, raw.MALFORMED):
+        raise error_of(status)
+    return status == raw.DONE
+
+
+def loose_header(data: bytes) -> tuple[Kind, int, int]:
+    """The kind, the size and the length of the loose header at the beginning of the bytes."""
+    out = raw.LooseHeader()
+    status = lib.gixobj_loose_header(plain(data), len(data), byref(out))
+    if status:
+        raise error_of(status)
+    return Kind(out.kind), out.size, out.len
+
+
+def entries(tree: bytes, hash: int = Hash.SHA1) -> Iterator[Entry]:
+    """The entries of a tree. Raises MalformedError after the last one, if the bytes after it do not decode."""
+    out, count, offset, length = (raw.TreeEntry * 128)(), c_size_t(0), 0, len(plain(tree))
+    while True:
+        status = lib.gixobj_tree_entries(hash, tree, length, offset, out, len(out), byref(count))
+        if status == raw.UNKNOWN_CODE:
+            raise error_of(status)
+        for entry in out[: count.value]:
+            yield Entry(entry.mode, entry.name.of(tree), entry.id.of(tree))
+        if status == raw.AT_END:
+            return
+        if status:
+            raise error_of(status)
+        offset = out[count.value - 1].next
+
+
+def unfold(lines: bytes) -> bytes:
+    """The value of a header with these lines: one without its newline, or several with their newlines."""
+    return lines[:-1] if lines.count(b"\n") == 1 else lines.replace(b"\n ", b"\n")
+
+
+def tokens(commit: bytes, hash: int = Hash.SHA1) -> Iterator[tuple]:
+    """The name of each token of a commit, and its value; of an extra header ("header", its name, its value)."""
+    out, cursor, length = raw.CommitToken(), raw.Cursor(), len(plain(commit))
+    while True:
+        status = lib.gixobj_commit_token(hash, commit, length, byref(cursor), byref(out))
+        if status == raw.AT_END:
+            return
+        if status:
+            raise error_of(status)
+        value = out.value.of(commit)
+        if out.kind == 6:
+            yield "header", out.name.of(commit), unfold(value)
+        else:
+            yield TOKENS[out.kind], value
+
+
+TAG_TOKENS = ("", "object", "type", "tag", "tagger", "tagger", "message")
+
+
+def tag_tokens(tag: bytes, hash: int = Hash.SHA1) -> Iterator[tuple[str, Optional[bytes]]]:
+    """The name of each token of a tag, and its value; that of an absent tagger is None. A signature comes last."""
+    out, cursor, length = raw.TagToken(), raw.Cursor(), len(plain(tag))
+    while True:
+        status = lib.gixobj_tag_token(hash, tag, length, byref(cursor), byref(out))
+        if status == raw.AT_END:
+            return
+        if status:
+            raise error_of(status)
+        yield TAG_TOKENS[out.kind], None if out.kind == 5 else out.value.of(tag)
+        if out.has_signature:
+            yield "signature", out.signature.of(tag)
+
+
+def actor(line: bytes) -> Actor:
+    """The actor of a line, as of an author, a committer or a tagger."""
+    out = raw.Actor()
+    status = lib.gixobj_actor(plain(line), len(line), byref(out))
+    if status:
+        raise error_of(status)
+    time = (out.seconds, out.offset) if out.has_time else None
+    return Actor(out.name.of(line), out.email.of(line), time)
+
+
+def message(data: bytes) -> tuple[bytes, Optional[bytes]]:
+    """The title and the body of a message. Without a body it is None."""
+    out = raw.Message()
+    lib.gixobj_message(plain(data), len(data), byref(out))
+    return out.title.of(data), out.body.of(data) if out.has_body else None
+
+
+def _with_buffers(call: Callable[..., int], sizes: list[int]) -> Optional[list[bytes]]:
+    """Repeats a call until its buffers are long enough. Returns None if the call finds nothing."""
+    while True:
+        buffers: list[Array] = [create_string_buffer(max(size, 1)) for size in sizes]
+        lens = [c_size_t(0) for _ in sizes]
+        arguments = [it for parts in zip(buffers, sizes, map(byref, lens)) for it in parts]
+        status = call(*arguments)
+        if status == raw.BUFFER_TOO_SHORT:
+            sizes = [max(size, len.value) for size, len in zip(sizes, lens)]
+        elif status == raw.NOT_FOUND:
+            return None
+        elif status:
+            raise error_of(status)
+        else:
+            return [buffer.raw[: len.value] for buffer, len in zip(buffers, lens)]
+
+
+def reencode(kind: int, data: bytes, hash: int = Hash.SHA1) -> bytes:
+    """The encoding that the library gives to the decoded object."""
+    found = _with_buffers(lambda *out: lib.gixobj_reencode(hash, kind, plain(data), len(data), *out), [len(data)])
+    assert found
+    return found[0]
+
+
+def summary(data: bytes) -> bytes:
+    """The title of a message on one line."""
+    found = _with_buffers(lambda *out: lib.gixobj_summary(plain(data), len(data), *out), [256])
+    assert found
+    return found[0]
+
+
+def trailers(data: bytes) -> Iterator[tuple[bytes, bytes]]:
+    """The token and the value of each trailer of a message."""
+    index = 0
+    while True:
+        found = _with_buffers(lambda *out: lib.gixobj_trailer(plain(data), len(data), index, *out), [64, 256])
+        if found is None:
+            return
+        yield found[0], found[1]
+        index += 1
+
+
+def commit_header(commit: bytes, name: bytes, hash: int = Hash.SHA1) -> Optional[bytes]:
+    """The value of the first extra header of this name in a commit, or None."""
+    call = lambda *out: lib.gixobj_commit_header(hash, plain(commit), len(commit), plain(name), len(name), *out)  # noqa: E731
+    found = _with_buffers(call, [1024])
+    return found[0] if found else None
+
+
+def tag_signature(tag: bytes) -> Optional[tuple[bytes, bytes]]:
+    """The signature of a tag, and the bytes that it signs, or None."""
+    out = raw.Span()
+    if lib.gixobj_tag_signature(plain(tag), len(tag), byref(out)):
+        return None
+    return out.of(tag), tag[: out.start]
+
+
+def commit_signature(commit: bytes, hash: int = Hash.SHA1) -> Optional[tuple[bytes, bytes]]:
+    """The signature of a commit, and the bytes that it signs, or None."""
+    call = lambda *out: lib.gixobj_commit_signature(hash, plain(commit), len(commit), *out)  # noqa: E731
+    found = _with_buffers(call, [1024, len(commit)])
+    return (found[0], found[1]) if found else None
+
+
+def frames(trees: Iterable[bytes]) -> bytes:
+    """Trees as loose objects without compression, one after another."""
+    return b"".join(b"tree %d\0" % len(tree) + tree for tree in trees)
+
+
+def trees_of(data: bytes) -> Iterator[bytes]:
+    """The trees in frames."""
+    while data:
+        _, size, length = loose_header(data)
+        yield data[length : length + size]
+        data = data[length + size :]
+
+
+def edit(
+    root: str,
+    script: bytes,
+    trees: Iterable[bytes] = (),
+    find: Optional[Callable[[str], bytes]] = None,
+    hash: int = Hash.SHA1,
+) -> tuple[str, list[bytes]]:
+    """Runs a script of edits on the root with this id in hex. Returns the new root's id, and the new trees, the root last.
+
+    A tree that `trees` lacks is looked up by `find`; without it, MissingTreeError is raised. The lines of the script are
+    `upsert KIND ID PATH`, `remove PATH` and `leaf PATH`."""
+    given, digest, size = frames(trees), bytes.fromhex(root), 4096
+    out_len, id_len, number, id = c_size_t(0), c_size_t(0), c_uint64(0), create_string_buffer(32)
+    while True:
+        out = create_string_buffer(size)
+        arguments = [given, len(given), digest, len(digest), plain(script), len(script)]
+        buffers = [out, len(out), byref(out_len), id, len(id), byref(id_len), byref(number)]
+        status = lib.gixobj_edit(hash, *arguments, *buffers)
+        if status == raw.DONE:
+            return id.raw[: id_len.value].hex(), list(trees_of(out.raw[: out_len.value]))
+        if status == raw.BUFFER_TOO_SHORT:
+            size = out_len.value
+        elif status == raw.NOT_FOUND:
+            missing = id.raw[: id_len.value].hex()
+            if find is None:
+                raise MissingTreeError(missing)
+            found = find(missing)
+            if object_id(Kind.TREE, found, hash) != missing:
+                raise MissingTreeError(missing)
+            given += frames([found])
+        elif status in raw.SCRIPT_ERRORS:
+            raise ScriptError(raw.SCRIPT_ERRORS[status], number.value)
+        else:
+            raise error_of(status)

@@ -1,0 +1,57 @@
+"""Commands of the module.
+
+  python -m cinguepo audit REPOSITORY..          checks each object, beside git fsck
+  python -m cinguepo show REPOSITORY OBJECT      prints the parts of a commit or a tree
+  python -m cinguepo trailers REPOSITORY COMMIT  prints the trailers of a commit's message
+"""
+import subprocess
+import sys
+
+from . import Error, Hash, entries, tokens, trailers
+from .audit import audit
+
+
+def git(folder: str, *words: str) -> bytes:
+    done = subprocess.run(["git", "-C", folder, *words], capture_output=True, check=False)
+    if done.returncode:
+        raise SystemExit(done.stderr.decode(errors="replace").strip())
+    return done.stdout
+
+
+def print_bytes(*parts: bytes) -> None:
+    sys.stdout.buffer.write(b" ".join(parts) + b"\n")
+
+
+def show(folder: str, name: str, only_trailers: bool) -> None:
+    oid = git(folder, "rev-parse", "--verify", name).decode().strip()
+    kind = "commit" if only_trailers else git(folder, "cat-file", "-t", oid).decode().strip()
+    data, hash = git(folder, "cat-file", kind, oid), Hash.SHA1 if len(oid) == 40 else Hash.SHA256
+    if kind == "tree":
+        for entry in entries(data, hash):
+            print_bytes(b"%06o" % entry.mode, entry.id.hex().encode(), entry.name)
+    elif kind != "commit":
+        raise SystemExit(f"{kind}: only commits and trees are shown")
+    else:
+        for token in tokens(data, hash):
+            if not only_trailers:
+                print_bytes(token[0].encode(), *token[1:])
+            elif token[0] == "message":
+                for name_of_trailer, value in trailers(token[1]):
+                    print_bytes(name_of_trailer + b":", value)
+
+
+def main() -> int:
+    match sys.argv[1:]:
+        case ["audit", first, *more]:
+            return max(audit(folder) for folder in [first, *more])
+        case ["show" | "trailers" as command, folder, name]:
+            show(folder, name, command == "trailers")
+            return 0
+    print(__doc__, file=sys.stderr)
+    return 2
+
+
+try:
+    sys.exit(main())
+except Error as error:
+    sys.exit(f"cinguepo: {error}")

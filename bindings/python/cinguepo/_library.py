@@ -1,0 +1,154 @@
+"""The shared library of gixobj_c and gixobj_edit: its structs, its declarations and its errors."""
+import ctypes
+import os
+from ctypes import POINTER, Structure, c_char_p, c_int32, c_int64, c_size_t, c_uint8, c_uint32, c_uint64
+
+DONE, AT_END, MALFORMED, OUT_OF_MEMORY, UNKNOWN_CODE, BUFFER_TOO_SHORT, BAD_OFFSET = range(7)
+UNKNOWN_KIND, INVALID_SIZE, NOT_FOUND, NOT_ENCODABLE, MISMATCH = range(7, 12)
+BAD_LINE, NOT_AN_EDIT, INVALID_NAME, IS_DIRECTORY, MALFORMED_TREE = range(12, 17)
+
+
+class Span(Structure):
+    """The position of a piece of the input."""
+
+    _fields_ = [("start", c_size_t), ("len", c_size_t)]
+
+    def of(self, data: bytes) -> bytes:
+        return data[self.start : self.start + self.len]
+
+
+class LooseHeader(Structure):
+    _fields_ = [("size", c_uint64), ("len", c_size_t), ("kind", c_uint8)]
+
+
+class TreeEntry(Structure):
+    _fields_ = [("mode", c_uint32), ("name", Span), ("id", Span), ("next", c_size_t)]
+
+
+class Cursor(Structure):
+    _fields_ = [("offset", c_size_t), ("state", c_uint8)]
+
+
+class CommitToken(Structure):
+    _fields_ = [("kind", c_uint32), ("name", Span), ("value", Span)]
+
+
+class TagToken(Structure):
+    _fields_ = [("kind", c_uint32), ("has_signature", c_uint32), ("value", Span), ("signature", Span)]
+
+
+class Actor(Structure):
+    _fields_ = [
+        ("name", Span), ("email", Span), ("time", Span),
+        ("seconds", c_int64), ("offset", c_int32), ("has_time", c_uint32),
+    ]
+
+
+class Message(Structure):
+    _fields_ = [("title", Span), ("body", Span), ("has_body", c_uint32)]
+
+
+class Error(Exception):
+    """A call failed."""
+
+
+class MalformedError(Error):
+    """The bytes do not decode."""
+
+
+class UnknownKindError(MalformedError):
+    """A loose header has an unknown kind."""
+
+
+class InvalidSizeError(MalformedError):
+    """A loose header has an invalid size."""
+
+
+class NotEncodableError(Error):
+    """The object decodes, and one of its values can't be encoded."""
+
+
+class UnknownCodeError(Error, ValueError):
+    """The number of a hash function or a kind is unknown."""
+
+
+class MissingTreeError(Error, LookupError):
+    """The tree with this id, in hex, is missing."""
+
+    def __init__(self, id: str):
+        super().__init__(f"a missing tree: {id}")
+        self.id = id
+
+
+class ScriptError(Error, ValueError):
+    """The script fails at the line or the command with this number."""
+
+    def __init__(self, message: str, number: int):
+        super().__init__(f"{message} {number}")
+        self.number = number
+
+
+SCRIPT_ERRORS = {
+    BAD_LINE: "no command: line",
+    NOT_AN_EDIT: "no edit: command",
+    INVALID_NAME: "an empty name: command",
+    IS_DIRECTORY: "a directory: command",
+    MALFORMED_TREE: "a malformed tree: command",
+}
+_ERRORS = {
+    MALFORMED: MalformedError("malformed object"),
+    OUT_OF_MEMORY: MemoryError("out of memory"),
+    UNKNOWN_CODE: UnknownCodeError("an unknown hash function or kind"),
+    BAD_OFFSET: IndexError("an offset after the end"),
+    UNKNOWN_KIND: UnknownKindError("a loose header with an unknown kind"),
+    INVALID_SIZE: InvalidSizeError("a loose header with an invalid size"),
+    NOT_ENCODABLE: NotEncodableError("a value that can't be encoded"),
+}
+
+
+def error_of(status: int) -> BaseException:
+    """The exception of a status."""
+    known = _ERRORS[status]
+    return type(known)(*known.args)
+
+
+_BYTES, _BUFFER = [c_char_p, c_size_t], [ctypes.c_void_p, c_size_t]
+_LEN = POINTER(c_size_t)
+FUNCTIONS = {
+    "gixobj_id": [c_uint8, c_uint8, *_BYTES, *_BUFFER],
+    "gixobj_verify": [c_uint8, c_uint8, *_BYTES, *_BYTES],
+    "gixobj_check": [c_uint8, c_uint8, *_BYTES],
+    "gixobj_reencode": [c_uint8, c_uint8, *_BYTES, *_BUFFER, _LEN],
+    "gixobj_loose_header": [*_BYTES, POINTER(LooseHeader)],
+    "gixobj_tree_entry": [c_uint8, *_BYTES, c_size_t, POINTER(TreeEntry)],
+    "gixobj_tree_entries": [c_uint8, *_BYTES, c_size_t, POINTER(TreeEntry), c_size_t, _LEN],
+    "gixobj_commit_token": [c_uint8, *_BYTES, POINTER(Cursor), POINTER(CommitToken)],
+    "gixobj_tag_token": [c_uint8, *_BYTES, POINTER(Cursor), POINTER(TagToken)],
+    "gixobj_commit_header": [c_uint8, *_BYTES, *_BYTES, *_BUFFER, _LEN],
+    "gixobj_actor": [*_BYTES, POINTER(Actor)],
+    "gixobj_message": [*_BYTES, POINTER(Message)],
+    "gixobj_summary": [*_BYTES, *_BUFFER, _LEN],
+    "gixobj_trailer": [*_BYTES, c_size_t, *_BUFFER, _LEN, *_BUFFER, _LEN],
+    "gixobj_tag_signature": [*_BYTES, POINTER(Span)],
+    "gixobj_commit_signature": [c_uint8, *_BYTES, *_BUFFER, _LEN, *_BUFFER, _LEN],
+    "gixobj_edit": [c_uint8, *_BYTES, *_BYTES, *_BYTES, *_BUFFER, _LEN, *_BUFFER, _LEN, POINTER(c_uint64)],
+}
+
+
+def _load() -> ctypes.CDLL:
+    folder = os.path.dirname(os.path.abspath(__file__))
+    lib = ctypes.CDLL(os.environ.get("CINGUEPO_LIB", os.path.join(folder, "libcinguepo.so")))
+    for name, types in FUNCTIONS.items():
+        call = getattr(lib, name)
+        call.argtypes, call.restype = types, c_uint32
+    return lib
+
+
+lib = _load()
+
+
+def plain(data: bytes) -> bytes:
+    """The same `bytes` object. Others are rejected: the library reads memory that nothing else may write."""
+    if type(data) is not bytes:
+        raise TypeError("bytes, and not " + type(data).__name__)
+    return data

@@ -1,0 +1,139 @@
+//! Edits of trees.
+use crate::{HashKind, loose_header, raw};
+use std::fmt;
+
+/// The result of [`edit`].
+#[derive(Clone, Debug, PartialEq, Eq)]
+pub struct Edited {
+    /// The bytes of the new root's id.
+    pub id: Vec<u8>,
+    /// The new trees, the root last.
+    pub trees: Vec<Vec<u8>>,
+}
+
+/// Why [`edit`] fails. Numbers of commands begin with 1, and count no empty lines.
+#[derive(Clone, Debug, PartialEq, Eq)]
+pub enum EditError {
+    /// The tree with this id is missing.
+    Missing(Vec<u8>),
+    /// The line with this number, from 1, is neither empty nor a command.
+    BadLine(u64),
+    /// The command with this number is no edit.
+    NotAnEdit(u64),
+    /// A path of the command with this number has an empty name.
+    InvalidName(u64),
+    /// The command with this number removes a directory as a leaf.
+    IsDirectory(u64),
+    /// A tree that the command with this number looks up is malformed, or with 0 the root.
+    MalformedTree(u64),
+    /// A name has a zero byte.
+    NotEncodable,
+    /// The root has not the length of an id.
+    Malformed,
+    /// An allocation failed.
+    OutOfMemory,
+}
+
+impl fmt::Display for EditError {
+    fn fmt(&self, f: &mut fmt::Formatter<'_>) -> fmt::Result {
+        match self {
+            EditError::Missing(id) => {
+                f.write_str("a missing tree: ")?;
+                id.iter().try_for_each(|byte| write!(f, "{byte:02x}"))
+            }
+            EditError::BadLine(number) => write!(f, "line {number} is no command"),
+            EditError::NotAnEdit(number) => write!(f, "command {number} is no edit"),
+            EditError::InvalidName(number) => write!(f, "an empty name in command {number}"),
+            EditError::IsDirectory(number) => write!(f, "a directory in command {number}"),
+            EditError::MalformedTree(number) => write!(f, "a malformed tree in command {number}"),
+            EditError::NotEncodable => f.write_str("a name with a zero byte"),
+            EditError::Malformed => f.write_str("a malformed id"),
+            EditError::OutOfMemory => f.write_str("out of memory"),
+        }
+    }
+}
+
+impl std::error::Error for EditError {}
+
+/// Runs a script of edits on a root, and returns the new trees, as `git update-index` and `git write-tree`.
+///
+/// `trees` has the root and the trees on the paths that are edited. The id of the empty tree is that of a root without
+/// entries. The lines of the script are `upsert KIND ID PATH`, `remove PATH` and `leaf PATH`.
+///
+/// # Errors
+///
+/// [`EditError::Missing`] with the id of a tree that `trees` lacks. The others say what is wrong with the script, the
+/// trees or the root.
+pub fn edit(
+    hash: HashKind,
+    trees: &[&[u8]],
+    root: &[u8],
+    script: &[u8],
+) -> Result<Edited, EditError> {
+    let mut frames = Vec::new();
+    for tree in trees {
+        frames.extend(format!("tree {}\0", tree.len()).into_bytes());
+        frames.extend(*tree);
+    }
+    let (mut out, mut id) = (Vec::new(), vec![0; 32]);
+    loop {
+        let (mut out_len, mut id_len, mut number) = (0, 0, 0);
+        // SAFETY: as in `id`; the buffers and the numbers are apart.
+        let status = unsafe {
+            raw::gixobj_edit(
+                hash as u8,
+                frames.as_ptr(),
+                frames.len(),
+                root.as_ptr(),
+                root.len(),
+                script.as_ptr(),
+                script.len(),
+                out.as_mut_ptr(),
+                out.len(),
+                &mut out_len,
+                id.as_mut_ptr(),
+                id.len(),
+                &mut id_len,
+                &mut number,
+            )
+        };
+        match status {
+            0 => {
+                id.truncate(id_len);
+                return Ok(Edited {
+                    id,
+                    trees: contents(&out[..out_len]),
+                });
+            }
+            5 => out.resize(out_len, 0),
+            status => return Err(error_of(status, &id[..id_len], number)),
+        }
+    }
+}
+
+/// Returns the trees in frames that the library wrote.
+fn contents(mut frames: &[u8]) -> Vec<Vec<u8>> {
+    let mut trees = Vec::new();
+    while !frames.is_empty() {
+        let (_, size, len) = loose_header(frames).expect("a frame");
+        let (tree, rest) = frames[len..].split_at(size as usize);
+        trees.push(tree.to_vec());
+        frames = rest;
+    }
+    trees
+}
+
+fn error_of(status: u32, id: &[u8], number: u64) -> EditError {
+    match status {
+        2 => EditError::Malformed,
+        3 => EditError::OutOfMemory,
+        9 => EditError::Missing(id.to_vec()),
+        10 => EditError::NotEncodable,
+        12 => EditError::BadLine(number),
+        13 => EditError::NotAnEdit(number),
+        14 => EditError::InvalidName(number),
+        15 => EditError::IsDirectory(number),
+        16 => EditError::MalformedTree(number),
+        _ => unreachable!("status {status}"),
+    }
+}

@@ -1,0 +1,29 @@
+//! Proved decoders of git's objects: safe Rust over the static libraries `gixobj_c` and `gixobj_edit`.
+//!
+//! Nothing is kept between two calls. Slices in results borrow the input.
+#![deny(unsafe_op_in_unsafe_fn, missing_docs)]
+
+mod actors;
+mod buffers;
+mod commits;
+mod edits;
+mod error;
+mod messages;
+mod objects;
+mod raw;
+mod tags;
+mod trees;
+
+pub use actors::{Actor, actor};
+pub use commits::{Token, Tokens, commit_header, tokens, unfold};
+pub use edits::{EditError, Edited, edit};
+pub use error::Error;
+pub use messages::{commit_signature, message, summary, tag_signature, trailer};
+pub use objects::{HashKind, Id, Kind, check, id, loose_header, reencode, verify};
+pub use tags::{TagToken, TagTokens, tag_tokens};
+pub use trees::{Entries, Entry, all_entries, entries};
+
+/// The piece of the input with this span.
+fn piece(input: &[u8], span: raw::Span) -> &[u8] {
+    &input[span.start..][..span.len]
+}

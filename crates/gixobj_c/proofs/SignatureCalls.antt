@@ -1,0 +1,34 @@
+-- What is written of a signature, and where that of a tag is.
+use Rattle.std.proofs.Common.{◌≡◌, ℕ, List, [], ◌++◌, ap, inl, refl, subst, sym, ◌∙◌}
+use Rattle.std.proofs.lemmas.List.{append-nil}
+use Rattle.std.specs.Prelude.{Some}
+use Rattle.bstr.specs.BStr.{bstr_bytes}
+use Rattle.gixobj_calls.specs.Buffers.{WritesTwo}
+use Rattle.gixobj_c.specs.Signatures.{IsCommitSignatureCall}
+use Rattle.gixobj_c.specs.Spans.{HasPieceBefore}
+use Rattle.gixobj_hash.specs.declared.hash.kind.Kind.{Kind}
+use Rattle.gixobj_ref_iter.specs.CommitSignatures.{HasCommitSignature}
+use Rattle.gixobj_ref_iter.specs.TagExtracting.{FindsSignatureOfTag}
+use Rattle.gixobj_signature.specs.SignedBytes.{signed_bytes}
+use Rattle.gixobj_signature.specs.declared.signature.signed_data.SignedData.{SignedData}
+use Rattle.gixobj_text.specs.declared.signature.SignatureRef.{SignatureRef}
+
+pub signature_before_end : (tag : List ℕ) (it : SignatureRef × SignedData) → FindsSignatureOfTag tag it → HasPieceBefore tag (bstr_bytes it.0.bytes) 0
+signature_before_end tag it has = record {
+  prefix = signed_bytes it.1;
+  rest = [];
+  joined = has.joined ∙ ap (λ (bytes : List ℕ). signed_bytes it.1 ++ bytes) (sym (append-nil (bstr_bytes it.0.bytes)));
+  remaining = refl;
+}
+
+pub signature_call_of_written : (kind : Kind) (commit value payload first second a b c d : List ℕ) (i m j n status : ℕ)
+    → HasCommitSignature kind commit value payload
+    → first ≡ value → second ≡ payload → WritesTwo first a b m second c d n status → IsCommitSignatureCall (Some kind) commit a b i m c d j n status
+signature_call_of_written kind commit value payload first second a b c d i m j n status has same other writes =
+    inl (
+      first,
+      second,
+      subst (λ (it : List ℕ). HasCommitSignature kind commit it second) (sym same)
+          (subst (λ (it : List ℕ). HasCommitSignature kind commit value it) (sym other) has),
+      writes,
+    )

@@ -1,0 +1,13 @@
+pub mod Actors
+pub mod Commits
+pub mod Entries
+pub mod Headers
+pub mod Loose
+pub mod Messages
+pub mod Objects
+pub mod Reencoding
+pub mod Signatures
+pub mod Spans
+pub mod Tags
+pub mod Trailers
+pub mod Trees

@@ -1,0 +1,22 @@
+-- Results of the calls about messages.
+use Rattle.std.specs.Prelude.{◌≡◌, ◌⊎◌, ℕ, List, None, Option, Some, true}
+use Rattle.gixobj_calls.specs.Buffers.{WritesBytes}
+use Rattle.gixobj_calls.specs.Codes.{out_of_memory}
+use Rattle.gixobj_c.specs.Spans.{IsSpanOf}
+use Rattle.gixobj_c.specs.declared.messages.Message.{Message}
+use Rattle.gixobj_text.specs.Summing.{is_multiline}
+use Rattle.gixobj_text.specs.Titles.{SplitsTitle, summary_of}
+
+-- the positions of the title and of the body of a message
+abbrev pub IsMessageOf : List ℕ → Message → Type 0
+IsMessageOf message out =
+    ((out.has_body ≡ 0) × ((title : List ℕ) × IsSpanOf message title out.title × SplitsTitle message title None))
+    ⊎ ((out.has_body ≡ 1) × ((title body : List ℕ) × IsSpanOf message title out.title
+    × IsSpanOf message body out.body × SplitsTitle message title (Some body)))
+
+-- the title of the message on one line is written; without memory for a title of several lines nothing is
+abbrev pub IsSummaryCall : List ℕ → List ℕ → List ℕ → ℕ → ℕ → ℕ → Type 0
+IsSummaryCall message before after len_before len status =
+    (title : List ℕ) × (body : Option (List ℕ)) × SplitsTitle message title body
+    × (WritesBytes (summary_of title) before after len status
+    ⊎ ((status ≡ out_of_memory) × (is_multiline title ≡ true) × (after ≡ before) × (len ≡ len_before)))

@@ -1,0 +1,37 @@
+-- Results of the calls about signatures.
+use Rattle.std.specs.Prelude.{◌≡◌, ◌⊎◌, ℕ, List, Option, Some, None}
+use Rattle.gixobj_calls.specs.Buffers.{WritesTwo}
+use Rattle.gixobj_calls.specs.Codes.{done, malformed, not_found, out_of_memory, unknown_code}
+use Rattle.gixobj_c.specs.Spans.{IsSpanOf}
+use Rattle.gixobj_c.specs.declared.spans.Span.{Span}
+use Rattle.gixobj_hash.specs.declared.decode.Error.TheVariants as error
+use Rattle.gixobj_hash.specs.declared.hash.kind.Kind.{Kind}
+use Rattle.gixobj_ref_iter.specs.CommitSignatures.{HasCommitSignature, HasNoSignature, IsCommitSignatureError}
+use Rattle.gixobj_ref_iter.specs.TagExtracting.{HasTagSignature}
+use Rattle.gixobj_text.specs.Markers.{HasNoMarker}
+use Rattle.gixobj_text.specs.declared.signature.Format.{Format}
+
+-- the position of the tag's signature, which signs all bytes before it; without one nothing is written
+abbrev pub IsTagSignatureCall : List ℕ → Span → Span → ℕ → Type 0
+IsTagSignatureCall tag before after status =
+    ((status ≡ done) × ((signature signed : List ℕ) × (format : Format)
+    × HasTagSignature tag signature signed format × IsSpanOf tag signature after))
+    ⊎ ((status ≡ not_found) × HasNoMarker tag × (after ≡ before))
+
+-- why no signature of the commit is found
+abbrev pub IsSignatureStatus : Kind → List ℕ → ℕ → Type 0
+IsSignatureStatus kind commit status = ((status ≡ not_found) × HasNoSignature kind commit)
+    ⊎ (((status ≡ malformed) × IsCommitSignatureError kind commit error.Malformed) ⊎ (status ≡ out_of_memory))
+
+-- the commit's signature and the bytes that it signs are written, or the status says why there is none, and then
+-- nothing is written
+abbrev pub IsCommitSignatureCall : Option Kind → List ℕ → List ℕ → List ℕ → ℕ → ℕ → List ℕ → List ℕ → ℕ → ℕ → ℕ → Type 0
+IsCommitSignatureCall (Some kind) commit before after len_before len signed_before signed_after signed_len_before
+    signed_len status =
+    ((value payload : List ℕ) × HasCommitSignature kind commit value payload
+    × WritesTwo value before after len payload signed_before signed_after signed_len status)
+    ⊎ (IsSignatureStatus kind commit status × (after ≡ before) × (len ≡ len_before)
+    × (signed_after ≡ signed_before) × (signed_len ≡ signed_len_before))
+IsCommitSignatureCall None commit before after len_before len signed_before signed_after signed_len_before signed_len
+    status = (status ≡ unknown_code) × (after ≡ before) × (len ≡ len_before) × (signed_after ≡ signed_before)
+    × (signed_len ≡ signed_len_before)

@@ -1,0 +1,25 @@
+-- Results of the call about the trailers of messages.
+use Rattle.std.specs.Prelude.{◌≡◌, ◌≤◌, ◌⊎◌, ◌∷◌, ℕ, List, drop, length}
+use Rattle.gixobj_calls.specs.Buffers.{WritesTwo}
+use Rattle.gixobj_calls.specs.Codes.{not_found, out_of_memory}
+use Rattle.gixobj_text.specs.MessageTrailers.{HasTrailers}
+use Rattle.gixobj_text.specs.Trailers.{TrailerView}
+
+-- the trailer of the message with this index
+pub record HasTrailerAt (message : List ℕ) (index : ℕ) (trailer : TrailerView) : Type 0 where
+  pub trailers : List TrailerView
+  pub rest : List TrailerView
+  pub has : HasTrailers message trailers
+  pub found : drop index trailers ≡ trailer ∷ rest
+
+-- the message has at most this number of trailers
+abbrev pub HasNoTrailerAt : List ℕ → ℕ → Type 0
+HasNoTrailerAt message index = (trailers : List TrailerView) × HasTrailers message trailers × (length trailers ≤ index)
+
+-- the trailer with this index is written; otherwise nothing is
+abbrev pub IsTrailerCall : List ℕ → ℕ → List ℕ → List ℕ → ℕ → ℕ → List ℕ → List ℕ → ℕ → ℕ → ℕ → Type 0
+IsTrailerCall message index before after len_before len value_before value_after value_len_before value_len status =
+    ((trailer : TrailerView) × HasTrailerAt message index trailer
+    × WritesTwo trailer.token before after len trailer.value value_before value_after value_len status)
+    ⊎ ((((status ≡ not_found) × HasNoTrailerAt message index) ⊎ (status ≡ out_of_memory))
+    × (after ≡ before) × (len ≡ len_before) × (value_after ≡ value_before) × (value_len ≡ value_len_before))

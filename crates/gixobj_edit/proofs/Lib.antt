@@ -1,0 +1,4 @@
+pub mod EditRuns
+pub mod Emitted
+pub mod FrameSteps
+pub mod Replied

@@ -1,0 +1,39 @@
+-- Edits that are done, and the first that failed.
+use Rattle.std.proofs.Common.{◌≡◌, ◌<◌, ◌≤◌, ◌+◌, ◌∷◌, ◌++◌, ◌∙◌, All, List, [], ℕ, add-one, ap, arith, drop, get_or, length, suc, subst, sym, take}
+use Rattle.std.proofs.Math.Seq.{drop-cons, take-suc}
+use Rattle.std.proofs.lemmas.List.{length-take-le, take-append-drop, take_all}
+use Rattle.std.proofs.lemmas.List.Elements.{All-append, All-cons, All-nil}
+use Rattle.std.specs.Prelude.{None, Some}
+use Rattle.gixobj_edit.specs.Replies.{AreDone, IsFirstFailure, reply_failure}
+use Rattle.gixobj_edit.specs.declared.failure.Failure.{Failure}
+use Rattle.gixobj_editor.specs.declared.reply.Reply.{Reply}
+use Rattle.gixobj_fields.specs.declared.encode.Error.{Error}
+
+module _ (replies : List (Reply Error)) (index : ℕ) (it : Reply Error) (within : index < length replies) (is : it ≡ get_or replies index it)
+    (done : AreDone (take index replies)) where
+  replies_joined : replies ≡ take index replies ++ it ∷ drop (suc index) replies
+  replies_joined = sym (take-append-drop index replies)
+      ∙ ap (λ (rest : List (Reply Error)). take index replies ++ rest)
+      (drop-cons replies index it within ∙ ap (λ (first : Reply Error). first ∷ drop (suc index) replies) (sym is))
+
+  pub is_first_failure : (cause : Failure) → reply_failure it ≡ Some cause → IsFirstFailure replies index cause
+  is_first_failure cause failed = record {
+    before = take index replies;
+    failed = it;
+    rest = drop (suc index) replies;
+    joined = replies_joined;
+    counted = length-take-le index replies (omega (arith, within));
+    done = done;
+    cause = failed;
+  }
+
+  pub done_snoc : reply_failure it ≡ None → AreDone (take (index + 1) replies)
+  done_snoc none =
+      let P : Reply Error → Type 0 = λ reply. reply_failure reply ≡ None in
+      let longer : take (index + 1) replies ≡ take index replies ++ it ∷ [] =
+      ap (λ (n : ℕ). take n replies) (add-one index) ∙ take-suc replies index it within
+      ∙ ap (λ (x : Reply Error). take index replies ++ x ∷ []) (sym is) in
+      subst (All P) (sym longer) (All-append P (take index replies) (it ∷ []) done (All-cons P it [] none (All-nil P)))
+
+pub all_done : (replies : List (Reply Error)) (index : ℕ) → length replies ≤ index → AreDone (take index replies) → AreDone replies
+all_done replies index le done = subst AreDone (take_all index replies le) done

@@ -1,0 +1,5 @@
+pub mod Edits
+pub mod Failures
+pub mod Frames
+pub mod Replies
+pub mod Roots

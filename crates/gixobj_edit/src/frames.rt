@@ -1,0 +1,99 @@
+//! Trees as loose objects without compression, one after another: each is a frame (gitformat-loose).
+ghost use Rattle.std.specs.Prelude.{◌≡◌, ◌++◌, ℕ, IfErr, IfNone, IfOk, IfSome, OnOk, Some};
+ghost use Rattle.std.specs.List.{flat_map};
+ghost use Rattle.gixobj_edit.specs.Frames.{BeginsWithFrame, FrameComes, HoldsFrames, IsFrameError, IsFramesEncodeError, IsFramesError, encode_frame, encode_tree_frame};
+ghost use Rattle.gixobj_fields.specs.Runs.{HasNoPiece};
+ghost use Rattle.gixobj_hash.specs.Decode.{HasLooseHeaderOfLength};
+ghost use Rattle.gixobj_hash.specs.declared.kind.Kind.TheVariants as object;
+
+use crate::failure::{Failure, encode_failure};
+use gixobj_fields::WriteTo;
+use gixobj_hash::decode::loose_header;
+use gixobj_hash::hash::{self, ObjectId};
+use gixobj_hash::{Kind, encode};
+use gixobj_keep::Memory;
+use gixobj_tree::Tree;
+use std::alloc::Global;
+
+/// Returns the size and the length of the loose header of a tree at the beginning of the input, or `None`.
+fn tree_header(alloc: Global, input: &[u8]) -> Option<(u64, usize)>
+    ensures found { IfSome result (λ it. HasLooseHeaderOfLength input.now object.Tree it.0 it.1) }
+    ensures accepts { (size used : ℕ) → HasLooseHeaderOfLength input.now object.Tree size used
+        → result ≡ Some (size, used) }
+{
+    let (kind, size, used) = match loose_header(alloc, input) {
+        Ok(header) => header,
+        Err(_) => return None,
+    };
+    if !kind.is_tree() {
+        return None;
+    }
+    Some((size, used))
+}
+
+/// Returns the content of the frame at the beginning of the input, and the rest, or `None` if there is no frame.
+fn split_frame(alloc: Global, input: &[u8]) -> Option<(&[u8], &[u8])>
+    ensures found { IfSome result (λ it. BeginsWithFrame input.now it.0.now it.1.now) }
+    ensures none { IfNone result (HasNoPiece FrameComes tt input.now) }
+{
+    let Some((size, used)) = tree_header(alloc, input) else {
+        return None;
+    };
+    let rest = &input[used..];
+    if size > rest.len() as u64 {
+        return None;
+    }
+    Some(rest.split_at(size as usize))
+}
+
+/// Returns a store of the trees in the frames.
+pub fn store_of(alloc: Global, hash: hash::Kind, bytes: &[u8]) -> Result<Memory, Failure>
+    ensures found { IfOk result (HoldsFrames hash bytes.now) }
+    ensures error { IfErr result (IsFramesError bytes.now) }
+{
+    let mut store = Memory::new(alloc);
+    let mut rest = bytes;
+    'frames: while !rest.is_empty() {
+        let Some((content, after)) = split_frame(alloc, rest) else {
+            return Err(Failure::Malformed);
+        };
+        match store.insert(Kind::Tree, hash, content) {
+            Ok(_) => {}
+            Err(_) => return Err(Failure::OutOfMemory),
+        }
+        rest = after;
+    }
+    Ok(store)
+}
+
+/// Returns the frames of trees, in order.
+pub fn frames_of(alloc: Global, trees: &[(ObjectId, Tree)]) -> Result<Vec<u8>, Failure>
+    ensures found { IfOk result (λ it. it.items ≡ flat_map encode_frame trees.now) }
+    ensures error { IfErr result (IsFramesEncodeError trees.now) }
+{
+    let mut frames = Vec::new(alloc);
+    for (_, tree) in trees {
+        append_frame(alloc, tree, &mut frames)?;
+    }
+    Ok(frames)
+}
+
+/// Appends the frame of a tree.
+fn append_frame(alloc: Global, tree: &Tree, frames: &mut Vec<u8>) -> Result<(), Failure>
+    ensures appended { OnOk result (frames.new.items ≡ frames.old.items ++ encode_tree_frame tree.now) }
+    ensures error { IfErr result (IsFrameError tree.now) }
+{
+    let mut bytes = Vec::new(alloc);
+    match tree.write_to_vec(alloc, &mut bytes) {
+        Ok(()) => {}
+        Err(error) => return Err(encode_failure(&error)),
+    }
+    let header = encode::loose_header(alloc, Kind::Tree, bytes.len() as u64);
+    if frames.extend_from_slice(&header).is_err() {
+        return Err(Failure::OutOfMemory);
+    }
+    if frames.extend_from_slice(&bytes).is_err() {
+        return Err(Failure::OutOfMemory);
+    }
+    Ok(())
+}
