@@ -1,4 +1,4 @@
--- Decoded commits re-encode identically.
+-- Decoded commits re-encode identically; the laws `commit_reencodes_identically` and `commit_decode_encode_agree` use it.
 use Rattle.std.proofs.Common.{◌≡◌, ◌≢◌, ℕ, List, [], ◌∷◌, ◌++◌, All, Option, Some, None, map, refl, ap, sym, ◌∙◌, inl, inr, codes}
 use Rattle.std.specs.List.{AllPass, flat_map}
 use Rattle.std.specs.Str.{str_to_ascii_lowercase}

@@ -145,7 +145,8 @@ impl<'a> CommitRef<'a> {
     ///     tree: commit.tree(),
     ///     parents: commit.parents().collect(alloc)?,
     ///     author: commit.author()?.name,
-    ///     seconds: commit.time()?.seconds,
+    ///     authored: commit.author()?.time().map(|time| time.seconds),
+    ///     committed: commit.time()?.seconds,
     ///     title: commit.message().title,
     /// })
     /// ```
@@ -188,7 +189,8 @@ impl<'a> CommitRef<'a> {
     ///     tree: commit.tree(),
     ///     parents: commit.parents().collect(alloc)?,
     ///     author: commit.author()?.name,
-    ///     seconds: commit.time()?.seconds,
+    ///     authored: commit.author()?.time().map(|time| time.seconds),
+    ///     committed: commit.time()?.seconds,
     ///     title: commit.message().title,
     /// })
     /// ```

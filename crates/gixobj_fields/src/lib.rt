@@ -5,6 +5,7 @@
 pub mod encode;
 pub mod laws;
 pub mod parse;
+pub mod pieces;
 pub mod short;
 pub mod stream_hash;
 pub mod streams;

@@ -1,20 +1,16 @@
 //! Ids of objects whose content is streamed (gitformat-loose, "Loose object format").
-ghost use Rattle.std.specs.Prelude.{◌≡◌, ◌≤◌, ◌<◌, ◌↔◌, [], ℕ, List, IfErr, IfOk, IsOk, OnOk, ⊤, drop, length, take};
-ghost use Rattle.std.specs.Io.{ReadsAtMost};
-ghost use Rattle.std.specs.Io.KnownBytes.{Consumes};
+ghost use Rattle.std.specs.Prelude.{◌≡◌, ◌≤◌, ◌↔◌, [], ℕ, List, IfErr, IfOk, IsOk, OnOk, ⊤, drop, length, take};
 ghost use Rattle.gixobj_hash.specs.Hash.{id_of};
 ghost use Rattle.gixobj_fields.specs.StreamHash.{AddsBytes, ReadsExactly, ReadsObject, IsStreamError, SkipsExactly};
 ghost use Rattle.gixobj_fields.specs.declared.stream_hash.Error.TheVariants.{UnexpectedEof};
 
+use crate::pieces::{BUFFER_LEN, read_piece};
 use crate::streams::{FromRead, Source};
 use gixobj_hash::digest::{Hasher, object_hasher};
 use gixobj_hash::hash::ObjectId;
 use gixobj_hash::{Kind, hash};
 use std::io;
 use std::io::Read;
-
-/// The maximum number of bytes of one read.
-const BUFFER_LEN: usize = 8192;
 
 /// The error of [`compute_stream_hash`] and of other calls that read a stream.
 ///
@@ -173,27 +169,4 @@ fn update_from<S: Source>(hasher: &mut Hasher, source: &mut S, len: u64) -> Resu
         missing -= count as u64;
     }
     Ok(())
-}
-
-/// Reads some of the next `most` bytes of a source into the beginning of the buffer, and returns their
-/// number, which is at least 1.
-#[tactic(auto, using(crate::proofs::StreamReads::stream_error_of_read, crate::proofs::StreamReads::stream_error_of_end, crate::proofs::StreamReads::consumes_take))]
-fn read_piece<S: Source>(source: &mut S, buffer: &mut [u8], most: u64) -> Result<usize, Error>
-    requires positive { 0 < most }
-    requires has_capacity { 0 < length buffer.old }
-    ensures count { IfOk result (λ count. (0 < count) × (count ≤ most)) }
-    ensures bound { ReadsAtMost result buffer.new }
-    ensures consumed { IfOk result (λ count.
-        Consumes (S.rest source.old) (S.rest source.new) (take count buffer.new)) }
-    ensures error { IfErr result (IsStreamError (S.may_fail source.old) (S.rest source.old)
-        (S.rest source.new) most) }
-    ensures stays_valid { S.may_fail source.new → S.may_fail source.old }
-    ensures same_loan { S.loan source.new ≡ S.loan source.old }
-{
-    let room = most.min(buffer.len() as u64) as usize;
-    let count = source.read_some(&mut buffer[..room])?;
-    if count == 0 {
-        return Err(Error::UnexpectedEof);
-    }
-    Ok(count)
 }

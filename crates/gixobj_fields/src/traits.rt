@@ -44,7 +44,7 @@ pub trait WriteTo {
     /// # Errors
     ///
     /// - [`encode::Error::Writer`] if the sink failed. A proper prefix of the encoding has then been
-    ///   written.
+    ///   written. If the object has a rejected value, the sink had less room than the parts before it.
     /// - [`encode::Error::OutOfMemory`] if the allocation of a copy of a rejected value failed.
     /// - Any other [`encode::Error`] if the object has the value that the error names.
     ///
@@ -108,7 +108,8 @@ pub trait WriteTo {
     /// # Errors
     ///
     /// - [`encode::Error::Writer`] if the list has too little capacity and an allocation failed. A proper
-    ///   prefix of the encoding has then been appended.
+    ///   prefix of the encoding has then been appended. If the object has a rejected value, the list had
+    ///   less capacity than the parts before it.
     /// - [`encode::Error::OutOfMemory`] if the allocation of a copy of a rejected value failed.
     /// - Any other [`encode::Error`] if the object has the value that the error names.
     ///

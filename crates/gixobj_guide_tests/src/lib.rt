@@ -4,6 +4,8 @@
 #[cfg(test)]
 mod more_tasks;
 #[cfg(test)]
+mod printing_tasks;
+#[cfg(test)]
 mod readme;
 #[cfg(test)]
 mod tasks;

@@ -2,13 +2,14 @@
 
 use crate::tasks::{
     BLOB, FIRST, FIRST_BYTES, SECOND, SECOND_BYTES, TREE, TREE_BYTES, batches, depths, differences,
-    histories, memories, names, one_error, values,
+    histories, ids, memories, names, one_error, values, writes,
 };
 use bstr::BString;
 use gix_object::find::existing_object::Error;
 use gix_object::hash::{Kind as HashKind, ObjectId};
-use gix_object::tree::EntryKind;
-use gix_object::{Header, Keep, Kind, Memory, OutOfMemory};
+use gix_object::tree::editor::Editor;
+use gix_object::tree::{EntryKind, EntryMode};
+use gix_object::{Header, Keep, Kind, Memory, OutOfMemory, Tree};
 use gix_object_tests::samples::{id, path_of, string_of, tree_of};
 use std::alloc::Global;
 
@@ -42,6 +43,30 @@ fn are_stored(alloc: Global) -> bool {
 #[test]
 fn looks_up_inserted_objects(rt: HostRuntime) {
     assert!(rt; are_stored(rt.alloc()));
+}
+
+/// Whether the ids of a store are these, in order.
+fn has_ids(alloc: Global, store: &Memory, wanted: &[ObjectId]) -> bool {
+    match memories::ids_of(alloc, store) {
+        Ok(ids) => ids.as_slice() == wanted,
+        Err(_) => false,
+    }
+}
+
+/// Whether the empty tree is written next to a blob, and is listed before it.
+fn is_empty_tree_written(alloc: Global) -> bool {
+    let mut store = Memory::new(alloc);
+    let empty = store.is_empty() && store.insert(Kind::Blob, HashKind::Sha1, b"hello\n").is_ok();
+    let tree = memories::write_empty_tree(alloc, &mut store).ok();
+    empty && tree == Some(id(EMPTY_TREE)) && has_ids(alloc, &store, &[id(EMPTY_TREE), id(BLOB)])
+}
+
+/// Id that `git hash-object -t tree --stdin` prints for no bytes.
+const EMPTY_TREE: &[u8] = b"4b825dc642cb6eb9a060e54bf8d69288fbee4904";
+
+#[test]
+fn writes_object_and_lists_ids(rt: HostRuntime) {
+    assert!(rt; is_empty_tree_written(rt.alloc()));
 }
 
 /// `git hash-object -t tag` prints the id of the tag.
@@ -82,18 +107,35 @@ const WITH_FILE: &[u8] = b"a759b0b839da5bd7e992c70eeac3d50514b37a45";
 
 /// Whether the tree of the second commit with one more file has its id.
 fn is_extended(alloc: Global, store: &Memory) -> bool {
-    let path = path_of(alloc, &["docs", "c.txt"]);
-    let with_file = one_error::tree_with(alloc, store, id(SECOND), &path, id(BLOB));
+    let with_file = one_error::tree_with_named(alloc, store, id(SECOND), b"docs/c.txt", id(BLOB));
     with_file.ok() == Some(id(WITH_FILE))
 }
 
 /// Whether the lookup of a commit fails if the id names a tree.
 fn needs_commit(alloc: Global, store: &Memory) -> bool {
-    let path = path_of(alloc, &["docs"]);
-    match one_error::tree_with(alloc, store, id(TREE), &path, id(BLOB)) {
-        Err(one_error::ToolError::Find(_)) => true,
+    match one_error::tree_with(alloc, store, id(TREE), b"docs", id(BLOB)) {
+        Err(gix_object::Error::ExistingIter(_)) => true,
         _ => false,
     }
+}
+
+/// Whether a path that ends with a slash is rejected.
+fn needs_name(alloc: Global, store: &Memory) -> bool {
+    match one_error::tree_with_named(alloc, store, id(SECOND), b"docs/", id(BLOB)) {
+        Err(one_error::ToolError::NoName) => true,
+        _ => false,
+    }
+}
+
+/// Whether content is verified against the blob's id.
+fn verifies_blob() -> bool {
+    ids::verify_content(Kind::Blob, b"hello\n", id(BLOB)).is_ok()
+        && ids::verify_content(Kind::Blob, b"hello", id(BLOB)).is_err()
+}
+
+#[test]
+fn verifies_content(rt: HostRuntime) {
+    assert!(rt; verifies_blob());
 }
 
 #[test]
@@ -102,6 +144,7 @@ fn converts_errors_of_tool(rt: HostRuntime) {
     let store = store(alloc).unwrap_or(Memory::new(alloc));
     assert!(rt; is_extended(alloc, &store));
     assert!(rt; needs_commit(alloc, &store));
+    assert!(rt; needs_name(alloc, &store));
 }
 
 /// Whether `history` lists these commits, in order.
@@ -134,8 +177,34 @@ fn finds_parent(alloc: Global, objects: &[(Kind, &[u8])]) -> bool {
 /// Whether the lookup of a commit that isn't among the objects fails.
 fn lacks_commit(alloc: Global, objects: &[(Kind, &[u8])]) -> bool {
     match batches::ancestor_in(alloc, objects, id(SECOND), 2) {
-        Err(Error::NotFound { oid }) => oid == id(FIRST),
+        Err(gix_object::Error::ExistingObject(Error::NotFound { oid })) => oid == id(FIRST),
         _ => false,
+    }
+}
+
+/// Id that `git mktree` prints for `docs` alone, which has `a.txt`, `c.txt` and `run.sh`.
+const FETCHED: &[u8] = b"8d9a81de09da1d717da987517f5c5494fb3aeda8";
+
+/// An editor of a root that has only the tree, as the directory `docs`.
+fn editor_over_docs(alloc: Global) -> Editor<Memory> {
+    let mut editor = Editor::new(Tree::empty(alloc), Memory::new(alloc), HashKind::Sha1);
+    let _ = editor.try_upsert(&path_of(alloc, &["docs"]), EntryKind::Tree, id(TREE));
+    editor
+}
+
+/// Whether a file is inserted into a directory among objects, and the written root has its id.
+fn is_fetched(alloc: Global, objects: &[(Kind, &[u8])]) -> bool {
+    let mut editor = editor_over_docs(alloc);
+    let path = path_of(alloc, &["docs", "c.txt"]);
+    batches::upsert_in(&mut editor, objects, &path, id(BLOB)).is_ok()
+        && has_root(alloc, &mut editor, FETCHED)
+}
+
+/// Whether the written root has this id.
+fn has_root(alloc: Global, editor: &mut Editor<Memory>, wanted: &[u8]) -> bool {
+    match writes::write(alloc, editor) {
+        Ok((root, _)) => root == id(wanted),
+        Err(_) => false,
     }
 }
 
@@ -146,6 +215,7 @@ fn inserts_objects_on_demand(rt: HostRuntime) {
     let second: (Kind, &[u8]) = (Kind::Commit, SECOND_BYTES);
     assert!(rt; finds_parent(alloc, &[first, second]));
     assert!(rt; lacks_commit(alloc, &[second]));
+    assert!(rt; is_fetched(alloc, &[first, (Kind::Tree, TREE_BYTES)]));
 }
 
 /// Id that `git mktree` prints for the directory `docs` of the tree, and a file `z.txt`.
@@ -177,9 +247,10 @@ fn is_listed(alloc: Global, store: &Memory) -> bool {
 }
 
 /// Whether the found file is the script in the directory.
-fn is_script(alloc: Global, found: Option<&(BString, ObjectId)>) -> bool {
+fn is_script(alloc: Global, found: Option<&(BString, EntryMode, ObjectId)>) -> bool {
     match found {
-        Some((path, _)) => *path == string_of(alloc, b"docs/run.sh"),
+        Some((path, mode, _)) => mode.as_str() == "exe"
+            && *path == string_of(alloc, b"docs/run.sh"),
         None => false,
     }
 }

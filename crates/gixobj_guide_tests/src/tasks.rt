@@ -2,6 +2,7 @@
 
 pub mod batches;
 mod clauses;
+pub mod commit_edits;
 mod commits;
 pub mod depths;
 pub mod differences;
@@ -10,7 +11,7 @@ mod edits;
 mod entries;
 mod headers;
 pub mod histories;
-mod ids;
+pub mod ids;
 mod imports;
 mod listing;
 mod loose;
@@ -18,6 +19,8 @@ pub mod memories;
 pub mod names;
 pub mod one_error;
 mod paths;
+pub mod prints;
+pub mod programs;
 mod rewording;
 mod runners;
 mod runs;
@@ -30,7 +33,7 @@ mod trailers;
 pub mod values;
 mod verifying;
 mod walks;
-mod writes;
+pub mod writes;
 mod writing;
 
 use bstr::BStr;
@@ -105,7 +108,8 @@ fn is_second(line: &commits::LogLine<'_>) -> bool {
     line.tree == id(TREE)
         && line.parents.first() == Some(&id(FIRST))
         && line.author == BStr::new(b"A U Thor")
-        && line.seconds == 8
+        && line.authored == Some(7)
+        && line.committed == 8
         && line.title == BStr::new(b"second")
 }
 

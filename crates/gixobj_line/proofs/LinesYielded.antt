@@ -1,4 +1,4 @@
--- The encoding of a commit yields its lines.
+-- The encoding of a commit yields its lines; `EntireCommits`, the proofs of tokens and those of received commits use it.
 use Rattle.std.proofs.Common.{◌≡◌, ◌≢◌, ℕ, List, [], ◌∷◌, ◌++◌, All, Option, Some, None, arith, refl, sym, ap, subst, ◌∙◌, append_assoc}
 use Rattle.std.proofs.lemmas.List.Elements.{All-head, All-tail}
 use Rattle.std.specs.List.{flat_map}

@@ -20,9 +20,9 @@ use gixobj_hash::{Kind, hash};
 use gixobj_line::tags::{self, TaggerLine};
 use gixobj_tag::tag::decode;
 
-/// The position of a token iterator in a tag.
+/// The state of a tag's decoder: which token may come next.
 #[derive(Clone, Copy, Debug)]
-enum State {
+pub enum State {
     /// Before the target.
     Target,
     /// Before the kind of the target.
@@ -140,10 +140,16 @@ impl<'a> Iterator for TagRefIter<'a> {
     }
 }
 
-/// Decodes the token at the start of the input in this state, with the state after it and the rest. Returns
-/// `None` if the input begins with no such token.
+/// Decodes the token of a tag at the beginning of the input, in the state `before`.
+///
+/// Returns the token, the state after it and the rest of the input. The id of the target is hex of the hash
+/// function `hash_kind`. The absence of a tagger is a token without bytes, and the body is all that remains
+/// (gitdatamodel, "tag objects").
+///
+/// Returns `None` if the input begins with no token that may come in this state. The input has at least one
+/// byte. Allocates nothing.
 #[tactic(auto, using(crate::specs::TagTokens::target_comes, crate::specs::TagTokens::kind_comes, crate::specs::TagTokens::name_comes, crate::specs::TagTokens::body_comes))]
-fn decode_token(
+pub fn decode_token(
     input: &[u8],
     before: State,
     hash_kind: hash::Kind,

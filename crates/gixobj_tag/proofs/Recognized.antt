@@ -1,4 +1,5 @@
 -- Bytes are the encoding of a tag if and only if some tag decodes from them: any bytes split at their last marker.
+-- The law `tag_recognition_agrees` and the lookups of tags use it.
 use Rattle.std.proofs.Common.{◌≡◌, ◌≢◌, ◌⊎◌, ◌<◌, ◌≤◌, ◌+◌, ℕ, List, [], ◌∷◌, ◌++◌, Bool, IsFalse, IsTrue, Option, Some, None, ◌&&◌, ap, append_assoc, arith, drop, false, inl, inr, length, length-append, refl, suc, subst, sym, take, true, zero, ◌∙◌}
 use Rattle.std.proofs.lemmas.Bool.Decides.{Decides-eqb, eqb_tells}
 use Rattle.std.proofs.lemmas.List.{length-take-le, take-append-drop}

@@ -36,25 +36,26 @@ abbrev after_taken : Lines → Lines
 after_taken [] = []
 after_taken (line ∷ lines) = cond (continues_trailer line) (after_taken lines) (line ∷ lines)
 
-skipped_is : (skipped rest : Lines) → All NoTrailer skipped → BeginsTrailer rest → (skipped_of (skipped ++ rest) ≡ skipped)
+skipped_of_append : (skipped rest : Lines) → All NoTrailer skipped → BeginsTrailer rest → (skipped_of (skipped ++ rest) ≡ skipped)
     × (after_skipped (skipped ++ rest) ≡ rest)
-skipped_is [] [] all begins = (refl, refl)
-skipped_is [] (line ∷ rest) all begins =
+skipped_of_append [] [] all begins = (refl, refl)
+skipped_of_append [] (line ∷ rest) all begins =
     (ap (λ (b : Bool). cond b [] (line ∷ skipped_of rest)) begins, ap (λ (b : Bool). cond b (line ∷ rest) (after_skipped rest)) begins)
-skipped_is (line ∷ skipped) rest all begins =
+skipped_of_append (line ∷ skipped) rest all begins =
     let here = All-head NoTrailer line skipped all in
-    let later = skipped_is skipped rest (All-tail NoTrailer line skipped all) begins in (
+    let later = skipped_of_append skipped rest (All-tail NoTrailer line skipped all) begins in (
       ap (λ (b : Bool). cond b [] (line ∷ skipped_of (skipped ++ rest))) here ∙ ap (λ (ls : Lines). line ∷ ls) later.0,
       ap (λ (b : Bool). cond b (line ∷ (skipped ++ rest)) (after_skipped (skipped ++ rest))) here ∙ later.1,
     )
 
-taken_is : (taken rest : Lines) → All ContinuesTrailer taken → EndsTrailers rest → (taken_of (taken ++ rest) ≡ taken) × (after_taken (taken ++ rest) ≡ rest)
-taken_is [] [] all ends = (refl, refl)
-taken_is [] (line ∷ rest) all ends =
+taken_of_append : (taken rest : Lines) → All ContinuesTrailer taken → EndsTrailers rest → (taken_of (taken ++ rest) ≡ taken)
+    × (after_taken (taken ++ rest) ≡ rest)
+taken_of_append [] [] all ends = (refl, refl)
+taken_of_append [] (line ∷ rest) all ends =
     (ap (λ (b : Bool). cond b (line ∷ taken_of rest) []) ends, ap (λ (b : Bool). cond b (after_taken rest) (line ∷ rest)) ends)
-taken_is (line ∷ taken) rest all ends =
+taken_of_append (line ∷ taken) rest all ends =
     let here = All-head ContinuesTrailer line taken all in
-    let later = taken_is taken rest (All-tail ContinuesTrailer line taken all) ends in (
+    let later = taken_of_append taken rest (All-tail ContinuesTrailer line taken all) ends in (
       ap (λ (b : Bool). cond b (line ∷ taken_of (taken ++ rest)) []) here ∙ ap (λ (ls : Lines). line ∷ ls) later.0,
       ap (λ (b : Bool). cond b (after_taken (taken ++ rest)) (line ∷ (taken ++ rest))) here ∙ later.1,
     )
@@ -75,20 +76,20 @@ begins_trailer_append [] rest trailers last = subst BeginsTrailer (sym (last ref
 begins_trailer_append (line ∷ taken) rest trailers last = trailers.0
 
 record IsCutSo (lines skipped taken rest : Lines) : Type 0 where
-  skipped_is : skipped ≡ skipped_of lines
-  taken_is : taken ≡ taken_of (after_skipped lines)
-  rest_is : rest ≡ after_taken (after_skipped lines)
+  skipped_eq : skipped ≡ skipped_of lines
+  taken_eq : taken ≡ taken_of (after_skipped lines)
+  rest_eq : rest ≡ after_taken (after_skipped lines)
 
 parts_of_block_of_lines : (lines skipped taken rest : Lines) → IsBlockOfLines lines skipped taken rest → IsCutSo lines skipped taken rest
 parts_of_block_of_lines lines skipped taken rest it =
     let joined : lines ≡ skipped ++ (taken ++ rest) = it.split ∙ append_assoc skipped taken rest in
-    let first = skipped_is skipped (taken ++ rest) it.message (begins_trailer_append taken rest it.trailers it.none) in
-    let second = taken_is taken rest (all_continue_of_are_trailers taken it.trailers) it.ends in
+    let first = skipped_of_append skipped (taken ++ rest) it.message (begins_trailer_append taken rest it.trailers it.none) in
+    let second = taken_of_append taken rest (all_continue_of_are_trailers taken it.trailers) it.ends in
     let after : after_skipped lines ≡ taken ++ rest = ap after_skipped joined ∙ first.1 in
     record {
-      skipped_is = sym (ap skipped_of joined ∙ first.0);
-      taken_is = sym (ap taken_of after ∙ second.0);
-      rest_is = sym (ap after_taken after ∙ second.1);
+      skipped_eq = sym (ap skipped_of joined ∙ first.0);
+      taken_eq = sym (ap taken_of after ∙ second.0);
+      rest_eq = sym (ap after_taken after ∙ second.1);
     }
 
 abbrev view : List ℕ → List ℕ → BlockView
@@ -103,9 +104,9 @@ first_message_block_unique : (start : ℕ) (bytes : List ℕ) (one other : Block
 first_message_block_unique start bytes one other rest rest2 it it2 =
     let first = parts_of_block_of_lines (lines_of (drop start bytes)) it.skipped it.consumed (lines_of rest) it.lines in
     let second = parts_of_block_of_lines (lines_of (drop start bytes)) it2.skipped it2.consumed (lines_of rest2) it2.lines in
-    let skipped : it.skipped ≡ it2.skipped = first.skipped_is ∙ sym second.skipped_is in
-    let taken : it.consumed ≡ it2.consumed = first.taken_is ∙ sym second.taken_is in
-    let after : lines_of rest ≡ lines_of rest2 = first.rest_is ∙ sym second.rest_is in (
+    let skipped : it.skipped ≡ it2.skipped = first.skipped_eq ∙ sym second.skipped_eq in
+    let taken : it.consumed ≡ it2.consumed = first.taken_eq ∙ sym second.taken_eq in
+    let after : lines_of rest ≡ lines_of rest2 = first.rest_eq ∙ sym second.rest_eq in (
       block_view_eq_of_fields one other
           (it.message ∙ ap (λ (ls : Lines). take start bytes ++ concat ls) skipped ∙ sym it2.message)
           (it.trailers ∙ ap (λ (ls : Lines). concat ls) taken ∙ sym it2.trailers),

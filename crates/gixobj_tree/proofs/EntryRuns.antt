@@ -1,4 +1,4 @@
--- The run over a tree's entries is unique, and a complete one is a tree.
+-- The run over a tree's entries is unique, and a complete one is a tree; used by the decoder of trees, its law and lookups.
 use Rattle.std.proofs.Common.{◌≡◌, ◌≢◌, ℕ, List, [], ◌∷◌, ◌++◌, ap, arith, length, map, refl}
 use Rattle.std.proofs.lemmas.List.{map-append}
 use Rattle.std.specs.List.{AllZip, concat}

@@ -1,13 +1,13 @@
 //! A tree to every depth, by a work list.
 
-use super::one_error::ToolError;
 use bstr::{BString, ByteVec};
 use gix_object::hash::ObjectId;
-use gix_object::{Find, FindExt, TreeRefIter};
+use gix_object::tree::{EntryKind, EntryMode};
+use gix_object::{Error, Find, FindExt, TreeRefIter};
 use std::alloc::{AllocError, Global};
 
-/// A path and the id at that path.
-type Found = (BString, ObjectId);
+/// A path, and the mode and the id of the entry there.
+type Found = (BString, EntryMode, ObjectId);
 
 /// Lists the files below a tree with their paths. `None` if `max_trees` trees are too few.
 pub fn files_below<S: Find>(
@@ -15,12 +15,12 @@ pub fn files_below<S: Find>(
     store: &S,
     root: ObjectId,
     max_trees: u32,
-) -> Result<Option<Vec<Found>>, ToolError> {
+) -> Result<Option<Vec<Found>>, Error> {
     let (mut trees, mut files) = (Vec::new(alloc), Vec::new(alloc));
-    trees.push((BString::new(Vec::new(alloc)), root))?;
+    trees.push((BString::new(Vec::new(alloc)), EntryKind::Tree.into(), root))?;
     let mut buffer = Vec::new(alloc);
     for _ in 0..max_trees {
-        let Some((path, id)) = trees.pop() else {
+        let Some((path, _, id)) = trees.pop() else {
             return Ok(Some(files));
         };
         let tree = store.find_tree_iter(id.as_oid(), &mut buffer)?;
@@ -36,11 +36,12 @@ fn append(
     path: &BString,
     trees: &mut Vec<Found>,
     files: &mut Vec<Found>,
-) -> Result<(), ToolError> {
+) -> Result<(), Error> {
     for entry in tree {
         let entry = entry?;
         let found = (
             joined(alloc, path, entry.filename.as_bytes())?,
+            entry.mode,
             entry.oid.to_owned(),
         );
         if entry.mode.is_tree() {

@@ -6,7 +6,7 @@ use gix_object::hash::ObjectId;
 use gix_object::tree::EntryKind;
 use gix_object::tree::editor::{Editor, Error};
 
-/// Moves a file from one path to another.
+/// Moves a file from one path to another. Fails if a directory is at the first.
 pub fn rename<S: Find>(
     editor: &mut Editor<S>,
     from: &[BString],

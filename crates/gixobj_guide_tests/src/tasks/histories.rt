@@ -1,9 +1,8 @@
 //! A walk over history that ends.
 
-use super::one_error::ToolError;
 use gix_object::commit::ref_iter::ParentIds;
 use gix_object::hash::ObjectId;
-use gix_object::{Find, FindExt};
+use gix_object::{Error, Find, FindExt};
 use std::alloc::{AllocError, Global};
 use std::collections::BTreeSet;
 
@@ -13,7 +12,7 @@ pub fn history<S: Find>(
     store: &S,
     tip: ObjectId,
     max_commits: u32,
-) -> Result<Option<Vec<ObjectId>>, ToolError> {
+) -> Result<Option<Vec<ObjectId>>, Error> {
     let (mut work, mut found) = (Vec::new(alloc), Vec::new(alloc));
     let mut known = BTreeSet::new(alloc);
     work.push(tip)?;

@@ -5,7 +5,7 @@ use gix_object::hash::{Kind as HashKind, ObjectId};
 use gix_object::{Kind, LooseDecodeError, ObjectRef, compute_hash};
 use std::alloc::Global;
 
-/// Returns the kind, the size and the id of a loose object.
+/// Returns the kind, the size and the id of a loose object: `Blob`, 6 and `ce013625..` of `blob 6\0hello\n`.
 pub fn shown(alloc: Global, loose: &[u8]) -> Result<(Kind, usize, ObjectId), LooseContentError> {
     let (kind, content) = loose_content(alloc, loose)?;
     Ok((

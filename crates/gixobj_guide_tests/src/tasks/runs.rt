@@ -5,7 +5,8 @@ use gix_object::tree::editor::{Command, Edit, Editor, Reply, run};
 use gix_object::{Keep, OutOfMemory, Tree, encode};
 use std::alloc::Global;
 
-/// Applies the edits and writes the tree. The editor's store keeps the emitted trees.
+/// Applies the edits and writes the tree. The editor's store keeps the emitted trees. Returns a reply to each
+/// edit, and one to the write.
 pub fn keep_edits<S: Keep>(
     alloc: Global,
     editor: &mut Editor<S>,
