@@ -1,8 +1,8 @@
 #!/bin/sh
 # Makes commits of many shapes with git, in two repositories in a new folder: `sh examples/commits.sh FOLDER`.
-# Writes git's answers for each to FOLDER/FORMAT.answers:
-# NAME.id (`git rev-parse`), NAME.bytes (`git cat-file commit`), NAME.shown (`git show`, field by field),
-# and for a signed one NAME.signature, the value that `git verify-commit` passes to the verifying program.
+# Records each in FOLDER/FORMAT.answers, as git prints it:
+# - NAME.id (`git rev-parse`), NAME.bytes (`git cat-file commit`), NAME.shown (`git show`, field by field)
+# - NAME.signature, for a signed one: the value that `git verify-commit` passes to the verifier
 set -e
 unset GIT_DIR GIT_WORK_TREE
 export GIT_CONFIG_GLOBAL=/dev/null GIT_CONFIG_NOSYSTEM=1
@@ -13,7 +13,7 @@ cd "$1"
 FOLDER=$PWD
 export FOLDER
 
-# A stand-in for gpg: signs with three lines, and keeps the signature that it verifies.
+# A stand-in for gpg. It signs with three lines, and records the signature that it verifies.
 cat > gpg <<'END'
 #!/bin/sh
 case " $* " in
@@ -32,8 +32,8 @@ esac
 END
 chmod +x gpg
 
-# keep NAME ID: writes git's answers.
-keep() {
+# record NAME ID: records the commit as git prints it.
+record() {
     git rev-parse "$2^{commit}" > "$answers/$1.id"
     git cat-file commit "$2" > "$answers/$1.bytes"
     encoding=$(git show -s --format=%e "$2")
@@ -44,17 +44,17 @@ keep() {
     fi
 }
 
-# literal NAME: the commit whose content is standard input, unchanged.
+# literal NAME: the commit whose content is standard input.
 literal() {
-    keep "$1" "$(git hash-object -t commit -w --literally --stdin)"
+    record "$1" "$(git hash-object -t commit -w --literally --stdin)"
 }
 
-# header NAME LINES: a first commit with further header lines and the message `title`.
+# header NAME LINES: a root commit with these header lines and the message `title`.
 header() {
     printf 'tree %s\nauthor A <a@b> 0 +0000\ncommitter A <a@b> 0 +0000\n%b\ntitle\n' "$tree" "$2" | literal "$1"
 }
 
-# actor NAME LINE: a first commit by this author.
+# actor NAME LINE: a root commit by this author.
 actor() {
     printf 'tree %s\nauthor %b\ncommitter A <a@b> 0 +0000\n\ntitle\n' "$tree" "$2" | literal "$1"
 }
@@ -71,14 +71,14 @@ for format in sha1 sha256; do
     one=$(printf 'one\n' | git commit-tree $tree)
     two=$(printf 'two\n' | git commit-tree $tree -p $one)
     three=$(printf 'three\n\nbody\n' | git commit-tree $tree -p $one)
-    keep root $one
-    keep child $two
-    keep octopus "$(printf 'four\n' | git commit-tree $tree -p $one -p $two -p $three)"
-    keep signed "$(printf 'signed\n' | git commit-tree -S $tree -p $one)"
+    record root $one
+    record child $two
+    record octopus "$(printf 'four\n' | git commit-tree $tree -p $one -p $two -p $three)"
+    record signed "$(printf 'signed\n' | git commit-tree -S $tree -p $one)"
     git tag -s -m 'The third' v3 $three
     git checkout -q $two
     git merge -q --no-ff -m 'Merge' v3
-    keep mergetag HEAD
+    record mergetag HEAD
     git cat-file tag v3 > "$answers/v3.tag"
 
     if [ $format = sha1 ]; then
@@ -86,11 +86,11 @@ for format in sha1 sha256; do
         git cat-file tag v4 > "$answers/v4.tag"
         git reset -q --hard $two
         git merge -q --no-ff -m 'Merge' v3 v4 > /dev/null
-        keep mergetags HEAD
-        keep empty-message "$(git commit-tree $tree < /dev/null)"
-        keep no-newline "$(printf 'no newline' | git commit-tree $tree -p $one)"
-        keep latin-1 "$(printf 'caf\351\n' | GIT_AUTHOR_NAME="$(printf 'J\344ger')" git -c i18n.commitEncoding=ISO-8859-1 commit-tree $tree)"
-        keep utf-8 "$(printf 'caf\303\251\n' | GIT_AUTHOR_NAME="$(printf 'J\303\244ger')" git commit-tree $tree)"
+        record mergetags HEAD
+        record empty-message "$(git commit-tree $tree < /dev/null)"
+        record no-newline "$(printf 'no newline' | git commit-tree $tree -p $one)"
+        record latin-1 "$(printf 'caf\351\n' | GIT_AUTHOR_NAME="$(printf 'J\344ger')" git -c i18n.commitEncoding=ISO-8859-1 commit-tree $tree)"
+        record utf-8 "$(printf 'caf\303\251\n' | GIT_AUTHOR_NAME="$(printf 'J\303\244ger')" git commit-tree $tree)"
         printf 'tree %s\nauthor A <a@b> 0 +0000\ncommitter A <a@b> 0 +0000\n\n\n\ntitle\r\n\r\nbody' "$tree" | literal empty-first-line
         header one-line-signature 'gpgsig A\n'
         header both-signatures 'gpgsig A\n B\ngpgsig-sha256 C\n D\n'
@@ -108,9 +108,9 @@ for format in sha1 sha256; do
         actor no-offset 'A <a@b> 1234567890 -0000'
         actor last-second 'A <a@b> 2147483647 +1400'
         actor zero-offset 'A <a@b> 1234567890 +0000'
-        text='tree %s\nparent %s\nauthor A <a@b> 0 +0000\ncommitter A <a@b> 0 +0000\n\ntitle\n'
-        printf "$text" $tree $one | literal lower-case
-        printf "$text" $tree $(printf $one | tr a-f A-F) | literal upper-case
+        content='tree %s\nparent %s\nauthor A <a@b> 0 +0000\ncommitter A <a@b> 0 +0000\n\ntitle\n'
+        printf "$content" $tree $one | literal lower-case
+        printf "$content" $tree $(printf $one | tr a-f A-F) | literal upper-case
     fi
     cd ..
 done

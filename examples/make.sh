@@ -1,6 +1,6 @@
 #!/bin/sh
 # Makes the objects of this folder with git, in a new folder: `sh examples/make.sh FOLDER`.
-# Prints git's answers for each: file, kind, size, id.
+# Prints of each the file, and the kind, the size and the id, as git has them.
 set -e
 out=$(cd "$(dirname "$0")" && pwd)
 mkdir -p "$1"

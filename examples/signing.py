@@ -1,14 +1,14 @@
 #!/usr/bin/env python3
-"""Has commits and tags signed and verified by gpg, gpgsm and ssh-keygen, and asks git about the same objects.
+"""Makes the table of signed and verified objects, by gpg, gpgsm, ssh-keygen and git.
 
 `python3 examples/signing.py FOLDER` makes throw-away keys and two repositories in a new folder, one for each object
-format. It prints a table of the calls of the programs, their answers, and the outcomes. The programs get exactly the
+format. It prints a table of the calls of the programs, their output, and the outcomes. The programs get exactly the
 arguments that `sign` and `verify` pass to a runner. The programs run in UTC, and times are in UTC.
 
-The outcome of a report follows from gnupg, doc/DETAILS, and from ssh-keygen(1), `-Y verify`. git calls the programs in
-its own way, and must agree, or the script stops: `git verify-commit` or `git verify-tag` accepts each signed object,
-and its verdict on each verified one is the same under the same gpg.minTrustLevel. For a commit, git's `%G?`, `%GT`,
-`%GS`, `%GK`, `%GF` and `%GP` agree too, except for what the head of the table names.
+The outcome of a report follows from gnupg, doc/DETAILS, and from ssh-keygen(1), `-Y verify`. Git calls the programs in
+its own way, and must agree, or the script stops. `git verify-commit` or `git verify-tag` must accept each signed
+object. Its verdict on each verified one must be the same under the same gpg.minTrustLevel. For a commit, git's `%G?`,
+`%GT`, `%GS`, `%GK`, `%GF` and `%GP` must be the same too, except for what the head of the table names.
 """
 
 import os
@@ -17,24 +17,56 @@ import sys
 import time
 from dataclasses import dataclass, replace
 
+from recorded import NO_SETTINGS, escaped
 from signing_keys import LEVELS, Folder, Keys
 
 HEADER = """\
-# Commits and tags signed, and verified, by gpg and gpgsm 2.2.40 and by ssh-keygen of OpenSSH 9.2: examples/signing.py asks them, and git 2.39.5. The keys are throw-away, and so are their times
-# Columns: the name; where the answer is from; 'sign' or 'verify', the kind of the object, that of its ids, the format of the program and, of 'verify', the least trust that is asked for; the text of
-# the object; what is set for the program; the program and its words before the fixed ones; the key or, of 'verify', the file of those that may sign; the file of revoked keys; the time for which
-# keys have to be good. Then for each call what was asked, and in four columns whether it succeeded, its standard output, its standard error, and the file that it left. Last what comes of it: of
-# 'sign' the signed object or the refusal; of 'verify' the status, the trust, the signer, the key, both fingerprints, and whether it is accepted. '-' is none
-# A call: what is set for the program, the program and its words, where @0 and @1 are files and @time a time in seconds with its offset; what stands in the files; '<' the input; '>' the file
-# whose neighbour, with .sig behind its name, is asked for. '%' is the folder of the keys. \\n is a newline, \\x and two digits another byte
-# git: `git verify-commit` or `git verify-tag` accepts the signed object; of 'verify' its verdict is this one, under the same gpg.minTrustLevel, and `%G?`, `%GT`, `%GS`, `%GK`, `%GF`, `%GP` are these
-# verdict: git's verdict is this one, the rest is what the report says. Of tags git 2.39.5 tells no more. Of a signature that couldn't be checked, or of several, it tells no signer and no
-# fingerprint, and of SSH it calls the trust of a bad one 'never', where here it is 'Fully' once a principal was asked about and else 'Undefined'. program: it refused"""
+# Commits and tags, signed and verified by gpg and gpgsm 2.2.40, by ssh-keygen of OpenSSH 9.2, and by git 2.39.5.
+# examples/signing.py makes the rows. The keys are throw-away, and so are their times. The columns are:
+# - name and source
+# - 'sign' or 'verify', the kind of the object, that of its ids, the format, and for 'verify' the minimum trust level
+# - the encoding of the object
+# - the environment of the program
+# - the program, and its arguments before the fixed ones
+# - the signing key, or for 'verify' the file of allowed signers
+# - the file of revoked keys
+# - the time at which keys have to be valid
+# - for each call five columns: the request, whether it succeeded, standard output, standard error, and the result file
+# - the answer
+# For 'sign' the answer is the signed object or the error. For 'verify' it has the status, the trust level, the signer,
+# the key, both fingerprints, and whether the signature is valid. '-' is none.
+# A request has the environment, the program and its arguments. @0 and @1 are files, and @time is a time in seconds with
+# its offset. The contents of the files follow, then '<' and the input. '>' is before a file next to which the program
+# writes the result file, of the same name with .sig.
+# '%' is the folder of the keys. \\n is a newline, \\t a tab, \\0 a zero byte, and \\x with two digits another byte.
+# git: `git verify-commit` or `git verify-tag` accepts the signed object. For 'verify' its verdict is the same under the
+# same gpg.minTrustLevel, and so are `%G?`, `%GT`, `%GS`, `%GK`, `%GF` and `%GP` of a commit.
+# verdict: git's verdict is the same, and the rest follows from the report. For a tag git 2.39.5 prints no more.
+# verdict: if a signature can't be checked, or if there are several, git prints no signer and no fingerprint.
+# verdict: for a bad signature of SSH git prints the trust level 'never'. Here it is 'Fully' if a principal was checked,
+# else 'Undefined'.
+# program: the program failed."""
 
 MARKERS = ["PGP SIGNATURE", "PGP MESSAGE", "SIGNED MESSAGE", "SSH SIGNATURE"]
 FIELDS = {"sha1": b"gpgsig", "sha256": b"gpgsig-sha256"}
-STATUSES = {"GOODSIG": "Good", "BADSIG": "Bad", "ERRSIG": "Error", "EXPSIG": "Expired", "EXPKEYSIG": "ExpiredKey", "REVKEYSIG": "RevokedKey"}
-LETTERS = {"G": "Good", "U": "Good", "B": "Bad", "E": "Error", "X": "Expired", "Y": "ExpiredKey", "R": "RevokedKey", "N": "Unknown"}
+STATUSES = {
+    "GOODSIG": "Good",
+    "BADSIG": "Bad",
+    "ERRSIG": "Error",
+    "EXPSIG": "Expired",
+    "EXPKEYSIG": "ExpiredKey",
+    "REVKEYSIG": "RevokedKey",
+}
+LETTERS = {
+    "G": "Good",
+    "U": "Good",
+    "B": "Bad",
+    "E": "Error",
+    "X": "Expired",
+    "Y": "ExpiredKey",
+    "R": "RevokedKey",
+    "N": "Unknown",
+}
 
 
 # ---- calls
@@ -45,102 +77,101 @@ class Program:
     """A program of a format, its first arguments, and its environment."""
 
     format: str
-    words: list
+    arguments: list
     environment: dict
 
 
 @dataclass
-class Told:
-    """The answer of a program."""
+class Output:
+    """The outputs of a program, and the result file that it wrote."""
 
     success: bool
     stdout: bytes
     stderr: bytes
-    left: bytes | None
+    result: bytes | None = None
 
 
 class Calls:
-    """Makes calls, and keeps their questions and answers."""
+    """Makes calls, and records their requests and outputs."""
 
     def __init__(self, folder):
         self.folder, self.columns = folder, []
 
-    def ask(self, program, words, files, given, result=None):
-        """Makes a call; `@0`, `@1` and `@time=..` mean the paths of the files and the argument of a time."""
+    def run(self, program, arguments, files, input, result=None):
+        """Makes a call. `@0`, `@1` and `@time=..` are the paths of the files and the argument of a time."""
         paths = [self.folder.write(f"file{number}", content) for number, content in enumerate(files)]
-        placed = [placed_word(word, paths) for word in program.words + words]
-        done = self.folder.run(placed, program.environment, given, check=False)
-        told = Told(done.returncode == 0, done.stdout, done.stderr, None)
+        arguments = program.arguments + arguments
+        ran = self.folder.run([argument_of(it, paths) for it in arguments], program.environment, input, check=False)
+        output = Output(ran.returncode == 0, ran.stdout, ran.stderr)
         if result is not None and os.path.exists(paths[result] + ".sig"):
-            told.left = self.folder.read(paths[result] + ".sig")
+            output.result = self.folder.read(paths[result] + ".sig")
             os.remove(paths[result] + ".sig")
-        parts = [f"{name}={value}" for name, value in program.environment.items()] + program.words + words
-        parts += [f'@{number}="{spelled(content)}"' for number, content in enumerate(files)]
-        parts += [] if given is None else [f'<"{spelled(given)}"']
-        parts += [] if result is None else [f">@{result}"]
-        left = "-" if told.left is None else spelled(told.left)
-        self.columns += [" ".join(parts), "ok" if told.success else "failed", spelled(told.stdout), spelled(told.stderr), left]
-        return told
+        request = [f"{name}={value}" for name, value in program.environment.items()] + arguments
+        request += [f'@{number}="{escaped(content)}"' for number, content in enumerate(files)]
+        request += [] if input is None else [f'<"{escaped(input)}"']
+        request += [] if result is None else [f">@{result}"]
+        self.columns += [" ".join(request), "ok" if output.success else "failed"]
+        self.columns += [escaped(output.stdout), escaped(output.stderr)]
+        self.columns += ["-" if output.result is None else escaped(output.result)]
+        return output
 
 
-def placed_word(word, paths):
-    if word.startswith("@time="):
-        seconds = int(word.removeprefix("@time=").split(",")[0])
+def argument_of(argument, paths):
+    """The argument that a program gets: the path in place of `@0` or `@1`, the option in place of `@time=..`."""
+    if argument.startswith("@time="):
+        seconds = int(argument.removeprefix("@time=").split(",")[0])
         return time.strftime("-Overify-time=%Y%m%d%H%M%S", time.gmtime(seconds))
-    return paths[int(word[1:])] if word.startswith("@") else word
-
-
-def spelled(content):
-    escapes = {10: "\\n", 9: "\\t", 0: "\\0"}
-    return "".join(escapes.get(it) or (chr(it) if 32 <= it < 127 and it != 92 else f"\\x{it:02x}") for it in content)
+    return paths[int(argument[1:])] if argument.startswith("@") else argument
 
 
 # ---- signing
 
 
-class Refused(Exception):
-    """The answer if a program fails."""
+class SignError(Exception):
+    """The error if a program fails."""
 
 
-def signature_of(calls, program, key, payload):
+def make_signature(calls, program, key, payload):
     """Signs these bytes by one call."""
     if program.format != "Ssh":
-        told = calls.ask(program, ["--status-fd=2", "-bsau", key], [], payload)
-        signature, lines = told.stdout, told.stderr.split(b"\n")
-        missing = "MissingSignatureConfirmation" if not any(it.startswith(b"[GNUPG:] SIG_CREATED ") for it in lines) else None
+        output = calls.run(program, ["--status-fd=2", "-bsau", key], [], payload)
+        signature, lines = output.stdout, output.stderr.split(b"\n")
+        is_confirmed = any(it.startswith(b"[GNUPG:] SIG_CREATED ") for it in lines)
+        missing = None if is_confirmed else "MissingSignatureConfirmation"
     else:
-        words = ["-Y", "sign", "-n", "git", "-f"]
+        arguments = ["-Y", "sign", "-n", "git", "-f"]
         if key.startswith(("key::", "ssh-")):
-            told = calls.ask(program, [*words, "@0", "-U", "@1"], [key.removeprefix("key::").encode(), payload], None, 1)
+            files = [key.removeprefix("key::").encode(), payload]
+            output = calls.run(program, [*arguments, "@0", "-U", "@1"], files, None, 1)
         else:
-            told = calls.ask(program, [*words, key, "@0"], [payload], None, 0)
-        signature = told.left
+            output = calls.run(program, [*arguments, key, "@0"], [payload], None, 0)
+        signature = output.result
         missing = "MissingSshSignature" if signature is None else None
-    if not told.success or missing:
-        raise Refused(missing if told.success else f"Failed {program.words[0]} {spelled(told.stderr)}")
+    if not output.success or missing:
+        raise SignError(missing if output.success else f"Failed {program.arguments[0]} {escaped(output.stderr)}")
     return signature
 
 
-def taken_apart(kind, ids, text):
+def split_signature(kind, ids, content):
     """The signed bytes of an object, and its signature (gitformat-signature).
 
     The signed bytes of a commit are all except the headers of that name. Those of a tag are the bytes before the last
     marker at the start of a line. A tag without a signature gets a newline at the end."""
     if kind == "commit":
         header = rb"^%s (.*\n(?: .*\n)*)" % FIELDS[ids]
-        head, message = text.split(b"\n\n", 1)
+        head, message = content.split(b"\n\n", 1)
         value = re.search(header, head + b"\n", flags=re.M)
         payload = re.sub(header, b"", head + b"\n", flags=re.M) + b"\n" + message
         return payload, value and value[1].replace(b"\n ", b"\n")
     markers = "|".join(f"^-----BEGIN {marker}-----" for marker in MARKERS).encode()
-    places = [it.start() for it in re.finditer(markers, text, flags=re.M)]
-    return (text[: places[-1]], text[places[-1] :]) if places else (text + b"\n", None)
+    starts = [it.start() for it in re.finditer(markers, content, flags=re.M)]
+    return (content[: starts[-1]], content[starts[-1] :]) if starts else (content + b"\n", None)
 
 
-def signed(calls, program, key, kind, ids, text):
+def sign(calls, program, key, kind, ids, content):
     """The object with a new signature, in the last header of a commit or at the end of a tag (gitformat-signature)."""
-    payload, _ = taken_apart(kind, ids, text)
-    signature = signature_of(calls, program, key, payload)
+    payload, _ = split_signature(kind, ids, content)
+    signature = make_signature(calls, program, key, payload)
     if kind == "tag":
         return payload + signature
     head, message = payload.split(b"\n\n", 1)
@@ -153,7 +184,8 @@ def signed(calls, program, key, kind, ids, text):
 
 @dataclass
 class Verifier:
-    """A verifier: the program, the minimum of trust, and for SSH the files of allowed signers and revoked keys, and the time."""
+    """The program and the minimum trust level. For SSH also the files of allowed signers and revoked keys, and the
+    offset of the time."""
 
     program: Program
     minimum: str = "Undefined"
@@ -175,28 +207,29 @@ class Outcome:
     valid: bool = False
 
     def __str__(self):
-        texts = [spelled(it) or "-" for it in (self.signer, self.key, self.fingerprint, self.primary)]
-        return " | ".join([self.status, self.trust, *texts, "valid" if self.valid else "not valid"])
+        columns = [escaped(it) or "-" for it in (self.signer, self.key, self.fingerprint, self.primary)]
+        return " | ".join([self.status, self.trust, *columns, "valid" if self.valid else "not valid"])
 
 
 def verify_gpg(calls, verifier, payload, signature):
     program = verifier.program
     if program.format == "OpenPgp":
-        told = calls.ask(program, ["--keyid-format=long", "--status-fd=1", "--verify", "@0", "-"], [signature], payload)
+        arguments = ["--keyid-format=long", "--status-fd=1", "--verify", "@0", "-"]
+        output = calls.run(program, arguments, [signature], payload)
     else:
-        told = calls.ask(program, ["--status-fd=1", "--verify", "@0", "@1"], [signature, payload], None)
-    return judged(gpg_outcome(told.stdout), told.success, verifier)
+        output = calls.run(program, ["--status-fd=1", "--verify", "@0", "@1"], [signature, payload], None)
+    return evaluate(gpg_outcome(output.stdout), output.success, verifier)
 
 
 def gpg_outcome(report):
     """The outcome of a report of gpg or gpgsm (gnupg, doc/DETAILS). If it is of several signatures, none is good."""
     outcome = Outcome()
     lines = [line.removeprefix(b"[GNUPG:] ") for line in report.split(b"\n") if line.startswith(b"[GNUPG:] ")]
-    judging = [line for line in lines if line.split(b" ")[0].decode() in STATUSES]
-    if len(judging) == 1:
-        word, outcome.key, outcome.signer = judging[0].split(b" ", 2)
-        outcome.status = STATUSES[word.decode()]
-    elif judging:
+    verdicts = [line for line in lines if line.split(b" ")[0].decode() in STATUSES]
+    if len(verdicts) == 1:
+        keyword, outcome.key, outcome.signer = verdicts[0].split(b" ", 2)
+        outcome.status = STATUSES[keyword.decode()]
+    elif verdicts:
         outcome.status = "Error"
     for line in lines:
         if line.startswith(b"TRUST_"):
@@ -210,80 +243,83 @@ def gpg_outcome(report):
 def verify_ssh(calls, verifier, payload, signature):
     """A call for the principals of the key, and one for each up to the first that is accepted, or one for any key."""
     program = replace(verifier.program, environment=verifier.program.environment | {"LANG": "C", "LC_ALL": "C"})
-    given, allowed = ["-s", "@0", f"@time=1700000001,{verifier.offset}"], ["-f", verifier.allowed]
+    fixed, allowed = ["-s", "@0", f"@time=1700000001,{verifier.offset}"], ["-f", verifier.allowed]
     revoked = [] if verifier.revoked == "-" else ["-r", verifier.revoked]
-    told = calls.ask(program, ["-Y", "find-principals", *allowed, *given], [signature], b"")
-    principals = told.stdout.decode().split() if told.success else []
+    output = calls.run(program, ["-Y", "find-principals", *allowed, *fixed], [signature], b"")
+    principals = output.stdout.decode().split() if output.success else []
     for principal in principals:
-        words = ["-Y", "verify", "-n", "git", *allowed, "-I", principal, *given, *revoked]
-        told = calls.ask(program, words, [signature], payload)
-        if told.success and told.stdout.startswith(b"Good"):
-            return judged(ssh_outcome(told, principal.encode(), "Fully"), True, verifier)
+        arguments = ["-Y", "verify", "-n", "git", *allowed, "-I", principal, *fixed, *revoked]
+        output = calls.run(program, arguments, [signature], payload)
+        if output.success and output.stdout.startswith(b"Good"):
+            return evaluate(ssh_outcome(output, principal.encode(), "Fully"), True, verifier)
     if principals:
-        return judged(ssh_outcome(told, b"", "Fully"), told.success, verifier)
-    told = calls.ask(program, ["-Y", "check-novalidate", "-n", "git", *given], [signature], payload)
-    return judged(ssh_outcome(told, b"", "Undefined"), False, verifier)
+        return evaluate(ssh_outcome(output, b"", "Fully"), output.success, verifier)
+    output = calls.run(program, ["-Y", "check-novalidate", "-n", "git", *fixed], [signature], payload)
+    return evaluate(ssh_outcome(output, b"", "Undefined"), False, verifier)
 
 
-def ssh_outcome(told, signer, trust):
-    """The outcome of an answer of ssh-keygen on a signature in git's namespace."""
-    output = told.stdout + told.stderr
-    status = "Good" if output.startswith(b'Good "git" signature') else "Bad"
-    _, found, key = output.split(b"\n")[0].rpartition(b" key ")
-    key = key if found else b""
+def ssh_outcome(output, signer, trust):
+    """The outcome of the output of ssh-keygen for a signature in git's namespace."""
+    report = output.stdout + output.stderr
+    status = "Good" if report.startswith(b'Good "git" signature') else "Bad"
+    _, separator, key = report.split(b"\n")[0].rpartition(b" key ")
+    key = key if separator else b""
     return Outcome(status, trust, signer, key, key)
 
 
-def judged(outcome, success, verifier):
-    trusted = LEVELS.index(outcome.trust) >= LEVELS.index(verifier.minimum)
-    return replace(outcome, valid=success and outcome.status == "Good" and trusted)
+def evaluate(outcome, success, verifier):
+    """The outcome, which is valid if the program succeeded, the signature is good, and its trust level suffices."""
+    is_trusted = LEVELS.index(outcome.trust) >= LEVELS.index(verifier.minimum)
+    return replace(outcome, valid=success and outcome.status == "Good" and is_trusted)
 
 
 # ---- git
 
 
 class Git:
-    """A new repository with ids of one kind of digest."""
+    """A new repository with ids of one kind."""
 
     def __init__(self, folder, ids):
         self.folder, self.path = folder, folder.at(ids)
-        self.environment = {"GIT_CONFIG_GLOBAL": os.devnull, "GIT_CONFIG_NOSYSTEM": "1"}
-        folder.run(["git", "init", "-q", f"--object-format={ids}", self.path], self.environment)
-        self.tree = self.kept("tree", b"")
+        folder.run(["git", "init", "-q", f"--object-format={ids}", self.path], NO_SETTINGS)
+        self.tree = self.write_object("tree", b"")
 
-    def kept(self, kind, text):
-        words = ["git", "-C", self.path, "hash-object", "-t", kind, "-w", "--stdin"]
-        return self.folder.run(words, self.environment, text).stdout.decode().strip()
+    def write_object(self, kind, content):
+        """Writes an object. Returns its id."""
+        command = ["git", "-C", self.path, "hash-object", "-t", kind, "-w", "--stdin"]
+        return self.folder.run(command, NO_SETTINGS, content).stdout.decode().strip()
 
-    def asked(self, verifier, *words):
-        """Asks git with a verifier, through a program that inserts the verifier's arguments first."""
-        program = self.folder.write("program", f'#!/bin/sh\nexec {" ".join(verifier.program.words)} "$@"\n', 0o700)
+    def run(self, verifier, *arguments):
+        """Runs git with a verifier, through a program that inserts the verifier's arguments first."""
+        script = f'#!/bin/sh\nexec {" ".join(verifier.program.arguments)} "$@"\n'
+        program = self.folder.write("program", script, 0o700)
         name = {"OpenPgp": "gpg.program", "X509": "gpg.x509.program", "Ssh": "gpg.ssh.program"}[verifier.program.format]
         settings = {name: program, "gpg.minTrustLevel": verifier.minimum}
         settings |= {} if verifier.allowed == "-" else {"gpg.ssh.allowedSignersFile": verifier.allowed}
         settings |= {} if verifier.revoked == "-" else {"gpg.ssh.revocationFile": verifier.revoked}
-        options = [word for it in settings for word in ("-c", f"{it}={settings[it]}")]
-        environment = self.environment | verifier.program.environment
-        return self.folder.run(["git", "-C", self.path, *options, *words], environment, check=False)
+        options = [argument for it in settings for argument in ("-c", f"{it}={settings[it]}")]
+        environment = NO_SETTINGS | verifier.program.environment
+        return self.folder.run(["git", "-C", self.path, *options, *arguments], environment, check=False)
 
     def accepts(self, verifier, kind, id):
-        return self.asked(verifier, f"verify-{kind}", id).returncode == 0
+        return self.run(verifier, f"verify-{kind}", id).returncode == 0
 
-    def told(self, verifier, id):
-        """Git's outcome for a commit's signature. It stops at `%GT` if no trust was reported."""
+    def outcome_of(self, verifier, id):
+        """Git's outcome for a commit's signature. Git prints nothing for `%GT` if no trust level was reported."""
         form = "--format=%G?%n%GS%n%GK%n%GF%n%GP"
-        letter, *texts = self.asked(verifier, "log", "-1", form, id).stdout.split(b"\n")[:5]
-        trust = self.asked(verifier, "log", "-1", "--format=%GT", id).stdout.strip() or b"undefined"
-        told = Outcome(LETTERS[letter.decode()], trust.decode().capitalize(), *texts)
-        told.valid = self.accepts(verifier, "commit", id)
-        return replace(told, fingerprint=told.key) if verifier.program.format == "Ssh" else told
+        letter, *fields = self.run(verifier, "log", "-1", form, id).stdout.split(b"\n")[:5]
+        trust = self.run(verifier, "log", "-1", "--format=%GT", id).stdout.strip() or b"undefined"
+        outcome = Outcome(LETTERS[letter.decode()], trust.decode().capitalize(), *fields)
+        outcome.valid = self.accepts(verifier, "commit", id)
+        return replace(outcome, fingerprint=outcome.key) if verifier.program.format == "Ssh" else outcome
 
 
-def unlike_here(told, outcome, format):
+def without_differences(of_git, outcome, format):
     """Git's outcome, without the differences that the head of the table names."""
     if outcome.status == "Error":
-        return replace(told, trust=outcome.trust, signer=outcome.signer, fingerprint=outcome.fingerprint, primary=outcome.primary)
-    return replace(told, trust=outcome.trust) if format == "Ssh" and outcome.status == "Bad" else told
+        of_git = replace(of_git, trust=outcome.trust, signer=outcome.signer)
+        return replace(of_git, fingerprint=outcome.fingerprint, primary=outcome.primary)
+    return replace(of_git, trust=outcome.trust) if format == "Ssh" and outcome.status == "Bad" else of_git
 
 
 # ---- rows
@@ -299,63 +335,69 @@ class Table:
         self.gpgsm = Verifier(Program("X509", ["gpgsm"], self.keys.home))
         self.ssh = Verifier(Program("Ssh", ["ssh-keygen"], {}), allowed=folder.at("allowed"))
 
-    def row(self, name, source, head, text, program, rest, calls, answer):
+    def add_row(self, name, source, task, content, program, options, calls, answer):
         environment = " ".join(f"{name}={value}" for name, value in program.environment.items())
-        fields = [name, source, head, spelled(text), environment, " ".join(program.words), *rest, *calls.columns, answer]
-        self.rows.append("\t".join(fields).replace(self.folder.path, "%"))
+        columns = [name, source, task, escaped(content), environment, " ".join(program.arguments)]
+        columns += [*options, *calls.columns, answer]
+        self.rows.append("\t".join(columns).replace(self.folder.path, "%"))
 
-    def sign(self, name, program, key, verifier, text, kind="commit", ids="sha1"):
-        """Has an object signed, and the verifier's program accept it by git."""
+    def sign(self, name, program, key, verifier, content, kind="commit", ids="sha1"):
+        """Adds the row of a signed object, which git must accept with this verifier. Then verifies it."""
         calls = Calls(self.folder)
-        made = signed(calls, program, key, kind, ids, text)
-        assert self.gits[ids].accepts(verifier, kind, self.gits[ids].kept(kind, made)), name
-        head = f"sign {kind} {ids} {program.format}"
-        self.row(name, "git", head, text, program, [key, "-", "-"], calls, f"ok {spelled(made)}")
-        self.verify(f"{name}-verified", verifier, made, kind, ids)
+        signed = sign(calls, program, key, kind, ids, content)
+        assert self.gits[ids].accepts(verifier, kind, self.gits[ids].write_object(kind, signed)), name
+        task = f"sign {kind} {ids} {program.format}"
+        self.add_row(name, "git", task, content, program, [key, "-", "-"], calls, f"ok {escaped(signed)}")
+        self.verify(f"{name}-verified", verifier, signed, kind, ids)
 
-    def refuse(self, name, program, key):
-        """Makes a row of a program that fails to sign."""
-        calls, text = Calls(self.folder), commit_of(self.gits["sha1"])
+    def fail_to_sign(self, name, program, key):
+        """Adds the row of a program that fails to sign."""
+        calls, content = Calls(self.folder), make_commit(self.gits["sha1"])
         try:
-            signed(calls, program, key, "commit", "sha1", text)
+            sign(calls, program, key, "commit", "sha1", content)
             raise AssertionError(name)
-        except Refused as refusal:
-            head = f"sign commit sha1 {program.format}"
-            self.row(name, "program", head, text, program, [key, "-", "-"], calls, f"err {refusal}")
+        except SignError as error:
+            task = f"sign commit sha1 {program.format}"
+            self.add_row(name, "program", task, content, program, [key, "-", "-"], calls, f"err {error}")
 
-    def made(self, program, key, kind="commit", words=(), **parts):
-        """A signed object without a row, made with these further first arguments."""
-        text = (commit_of if kind == "commit" else tag_of)(self.gits["sha1"], **parts)
-        return signed(Calls(self.folder), replace(program, words=program.words + list(words)), key, kind, "sha1", text)
+    def signed_object(self, program, key, kind="commit", arguments=(), **parts):
+        """A signed object without a row. The program gets these arguments too."""
+        content = (make_commit if kind == "commit" else make_tag)(self.gits["sha1"], **parts)
+        program = replace(program, arguments=program.arguments + list(arguments))
+        return sign(Calls(self.folder), program, key, kind, "sha1", content)
 
-    def verify(self, name, verifier, text, kind="commit", ids="sha1"):
-        """Has an object verified; git must agree."""
+    def verify(self, name, verifier, content, kind="commit", ids="sha1"):
+        """Adds the row of a verified object. Git must agree."""
         calls, git, program = Calls(self.folder), self.gits[ids], verifier.program
         verify = verify_ssh if program.format == "Ssh" else verify_gpg
-        outcome = verify(calls, verifier, *taken_apart(kind, ids, text))
-        id = git.kept(kind, text)
+        outcome = verify(calls, verifier, *split_signature(kind, ids, content))
+        id = git.write_object(kind, content)
         assert git.accepts(verifier, kind, id) == outcome.valid, name
-        told = git.told(verifier, id) if kind == "commit" else None
-        assert told is None or unlike_here(told, outcome, program.format) == outcome, f"{name}: {told} {outcome}"
-        head = f"verify {kind} {ids} {program.format} {verifier.minimum}"
-        rest = [verifier.allowed, verifier.revoked, f"1700000001 {offset_text(verifier.offset)}"]
-        self.row(name, "git" if told == outcome else "verdict", head, text, program, rest, calls, str(outcome))
+        of_git = git.outcome_of(verifier, id) if kind == "commit" else None
+        agrees = of_git is None or without_differences(of_git, outcome, program.format) == outcome
+        assert agrees, f"{name}: {of_git} {outcome}"
+        task = f"verify {kind} {ids} {program.format} {verifier.minimum}"
+        options = [verifier.allowed, verifier.revoked, f"1700000001 {encode_offset(verifier.offset)}"]
+        source = "git" if of_git == outcome else "verdict"
+        self.add_row(name, source, task, content, program, options, calls, str(outcome))
 
 
-def offset_text(offset):
+def encode_offset(offset):
     return f"{'-' if offset < 0 else '+'}{abs(offset) // 3600:02}{abs(offset) // 60 % 60:02}"
 
 
-def commit_of(git, headers=b"", message=b"Say hello\n", offset=0):
-    lines = f"tree {git.tree}\nauthor A U Thor <a@example.com> 1700000000 +0100\ncommitter C O Mitter <c@example.com> 1700000001 {offset_text(offset)}\n"
-    return lines.encode() + headers + b"\n" + message
+def make_commit(git, headers=b"", message=b"Say hello\n", offset=0):
+    author = "author A U Thor <a@example.com> 1700000000 +0100"
+    committer = f"committer C O Mitter <c@example.com> 1700000001 {encode_offset(offset)}"
+    return f"tree {git.tree}\n{author}\n{committer}\n".encode() + headers + b"\n" + message
 
 
-def tag_of(git, body=b"\nThe first one\n"):
-    return f"object {git.tree}\ntype tree\ntag v1.0\ntagger C O Mitter <c@example.com> 1700000001 +0000\n".encode() + body
+def make_tag(git, body=b"\nThe first one\n"):
+    tagger = "tagger C O Mitter <c@example.com> 1700000001 +0000"
+    return f"object {git.tree}\ntype tree\ntag v1.0\n{tagger}\n".encode() + body
 
 
-def put_signed(table, ids):
+def add_signed(table, ids):
     """Commits and tags signed by each program."""
     git, keys, suffix = table.gits[ids], table.keys, "" if ids == "sha1" else "-sha256"
     with_agent = replace(table.ssh.program, environment=keys.with_agent)
@@ -366,90 +408,93 @@ def put_signed(table, ids):
         ("ssh-literal", with_agent, "key::" + keys.ssh[0], table.ssh),
     ]
     for name, program, key, verifier in signers[: 4 if ids == "sha1" else 1]:
-        table.sign(f"commit-by-{name}{suffix}", program, key, verifier, commit_of(git), "commit", ids)
-        table.sign(f"tag-by-{name}{suffix}", program, key, verifier, tag_of(git), "tag", ids)
+        table.sign(f"commit-by-{name}{suffix}", program, key, verifier, make_commit(git), "commit", ids)
+        table.sign(f"tag-by-{name}{suffix}", program, key, verifier, make_tag(git), "tag", ids)
 
 
-def put_odd(table):
+def add_odd(table):
     """Other arguments, keys and messages, and objects that are already signed."""
     git, keys, gpg = table.gits["sha1"], table.keys, table.gpg.program
     with_agent = replace(table.ssh.program, environment=keys.with_agent)
-    stronger = replace(gpg, words=["gpg", "--digest-algo=SHA512"])
-    table.sign("commit-by-key-below", stronger, keys.gpg["Below"], table.gpg, commit_of(git))
-    table.sign("commit-by-ssh-bare-literal", with_agent, keys.ssh[0], table.ssh, commit_of(git))
+    stronger = replace(gpg, arguments=["gpg", "--digest-algo=SHA512"])
+    table.sign("commit-by-key-below", stronger, keys.gpg["Below"], table.gpg, make_commit(git))
+    table.sign("commit-by-ssh-bare-literal", with_agent, keys.ssh[0], table.ssh, make_commit(git))
     old = b"gpgsig -----BEGIN PGP SIGNATURE-----\n \n iQEz\n -----END PGP SIGNATURE-----\n"
-    merged = b"mergetag " + tag_of(git).removesuffix(b"\n").replace(b"\n", b"\n ") + b"\n"
-    for name, kind, text in [
-        ("without-newline", "commit", commit_of(git, message=b"Say hello")),
-        ("without-message", "commit", commit_of(git, message=b"")),
-        ("with-headers", "commit", commit_of(git, b"encoding latin-1\n" + merged + b"x \n", b"caf\xe9\r\n\r\n")),
-        ("signed-anew", "commit", commit_of(git, old + merged + old)),
-        ("without-newline", "tag", tag_of(git, b"\nThe first one")),
-        ("of-newlines", "tag", tag_of(git, b"\n\n")),
-        ("without-body", "tag", tag_of(git, b"")),
-        ("signed-anew", "tag", tag_of(git, b"\ntitle\n\nbody\n-----BEGIN SSH SIGNATURE-----\nU1NI\n")),
+    merged = b"mergetag " + make_tag(git).removesuffix(b"\n").replace(b"\n", b"\n ") + b"\n"
+    for name, kind, content in [
+        ("without-newline", "commit", make_commit(git, message=b"Say hello")),
+        ("without-message", "commit", make_commit(git, message=b"")),
+        ("with-headers", "commit", make_commit(git, b"encoding latin-1\n" + merged + b"x \n", b"caf\xe9\r\n\r\n")),
+        ("signed-anew", "commit", make_commit(git, old + merged + old)),
+        ("without-newline", "tag", make_tag(git, b"\nThe first one")),
+        ("of-newlines", "tag", make_tag(git, b"\n\n")),
+        ("without-body", "tag", make_tag(git, b"")),
+        ("signed-anew", "tag", make_tag(git, b"\ntitle\n\nbody\n-----BEGIN SSH SIGNATURE-----\nU1NI\n")),
     ]:
-        table.sign(f"{kind}-{name}", gpg, keys.gpg["Ultimate"], table.gpg, text, kind)
-    table.refuse("gpg-without-key", gpg, "0" * 40)
-    table.refuse("gpgsm-without-key", table.gpgsm.program, "0" * 40)
-    table.refuse("ssh-without-file", table.ssh.program, table.folder.at("missing"))
-    table.refuse("ssh-literal-without-agent", table.ssh.program, "key::" + keys.ssh[0])
-    table.refuse("ssh-literal-unknown-to-agent", with_agent, "key::" + keys.ssh[1])
+        table.sign(f"{kind}-{name}", gpg, keys.gpg["Ultimate"], table.gpg, content, kind)
+    table.fail_to_sign("gpg-without-key", gpg, "0" * 40)
+    table.fail_to_sign("gpgsm-without-key", table.gpgsm.program, "0" * 40)
+    table.fail_to_sign("ssh-without-file", table.ssh.program, table.folder.at("missing"))
+    table.fail_to_sign("ssh-literal-without-agent", table.ssh.program, "key::" + keys.ssh[0])
+    table.fail_to_sign("ssh-literal-unknown-to-agent", with_agent, "key::" + keys.ssh[1])
 
 
-def put_gpg(table):
-    """Keys of each level of trust, and signatures that aren't good, or not good any more."""
+def add_gpg(table):
+    """Keys of each trust level, and signatures that are bad, expired, or of missing, expired and revoked keys."""
     keys, gpg = table.keys, table.gpg
-    nowhere = replace(gpg, program=replace(gpg.program, environment=keys.nothing))
+    without_keys = replace(gpg, program=replace(gpg.program, environment=keys.nothing))
 
-    def made(name, *words, **parts):
-        return table.made(gpg.program, keys.gpg[name], words=["--faked-system-time=20200102T000000", *words], **parts)
+    def signed(name, *arguments, **parts):
+        arguments = ["--faked-system-time=20200102T000000", *arguments]
+        return table.signed_object(gpg.program, keys.gpg[name], arguments=arguments, **parts)
 
     for number, level in enumerate(LEVELS):
-        commit = made(level)
+        commit = signed(level)
         for minimum in LEVELS[number : number + 2]:
             table.verify(f"{level}-at-least-{minimum}".lower(), replace(gpg, minimum=minimum), commit)
-    good, revoked = made("Fully"), made("Revoked")
+    good, revoked = signed("Fully"), signed("Revoked")
     keys.revoke()
     for name, verifier, commit in [
-        ("expired", gpg, made("Fully", "--default-sig-expire=1d")),
-        ("expired-key", gpg, made("Expired")),
+        ("expired", gpg, signed("Fully", "--default-sig-expire=1d")),
+        ("expired-key", gpg, signed("Expired")),
         ("revoked-key", gpg, revoked),
-        ("unknown-key", nowhere, good),
+        ("unknown-key", without_keys, good),
         ("damaged", gpg, good.replace(b"hello", b"hullo")),
         ("damaged-signature", gpg, good.replace(b"\n i", b"\n j")),
-        ("trust-not-told", replace(gpg, program=replace(gpg.program, words=["gpg", "--trust-model=always"])), good),
-        ("two-signatures", gpg, made("Fully", "-u", keys.gpg["Ultimate"])),
+        ("trust-not-told", replace(gpg, program=replace(gpg.program, arguments=["gpg", "--trust-model=always"])), good),
+        ("two-signatures", gpg, signed("Fully", "-u", keys.gpg["Ultimate"])),
     ]:
         table.verify(f"gpg-{name}", verifier, commit)
-    tag = made("Marginal", kind="tag")
+    tag = signed("Marginal", kind="tag")
     table.verify("gpg-tag-at-least-fully", replace(gpg, minimum="Fully"), tag, "tag")
-    table.verify("gpg-tag-unknown-key", nowhere, tag, "tag")
+    table.verify("gpg-tag-unknown-key", without_keys, tag, "tag")
     table.verify("gpg-tag-damaged", gpg, tag.replace(b"first", b"last"), "tag")
 
 
-def put_gpgsm(table):
+def add_gpgsm(table):
     """A certificate that is trusted, expired, missing, or untrusted."""
     keys, gpgsm = table.keys, table.gpgsm
-    later = replace(gpgsm.program, words=["gpgsm", "--faked-system-time=21000101T000000"])
-    nowhere = replace(gpgsm, program=replace(gpgsm.program, environment=keys.nothing))
-    good, tag = [table.made(gpgsm.program, keys.gpgsm, kind) for kind in ["commit", "tag"]]
+    later = replace(gpgsm.program, arguments=["gpgsm", "--faked-system-time=21000101T000000"])
+    without_keys = replace(gpgsm, program=replace(gpgsm.program, environment=keys.nothing))
+    good, tag = [table.signed_object(gpgsm.program, keys.gpgsm, kind) for kind in ["commit", "tag"]]
+    with_chain = table.signed_object(gpgsm.program, keys.gpgsm, arguments=["--include-certs=-1"])
     for name, verifier, commit in [
         ("at-least-fully", replace(gpgsm, minimum="Fully"), good),
         ("at-least-ultimate", replace(gpgsm, minimum="Ultimate"), good),
         ("damaged", gpgsm, good.replace(b"hello", b"hullo")),
         ("expired-key", replace(gpgsm, program=later), good),
-        ("unknown-key", nowhere, good),
-        ("untrusted-key", nowhere, table.made(gpgsm.program, keys.gpgsm, words=["--include-certs=-1"])),
+        ("unknown-key", without_keys, good),
+        ("untrusted-key", without_keys, with_chain),
     ]:
         table.verify(f"gpgsm-{name}", verifier, commit)
     table.verify("gpgsm-tag-damaged", gpgsm, tag.replace(b"first", b"last"), "tag")
 
 
-def put_ssh(table):
-    """Keys that may sign, may not, may not yet, may no longer, and are revoked."""
+def add_ssh(table):
+    """Keys that are allowed, unknown, allowed before or after a time, and revoked."""
     at, ssh = table.folder.at, table.ssh
-    good, in_west, tag = [table.made(ssh.program, at("author"), **it) for it in [{}, {"offset": -27000}, {"kind": "tag"}]]
+    parts = [{}, {"offset": -27000}, {"kind": "tag"}]
+    good, in_west, tag = [table.signed_object(ssh.program, at("author"), **it) for it in parts]
     for name, verifier, commit in [
         ("at-least-fully", replace(ssh, minimum="Fully"), good),
         ("at-least-ultimate", replace(ssh, minimum="Ultimate"), good),
@@ -473,12 +518,12 @@ def put_ssh(table):
 def main(path):
     table = Table(Folder(path))
     try:
-        put_signed(table, "sha1")
-        put_signed(table, "sha256")
-        put_odd(table)
-        put_gpg(table)
-        put_gpgsm(table)
-        put_ssh(table)
+        add_signed(table, "sha1")
+        add_signed(table, "sha256")
+        add_odd(table)
+        add_gpg(table)
+        add_gpgsm(table)
+        add_ssh(table)
     finally:
         table.keys.close()
     print(HEADER, *table.rows, sep="\n")

@@ -27,11 +27,11 @@ class Folder:
         with open(self.at(name), "rb") as file:
             return file.read()
 
-    def run(self, words, environment=None, given=b"", check=True):
+    def run(self, command, environment=None, input=b"", check=True):
         """Runs a program with this input, or without any if it is None."""
         own = {"PATH": os.environ["PATH"], "HOME": self.path, "TZ": "UTC", "LC_ALL": "C"}
-        source = {"stdin": subprocess.DEVNULL} if given is None else {"input": given}
-        return subprocess.run(words, env=own | (environment or {}), capture_output=True, check=check, **source)
+        source = {"stdin": subprocess.DEVNULL} if input is None else {"input": input}
+        return subprocess.run(command, env=own | (environment or {}), capture_output=True, check=check, **source)
 
 
 class Keys:
@@ -48,41 +48,44 @@ class Keys:
         self.make_gpgsm()
         self.make_ssh()
 
-    def made(self, *words, given=b""):
-        return self.folder.run(words, self.home, given).stdout
+    def output(self, *command, input=b""):
+        return self.folder.run(command, self.home, input).stdout
 
     def make_gpg(self):
-        """A key of each level of trust, one with a key below it, one that has expired, and one to be revoked."""
+        """Makes a key of each trust level, one with a subkey, one that has expired, and one to be revoked."""
         gpg = ["gpg", "--batch", "--pinentry-mode=loopback", "--passphrase=", "--faked-system-time=20200101T000000"]
         names = [*LEVELS, "Below", "Expired", "Revoked"]
         for name in names:
             days = "30d" if name == "Expired" else "never"
-            self.made(*gpg, "--quick-gen-key", f"{name} <{name.lower()}@example.com>", "ed25519", "sign", days)
-        told = self.made("gpg", "--with-colons", "--list-keys").decode()
-        self.gpg = dict(zip(names, re.findall(r"^fpr:+(\w+):", told, flags=re.M)))
-        self.made(*gpg, "--quick-add-key", self.gpg["Below"], "ed25519", "sign", "never")
+            self.output(*gpg, "--quick-gen-key", f"{name} <{name.lower()}@example.com>", "ed25519", "sign", days)
+        keys = self.output("gpg", "--with-colons", "--list-keys").decode()
+        self.gpg = dict(zip(names, re.findall(r"^fpr:+(\w+):", keys, flags=re.M)))
+        self.output(*gpg, "--quick-add-key", self.gpg["Below"], "ed25519", "sign", "never")
         owners = [f"{self.gpg[name]}:{number + 2}:\n" for number, name in enumerate(LEVELS)]
-        self.made("gpg", "--import-ownertrust", given="".join(owners).encode())
+        self.output("gpg", "--import-ownertrust", input="".join(owners).encode())
 
     def revoke(self):
-        text = self.folder.read(f"gnupg/openpgp-revocs.d/{self.gpg['Revoked']}.rev")
-        self.made("gpg", "--import", given=text.replace(b":-----", b"-----"))
+        certificate = self.folder.read(f"gnupg/openpgp-revocs.d/{self.gpg['Revoked']}.rev")
+        self.output("gpg", "--import", input=certificate.replace(b":-----", b"-----"))
 
     def make_gpgsm(self):
-        """A certificate, which is trusted."""
-        lines = ["Key-Type: RSA", "Key-Length: 2048", "Key-Usage: sign", "Serial: random", "Name-DN: CN=A U Thor", "Not-After: 2099-12-31", ""]
-        asked = self.folder.write("certificate", "\n".join(lines))
-        made = self.made("gpgsm", "--batch", "--pinentry-mode=loopback", "--passphrase-fd=0", "--gen-key", asked)
-        self.made("gpgsm", "--import", given=made)
-        told = self.made("gpgsm", "--with-colons", "--list-keys").decode()
-        self.gpgsm = re.search(r"^fpr:+(\w+):", told, flags=re.M)[1]
+        """Makes a certificate, which is trusted."""
+        key = "Key-Type: RSA\nKey-Length: 2048\nKey-Usage: sign\n"
+        name = "Serial: random\nName-DN: CN=A U Thor\nNot-After: 2099-12-31\n"
+        request = self.folder.write("certificate", key + name)
+        gpgsm = ["gpgsm", "--batch", "--pinentry-mode=loopback", "--passphrase-fd=0"]
+        certificate = self.output(*gpgsm, "--gen-key", request)
+        self.output("gpgsm", "--import", input=certificate)
+        keys = self.output("gpgsm", "--with-colons", "--list-keys").decode()
+        self.gpgsm = re.search(r"^fpr:+(\w+):", keys, flags=re.M)[1]
         self.folder.write("gnupg/trustlist.txt", f"{self.gpgsm} S relax\n")
 
     def make_ssh(self):
-        """Two keys, an agent that has the first, and files of allowed signers."""
+        """Makes two keys, an agent that has the first, and files of allowed signers."""
         for name in ["author", "other"]:
-            self.made("ssh-keygen", "-q", "-t", "ed25519", "-N", "", "-C", name, "-f", self.folder.at(name))
-        author, other = self.ssh = [" ".join(self.folder.read(f"{name}.pub").decode().split()[:2]) for name in ["author", "other"]]
+            self.output("ssh-keygen", "-q", "-t", "ed25519", "-N", "", "-C", name, "-f", self.folder.at(name))
+        public = [self.folder.read(f"{name}.pub").decode() for name in ["author", "other"]]
+        author, other = self.ssh = [" ".join(it.split()[:2]) for it in public]
         for name, line in [
             ("allowed", f"author@example.com {author}"),
             ("allowed-other", f"other@example.com {other}"),

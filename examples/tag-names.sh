@@ -1,30 +1,30 @@
 #!/bin/sh
-# Asks git which names a tag's reference may have: `sh examples/tag-names.sh`. Writes a line for each name:
-# its bytes in hex, a space, and `ok` or `bad`, as `git check-ref-format refs/tags/NAME` answers; and before
-# each group of names a line that begins with `#`. An argument of a command can't have a zero byte.
+# Prints which names of tags are valid, by git: `sh examples/tag-names.sh`. For each name it prints a line, its bytes in
+# hex, a space, and `ok` or `bad`, by `git check-ref-format refs/tags/NAME`. Before each group of names it prints a line
+# that begins with `#`. An argument of a command can't have a zero byte, so no name has one.
 set -e
 
-# ask NAME: writes the line of the name.
-ask() {
-    if git check-ref-format "refs/tags/$1"; then answer=ok; else answer=bad; fi
-    echo "$(printf '%s' "$1" | od -An -v -tx1 | tr -d ' \n') $answer"
+# check NAME: prints the line of the name.
+check() {
+    if git check-ref-format "refs/tags/$1"; then verdict=ok; else verdict=bad; fi
+    echo "$(printf '%s' "$1" | od -An -v -tx1 | tr -d ' \n') $verdict"
 }
 
-# group: asks for each line of standard input but headings, with the escapes that printf knows.
+# group: checks each line of standard input, in which names have the escapes of printf. Prints headings.
 group() {
     while IFS= read -r line; do
         case $line in
         '# '*) echo "$line" ;;
         *)
             name=$(printf '%b.' "$line")
-            ask "${name%.}"
+            check "${name%.}"
             ;;
         esac
     done
 }
 
-# many NUMBER TEXT: TEXT, repeated NUMBER times.
-many() {
+# repeat NUMBER BYTES: prints the bytes the number of times.
+repeat() {
     printf "%$1s" '' | sed "s| |$2|g"
 }
 
@@ -242,17 +242,17 @@ a\\
 END
 
 echo '# long names'
-ask "$(many 200 a)"
-ask "$(many 100 a/)b"
-ask "$(many 100 a/)"
-ask "$(many 100 a.)b"
-ask "$(many 100 a.)"
-ask "$(many 200 a).lock"
-ask "$(many 200 a).lock/b"
+check "$(repeat 200 a)"
+check "$(repeat 100 a/)b"
+check "$(repeat 100 a/)"
+check "$(repeat 100 a.)b"
+check "$(repeat 100 a.)"
+check "$(repeat 200 a).lock"
+check "$(repeat 200 a).lock/b"
 
 echo '# each byte between two letters'
 byte=1
 while [ $byte -lt 256 ]; do
-    ask "$(printf "a\\$(printf %o $byte)b")"
+    check "$(printf "a\\$(printf %o $byte)b")"
     byte=$((byte + 1))
 done

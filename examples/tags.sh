@@ -1,9 +1,11 @@
 #!/bin/sh
 # Makes tags of many shapes with git, in two repositories in a new folder: `sh examples/tags.sh FOLDER`.
-# Writes git's answers for each to FOLDER/FORMAT.answers:
-# NAME.bytes (`git cat-file tag`), NAME.id (`git hash-object -t tag --stdin`), NAME.told (`git cat-file -t`
-# and `-s`), and of `git for-each-ref` NAME.shown (target, kind, name and tagger's line, each on a line,
-# and the content), NAME.tagger (name, email and time, each on a line) and NAME.signature.
+# Records each in FOLDER/FORMAT.answers, as git prints it:
+# - NAME.bytes (`git cat-file tag`), NAME.id (`git hash-object -t tag --stdin`)
+# - NAME.type (`git cat-file -t` and `-s`)
+# - NAME.shown (`git for-each-ref`): target, kind, name and tagger's line, each on a line, and the content
+# - NAME.tagger (`git for-each-ref`): name, email and time, each on a line
+# - NAME.signature (`git for-each-ref`)
 set -e
 unset GIT_DIR GIT_WORK_TREE
 export GIT_CONFIG_GLOBAL=/dev/null GIT_CONFIG_NOSYSTEM=1
@@ -13,7 +15,7 @@ mkdir -p "$1"
 cd "$1"
 FOLDER=$PWD
 
-# program NAME MARKER: a stand-in for gpg or gpgsm, which signs with three lines between markers.
+# program NAME MARKER: makes a stand-in for gpg or gpgsm, which signs with lines between markers.
 program() {
     cat > "$1" <<END
 #!/bin/sh
@@ -35,53 +37,53 @@ printf -- '-----BEGIN SSH SIGNATURE-----\nU1NIU0lH\n-----END SSH SIGNATURE-----\
 END
 chmod +x ssh-keygen
 
-# field FORMAT: what git prints for the kept tag, without the last newline.
+# field FORMAT: what git prints of the recorded tag, without the last newline.
 field() {
-    git for-each-ref --format="$1" refs/kept/tag | LC_ALL=C awk 'NR > 1 { printf "\n" } { printf "%s", $0 }'
+    git for-each-ref --format="$1" refs/recorded/tag | LC_ALL=C awk 'NR > 1 { printf "\n" } { printf "%s", $0 }'
 }
 
-# keep NAME ID: writes git's answers.
-keep() {
-    git update-ref refs/kept/tag "$2"
+# record NAME ID: records the tag as git prints it.
+record() {
+    git update-ref refs/recorded/tag "$2"
     git cat-file tag "$2" > "$answers/$1.bytes"
     git hash-object -t tag --literally --stdin < "$answers/$1.bytes" > "$answers/$1.id"
-    { git cat-file -t "$2"; git cat-file -s "$2"; } > "$answers/$1.told"
+    { git cat-file -t "$2"; git cat-file -s "$2"; } > "$answers/$1.type"
     field '%(object)%0a%(type)%0a%(tag)%0a%(tagger)%0a%(contents)' > "$answers/$1.shown"
     field '%(taggername)%0a%(taggeremail)%0a%(taggerdate:raw)' > "$answers/$1.tagger"
     field '%(contents:signature)' > "$answers/$1.signature"
 }
 
-# tag NAME TAG ARGUMENTS: the tag of this name that `git tag` makes.
+# tag NAME TAG ARGUMENTS: the tag TAG that `git tag` makes.
 tag() {
     shape=$1 tag=$2
     shift 2
     git tag "$@" "$tag" $commit
-    keep "$shape" "refs/tags/$tag"
+    record "$shape" "refs/tags/$tag"
 }
 
 # target NAME ID: a tag of this object.
 target() {
     git tag -a -m 'Of another kind' "$1" "$2"
-    keep "$1" "refs/tags/$1"
+    record "$1" "refs/tags/$1"
 }
 
-# verbatim NAME TAG MESSAGE ARGUMENTS: the tag with exactly this message.
+# verbatim NAME TAG MESSAGE ARGUMENTS: the tag TAG with exactly this message.
 verbatim() {
     shape=$1 tag=$2 message=$3
     shift 3
     printf -- "$message" | git tag --cleanup=verbatim -F - "$@" "$tag" $commit > "$FOLDER/errors"
-    keep "$shape" "refs/tags/$tag"
+    record "$shape" "refs/tags/$tag"
 }
 
-# literal NAME: the tag whose content is standard input, unchanged.
+# literal NAME: the tag whose content is standard input.
 literal() {
-    cat > "$FOLDER/text"
-    id=$(git mktag --no-strict < "$FOLDER/text" 2> "$FOLDER/errors") ||
-        id=$(git hash-object -t tag -w --literally --stdin < "$FOLDER/text")
-    keep "$1" $id
+    cat > "$FOLDER/content"
+    id=$(git mktag --no-strict < "$FOLDER/content" 2> "$FOLDER/errors") ||
+        id=$(git hash-object -t tag -w --literally --stdin < "$FOLDER/content")
+    record "$1" $id
 }
 
-# body NAME TEXT: a tag without tagger, with TEXT after its name.
+# body NAME BYTES: a tag without tagger, with these bytes after the line of its name.
 body() {
     printf "object $tree\ntype tree\ntag v1\n$2" | literal "$1"
 }

@@ -1,17 +1,19 @@
 #!/usr/bin/env python3
-"""Asks git for the trailers of many bodies: `python3 examples/trailers.py > crates/gixobj_replay_messages/data/git-trailers.tsv`.
+"""Prints the table of git's trailers: `python3 examples/trailers.py`.
 
-Each body is passed to `git interpret-trailers --parse --no-divider` after a title and an empty line, since git takes the
-first paragraph of a message for its title. If this repository decodes a body differently on purpose, BY_RULE has the
-answer instead of git, and docs/DIFFERENCES.md gives the reason.
+The table is crates/gixobj_replay_messages/data/git-trailers.tsv. Each body is the input of `git interpret-trailers
+--parse --no-divider` after a title and an empty line, since git takes the first paragraph of a message for its title.
+BY_RULE has the bodies that this repository decodes differently on purpose. docs/DIFFERENCES.md has the reason.
 """
-import os
-import subprocess
 
-HEAD = [
-    "# Trailers of bodies, as examples/trailers.py asks git. A row is its name, 'git' where `git interpret-trailers --parse --no-divider` answers so of the body behind a title and an empty line",
-    "# (git 2.39.5), or 'rule' where another answer is wanted on purpose (docs/DIFFERENCES.md); the word 'trailers' and the body; then each trailer, or 'none'",
-]
+from recorded import escaped, run_git
+
+HEADER = """\
+# Trailers of bodies, by examples/trailers.py. Columns: name, source, 'trailers' with the body, answer. The answer has
+# each trailer, or 'none'.
+# git: the answer is that of `git interpret-trailers --parse --no-divider` (git 2.39.5). The body follows a title and an
+# empty line.
+# rule: the answer differs from git's on purpose (docs/DIFFERENCES.md)."""
 
 SIGN = "Signed-off-by: A <a@b>\n"
 PICKED = "(cherry picked from commit 1)\n"
@@ -70,7 +72,7 @@ BODIES = {
     "two-paragraphs": "A: 1\n\nB: 2\n",
     "returns": "text\r\n\r\nA: 1\r\nB: 2\r\n",
     "returns-alone": "text\r\n\r\nA: 1\rB: 2\r",
-    # ---- lines that follow
+    # ---- lines that continue a value
     "folded": "foo: bar\n continued\n",
     "folded-by-tab": "foo: bar\n\tcontinued\n",
     "folded-twice": "foo: bar\n a\n  b\n",
@@ -128,43 +130,33 @@ BY_RULE = {
 }
 
 
-def bytes_of(body):
-    """The bytes of a body, in which \\x and two digits mean a byte."""
+def unescaped(body):
+    """The bytes of a body, in which \\x with two digits is a byte."""
     parts = body.encode().split(b"\\x")
     return parts[0] + b"".join(bytes([int(part[:2], 16)]) + part[2:] for part in parts[1:])
 
 
-def asked(body):
-    """Git's answer: a line for each trailer."""
-    environment = {"PATH": os.environ["PATH"], "GIT_CONFIG_GLOBAL": "/dev/null", "GIT_CONFIG_NOSYSTEM": "1"}
-    answer = subprocess.run(
-        ["git", "interpret-trailers", "--parse", "--no-divider"],
-        input=b"title\n\n" + body, capture_output=True, check=True, cwd="/", env=environment,
-    )
-    return answer.stdout.split(b"\n")[:-1]
-
-
-def spelled(data):
-    """Bytes as the tables spell them."""
-    words = {10: "\\n", 9: "\\t", 0: "\\0"}
-    return "".join(
-        words[byte] if byte in words else chr(byte) if 32 <= byte < 127 and byte != 92 else f"\\x{byte:02x}"
-        for byte in data
-    )
+def trailers_of(body):
+    """The trailers that git prints, each on a line."""
+    output = run_git("/", "interpret-trailers", "--parse", "--no-divider", input=b"title\n\n" + body)
+    return output.split(b"\n")[:-1]
 
 
 def row(name):
     """A row of the table."""
-    body = bytes_of(BODIES[name])
-    trailers = asked(body)
-    source = "git"
+    body = unescaped(BODIES[name])
+    trailers, source = trailers_of(body), "git"
     if name in BY_RULE:
-        wanted = [trailer.encode() for trailer in BY_RULE[name]]
-        assert trailers != wanted, name
-        trailers, source = wanted, "rule"
-    columns = [f'trailer "{spelled(trailer)}"' for trailer in trailers] or ["none"]
-    return "\t".join([name, source, "trailers " + spelled(body)] + columns)
+        expected = [trailer.encode() for trailer in BY_RULE[name]]
+        assert trailers != expected, name
+        trailers, source = expected, "rule"
+    columns = [f'trailer "{escaped(trailer)}"' for trailer in trailers] or ["none"]
+    return "\t".join([name, source, "trailers " + escaped(body), *columns])
+
+
+def main():
+    print(HEADER, *map(row, BODIES), sep="\n")
 
 
 if __name__ == "__main__":
-    print("\n".join(HEAD + [row(name) for name in BODIES]))
+    main()

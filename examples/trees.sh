@@ -1,9 +1,10 @@
 #!/bin/sh
 # Makes trees of many shapes with git, in two repositories in a new folder: `sh examples/trees.sh FOLDER`.
-# Writes git's answers for each to FOLDER/FORMAT.answers:
-# NAME.hex (`git cat-file tree`, in hex), NAME.id (`git hash-object -t tree --stdin`), NAME.told (`git cat-file -t`
-# and `-s`) and NAME.listed (`git ls-tree -z`). `git mktree` makes those that it can, and
-# `git hash-object --literally` the others. Names are in the escapes of printf.
+# Records each in FOLDER/FORMAT.answers, as git prints it:
+# - NAME.hex (`git cat-file tree`, in hex), NAME.id (`git hash-object -t tree --stdin`)
+# - NAME.type (`git cat-file -t` and `-s`), NAME.listed (`git ls-tree -z`)
+# Most trees are made by `git mktree`, and those that it can't make by `git hash-object --literally`. Names have the
+# escapes of printf.
 set -e
 unset GIT_DIR GIT_WORK_TREE
 export GIT_CONFIG_GLOBAL=/dev/null GIT_CONFIG_NOSYSTEM=1
@@ -13,12 +14,12 @@ mkdir -p "$1"
 cd "$1"
 FOLDER=$PWD
 
-# keep NAME ID: writes git's answers.
-keep() {
+# record NAME ID: records the tree as git prints it.
+record() {
     git cat-file tree "$2" > "$FOLDER/bytes"
     od -An -v -tx1 "$FOLDER/bytes" | tr -d ' \n' > "$answers/$1.hex"
     git hash-object -t tree --literally --stdin < "$FOLDER/bytes" > "$answers/$1.id"
-    { git cat-file -t "$2"; git cat-file -s "$2"; } > "$answers/$1.told"
+    { git cat-file -t "$2"; git cat-file -s "$2"; } > "$answers/$1.type"
     git ls-tree -z "$2" > "$answers/$1.listed"
 }
 
@@ -31,7 +32,7 @@ module() { printf "160000 commit $commit\t$1\0"; }
 
 # made NAME: the tree of the lines on standard input, in git's order.
 made() {
-    keep "$1" "$(git mktree -z --missing)"
+    record "$1" "$(git mktree -z --missing)"
 }
 
 # entry MODE NAME ID: the encoding of an entry.
@@ -39,9 +40,9 @@ entry() {
     printf "$1 $2\0$(printf '\\%03o' $(echo "$3" | sed 's/../0x& /g'))"
 }
 
-# literal NAME: the tree whose content is standard input, unchanged.
+# literal NAME: the tree whose content is standard input.
 literal() {
-    keep "$1" "$(git hash-object -t tree -w --literally --stdin)"
+    record "$1" "$(git hash-object -t tree -w --literally --stdin)"
 }
 
 # of_mode NAME MODE ID: the tree of one entry `a` of this mode.
