@@ -1,6 +1,5 @@
 //! Changes of a run, as `git diff-tree -r` prints them, and an entry after an import, as `git rev-parse` does.
 
-use crate::import::samples::{COMMITS, STEPS, steps_of};
 use crate::listing::{CHANGED, CHANGES, EMPTY, FIRST, IN, SECOND, store, write_changes};
 use gix_object::hash::Kind;
 use gix_object::import::Imported;
@@ -10,6 +9,7 @@ use gix_object::{Memory, Tree, encode};
 use gix_object_tests::samples::{Row, edits_of, id, path_of};
 use gixobj_audits::imports::{entry_after_import, import_twice};
 use gixobj_audits::runs::{RunChanges, changes_of_run, run_and_reopen};
+use gixobj_import_tests::samples::{COMMITS, STEPS, steps_of};
 use gixobj_listings::roots::root_in;
 use std::alloc::Global;
 

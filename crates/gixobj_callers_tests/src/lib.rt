@@ -1,4 +1,4 @@
-//! Tests of the proved callers of `gix_object`, and of imports.
+//! Tests of the proved callers of `gix_object`.
 #![tactic(auto)]
 
 #[cfg(test)]
@@ -7,8 +7,6 @@ mod audits;
 mod callers;
 #[cfg(test)]
 mod history;
-#[cfg(test)]
-mod import;
 #[cfg(test)]
 mod listing;
 #[cfg(test)]

@@ -1,11 +1,11 @@
 //! Archived histories, and the tip of one.
 
-use crate::import::samples::{COMMITS, Outcome, STEPS, StepRow, steps_of};
 use gix_object::Memory;
 use gix_object::hash::Kind;
 use gix_object::import::{Imported, Importer, Step};
 use gix_object_tests::samples::id;
 use gixobj_callers::archive::{archive, tip_of};
+use gixobj_import_tests::samples::{COMMITS, Outcome, STEPS, StepRow, steps_of};
 use std::alloc::Global;
 
 /// Id that `git mktree --missing` prints for the root of the last of the three steps.

@@ -1,6 +1,6 @@
 //! Imports of the three steps while an allocation fails, and then all of them by a new importer.
 
-use crate::import::samples::{
+use crate::samples::{
     COMMITS, STEPS, are_first_commits, has_all, import, importer_of, outcome_by, try_steps_of,
 };
 use gix_object::import::{ImportError, Imported, Importer, Step};

@@ -7,7 +7,7 @@ use gix_object_tests::samples::{Row, id, step_by};
 use std::alloc::{AllocError, Global};
 
 /// A step: its author and its edits.
-pub(crate) type StepRow = (&'static str, &'static [Row]);
+pub type StepRow = (&'static str, &'static [Row]);
 
 const OLD: &[u8] = b"83baae61804e65cc73a7201a7252750c76066a30";
 
@@ -16,7 +16,7 @@ const NEW: &[u8] = b"1f7a7a472abf3dd9643fd615f6da379c4acb3e3a";
 const OTHER: &[u8] = b"fa49b077972391ad58037050f2a75f74e3671e92";
 
 /// Inserts a file; inserts another and replaces the first; inserts the first version in a directory.
-pub(crate) const STEPS: [StepRow; 3] = [
+pub const STEPS: [StepRow; 3] = [
     ("A", &[Row::File(&["test.txt"], OLD)]),
     (
         "A",
@@ -29,14 +29,14 @@ pub(crate) const STEPS: [StepRow; 3] = [
 ];
 
 /// Ids that `git commit-tree` prints for the trees of the three steps.
-pub(crate) const COMMITS: [&str; 3] = [
+pub const COMMITS: [&str; 3] = [
     "8101fb84348a61a9b06d3e3c905f1ff7a24b53d9",
     "20167b493033505114eaa28805c52661bd76839e",
     "fe539a6ab0adcb87272ce01296f0adc5e148a1d6",
 ];
 
 /// The steps of these rows.
-pub(crate) fn try_steps_of(alloc: Global, rows: &[StepRow]) -> Result<Vec<Step>, AllocError> {
+pub fn try_steps_of(alloc: Global, rows: &[StepRow]) -> Result<Vec<Step>, AllocError> {
     let mut steps = Vec::new(alloc);
     for (author, edits) in rows {
         steps.push(step_by(alloc, author, edits)?)?;
@@ -45,17 +45,17 @@ pub(crate) fn try_steps_of(alloc: Global, rows: &[StepRow]) -> Result<Vec<Step>,
 }
 
 /// The steps of these rows. Empty if memory runs out.
-pub(crate) fn steps_of(alloc: Global, rows: &[StepRow]) -> Vec<Step> {
+pub fn steps_of(alloc: Global, rows: &[StepRow]) -> Vec<Step> {
     try_steps_of(alloc, rows).unwrap_or(Vec::new(alloc))
 }
 
 /// An importer into an empty store, by SHA-1.
-pub(crate) fn importer_of(alloc: Global) -> Importer<Memory> {
+pub fn importer_of(alloc: Global) -> Importer<Memory> {
     Importer::new(alloc, Memory::new(alloc), HashKind::Sha1)
 }
 
 /// The number of an import error.
-pub(crate) fn number(error: &ImportError) -> u8 {
+pub fn number(error: &ImportError) -> u8 {
     match error {
         ImportError::WriteInStep => 1,
         ImportError::Edit { .. } => 2,
@@ -69,14 +69,14 @@ pub(crate) fn number(error: &ImportError) -> u8 {
 
 /// What an import leaves: the imported steps, and the error at which it stops.
 #[derive(Drop)]
-pub(crate) struct Outcome {
-    pub(crate) done: Vec<Imported>,
-    pub(crate) error: Option<ImportError>,
+pub struct Outcome {
+    pub done: Vec<Imported>,
+    pub error: Option<ImportError>,
 }
 
 impl Outcome {
     /// The number of the error. 0 if all steps are imported.
-    pub(crate) fn number(&self) -> u8 {
+    pub fn number(&self) -> u8 {
         match &self.error {
             Some(error) => number(error),
             None => 0,
@@ -84,13 +84,13 @@ impl Outcome {
     }
 
     /// Whether the steps are imported as these commits, up to an error with this number.
-    pub(crate) fn has(&self, commits: &[&str], error: u8) -> bool {
+    pub fn has(&self, commits: &[&str], error: u8) -> bool {
         are_commits(&self.done, commits) && self.number() == error
     }
 }
 
 /// Imports steps.
-pub(crate) fn import<S: Keep + KeepCommit>(importer: &mut Importer<S>, steps: &[Step]) -> Outcome {
+pub fn import<S: Keep + KeepCommit>(importer: &mut Importer<S>, steps: &[Step]) -> Outcome {
     match import_all(importer, steps) {
         Ok(done) => Outcome { done, error: None },
         Err(stopped) => Outcome {
@@ -101,7 +101,7 @@ pub(crate) fn import<S: Keep + KeepCommit>(importer: &mut Importer<S>, steps: &[
 }
 
 /// Imports the steps of these rows.
-pub(crate) fn import_rows<S: Keep + KeepCommit>(
+pub fn import_rows<S: Keep + KeepCommit>(
     alloc: Global,
     importer: &mut Importer<S>,
     rows: &[StepRow],
@@ -110,7 +110,7 @@ pub(crate) fn import_rows<S: Keep + KeepCommit>(
 }
 
 /// Whether the three steps are imported as these commits, up to an error with this number.
-pub(crate) fn imports_plain<S: Keep + KeepCommit>(
+pub fn imports_plain<S: Keep + KeepCommit>(
     alloc: Global,
     importer: &mut Importer<S>,
     commits: &[&str],
@@ -120,7 +120,7 @@ pub(crate) fn imports_plain<S: Keep + KeepCommit>(
 }
 
 /// The number of the error of a step of these rows, or 0 if it is imported. `None` if memory runs out.
-pub(crate) fn outcome_by<S: Keep + KeepCommit>(
+pub fn outcome_by<S: Keep + KeepCommit>(
     alloc: Global,
     importer: &mut Importer<S>,
     author: &str,
@@ -145,7 +145,7 @@ fn size_of_commit(found: &Data<'_>, id: ObjectId) -> Option<usize> {
 }
 
 /// The size of the commit that the store has under its id. `None` also if memory runs out.
-pub(crate) fn kept_commit<S: Find>(alloc: Global, store: &S, id: ObjectId) -> Option<usize> {
+pub fn kept_commit<S: Find>(alloc: Global, store: &S, id: ObjectId) -> Option<usize> {
     let mut buffer = Vec::new(alloc);
     match store.try_find(id.as_oid(), &mut buffer) {
         Ok(Some(found)) => size_of_commit(&found, id),
@@ -154,7 +154,7 @@ pub(crate) fn kept_commit<S: Find>(alloc: Global, store: &S, id: ObjectId) -> Op
 }
 
 /// Whether the store has all imported commits.
-pub(crate) fn has_all<S: Find>(alloc: Global, store: &S, imported: &[Imported]) -> bool {
+pub fn has_all<S: Find>(alloc: Global, store: &S, imported: &[Imported]) -> bool {
     for it in imported {
         if kept_commit(alloc, store, it.commit).is_none() {
             return false;
@@ -164,7 +164,7 @@ pub(crate) fn has_all<S: Find>(alloc: Global, store: &S, imported: &[Imported]) 
 }
 
 /// Whether the commits have these ids.
-pub(crate) fn are_commits(imported: &[Imported], commits: &[&str]) -> bool {
+pub fn are_commits(imported: &[Imported], commits: &[&str]) -> bool {
     for (it, hex) in imported.iter().zip(commits) {
         if it.commit != id(hex.as_bytes()) {
             return false;
@@ -174,7 +174,7 @@ pub(crate) fn are_commits(imported: &[Imported], commits: &[&str]) -> bool {
 }
 
 /// Whether these are the first commits of the three steps.
-pub(crate) fn are_first_commits(imported: &[Imported]) -> bool {
+pub fn are_first_commits(imported: &[Imported]) -> bool {
     let count = imported.len();
     count <= COMMITS.len() && are_commits(imported, COMMITS.split_at(count).0)
 }

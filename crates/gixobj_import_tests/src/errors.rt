@@ -1,6 +1,6 @@
 //! Each error of a step, and the steps after it.
 
-use crate::import::samples::{
+use crate::samples::{
     COMMITS, Outcome, STEPS, import, import_rows, importer_of, imports_plain, outcome_by,
 };
 use gix_object::encode;

@@ -1,7 +1,7 @@
 //! A history of 1,000 steps of three edits, as `git fast-import` makes it. `examples/imports.py` has the rule
 //! of the steps and prints the ids. Each commit names its parent, so that the last id depends on all commits.
 
-use crate::import::samples::{Outcome, import};
+use crate::samples::{Outcome, import};
 use bstr::BString;
 use gix_object::date::Time;
 use gix_object::hash::{Kind as HashKind, ObjectId};

@@ -1,7 +1,7 @@
 //! Imports of three steps, with a rejected one and one after it. `git hash-object`, `git mktree` and `git
 //! commit-tree` print the ids, in a repository of either object format.
 
-use crate::import::samples::{
+use crate::samples::{
     COMMITS, Outcome, STEPS, StepRow, import_rows, importer_of, kept_commit, outcome_by,
 };
 use gix_object::Memory;
