@@ -135,9 +135,15 @@ FUNCTIONS = {
 }
 
 
+def _without_editor(*_: object) -> int:
+    raise NotImplementedError("libcinguepo.so has no editor: `make -C bindings/python` builds one that has")
+
+
 def _load() -> ctypes.CDLL:
     folder = os.path.dirname(os.path.abspath(__file__))
     lib = ctypes.CDLL(os.environ.get("CINGUEPO_LIB", os.path.join(folder, "libcinguepo.so")))
+    if not hasattr(lib, "gixobj_edit"):
+        lib.gixobj_edit = _without_editor
     for name, types in FUNCTIONS.items():
         call = getattr(lib, name)
         call.argtypes, call.restype = types, c_uint32
