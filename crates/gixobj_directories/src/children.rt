@@ -37,6 +37,11 @@ impl Named for Child {
     fn is_tree(&self) -> bool {
         true
     }
+
+    #[inline(always)]
+    fn has_files() -> bool {
+        false
+    }
 }
 
 impl Child {

@@ -1,9 +1,9 @@
 -- An entry in place of any entry of its name: the entry at its key, without the entry of its name's other key.
-use Rattle.std.proofs.Common.{◌≡◌, ◌≢◌, ◌∙◌, ℕ, Bool, true, false, not, cond, List, [], ◌∷◌, ◌++◌, Less, Equal, Greater, refl, sym, ap, subst}
+use Rattle.std.proofs.Common.{◌≡◌, ◌≢◌, ◌∙◌, ℕ, Bool, true, false, not, cond, List, [], ◌∷◌, ◌++◌, Less, Equal, Greater, None, refl, sym, ap, subst}
 use mathlib.Core.Bool.{true≢false}
 use Rattle.std.specs.Prelude.{◌&&◌}
 use Rattle.std.specs.Cmp.Lexicographic.{bytes_decides, slice_cmp}
-use Rattle.std.specs.List.{AllByRecursion, filter}
+use Rattle.std.specs.List.{AllByRecursion, filter, find}
 use Rattle.std.specs.Ordering.{is_eq, is_gt, is_lt, nat_cmp}
 use Rattle.std.proofs.lemmas.Bool.{false_from_ne_true}
 use Rattle.std.proofs.lemmas.List.Elements.{filter-append}
@@ -13,6 +13,7 @@ use Rattle.gixobj_tree.proofs.WellFormed.{eq_of_slice_cmp_equal, no_slash_at_end
 use Rattle.gixobj_tree.specs.Entries.{EntryView}
 use Rattle.gixobj_tree.specs.KeyOrder.{entry_key, key_of}
 use Rattle.gixobj_tree.specs.WellFormed.{IsEntryName, IsWellFormed}
+use Rattle.gixobj_sorted.proofs.Neighbours.{find_none_with_item}
 use Rattle.gixobj_sorted.proofs.Sublists.{all_weaker}
 use Rattle.gixobj_sorted.specs.Pieces.{has_key, is_after, is_before, with_item, without_key}
 use Rattle.gixobj_files.specs.Editing.{comes_before, same_name, with_entry, without}
@@ -199,3 +200,11 @@ pub with_entry_of_edits : (x y : EntryView) (name : List ℕ) (t : Bool) (es res
     → removed ≡ without_key entry_key (key_of name (not t)) inserted → removed ≡ with_entry x es
 with_entry_of_edits x y name t es reserved inserted removed free formed a b c d e f =
     f ∙ rw (c, d, e, a, b) (with_entry_eq x free es formed)
+
+-- if no entry has the name and the other kind before an insertion, none has after it
+pub no_other_of_alone : (x y : EntryView) (name : List ℕ) (t : Bool) (es reserved inserted : List EntryView) → IsByteFree 47 x.name → reserved ≡ es
+    → y ≡ x → inserted ≡ with_item entry_key y reserved → name ≡ x.name → t ≡ is_tree_mode x.mode
+    → find (has_key entry_key (key_of y.name (not (is_tree_mode y.mode)))) reserved ≡ None
+    → find (has_key entry_key (key_of name (not t))) inserted ≡ None
+no_other_of_alone x y name t es reserved inserted free a b c d e none =
+    rw (d, e, c, b) (find_none_with_item entry_key x _ reserved (own_key_differs x free) (rw b at none))

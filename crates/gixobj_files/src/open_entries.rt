@@ -138,10 +138,16 @@ impl Entries {
             filename,
             oid: id,
         };
-        let added = pieces::insert_at(&mut self.tree.entries, &mut self.more, at, entry);
-        self.len += usize::from(added);
+        let inserted = pieces::insert_at(&mut self.tree.entries, &mut self.more, at, entry);
+        self.len += usize::from(inserted.is_new);
         let bytes = name.as_bytes();
-        let removed = pieces::remove(&mut self.tree.entries, &mut self.more, bytes, !is_tree);
+        let removed = pieces::remove_unless(
+            inserted.is_alone,
+            &mut self.tree.entries,
+            &mut self.more,
+            bytes,
+            !is_tree,
+        );
         self.len -= usize::from(removed);
         Ok(())
     }

@@ -11,7 +11,7 @@ use Rattle.gixobj_sorted.specs.Pieces.{IsAscending, flat_index, has_key, joined}
 use Rattle.gixobj_sorted.proofs.BinarySearch.{element_at, later_at, position_at, position_none}
 
 module _ {X : Type 0} where
-  fails_of_none : (b : Bool) (x : X) (r : Option X) → cond b (Some x) r ≡ None → (b ≡ false) × (r ≡ None)
+  pub fails_of_none : (b : Bool) (x : X) (r : Option X) → cond b (Some x) r ≡ None → (b ≡ false) × (r ≡ None)
   fails_of_none true x r e = absurd (cc e)
   fails_of_none false x r e = (refl, e)
 

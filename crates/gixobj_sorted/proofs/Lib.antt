@@ -3,5 +3,6 @@ pub mod Joined
 pub mod Keys
 pub mod OnePiece
 pub mod FlatIndices
+pub mod Neighbours
 pub mod PrefixLengths
 pub mod Sublists

@@ -1,10 +1,10 @@
 -- Lists in pieces, in the order of their items' keys, and what an edit makes of them.
-use Rattle.std.specs.Prelude.{◌≡◌, ◌≢◌, ◌+◌, ◌<◌, ℕ, zero, suc, Bool, not, List, [], ◌∷◌, ◌++◌, length, take, true}
+use Rattle.std.specs.Prelude.{◌≡◌, ◌≢◌, ◌+◌, ◌<◌, ◌≤◌, ℕ, zero, suc, Bool, not, List, [], ◌∷◌, ◌++◌, length, take, true}
 use Rattle.std.specs.Cmp.Lexicographic.{slice_cmp}
 use Rattle.std.specs.List.{AllByRecursion, HoldsAt, filter, flat_map, prefix_len}
 use Rattle.std.specs.Ordering.{is_eq, is_gt, is_lt, nat_cmp}
 use Rattle.std.specs.declared.cmp.Ordering.{Ordering}
-use Rattle.std.specs.declared.cmp.Ordering.TheVariants.{Less}
+use Rattle.std.specs.declared.cmp.Ordering.TheVariants.{Greater, Less}
 use Rattle.gixobj_tree.specs.KeyOrder.{key_of}
 use Rattle.gixobj_tree.specs.WellFormed.{EachLater}
 
@@ -78,3 +78,22 @@ IsPosition items first more (suc piece) index = (piece < length more)
 abbrev pub flat_index : {X Y : Type 0} → (Y → List X) → List X → List Y → ℕ → ℕ → ℕ
 flat_index items first more zero index = index
 flat_index items first more (suc piece) index = length first + (length (flat_map items (take piece more)) + index)
+
+-- the item before this index is less than the searched key; at the index 0 there is no piece before this one
+abbrev pub IsLessBefore : {X : Type 0} → (X → List ℕ) → List ℕ → List X → ℕ → ℕ → Type 0
+IsLessBefore key searched xs zero before = before ≡ 0
+IsLessBefore key searched xs (suc i) before = (i < length xs) × HoldsAt (λ x. key_cmp key searched x ≡ Less) xs i
+
+-- the item at this index is greater than the searched key; at the end there is no piece after this one
+abbrev pub IsGreaterFrom : {X : Type 0} → (X → List ℕ) → List ℕ → List X → ℕ → ℕ → Type 0
+IsGreaterFrom key searched xs index after =
+    (index < length xs → HoldsAt (λ x. key_cmp key searched x ≡ Greater) xs index) × (length xs ≤ index → after ≡ 0)
+
+-- an index is between the items that are less than the searched key and those that are greater
+abbrev pub HasGap : {X : Type 0} → (X → List ℕ) → List ℕ → List X → ℕ → ℕ → Type 0
+HasGap key searched xs before after = (index : ℕ) × IsLessBefore key searched xs index before
+    × IsGreaterFrom key searched xs index after
+
+-- the key of the item's name and the other kind
+abbrev pub other_key : {X : Type 0} → (X → List ℕ) → (X → Bool) → X → List ℕ
+other_key name is_tree x = key_of (name x) (not (is_tree x))

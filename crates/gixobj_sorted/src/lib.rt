@@ -5,6 +5,7 @@
 //! unless more pieces were made of it before.
 #![tactic(auto)]
 
+mod gaps;
 pub mod iter;
 pub mod named;
 pub mod pieces;

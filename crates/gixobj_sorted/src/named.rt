@@ -1,5 +1,5 @@
 //! Items of sorted lists.
-ghost use Rattle.std.specs.Prelude.{◌≡◌, ℕ, Bool, List};
+ghost use Rattle.std.specs.Prelude.{◌≡◌, ℕ, Bool, IsFalse, List, true};
 
 use gixobj_tree::tree::Entry;
 
@@ -18,6 +18,10 @@ pub trait Named: Drop {
     /// Returns `true` if the item is a directory.
     fn is_tree(&self) -> bool
         ensures { result ≡ is_tree_of self.now };
+
+    /// Returns `false` only if each item is a directory.
+    fn has_files() -> bool
+        ensures { IsFalse result → (x : Self) → is_tree_of x ≡ true };
 }
 
 impl Named for Entry {
@@ -35,5 +39,10 @@ impl Named for Entry {
     #[inline(always)]
     fn is_tree(&self) -> bool {
         self.mode.is_tree()
+    }
+
+    #[inline(always)]
+    fn has_files() -> bool {
+        true
     }
 }

@@ -4,6 +4,7 @@ ghost use Rattle.std.specs.List.{HoldsAt, find, position};
 ghost use Rattle.gixobj_tree.specs.KeyOrder.{key_of};
 ghost use Rattle.gixobj_sorted.specs.Pieces.{IsAscending, IsPieced, IsPosition, flat_index, has_key, item_key, joined};
 
+use crate::gaps::is_past_end;
 use crate::named::Named;
 use crate::search::{piece_of, position_in};
 
@@ -35,6 +36,9 @@ pub fn position_of<T: Named>(
     ensures none { IfNone result (position (has_key (item_key T.name_of T.is_tree_of)
         (key_of name.now is_tree)) (joined (λ p. p.items) first.now more.now) ≡ None) }
 {
+    if is_past_end(more, name, is_tree) {
+        return None;
+    }
     let piece = piece_of(more, name, is_tree);
     if piece == 0 {
         return position_at(piece, first, name, is_tree);

@@ -66,6 +66,15 @@ fn begins_at_most<T: Named>(piece: &[T], name: &[u8], is_tree: bool) -> bool
     }
 }
 
+/// Returns the position of the last of `count` pieces, at which a search of them begins.
+///
+/// Items that arrive in order are inserted into the last piece.
+fn last_look(count: usize) -> usize
+    ensures { 0 < count → result < count }
+{
+    count.saturating_sub(1)
+}
+
 /// Returns the number of pieces, the first ones, whose first keys are at most this one.
 pub(crate) fn piece_of<T: Named>(more: &[Vec<T>], name: &[u8], is_tree: bool) -> usize
     requires ascending { IsAscending (item_key T.name_of T.is_tree_of)
@@ -76,7 +85,7 @@ pub(crate) fn piece_of<T: Named>(more: &[Vec<T>], name: &[u8], is_tree: bool) ->
 {
     let mut low = 0;
     let mut high = more.len();
-    let mut middle = first_look(high);
+    let mut middle = last_look(high);
     while low < high {
         if begins_at_most(&more[middle], name, is_tree) {
             low = middle + 1;

@@ -42,7 +42,16 @@ pub fn reserve<T: Named>(
     Ok(at)
 }
 
-/// Reserves capacity for one item in the piece of this number.
+/// Returns the number of items that a piece of `len` items reserves capacity for, at least one.
+///
+/// A new piece is short. It reserves capacity for all items that it will have at once.
+fn items_to_reserve(len: usize) -> usize
+    ensures { 1 ≤ result }
+{
+    MAX_LEN.saturating_sub(len).max(1)
+}
+
+/// Reserves capacity for at least one item in the piece of this number.
 fn reserve_at<T: Drop>(
     first: &mut Vec<T>,
     more: &mut Vec<Vec<T>>,
@@ -59,7 +68,8 @@ fn reserve_at<T: Drop>(
         first.reserve(1)?;
         return Ok(());
     }
-    more[at - 1].reserve(1)?;
+    let count = items_to_reserve(more[at - 1].len());
+    more[at - 1].reserve(count)?;
     Ok(())
 }
 

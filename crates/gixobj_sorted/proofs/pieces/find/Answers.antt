@@ -1,4 +1,4 @@
-use Rattle.std.proofs.Common.{◌∙◌, ◌-◌, ◌<◌, length, sym, ap, subst, arith, rules}
+use Rattle.std.proofs.Common.{◌∙◌, ◌-◌, ◌<◌, length, refl, sym, ap, subst, arith, rules}
 use Rattle.std.specs.List.{find}
 use Rattle.std.proofs.lemmas.List.Sums.{prefix_len-le-length}
 use Rattle.gixobj_tree.specs.KeyOrder.{key_of}
@@ -6,6 +6,9 @@ use Rattle.gixobj_sorted.specs.Pieces.{IsAscending, begins_at_most, has_key, ite
 use Rattle.gixobj_sorted.proofs.Joined.{each_later_in_piece, find_joined_first, find_joined_more}
 use Rattle.gixobj_sorted.proofs.Keys.{is_ascending_of_append_left, is_ascending_of_append_right}
 use Rattle.gixobj_sorted.proofs.pieces.find.Goals as goal
+
+pub returns-then-is_past_end : goal.returns-then-is_past_end
+returns-then-is_past_end g c = sym (c.if-is_past_end.ensures refl c.args.first.now c.requires)
 
 pub piece_of-at-requires-clause-ascending : goal.piece_of-at-requires-clause-ascending
 piece_of-at-requires-clause-ascending g c =

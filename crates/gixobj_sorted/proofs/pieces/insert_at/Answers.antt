@@ -4,7 +4,8 @@ use Rattle.std.specs.Prelude.{vec_capacity, vec_len}
 use Rattle.std.specs.List.{flat_map}
 use Rattle.std.proofs.lemmas.List.{get_or_default}
 use Rattle.std.proofs.lemmas.List.Sums.{prefix_len-le-length}
-use Rattle.gixobj_sorted.specs.Pieces.{HoldsAtPiece, IsAscending, begins_at_most, item_key, with_item}
+use Rattle.gixobj_sorted.specs.Pieces.{HasGap, HoldsAtPiece, IsAscending, begins_at_most, item_key, other_key, with_item}
+use Rattle.gixobj_sorted.proofs.Neighbours.{find_none_about_first, find_none_about_more}
 use Rattle.gixobj_sorted.proofs.Joined.{are_non_empty_set, each_later_in_piece, holds_at_index, is_pieced_of_with_item, length_joined_longer, with_item_joined_first, with_item_joined_more, with_item_ne_nil}
 use Rattle.gixobj_sorted.proofs.Keys.{is_ascending_of_append_left, is_ascending_of_append_right}
 use Rattle.gixobj_sorted.proofs.pieces.insert_at.Goals as goal
@@ -36,7 +37,18 @@ returns-then-at-eq0-clause-len g c =
     let rest = flat_map (λ p. p.items) c.args.more.now.items in
     omega (arith, length-append c.insert_in.new.piece.items rest, length-append c.args.first.now.items rest, c.insert_in.ensures.len)
 
+pub returns-then-at-eq0-clause-alone : goal.returns-then-at-eq0-clause-alone
+returns-then-at-eq0-clause-alone g c = λ yes.
+    find_none_about_first (λ p. p.items) (item_key g.T.Named.name_of g.T.Named.is_tree_of)
+    (other_key g.T.Named.name_of g.T.Named.is_tree_of c.args.item) c.args.first.now.items c.args.more.now.items c.args.at c.len-count.result
+    c.requires.pieced.ascending (c.insert_in.ensures.alone yes) (omega (arith, c.len-count.ensures))
+
 -- into another piece
+pub overflow_sub-count : goal.overflow_sub-count
+overflow_sub-count g c =
+    let key = item_key g.T.Named.name_of g.T.Named.is_tree_of in
+    omega (arith, c.requires.at, c.len-count.ensures, prefix_len-le-length (λ p. begins_at_most key (key c.args.item) p.items) c.args.more.now.items)
+
 pub index_mut-requires : goal.index_mut-requires
 index_mut-requires g c =
     let key = item_key g.T.Named.name_of g.T.Named.is_tree_of in
@@ -93,3 +105,16 @@ returns-clause-len g c =
     let q = c.insert_in-2.new.piece in
     let same = ap (λ p. length p.items) (c.index_mut.ensures.value ∙ get_or_default more i c.index_mut.result.now q low) in
     length_joined_longer (λ p. p.items) c.args.first.now.items more i q _ low (omega (arith, c.insert_in-2.ensures.len, same))
+
+pub returns-clause-alone : goal.returns-clause-alone
+returns-clause-alone g c = λ yes.
+    let more = c.args.more.now.items in
+    let key = item_key g.T.Named.name_of g.T.Named.is_tree_of in
+    let other = other_key g.T.Named.name_of g.T.Named.is_tree_of c.args.item in
+    let after = c.len-count.result - c.args.at in
+    let i = c.args.at - 1 in
+    let low : i < length more =
+    omega (arith, c.requires.at, c.if-at-eq0.false, prefix_len-le-length (λ p. begins_at_most key (key c.args.item) p.items) more) in
+    find_none_about_more (λ p. p.items) key other c.args.first.now.items more i c.args.at after c.index_mut.result.now c.requires.pieced.ascending low
+    (subst (λ l. HasGap key other l c.args.at after) (ap (λ p. p.items) c.index_mut.ensures.value) (c.insert_in-2.ensures.alone yes))
+    (omega (arith, c.if-at-eq0.false)) (omega (arith, low, c.len-count.ensures, c.if-at-eq0.false))

@@ -1,5 +1,6 @@
-use Rattle.std.proofs.Common.{◌≡◌, ◌∙◌, ◌+◌, is_ok, true, arith}
+use Rattle.std.proofs.Common.{◌≡◌, ◌∙◌, ◌+◌, is_ok, true, subst, arith}
 use Rattle.std.specs.Prelude.{vec_len}
+use Rattle.gixobj_sorted.specs.Pieces.{HasGap, item_key, other_key}
 use Rattle.gixobj_sorted.proofs.OnePiece.{insert_of_own_none, set_of_own_found}
 use Rattle.gixobj_sorted.proofs.pieces.insert_in.Goals as goal
 
@@ -22,3 +23,15 @@ returns-in-Err-clause-len g c =
     let ok : is_ok c.insert.result ≡ true = c.insert.ensures.succeeds (omega (arith, c.requires.has_capacity)) in
     let is : vec_len c.insert.new.self ≡ vec_len c.args.piece.now + 1 = rw ok at c.insert.ensures.len in
     omega (arith, is)
+
+pub returns-in-Ok-clause-alone : goal.returns-in-Ok-clause-alone
+returns-in-Ok-clause-alone g c = λ yes.
+    let key = item_key g.T.Named.name_of g.T.Named.is_tree_of in
+    subst (λ l. HasGap key (other_key g.T.Named.name_of g.T.Named.is_tree_of c.args.item) l c.args.before c.args.after) c.deref-in-Ok.ensures.value
+    (c.is_alone_in-is_alone.ensures yes)
+
+pub returns-in-Err-clause-alone : goal.returns-in-Err-clause-alone
+returns-in-Err-clause-alone g c = λ yes.
+    let key = item_key g.T.Named.name_of g.T.Named.is_tree_of in
+    subst (λ l. HasGap key (other_key g.T.Named.name_of g.T.Named.is_tree_of c.args.item) l c.args.before c.args.after) c.deref-in-Err.ensures.value
+    (c.is_alone_in-is_alone-in-Err.ensures yes)

@@ -1,4 +1,4 @@
-use Rattle.std.proofs.Common.{◌≡◌, ◌∙◌, ◌-◌, ◌<◌, Some, suc, length, sym, ap, subst, arith, rules}
+use Rattle.std.proofs.Common.{◌≡◌, ◌∙◌, ◌-◌, ◌<◌, Some, suc, length, refl, sym, ap, subst, arith, rules}
 use Rattle.std.specs.List.{HoldsAt, find, position}
 use Rattle.std.proofs.lemmas.List.{get_or_default}
 use Rattle.std.proofs.lemmas.List.Sums.{prefix_len-le-length}
@@ -8,6 +8,13 @@ use Rattle.gixobj_sorted.proofs.Joined.{each_later_in_piece, find_joined_first, 
 use Rattle.gixobj_sorted.proofs.Keys.{is_ascending_of_append_left, is_ascending_of_append_right}
 use Rattle.gixobj_sorted.proofs.FlatIndices.{if_none_weaker, if_some_of_three, position_joined_first_of_held, position_joined_more_of_held, position_none_of_find}
 use Rattle.gixobj_sorted.proofs.positions.position_of.Goals as goal
+
+pub returns-then-is_past_end-clause-none : goal.returns-then-is_past_end-clause-none
+returns-then-is_past_end-clause-none g c =
+    let key = item_key g.T.Named.name_of g.T.Named.is_tree_of in
+    let k = key_of c.args.name.now c.args.is_tree in
+    position_none_of_find (has_key key k) (joined (λ p. p.items) c.args.first.now c.args.more.now)
+    (c.if-is_past_end.ensures refl c.args.first.now c.requires)
 
 pub piece_of-piece-requires-clause-ascending : goal.piece_of-piece-requires-clause-ascending
 piece_of-piece-requires-clause-ascending g c =

@@ -12,7 +12,7 @@ pub loop-low-init : goal.loop-low-init
 loop-low-init g c = record {
   ordered = omega arith;
   within = omega arith;
-  next = λ some. (omega arith, c.first_look-middle.ensures some);
+  next = λ some. (omega arith, c.last_look-middle.ensures some);
   minimum = omega arith;
   maximum = prefix_len-le-length _ _;
 }

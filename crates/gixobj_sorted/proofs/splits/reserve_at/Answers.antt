@@ -4,6 +4,9 @@ use Rattle.std.proofs.lemmas.List.{get_or_default}
 use Rattle.gixobj_sorted.proofs.Joined.{holds_at_piece_of_set, map_set_same}
 use Rattle.gixobj_sorted.proofs.splits.reserve_at.Goals as goal
 
+pub index-requires : goal.index-requires
+index-requires g c = omega (arith, c.requires, c.if-at-eq0.false)
+
 pub index_mut-requires : goal.index_mut-requires
 index_mut-requires g c = omega (arith, c.requires, c.if-at-eq0.false)
 
@@ -31,4 +34,4 @@ returns-clause-has_capacity g c =
     let i = c.args.at - 1 in
     let low : i < length more = omega (arith, c.requires, c.if-at-eq0.false) in
     holds_at_piece_of_set (λ p. vec_len p < vec_capacity p) c.args.first.now more c.args.at i (omega (arith, c.if-at-eq0.false)) c.reserve-2.new.self low
-    (omega (arith, c.in_ok-reserve-2.ensures.ok))
+    (omega (arith, c.in_ok-reserve-2.ensures.ok, c.items_to_reserve-count.ensures))
