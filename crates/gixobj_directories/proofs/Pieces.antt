@@ -8,7 +8,7 @@ use Rattle.std.proofs.lemmas.List.{append-nil, append_assoc, map-append, get_or_
 use Rattle.bstr.specs.Owned.{bstring_bytes}
 use Rattle.gixobj_tree.specs.Entries.{EntryView}
 use Rattle.gixobj_sorted.proofs.FlatIndices.{get_or_flat_map, joined_set_first, joined_set_more}
-use Rattle.gixobj_sorted.proofs.Joined.{are_non_empty_set}
+use Rattle.gixobj_sorted.proofs.Joined.{are_non_empty_set, non_empty_at}
 use Rattle.gixobj_tree.specs.KeyOrder.{key_of}
 use Rattle.gixobj_files.specs.Editing.{same_name}
 use Rattle.gixobj_sorted.specs.Pieces.{AreNonEmpty, IsPieced, flat_index, has_key, joined}
@@ -39,11 +39,8 @@ module _ (children : Children) (piece index : ℕ) (d : Child) where
       ∙ ap (λ (k : ℕ). get_or (child_list children) (place_index children k index) d) (sym is)
 
   module _ (j : ℕ) (is : piece ≡ suc j) (within : IsAt children piece index) (q : Vec Child Global) (at : q ≡ get_or children.more.items j q) where
-    pub piece_low : j < length children.more.items
+    piece_low : j < length children.more.items
     piece_low = (subst (λ (k : ℕ). IsAt children k index) is within).0
-
-    pub index_low : index < length q.items
-    index_low = subst (λ (p : Vec Child Global). index < length p.items) (sym at) ((subst (λ (k : ℕ). IsAt children k index) is within).1 q)
 
     low_in_piece : index < length (items (get_or children.more.items j q))
     low_in_piece = (subst (λ (k : ℕ). IsAt children k index) is within).1 q
@@ -74,15 +71,10 @@ child_list_with_child children (suc j) index next within =
     (within.1 (with_item q index next))
     (ap (λ (p : Vec Child Global). set p.items index next) (sym same))
 
-length_set_pos : (xs : List Child) (i : ℕ) (x : Child) → (xs ≢ []) → set xs i x ≢ []
-length_set_pos [] i x there = there
-length_set_pos (y ∷ xs) zero x there = λ e. cc e
-length_set_pos (y ∷ xs) (suc i) x there = λ e. cc e
-
-are_filled_at : (ps : List (Vec Child Global)) (j : ℕ) (d : Vec Child Global) → j < length ps → AreNonEmpty items ps → items (get_or ps j d) ≢ []
-are_filled_at [] j d low filled = absurd (omega (arith, low))
-are_filled_at (p ∷ ps) zero d low filled = filled.0
-are_filled_at (p ∷ ps) (suc j) d low filled = are_filled_at ps j d (omega (arith, low)) filled.1
+set_ne_nil : (xs : List Child) (i : ℕ) (x : Child) → (xs ≢ []) → set xs i x ≢ []
+set_ne_nil [] i x there = there
+set_ne_nil (y ∷ xs) zero x there = λ e. cc e
+set_ne_nil (y ∷ xs) (suc i) x there = λ e. cc e
 
 pub are_filled_with_child : (children : Children) (piece index : ℕ) (next : Child) → IsAt children piece index → AreFilled children
     → AreFilled (with_child children piece index next)
@@ -90,7 +82,7 @@ are_filled_with_child children zero index next within filled = filled
 are_filled_with_child children (suc j) index next within filled =
     let q : Vec Child Global = get_or children.more.items j children.first in
     are_non_empty_set items children.more.items j (with_item q index next)
-    (length_set_pos q.items index next (are_filled_at children.more.items j children.first within.0 filled)) filled
+    (set_ne_nil q.items index next (non_empty_at items children.more.items j children.first within.0 filled)) filled
 
 -- the child that a search found, and what is open in it afterwards
 pub record IsFound (name : List ℕ) (children : Children) (piece index : ℕ) (child : Child) : Type 0 where
