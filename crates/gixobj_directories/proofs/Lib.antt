@@ -2,6 +2,7 @@ pub mod Alongside
 pub mod BaseSteps
 pub mod Deciding
 pub mod Emitting
+pub mod Ends
 pub mod Levels
 pub mod LookedUp
 pub mod NamedTrees

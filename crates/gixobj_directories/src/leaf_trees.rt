@@ -162,11 +162,11 @@ fn take_leaf_tree(node: Open, trees: &mut Vec<Tree>)
     ensures capacity { vec_capacity trees.old ≤ vec_capacity trees.new }
 {
     if node.has_open_directory() {
-        let Open { children, .. } = node;
+        let (_, _, children) = node.into_parts();
         take_leaf_trees(children, trees);
         return;
     }
-    let Open { entries, base, .. } = node;
+    let (entries, base, _) = node.into_parts();
     let tree = entries.into_tree();
     if is_leaf_tree(&tree, &base) {
         let _ = trees.push(tree);

@@ -2,6 +2,7 @@
 #![tactic(auto)]
 
 mod children;
+mod dropping;
 pub mod ensure_directory;
 pub mod laws;
 mod leaf_trees;

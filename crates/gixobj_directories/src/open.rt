@@ -12,9 +12,10 @@ ghost use Rattle.gixobj_files.specs.Editing.{has_tree, same_name, with_entry, wi
 ghost use Rattle.gixobj_files.specs.Edits.{IsEntryOf, entry_at, removed_dirs, upserted_dirs, with_directory};
 ghost use Rattle.gixobj_files.specs.Files.{ContainsEntry, Path};
 ghost use Rattle.gixobj_directories.specs.Calls.{names_of};
-ghost use Rattle.gixobj_directories.specs.Nested.{AreFilled, AreOrdered, bases_of, child_list, dirs_of, opened, parts, with_part};
+ghost use Rattle.gixobj_directories.specs.Nested.{AreFilled, AreOrdered, IsPiecedLevel, bases_of, child_list, dirs_of, opened, parts, with_part};
 ghost use Rattle.gixobj_files.specs.Bases.{edited_bases};
 
+use crate::dropping::close;
 use bstr::BString;
 use gixobj_files::entries::copies;
 use gixobj_files::open_entries::Entries;
@@ -38,7 +39,6 @@ use std::marker::Model;
 /// Its entries are well-formed. The open directories in it are in the order of their entries, each with the name
 /// of an entry of tree mode.
 #[cycle(open)]
-#[derive(Drop)]
 pub struct Open {
     pub(crate) entries: Entries,
     pub(crate) base: Tree,
@@ -229,6 +229,38 @@ impl Open {
             let child = self.children.at_mut(place);
             child.open.take(rest);
         }
+    }
+}
+
+impl Drop for Open {
+    /// Drops the directory, and all that is open in it, by loops. Allocates nothing.
+    fn drop(self) {
+        let Open {
+            entries,
+            base,
+            children,
+        } = self;
+        close(Open {
+            entries,
+            base,
+            children,
+        });
+    }
+}
+
+/// The parts of a directory.
+impl Open {
+    /// Takes the directory apart: its entries, its base, and the open directories in it.
+    pub(crate) fn into_parts(self) -> (Entries, Tree, Children)
+        ensures level { IsPiecedLevel result.0 result.2 }
+        ensures all { opened result.0 result.1 (parts (child_list result.2)) ≡ self }
+    {
+        let Open {
+            entries,
+            base,
+            children,
+        } = self;
+        (entries, base, children)
     }
 }
 

@@ -16,10 +16,11 @@ pub take_leaf_tree-take_leaf_trees-requires : goal.take_leaf_tree-take_leaf_tree
 take_leaf_tree-take_leaf_trees-requires t c =
     let node = c.args.node in
     let none : leaf_trees node ≡ leaf_trees (inside_of node) = search rules in
-    let inside : leaf_trees (below (parts (child_list c.node.inside.children))) ≡ leaf_trees (inside_of node) =
-    ap (λ (ds : Opened). leaf_trees (inside_of ds)) c.node.view_is in
-    let same : length (leaf_trees (below (parts (child_list c.node.inside.children)))) ≡ length (leaf_trees node) = ap length (inside ∙ sym none) in
-    (omega (arith, ap length c.node.view_is, c.decreases), (level_names_apart c.node.invariant.level, omega (arith, same, c.requires.has_capacity)))
+    let all = c.into_parts-children.ensures in
+    let inside : leaf_trees (below (parts (child_list c.into_parts-children.result.2))) ≡ leaf_trees (inside_of node) =
+    ap (λ (ds : Opened). leaf_trees (inside_of ds)) all.all in
+    let same : length (leaf_trees (below (parts (child_list c.into_parts-children.result.2)))) ≡ length (leaf_trees node) = ap length (inside ∙ sym none) in
+    (omega (arith, ap length all.all, c.decreases), (level_names_apart all.level.level, omega (arith, same, c.requires.has_capacity)))
 
 pub take_from_piece-take_leaf_tree-requires : goal.take_from_piece-take_leaf_tree-requires
 take_from_piece-take_leaf_tree-requires t c =
