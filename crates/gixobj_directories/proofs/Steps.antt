@@ -4,6 +4,7 @@ use Rattle.std.proofs.Common.{◌≡◌, ◌≢◌, ◌∙◌, ◌++◌, ℕ, tr
 use Rattle.std.specs.Prelude.{◌==◌, IfNone}
 use Rattle.std.specs.List.{position}
 use Rattle.std.proofs.lemmas.Bool.{eqb-true}
+use Rattle.std.proofs.lemmas.List.{append-nil, map-append}
 use Rattle.std.specs.Option.{option_map}
 use Rattle.std.specs.Cmp.Lexicographic.{bytes_decides}
 use Rattle.bstr.specs.Owned.{bstring_bytes}
@@ -13,7 +14,7 @@ use Rattle.gixobj_tree.specs.WellFormed.{EachLater}
 use Rattle.gixobj_hash.specs.declared.hash.object_id.ObjectId.{ObjectId}
 use Rattle.gixobj_directories.specs.Calls.{names_of}
 use Rattle.gixobj_files.specs.Editing.{same_name, with_entry, without}
-use Rattle.gixobj_files.specs.Edits.{ensured_dirs, entry_at, or_empty, removed_dirs, upserted_dirs, with_dir, with_directory, with_path}
+use Rattle.gixobj_files.specs.Edits.{ensured_dirs, entry_at, first_entry_of, or_empty, removed_dirs, upserted_dirs, with_dir, with_directory, with_path}
 use Rattle.gixobj_files.specs.Files.{Path}
 use Rattle.gixobj_directories.specs.Nested.{Opened, Part, base_side, bases_of, called, dirs_of, in_part, opened, parts}
 use Rattle.gixobj_files.specs.Opening.{Dirs, in_dir}
@@ -112,13 +113,19 @@ removed_dirs_of_unopened old es ps view apart name second rest none (first ∷ a
       | false ↦ λ is. refl
     ] refl
 
--- the entry at a path of more names is that in the directory of the first name
-pub entry_at_below : (old : Opened) (es : List EntryView) (ps : List Part) {base : List EntryView} → opened es base ps ≡ old → EachLater (λ x y. x.0 ≢ y.0) ps
-    → (name second : List ℕ) (rest : Path) (dirs : Dirs) → ((path : Path) → in_part name ps path ≡ dirs path)
-    → entry_at (name ∷ second ∷ rest) (dirs_of old) ≡ entry_at (second ∷ rest) dirs
-entry_at_below old es ps view apart name second rest dirs is =
-    let same : in_part name ps ≡ dirs = λ i path. is path i in
-    ap (entry_at (second ∷ rest)) (in_dir_of_part old es ps view apart name ∙ same)
+-- the entry at a path is that of the last name in the directory of the names before it
+entry_at_of_parents : (parents : Path) (name : List ℕ) (dirs : Dirs) → entry_at (parents ++ name ∷ []) dirs ≡ first_entry_of name (dirs parents)
+entry_at_of_parents [] name dirs = refl
+entry_at_of_parents (first ∷ []) name dirs = refl
+entry_at_of_parents (first ∷ next ∷ rest) name dirs = entry_at_of_parents (next ∷ rest) name (in_dir first dirs)
+
+pub entry_at_of_last : (path parents : List BString) (name : BString) → path ≡ parents ++ name ∷ [] → (dirs : Dirs)
+    → entry_at (names_of path) dirs ≡ first_entry_of (bstring_bytes name) (dirs (names_of parents ++ []))
+entry_at_of_last path parents name is dirs =
+    ap (λ (p : List BString). entry_at (names_of p) dirs) is
+    ∙ ap (λ (p : Path). entry_at p dirs) (map-append bstring_bytes parents (name ∷ []))
+    ∙ entry_at_of_parents (names_of parents) (bstring_bytes name) dirs
+    ∙ ap (λ (p : Path). first_entry_of (bstring_bytes name) (dirs p)) (sym (append-nil (names_of parents)))
 
 pub entry_at_none : (path : Path) → entry_at path (λ _. None) ≡ None
 entry_at_none [] = refl

@@ -118,15 +118,16 @@ impl Open {
         ensures root { IfSome result (λ it. (entries : List EntryView)
             × (dirs_of it.now [] ≡ Some entries)) }
     {
-        let _ = &self.entries;
-        let Some((name, rest)) = path.split_first() else {
-            return Some(self);
-        };
-        let Some(place) = self.children.position(name) else {
-            return None;
-        };
-        let child = self.children.at(place);
-        child.open.directory(rest)
+        let mut here = self;
+        for name in path {
+            let Some(place) = here.children.position(name) else {
+                return None;
+            };
+            let child = here.children.at(place);
+            here = &child.open;
+        }
+        let _ = &here.entries;
+        Some(here)
     }
 
     /// Returns the entry at a path, if the directory of the entry is open and has it.
@@ -136,17 +137,13 @@ impl Open {
     pub fn get(&self, path: &[BString]) -> Option<&Entry>
         ensures { option_copied result ≡ entry_at (names_of path.now) (dirs_of self.now) }
     {
-        let Some((name, rest)) = path.split_first() else {
+        let Some((name, parents)) = path.split_last() else {
             return None;
         };
-        if rest.is_empty() {
-            return find_entry(&self.entries, name);
-        }
-        let Some(place) = self.children.position(name) else {
+        let Some(parent) = self.directory(parents) else {
             return None;
         };
-        let child = self.children.at(place);
-        child.open.get(rest)
+        find_entry(&parent.entries, name)
     }
 
     /// Inserts an entry at a path, in place of any entry that is there.
