@@ -1,8 +1,10 @@
 pub mod Alongside
 pub mod BaseSteps
 pub mod Deciding
+pub mod Descents
 pub mod Emitting
 pub mod Ends
+pub mod Exchanges
 pub mod Levels
 pub mod LookedUp
 pub mod NamedTrees

@@ -3,6 +3,7 @@
 
 mod children;
 mod dropping;
+mod descent;
 pub mod ensure_directory;
 pub mod laws;
 mod leaf_trees;

@@ -204,11 +204,8 @@ impl Open {
         child.open.insert_entry(alloc, rest, mode, id, null)
     }
 
-    /// Removes the entry at a path, if the directory of the entry is open.
-    ///
-    /// Directories that were open at or below the path are closed. Nothing changes if the path has no names
-    /// or that directory isn't open. Allocates nothing.
-    pub fn take(&mut self, path: &[BString])
+    /// Removes the entry at a path as [`Open::take`] does, by a call for each name. Allocates nothing.
+    pub(crate) fn take_recursively(&mut self, path: &[BString])
         ensures dirs { (at : Path) → dirs_of self.new at
             ≡ removed_dirs (names_of path.now) (dirs_of self.old) at }
         ensures bases { (at : Path) → bases_of self.new at
@@ -224,7 +221,7 @@ impl Open {
         }
         if let Some(place) = self.children.position(name) {
             let child = self.children.at_mut(place);
-            child.open.take(rest);
+            child.open.take_recursively(rest);
         }
     }
 }

@@ -9,7 +9,7 @@ use Rattle.gixobj_directories.proofs.Steps.{more_names_remain, names_of_last, ta
 use Rattle.gixobj_files.specs.Bases.{base_edited}
 use Rattle.gixobj_directories.proofs.BaseSteps.{base_edited_of_dropped, editing, set_moved, unmoved}
 use Rattle.gixobj_directories.proofs.Ordered.{level_names_apart}
-use Rattle.gixobj_directories.proofs.open.Open.+take.Goals as goal
+use Rattle.gixobj_directories.proofs.open.Open.+take_recursively.Goals as goal
 
 pub invariant_of-self : goal.invariant_of-self
 invariant_of-self t c = record {
@@ -37,7 +37,7 @@ invariant_of-self-in-Some-position t c =
     let it = c.in-Some-position.ensures {u = tt} in
     let found : IsFound (bstring_bytes c.in-Some.name.now) c.self.inside.children _ _ c.at_mut-child.result.now =
     record { within = it.within; found = it.found; is = c.at_mut-child.ensures.value } in
-    is_pieced_level_with_open found c.take.new.self c.self.invariant
+    is_pieced_level_with_open found c.take_recursively.new.self c.self.invariant
 
 pub returns-in-Some-position-clause-dirs : goal.returns-in-Some-position-clause-dirs
 returns-in-Some-position-clause-dirs t c =
@@ -48,12 +48,12 @@ returns-in-Some-position-clause-dirs t c =
     let child = c.at_mut-child.result.now in
     let found : IsFound name c.self.inside.children _ _ child = record { within = it.within; found = it.found; is = c.at_mut-child.ensures.value } in
     let here = is_child found in
-    let now = is_changed found c.take.new.self in
+    let now = is_changed found c.take_recursively.new.self in
     let was : in_part name ps ≡ dirs_of child.open = λ i path. in_part_of_child here path i in
     rw m.path_is
     (taken_deeper c.args.self.now c.self.inside.entries c.self.inside.entries ps _ c.self.view_is (level_names_apart c.self.invariant.level)
-    (level_names_apart (is_level_set here now c.self.invariant.level)) name (dirs_of c.take.new.self) (becomes_of_set here now)
-    m.next m.after refl (λ path. rw was (c.take.ensures.dirs path ∙ ap (λ p. removed_dirs p (dirs_of child.open) path) m.rest_is)))
+    (level_names_apart (is_level_set here now c.self.invariant.level)) name (dirs_of c.take_recursively.new.self) (becomes_of_set here now)
+    m.next m.after refl (λ path. rw was (c.take_recursively.ensures.dirs path ∙ ap (λ p. removed_dirs p (dirs_of child.open) path) m.rest_is)))
 
 pub returns-in_default-position-clause-dirs : goal.returns-in_default-position-clause-dirs
 returns-in_default-position-clause-dirs t c =
@@ -83,5 +83,5 @@ returns-in-Some-position-clause-bases t c =
     let it = c.in-Some-position.ensures {u = tt} in
     let found : IsFound (bstring_bytes c.in-Some.name.now) c.self.inside.children _ _ c.at_mut-child.result.now =
     record { within = it.within; found = it.found; is = c.at_mut-child.ensures.value } in
-    set_moved base_edited editing c.args.self.now c.self.inside.entries (is_child found) (is_changed found c.take.new.self) c.self.view_is
-    c.self.invariant.level c.take.ensures.bases
+    set_moved base_edited editing c.args.self.now c.self.inside.entries (is_child found) (is_changed found c.take_recursively.new.self) c.self.view_is
+    c.self.invariant.level c.take_recursively.ensures.bases
