@@ -17,6 +17,7 @@ ghost use Rattle.gixobj_files.specs.WrittenTrees.{SharesBase, so_far};
 ghost use Rattle.gixobj_files.specs.FilteredTrees.{IsFilteredTree};
 ghost use Rattle.gixobj_directories.specs.LeafTrees.{Adds, child_leaf_trees, inside_of, leaf_trees};
 
+use crate::descent::MAX_RECURSIVE;
 use crate::leaf_trees::{fill, take_leaf_trees};
 use crate::open::{Child, Children, Open};
 use bstr::BString;
@@ -431,6 +432,39 @@ pub fn write_at<E, F: FnMut(&Tree) -> Result<ObjectId, E>>(
         (in_path (names_of path.now) (bases_of node.old))) out.old out.new) }
     ensures unchanged { OnErr result (node.new ≡ node.old) }
 {
+    if path.len() <= MAX_RECURSIVE {
+        return write_recursively(alloc, node, path, out);
+    }
+    let descent = node.descend(path);
+    let written = write_recursively(alloc, node, descent.rest, out);
+    node.ascend(descent);
+    written
+}
+
+/// Writes the directory at a path by the rules of [`write_at`], by a call for each name.
+fn write_recursively<E, F: FnMut(&Tree) -> Result<ObjectId, E>>(
+    alloc: Global,
+    node: &mut Open,
+    path: &[BString],
+    out: &mut F,
+) -> Result<Written, WriteError<E>>
+    requires callable { IsCallableOnTrees F.pre (answered F.FnMut) out.old }
+    requires is_open { dirs_of node.old (names_of path.now) ≢ None }
+    ensures written { IfOk result (λ it. (below : List Pair) × (own : List EntryView)
+        × Saves (in_path (names_of path.now) (dirs_of node.old))
+        (in_path (names_of path.now) (bases_of node.old)) below own it.saved
+        × (it.trees.items ≡ below ++ (it.id, own) ∷ [])
+        × FoldsTo (answered F.FnMut) out.old (below ++ (it.id, own) ∷ []) out.new × IsStorable own
+        × ((at : Path) → dirs_of node.new at
+        ≡ with_path (names_of path.now) (only_open own) (dirs_of node.old) at)) }
+    ensures bases { OnOk result ((at : Path)
+        → bases_of node.new at ≡ edited_bases (dirs_of node.old) (dirs_of node.new)
+        (bases_of node.old) at) }
+    ensures error { IfErr result (IsWriteError (answered F.FnMut) (denied F.FnMut)
+        (EmitsSome (in_path (names_of path.now) (dirs_of node.old))
+        (in_path (names_of path.now) (bases_of node.old))) out.old out.new) }
+    ensures unchanged { OnErr result (node.new ≡ node.old) }
+{
     let Some((name, rest)) = path.split_first() else {
         return write_all(alloc, node, out);
     };
@@ -438,5 +472,5 @@ pub fn write_at<E, F: FnMut(&Tree) -> Result<ObjectId, E>>(
         unreachable!()
     };
     let child = node.children.at_mut(place);
-    write_at(alloc, &mut child.open, rest, out)
+    write_recursively(alloc, &mut child.open, rest, out)
 }

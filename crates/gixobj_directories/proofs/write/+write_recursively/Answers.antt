@@ -18,7 +18,7 @@ use Rattle.gixobj_directories.proofs.Steps.{path_based, path_down, place_down, p
 use Rattle.gixobj_files.specs.Bases.{base_edited}
 use Rattle.gixobj_directories.proofs.BaseSteps.{editing, set_moved}
 use Rattle.gixobj_directories.proofs.Ordered.{level_names_apart}
-use Rattle.gixobj_directories.proofs.write.+write_at.Goals as goal
+use Rattle.gixobj_directories.proofs.write.+write_recursively.Goals as goal
 
 pub returns-in_default-clause-written : goal.returns-in_default-clause-written
 returns-in_default-clause-written g t c = MatchResult-weaker c.write_all.result c.write_all.ensures.written (λ it ok.
@@ -47,10 +47,10 @@ invariant_of-node g t c =
     let it = c.in-Some-position.ensures {u = tt} in
     let found : IsFound (bstring_bytes c.in-Some.name.now) c.node.inside.children _ _ c.at_mut-child.result.now =
     record { within = it.within; found = it.found; is = c.at_mut-child.ensures.value } in
-    is_pieced_level_with_open found c.write_at.new.node c.node.invariant
+    is_pieced_level_with_open found c.write_recursively.new.node c.node.invariant
 
-pub write_at-requires : goal.write_at-requires
-write_at-requires g t c =
+pub write_recursively-requires : goal.write_recursively-requires
+write_recursively-requires g t c =
     let it = c.in-Some-position.ensures {u = tt} in
     let found : IsFound (bstring_bytes c.in-Some.name.now) c.node.inside.children _ _ c.at_mut-child.result.now =
     record { within = it.within; found = it.found; is = c.at_mut-child.ensures.value } in
@@ -66,7 +66,7 @@ unreachable-requires g t c = c.requires.is_open
     (names_of c.in-Some.rest.now) (ap names_of c.in-Some.ensures.cases.0) (c.in_default-position.ensures {u = tt}).none)
 
 pub returns-clause-written : goal.returns-clause-written
-returns-clause-written g t c = MatchResult-weaker c.write_at.result c.write_at.ensures.written (λ it ok.
+returns-clause-written g t c = MatchResult-weaker c.write_recursively.result c.write_recursively.ensures.written (λ it ok.
     let name = bstring_bytes c.in-Some.name.now in
     let ps = parts (child_list c.node.inside.children) in
     let rest = names_of c.in-Some.rest.now in
@@ -75,7 +75,7 @@ returns-clause-written g t c = MatchResult-weaker c.write_at.result c.write_at.e
     let child = c.at_mut-child.result.now in
     let found : IsFound name c.node.inside.children _ _ child = record { within = it.within; found = it.found; is = c.at_mut-child.ensures.value } in
     let here = is_child found in
-    let now = is_changed found c.write_at.new.node in
+    let now = is_changed found c.write_recursively.new.node in
     let apart = level_names_apart c.node.invariant.level in
     let was : in_part name ps ≡ dirs_of child.open = λ i at. in_part_of_child here at i in
     let same : in_path (names_of c.args.path.now) (dirs_of c.args.node.now) ≡ in_path rest (dirs_of child.open) =
@@ -92,12 +92,12 @@ returns-clause-written g t c = MatchResult-weaker c.write_at.result c.write_at.e
       ok.5,
       rw path
           (written_deeper c.args.node.now c.node.inside.entries c.node.inside.entries ps _ c.node.view_is apart
-          (level_names_apart (is_level_set here now c.node.invariant.level)) name (dirs_of c.write_at.new.node) (becomes_of_set here now)
+          (level_names_apart (is_level_set here now c.node.invariant.level)) name (dirs_of c.write_recursively.new.node) (becomes_of_set here now)
           rest (only_open ok.1) refl (λ at. rw was (ok.6 at))),
     )) (λ _ u. u)
 
 pub returns-clause-error : goal.returns-clause-error
-returns-clause-error g t c = MatchResult-weaker c.write_at.result c.write_at.ensures.error (λ _ u. u) (λ error stopped.
+returns-clause-error g t c = MatchResult-weaker c.write_recursively.result c.write_recursively.ensures.error (λ _ u. u) (λ error stopped.
     let it = c.in-Some-position.ensures {u = tt} in
     let found : IsFound (bstring_bytes c.in-Some.name.now) c.node.inside.children _ _ c.at_mut-child.result.now =
     record { within = it.within; found = it.found; is = c.at_mut-child.ensures.value } in
@@ -113,21 +113,21 @@ returns-clause-error g t c = MatchResult-weaker c.write_at.result c.write_at.ens
     (names_of c.args.path.now) rest path (is_child found) at) i in
     stopped_of_same_dirs (λ f p h. CalledAt g.F.FnMut f p.1 (Ok p.0) h) (λ f tree x h. CalledAt g.F.FnMut f tree (Err x) h) (in_path rest (dirs_of child.open))
     (in_path (names_of c.args.path.now) (dirs_of c.args.node.now))
-    (in_path rest (bases_of child.open)) (in_path (names_of c.args.path.now) (bases_of c.args.node.now)) same same_bases c.args.out.now c.write_at.new.out error
-    stopped)
+    (in_path rest (bases_of child.open)) (in_path (names_of c.args.path.now) (bases_of c.args.node.now)) same same_bases c.args.out.now
+    c.write_recursively.new.out error stopped)
 
 pub returns-clause-bases : goal.returns-clause-bases
-returns-clause-bases g t c = MatchResult-weaker c.write_at.result c.write_at.ensures.bases (λ _ bases.
+returns-clause-bases g t c = MatchResult-weaker c.write_recursively.result c.write_recursively.ensures.bases (λ _ bases.
     let it = c.in-Some-position.ensures {u = tt} in
     let found : IsFound (bstring_bytes c.in-Some.name.now) c.node.inside.children _ _ c.at_mut-child.result.now =
     record { within = it.within; found = it.found; is = c.at_mut-child.ensures.value } in
-    set_moved base_edited editing c.args.node.now c.node.inside.entries (is_child found) (is_changed found c.write_at.new.node) c.node.view_is
+    set_moved base_edited editing c.args.node.now c.node.inside.entries (is_child found) (is_changed found c.write_recursively.new.node) c.node.view_is
     c.node.invariant.level bases) (λ _ u. u)
 
 pub returns-clause-unchanged : goal.returns-clause-unchanged
-returns-clause-unchanged g t c = MatchResult-weaker c.write_at.result c.write_at.ensures.unchanged (λ _ u. u) (λ _ same.
+returns-clause-unchanged g t c = MatchResult-weaker c.write_recursively.result c.write_recursively.ensures.unchanged (λ _ u. u) (λ _ same.
     let it = c.in-Some-position.ensures {u = tt} in
     let found : IsFound (bstring_bytes c.in-Some.name.now) c.node.inside.children _ _ c.at_mut-child.result.now =
     record { within = it.within; found = it.found; is = c.at_mut-child.ensures.value } in
-    ap (λ (ps : List Part). opened c.node.inside.entries c.node.inside.base ps) (parts_with_open_same found c.write_at.new.node same)
+    ap (λ (ps : List Part). opened c.node.inside.entries c.node.inside.base ps) (parts_with_open_same found c.write_recursively.new.node same)
     ∙ c.node.view_is)
