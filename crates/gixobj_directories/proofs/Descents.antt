@@ -130,6 +130,9 @@ names_of_take_more path k name low is =
     ap names_of (take_more path k name low) ∙ map-append bstring_bytes (take k path) (get_or path k name ∷ [])
     ∙ ap (λ (n : BString). names_of (take k path) ++ bstring_bytes n ∷ []) (sym is)
 
+pub names_of_parts : (path passed rest : List BString) → path ≡ passed ++ rest → names_of path ≡ names_of passed ++ names_of rest
+names_of_parts path passed rest is = ap names_of is ∙ map-append bstring_bytes passed rest
+
 pub non_empty_of_len : (path : List BString) → 0 < length path → path ≢ []
 non_empty_of_len path long none =
     let short : 0 < length {A = BString} [] = subst (λ (p : List BString). 0 < length p) none long in absurd (omega (arith, short))
@@ -192,7 +195,7 @@ ensured_dirs_append (n ∷ path) rest null dirs trees (first ∷ at) =
 module _ (path passed rest : List BString) (path_is : path ≡ passed ++ rest) {old here above : Opened} (new next : Opened)
     (descended : IsDescended (names_of passed) old here above) (new_is : new ≡ rebuilt (reverse (names_of passed)) above next) where
   names_are : names_of path ≡ names_of passed ++ names_of rest
-  names_are = ap names_of path_is ∙ map-append bstring_bytes passed rest
+  names_are = names_of_parts path passed rest path_is
 
   pub bases_of_ascent : (g : OfBase) → Settles g
       → ((at : Path) → bases_of next at ≡ g (dirs_of here at) (dirs_of next at) (bases_of here at)) → (at : Path)
@@ -255,7 +258,7 @@ pub at_path_of_descent : (path passed rest : List BString) → path ≡ passed +
     → in_path (names_of rest) (at_side side here) ≡ in_path (names_of path) (at_side side old)
 at_path_of_descent path passed rest path_is {old} descended side =
     ap (in_path (names_of rest)) (sym (at_descent descended side)) ∙ sym (in_path_append (names_of passed) (names_of rest) (at_side side old))
-    ∙ ap (λ (p : Path). in_path p (at_side side old)) (sym (ap names_of path_is ∙ map-append bstring_bytes passed rest))
+    ∙ ap (λ (p : Path). in_path p (at_side side old)) (sym (names_of_parts path passed rest path_is))
 
 pub place_of_descent : (path passed rest : List BString) → path ≡ passed ++ rest → {old here above : Opened}
     → IsDescended (names_of passed) old here above → dirs_of here (names_of rest) ≡ dirs_of old (names_of path)

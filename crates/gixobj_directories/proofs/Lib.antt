@@ -8,6 +8,7 @@ pub mod Exchanges
 pub mod Levels
 pub mod LookedUp
 pub mod NamedTrees
+pub mod NewDirectories
 pub mod OpeningSteps
 pub mod Ordered
 pub mod Pieces

@@ -5,5 +5,6 @@ pub mod Descents
 pub mod WriteErrors
 pub mod LookedUp
 pub mod Nested
+pub mod NewDirectories
 pub mod Openings
 pub mod LeafTrees

@@ -1,8 +1,11 @@
 //! Edits at deep paths: a loop goes down the open directories of the path, and another restores those above.
-ghost use Rattle.std.specs.Prelude.{◌≡◌, ◌≢◌, ◌≤◌, ◌++◌, [], IsFalse, IsTrue, Some, length, reverse, take};
+ghost use Rattle.std.specs.Prelude.{◌≡◌, ◌≢◌, ◌≤◌, ◌++◌, [], IsFalse, IsTrue, OnErr, OnOk, Some, length, reverse, take};
+ghost use Rattle.std.specs.List.{AllByRecursion};
 ghost use Rattle.bstr.specs.Owned.{bstring_bytes};
+ghost use Rattle.gixobj_tree.specs.WellFormed.{IsEntryName};
+ghost use Rattle.gixobj_mode.specs.Mode.{mode_bits};
 ghost use Rattle.gixobj_files.specs.Bases.{edited_bases};
-ghost use Rattle.gixobj_files.specs.Edits.{removed_dirs};
+ghost use Rattle.gixobj_files.specs.Edits.{removed_dirs, upserted_dirs};
 ghost use Rattle.gixobj_files.specs.Files.{Path};
 ghost use Rattle.gixobj_directories.specs.Calls.{names_of};
 ghost use Rattle.gixobj_directories.specs.Descents.{AreAbove, IsDescended, IsExchanged, has_inner, rebuilt};
@@ -10,7 +13,10 @@ ghost use Rattle.gixobj_directories.specs.Nested.{bases_of, dirs_of};
 
 use crate::open::Open;
 use bstr::BString;
+use gixobj_hash::hash::ObjectId;
 use gixobj_tree::Tree;
+use gixobj_tree::tree::EntryMode;
+use std::alloc::{AllocError, Global};
 use std::mem;
 
 /// The number of names up to which an edit goes down a path by recursion. It goes down a longer path by a
@@ -28,6 +34,48 @@ pub(crate) struct Descent<'a> {
 }
 
 impl Open {
+    /// Inserts an entry at a path, in place of any entry that is there.
+    ///
+    /// Directories that were open at or below the path are closed. A path without names changes nothing.
+    ///
+    /// Each parent directory of the path is open then. One that isn't open is opened as empty, without a
+    /// lookup. Its entry is unchanged if it is of tree mode. Otherwise an entry of kind tree with the id
+    /// `null` is inserted, in place of any entry of that name.
+    ///
+    /// Each name of the path must be a valid name of an entry: not empty, and without `/`.
+    ///
+    /// Allocates the name of the entry and capacity for it, and those directories with their entries. In a
+    /// directory of 128 entries or more it also allocates parts of its lists, and room for a write.
+    ///
+    /// # Errors
+    ///
+    /// [`AllocError`] if an allocation fails. Nothing is changed then.
+    pub fn insert_entry(
+        &mut self,
+        alloc: Global,
+        path: &[BString],
+        mode: EntryMode,
+        id: ObjectId,
+        null: ObjectId,
+    ) -> Result<(), AllocError>
+        requires { AllByRecursion IsEntryName (names_of path.now) }
+        ensures dirs { OnOk result ((at : Path)
+            → dirs_of self.new at ≡ upserted_dirs (names_of path.now) (mode_bits mode) id null
+            (dirs_of self.old) at) }
+        ensures bases { OnOk result ((at : Path)
+            → bases_of self.new at ≡ edited_bases (dirs_of self.old) (dirs_of self.new)
+            (bases_of self.old) at) }
+        ensures unchanged { OnErr result (self.new ≡ self.old) }
+    {
+        if path.len() <= MAX_RECURSIVE {
+            return self.insert_recursively(alloc, path, mode, id, null);
+        }
+        let descent = self.descend(path);
+        let inserted = self.insert_recursively(alloc, descent.rest, mode, id, null);
+        self.ascend(descent);
+        inserted
+    }
+
     /// Removes the entry at a path, if the directory of the entry is open.
     ///
     /// Directories that were open at or below the path are closed. Nothing changes if the path has no names

@@ -8,10 +8,11 @@ ghost use Rattle.gixobj_directories.specs.Calls.{names_of};
 ghost use Rattle.gixobj_directories.specs.Nested.{bases_of, dirs_of};
 ghost use Rattle.gixobj_files.specs.Bases.{edited_bases};
 
+use crate::descent::MAX_RECURSIVE;
+use crate::new_directories::new_directories;
 use crate::open::{Open, add_directory};
 use bstr::BString;
 use gixobj_hash::hash::ObjectId;
-use gixobj_tree::Tree;
 use std::alloc::{AllocError, Global};
 
 impl Open {
@@ -44,13 +45,41 @@ impl Open {
         ensures unchanged { OnErr result (self.new ≡ self.old) }
         ensures unopened { OnErr result (dirs_of self.old (names_of path.now) ≡ None) }
     {
+        if path.len() <= MAX_RECURSIVE {
+            return self.ensure_recursively(alloc, path, null);
+        }
+        let descent = self.descend(path);
+        let ensured = self.ensure_recursively(alloc, descent.rest, null);
+        self.ascend(descent);
+        ensured
+    }
+
+    /// Ensures a directory as [`Open::ensure_directory`] does, by a call for each open directory on the path.
+    ///
+    /// # Errors
+    ///
+    /// [`AllocError`] if an allocation fails, only if the directory isn't open. Nothing is changed then.
+    fn ensure_recursively(
+        &mut self,
+        alloc: Global,
+        path: &[BString],
+        null: ObjectId,
+    ) -> Result<(), AllocError>
+        requires { AllByRecursion IsEntryName (names_of path.now) }
+        ensures dirs { OnOk result ((at : Path)
+            → dirs_of self.new at ≡ ensured_dirs (names_of path.now) null (dirs_of self.old) at) }
+        ensures bases { OnOk result ((at : Path)
+            → bases_of self.new at ≡ edited_bases (dirs_of self.old) (dirs_of self.new)
+            (bases_of self.old) at) }
+        ensures unchanged { OnErr result (self.new ≡ self.old) }
+        ensures unopened { OnErr result (dirs_of self.old (names_of path.now) ≡ None) }
+    {
         let _ = &self.entries;
         let Some((name, rest)) = path.split_first() else {
             return Ok(());
         };
         let Some(place) = self.children.position(name) else {
-            let mut inner = Open::new(alloc, Tree::empty(alloc));
-            inner.ensure_directory(alloc, rest, null)?;
+            let inner = new_directories(alloc, rest, null)?;
             add_directory(
                 alloc,
                 &mut self.entries,
@@ -62,6 +91,6 @@ impl Open {
             return Ok(());
         };
         let child = self.children.at_mut(place);
-        child.open.ensure_directory(alloc, rest, null)
+        child.open.ensure_recursively(alloc, rest, null)
     }
 }

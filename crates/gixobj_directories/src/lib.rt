@@ -7,6 +7,7 @@ mod descent;
 pub mod ensure_directory;
 pub mod laws;
 mod leaf_trees;
+mod new_directories;
 pub mod open;
 pub mod opening;
 pub mod write;

@@ -16,6 +16,7 @@ ghost use Rattle.gixobj_directories.specs.Nested.{AreFilled, AreOrdered, IsPiece
 ghost use Rattle.gixobj_files.specs.Bases.{edited_bases};
 
 use crate::dropping::close;
+use crate::new_directories::new_with_entry;
 use bstr::BString;
 use gixobj_files::entries::copies;
 use gixobj_files::open_entries::Entries;
@@ -146,23 +147,12 @@ impl Open {
         find_entry(&parent.entries, name)
     }
 
-    /// Inserts an entry at a path, in place of any entry that is there.
-    ///
-    /// Directories that were open at or below the path are closed. A path without names changes nothing.
-    ///
-    /// Each parent directory of the path is open then. One that isn't open is opened as empty, without a
-    /// lookup. Its entry is unchanged if it is of tree mode. Otherwise an entry of kind tree with the id
-    /// `null` is inserted, in place of any entry of that name.
-    ///
-    /// Each name of the path must be a valid name of an entry: not empty, and without `/`.
-    ///
-    /// Allocates the name of the entry and capacity for it, and those directories with their entries. In a
-    /// directory of 128 entries or more it also allocates parts of its lists, and room for a write.
+    /// Inserts an entry at a path as [`Open::insert_entry`] does, by a call for each open directory on the path.
     ///
     /// # Errors
     ///
     /// [`AllocError`] if an allocation fails. Nothing is changed then.
-    pub fn insert_entry(
+    pub(crate) fn insert_recursively(
         &mut self,
         alloc: Global,
         path: &[BString],
@@ -188,8 +178,7 @@ impl Open {
             return Ok(());
         }
         let Some(place) = self.children.position(name) else {
-            let mut inner = Open::new(alloc, Tree::empty(alloc));
-            inner.insert_entry(alloc, rest, mode, id, null)?;
+            let inner = new_with_entry(alloc, rest, mode, id, null)?;
             add_directory(
                 alloc,
                 &mut self.entries,
@@ -201,7 +190,7 @@ impl Open {
             return Ok(());
         };
         let child = self.children.at_mut(place);
-        child.open.insert_entry(alloc, rest, mode, id, null)
+        child.open.insert_recursively(alloc, rest, mode, id, null)
     }
 
     /// Removes the entry at a path as [`Open::take`] does, by a call for each name. Allocates nothing.
