@@ -1,12 +1,10 @@
 -- A walk along the entries of a directory and the open directories in it, in step: for the loops of a write and for
 -- leaf trees.
 use mathlib.Core.Bool.{true≢false}
-use Rattle.std.proofs.Common.{◌≡◌, ◌≢◌, ◌∙◌, ◌<◌, ◌+◌, inl, inr, ℕ, suc, true, false, cond, List, [], ◌∷◌, Option, Some, None, get_or, length, drop, refl, sym, ap, subst, arith, add-one, drop-cons, length-append}
+use Rattle.std.proofs.Common.{◌≡◌, ◌≢◌, ◌∙◌, ◌<◌, ◌+◌, inl, inr, ℕ, suc, true, false, cond, List, [], ◌∷◌, Option, Some, None, get_or, length, drop, refl, sym, ap, subst, add-one, drop-cons}
 use Rattle.std.specs.Cmp.Lexicographic.{bytes_decides, slice_cmp}
 use Rattle.std.specs.List.{AllByRecursion}
-use Rattle.std.specs.Option.{option_copied}
 use Rattle.std.specs.Ordering.{is_lt, nat_cmp}
-use denote.Ref.{Bor}
 use Rattle.std.proofs.lemmas.Cmp.{nat_list_cmp_total, tied_itself}
 use Rattle.bstr.specs.Owned.{bstring_bytes}
 use Rattle.gixobj_files.specs.Editing.{has_tree, same_name}
@@ -16,29 +14,18 @@ use Rattle.gixobj_files.proofs.OpenedFiles.{same_name_false}
 use Rattle.gixobj_sorted.proofs.Sublists.{all_both, all_weaker}
 use Rattle.gixobj_tree.specs.Entries.{EntryView}
 use Rattle.gixobj_tree.specs.KeyOrder.{ComesBefore, entry_key, key_of}
-use Rattle.gixobj_tree.specs.WellFormed.{EachLater}
 use Rattle.gixobj_mode.specs.Mode.{is_tree_mode}
 use Rattle.gixobj_directories.specs.declared.open.Child.{Child}
 use Rattle.gixobj_directories.specs.WriteErrors.{pairs_after_next, child_side, next_child}
-use Rattle.gixobj_directories.specs.Nested.{AreOrdered, IsLevel, Level, Opened, Part, at_side, below, length-under, opened, part, part_at, part_key, parts, under}
+use Rattle.gixobj_directories.specs.Frames.{Ahead}
+use Rattle.gixobj_directories.specs.Nested.{IsLevel, Level, Opened, Part, at_side, opened, part, part_at, part_key, parts}
 use Rattle.gixobj_directories.proofs.Levels.{level_at_by}
 use Rattle.gixobj_directories.proofs.Ordered.{Before, names_differ, level_names_apart}
-
--- the remaining children are those of the remaining entries
-pub record Ahead (node : Opened) (rest : List EntryView) (remaining : List Child) : Type 0 where
-  pub same : (side : Level → List EntryView)
-      → AllByRecursion (λ e. (path : Path) → at_side side node (e.name ∷ path) ≡ part_at side e.name (parts remaining) path) rest
-  pub above : AllByRecursion (λ p. has_tree p.0 rest ≡ true) (parts remaining)
-  pub ordered : AreOrdered (parts remaining)
-  pub apart : EachLater (λ x y. x.name ≢ y.name) rest
-  pub ascending : EachLater ComesBefore rest
-  pub fewer : length (below (parts remaining)) < length node
 
 -- the next child is what is open at the entry, and those after it are those of the other entries
 pub record Stepped (node : Opened) (e : EntryView) (rest : List EntryView) (next : Option Child) (after : List Child) : Type 0 where
   pub here : (side : Level → List EntryView) (path : Path) → at_side side node (e.name ∷ path) ≡ child_side side next path
   pub ahead : Ahead node rest after
-  pub fewer : (child : Child) → next ≡ Some child → length child.open < length node
 
 all_of_every : {X : Type 0} (P : X → Type 0) → ((x : X) → P x) → (xs : List X) → AllByRecursion P xs
 all_of_every P all [] = tt
@@ -94,8 +81,7 @@ stepped_cons : (node : Opened) (e : EntryView) (rest : List EntryView) (remainin
     → Stepped node e rest (next_child e.name remaining) (pairs_after_next e.name remaining)
 stepped_cons node e rest [] a = record {
   here = λ side path. (a.same side).0 path;
-  ahead = record { same = λ side. (a.same side).1; above = tt; ordered = tt; apart = a.apart.1; ascending = a.ascending.1; fewer = a.fewer };
-  fewer = λ child is. absurd (cc is);
+  ahead = record { same = λ side. (a.same side).1; above = tt; ordered = tt; apart = a.apart.1; ascending = a.ascending.1 };
 }
 stepped_cons node e rest (c ∷ cs) a =
     elim (same_name (bstring_bytes c.name) e.name) as (λ b. same_name (bstring_bytes c.name) e.name ≡ b
@@ -117,16 +103,7 @@ stepped_cons node e rest (c ∷ cs) a =
           ordered = a.ordered.1;
           apart = a.apart.1;
           ascending = a.ascending.1;
-          fewer = omega (arith, a.fewer, length-append (under (bstring_bytes c.name) c.open) (below (parts cs)));
         };
-        fewer = λ child same. subst (λ (d : Child). length d.open < length node) (some_is c child same)
-            (omega (
-              arith,
-              a.fewer,
-              length-append (under (bstring_bytes c.name) c.open) (below (parts cs)),
-              length-under
-                  (bstring_bytes c.name) c.open,
-            ));
       }
       | false ↦ λ is. let other : bstring_bytes c.name ≢ e.name = λ q. true≢false (sym ((bytes_decides (bstring_bytes c.name) e.name).1 q) ∙ is) in
           let others : AllByRecursion (λ q. q.0 ≢ e.name) (parts (c ∷ cs)) =
@@ -138,14 +115,9 @@ stepped_cons node e rest (c ∷ cs) a =
               ordered = a.ordered;
               apart = a.apart.1;
               ascending = a.ascending.1;
-              fewer = a.fewer;
             };
-            fewer = λ child none. absurd (cc none);
           }
     ] refl
-  where
-    some_is : (x y : Child) → Some x ≡ Some y → x ≡ y
-    some_is x y is = cc is
 
 -- a step of the walk at the position of an entry
 pub stepped_succ : (node : Opened) (items : List EntryView) (i : ℕ) (e : EntryView) (remaining : List Child) → i < length items → e ≡ get_or items i e
@@ -165,15 +137,4 @@ ahead_of_opened node es base cs is level = record {
   ordered = level.ordered;
   apart = level.formed.apart;
   ascending = level.formed.ascending;
-  fewer = omega (arith, ap length is);
 }
-
--- the number of open directories in a child, and zero without one
-abbrev pub passed_size : Option (Bor Child) → ℕ
-passed_size None = 0
-passed_size (Some child) = length child.now.open
-
-pub consumed_size_lt : (node : Opened) (passed : Option (Bor Child)) (next : Option Child) → option_copied passed ≡ next
-    → ((child : Child) → next ≡ Some child → length child.open < length node) → 0 < length node → passed_size passed < length node
-consumed_size_lt node None next is fewer filled = filled
-consumed_size_lt node (Some child) next is fewer filled = fewer child.now (sym is)

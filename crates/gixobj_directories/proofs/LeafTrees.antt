@@ -24,7 +24,7 @@ use Rattle.gixobj_directories.specs.declared.open.Child.{Child}
 use Rattle.gixobj_directories.specs.WriteErrors.{next_child, pairs_after_next}
 use Rattle.gixobj_directories.specs.Nested.{AreOrdered, Level, Opened, Part, bases_of, below, dirs_of, length-under, opened, part, parts, under}
 use Rattle.gixobj_directories.specs.LeafTrees.{Adds, Fills, child_leaf_trees, is_at_or_below, is_above, is_leaf_tree, leaf_trees}
-use Rattle.gixobj_directories.proofs.Alongside.{Ahead}
+use Rattle.gixobj_directories.specs.Frames.{Ahead}
 use Rattle.gixobj_directories.proofs.Emitting.{not_nil_of_not_empty}
 use Rattle.gixobj_directories.proofs.Ordered.{children_names_apart}
 use Rattle.gixobj_files.proofs.SameTrees.{same_tree_false_ne}

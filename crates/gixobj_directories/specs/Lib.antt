@@ -2,6 +2,7 @@ pub mod Calls
 pub mod Children
 pub mod Decreases
 pub mod Descents
+pub mod Frames
 pub mod WriteErrors
 pub mod LookedUp
 pub mod Nested

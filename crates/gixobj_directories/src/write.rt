@@ -19,11 +19,11 @@ ghost use Rattle.gixobj_directories.specs.LeafTrees.{Adds, child_leaf_trees, ins
 
 use crate::descent::MAX_RECURSIVE;
 use crate::leaf_trees::{fill, take_leaf_trees};
-use crate::open::{Child, Children, Open};
+use crate::open::{Children, Open};
+use crate::walk::emit_below;
 use bstr::BString;
 use gixobj_files::entries::copies;
 use gixobj_files::open_entries::Entries;
-use gixobj_files::written_tree::WrittenTree;
 use gixobj_hash::hash::ObjectId;
 use gixobj_tree::Tree;
 use gixobj_tree::tree::Entry;
@@ -79,90 +79,6 @@ impl<E, T: Drop> From<AllocFailed<T>> for WriteError<E> {
     }
 }
 
-/// Emits what is open in a directory, and returns its written tree, built next to a base. Leaf trees aren't
-/// moved: the pairs have empty trees for them.
-#[cycle(walk)]
-fn emit_below<E, F: FnMut(&Tree) -> Result<ObjectId, E>>(
-    alloc: Global,
-    node: &Open,
-    base: &[Entry],
-    out: &mut F,
-    pairs: &mut Vec<(ObjectId, Tree)>,
-    saved: &mut usize,
-) -> Result<WrittenTree, WriteError<E>>
-    requires callable { IsCallableOnTrees F.pre (answered F.FnMut) out.old }
-    ensures shares_base { IfOk result (SharesBase base.now) }
-    ensures emitted { IfOk result (λ own. (below : List Pair) × (count : ℕ)
-        × EmitsBelow (dirs_of node.now) (bases_of node.now) below (so_far base.now own) count
-        × (saved.new ≡ raised saved.old count)
-        × Adds pairs.old.items pairs.new.items (leaf_trees (inside_of node.now)) below
-        × FoldsTo (answered F.FnMut) out.old below out.new) }
-    ensures storable { IfOk result (λ own. IsStorable (so_far base.now own)) }
-    ensures error { IfErr result (IsWriteError (answered F.FnMut) (denied F.FnMut)
-        (λ ps. (own : List EntryView) × (count : ℕ)
-        × EmitsBelow (dirs_of node.now) (bases_of node.now) ps own count) out.old out.new) }
-{
-    let mut own = WrittenTree::new();
-    let mut slot = Tree::empty(alloc);
-    let tree = node.entries.tree_in(alloc, &mut slot)?;
-    let mut remaining = node.children.remaining();
-    for entry in entries_of(tree) {
-        let (child, tail) = remaining.next_of(entry);
-        remaining = tail;
-        let id = emit_entry(alloc, entry, child, out, pairs, saved)?;
-        append_unless_null(alloc, &mut own, base, entry, id, tree.entries.len())?;
-    }
-    Ok(own)
-}
-
-/// Emits what is open at and below an entry, and returns the id that the entry gets. There is none if the
-/// written tree of its directory is empty.
-#[cycle(walk)]
-fn emit_entry<E, F: FnMut(&Tree) -> Result<ObjectId, E>>(
-    alloc: Global,
-    entry: &Entry,
-    child: Option<&Child>,
-    out: &mut F,
-    pairs: &mut Vec<(ObjectId, Tree)>,
-    saved: &mut usize,
-) -> Result<Option<ObjectId>, WriteError<E>>
-    requires callable { IsCallableOnTrees F.pre (answered F.FnMut) out.old }
-    ensures emitted { IfOk result (λ id. (inner : List Pair) × (count : ℕ)
-        × EmitsEntry (child_side entries_side (option_copied child.entry))
-        (child_side base_side (option_copied child.entry)) entry.now inner
-        (entry_if_some entry.now id) count × (saved.new ≡ raised saved.old count)
-        × Adds pairs.old.items pairs.new.items (child_leaf_trees (option_copied child.entry)) inner
-        × FoldsTo (answered F.FnMut) out.old inner out.new) }
-    ensures error { IfErr result (IsWriteError (answered F.FnMut) (denied F.FnMut)
-        (λ inner. (kept : List EntryView) × (count : ℕ)
-        × EmitsEntry (child_side entries_side (option_copied child.entry))
-        (child_side base_side (option_copied child.entry)) entry.now inner kept count) out.old
-        out.new) }
-{
-    let Some(child) = child else {
-        return Ok(Some(entry.oid));
-    };
-    let mut slot = Tree::empty(alloc);
-    let leaf = child.open.leaf_tree(alloc, &mut slot)?;
-    if let Some(tree) = leaf {
-        let passed = emit_leaf_tree(alloc, tree, out, pairs)?;
-        return Ok(Some(passed));
-    }
-    let base = base_of(&child.open);
-    let own = emit_below(alloc, &child.open, base, out, pairs, saved)?;
-    if own.has_no_entries() {
-        return Ok(None);
-    }
-    if own.is_base(base) {
-        count(saved);
-        let unchanged = entry.oid;
-        return Ok(Some(unchanged));
-    }
-    let tree = own.into_tree(alloc, base)?;
-    let id = emit_tree(tree, out, pairs)?;
-    Ok(Some(id))
-}
-
 /// Emits what is open in a directory, and returns a copy of its written tree, and whether that is its present
 /// tree. A leaf tree is copied at once.
 fn emit_below_copied<E, F: FnMut(&Tree) -> Result<ObjectId, E>>(
@@ -190,9 +106,7 @@ fn emit_below_copied<E, F: FnMut(&Tree) -> Result<ObjectId, E>>(
         let entries = copies(alloc, &tree.entries)?;
         return Ok((Tree { entries }, true));
     }
-    let base = base_of(node);
-    let own = emit_below(alloc, node, base, out, pairs, saved)?;
-    let tree = own.into_tree(alloc, base)?;
+    let tree = emit_below(alloc, node, out, pairs, saved)?;
     Ok((tree, false))
 }
 
@@ -210,15 +124,8 @@ pub(crate) fn base_of(node: &Open) -> &[Entry]
     entries_of(&node.base)
 }
 
-/// Adds one to the number, which saturates.
-fn count(saved: &mut usize)
-    ensures { saved.new ≡ raised saved.old 1 }
-{
-    *saved = saved.saturating_add(1);
-}
-
 /// Emits a tree, and appends it with its id to the pairs.
-fn emit_tree<E, F: FnMut(&Tree) -> Result<ObjectId, E>>(
+pub(crate) fn emit_tree<E, F: FnMut(&Tree) -> Result<ObjectId, E>>(
     tree: Tree,
     out: &mut F,
     pairs: &mut Vec<(ObjectId, Tree)>,
@@ -236,7 +143,7 @@ fn emit_tree<E, F: FnMut(&Tree) -> Result<ObjectId, E>>(
 }
 
 /// Emits a tree without moving it, and appends its id to the pairs, with an empty tree.
-fn emit_leaf_tree<E, F: FnMut(&Tree) -> Result<ObjectId, E>>(
+pub(crate) fn emit_leaf_tree<E, F: FnMut(&Tree) -> Result<ObjectId, E>>(
     alloc: Global,
     tree: &Tree,
     out: &mut F,
@@ -275,32 +182,6 @@ fn emit<E, F: FnMut(&Tree) -> Result<ObjectId, E>>(
     }
 }
 
-/// Appends the entry with the id that it gets, unless that is missing or null. `room` is the maximum of
-/// entries.
-fn append_unless_null(
-    alloc: Global,
-    own: &mut WrittenTree,
-    base: &[Entry],
-    entry: &Entry,
-    id: Option<ObjectId>,
-    room: usize,
-) -> Result<(), AllocError>
-    requires { SharesBase base.now own.old }
-    ensures entries { OnOk result (so_far base.now own.new
-        ≡ so_far base.now own.old ++ entry_if_some entry.now id) }
-    ensures shares_base { OnOk result (SharesBase base.now own.new) }
-    ensures allocates { OnErr result ((rest : List EntryView)
-        → (so_far base.now own.old ++ entry_if_some entry.now id) ++ rest ≢ base.now) }
-{
-    let Some(id) = id else {
-        return Ok(());
-    };
-    if id.is_null() {
-        return Ok(());
-    }
-    own.push(alloc, base, entry, id, room)
-}
-
 /// Writes a directory: emits the changed directories that are open in it, and then its written tree
 /// (git-write-tree).
 ///
@@ -320,8 +201,8 @@ fn append_unless_null(
 ///
 /// A changed directory below this one, in which no directory is open and no id is null, is emitted without a
 /// copy. Its tree is moved after the last call of `out`. Allocates the other emitted trees, including that of
-/// this directory, the list of all and a list of the moved ones; nothing else. The directory keeps its
-/// written tree without a second copy.
+/// this directory, the list of all, a list of the moved ones, and a list as long as the path is deep; nothing
+/// else. The directory keeps its written tree without a second copy.
 ///
 /// # Errors
 ///

@@ -467,8 +467,9 @@ impl<S> Editor<S> {
     ///
     /// `out` must be callable on every well-formed tree without null ids, whatever it was called on before.
     ///
-    /// Allocates the root's tree, two lists of emitted trees, and each emitted tree whose directory has an
-    /// open directory or a null id in it. The other trees are emitted without a copy. It looks nothing up.
+    /// Allocates the root's tree, two lists of emitted trees, a list as long as the path is deep, and each
+    /// emitted tree whose directory has an open directory or a null id in it. The other trees are emitted
+    /// without a copy. It looks nothing up.
     ///
     /// # Errors
     ///

@@ -1,10 +1,9 @@
-use Rattle.std.proofs.Common.{◌∙◌, ℕ, [], List, Some, Ok, Err, refl, sym, ap, subst, append-nil}
+use Rattle.std.proofs.Common.{◌∙◌, ℕ, [], List, Some, Ok, Err, refl, sym, ap, subst}
 use Rattle.std.specs.Fn.{CalledAt}
 use Rattle.gixobj_tree.specs.Entries.{EntryView}
 use Rattle.gixobj_directories.specs.Calls.{IsStorable}
 use Rattle.gixobj_files.specs.Emission.{EmitsBelow, of_entries}
 use Rattle.gixobj_directories.specs.Nested.{Opened, bases_of, dirs_of}
-use Rattle.gixobj_files.specs.WrittenTrees.{so_far}
 use Rattle.gixobj_directories.specs.LeafTrees.{Adds, inside_of, leaf_trees}
 use Rattle.gixobj_directories.proofs.Emitting.{if_err_weaken, stopped_at_call, walk_exists_of_open}
 use Rattle.gixobj_directories.proofs.Levels.{dirs_of_nil}
@@ -37,24 +36,6 @@ pub returns-in-Some-clause-is_at : goal.returns-in-Some-clause-is_at
 returns-in-Some-clause-is_at g c = λ _.
     let some = (rw c.in-Some.is at (c.in_ok-leaf.ensures {u = tt}).found) in
     dirs_of_nil c.args.node.now c.in-Some.tree.now [] (sym some.1) ∙ ap Some (sym ((c.in_ok-entries.ensures {u = tt}) ∙ c.deref.ensures.value ∙ c.tree.view_is))
-
-pub returns-in_err-tree-clause-error : goal.returns-in_err-tree-clause-error
-returns-in_err-tree-clause-error g c =
-    let ok = (c.in_ok-own.ensures {u = tt}).emitted in
-    let own = so_far c.base_of-base.result.now c.in_ok-own.own in
-    if_err_weaken c.from_residual-in_err-tree.result _ _ c.from_residual-in_err-tree.ensures.1
-    (stopped_at_call (λ f p h. CalledAt g.F.FnMut f p.1 (Ok p.0) h) (λ f tree x h. CalledAt g.F.FnMut f tree (Err x) h)
-    (λ ps. (own : List EntryView) × (n : ℕ) × EmitsBelow (dirs_of c.args.node.now) (bases_of c.args.node.now) ps own n) c.args.out.now c.emit_below.new.out ok.0
-    [] ok.5
-    (own, ok.1, rw append-nil ok.2))
-
-pub returns-clause-emitted : goal.returns-clause-emitted
-returns-clause-emitted g c =
-    let ok = (c.in_ok-own.ensures {u = tt}).emitted in
-    (ok.0, ok.1, rw c.in_ok-tree.ensures.tree ok.2, ok.3, ok.4, ok.5)
-
-pub returns-clause-storable : goal.returns-clause-storable
-returns-clause-storable g c = subst IsStorable (sym c.in_ok-tree.ensures.tree) (c.in_ok-own.ensures {u = tt}).storable
 
 pub returns-in_err-leaf-clause-error : goal.returns-in_err-leaf-clause-error
 returns-in_err-leaf-clause-error g c =

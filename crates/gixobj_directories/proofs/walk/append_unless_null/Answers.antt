@@ -1,7 +1,7 @@
 use Rattle.std.proofs.Common.{◌∙◌, append-nil, sym}
 use Rattle.gixobj_files.proofs.NullIds.{is_null_of_test}
 use Rattle.gixobj_files.specs.WrittenTrees.{so_far}
-use Rattle.gixobj_directories.proofs.write.append_unless_null.Goals as goal
+use Rattle.gixobj_directories.proofs.walk.append_unless_null.Goals as goal
 
 pub returns-then-is_null-clause-entries : goal.returns-then-is_null-clause-entries
 returns-then-is_null-clause-entries c =
