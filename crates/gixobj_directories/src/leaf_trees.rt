@@ -61,48 +61,52 @@ impl Open {
 
 /// Settled directories.
 impl Open {
-    /// Makes one piece of the entries of each directory that is open in it, and of its own. Allocates nothing.
+    /// Makes one piece of the entries of the directory, and of those open in it, up to so many levels below.
+    ///
+    /// Allocates nothing.
     #[cycle(settling)]
-    pub(crate) fn settle(&mut self)
+    pub(crate) fn settle(&mut self, levels: u32)
         ensures { self.new ≡ self.old }
     {
         self.entries.settle();
-        self.children.settle();
+        if levels > 0 {
+            self.children.settle(levels - 1);
+        }
     }
 }
 
 impl Children {
-    /// Makes one piece of the entries of each open directory at and below these.
+    /// Makes one piece of the entries of each of these directories, and of those open up to so many levels below.
     #[cycle(settling)]
-    fn settle(&mut self)
+    fn settle(&mut self, levels: u32)
         ensures list { parts (child_list self.new) ≡ parts (child_list self.old) }
         ensures filled { AreFilled self.old → AreFilled self.new }
     {
-        settle_all(&mut self.first);
-        settle_pieces(&mut self.more);
+        settle_all(&mut self.first, levels);
+        settle_pieces(&mut self.more, levels);
     }
 }
 
-/// Makes one piece of the entries of each open directory at and below those in these pieces.
+/// Makes one piece of the entries of each directory in these pieces, and of those open up to so many levels below.
 #[cycle(settling)]
-fn settle_pieces(pieces: &mut [Vec<Child>])
+fn settle_pieces(pieces: &mut [Vec<Child>], levels: u32)
     ensures list { parts (flat_map (λ p. p.items) pieces.new)
         ≡ parts (flat_map (λ p. p.items) pieces.old) }
     ensures filled { AreNonEmpty (λ p. p.items) pieces.old
         → AreNonEmpty (λ p. p.items) pieces.new }
 {
     for piece in pieces.iter_mut() {
-        settle_all(piece);
+        settle_all(piece, levels);
     }
 }
 
-/// Makes one piece of the entries of each open directory at and below these.
+/// Makes one piece of the entries of each of these directories, and of those open up to so many levels below.
 #[cycle(settling)]
-fn settle_all(children: &mut [Child])
+fn settle_all(children: &mut [Child], levels: u32)
     ensures { parts children.new ≡ parts children.old }
 {
     for child in children.iter_mut() {
-        child.open.settle();
+        child.open.settle(levels);
     }
 }
 

@@ -31,6 +31,9 @@ use std::alloc::{AllocError, AllocFailed, Global};
 use std::fmt::Display;
 use std::mem;
 
+/// The number of levels below a written directory at which entries in pieces are made one piece, without a copy.
+const SETTLED_LEVELS: u32 = 64;
+
 /// What a write emitted: the changed trees, and the tree of the written directory. [`write_all`] and
 /// [`write_at`] return it.
 #[derive(Debug, Drop)]
@@ -202,7 +205,8 @@ fn emit<E, F: FnMut(&Tree) -> Result<ObjectId, E>>(
 /// A changed directory below this one, in which no directory is open and no id is null, is emitted without a
 /// copy. Its tree is moved after the last call of `out`. Allocates the other emitted trees, including that of
 /// this directory, the list of all, a list of the moved ones, and a list as long as the path is deep; nothing
-/// else. The directory keeps its written tree without a second copy.
+/// else. The directory keeps its written tree without a second copy. More than 64 levels below, entries in
+/// pieces are copied too.
 ///
 /// # Errors
 ///
@@ -228,11 +232,11 @@ pub fn write_all<E, F: FnMut(&Tree) -> Result<ObjectId, E>>(
         (EmitsSome (dirs_of node.old) (bases_of node.old)) out.old out.new) }
     ensures unchanged { OnErr result (node.new ≡ node.old) }
 {
-    node.settle();
+    node.settle(SETTLED_LEVELS);
     write_settled(alloc, node, out)
 }
 
-/// Writes a directory by the rules of [`write_all`], with the entries of each directory in one piece.
+/// Writes a directory by the rules of [`write_all`]. Entries in pieces are copied into one.
 fn write_settled<E, F: FnMut(&Tree) -> Result<ObjectId, E>>(
     alloc: Global,
     node: &mut Open,
