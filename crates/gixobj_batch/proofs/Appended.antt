@@ -13,7 +13,7 @@ use Rattle.gixobj_records.specs.declared.records.Record.{Record}
 
 -- ---- lines
 
-flat_map_snoc : {X : Type 0} (f : X → List ℕ) (xs : List X) (x : X) → flat_map f (xs ++ x ∷ []) ≡ flat_map f xs ++ f x
+pub flat_map_snoc : {X : Type 0} (f : X → List ℕ) (xs : List X) (x : X) → flat_map f (xs ++ x ∷ []) ≡ flat_map f xs ++ f x
 flat_map_snoc f xs x = flat_map-append f xs (x ∷ []) ∙ ap (λ (tail : List ℕ). flat_map f xs ++ tail) (append-nil (f x))
 
 -- the lines of the items so far, and that of the next

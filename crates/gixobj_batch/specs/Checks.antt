@@ -11,6 +11,9 @@ use Rattle.gix_object.specs.hash.kind.Kind.{Kind}
 use Rattle.gix_object.specs.object.object.borrowed.ObjectRef.{ObjectRef}
 use Rattle.gixobj_batch.specs.declared.checked.BytesFault.{BytesFault}
 use Rattle.gixobj_batch.specs.declared.checked.BytesFault.TheVariants as fault
+use Rattle.gixobj_batch.specs.declared.checked.Finding.{Finding}
+use Rattle.gixobj_batch.specs.declared.checked.Finding.TheVariants as finding
+use Rattle.gixobj_records.specs.Records.{RecordView, missing, object}
 
 -- the id of the bytes, if it isn't this one
 abbrev pub IsOtherId : ObjectId → Kind → List ℕ → Option ObjectId → Type 0
@@ -27,3 +30,11 @@ HasBytesFault hash kind content (Some fault.Malformed) = IsObjectDecodeError has
 HasBytesFault hash kind content (Some fault.OtherBytes) =
     (it : ObjectRef) × DecodesToObject hash kind content it × (¬ EncodesTo it content)
 HasBytesFault hash kind content None = (it : ObjectRef) × DecodesToObject hash kind content it × EncodesTo it content
+
+-- what the check of a record finds: a missing object, or the other id of an object's bytes and their fault
+abbrev pub IsFinding : RecordView → Finding → Type 0
+IsFinding (missing id) (finding.Missing id') = id' ≡ id
+IsFinding (object id kind content) (finding.Checked id' other fault) = (id' ≡ id) × IsOtherId id kind content other
+    × HasBytesFault (id_kind id) kind content fault
+IsFinding (missing id) (finding.Checked id' other fault) = ⊥
+IsFinding (object id kind content) (finding.Missing id') = ⊥

@@ -1,46 +1,63 @@
 //! The command `check`.
-ghost use Rattle.std.specs.Prelude.{◌≡◌, ◌++◌, ◌∷◌, [], OnOk, decimal};
+ghost use Rattle.std.specs.Prelude.{◌≡◌, ◌≤◌, ◌++◌, ◌∷◌, [], IfErr, IfOk, OnOk, decimal, map};
 ghost use Rattle.gix_object.specs.Bytes.{newline};
 ghost use Rattle.gix_object.specs.Hash.{encode_id_hex};
-ghost use Rattle.gixobj_batch.specs.CheckLines.{IsFaultOfCounts, count_line, fault_line, other_line};
+ghost use Rattle.gixobj_batch.specs.CheckLines.{IsFaultOfCounts, PrintsCheck, count_line, fault_line, faulty_count, finding_lines, missing_count, other_line};
+ghost use Rattle.gixobj_batch.specs.declared.fault.Fault.TheVariants as program;
+ghost use Rattle.gixobj_records.specs.Records.{record_view};
 
-use crate::checked::{BytesFault, bytes_fault, other_id};
+use crate::checked::{BytesFault, Finding, finding_of};
 use crate::fault::Fault;
 use crate::lines::push_id;
 use crate::report::Report;
 use gix_object::hash::ObjectId;
-use gix_object::{Kind, OutOfMemory};
 use gixobj_records::Record;
 use itoa::Buffer;
 use std::alloc::{AllocError, Global};
 
-/// What the check of a record found.
-#[derive(Clone, Copy)]
-pub(crate) enum Verdict {
-    /// An object without a fault.
-    Sound,
-    /// An object with faults.
-    Faulty,
-    /// No object.
-    Missing,
-}
-
 /// Checks each object: its id has to be that of its bytes, and its bytes have to be those that its object encodes to.
 /// Prints a line for each fault and each missing object, and one with the numbers of objects.
-pub(crate) fn check(alloc: Global, records: &[Record<'_>]) -> Result<Report, Fault> {
+pub(crate) fn check(alloc: Global, records: &[Record<'_>]) -> Result<Report, Fault>
+    ensures printed { IfOk result (λ report. PrintsCheck (map record_view records.now)
+        report.lines.items report.fault) }
+    ensures error { IfErr result (λ fault. fault ≡ program.OutOfMemory) }
+{
     let mut lines = Vec::new(alloc);
     let mut buffer = Vec::new(alloc);
     let (mut faulty, mut missing) = (0usize, 0usize);
     for it in records {
-        match check_record(alloc, &mut lines, &mut buffer, *it)? {
-            Verdict::Sound => {}
-            Verdict::Faulty => faulty += 1,
-            Verdict::Missing => missing += 1,
-        }
+        let finding = finding_of(alloc, &mut buffer, *it)?;
+        push_finding(&mut lines, finding)?;
+        faulty += count_faulty(finding);
+        missing += count_missing(finding);
     }
     push_counts(&mut lines, records.len() - missing, faulty, missing)?;
     let fault = fault_of(faulty, missing);
     Ok(Report { lines, fault })
+}
+
+/// One for a faulty object, else zero.
+fn count_faulty(finding: Finding) -> usize
+    ensures counted { result ≡ faulty_count finding }
+    ensures bounded { result ≤ 1 }
+{
+    match finding {
+        Finding::Missing { .. } => 0,
+        Finding::Checked { other: Some(_), .. } => 1,
+        Finding::Checked { fault: Some(_), .. } => 1,
+        Finding::Checked { .. } => 0,
+    }
+}
+
+/// One for a missing object, else zero.
+fn count_missing(finding: Finding) -> usize
+    ensures counted { result ≡ missing_count finding }
+    ensures bounded { result ≤ 1 }
+{
+    match finding {
+        Finding::Missing { .. } => 1,
+        Finding::Checked { .. } => 0,
+    }
 }
 
 /// The error after a check with these numbers of faulty and of missing objects, or `None`.
@@ -56,40 +73,16 @@ fn fault_of(faulty: usize, missing: usize) -> Option<Fault>
     None
 }
 
-/// Appends the lines of a record. The buffer is for encodings.
-fn check_record(
-    alloc: Global,
-    lines: &mut Vec<u8>,
-    buffer: &mut Vec<u8>,
-    it: Record<'_>,
-) -> Result<Verdict, OutOfMemory> {
-    match it {
-        Record::Object { id, kind, content } => {
-            check_object(alloc, lines, buffer, id, kind, content)
+/// Appends the lines of a finding: none for an object without a fault.
+fn push_finding(lines: &mut Vec<u8>, finding: Finding) -> Result<(), AllocError>
+    ensures { OnOk result (lines.new.items ≡ lines.old.items ++ finding_lines finding) }
+{
+    match finding {
+        Finding::Missing { id } => push_line(lines, id, b" is missing"),
+        Finding::Checked { id, other, fault } => {
+            push_other(lines, id, other)?;
+            push_fault(lines, id, fault)
         }
-        Record::Missing { id } => {
-            push_line(lines, id, b" is missing")?;
-            Ok(Verdict::Missing)
-        }
-    }
-}
-
-/// Appends a line for each fault of an object.
-fn check_object(
-    alloc: Global,
-    lines: &mut Vec<u8>,
-    buffer: &mut Vec<u8>,
-    id: ObjectId,
-    kind: Kind,
-    content: &[u8],
-) -> Result<Verdict, OutOfMemory> {
-    let other = other_id(id, kind, content);
-    let fault = bytes_fault(alloc, buffer, id.kind(), kind, content)?;
-    push_other(lines, id, other)?;
-    push_fault(lines, id, fault)?;
-    match (other, fault) {
-        (None, None) => Ok(Verdict::Sound),
-        _ => Ok(Verdict::Faulty),
     }
 }
 
