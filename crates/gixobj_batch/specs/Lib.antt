@@ -1,3 +1,4 @@
+pub mod Arguments
 pub mod CheckLines
 pub mod Checks
 pub mod Lines

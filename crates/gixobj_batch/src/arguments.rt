@@ -1,4 +1,7 @@
 //! The command that the arguments of the program name.
+ghost use Rattle.std.specs.Prelude.{[], ◌∷◌, IfNone, IfSome, map};
+ghost use Rattle.std.specs.String.{string_bytes};
+ghost use Rattle.gixobj_batch.specs.Arguments.{IsIdArgument, NamesCommand, NamesNoCommand, NamesNoId};
 
 use crate::fault::Fault;
 use gix_object::hash::ObjectId;
@@ -30,19 +33,65 @@ pub(crate) fn process_command<R: Env + AllocGlobal>(rt: &R) -> Result<Command, F
 }
 
 /// Returns the command that the arguments name, or `None`. An id is in hex, of either case.
-pub(crate) fn command_of(words: &[String]) -> Option<Command> {
+pub(crate) fn command_of(words: &[String]) -> Option<Command>
+    ensures found { IfSome result (NamesCommand (map string_bytes words.now)) }
+    ensures none { IfNone result (NamesNoCommand (map string_bytes words.now)) }
+{
     match words {
-        [name] if name.as_str() == "check" => Some(Command::Check),
-        [name, id] if name.as_str() == "log" => Some(Command::Log(id_of(id)?)),
-        [name, id] if name.as_str() == "ls" => Some(Command::List(id_of(id)?)),
-        [name, from, to] if name.as_str() == "diff" => {
-            Some(Command::Diff(id_of(from)?, id_of(to)?))
-        }
+        [name] => command_alone(name),
+        [name, id] => command_of_id(name, id),
+        [name, from, to] => command_of_ids(name, from, to),
         _ => None,
     }
 }
 
+/// Returns the command that a name alone names, or `None`.
+fn command_alone(name: &String) -> Option<Command>
+    ensures found { IfSome result (NamesCommand (string_bytes name.now ∷ [])) }
+    ensures none { IfNone result (NamesNoCommand (string_bytes name.now ∷ [])) }
+{
+    if name.as_str() == "check" {
+        return Some(Command::Check);
+    }
+    None
+}
+
+/// Returns the command that a name and an id name, or `None`.
+fn command_of_id(name: &String, id: &String) -> Option<Command>
+    ensures found { IfSome result
+        (NamesCommand (string_bytes name.now ∷ string_bytes id.now ∷ [])) }
+    ensures none { IfNone result
+        (NamesNoCommand (string_bytes name.now ∷ string_bytes id.now ∷ [])) }
+{
+    let id = id_of(id)?;
+    if name.as_str() == "log" {
+        return Some(Command::Log(id));
+    }
+    if name.as_str() == "ls" {
+        return Some(Command::List(id));
+    }
+    None
+}
+
+/// Returns the command that a name and two ids name, or `None`.
+fn command_of_ids(name: &String, from: &String, to: &String) -> Option<Command>
+    ensures found { IfSome result (NamesCommand
+        (string_bytes name.now ∷ string_bytes from.now ∷ string_bytes to.now ∷ [])) }
+    ensures none { IfNone result (NamesNoCommand
+        (string_bytes name.now ∷ string_bytes from.now ∷ string_bytes to.now ∷ [])) }
+{
+    let before = id_of(from)?;
+    let after = id_of(to)?;
+    if name.as_str() == "diff" {
+        return Some(Command::Diff(before, after));
+    }
+    None
+}
+
 /// Returns the id of an argument, or `None` if it is no hex of an id.
-fn id_of(word: &String) -> Option<ObjectId> {
+fn id_of(word: &String) -> Option<ObjectId>
+    ensures found { IfSome result (IsIdArgument (string_bytes word.now)) }
+    ensures none { IfNone result (NamesNoId (string_bytes word.now)) }
+{
     ObjectId::from_hex(word.as_bytes())
 }
