@@ -1,4 +1,4 @@
--- The lines of an assembled message are its trailer block; the law `assembled_message_has_parts` uses it.
+-- The lines of an assembled message are its trailer block; the laws of `laws` use it.
 use Rattle.std.proofs.Common.{◌≡◌, ◌≢◌, ◌<◌, ◌↔◌, ◌∙◌, ◌+◌, ◌||◌, ◌++◌, ◌∷◌, ℕ, [], Bool, List, Option, Some, ap, append-nil, arith, cond, false, inl, inr, length, map, refl, slice_index, subst, suc, sym, true, zero, None}
 use Rattle.std.proofs.lemmas.Bool.Decides.{nat_tests}
 use Rattle.std.proofs.lemmas.List.Elements.{All-cons, All-head, All-nil, All-tail}
@@ -19,7 +19,7 @@ use Rattle.gixobj_messages.specs.Assembled.{IsLineTrailer, IsTitleLine, assemble
 
 -- ---- the content of a trailer's line
 
-without_last_append : (byte y : ℕ) (xs ys : List ℕ) → without_last_byte byte (xs ++ y ∷ ys) ≡ xs ++ without_last_byte byte (y ∷ ys)
+pub without_last_append : (byte y : ℕ) (xs ys : List ℕ) → without_last_byte byte (xs ++ y ∷ ys) ≡ xs ++ without_last_byte byte (y ∷ ys)
 without_last_append byte y [] ys = refl
 without_last_append byte y (x ∷ []) ys = refl
 without_last_append byte y (x ∷ z ∷ xs) ys = ap (λ (l : List ℕ). x ∷ l) (without_last_append byte y (z ∷ xs) ys)
@@ -99,7 +99,7 @@ no_continuation_of_line trailer line is = ap (λ (b : Bool). not (is_blank line)
 -- ---- the lines of a block
 
 -- the bytes before the newline of a line have none
-ends_line : (content : List ℕ) → slice_index (content ++ 10 ∷ []) (length (content ++ 10 ∷ []) - 1) ≡ 10
+pub ends_line : (content : List ℕ) → slice_index (content ++ 10 ∷ []) (length (content ++ 10 ∷ []) - 1) ≡ 10
 ends_line [] = refl
 ends_line (x ∷ []) = refl
 ends_line (x ∷ y ∷ content) =
@@ -115,7 +115,7 @@ line_not_empty : (content : List ℕ) → 0 < length (content ++ 10 ∷ [])
 line_not_empty [] = omega arith
 line_not_empty (x ∷ content) = omega arith
 
-lines_of_line_append : (content rest : List ℕ) → IsByteFree 10 content → lines_of ((content ++ 10 ∷ []) ++ rest) ≡ (content ++ 10 ∷ []) ∷ lines_of rest
+pub lines_of_line_append : (content rest : List ℕ) → IsByteFree 10 content → lines_of ((content ++ 10 ∷ []) ++ rest) ≡ (content ++ 10 ∷ []) ∷ lines_of rest
 lines_of_line_append content rest free =
     let line = content ++ 10 ∷ [] in
     lines-append (length line) line rest (omega arith) (inr (ends_line content))
@@ -137,7 +137,7 @@ free_content trailer is = free_append trailer.token (58 ∷ 32 ∷ trailer.value
     (All-cons (λ (it : ℕ). it ≢ 10) 58 (32 ∷ trailer.value) (λ same. cc same)
     (All-cons (λ (it : ℕ). it ≢ 10) 32 trailer.value (λ same. cc same) is.one_line))
 
-lines_of_trailers : (trailers : List TrailerView) → All IsLineTrailer trailers → lines_of (trailer_lines trailers) ≡ map trailer_line trailers
+pub lines_of_trailers : (trailers : List TrailerView) → All IsLineTrailer trailers → lines_of (trailer_lines trailers) ≡ map trailer_line trailers
 lines_of_trailers [] all = lines-nil
 lines_of_trailers (trailer ∷ trailers) all =
     lines_of_line_append (trailer_content trailer) (trailer_lines trailers) (free_content trailer (All-head IsLineTrailer trailer trailers all))
@@ -145,7 +145,8 @@ lines_of_trailers (trailer ∷ trailers) all =
 
 -- ---- the block
 
-no_others : TrailerLineDecodes → (above : Bool) (trailers : List TrailerView) → All IsLineTrailer trailers → count_others above (map trailer_line trailers) ≡ 0
+pub no_others : TrailerLineDecodes → (above : Bool) (trailers : List TrailerView) → All IsLineTrailer trailers
+    → count_others above (map trailer_line trailers) ≡ 0
 no_others decodes above [] all = refl
 no_others decodes above (trailer ∷ trailers) all =
     let is = line_of_trailer decodes trailer (All-head IsLineTrailer trailer trailers all) in
@@ -154,7 +155,8 @@ no_others decodes above (trailer ∷ trailers) all =
     (1 + count_others false (map trailer_line trailers)))) (counts_of_line trailer (trailer_line trailer) is)
     ∙ no_others decodes true trailers (All-tail IsLineTrailer trailer trailers all)
 
-some_trailers : TrailerLineDecodes → (trailers : List TrailerView) → trailers ≢ [] → All IsLineTrailer trailers → 0 < trailer_count (map trailer_line trailers)
+pub some_trailers : TrailerLineDecodes → (trailers : List TrailerView) → trailers ≢ [] → All IsLineTrailer trailers
+    → 0 < trailer_count (map trailer_line trailers)
 some_trailers decodes [] some all = absurd (some refl)
 some_trailers decodes (trailer ∷ trailers) some all =
     let is = line_of_trailer decodes trailer (All-head IsLineTrailer trailer trailers all) in
@@ -166,14 +168,14 @@ some_trailers decodes (trailer ∷ trailers) some all =
     positive : (n : ℕ) → 0 < 1 + n
     positive n = omega arith
 
-none_blank : TrailerLineDecodes → (trailers : List TrailerView) → All IsLineTrailer trailers
+pub none_blank : TrailerLineDecodes → (trailers : List TrailerView) → All IsLineTrailer trailers
     → All (λ line. IsFalse (is_blank line)) (map trailer_line trailers)
 none_blank decodes [] all = All-nil (λ (line : List ℕ). IsFalse (is_blank line))
 none_blank decodes (trailer ∷ trailers) all = All-cons (λ (line : List ℕ). IsFalse (is_blank line)) (trailer_line trailer) (map trailer_line trailers)
     (line_of_trailer decodes trailer (All-head IsLineTrailer trailer trailers all)).blank
     (none_blank decodes trailers (All-tail IsLineTrailer trailer trailers all))
 
-map_not_nil : (trailers : List TrailerView) → trailers ≢ [] → map trailer_line trailers ≢ []
+pub map_not_nil : (trailers : List TrailerView) → trailers ≢ [] → map trailer_line trailers ≢ []
 map_not_nil [] some none = some refl
 map_not_nil (trailer ∷ trailers) some none = cc none
 
@@ -205,7 +207,7 @@ no_continuation decodes (trailer ∷ trailers) all =
     ∙ ap (λ (b : Bool). cond b (trailer_line trailer ∷ take_while is_continuation_line (map trailer_line trailers)) [])
     (no_continuation_of_line trailer (trailer_line trailer) is)
 
-trailers_of_lines : TrailerLineDecodes → (trailers : List TrailerView) → All IsLineTrailer trailers → trailers_of (map trailer_line trailers) ≡ trailers
+pub trailers_of_lines : TrailerLineDecodes → (trailers : List TrailerView) → All IsLineTrailer trailers → trailers_of (map trailer_line trailers) ≡ trailers
 trailers_of_lines decodes [] all = refl
 trailers_of_lines decodes (trailer ∷ trailers) all =
     let its = All-head IsLineTrailer trailer trailers all in

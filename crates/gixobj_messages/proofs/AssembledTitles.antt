@@ -1,11 +1,11 @@
 -- An assembled message splits at the end of its title; the law `assembled_message_has_parts` uses it.
-use Rattle.std.proofs.Common.{◌≡◌, ◌≢◌, ◌≤◌, ◌∙◌, ◌++◌, ◌∷◌, ℕ, [], List, append_assoc, arith, length, refl, subst, sym, inl}
+use Rattle.std.proofs.Common.{◌≡◌, ◌≢◌, ◌≤◌, ◌∙◌, ◌++◌, ◌∷◌, ℕ, [], List, Some, append_assoc, arith, length, refl, subst, sym, inl}
 use Rattle.std.proofs.lemmas.List.Elements.{All-head, All-tail}
 use Rattle.gix_object.specs.BodyLines.{without_last_byte}
 use Rattle.gix_object.specs.ByteStrings.{IsByteFree}
 use Rattle.gix_object.specs.Titles.{IsBreak, SplitsTitle, after_return, alone, IsSplitAtBreaks}
 use Rattle.gix_object.specs.Trailers.{TrailerView}
-use Rattle.gixobj_messages.specs.Assembled.{IsTitleLine, assembled_message, trailer_lines, trailer_body}
+use Rattle.gixobj_messages.specs.Assembled.{IsTitleLine, assembled_message, described_body, described_message, trailer_body, trailer_lines, trailer_section}
 
 cons_injective : (x y : ℕ) (xs ys : List ℕ) → x ∷ xs ≡ y ∷ ys → xs ≡ ys
 cons_injective x y xs ys same = cc same
@@ -61,21 +61,29 @@ lines_not_nil (trailer ∷ trailers) some none = absurd (not_nil trailer.token t
     not_nil [] value rest none = cc none
     not_nil (byte ∷ token) value rest none = cc none
 
-split_of_assembled : (title : List ℕ) (trailers : List TrailerView) → IsTitleLine title
-    → IsSplitAtBreaks (assembled_message title trailers) title (trailer_lines trailers)
-split_of_assembled title trailers is = record {
+-- a title of one line ends at the empty line after it
+split_of_title : (title body : List ℕ) → IsTitleLine title → IsSplitAtBreaks (title ++ 10 ∷ 10 ∷ body) title body
+split_of_title title body is = record {
   here = record {
     first = 10 ∷ [];
     second = 10 ∷ [];
     breaks = (alone, alone);
-    joined = sym (breaks_append title (10 ∷ []) (10 ∷ []) (trailer_lines trailers));
+    joined = sym (breaks_append title (10 ∷ []) (10 ∷ []) body);
   };
-  minimum = λ prefix rest has. title_le_breaks title (10 ∷ 10 ∷ trailer_lines trailers) prefix rest has.first has.second is
-      has.breaks.0 has.breaks.1 has.joined;
+  minimum = λ prefix rest has. title_le_breaks title (10 ∷ 10 ∷ body) prefix rest has.first has.second is has.breaks.0 has.breaks.1 has.joined;
 }
+
+append_not_nil : (xs : List ℕ) (y : ℕ) (ys : List ℕ) → xs ++ y ∷ ys ≢ []
+append_not_nil [] y ys none = cc none
+append_not_nil (x ∷ xs) y ys none = cc none
+
+pub title_of_described_message : (title description : List ℕ) (trailers : List TrailerView) → IsTitleLine title
+    → SplitsTitle (described_message title description trailers) title (Some (described_body description trailers))
+title_of_described_message title description trailers is =
+    (split_of_title title (described_body description trailers) is, append_not_nil description 10 (trailer_section trailers))
 
 pub title_of_assembled : (title : List ℕ) (trailers : List TrailerView) → IsTitleLine title
     → SplitsTitle (assembled_message title trailers) title (trailer_body trailers)
-title_of_assembled title [] is = inl (split_of_assembled title [] is)
+title_of_assembled title [] is = inl (split_of_title title (trailer_lines []) is)
 title_of_assembled title (trailer ∷ trailers) is =
-    (split_of_assembled title (trailer ∷ trailers) is, lines_not_nil (trailer ∷ trailers) (λ none. cc none))
+    (split_of_title title (trailer_lines (trailer ∷ trailers)) is, lines_not_nil (trailer ∷ trailers) (λ none. cc none))

@@ -3,3 +3,4 @@ mod AssembledTitles
 pub mod Assembling
 pub mod Returns
 pub mod Renaming
+mod Descriptions

@@ -6,6 +6,7 @@ use Rattle.gix_object.specs.BodyLines.{carriage_return, colon, is_token_byte, wi
 use Rattle.gix_object.specs.ByteStrings.{IsByteFree, trimmed}
 use Rattle.gix_object.specs.MessageTrailers.{HasTrailers}
 use Rattle.gix_object.specs.Titles.{SplitsTitle}
+use Rattle.gix_object.specs.TrailerBlocks.{IsTrailerBlockStart}
 use Rattle.gix_object.specs.TrailerNames.{is_named}
 use Rattle.gix_object.specs.Trailers.{TrailerView}
 use Rattle.gixobj_messages.specs.declared.assembler.MessageError.{MessageError}
@@ -46,6 +47,21 @@ abbrev pub trailer_body : List TrailerView → Option (List ℕ)
 trailer_body [] = None
 trailer_body (trailer ∷ trailers) = Some (trailer_lines (trailer ∷ trailers))
 
+-- ---- a description before the trailers
+
+-- an empty line, and the lines of the trailers; nothing without trailers
+abbrev pub trailer_section : List TrailerView → List ℕ
+trailer_section [] = []
+trailer_section (trailer ∷ trailers) = newline ∷ trailer_lines (trailer ∷ trailers)
+
+-- the body of a description, with a newline after it, and trailers
+abbrev pub described_body : List ℕ → List TrailerView → List ℕ
+described_body description trailers = description ++ newline ∷ trailer_section trailers
+
+-- the message of a title, an empty line, a description and trailers
+abbrev pub described_message : List ℕ → List ℕ → List TrailerView → List ℕ
+described_message title description trailers = title ++ newline ∷ newline ∷ described_body description trailers
+
 -- ---- results
 
 -- a token: one byte at least, and token bytes alone
@@ -60,13 +76,40 @@ pub record IsMessageOf (title : List ℕ) (trailers : List TrailerView) (bytes :
   pub split : SplitsTitle bytes title (trailer_body trailers)
   pub has : HasTrailers bytes trailers
 
+-- the bytes are the message of this title, this description and these trailers, each of one line; it has this title. If
+-- there are trailers, it has them; if the description doesn't end in a carriage return, their block follows it
+pub record IsDescribedMessageOf (title description : List ℕ) (trailers : List TrailerView)
+    (bytes : List ℕ) : Type 0 where
+  pub message : bytes ≡ described_message title description trailers
+  pub one_line : IsTitleLine title
+  pub lines : All IsLineTrailer trailers
+  pub split : SplitsTitle bytes title (Some (described_body description trailers))
+  pub start : trailers ≢ [] → without_last_byte carriage_return description ≡ description
+      → IsTrailerBlockStart (described_body description trailers) (length description)
+  pub has : trailers ≢ [] → HasTrailers bytes trailers
+
+-- this is the index of the first trailer that isn't one line
+abbrev pub IsFirstOther : List TrailerView → ℕ → Type 0
+IsFirstOther trailers index = (before after : List TrailerView) × (trailer : TrailerView)
+    × (trailers ≡ before ++ trailer ∷ after) × (length before ≡ index) × All IsLineTrailer before
+    × (¬ IsLineTrailer trailer)
+
+-- the errors of a title: it isn't one line
+abbrev pub IsTitleError : List ℕ → MessageError → Type 0
+IsTitleError title message.Title = ¬ IsTitleLine title
+IsTitleError title (message.Trailer index) = ⊥
+IsTitleError title message.OutOfMemory = ⊤
+
+-- the errors of trailers: of the first that isn't one line
+abbrev pub IsTrailerError : List TrailerView → MessageError → Type 0
+IsTrailerError trailers message.Title = ⊥
+IsTrailerError trailers (message.Trailer index) = IsFirstOther trailers index
+IsTrailerError trailers message.OutOfMemory = ⊤
+
 -- the errors of a message: of a title that isn't one line; or else of the first trailer that isn't one line
 abbrev pub IsMessageError : List ℕ → List TrailerView → MessageError → Type 0
 IsMessageError title trailers message.Title = ¬ IsTitleLine title
-IsMessageError title trailers (message.Trailer index) = IsTitleLine title
-    × (before after : List TrailerView) × (trailer : TrailerView)
-    × (trailers ≡ before ++ trailer ∷ after) × (length before ≡ index) × All IsLineTrailer before
-    × (¬ IsLineTrailer trailer)
+IsMessageError title trailers (message.Trailer index) = IsTitleLine title × IsFirstOther trailers index
 IsMessageError title trailers message.OutOfMemory = ⊤
 
 -- ---- renamed trailers

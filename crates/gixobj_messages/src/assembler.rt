@@ -1,10 +1,11 @@
 //! An assembler of messages (git-interpret-trailers).
-ghost use Rattle.std.specs.Prelude.{◌≡◌, ◌↔◌, ◌++◌, IfErr, IfOk, IsFalse, IsTrue, OnOk};
+ghost use Rattle.std.specs.Prelude.{◌≡◌, ◌↔◌, ◌++◌, ◌∷◌, [], All, IfErr, IfOk, IsFalse, IsTrue, OnOk};
+ghost use Rattle.gix_object.specs.Bytes.{newline};
 ghost use Rattle.gix_object.specs.BodyLines as lines;
 ghost use Rattle.gix_object.specs.BodyLines.{carriage_return, without_last_byte};
-ghost use Rattle.gixobj_messages.specs.Assembled.{IsLineTrailer, IsMessageError, IsMessageOf, IsTitleLine, IsToken, trailer_line};
+ghost use Rattle.gixobj_messages.specs.Assembled.{IsDescribedMessageOf, IsLineTrailer, IsMessageError, IsMessageOf, IsTitleError, IsTitleLine, IsToken, IsTrailerError, trailer_line, trailer_lines, trailer_section};
 
-use crate::laws::assembled_message_has_parts;
+use crate::laws::{assembled_message_has_parts, described_message_has_parts};
 use bstr::{BString, ByteSlice};
 use gix_object::OutOfMemory;
 use std::alloc::{AllocError, Global};
@@ -31,7 +32,7 @@ impl Model for Trailer {
     } };
 }
 
-/// The error of [`message_of`].
+/// The error of [`message_of`] and of [`message_with_description`].
 #[derive(Debug, Drop, thiserror::Error)]
 pub enum MessageError {
     /// The title has a newline, or ends in a carriage return.
@@ -87,18 +88,89 @@ pub fn message_of(
     ensures error { IfErr result (IsMessageError title.now trailers.now) }
 {
     assembled_message_has_parts();
+    let mut message = begin_message(alloc, title)?;
+    push_trailers(alloc, &mut message, trailers)?;
+    Ok(message)
+}
+
+/// Assembles a message: the title, an empty line, a description, another empty line, and a line for each trailer.
+///
+/// The message has this title; its body begins with the description and a newline. With trailers it has these
+/// trailers, and without trailers no second empty line. Allocates the message.
+///
+/// # Errors
+///
+/// - [`MessageError::Title`] if the title isn't one line;
+/// - [`MessageError::Trailer`] with the index of the first trailer that isn't one line;
+/// - [`MessageError::OutOfMemory`] if allocation fails.
+pub fn message_with_description(
+    alloc: Global,
+    title: &[u8],
+    description: &[u8],
+    trailers: &[Trailer],
+) -> Result<Vec<u8>, MessageError>
+    ensures message { IfOk result (λ it.
+        IsDescribedMessageOf title.now description.now trailers.now it.items) }
+    ensures error { IfErr result (IsMessageError title.now trailers.now) }
+{
+    described_message_has_parts();
+    let mut message = begin_message(alloc, title)?;
+    message.extend_from_slice(description)?;
+    message.extend_from_slice(b"\n")?;
+    push_section(alloc, &mut message, trailers)?;
+    Ok(message)
+}
+
+/// Begins a message: the title, and an empty line.
+fn begin_message(alloc: Global, title: &[u8]) -> Result<Vec<u8>, MessageError>
+    ensures begun { IfOk result (λ it. it.items ≡ title.now ++ newline ∷ newline ∷ []) }
+    ensures one_line { OnOk result (IsTitleLine title.now) }
+    ensures error { IfErr result (IsTitleError title.now) }
+{
     if !is_title_line(title) {
         return Err(MessageError::Title);
     }
     let mut message = Vec::from_slice(alloc, title)?;
     message.extend_from_slice(b"\n\n")?;
+    Ok(message)
+}
+
+/// Appends an empty line and a line for each trailer, or nothing without trailers.
+fn push_section(
+    alloc: Global,
+    message: &mut Vec<u8>,
+    trailers: &[Trailer],
+) -> Result<(), MessageError>
+    ensures appended { OnOk result (message.new.items
+        ≡ message.old.items ++ trailer_section trailers.now) }
+    ensures lines { OnOk result (All IsLineTrailer trailers.now) }
+    ensures error { IfErr result (IsTrailerError trailers.now) }
+{
+    if trailers.is_empty() {
+        return Ok(());
+    }
+    message.extend_from_slice(b"\n")?;
+    push_trailers(alloc, message, trailers)
+}
+
+/// Appends a line for each trailer.
+fn push_trailers(
+    alloc: Global,
+    message: &mut Vec<u8>,
+    trailers: &[Trailer],
+) -> Result<(), MessageError>
+    ensures appended { OnOk result (message.new.items
+        ≡ message.old.items ++ trailer_lines trailers.now) }
+    ensures lines { OnOk result (All IsLineTrailer trailers.now) }
+    ensures error { IfErr result (IsTrailerError trailers.now) }
+{
     for index in 0..trailers.len() {
         if !is_line_trailer(alloc, &trailers[index])? {
             return Err(MessageError::Trailer { index });
         }
-        push_line(&mut message, &trailers[index])?;
+        push_line(message, &trailers[index])?;
     }
-    Ok(message)
+    Ok(())
 }
 
 /// Tests if a title is one line.

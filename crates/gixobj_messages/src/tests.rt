@@ -1,12 +1,21 @@
 //! Messages that `git interpret-trailers` writes and reads.
 
-use crate::assembler::{MessageError, Trailer, message_of};
+use crate::assembler::{MessageError, Trailer, message_of, message_with_description};
 use crate::rewriter::with_renamed_trailers;
 use bstr::BString;
 use std::alloc::{AllocError, Global};
 
 /// The output of `git interpret-trailers --trailer 'Acked-by: A <a@x>' --trailer 'Ticket: 12'` for the title.
 const ASSEMBLED: &[u8] = b"Add a reader\n\nAcked-by: A <a@x>\nTicket: 12\n";
+
+/// The output of the same call for a message of this title and two paragraphs.
+const DESCRIBED: &[u8] = b"Add a reader\n\n\
+    It reads.\n\n\
+    Note: not a trailer,\nfor a line follows.\n\n\
+    Acked-by: A <a@x>\nTicket: 12\n";
+
+/// The paragraphs of this message.
+const DESCRIPTION: &[u8] = b"It reads.\n\nNote: not a trailer,\nfor a line follows.";
 
 /// A message with three trailers; the value of the second has two lines.
 const ACKED: &[u8] = b"Add a reader\n\n\
@@ -68,6 +77,30 @@ fn assembles_message_of_one_line_parts(rt: HostRuntime) {
     assert!(rt; is_title_error(acked(alloc, b"Add\nit", b"Acked-by", b"A <a@x>")));
     assert!(rt; is_first_trailer_error(acked(alloc, b"Add a reader", b"Acked by", b"A <a@x>")));
     assert!(rt; is_first_trailer_error(acked(alloc, b"Add a reader", b"Acked-by", b"A <a@x> ")));
+}
+
+/// The message of a title, a description, and two trailers.
+fn described(alloc: Global, title: &[u8], token: &[u8]) -> Result<Vec<u8>, MessageError> {
+    let trailers = [
+        trailer(alloc, token, b"A <a@x>")?,
+        trailer(alloc, b"Ticket", b"12")?,
+    ];
+    message_with_description(alloc, title, DESCRIPTION, &trailers)
+}
+
+#[test]
+fn assembles_message_with_description(rt: HostRuntime) {
+    let alloc = rt.alloc();
+    assert!(rt; is_message(described(alloc, b"Add a reader", b"Acked-by"), DESCRIBED));
+    assert!(rt; is_title_error(described(alloc, b"Add\nit", b"Acked-by")));
+    assert!(rt; is_first_trailer_error(described(alloc, b"Add a reader", b"Acked by")));
+}
+
+/// The message that `git interpret-trailers` prints for itself, without trailers.
+#[test]
+fn ends_description_without_trailers(rt: HostRuntime) {
+    let message = message_with_description(rt.alloc(), b"Add a reader", b"It reads.", &[]);
+    assert!(rt; is_message(message, b"Add a reader\n\nIt reads.\n"));
 }
 
 /// The message with another token for `acked-by`.
