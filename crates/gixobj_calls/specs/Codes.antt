@@ -75,10 +75,6 @@ mismatch = 11
 abbrev pub bad_line : ℕ
 bad_line = 12
 
--- a command of a script is no edit
-abbrev pub not_an_edit : ℕ
-not_an_edit = 13
-
 -- a name of a path is invalid
 abbrev pub invalid_name : ℕ
 invalid_name = 14

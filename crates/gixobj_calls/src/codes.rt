@@ -31,8 +31,6 @@ pub const MISMATCH: u32 = 11;
 
 /// A line of a script is neither empty nor a command.
 pub const BAD_LINE: u32 = 12;
-/// A command of a script is no edit.
-pub const NOT_AN_EDIT: u32 = 13;
 /// A name of a path is invalid.
 pub const INVALID_NAME: u32 = 14;
 /// The path of a leaf is that of a directory.

@@ -1,17 +1,20 @@
 -- The results of the call by its parts.
-use Rattle.std.proofs.Common.{◌≡◌, ◌∷◌, ◌++◌, ◌+◌, ◌∙◌, List, [], ℕ, ap, inr, length, refl, subst, sym}
+use Rattle.std.proofs.Common.{◌≡◌, ◌∷◌, ◌++◌, ◌-◌, ◌∙◌, Contains, List, [], ℕ, ap, arith, inr, length, length-append, refl, subst, sym, take}
+use Rattle.std.proofs.Math.Seq.{take-append_seam}
+use Rattle.std.proofs.lemmas.List.Elements.{All-contains, All-take, Contains-push}
 use Rattle.std.specs.Fn.{FnReturnsAt, Shared}
 use Rattle.std.specs.List.{flat_map}
-use Rattle.std.specs.Option.{option_to_list}
-use Rattle.std.specs.Prelude.{Ok, Option, Result, Some}
+use Rattle.std.specs.Prelude.{None, Option, Result, Some, option_copied, slice_get}
 use denote.Ref.{Bor}
 use Rattle.gixobj_directories.specs.declared.write.WriteError.TheVariants as write
 use Rattle.gixobj_directories.specs.declared.write.Written.{Written}
 use Rattle.gixobj_edit.specs.Edits.{HasRun, IsCommandsOf, IsEditError, IsEmitted, IsRepliesError, IsStart, IsStartError}
-use Rattle.gixobj_edit.specs.Frames.{HoldsFrames, IsFramesEncodeError, encode_frame}
-use Rattle.gixobj_edit.specs.Replies.{AreDone, write_result}
+use Rattle.gixobj_edit.specs.Frames.{HoldsFrames, encode_frame}
+use Rattle.gixobj_edit.specs.Replies.{AreDone, EndsInWrite, IsReplyToWrite, written_id}
 use Rattle.gixobj_edit.specs.Roots.{IsRootError}
 use Rattle.gixobj_edit.specs.declared.failure.Failure.{Failure}
+use Rattle.gixobj_edit.proofs.EditRuns.{IsDone}
+use Rattle.gixobj_editor.specs.Commands.{emitted_pairs}
 use Rattle.gixobj_editor.specs.Replies.{IsRun}
 use Rattle.gixobj_editor.specs.declared.command.Command.{Command}
 use Rattle.gixobj_editor.specs.declared.reply.EditReply.TheVariants as edit_reply
@@ -27,50 +30,83 @@ use Rattle.gixobj_keep.specs.declared.memory.Memory.{Memory}
 use Rattle.gixobj_script.proofs.Wider.{run_wider}
 use Rattle.gixobj_script.specs.Edits.{memory_model}
 use Rattle.gixobj_store.specs.Stores.{Objects}
-use Rattle.gixobj_tree.specs.Entries.{EntryView, Pair}
+use Rattle.gixobj_tree.specs.Entries.{EntryView}
 use Rattle.gixobj_tree.specs.TreeEncoding.{IsDigestResult}
 
--- ---- the write
+-- ---- the replies
 
-reply_of_written : (last : Reply Error) (written : Written) → write_result last ≡ Ok written → last ≡ reply.Edit (edit_reply.Written written)
-reply_of_written (reply.Edit (edit_reply.Written other)) written is = cc is
-reply_of_written (reply.Edit edit_reply.Done) written is = absurd (cc is)
-reply_of_written (reply.Edit (edit_reply.Refused error)) written is = absurd (cc is)
-reply_of_written (reply.Edit (edit_reply.WriteRefused (write.Out error))) written is = absurd (cc is)
-reply_of_written (reply.Edit (edit_reply.WriteRefused write.OutOfMemory)) written is = absurd (cc is)
-reply_of_written (reply.Edit (edit_reply.NotKept other count error)) written is = absurd (cc is)
-reply_of_written (reply.At replies) written is = absurd (cc is)
-reply_of_written (reply.AtRefused error) written is = absurd (cc is)
-reply_of_written reply.RootSet written is = absurd (cc is)
-reply_of_written reply.RootRefused written is = absurd (cc is)
+slice_get_seam : (before : List (Reply Error)) (last : Reply Error) → slice_get (before ++ last ∷ []) (length before) ≡ Some last
+slice_get_seam [] last = refl
+slice_get_seam (first ∷ before) last = slice_get_seam before last
 
-popped_last : (replies edits : List (Reply Error)) (popped : Option (Reply Error)) (last : Reply Error) → replies ≡ edits ++ option_to_list popped
-    → popped ≡ Some last → replies ≡ edits ++ last ∷ []
-popped_last replies edits popped last joined is = joined ∙ ap (λ (it : Option (Reply Error)). edits ++ option_to_list it) is
+module _ (all before : List (Reply Error)) (last : Reply Error) (joined : all ≡ before ++ last ∷ []) where
+  pub done_before_last : AreDone all → AreDone before
+  done_before_last done = subst AreDone (ap (take (length before)) joined ∙ take-append_seam before (last ∷ [])) (All-take IsDone (length before) all done)
 
-module _ (replies edits : List (Reply Error)) (popped : Option (Reply Error)) (last : Reply Error) (joined : replies ≡ edits ++ option_to_list popped)
-    (is : popped ≡ Some last) (done : AreDone edits) (written : Written) (found : write_result last ≡ Ok written) where
-  pub is_emitted : (frames : List ℕ) (pairs : List Pair) → frames ≡ flat_map encode_frame pairs → pairs ≡ written.trees.items
-      → IsEmitted replies frames (id_bytes written.id)
-  is_emitted frames pairs framed same = record {
-    edits = edits;
-    written = written;
-    joined = popped_last replies edits popped last joined is
-        ∙ ap (λ (it : Reply Error). edits ++ it ∷ []) (reply_of_written last written found);
-    done = done;
-    framed = framed ∙ ap (flat_map encode_frame) same;
-    named = refl;
-  }
+  done_last : AreDone all → IsDone last
+  done_last done = All-contains IsDone all last done (subst (λ (them : List (Reply Error)). Contains them last) (sym joined) (Contains-push before last))
 
-  pub encode_error_of_replies : (it : Failure) (number : ℕ) (pairs : List Pair) → IsFramesEncodeError pairs it → pairs ≡ written.trees.items
-      → number ≡ length edits + 1
-      → IsRepliesError replies it number
-  encode_error_of_replies it number pairs error same counted = (
-    edits,
-    last,
-    popped_last replies edits popped last joined is,
-    inr (done, counted, inr (written, found, subst (λ (them : List Pair). IsFramesEncodeError them it) same error)),
-  )
+  got_last : slice_get all (length all - 1) ≡ Some last
+  got_last =
+      let len = ap length joined ∙ length-append before (last ∷ []) in
+      let index : length all - 1 ≡ length before = omega (arith, len) in
+      ap (slice_get all) index ∙ ap (λ (them : List (Reply Error)). slice_get them (length before)) joined ∙ slice_get_seam before last
+
+-- the reply to a write that is done
+is_written : (last : Reply Error) → IsReplyToWrite last → IsDone last → (written : Written) × (last ≡ reply.Edit (edit_reply.Written written))
+is_written (reply.Edit (edit_reply.Written written)) is done = (written, refl)
+is_written (reply.Edit (edit_reply.WriteRefused (write.Out error))) is done = absurd (cc done)
+is_written (reply.Edit (edit_reply.WriteRefused write.OutOfMemory)) is done = absurd (cc done)
+is_written (reply.Edit (edit_reply.NotKept written count error)) is done = absurd (cc done)
+is_written (reply.Edit edit_reply.Done) is done = absurd is
+is_written (reply.Edit (edit_reply.Refused error)) is done = absurd is
+is_written (reply.At replies) is done = absurd is
+is_written (reply.AtRefused error) is done = absurd is
+is_written reply.RootSet is done = absurd is
+is_written reply.RootRefused is done = absurd is
+
+-- the last of the replies, which is that of a write
+record IsLastWritten (all : List (Reply Error)) (got : Option (Reply Error)) : Type 0 where
+  pub before : List (Reply Error)
+  pub written : Written
+  pub joined : all ≡ before ++ reply.Edit (edit_reply.Written written) ∷ []
+  pub is : got ≡ Some (reply.Edit (edit_reply.Written written))
+
+is_last_written : (all : List (Reply Error)) (got : Option (Reply Error)) → EndsInWrite all → AreDone all → got ≡ slice_get all (length all - 1)
+    → IsLastWritten all got
+is_last_written all got (before, last, joined, is) done same =
+    let it = is_written last is (done_last all before last joined done) in record {
+      before = before;
+      written = it.0;
+      joined = joined ∙ ap (λ (r : Reply Error). before ++ r ∷ []) it.1;
+      is = same ∙ got_last all before last joined ∙ ap Some it.1;
+    }
+
+abbrev written_id_of : Option (Reply Error) → Option ObjectId
+written_id_of (Some it) = written_id it
+written_id_of None = None
+
+pub last_id_is_written : (all : List (Reply Error)) (got : Option (Bor (Reply Error))) (last : Bor (Reply Error)) (id : ObjectId) → EndsInWrite all
+    → AreDone all → option_copied got ≡ slice_get all (length all - 1) → got ≡ Some last → written_id last.now ≡ Some id
+    → (before : List (Reply Error)) × (written : Written) × (all ≡ before ++ reply.Edit (edit_reply.Written written) ∷ []) × (id ≡ written.id)
+last_id_is_written all got last id ends done same is found =
+    let it = is_last_written all (option_copied got) ends done same in
+    let named : ◌≡◌ {A = Option ObjectId} (Some id) (Some it.written.id) =
+    sym found ∙ ap written_id_of (sym (ap option_copied is) ∙ it.is) in
+    let its_id : id ≡ it.written.id = cc named in
+    (it.before, it.written, it.joined, its_id)
+
+pub is_emitted : (all before : List (Reply Error)) (written : Written) (frames : List ℕ) (id : ObjectId)
+    → all ≡ before ++ reply.Edit (edit_reply.Written written) ∷ [] → id ≡ written.id → AreDone all
+    → frames ≡ flat_map encode_frame (emitted_pairs all) → IsEmitted all frames (id_bytes id)
+is_emitted all before written frames id joined same done framed = record {
+  replies = before;
+  written = written;
+  joined = joined;
+  done = done_before_last all before (reply.Edit (edit_reply.Written written)) joined done;
+  framed = framed;
+  named = ap id_bytes same;
+}
 
 -- ---- the start
 

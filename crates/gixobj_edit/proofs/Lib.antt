@@ -1,4 +1,6 @@
+pub mod EditFiles
 pub mod EditRuns
 pub mod Emitted
 pub mod FrameSteps
+pub mod Framed
 pub mod Replied

@@ -1,19 +1,20 @@
 -- Results of the call that edits stored trees by a script.
-use Rattle.std.specs.Prelude.{◌≡◌, ◌<◌, ◌+◌, ◌++◌, ◌∷◌, ◌⊎◌, ℕ, Err, List, [], None, Ok, Option, Some, length, map, take}
+use Rattle.std.specs.Prelude.{◌≡◌, ◌<◌, ◌+◌, ◌++◌, ◌∷◌, ◌⊎◌, ℕ, All, List, [], None, Option, Some, length, map, take}
 use Rattle.std.specs.List.{flat_map}
 use Rattle.gixobj_calls.specs.Buffers.{HasPrefix, WritesTwo}
 use Rattle.gixobj_calls.specs.Codes.{buffer_too_short, not_found, unknown_code}
 use Rattle.gixobj_directories.specs.declared.write.Written.{Written}
 use Rattle.gixobj_edit.specs.Failures.{failure_status}
-use Rattle.gixobj_edit.specs.Frames.{AreFrames, IsFramesEncodeError, IsFramesError, encode_frame, objects_of}
-use Rattle.gixobj_edit.specs.Replies.{AreDone, IsFirstFailure, write_result}
+use Rattle.gixobj_edit.specs.Frames.{AreFrames, IsFramesError, encode_frame, objects_of}
+use Rattle.gixobj_edit.specs.Replies.{AreDone, IsFirstFailure}
 use Rattle.gixobj_edit.specs.Roots.{IsRootError, IsRootOf}
 use Rattle.gixobj_edit.specs.declared.failure.Failure.{Failure}
 use Rattle.gixobj_edit.specs.declared.failure.Failure.TheVariants as failure
-use Rattle.gixobj_editor.specs.Commands.{accepted_steps, written_at}
+use Rattle.gixobj_editor.specs.Commands.{Place, accepted_steps, at_cursor, at_root, emitted_pairs, path_at, written_at}
+use Rattle.gixobj_editor.specs.Cursors.{cursor_path}
 use Rattle.gixobj_editor.specs.Replies.{IsRun}
-use Rattle.gixobj_editor.specs.RunTables.{AgreesWithObjects, AgreesWithRun}
-use Rattle.gixobj_editor.specs.Views.{CommandView, command_view, one_edit, remove, remove_leaf, upsert}
+use Rattle.gixobj_editor.specs.RunTables.{AgreesWithRun}
+use Rattle.gixobj_editor.specs.Views.{CommandView, EditView, command_view, edits_at, one_edit, remove, remove_leaf, set_root, upsert, write}
 use Rattle.gixobj_editor.specs.declared.command.Command.{Command}
 use Rattle.gixobj_editor.specs.declared.command.Command.TheVariants as command
 use Rattle.gixobj_editor.specs.declared.command.Edit.TheVariants as edit
@@ -29,13 +30,14 @@ use Rattle.gixobj_files.specs.State.{EditorFiles, State, new_state, open_bases, 
 use Rattle.gixobj_files.specs.Tables.{AgreesWithPairs}
 use Rattle.gixobj_hash.specs.Hash.{id_bytes}
 use Rattle.gixobj_hash.specs.declared.hash.kind.Kind.{Kind}
+use Rattle.gixobj_hash.specs.declared.hash.object_id.ObjectId.{ObjectId}
 use Rattle.gixobj_keep.specs.Memory.{memory_objects}
 use Rattle.gixobj_keep.specs.declared.memory.Memory.{Memory}
 use Rattle.gixobj_mode.specs.Mode.{mode_of_kind}
 use Rattle.gixobj_script.specs.Edits.{memory_model}
 use Rattle.gixobj_script.specs.Scripts.{IsFirstBad, IsScript}
 use Rattle.gixobj_tree.specs.Entries.{EntryView}
-use Rattle.gixobj_tree.specs.TreeEncoding.{IsDigestResult}
+use Rattle.gixobj_tree.specs.TreeEncoding.{IsDigestResult, IsEncodableTree}
 
 -- ---- the run
 
@@ -83,34 +85,54 @@ pub record IsRunOf (hash : Kind) (trees root script : List ℕ) (replies : List 
 
 -- ---- success
 
--- the step of a command that is an edit
-abbrev pub command_steps : CommandView → List Step
-command_steps (one_edit (upsert names kind id)) = history.upsert names (mode_of_kind kind) id ∷ []
-command_steps (one_edit (remove names)) = history.remove names ∷ []
-command_steps (one_edit (remove_leaf names)) = history.remove names ∷ []
-command_steps _ = []
+-- the step of an edit at the place; a write has none
+abbrev pub edit_steps : Place → EditView → List Step
+edit_steps place (upsert names kind id) = history.upsert (path_at place names) (mode_of_kind kind) id ∷ []
+edit_steps place (remove names) = history.remove (path_at place names) ∷ []
+edit_steps place (remove_leaf names) = history.remove (path_at place names) ∷ []
+edit_steps place write = []
 
--- all edits are done, and these are the frames of the trees that the write emitted, and the id of the root
-pub record IsEmitted (replies : List (Reply Error)) (frames id : List ℕ) : Type 0 where
-  pub edits : List (Reply Error)
+-- the steps of a command: those of edits in a directory come after it is ensured
+abbrev pub command_steps : CommandView → List Step
+command_steps (one_edit it) = edit_steps at_root it
+command_steps (edits_at names edits) =
+    history.ensure (cursor_path names) ∷ flat_map (edit_steps (at_cursor (cursor_path names))) edits
+command_steps (set_root entries) = history.set_root entries ∷ []
+
+-- the id names a tree with exactly the files that these commands make of those of a root, at every depth
+abbrev pub HasFilesAfter : Table → List Command → List EntryView → ObjectId → Type 0
+HasFilesAfter T commands entries id = (n : ℕ) → SameFiles (NamedFiles T n id)
+    (FilesAfter T n (flat_map command_steps (map command_view commands)) (Files T n entries))
+
+-- all commands are done, and the write after them; these are the frames of the trees that all writes emitted, in order,
+-- and the id of the last root
+pub record IsEmitted (all : List (Reply Error)) (frames id : List ℕ) : Type 0 where
+  pub replies : List (Reply Error)
   pub written : Written
-  pub joined : replies ≡ edits ++ reply.Edit (edit_reply.Written written) ∷ []
-  pub done : AreDone edits
-  pub framed : frames ≡ flat_map encode_frame written.trees.items
+  pub joined : all ≡ replies ++ reply.Edit (edit_reply.Written written) ∷ []
+  pub done : AreDone replies
+  pub framed : frames ≡ flat_map encode_frame (emitted_pairs all)
   pub named : id ≡ id_bytes written.id
 
--- the run's edits are done, and it emitted these trees. The new root has exactly the files that the script's edits make
--- of those of the root, at every depth, in each table that has the stored trees and the new ones
+-- the run's commands are done, and it emitted these trees. The last root has exactly the files that the script's
+-- commands make of those of the root, at every depth, in each table that agrees with the run: it has the stored trees,
+-- and the emitted ones as the store keeps them. Likewise each earlier root has those of the commands before its write
 pub record IsEdited (hash : Kind) (trees root script frames id : List ℕ) : Type 0 where
-  pub replies : List (Reply Error)
-  pub run : IsRunOf hash trees root script replies
-  pub emitted : IsEmitted replies frames id
-  pub files : (T : Table) (n : ℕ) → AgreesWithObjects T (objects_of hash run.start.contents)
+  pub all : List (Reply Error)
+  pub run : IsRunOf hash trees root script all
+  pub emitted : IsEmitted all frames id
+  pub files : (T : Table) → AgreesWithRun T (objects_of hash run.start.contents) emitted.replies
       → AgreesWithPairs T emitted.written.trees.items
-      → SameFiles (NamedFiles T n emitted.written.id)
-      (FilesAfter T n (flat_map command_steps (map command_view run.commands)) (Files T n run.start.entries))
+      → HasFilesAfter T run.commands run.start.entries emitted.written.id
+  pub earlier : (T : Table) (k : ℕ) (it : Written) → written_at emitted.replies k ≡ Some it
+      → AgreesWithRun T (objects_of hash run.start.contents) (take k emitted.replies)
+      → AgreesWithPairs T it.trees.items → HasFilesAfter T (take k run.commands) run.start.entries it.id
 
 -- ---- failure
+
+-- if all commands are done, then no name of an emitted tree is rejected
+abbrev pub AreEncodableIfDone : List (Reply Error) → Type 0
+AreEncodableIfDone all = AreDone all → All (λ pair. IsEncodableTree pair.1) (emitted_pairs all)
 
 -- why a script has no commands: its first bad line, or out of memory
 abbrev pub IsScriptFailure : Kind → List ℕ → Failure → ℕ → Type 0
@@ -122,15 +144,13 @@ abbrev pub IsStartError : Kind → List ℕ → List ℕ → Failure → ℕ →
 IsStartError hash trees root it number = (number ≡ 0) × (IsFramesError trees it
     ⊎ ((contents : List (List ℕ)) × AreFrames trees contents × IsRootError (objects_of hash contents) hash root it))
 
--- why the replies have no new trees: the first edit that failed, by its number from 1; or the write, or its encoding
+-- why the replies have no new trees: the first command that failed, by its number from 1, where the write after them
+-- counts as a command; or out of memory for the frames, after all are done
 abbrev pub IsRepliesError : List (Reply Error) → Failure → ℕ → Type 0
-IsRepliesError replies it number = (edits : List (Reply Error)) × (last : Reply Error)
-    × (replies ≡ edits ++ last ∷ [])
-    × (((index : ℕ) × IsFirstFailure edits index it × (number ≡ index + 1))
-    ⊎ (AreDone edits × (number ≡ length edits + 1) × ((write_result last ≡ Err it)
-    ⊎ ((written : Written) × (write_result last ≡ Ok written) × IsFramesEncodeError written.trees.items it))))
+IsRepliesError all it number = ((index : ℕ) × IsFirstFailure all index it × (number ≡ index + 1))
+    ⊎ (AreDone all × (it ≡ failure.OutOfMemory) × (number ≡ length all))
 
--- why there are no new trees: the script, the stored trees, the root, an edit or the write; or out of memory
+-- why there are no new trees: the script, the stored trees, the root, a command or the write; or out of memory
 abbrev pub IsEditError : Kind → List ℕ → List ℕ → List ℕ → Failure → ℕ → Type 0
 IsEditError hash trees root script it number = IsScriptFailure hash script it number
     ⊎ (IsStartError hash trees root it number

@@ -1,6 +1,6 @@
 -- Why there are no new trees.
 use Rattle.std.specs.Prelude.{ℕ}
-use Rattle.gixobj_calls.specs.Codes.{bad_line, invalid_name, is_directory, malformed, malformed_tree, not_an_edit, not_encodable, not_found, out_of_memory}
+use Rattle.gixobj_calls.specs.Codes.{bad_line, invalid_name, is_directory, malformed, malformed_tree, not_encodable, not_found, out_of_memory}
 use Rattle.gixobj_edit.specs.declared.failure.Failure.{Failure}
 use Rattle.gixobj_edit.specs.declared.failure.Failure.TheVariants as failure
 use Rattle.gixobj_editor.specs.declared.editor.error.Error.{Error}
@@ -19,7 +19,6 @@ abbrev pub failure_status : Failure → ℕ
 failure_status failure.Malformed = malformed
 failure_status failure.OutOfMemory = out_of_memory
 failure_status failure.BadLine = bad_line
-failure_status failure.NotAnEdit = not_an_edit
 failure_status failure.InvalidName = invalid_name
 failure_status failure.IsDirectory = is_directory
 failure_status (failure.NotFound id) = not_found

@@ -1,14 +1,20 @@
 //! Edits of stored trees by a script.
-ghost use Rattle.std.specs.Prelude.{◌≡◌, ◌≢◌, [], IfErr, IfOk, Some};
+ghost use Rattle.std.specs.Prelude.{◌≡◌, ◌++◌, ◌∷◌, [], List, IfErr, IfOk, Some};
 ghost use Rattle.gixobj_calls.specs.Codes.{hash_of_code as hash_of};
-ghost use Rattle.gixobj_edit.specs.Edits.{HasFilesOfWrites, HasRun, IsCommandsOf, IsEditCall, IsEditError, IsEdited, IsEmitted, IsRepliesError, IsScriptFailure, IsStart, IsStartError, WritesFailure};
+ghost use Rattle.gixobj_directories.specs.declared.write.Written.{Written};
+ghost use Rattle.gixobj_edit.specs.Edits.{AreEncodableIfDone, HasFilesOfWrites, HasRun, IsCommandsOf, IsEditCall, IsEditError, IsEdited, IsEmitted, IsRepliesError, IsScriptFailure, IsStart, IsStartError, WritesFailure};
+ghost use Rattle.gixobj_edit.specs.Replies.{AreDone, EndsInWrite};
+ghost use Rattle.gixobj_editor.specs.declared.reply.EditReply.TheVariants as edit_reply;
+ghost use Rattle.gixobj_editor.specs.declared.reply.Reply.{Reply};
+ghost use Rattle.gixobj_editor.specs.declared.reply.Reply.TheVariants as reply;
+ghost use Rattle.gixobj_fields.specs.declared.encode.Error.{Error};
 ghost use Rattle.gixobj_hash.specs.Hash.{id_bytes};
 ghost use Rattle.gixobj_tree.specs.TreeEncoding.{IsDigestResult};
 ghost use Rattle.gixobj_edit.specs.declared.failure.Failure.TheVariants as failure;
 
 use crate::failure::{Failure, failure_status};
 use crate::frames::{frames_of, store_of};
-use crate::replies::{first_failure, write_result};
+use crate::replies::{first_failure, written_id};
 use crate::roots::root_of;
 use gixobj_calls::buffers::{write_bytes, write_two};
 use gixobj_calls::codes::{DONE, NOT_FOUND, UNKNOWN_CODE, hash_of_code};
@@ -35,7 +41,7 @@ struct Failed {
     number: u64,
 }
 
-/// Runs a script of edits on stored trees, writes the root, and writes the new trees. Allocates.
+/// Runs a script on stored trees, then writes the root, and returns the new trees. Allocates.
 #[unsafe(no_mangle)]
 pub extern "C" fn gixobj_edit(
     alloc: Global,
@@ -109,7 +115,7 @@ fn edited(
         Ok(replies) => replies,
         Err(failed) => return Err(failed),
     };
-    new_trees(alloc, replies)
+    new_trees(alloc, &replies)
 }
 
 /// Returns the commands of a script, and a write after them.
@@ -181,30 +187,39 @@ fn replies_of(
     }
 }
 
-/// Returns the trees that the last command, a write, emitted after edits that are done.
-fn new_trees(alloc: Global, replies: Vec<Reply<encode::Error>>) -> Result<New, Failed>
-    requires { replies.items ≢ [] }
-    ensures found { IfOk result (λ new. IsEmitted replies.items new.frames.items (id_bytes new.id)) }
-    ensures error { IfErr result (λ it. IsRepliesError replies.items it.failure it.number) }
+/// Returns the trees that the writes emitted, the last command among them, if all commands are done.
+fn new_trees(alloc: Global, replies: &[Reply<encode::Error>]) -> Result<New, Failed>
+    requires write { EndsInWrite replies.now }
+    requires encodable { AreEncodableIfDone replies.now }
+    ensures found { IfOk result (λ new. IsEmitted replies.now new.frames.items (id_bytes new.id)) }
+    ensures error { IfErr result (λ it. IsRepliesError replies.now it.failure it.number) }
 {
-    let mut replies = replies;
-    let Some(last) = replies.pop() else {
-        return Err(early(Failure::NotAnEdit));
-    };
-    if let Some((index, failure)) = first_failure(&replies) {
+    if let Some((index, failure)) = first_failure(replies) {
         let number = index as u64 + 1;
         return Err(Failed { failure, number });
     }
-    let number = replies.len() as u64 + 1;
-    let written = match write_result(last) {
-        Ok(written) => written,
-        Err(failure) => return Err(Failed { failure, number }),
-    };
-    match frames_of(alloc, &written.trees) {
+    let number = replies.len() as u64;
+    match frames_of(alloc, replies) {
         Ok(frames) => Ok(New {
             frames,
-            id: written.id,
+            id: last_id(replies),
         }),
         Err(failure) => Err(Failed { failure, number }),
     }
+}
+
+/// Returns the id of the root that the last command wrote.
+fn last_id(replies: &[Reply<encode::Error>]) -> ObjectId
+    requires write { EndsInWrite replies.now }
+    requires done { AreDone replies.now }
+    ensures { (before : List (Reply Error)) × (written : Written)
+        × (replies.now ≡ before ++ reply.Edit (edit_reply.Written written) ∷ []) × (result ≡ written.id) }
+{
+    let Some(last) = replies.last() else {
+        unreachable!()
+    };
+    let Some(id) = written_id(last) else {
+        unreachable!()
+    };
+    id
 }

@@ -3,8 +3,8 @@ ghost use Rattle.std.specs.Prelude.{◌≡◌};
 ghost use Rattle.gixobj_edit.specs.Failures.{failure_status, keep_failure, lookup_failure, edit_failure, encode_failure};
 
 use gixobj_calls::codes::{
-    BAD_LINE, INVALID_NAME, IS_DIRECTORY, MALFORMED, MALFORMED_TREE, NOT_AN_EDIT, NOT_ENCODABLE,
-    NOT_FOUND, OUT_OF_MEMORY,
+    BAD_LINE, INVALID_NAME, IS_DIRECTORY, MALFORMED, MALFORMED_TREE, NOT_ENCODABLE, NOT_FOUND,
+    OUT_OF_MEMORY,
 };
 use gixobj_editor::editor::Error;
 use gixobj_fields::encode;
@@ -23,8 +23,6 @@ pub enum Failure {
     OutOfMemory,
     /// A line of the script is neither empty nor a command.
     BadLine,
-    /// A command is no edit.
-    NotAnEdit,
     /// A name of a path is empty or contains a `/`.
     InvalidName,
     /// The path of a leaf is that of a directory.
@@ -45,7 +43,6 @@ pub fn failure_status(failure: Failure) -> u32
         Failure::Malformed => MALFORMED,
         Failure::OutOfMemory => OUT_OF_MEMORY,
         Failure::BadLine => BAD_LINE,
-        Failure::NotAnEdit => NOT_AN_EDIT,
         Failure::InvalidName => INVALID_NAME,
         Failure::IsDirectory => IS_DIRECTORY,
         Failure::NotFound(_) => NOT_FOUND,

@@ -2,12 +2,15 @@
 ghost use Rattle.std.specs.Prelude.{◌≡◌, ◌++◌, ℕ, IfErr, IfNone, IfOk, IfSome, OnOk, Some};
 ghost use Rattle.std.specs.List.{flat_map};
 ghost use Rattle.gixobj_edit.specs.Frames.{BeginsWithFrame, FrameComes, HoldsFrames, IsFrameError, IsFramesEncodeError, IsFramesError, encode_frame, encode_tree_frame};
+ghost use Rattle.gixobj_editor.specs.Commands.{emitted_pairs, pairs_of, pairs_of_edit};
 ghost use Rattle.gixobj_fields.specs.Runs.{HasNoPiece};
 ghost use Rattle.gixobj_hash.specs.Decode.{HasLooseHeaderOfLength};
 ghost use Rattle.gixobj_hash.specs.declared.kind.Kind.TheVariants as object;
 
 use crate::failure::{Failure, encode_failure};
+use gixobj_editor::{EditReply, Reply};
 use gixobj_fields::WriteTo;
+use gixobj_fields::encode::Error;
 use gixobj_hash::decode::loose_header;
 use gixobj_hash::hash::{self, ObjectId};
 use gixobj_hash::{Kind, encode};
@@ -66,16 +69,78 @@ pub fn store_of(alloc: Global, hash: hash::Kind, bytes: &[u8]) -> Result<Memory,
     Ok(store)
 }
 
-/// Returns the frames of trees, in order.
-pub fn frames_of(alloc: Global, trees: &[(ObjectId, Tree)]) -> Result<Vec<u8>, Failure>
-    ensures found { IfOk result (λ it. it.items ≡ flat_map encode_frame trees.now) }
-    ensures error { IfErr result (IsFramesEncodeError trees.now) }
+/// Returns the frames of the trees that the writes emitted, in order, by the replies.
+pub fn frames_of(alloc: Global, replies: &[Reply<Error>]) -> Result<Vec<u8>, Failure>
+    ensures found { IfOk result (λ it. it.items ≡ flat_map encode_frame (emitted_pairs replies.now)) }
+    ensures error { IfErr result (IsFramesEncodeError (emitted_pairs replies.now)) }
 {
     let mut frames = Vec::new(alloc);
-    for (_, tree) in trees {
-        append_frame(alloc, tree, &mut frames)?;
+    for reply in replies {
+        append_reply(alloc, reply, &mut frames)?;
     }
     Ok(frames)
+}
+
+/// Appends the frames of the trees that a command's writes emitted.
+fn append_reply(alloc: Global, reply: &Reply<Error>, frames: &mut Vec<u8>) -> Result<(), Failure>
+    ensures appended { OnOk result (frames.new.items
+        ≡ frames.old.items ++ flat_map encode_frame (pairs_of reply.now)) }
+    ensures error { IfErr result (IsFramesEncodeError (pairs_of reply.now)) }
+{
+    match reply {
+        Reply::Edit(reply) => append_written(alloc, reply, frames),
+        Reply::At(replies) => append_each(alloc, replies, frames),
+        Reply::AtRefused(_) | Reply::RootSet | Reply::RootRefused => Ok(()),
+    }
+}
+
+/// Appends the frames of the trees that the writes in a directory emitted.
+fn append_each(
+    alloc: Global,
+    replies: &[EditReply<Error>],
+    frames: &mut Vec<u8>,
+) -> Result<(), Failure>
+    ensures appended { OnOk result (frames.new.items
+        ≡ frames.old.items ++ flat_map encode_frame (flat_map pairs_of_edit replies.now)) }
+    ensures error { IfErr result (IsFramesEncodeError (flat_map pairs_of_edit replies.now)) }
+{
+    for reply in replies {
+        append_written(alloc, reply, frames)?;
+    }
+    Ok(())
+}
+
+/// Appends the frames of the trees that a write emitted.
+fn append_written(
+    alloc: Global,
+    reply: &EditReply<Error>,
+    frames: &mut Vec<u8>,
+) -> Result<(), Failure>
+    ensures appended { OnOk result (frames.new.items
+        ≡ frames.old.items ++ flat_map encode_frame (pairs_of_edit reply.now)) }
+    ensures error { IfErr result (IsFramesEncodeError (pairs_of_edit reply.now)) }
+{
+    match reply {
+        EditReply::Written(written) | EditReply::NotKept(written, _, _) => {
+            append_trees(alloc, &written.trees, frames)
+        }
+        EditReply::Done | EditReply::Refused(_) | EditReply::WriteRefused(_) => Ok(()),
+    }
+}
+
+/// Appends the frames of trees, in order.
+fn append_trees(
+    alloc: Global,
+    trees: &[(ObjectId, Tree)],
+    frames: &mut Vec<u8>,
+) -> Result<(), Failure>
+    ensures appended { OnOk result (frames.new.items ≡ frames.old.items ++ flat_map encode_frame trees.now) }
+    ensures error { IfErr result (IsFramesEncodeError trees.now) }
+{
+    for (_, tree) in trees {
+        append_frame(alloc, tree, frames)?;
+    }
+    Ok(())
 }
 
 /// Appends the frame of a tree.

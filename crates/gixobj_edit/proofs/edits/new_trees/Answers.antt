@@ -1,15 +1,17 @@
 -- The last reply is that of the write.
-use Rattle.std.proofs.Common.{◌∙◌, rules, subst, sym}
-use Rattle.gixobj_edit.proofs.Emitted.{encode_error_of_replies, is_emitted}
+use Rattle.std.proofs.Common.{inr, rules}
+use Rattle.gixobj_edit.proofs.Emitted.{is_emitted}
+use Rattle.gixobj_edit.proofs.Framed.{memory_of_frames_error}
 use Rattle.gixobj_edit.proofs.edits.new_trees.Goals as goal
-use Rattle.gixobj_edit.specs.Replies.{AreDone}
+use Rattle.gixobj_editor.specs.Commands.{emitted_pairs}
 
-pub returns-in-Ok-frames_of-clause-found : goal.returns-in-Ok-frames_of-clause-found
-returns-in-Ok-frames_of-clause-found c = is_emitted c.args.replies.items c.pop.new.self.items c.pop.result c.in-Some.last c.pop.ensures.items c.in-Some.is
-    (subst AreDone c.deref.ensures.value c.in_default-first_failure.ensures) c.in-Ok.written (sym c.write_result.ensures ∙ c.in-Ok.is) _ _
-    c.in-Ok-frames_of.ensures.found c.deref-2.ensures.value
+pub returns-in-Ok-clause-found : goal.returns-in-Ok-clause-found
+returns-in-Ok-clause-found c = let last = c.last_id.ensures in
+    is_emitted c.args.replies.now last.0 last.1 _ _ last.2 last.3 c.in_default.ensures c.in-Ok.ensures.found
 
-pub returns-clause-error : goal.returns-clause-error
-returns-clause-error c = encode_error_of_replies c.args.replies.items c.pop.new.self.items c.pop.result c.in-Some.last c.pop.ensures.items c.in-Some.is
-    (subst AreDone c.deref.ensures.value c.in_default-first_failure.ensures) c.in-Ok.written (sym c.write_result.ensures ∙ c.in-Ok.is)
-    c.in-Err-frames_of.failure _ _ c.in-Err-frames_of.ensures.error c.deref-2.ensures.value (search rules)
+pub returns-in-Err-clause-error : goal.returns-in-Err-clause-error
+returns-in-Err-clause-error c = inr (
+  c.in_default.ensures,
+  memory_of_frames_error (emitted_pairs c.args.replies.now) c.in-Err.failure (c.requires.encodable c.in_default.ensures) c.in-Err.ensures.error,
+  search rules,
+)
