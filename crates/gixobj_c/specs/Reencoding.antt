@@ -1,5 +1,5 @@
 -- Results of the call that decodes an object and encodes it again.
-use Rattle.std.specs.Prelude.{◌≡◌, ◌⊎◌, ℕ, List, Option, Some, ⊤}
+use Rattle.std.specs.Prelude.{◌≡◌, ◌⊎◌, ℕ, List, Option, Some}
 use Rattle.gixobj_calls.specs.Buffers.{WritesBytes}
 use Rattle.gixobj_calls.specs.Codes.{malformed, not_encodable, out_of_memory, unknown_code}
 use Rattle.gixobj_c.specs.Objects.{IsObject}
@@ -14,11 +14,12 @@ use Rattle.gixobj_hash.specs.declared.decode.Error.TheVariants as error
 use Rattle.gixobj_hash.specs.declared.hash.kind.Kind as hash
 use Rattle.gixobj_hash.specs.declared.kind.Kind.{Kind}
 use Rattle.gixobj_hash.specs.declared.kind.Kind.TheVariants as kind
-use Rattle.gixobj_line.specs.Commit.{CommitLines, DecodesToCommit}
+use Rattle.gixobj_line.specs.Commit.{CommitLines, DecodesToCommit, IsCommit, IsCommitDecodeError}
+use Rattle.gixobj_line.specs.TagPrefix.{IsTag}
 use Rattle.gixobj_tag.specs.TagFormat.{DecodesToTag, TagLines}
 use Rattle.gixobj_tag.specs.TagWriting.{IsTagLinesError, encode_tag}
 use Rattle.gixobj_tree.specs.Entries.{EntryView}
-use Rattle.gixobj_tree.specs.TreeDecoding.{DecodesToTree}
+use Rattle.gixobj_tree.specs.TreeDecoding.{BeginsWithEntry, DecodesToTree}
 use Rattle.gixobj_tree.specs.TreeEncoding.{IsTreeEncodeError, encode_tree}
 
 -- the bytes decode to an object of this kind, which has this encoding
@@ -61,10 +62,18 @@ failure_of_encoding (encode_error.InvalidRefName fault) = failure.NotEncodable
 failure_of_encoding (encode_error.NullbyteInFilename name) = failure.NotEncodable
 failure_of_encoding encode_error.IllegalActor = failure.NotEncodable
 
+-- an allocation is tried: for the first entry of a tree; for a second parent or an extra header of a commit; or for
+-- the new encoding of a commit or a tag
+abbrev pub Allocates : hash.Kind → Kind → List ℕ → Type 0
+Allocates hash kind.Tree bytes = (e : EntryView) × (rest : List ℕ) × BeginsWithEntry hash bytes e rest
+Allocates hash kind.Blob bytes = ⊥
+Allocates hash kind.Commit bytes = IsCommitDecodeError hash bytes error.OutOfMemory ⊎ IsCommit hash bytes
+Allocates hash kind.Tag bytes = IsTag hash bytes
+
 -- why an object has no new encoding
 abbrev pub IsFailure : hash.Kind → Kind → List ℕ → Failure → Type 0
 IsFailure hash kind bytes failure.Malformed = ¬ IsObject hash kind bytes
-IsFailure hash kind bytes failure.OutOfMemory = ⊤
+IsFailure hash kind bytes failure.OutOfMemory = Allocates hash kind bytes
 IsFailure hash kind bytes failure.NotEncodable = IsUnencodable hash kind bytes
 
 -- the status of a failure

@@ -18,10 +18,16 @@ IsTagSignatureCall tag before after status =
     × HasTagSignature tag signature signed format × IsSpanOf tag signature after))
     ⊎ ((status ≡ not_found) × HasNoMarker tag × (after ≡ before))
 
+-- a header of several lines comes up to the signature, or there is a signature, for which the signed bytes are copied
+abbrev pub NeedsSignatureAllocation : Kind → List ℕ → Type 0
+NeedsSignatureAllocation kind commit = IsCommitSignatureError kind commit error.OutOfMemory
+    ⊎ ((value payload : List ℕ) × HasCommitSignature kind commit value payload)
+
 -- why no signature of the commit is found
 abbrev pub IsSignatureStatus : Kind → List ℕ → ℕ → Type 0
 IsSignatureStatus kind commit status = ((status ≡ not_found) × HasNoSignature kind commit)
-    ⊎ (((status ≡ malformed) × IsCommitSignatureError kind commit error.Malformed) ⊎ (status ≡ out_of_memory))
+    ⊎ (((status ≡ malformed) × IsCommitSignatureError kind commit error.Malformed)
+    ⊎ ((status ≡ out_of_memory) × NeedsSignatureAllocation kind commit))
 
 -- the commit's signature and the bytes that it signs are written, or the status says why there is none, and then
 -- nothing is written

@@ -1,8 +1,9 @@
 //! Objects that are decoded and encoded again.
-ghost use Rattle.std.specs.Prelude.{◌≡◌, IfErr, IfOk, Some};
+ghost use Rattle.std.specs.Prelude.{◌≡◌, ◌≢◌, IfErr, IfOk, Some};
 ghost use Rattle.gixobj_calls.specs.Codes.{hash_of_code as hash_of, kind_of_code as kind_of};
 ghost use Rattle.gixobj_c.specs.Reencoding.{IsFailure, IsReencodeCall, IsReencoded, failure_of_decoding, failure_of_encoding};
 ghost use Rattle.gixobj_hash.specs.declared.kind.Kind.TheVariants as kind;
+ghost use Rattle.gixobj_hash.specs.declared.kind.Kind.TheVariants.{Blob};
 
 use gixobj_calls::buffers::write_bytes;
 use gixobj_calls::codes::{
@@ -16,7 +17,7 @@ use gixobj_tag::TagRef;
 use gixobj_tree::TreeRef;
 use std::alloc::Global;
 
-/// Decodes an object, and writes its new encoding. Allocates.
+/// Decodes an object, and writes its new encoding. That of a blob is the same bytes, and allocates nothing.
 #[unsafe(no_mangle)]
 pub extern "C" fn gixobj_reencode(
     alloc: Global,
@@ -51,6 +52,9 @@ fn write_reencoded(
     ensures { IsReencodeCall (Some hash) (Some kind) bytes.now out.old out.new out_len.old
         out_len.new result }
 {
+    if let Kind::Blob = kind {
+        return write_bytes(bytes, out, out_len);
+    }
     match reencoded(alloc, hash, kind, bytes) {
         Ok(encoded) => write_bytes(encoded.as_slice(), out, out_len),
         Err(Failure::Malformed) => MALFORMED,
@@ -90,16 +94,14 @@ fn encoding_failure(error: encode::Error) -> Failure
     }
 }
 
-/// Returns the new encoding of an object. Of a blob it is the same bytes.
+/// Returns the new encoding of an object that is no blob.
 fn reencoded(alloc: Global, hash: hash::Kind, kind: Kind, bytes: &[u8]) -> Result<Vec<u8>, Failure>
+    requires { kind ≢ Blob }
     ensures encoded { IfOk result (λ it. IsReencoded hash kind bytes.now it.items) }
     ensures error { IfErr result (IsFailure hash kind bytes.now) }
 {
     match kind {
-        Kind::Blob => match Vec::from_slice(alloc, bytes) {
-            Ok(copy) => Ok(copy),
-            Err(_) => Err(Failure::OutOfMemory),
-        },
+        Kind::Blob => unreachable!(),
         Kind::Tree => reencoded_tree(alloc, hash, bytes),
         Kind::Commit => reencoded_commit(alloc, hash, bytes),
         Kind::Tag => reencoded_tag(alloc, hash, bytes),

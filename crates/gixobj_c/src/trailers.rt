@@ -1,7 +1,7 @@
 //! The trailers of messages.
-ghost use Rattle.std.specs.Prelude.{◌≡◌, IfOk, MatchOption};
+ghost use Rattle.std.specs.Prelude.{◌≡◌, IfOk, MatchOption, OnErr};
 ghost use Rattle.bstr.specs.BStr.{bstr_bytes};
-ghost use Rattle.gixobj_c.specs.Trailers.{HasNoTrailerAt, HasTrailerAt, IsTrailerCall};
+ghost use Rattle.gixobj_c.specs.Trailers.{HasNoTrailerAt, HasTrailerAt, IsTrailerCall, NeedsTrailerAllocation};
 ghost use Rattle.gixobj_text.specs.TrailerSteps.{trailer_view};
 
 use bstr::BStr;
@@ -48,8 +48,9 @@ fn trailer_at<'a>(
     message: BStr<'a>,
     index: usize,
 ) -> Result<Option<TrailerRef<'a>>, OutOfMemory>
-    ensures { IfOk result (λ found. MatchOption found (HasNoTrailerAt (bstr_bytes message.entry) index)
+    ensures found { IfOk result (λ found. MatchOption found (HasNoTrailerAt (bstr_bytes message.entry) index)
         (λ it. HasTrailerAt (bstr_bytes message.entry) index (trailer_view it))) }
+    ensures error { OnErr result (NeedsTrailerAllocation (bstr_bytes message.entry) index) }
 {
     let mut trailers = message_trailers(alloc, message);
     let mut remaining = index;
