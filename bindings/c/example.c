@@ -169,10 +169,40 @@ static int edits(void) {
   WANT(EDIT(out + 37, len - 37, first, move, more, 256, &more_len) == GIXOBJ_NOT_FOUND && number == 1);
   WANT(EDIT(out, len - 1, first, move, more, 256, &more_len) == GIXOBJ_MALFORMED && number == 0);
   WANT(EDIT(out, len, first, "\nupsert x", more, 256, &more_len) == GIXOBJ_BAD_LINE && number == 2);
-  WANT(EDIT(out, len, first, "\nremove z\nwrite", more, 256, &more_len) == GIXOBJ_NOT_AN_EDIT && number == 2);
   WANT(EDIT(out, len, first, "remove a//b", more, 256, &more_len) == GIXOBJ_INVALID_NAME && number == 1);
   WANT(EDIT(out, len, first, "leaf a", more, 256, &more_len) == GIXOBJ_IS_DIRECTORY && number == 1);
   WANT(gixobj_edit(3, none, 0, none, 20, none, 0, out, 0, &len, id, 0, &id_len, &number) == GIXOBJ_UNKNOWN_CODE);
+  return 0;
+}
+
+/* As `edits`: each root that a write emits has the id that git write-tree prints after the same edits. */
+static int writes(void) {
+  static const uint8_t none[20] = {0};
+  static const uint8_t both[20] = {0xda, 0x51, 0x4e, 0xa5, 0x34, 0x17, 0x38, 0xd4, 0x81, 0x68,
+                                   0x3b, 0xda, 0x23, 0xea, 0x40, 0x2e, 0xa2, 0x36, 0x19, 0x74};
+  static const uint8_t one[20] = {0x58, 0x01, 0xa0, 0x1a, 0xd6, 0x2e, 0x76, 0xee, 0x2f, 0xc8,
+                                  0x23, 0x1f, 0xcc, 0x07, 0x1a, 0x62, 0x8b, 0x40, 0x62, 0x69};
+  static const uint8_t fresh[20] = {0xe3, 0x1a, 0x96, 0x22, 0x0f, 0xbf, 0xbe, 0x76, 0x01, 0xec,
+                                    0xc0, 0x86, 0xa3, 0x6b, 0x96, 0xdc, 0x27, 0xa8, 0x86, 0x7e};
+#define HELLO "ce013625030ba8dba906f756967f9e9ca394464a"
+#define ADD "at a upsert blob " HELLO " b\nat a upsert exe " HELLO " c\n"
+  uint8_t out[512], id[20];
+  size_t len = 0, id_len = 0, at, frame;
+  uint64_t number = 9;
+  gixobj_header header = {0, 0, 0};
+  unsigned frames = 0;
+  WANT(EDIT(none, 0, none, ADD "write\nat a leaf b", out, 512, &len) == GIXOBJ_DONE && !memcmp(id, one, 20));
+  for (at = 0; at < len; at += frame) {
+    WANT(gixobj_loose_header(out + at, len - at, &header) == GIXOBJ_DONE && header.kind == GIXOBJ_TREE);
+    frame = header.len + header.size;
+    if (++frames == 2)
+      WANT(gixobj_verify(GIXOBJ_SHA1, GIXOBJ_TREE, out + at + header.len, header.size, both, 20) == GIXOBJ_DONE);
+  }
+  WANT(at == len && frames == 4 && number == 9);
+  WANT(EDIT(none, 0, none, ADD "at a write", out, 512, &len) == GIXOBJ_DONE && !memcmp(id, both, 20) && len == 2 * 66 + 36);
+  WANT(EDIT(none, 0, none, ADD "root\nupsert blob " HELLO " x\nwrite", out, 512, &len) == GIXOBJ_DONE);
+  WANT(!memcmp(id, fresh, 20) && len == 2 * 37);
+  WANT(EDIT(none, 0, none, ADD "at x//y write", out, 512, &len) == GIXOBJ_INVALID_NAME && number == 3);
   return 0;
 }
 
@@ -196,7 +226,7 @@ static int actors(void) {
 
 int main(void) {
   if (actors() || ids() || headers() || entries() || tokens() || tag_tokens() || named_headers() || buffers() ||
-      edits() || signatures())
+      edits() || writes() || signatures())
     return 1;
   puts("ok");
   return 0;

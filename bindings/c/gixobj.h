@@ -63,7 +63,8 @@ uint32_t gixobj_check(uint8_t hash, uint8_t kind, const uint8_t *bytes, size_t b
 
 /* Decodes an object, and writes its new encoding. It differs from the bytes only in the case of ids in hex, and in what
  * the library documents. *out_len is the length of the encoding, also if the buffer is too short.
- * DONE, MALFORMED, OUT_OF_MEMORY, UNKNOWN_CODE, BUFFER_TOO_SHORT, NOT_ENCODABLE. Allocates. */
+ * DONE, MALFORMED, OUT_OF_MEMORY (not of a blob, nor of a tree without entries), UNKNOWN_CODE, BUFFER_TOO_SHORT,
+ * NOT_ENCODABLE. Allocates, but for these two. */
 uint32_t gixobj_reencode(uint8_t hash, uint8_t kind, const uint8_t *bytes, size_t bytes_len, uint8_t *out,
                          size_t out_size, size_t *out_len);
 
@@ -149,7 +150,8 @@ uint32_t gixobj_summary(const uint8_t *message, size_t message_len, uint8_t *out
 
 /* Writes the token and the value of the trailer with this index, from 0 on, in a message. Both lengths are written,
  * also if a buffer is too short; then both buffers are unchanged.
- * DONE, NOT_FOUND, OUT_OF_MEMORY, BUFFER_TOO_SHORT. Values of several lines allocate, up to this trailer. */
+ * DONE, NOT_FOUND, OUT_OF_MEMORY (only if a value of several lines comes up to this trailer), BUFFER_TOO_SHORT. Values of
+ * several lines allocate. */
 uint32_t gixobj_trailer(const uint8_t *message, size_t message_len, size_t index, uint8_t *token, size_t token_size,
                         size_t *token_len, uint8_t *value, size_t value_size, size_t *value_len);
 
@@ -158,7 +160,8 @@ uint32_t gixobj_tag_signature(const uint8_t *tag, size_t tag_len, gixobj_span *o
 
 /* Writes the signature of a commit (`gpgsig`, of SHA-256 `gpgsig-sha256`), and what it signs: all bytes except those of
  * its header. Both lengths are written, also if a buffer is too short; then both buffers are unchanged.
- * DONE, NOT_FOUND, MALFORMED, OUT_OF_MEMORY, UNKNOWN_CODE, BUFFER_TOO_SHORT. Allocates. */
+ * DONE, NOT_FOUND, MALFORMED, OUT_OF_MEMORY (only if there is a signature, or a header of several lines before any
+ * fault), UNKNOWN_CODE, BUFFER_TOO_SHORT. A signature and headers of several lines allocate. */
 uint32_t gixobj_commit_signature(uint8_t hash, const uint8_t *commit, size_t commit_len, uint8_t *signature,
                                  size_t signature_size, size_t *signature_len, uint8_t *signed_bytes,
                                  size_t signed_size, size_t *signed_len);

@@ -12,28 +12,33 @@ extern "C" {
 /* Statuses beside those of enum gixobj_status. */
 enum gixobj_edit_status {
   GIXOBJ_BAD_LINE = 12,       /* a line of the script is neither empty nor a command */
-  GIXOBJ_NOT_AN_EDIT = 13,    /* a command is no edit: `at`, `root` or `write` */
   GIXOBJ_INVALID_NAME = 14,   /* a name of a path is empty */
   GIXOBJ_IS_DIRECTORY = 15,   /* the path of a `leaf` is that of a directory */
   GIXOBJ_MALFORMED_TREE = 16  /* a tree does not decode, or its entries are not in git's order with valid names */
 };
 
-/* Runs a script of edits on a root, and writes the trees that it changes, as git update-index and git write-tree.
+/* Runs a script on a root, and then writes the root: the trees that change, as git update-index and git write-tree.
  *
  * Trees are passed as frames, one after another. A frame is a loose object without compression: `tree <size>`, a zero
  * byte, and that many bytes, which are the tree. The id of a tree is the digest of its frame. The trees that the edits
  * look up are enough: the root, and those on the paths.
  * The root is an id of 20 or 32 bytes. The id of the empty tree and the null id are those of a root without entries.
- * A script has lines, as those of `gixobj edit`: `upsert KIND ID PATH` with a kind of tree, blob, exe, link, commit and
- * an id in hex; `remove PATH`; `leaf PATH`, of anything but a directory. `/` separates the names of a path.
+ * A script has the lines of `gixobj edit`:
+ * - `upsert KIND ID PATH`, with a kind of tree, blob, exe, link, commit and an id in hex; `remove PATH`; `leaf PATH`, of
+ *   anything but a directory;
+ * - `write`, of the root as it is then; `root`, for a new root without entries;
+ * - `at PREFIX LINE`, for one of these except `root`, in the directory PREFIX, which is made if it is missing.
+ * `/` separates the names of a path. PREFIX has no space.
  *
- * DONE: out has the frames of the new trees, the root last, and id has the root's id. *number is unchanged.
+ * DONE: out has the frames of the new trees, in the order in which the writes emit them: those of the last write come
+ * last, and its root ends them. A tree that several writes emit has a frame for each: the root, if the script ends with
+ * `write`. id has the last root's id. *number is unchanged.
  * BUFFER_TOO_SHORT: *out_len and *id_len are the lengths that are needed. Of a missing tree *out_len is unchanged.
  * NOT_FOUND: a tree is missing. id has its id: add its frame to the trees, and call again.
  * BAD_LINE: *number is that of the line, from 1.
- * NOT_AN_EDIT, INVALID_NAME, IS_DIRECTORY, MALFORMED_TREE, NOT_ENCODABLE (a name with a zero byte), NOT_FOUND: *number is
- * that of the command, from 1, without empty lines. That of the write is one more than the number of commands, and that
- * of the root 0.
+ * INVALID_NAME, IS_DIRECTORY, MALFORMED_TREE, NOT_ENCODABLE (a name with a zero byte), NOT_FOUND: *number is that of the
+ * first command that fails, from 1, without empty lines. That of the last write is one more than the number of commands,
+ * and that of the root 0.
  * MALFORMED: the trees are no frames, or the root has not the length of an id; *number is 0.
  * OUT_OF_MEMORY. UNKNOWN_CODE: all is unchanged. Allocates. */
 uint32_t gixobj_edit(uint8_t hash, const uint8_t *trees, size_t trees_len, const uint8_t *root, size_t root_len,

@@ -243,10 +243,12 @@ def edit(
     find: Optional[Callable[[str], bytes]] = None,
     hash: int = Hash.SHA1,
 ) -> tuple[str, list[bytes]]:
-    """Runs a script of edits on the root with this id in hex. Returns the new root's id, and the new trees, the root last.
+    """Runs a script on the root with this id in hex, then writes the root. Returns its id, and the new trees, in the
+    order in which the writes emit them, the root last.
 
     A tree that `trees` lacks is looked up by `find`; without it, MissingTreeError is raised. The lines of the script are
-    `upsert KIND ID PATH`, `remove PATH` and `leaf PATH`."""
+    `upsert KIND ID PATH`, `remove PATH`, `leaf PATH`, `write`, `root` and `at PREFIX LINE`, as `gixobj help` describes
+    them."""
     given, digest, size = frames(trees), bytes.fromhex(root), 4096
     out_len, id_len, number, id = c_size_t(0), c_size_t(0), c_uint64(0), create_string_buffer(32)
     while True:

@@ -5,7 +5,7 @@ from ctypes import POINTER, Structure, c_char_p, c_int32, c_int64, c_size_t, c_u
 
 DONE, AT_END, MALFORMED, OUT_OF_MEMORY, UNKNOWN_CODE, BUFFER_TOO_SHORT, BAD_OFFSET = range(7)
 UNKNOWN_KIND, INVALID_SIZE, NOT_FOUND, NOT_ENCODABLE, MISMATCH = range(7, 12)
-BAD_LINE, NOT_AN_EDIT, INVALID_NAME, IS_DIRECTORY, MALFORMED_TREE = range(12, 17)
+BAD_LINE, INVALID_NAME, IS_DIRECTORY, MALFORMED_TREE = 12, 14, 15, 16
 
 
 class Span(Structure):
@@ -90,7 +90,6 @@ class ScriptError(Error, ValueError):
 
 SCRIPT_ERRORS = {
     BAD_LINE: "no command: line",
-    NOT_AN_EDIT: "no edit: command",
     INVALID_NAME: "an empty name: command",
     IS_DIRECTORY: "a directory: command",
     MALFORMED_TREE: "a malformed tree: command",

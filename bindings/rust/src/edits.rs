@@ -7,7 +7,7 @@ use std::fmt;
 pub struct Edited {
     /// The bytes of the new root's id.
     pub id: Vec<u8>,
-    /// The new trees, the root last.
+    /// The new trees, in the order in which the writes emit them, the root last.
     pub trees: Vec<Vec<u8>>,
 }
 
@@ -18,8 +18,6 @@ pub enum EditError {
     Missing(Vec<u8>),
     /// The line with this number, from 1, is neither empty nor a command.
     BadLine(u64),
-    /// The command with this number is no edit.
-    NotAnEdit(u64),
     /// A path of the command with this number has an empty name.
     InvalidName(u64),
     /// The command with this number removes a directory as a leaf.
@@ -42,7 +40,6 @@ impl fmt::Display for EditError {
                 id.iter().try_for_each(|byte| write!(f, "{byte:02x}"))
             }
             EditError::BadLine(number) => write!(f, "line {number} is no command"),
-            EditError::NotAnEdit(number) => write!(f, "command {number} is no edit"),
             EditError::InvalidName(number) => write!(f, "an empty name in command {number}"),
             EditError::IsDirectory(number) => write!(f, "a directory in command {number}"),
             EditError::MalformedTree(number) => write!(f, "a malformed tree in command {number}"),
@@ -55,10 +52,12 @@ impl fmt::Display for EditError {
 
 impl std::error::Error for EditError {}
 
-/// Runs a script of edits on a root, and returns the new trees, as `git update-index` and `git write-tree`.
+/// Runs a script on a root, then writes the root, and returns the new trees, as `git update-index` and
+/// `git write-tree`.
 ///
 /// `trees` has the root and the trees on the paths that are edited. The id of the empty tree is that of a root without
-/// entries. The lines of the script are `upsert KIND ID PATH`, `remove PATH` and `leaf PATH`.
+/// entries. The lines of the script are `upsert KIND ID PATH`, `remove PATH`, `leaf PATH`, `write`, `root` and
+/// `at PREFIX LINE`, as `gixobj help` describes them.
 ///
 /// # Errors
 ///
@@ -130,7 +129,6 @@ fn error_of(status: u32, id: &[u8], number: u64) -> EditError {
         9 => EditError::Missing(id.to_vec()),
         10 => EditError::NotEncodable,
         12 => EditError::BadLine(number),
-        13 => EditError::NotAnEdit(number),
         14 => EditError::InvalidName(number),
         15 => EditError::IsDirectory(number),
         16 => EditError::MalformedTree(number),

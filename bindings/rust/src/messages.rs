@@ -42,7 +42,7 @@ pub fn summary(message: &[u8]) -> Result<Vec<u8>, Error> {
 ///
 /// # Errors
 ///
-/// [`Error::OutOfMemory`].
+/// [`Error::OutOfMemory`] only if a value of several lines comes up to this trailer.
 pub fn trailer(message: &[u8], index: usize) -> Result<Option<[Vec<u8>; 2]>, Error> {
     with_buffers(|[token, value], [token_len, value_len]| {
         // SAFETY: as in `id`; the buffers are apart.
@@ -76,7 +76,8 @@ pub fn tag_signature(tag: &[u8]) -> Option<(&[u8], &[u8])> {
 ///
 /// # Errors
 ///
-/// [`Error::Malformed`] or [`Error::OutOfMemory`].
+/// [`Error::Malformed`], or [`Error::OutOfMemory`] only if there is a signature, or a header of several lines before any
+/// fault.
 pub fn commit_signature(hash: HashKind, commit: &[u8]) -> Result<Option<[Vec<u8>; 2]>, Error> {
     with_buffers(|[signature, signed], [signature_len, signed_len]| {
         // SAFETY: as in `id`; the buffers are apart.

@@ -133,7 +133,7 @@ pub fn check(hash: HashKind, kind: Kind, bytes: &[u8]) -> Result<(), Error> {
 ///
 /// # Errors
 ///
-/// [`Error::Malformed`], [`Error::OutOfMemory`], or [`Error::NotEncodable`].
+/// [`Error::Malformed`], [`Error::NotEncodable`], or [`Error::OutOfMemory`], but not of a blob or a tree without entries.
 pub fn reencode(hash: HashKind, kind: Kind, bytes: &[u8]) -> Result<Vec<u8>, Error> {
     let found = with_buffers(|[out], [len]| {
         // SAFETY: as in `id`.

@@ -302,7 +302,7 @@ fn edits_write_the_trees_of_git() {
     );
     let failures: [(&[u8], EditError); 6] = [
         (b"\nx", EditError::BadLine(2)),
-        (b"\nremove b\nroot", EditError::NotAnEdit(2)),
+        (b"\nremove b\nat a/ write", EditError::InvalidName(2)),
         (b"remove a/", EditError::InvalidName(1)),
         (b"leaf a", EditError::IsDirectory(1)),
         (
@@ -324,4 +324,41 @@ fn edits_write_the_trees_of_git() {
         ),
         Err(EditError::MalformedTree(0))
     );
+}
+
+/// Ids are those that `git write-tree` prints after the same edits.
+#[test]
+fn writes_of_a_script_emit_each_root() {
+    let add = "at a upsert blob ce013625030ba8dba906f756967f9e9ca394464a b\n\
+               at a upsert exe ce013625030ba8dba906f756967f9e9ca394464a c\n";
+    let fresh = "root\nupsert blob ce013625030ba8dba906f756967f9e9ca394464a x";
+    let (both, one) = (
+        "da514ea5341738d481683bda23ea402ea2361974",
+        "5801a01ad62e76ee2fc8231fcc071a628b406269",
+    );
+    let (both_below, one_below) = (
+        "6fde82ce7815e720882d2133da12f0e72d37fa93",
+        "ae155f240307f709c47cfd6e80ae9001969680fc",
+    );
+    let new = "e31a96220fbfbe7601ecc086a36b96dc27a8867e";
+    let scripts: [(String, &[&str]); 4] = [
+        (
+            format!("{add}write\nat a leaf b"),
+            &[both_below, both, one_below, one],
+        ),
+        (format!("{add}at a write"), &[both_below, both_below, both]),
+        (format!("{add}{fresh}"), &[new]),
+        (format!("{fresh}\nwrite"), &[new, new]),
+    ];
+    for (script, ids) in scripts {
+        let edited = edit(SHA1, &[], &[0; 20], script.as_bytes()).unwrap();
+        let all: Vec<_> = edited
+            .trees
+            .iter()
+            .map(|it| id(SHA1, Kind::Tree, it).to_string())
+            .collect();
+        assert_eq!(all, ids);
+        let root = edited.trees.last().unwrap();
+        assert_eq!(id(SHA1, Kind::Tree, root).as_bytes(), edited.id);
+    }
 }
