@@ -136,6 +136,11 @@ pub leaf_trees_of_parent : (es base : List EntryView) (name : List ℕ) (ds : Op
 leaf_trees_of_parent es base name [] ps found is = absurd (cc is)
 leaf_trees_of_parent es base name (d ∷ ds) ps found is = refl
 
+-- something is open below a directory with an open directory
+pub below_ne_nil : (name : List ℕ) (ds : Opened) (ps : List Part) (found : List EntryView) → bases_of ds [] ≡ Some found → below ((name, ds) ∷ ps) ≢ []
+below_ne_nil name [] ps found is none = absurd (cc is)
+below_ne_nil name (d ∷ ds) ps found is none = absurd (cc none)
+
 -- a directory with no open directory has at most its own tree as a leaf tree
 pub leaf_trees_of_childless : (es base : List EntryView) (b : Bool) → is_leaf_tree (es, base) ≡ b → leaf_trees (opened es base []) ≡ cond b (es ∷ []) []
 leaf_trees_of_childless es base b is = ap (λ k. cond k (es ∷ []) [] ++ []) is ∙ append-nil (cond b (es ∷ []) [])

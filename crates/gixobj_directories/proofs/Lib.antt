@@ -9,6 +9,7 @@ pub mod Exchanges
 pub mod LeafTrees
 pub mod Levels
 pub mod LookedUp
+pub mod Moves
 pub mod NamedTrees
 pub mod NewDirectories
 pub mod OpeningSteps

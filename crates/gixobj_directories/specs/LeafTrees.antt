@@ -34,6 +34,10 @@ abbrev pub inside_of : Opened → Opened
 inside_of [] = []
 inside_of (d ∷ ds) = ds
 
+-- the leaf trees below a directory that waits, followed by those of the directory that is next
+abbrev pub waiting_trees : Opened → Opened → List (List EntryView)
+waiting_trees rest next = leaf_trees (inside_of rest) ++ leaf_trees next
+
 -- the leaf trees of a child, if there is one
 abbrev pub child_leaf_trees : Option Child → List (List EntryView)
 child_leaf_trees None = []

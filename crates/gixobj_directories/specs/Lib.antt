@@ -3,9 +3,10 @@ pub mod Children
 pub mod Decreases
 pub mod Descents
 pub mod Frames
-pub mod WriteErrors
+pub mod LeafTrees
 pub mod LookedUp
+pub mod Moves
 pub mod Nested
 pub mod NewDirectories
 pub mod Openings
-pub mod LeafTrees
+pub mod WriteErrors

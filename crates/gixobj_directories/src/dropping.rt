@@ -4,6 +4,7 @@ ghost use Rattle.std.specs.List.{flat_map};
 ghost use Rattle.bstr.specs.Owned.{bstring_bytes};
 ghost use Rattle.gixobj_sorted.specs.Pieces.{AreNonEmpty};
 ghost use Rattle.gixobj_directories.specs.Children.{IsAt, place_index};
+ghost use Rattle.gixobj_directories.specs.LeafTrees.{inside_of, leaf_trees, waiting_trees};
 ghost use Rattle.gixobj_directories.specs.Nested.{AreFilled, child_list, parts};
 ghost use Rattle.gixobj_directories.specs.declared.open.Child.{Child};
 
@@ -40,7 +41,9 @@ fn merge(directory: Open, waiting: Open) -> Open
 impl Open {
     /// Takes the last open directory out of the directory, which is dropped if there is none.
     pub(crate) fn split_last(self) -> Option<(Open, Open)>
-        ensures { IfSome result (λ it. length it.0 + length it.1 ≡ length self) }
+        ensures sizes { IfSome result (λ it. length it.0 + length it.1 ≡ length self) }
+        ensures trees { IfSome result (λ it. waiting_trees it.0 it.1 ≡ leaf_trees (inside_of self)) }
+        ensures none { IfNone result (inside_of self ≡ []) }
     {
         let (entries, base, mut children) = self.into_parts();
         let Some(last) = children.pop() else {
@@ -139,7 +142,7 @@ impl Children {
         requires { AreFilled self.old }
         ensures last { IfSome result (λ child. child_list self.old
             ≡ child_list self.new ++ child ∷ []) }
-        ensures none { IfNone result (child_list self.new ≡ []) }
+        ensures none { IfNone result ((child_list self.old ≡ []) × (child_list self.new ≡ [])) }
         ensures filled { AreFilled self.new }
     {
         match pop_of_pieces(&mut self.more) {

@@ -7,7 +7,7 @@ ghost use Rattle.gixobj_files.specs.Files.{is_null};
 ghost use Rattle.gixobj_sorted.specs.Pieces.{AreNonEmpty};
 ghost use Rattle.gixobj_directories.specs.Calls.{IsStorable};
 ghost use Rattle.gixobj_directories.specs.Nested.{AreFilled, below, child_list, dirs_of, opened, parts};
-ghost use Rattle.gixobj_directories.specs.LeafTrees.{Fills, inside_of, is_leaf_tree, leaf_trees};
+ghost use Rattle.gixobj_directories.specs.LeafTrees.{Fills, inside_of, is_leaf_tree, leaf_trees, waiting_trees};
 
 use crate::open::{Child, Children, Open};
 use crate::write::base_of;
@@ -49,7 +49,9 @@ impl Open {
     /// Returns `true` if a directory in it is open.
     fn has_open_directory(&self) -> bool
         ensures some { IsTrue result → leaf_trees self.now ≡ leaf_trees (inside_of self.now) }
+        ensures non_empty { IsTrue result → inside_of self.now ≢ [] }
         ensures none { IsFalse result → inside_of self.now ≡ [] }
+        ensures alone { IsFalse result → length self.now ≡ 1 }
     {
         let Some(child) = self.children.first_child() else {
             return false;
@@ -127,7 +129,6 @@ fn are_non_null(entries: &[Entry]) -> bool
 /// Moves the leaf trees at and below these directories to the end of `trees`, the last first.
 ///
 /// There must be capacity for them.
-#[cycle(taking)]
 pub(crate) fn take_leaf_trees(children: Children, trees: &mut Vec<Tree>)
     requires apart { EachLater (λ x y. x.0 ≢ y.0) (parts (child_list children)) }
     requires has_capacity { vec_len trees.old
@@ -144,7 +145,6 @@ pub(crate) fn take_leaf_trees(children: Children, trees: &mut Vec<Tree>)
 }
 
 /// Moves the leaf trees at and below the directories of a piece to the end of `trees`, the last first.
-#[cycle(taking)]
 fn take_from_piece(mut children: Vec<Child>, trees: &mut Vec<Tree>)
     requires apart { EachLater (λ x y. x.0 ≢ y.0) (parts children.items) }
     requires has_capacity { vec_len trees.old + length (leaf_trees (below (parts children.items)))
@@ -154,27 +154,72 @@ fn take_from_piece(mut children: Vec<Child>, trees: &mut Vec<Tree>)
     ensures capacity { vec_capacity trees.old ≤ vec_capacity trees.new }
 {
     while let Some(child) = children.pop() {
-        take_leaf_tree(child.open, trees);
+        take_leaf_tree(child.into_open(), trees);
     }
 }
 
 /// Moves the leaf trees at and below one directory to the end of `trees`, the last first.
-#[cycle(taking)]
+///
+/// It takes out one directory after the other, by a loop. What is open in that is merged with what waits.
 fn take_leaf_tree(node: Open, trees: &mut Vec<Tree>)
     requires has_capacity { vec_len trees.old + length (leaf_trees node) ≤ vec_capacity trees.old }
     ensures items { trees.new.items ≡ trees.old.items ++ reverse (leaf_trees node) }
     ensures capacity { vec_capacity trees.old ≤ vec_capacity trees.new }
 {
-    if node.has_open_directory() {
-        let (_, _, children) = node.into_parts();
-        take_leaf_trees(children, trees);
+    let Some(mut waiting) = take_own_tree(node, trees) else {
         return;
+    };
+    while let Some((rest, last)) = waiting.split_last() {
+        waiting = take_last_tree(last, rest, trees);
+    }
+}
+
+/// Drops the last directory at and below these two, moves its tree if that is a leaf tree, and returns what waits
+/// then: one directory with all others in it.
+fn take_last_tree(last: Open, rest: Open, trees: &mut Vec<Tree>) -> Open
+    requires has_capacity { vec_len trees.old + length (waiting_trees rest last)
+        ≤ vec_capacity trees.old }
+    ensures items { trees.new.items ++ reverse (leaf_trees (inside_of result))
+        ≡ trees.old.items ++ reverse (waiting_trees rest last) }
+    ensures has_capacity { vec_len trees.new + length (leaf_trees (inside_of result))
+        ≤ vec_capacity trees.new }
+    ensures capacity { vec_capacity trees.old ≤ vec_capacity trees.new }
+    ensures fewer { length result + 1 ≡ length rest + length last }
+{
+    let mut hand = last;
+    let mut waiting = rest;
+    loop {
+        let Some(directory) = take_own_tree(hand, trees) else {
+            return waiting;
+        };
+        if !waiting.has_open_directory() {
+            return directory;
+        }
+        let (next, inner) = directory.move_on(waiting);
+        waiting = next;
+        hand = inner;
+    }
+}
+
+/// Returns the directory if one is open in it. Otherwise its tree is moved to the end of `trees` if it is a leaf
+/// tree.
+fn take_own_tree(node: Open, trees: &mut Vec<Tree>) -> Option<Open>
+    requires has_capacity { vec_len trees.old + length (leaf_trees node) ≤ vec_capacity trees.old }
+    ensures some { IfSome result (λ it. (it ≡ node) × (inside_of node ≢ [])
+        × (leaf_trees node ≡ leaf_trees (inside_of node)) × (trees.new ≡ trees.old)) }
+    ensures none { IfNone result ((trees.new.items ≡ trees.old.items ++ reverse (leaf_trees node))
+        × (length node ≡ 1)) }
+    ensures capacity { vec_capacity trees.old ≤ vec_capacity trees.new }
+{
+    if node.has_open_directory() {
+        return Some(node);
     }
     let (entries, base, _) = node.into_parts();
     let tree = entries.into_tree();
     if is_leaf_tree(&tree, &base) {
         let _ = trees.push(tree);
     }
+    None
 }
 
 /// Moves these trees, from the last on, to the pairs with empty trees, in order.

@@ -2,12 +2,13 @@
 #![tactic(auto)]
 
 mod children;
-mod dropping;
 mod descent;
+mod dropping;
 pub mod ensure_directory;
 mod frames;
 pub mod laws;
 mod leaf_trees;
+mod moving;
 mod new_directories;
 pub mod open;
 pub mod opening;
