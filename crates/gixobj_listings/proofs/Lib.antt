@@ -12,4 +12,5 @@ mod PairSteps
 pub mod Rooted
 mod StoreChanges
 mod StoreListings
+mod UniqueLogs
 mod Unread

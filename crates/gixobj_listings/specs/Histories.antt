@@ -1,5 +1,5 @@
 -- The commits of a log: a commit and its ancestors by first parents (git-log, `--first-parent`).
-use Rattle.std.specs.Prelude.{◌≡◌, ℕ, Bool, List, [], ◌∷◌, Option, Some, None, length, ⊤}
+use Rattle.std.specs.Prelude.{◌≡◌, ◌<◌, ℕ, Bool, IsFalse, List, [], ◌∷◌, Option, Some, None, length, ⊤}
 use Rattle.gix_object.specs.Actor.{IsActor}
 use Rattle.gix_object.specs.ByteStrings.{trimmed}
 use Rattle.gix_object.specs.Commit.{CommitLines, DecodesToCommit}
@@ -63,11 +63,25 @@ IsAllocationFailure (existing.Find find.OutOfMemory) = ⊤
 IsAllocationFailure (existing.Decode oid decoding.OutOfMemory) = ⊤
 IsAllocationFailure other = ⊥
 
--- a log of these commits from the tip ends so: at a root commit, or at a commit that isn't read, for this cause, or
--- with as many commits as it may have, before this commit
+-- a log of these commits from the tip ends so: at a root commit; or with fewer commits than it may have, at a commit
+-- that isn't read, for this cause; or with as many commits as it may have, before this commit
 abbrev pub IsLog : Objects → (ObjectId → Bool) → ℕ → ObjectId → List LoggedView → LogEnd → Type 0
 IsLog objects may_fail max tip commits end.Root = FollowsFirstParents objects (Some tip) commits None
 IsLog objects may_fail max tip commits (end.Unread id cause) = FollowsFirstParents objects (Some tip) commits (Some id)
-    × IsFindObjectError objects may_fail Commit id cause × (¬ IsAllocationFailure cause)
+    × IsFindObjectError objects may_fail Commit id cause × (¬ IsAllocationFailure cause) × (length commits < max)
 IsLog objects may_fail max tip commits (end.TooLong id) = FollowsFirstParents objects (Some tip) commits (Some id)
     × (length commits ≡ max)
+
+-- ---- one log
+
+-- no lookup fails
+abbrev pub NeverFails : (ObjectId → Bool) → Type 0
+NeverFails may_fail = (id : ObjectId) → IsFalse (may_fail id)
+
+-- the logs end alike: both at a root commit; or before the same commit, both because it isn't read, or both because it
+-- would be one too many
+abbrev pub EndAlike : LogEnd → LogEnd → Type 0
+EndAlike end.Root end.Root = ⊤
+EndAlike (end.Unread id cause) (end.Unread id' cause') = id ≡ id'
+EndAlike (end.TooLong id) (end.TooLong id') = id ≡ id'
+EndAlike first second = ⊥
