@@ -11,6 +11,7 @@ use Rattle.gixobj_mode.specs.Mode.{is_tree_mode}
 use Rattle.gixobj_tree.specs.Entries.{EntryView}
 use Rattle.gixobj_tree.specs.KeyOrder.{entry_key, key_of}
 use Rattle.gixobj_tree.specs.WellFormed.{EachLater, IsEntryName, IsWellFormed}
+use Rattle.gixobj_sorted.proofs.FlatIndices.{fails_of_none}
 use Rattle.gixobj_sorted.proofs.Sublists.{all_weaker}
 use Rattle.gixobj_sorted.specs.Pieces.{has_key, without_key}
 use Rattle.gixobj_files.specs.Editing.{same_name, without}
@@ -56,6 +57,23 @@ module _ (es : List EntryView) (formed : IsWellFormed es) (name : List ℕ) (sla
   without_slashed = sym (filter_all (λ e. not (same_name e.name name)) es
       (all_weaker (λ (e : EntryView). IsByteFree 47 e.name) (λ (e : EntryView). not (same_name e.name name) ≡ true) (λ e free. ap not (fails e free)) es
       (names_free es formed)))
+
+-- if no entry has the key of a directory, none is a directory of that name
+module _ (name : List ℕ) where
+  is_no_tree : (e : EntryView) → has_key entry_key (key_of name true) e ≡ false → (same_name e.name name && is_tree_mode e.mode) ≡ false
+  is_no_tree e differs =
+      elim (same_name e.name name) as (λ b. same_name e.name name ≡ b → (b && is_tree_mode e.mode) ≡ false) [
+        | true ↦ λ is. false_from_ne_true (is_tree_mode e.mode)
+            (λ kind. true≢false (sym (has_key_of_name name e true kind ((bytes_decides e.name name).0 is)) ∙ differs))
+        | false ↦ λ is. refl
+      ] refl
+
+  pub find_tree_none_of_key : (es : List EntryView) → find (has_key entry_key (key_of name true)) es ≡ None
+      → find (λ e. same_name e.name name && is_tree_mode e.mode) es ≡ None
+  find_tree_none_of_key [] none = refl
+  find_tree_none_of_key (e ∷ es) none =
+      let rest = fails_of_none (has_key entry_key (key_of name true) e) e (find (has_key entry_key (key_of name true)) es) none in
+      rw (is_no_tree e rest.0) (find_tree_none_of_key es rest.1)
 
 module _ (name : List ℕ) (free : IsByteFree 47 name) where
   absent_later : (t : Bool) (e : EntryView) (es : List EntryView) → e.name ≡ name → AllByRecursion (λ y. e.name ≢ y.name) es

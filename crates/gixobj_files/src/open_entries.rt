@@ -97,10 +97,15 @@ impl Entries {
     {
         let first = entries_of(&self.tree);
         let more: &[Vec<Entry>] = &self.more;
-        if has_byte(name, b'/') {
-            return None;
+        match pieces::find(first, more, name, true) {
+            Some(found) => {
+                if has_byte(name, b'/') {
+                    return None;
+                }
+                Some(found)
+            }
+            None => None,
         }
-        pieces::find(first, more, name, true)
     }
 
     /// Inserts an entry at the position of its key, in place of any entry of its name.

@@ -10,6 +10,7 @@ use crate::search::order_by_key;
 /// Returns `true` if the list is in more than one piece and all its items are less than the name and kind.
 ///
 /// Items that arrive in order are after all others, so that one comparison is enough. Allocates nothing.
+#[inline(always)]
 pub(crate) fn is_past_end<T: Named>(more: &[Vec<T>], name: &[u8], is_tree: bool) -> bool
     ensures { IsTrue result → (first : List T)
         → IsPieced T.name_of T.is_tree_of (λ p. p.items) first more.now
@@ -28,6 +29,7 @@ pub(crate) fn is_past_end<T: Named>(more: &[Vec<T>], name: &[u8], is_tree: bool)
 ///
 /// The item before the index is less then, and the one at it is greater, or the list has no such item.
 /// `before` and `after` are the numbers of pieces before this one and after it. `false` says nothing.
+#[inline(always)]
 pub(crate) fn is_gap<T: Named>(
     items: &[T],
     index: usize,
