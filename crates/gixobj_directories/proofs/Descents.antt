@@ -85,6 +85,21 @@ module _ (side : Level → List EntryView) where
       ∙ sym (with_path_snoc (reverse names) name (at_side side next) whole at)
       ∙ ap (λ (p : Path). with_path p (at_side side next) whole at) (sym (reverse-cons name names))
 
+-- the bases after a change in the directory reached
+bases_with_path : (g : OfBase) (path : Path) (dirs bases next based : Dirs) → ((at : Path) → bases at ≡ g (dirs at) (dirs at) (bases at))
+    → ((at : Path) → based at ≡ g (in_path path dirs at) (next at) (in_path path bases at)) → (at : Path)
+    → with_path path based bases at ≡ g (dirs at) (with_path path next dirs at) (bases at)
+bases_with_path g [] dirs bases next based same inside at = inside at
+bases_with_path g (name ∷ path) dirs bases next based same inside [] = same []
+bases_with_path g (name ∷ path) dirs bases next based same inside (first ∷ at) =
+    elim (same_name name first) as (λ b. same_name name first ≡ b → cond b (with_path path based (in_dir name bases) at) (bases (first ∷ at))
+    ≡ g (dirs (first ∷ at)) (cond b (with_path path next (in_dir name dirs) at) (dirs (first ∷ at))) (bases (first ∷ at))) [
+      | true ↦ λ is. subst (λ (n : List ℕ). with_path path based (in_dir name bases) at
+          ≡ g (dirs (n ∷ at)) (with_path path next (in_dir name dirs) at) (bases (n ∷ at))) ((bytes_decides name first).0 is)
+          (bases_with_path g path (in_dir name dirs) (in_dir name bases) next based (λ q. same (name ∷ q)) inside at)
+      | false ↦ λ is. same (first ∷ at)
+    ] refl
+
 -- a descent to the directory of one name more
 have_trees_snoc : (path : Path) (name : List ℕ) (dirs : Dirs) → HaveTrees path dirs → HasTreeAt name (in_path path dirs) → HaveTrees (path ++ name ∷ []) dirs
 have_trees_snoc [] name dirs trees tree = (tree, tt)
@@ -116,6 +131,15 @@ module _ {names : Path} {old here above : Opened} (descended : IsDescended names
         ∙ ap (λ (p : Path). with_path p (at_side side next) (at_side side (rebuilt (reverse names) above here)) at) (reverse-reverse names)
         ∙ ap (λ (d : Opened). with_path names (at_side side next) (at_side side d) at) descended.rebuilt_is
 
+    pub bases_at_ascent : (g : OfBase) → Settles g → ((at : Path) → bases_of next at ≡ g (dirs_of here at) (dirs_of next at) (bases_of here at))
+        → (at : Path) → bases_of new at ≡ g (dirs_of old at) (dirs_of new at) (bases_of old at)
+    bases_at_ascent g settles inside at =
+        at_ascent base_side at
+        ∙ bases_with_path g names (dirs_of old) (bases_of old) (dirs_of next) (bases_of next) (unmoved g settles old)
+        (λ q. inside q ∙ ap (λ (d : Dirs). g (d q) (dirs_of next q) (bases_of here q)) (sym (at_descent entries_side))
+        ∙ ap (λ (d : Dirs). g (in_path names (dirs_of old) q) (dirs_of next q) (d q)) (sym (at_descent base_side))) at
+        ∙ ap (λ o. g (dirs_of old at) o (bases_of old at)) (sym (at_ascent entries_side at))
+
     -- an unchanged directory leaves all unchanged
     pub ascent_unchanged : next ≡ here → new ≡ old
     ascent_unchanged same = new_is ∙ ap (λ (d : Opened). rebuilt (reverse names) above d) same ∙ descended.rebuilt_is
@@ -143,21 +167,6 @@ pub reverse_names_snoc : (path before : List BString) (name : BString) → path 
 reverse_names_snoc path before name is =
     ap (λ (p : List BString). reverse (names_of p)) is ∙ ap reverse (map-append bstring_bytes before (name ∷ []))
     ∙ reverse-append (names_of before) (bstring_bytes name ∷ [])
-
--- the bases after a change in the directory reached
-bases_with_path : (g : OfBase) (path : Path) (dirs bases next based : Dirs) → ((at : Path) → bases at ≡ g (dirs at) (dirs at) (bases at))
-    → ((at : Path) → based at ≡ g (in_path path dirs at) (next at) (in_path path bases at)) → (at : Path)
-    → with_path path based bases at ≡ g (dirs at) (with_path path next dirs at) (bases at)
-bases_with_path g [] dirs bases next based same inside at = inside at
-bases_with_path g (name ∷ path) dirs bases next based same inside [] = same []
-bases_with_path g (name ∷ path) dirs bases next based same inside (first ∷ at) =
-    elim (same_name name first) as (λ b. same_name name first ≡ b → cond b (with_path path based (in_dir name bases) at) (bases (first ∷ at))
-    ≡ g (dirs (first ∷ at)) (cond b (with_path path next (in_dir name dirs) at) (dirs (first ∷ at))) (bases (first ∷ at))) [
-      | true ↦ λ is. subst (λ (n : List ℕ). with_path path based (in_dir name bases) at
-          ≡ g (dirs (n ∷ at)) (with_path path next (in_dir name dirs) at) (bases (n ∷ at))) ((bytes_decides name first).0 is)
-          (bases_with_path g path (in_dir name dirs) (in_dir name bases) next based (λ q. same (name ∷ q)) inside at)
-      | false ↦ λ is. same (first ∷ at)
-    ] refl
 
 -- a removal at a path is one in the directory reached
 removed_dirs_append : (path : Path) (name : List ℕ) (rest : Path) (dirs : Dirs) (at : Path)
@@ -200,12 +209,7 @@ module _ (path passed rest : List BString) (path_is : path ≡ passed ++ rest) {
   pub bases_of_ascent : (g : OfBase) → Settles g
       → ((at : Path) → bases_of next at ≡ g (dirs_of here at) (dirs_of next at) (bases_of here at)) → (at : Path)
       → bases_of new at ≡ g (dirs_of old at) (dirs_of new at) (bases_of old at)
-  bases_of_ascent g settles inside at =
-      at_ascent descended new next new_is base_side at
-      ∙ bases_with_path g (names_of passed) (dirs_of old) (bases_of old) (dirs_of next) (bases_of next) (unmoved g settles old)
-      (λ q. inside q ∙ ap (λ (d : Dirs). g (d q) (dirs_of next q) (bases_of here q)) (sym (at_descent descended entries_side))
-      ∙ ap (λ (d : Dirs). g (in_path (names_of passed) (dirs_of old) q) (dirs_of next q) (d q)) (sym (at_descent descended base_side))) at
-      ∙ ap (λ o. g (dirs_of old at) o (bases_of old at)) (sym (at_ascent descended new next new_is entries_side at))
+  bases_of_ascent g settles inside = bases_at_ascent descended new next new_is g settles inside
 
   -- a change in the directory reached, by what it is at the entire path
   of_ascent : (change : Dirs → Dirs) (entire : Dirs) → ((at : Path) → dirs_of next at ≡ change (dirs_of here) at)

@@ -14,7 +14,7 @@ use Rattle.gixobj_files.specs.Edits.{with_dir}
 use Rattle.gixobj_files.specs.Files.{Path}
 use Rattle.gixobj_files.proofs.OpenedFiles.{same_name_false, same_name_refl}
 use Rattle.gixobj_directories.specs.Descents.{IsExchanged, has_inner, inner, is_in, outside, with_inner}
-use Rattle.gixobj_directories.specs.Nested.{IsLevel, Level, Opened, Part, at_side, bases_of, below, called, opened, part, parts, under}
+use Rattle.gixobj_directories.specs.Nested.{IsLevel, Level, Opened, Part, at_side, bases_of, below, called, dirs_of, opened, part, parts, under}
 use Rattle.gixobj_directories.specs.declared.open.Child.{Child}
 use Rattle.gixobj_directories.proofs.Levels.{IsChanged, IsChild, all_names_differ, child_has_tree, is_level_set, parts_set_same, tied, tied_cons, true_of_cond_some}
 use Rattle.gixobj_directories.proofs.Ordered.{level_names_apart}
@@ -159,9 +159,9 @@ module _ {name : List ℕ} {cs : List Child} {i : ℕ} {child : Child} (old : Op
   pub has_inner_of_child : has_inner name old ≡ true
   has_inner_of_child = subst (λ (d : Opened). has_inner name d ≡ true) view now_below.has
 
-  exchanged : (other : Opened) → other ≢ []
+  exchanged : (other : Opened) → other ≢ [] → (entries : List EntryView) × (dirs_of child.open [] ≡ Some entries)
       → IsExchanged name (opened es base (parts cs)) other (opened es base (parts (set cs i (with_open child other)))) child.open
-  exchanged other some =
+  exchanged other some root =
       let next : Child = with_open child other in
       let at = is_inner here filled in
       let apart = level_names_apart (is_level_set here (record { named = refl; changed = refl }) level) in
@@ -179,14 +179,15 @@ module _ {name : List ℕ} {cs : List Child} {i : ℕ} {child : Child} (old : Op
             ∙ ap (λ (l : List Child). below (parts l)) (set-set cs i next (with_open child child.open))
             ∙ ap below (parts_set_same cs i child (with_open child child.open) here.is refl));
         tree = (es, refl, child_has_tree es here level.above);
+        taken_root = root;
       }
 
   pub is_exchanged : (other : Opened) → other ≢ [] → (new : List Child) → IsChanged cs new i child (with_open child other)
-      → IsExchanged name old other (opened es base (parts new)) child.open
-  is_exchanged other some new changed =
+      → (entries : List EntryView) × (dirs_of child.open [] ≡ Some entries) → IsExchanged name old other (opened es base (parts new)) child.open
+  is_exchanged other some new changed root =
       subst (λ (d : Opened). IsExchanged name d other (opened es base (parts new)) child.open) view
       (subst (λ (l : List Child). IsExchanged name (opened es base (parts cs)) other (opened es base (parts l)) child.open) (sym changed.changed)
-      (exchanged other some))
+      (exchanged other some root))
 
 -- an open directory has a base
 pub filled_of_base : (ds : Opened) (base : List EntryView) → bases_of ds [] ≡ Some base → ds ≢ []
@@ -263,6 +264,15 @@ module _ (side : Level → List EntryView) (name : List ℕ) where
           | true ↦ λ is h. at_under_inside path y (outside name ds) (at_outside_inside ds)
           | false ↦ λ is h. rw (tied_in d.0 is) (at_with_inside y ds h)
         ] refl has
+
+  pub at_without_inner : (ds : Opened) → has_inner name ds ≡ false → (path : Path) → at_side side ds (name ∷ path) ≡ None
+  at_without_inner [] has path = refl
+  at_without_inner (d ∷ ds) has path =
+      elim (is_in name d.0) as (λ b. is_in name d.0 ≡ b → (b || has_inner name ds) ≡ false
+      → cond (tied (name ∷ path) d.0) (Some (side d.1)) (at_side side ds (name ∷ path)) ≡ None) [
+        | true ↦ λ is h. absurd (true≢false h)
+        | false ↦ λ is h. rw (tied_in path d.0 is) (at_without_inner ds h path)
+      ] refl has
 
   pub at_with_inner : (y ds : Opened) → has_inner name ds ≡ true → (path : Path)
       → at_side side (with_inner name y ds) path ≡ with_dir name (at_side side y) (at_side side ds) path

@@ -12,6 +12,7 @@ pub mod LookedUp
 pub mod Moves
 pub mod NamedTrees
 pub mod NewDirectories
+pub mod OpeningDescents
 pub mod OpeningSteps
 pub mod Ordered
 pub mod OwnTrees

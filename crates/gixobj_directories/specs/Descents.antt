@@ -1,6 +1,8 @@
 -- Descents along open directories: each directory above is exchanged for the one in it, and restored on the way back.
-use Rattle.std.specs.Prelude.{◌≡◌, ◌||◌, Bool, true, false, not, List, [], ◌∷◌, ◌++◌, ℕ, Some, reverse, if◌then◌else◌}
+use Rattle.std.specs.Prelude.{◌≡◌, ◌||◌, Bool, true, false, not, List, [], ◌∷◌, ◌++◌, ℕ, Some, reverse, take, if◌then◌else◌}
 use Rattle.std.specs.List.{filter}
+use Rattle.bstr.specs.declared.bstring.BString.{BString}
+use Rattle.gixobj_directories.specs.Calls.{names_of}
 use Rattle.gixobj_tree.specs.Entries.{EntryView}
 use Rattle.gixobj_files.specs.Editing.{has_tree, same_name}
 use Rattle.gixobj_files.specs.Files.{Path}
@@ -64,9 +66,18 @@ pub record IsExchanged (name : List ℕ) (old other new taken : Opened) : Type 0
   pub inner_again : inner name new ≡ other
   pub whole_again : with_inner name taken new ≡ old
   pub tree : HasTreeAt name (dirs_of old)
+  pub taken_root : (entries : List EntryView) × (dirs_of taken [] ≡ Some entries)
 
 -- a descent along these names, from one directory to another
 pub record IsDescended (names : Path) (old here above : Opened) : Type 0 where
   pub rebuilt_is : rebuilt (reverse names) above here ≡ old
   pub are_above : AreAbove (reverse names) above
   pub trees : HaveTrees names (dirs_of old)
+
+-- the directory at the top, after a descent of this depth along the path
+abbrev pub top_of : List BString → ℕ → Opened → Opened → Opened
+top_of path depth above here = rebuilt (reverse (names_of (take depth path))) above here
+
+-- open directories have the same entries afterwards
+abbrev pub KeepsOpen : Dirs → Dirs → Type 0
+KeepsOpen old new = (at : Path) (entries : List EntryView) → old at ≡ Some entries → new at ≡ Some entries

@@ -1,7 +1,8 @@
 //! Edits at deep paths: a loop goes down the open directories of the path, and another restores those above.
-ghost use Rattle.std.specs.Prelude.{◌≡◌, ◌≢◌, ◌≤◌, ◌++◌, [], IsFalse, IsTrue, OnErr, OnOk, Some, length, reverse, take};
+ghost use Rattle.std.specs.Prelude.{◌≡◌, ◌≢◌, ◌≤◌, ◌++◌, [], IsFalse, IsTrue, List, OnErr, OnOk, Some, length, reverse, take};
 ghost use Rattle.std.specs.List.{AllByRecursion};
 ghost use Rattle.bstr.specs.Owned.{bstring_bytes};
+ghost use Rattle.gixobj_tree.specs.Entries.{EntryView};
 ghost use Rattle.gixobj_tree.specs.WellFormed.{IsEntryName};
 ghost use Rattle.gixobj_mode.specs.Mode.{mode_bits};
 ghost use Rattle.gixobj_files.specs.Bases.{edited_bases};
@@ -146,7 +147,7 @@ impl Open {
     }
 
     /// Leaves the directories of a path one after the other, the last first.
-    fn leave(&mut self, above: &mut Open, path: &[BString])
+    pub(crate) fn leave(&mut self, above: &mut Open, path: &[BString])
         requires { AreAbove (reverse (names_of path.now)) above.old }
         ensures { self.new ≡ rebuilt (reverse (names_of path.now)) above.old self.old }
     {
@@ -159,7 +160,7 @@ impl Open {
     }
 
     /// Exchanges the open directory of a name for another, if there is one. Allocates nothing.
-    fn exchange(&mut self, name: &BString, other: &mut Open) -> bool
+    pub(crate) fn exchange(&mut self, name: &BString, other: &mut Open) -> bool
         ensures open { result ≡ has_inner (bstring_bytes name.now) self.old }
         ensures exchanged { IsTrue result → IsExchanged (bstring_bytes name.now) self.old other.old
             self.new other.new }
@@ -179,7 +180,8 @@ impl Open {
 
 /// Returns the directory's base. So a directory is a list of at least one path.
 fn base_tree(node: &Open) -> &Tree
-    ensures { bases_of node.now [] ≡ Some result.now }
+    ensures base { bases_of node.now [] ≡ Some result.now }
+    ensures root { (entries : List EntryView) × (dirs_of node.now [] ≡ Some entries) }
 {
     &node.base
 }

@@ -1,5 +1,5 @@
 //! Opening of the directories on a path, whose trees are looked up in a store.
-ghost use Rattle.std.specs.Prelude.{◌≡◌, ◌↔◌, ◌∷◌, [], IfErr, IfNone, IfOk, IfSome, IsTrue, List, OnErr, OnOk, Option, Some, true};
+ghost use Rattle.std.specs.Prelude.{◌≡◌, ◌↔◌, ◌∷◌, ◌≤◌, [], IfErr, IfNone, IfOk, IfSome, IsTrue, List, OnErr, OnOk, Option, Some, length, reverse, take, true};
 ghost use Rattle.bstr.specs.Owned.{bstring_bytes};
 ghost use Rattle.gixobj_tree.specs.Entries.{EntryView};
 ghost use Rattle.gixobj_tree.specs.WellFormed.{IsWellFormed};
@@ -12,10 +12,12 @@ ghost use Rattle.gixobj_files.specs.Tables.{IsNeverLookedUp};
 ghost use Rattle.gixobj_hash.specs.declared.hash.object_id.ObjectId.{ObjectId};
 ghost use Rattle.gixobj_directories.specs.Calls.{names_of};
 ghost use Rattle.gixobj_files.specs.Bases.{opened_bases};
+ghost use Rattle.gixobj_directories.specs.Descents.{AreAbove, KeepsOpen, top_of};
 ghost use Rattle.gixobj_directories.specs.Nested.{bases_of, dirs_of};
 ghost use Rattle.gixobj_directories.specs.Openings.{EndsBefore, NamesTree, OfTrees, IsOpenErrorAt, IsDirectoryError};
 ghost use Rattle.gixobj_directories.specs.declared.opening.NotLookedUp.TheVariants.{Unopened};
 
+use crate::descent::MAX_RECURSIVE;
 use crate::open::{Open, copy_tree, tree_id};
 use bstr::BString;
 use gixobj_files::open_entries::Entries;
@@ -25,6 +27,7 @@ use gixobj_keep::find::{existing_object, existing_tree};
 use gixobj_store::{Find, find};
 use gixobj_tree::Tree;
 use std::alloc::{AllocError, Global};
+use std::{mem, slice};
 
 /// The error of [`Open::open_along`]: why a directory isn't opened.
 #[derive(Debug, Drop, thiserror::Error)]
@@ -224,6 +227,103 @@ impl Open {
         ensures root { (entries : List EntryView) × (dirs_of self.old [] ≡ Some entries) }
     {
         let _ = &self.entries;
+        if path.len() <= MAX_RECURSIVE {
+            return self.open_recursively(alloc, path, not_looked_up, store, lookups);
+        }
+        let mut above = Open::new(alloc, Tree::empty(alloc));
+        let (depth, opened) = self.open_and_enter(
+            &mut above,
+            alloc,
+            path,
+            not_looked_up,
+            store,
+            lookups,
+        );
+        self.leave(&mut above, &path[..depth]);
+        opened
+    }
+
+    /// Opens the directories on a path one after the other, and enters each. Returns the number of those entered.
+    ///
+    /// This directory is the last of them then, with those above it in `above`.
+    fn open_and_enter<S: Find>(
+        &mut self,
+        above: &mut Open,
+        alloc: Global,
+        path: &[BString],
+        not_looked_up: NotLookedUp,
+        store: &S,
+        lookups: &mut u64,
+    ) -> (usize, Result<(), Error>)
+        ensures depth { result.0 ≤ length path.now }
+        ensures are_above { AreAbove (reverse (names_of (take result.0 path.now))) above.new }
+        ensures opened { OnOk result.1 (OfTrees (S.objects store.now)
+            (λ trees. (looked_up : List ObjectId)
+            × Opens (EndsBefore not_looked_up) trees (names_of path.now) (dirs_of self.old)
+            (dirs_of (top_of path.now result.0 above.new self.new)) looked_up
+            × (lookups.new ≡ counted lookups.old looked_up))) }
+        ensures stopped_opening { IfErr result.1 (λ error.
+            OfTrees (S.objects store.now)
+            (λ trees. (looked_up : List ObjectId) × (failed_lookup : Option ObjectId)
+            × StopsOpening (EndsBefore not_looked_up) trees (names_of path.now) (dirs_of self.old)
+            (dirs_of (top_of path.now result.0 above.new self.new)) looked_up failed_lookup
+            × (lookups.new ≡ counted lookups.old looked_up)
+            × IsOpenErrorAt (S.objects store.now) (S.may_fail store.now) failed_lookup error)) }
+        ensures still_opened { IsOpened (dirs_of self.old)
+            → IsOpened (dirs_of (top_of path.now result.0 above.new self.new)) }
+        ensures bases { (at : Path) → bases_of (top_of path.now result.0 above.new self.new) at
+            ≡ opened_bases (dirs_of self.old)
+            (dirs_of (top_of path.now result.0 above.new self.new)) (bases_of self.old) at }
+        ensures same_root { dirs_of (top_of path.now result.0 above.new self.new) []
+            ≡ dirs_of self.old [] }
+    {
+        let mut depth = 0;
+        for name in path {
+            let next = slice::from_ref(name);
+            if let Err(error) = self.open_recursively(alloc, next, not_looked_up, store, lookups) {
+                return (depth, Err(error));
+            }
+            if !self.exchange(name, above) {
+                return (depth, Ok(()));
+            }
+            mem::swap(self, above);
+            depth += 1;
+        }
+        (depth, Ok(()))
+    }
+
+    /// Opens each directory on a path by the rules of [`Open::open_along`], by a call for each name.
+    ///
+    /// # Errors
+    ///
+    /// Those of [`Open::open_along`].
+    fn open_recursively<S: Find>(
+        &mut self,
+        alloc: Global,
+        path: &[BString],
+        not_looked_up: NotLookedUp,
+        store: &S,
+        lookups: &mut u64,
+    ) -> Result<(), Error>
+        ensures opened { OnOk result (OfTrees (S.objects store.now)
+            (λ trees. (looked_up : List ObjectId)
+            × Opens (EndsBefore not_looked_up) trees (names_of path.now) (dirs_of self.old)
+            (dirs_of self.new) looked_up × (lookups.new ≡ counted lookups.old looked_up))) }
+        ensures stopped_opening { IfErr result (λ error.
+            OfTrees (S.objects store.now)
+            (λ trees. (looked_up : List ObjectId) × (failed_lookup : Option ObjectId)
+            × StopsOpening (EndsBefore not_looked_up) trees (names_of path.now) (dirs_of self.old)
+            (dirs_of self.new) looked_up failed_lookup
+            × (lookups.new ≡ counted lookups.old looked_up)
+            × IsOpenErrorAt (S.objects store.now) (S.may_fail store.now) failed_lookup error)) }
+        ensures still_opened { IsOpened (dirs_of self.old) → IsOpened (dirs_of self.new) }
+        ensures bases { (at : Path) → bases_of self.new at
+            ≡ opened_bases (dirs_of self.old) (dirs_of self.new) (bases_of self.old) at }
+        ensures same_root { dirs_of self.new [] ≡ dirs_of self.old [] }
+        ensures kept { KeepsOpen (dirs_of self.old) (dirs_of self.new) }
+        ensures root { (entries : List EntryView) × (dirs_of self.old [] ≡ Some entries) }
+    {
+        let _ = &self.entries;
         let Some((name, rest)) = path.split_first() else {
             return Ok(());
         };
@@ -231,7 +331,7 @@ impl Open {
             let child = self.children.at_mut(place);
             return child
                 .open
-                .open_along(alloc, rest, not_looked_up, store, lookups);
+                .open_recursively(alloc, rest, not_looked_up, store, lookups);
         }
         let Some(id) = next_id(&self.entries, name, not_looked_up) else {
             return Ok(());
@@ -239,7 +339,7 @@ impl Open {
         let (own_name, piece) = self.children.room_for(alloc, name)?;
         let (tree, base) = load(alloc, store, id, lookups)?;
         let mut inner = Open::with_base(alloc, tree, base);
-        let opened = inner.open_along(alloc, rest, not_looked_up, store, lookups);
+        let opened = inner.open_recursively(alloc, rest, not_looked_up, store, lookups);
         self.children.insert(piece, own_name, inner);
         opened
     }

@@ -22,7 +22,7 @@ returns-clause-open c =
     let found : IsFound (bstring_bytes c.args.name.now) c.self.inside.children _ _ c.at_mut-child.result.now =
     record { within = it.within; found = it.found; is = c.at_mut-child.ensures.value } in
     sym (has_inner_of_child c.args.self.now c.self.inside.entries c.self.inside.base c.self.view_is c.self.invariant.level (is_child found)
-    (filled_of_base c.at_mut-child.result.now.open c.base_tree.result.now c.base_tree.ensures))
+    (filled_of_base c.at_mut-child.result.now.open c.base_tree.result.now c.base_tree.ensures.base))
 
 pub returns-clause-exchanged : goal.returns-clause-exchanged
 returns-clause-exchanged c =
@@ -31,5 +31,6 @@ returns-clause-exchanged c =
     record { within = it.within; found = it.found; is = c.at_mut-child.ensures.value } in
     rw (c.swap.ensures.x_after, c.swap.ensures.y_after)
     (λ _. is_exchanged c.args.self.now c.self.inside.entries c.self.inside.base c.self.view_is c.self.invariant.level (is_child found)
-    (filled_of_base c.at_mut-child.result.now.open c.base_tree.result.now c.base_tree.ensures) c.args.other.now
-    (filled_of_base c.args.other.now c.base_tree-2.result.now c.base_tree-2.ensures) _ (is_changed found c.args.other.now))
+    (filled_of_base c.at_mut-child.result.now.open c.base_tree.result.now c.base_tree.ensures.base) c.args.other.now
+    (filled_of_base c.args.other.now c.base_tree-2.result.now c.base_tree-2.ensures.base) _ (is_changed found c.args.other.now)
+    c.base_tree.ensures.root)

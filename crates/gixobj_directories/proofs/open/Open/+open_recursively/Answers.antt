@@ -1,5 +1,5 @@
 -- One level of an opening: into an open directory, to its end, or into a directory that is looked up. They are the
--- goals of `open_along`.
+-- goals of `open_recursively`.
 use Rattle.std.proofs.Common.{◌≡◌, ◌∙◌, ◌++◌, [], ◌∷◌, List, Some, None, refl, sym, ap, subst}
 use Rattle.std.proofs.lemmas.Result.{MatchResult-weaker}
 use Rattle.bstr.specs.Owned.{bstring_bytes}
@@ -17,9 +17,11 @@ use Rattle.gixobj_directories.proofs.Levels.{dirs_of_nil, all_names_differ, in_p
 use Rattle.gixobj_directories.proofs.Pieces.{IsFound, is_changed, is_child, is_pieced_level_with_open}
 use Rattle.gixobj_directories.proofs.OpeningSteps.{HaltsAt, IsFormedList, OpensAs, StaysOpened, counted_append, down_in, found_in, halts_at_goes_down, halts_at_goes_in, stops_opening_here, is_level_of_new_child, names_of_nil, stops_opening_for_memory, stops_opening_not_found, opens_goes_down, opens_goes_in, stays_opened_goes_down, stays_opened_goes_in, is_opened_after_opening, opens_stopped_here}
 use Rattle.gixobj_tree.specs.Entries.{EntryView}
+use Rattle.gixobj_directories.specs.Descents.{KeepsOpen}
+use Rattle.gixobj_directories.proofs.OpeningDescents.{KeepsEntries, keeps_goes_down, keeps_goes_in, keeps_open_of_same}
 use Rattle.gixobj_files.specs.Bases.{base_opened}
 use Rattle.gixobj_directories.proofs.BaseSteps.{base_opened_of_found, base_opened_of_moved, opening, set_moved, unmoved, base_of_unmoved}
-use Rattle.gixobj_directories.proofs.open.Open.+open_along.Goals as goal
+use Rattle.gixobj_directories.proofs.open.Open.+open_recursively.Goals as goal
 
 pub returns-in_default-clause-opened : goal.returns-in_default-clause-opened
 returns-in_default-clause-opened g t c = λ trees fits. (
@@ -34,11 +36,11 @@ invariant_of-self g t c =
     let it = c.in-Some-position.ensures {u = tt} in
     let found : IsFound (bstring_bytes c.in-Some.name.now) c.self.inside.children _ _ c.at_mut-child.result.now =
     record { within = it.within; found = it.found; is = c.at_mut-child.ensures.value } in
-    is_pieced_level_with_open found c.open_along.new.self c.self.invariant
+    is_pieced_level_with_open found c.open_recursively.new.self c.self.invariant
 
 pub returns-in-Some-position-clause-opened : goal.returns-in-Some-position-clause-opened
-returns-in-Some-position-clause-opened g t c = MatchResult-weaker c.open_along.result c.open_along.ensures.opened (λ _ ok trees fits.
-    let root = c.open_along.ensures.root in
+returns-in-Some-position-clause-opened g t c = MatchResult-weaker c.open_recursively.result c.open_recursively.ensures.opened (λ _ ok trees fits.
+    let root = c.open_recursively.ensures.root in
     let it = c.in-Some-position.ensures {u = tt} in
     let found : IsFound (bstring_bytes c.in-Some.name.now) c.self.inside.children _ _ c.at_mut-child.result.now =
     record { within = it.within; found = it.found; is = c.at_mut-child.ensures.value } in
@@ -48,14 +50,14 @@ returns-in-Some-position-clause-opened g t c = MatchResult-weaker c.open_along.r
           (opens_goes_down (EndsBefore c.args.not_looked_up) trees) (opens_goes_in (EndsBefore c.args.not_looked_up) trees) c.self.inside.entries
           c.args.self.now
           (names_of c.args.path.now) (bstring_bytes c.in-Some.name.now) (names_of c.in-Some.rest.now) (ap names_of c.in-Some.ensures.cases.0)
-          (is_child found) (is_changed found c.open_along.new.self) c.self.view_is c.self.invariant.level root.0 root.1 below.0 below.1,
+          (is_child found) (is_changed found c.open_recursively.new.self) c.self.view_is c.self.invariant.level root.0 root.1 below.0 below.1,
       below.2,
     )) (λ _ u. u)
 
 pub returns-in-Some-position-clause-stopped_opening : goal.returns-in-Some-position-clause-stopped_opening
-returns-in-Some-position-clause-stopped_opening g t c = MatchResult-weaker c.open_along.result c.open_along.ensures.stopped_opening (λ _ u. u)
+returns-in-Some-position-clause-stopped_opening g t c = MatchResult-weaker c.open_recursively.result c.open_recursively.ensures.stopped_opening (λ _ u. u)
     (λ error bad trees fits.
-    let root = c.open_along.ensures.root in
+    let root = c.open_recursively.ensures.root in
     let it = c.in-Some-position.ensures {u = tt} in
     let found : IsFound (bstring_bytes c.in-Some.name.now) c.self.inside.children _ _ c.at_mut-child.result.now =
     record { within = it.within; found = it.found; is = c.at_mut-child.ensures.value } in
@@ -67,7 +69,7 @@ returns-in-Some-position-clause-stopped_opening g t c = MatchResult-weaker c.ope
           (halts_at_goes_in (EndsBefore c.args.not_looked_up) trees below.1) c.self.inside.entries
           c.args.self.now (names_of c.args.path.now) (bstring_bytes c.in-Some.name.now) (names_of c.in-Some.rest.now)
           (ap names_of c.in-Some.ensures.cases.0)
-          (is_child found) (is_changed found c.open_along.new.self) c.self.view_is c.self.invariant.level root.0 root.1 below.0 below.2,
+          (is_child found) (is_changed found c.open_recursively.new.self) c.self.view_is c.self.invariant.level root.0 root.1 below.0 below.2,
       below.3,
       below.4,
     ))
@@ -127,7 +129,7 @@ pub invariant_of-self-2 : goal.invariant_of-self-2
 invariant_of-self-2 g t c =
     let name = bstring_bytes c.in-Some.name.now in
     let cs = child_list c.self.inside.children in
-    let inner = c.open_along-opened.new.self in
+    let inner = c.open_recursively-opened.new.self in
     let same : parts (child_list c.insert.new.self) ≡ with_part (name, inner) (parts cs) =
     c.insert.ensures.inserted ∙ ap (λ n. with_part (n, inner) (parts (child_list c.room_for.new.self))) (c.in_ok-own_name.ensures {u = tt}).name
     ∙ ap (λ (l : List Child). with_part (name, inner) (parts l)) c.room_for.ensures.list in
@@ -138,10 +140,10 @@ invariant_of-self-2 g t c =
     }
 
 pub returns-clause-opened : goal.returns-clause-opened
-returns-clause-opened g t c = MatchResult-weaker c.open_along-opened.result c.open_along-opened.ensures.opened (λ _ ok trees fits.
+returns-clause-opened g t c = MatchResult-weaker c.open_recursively-opened.result c.open_recursively-opened.ensures.opened (λ _ ok trees fits.
     let name = bstring_bytes c.in-Some.name.now in
     let cs = child_list c.self.inside.children in
-    let inner = c.open_along-opened.new.self in
+    let inner = c.open_recursively-opened.new.self in
     let same : parts (child_list c.insert.new.self) ≡ with_part (name, inner) (parts cs) =
     c.insert.ensures.inserted ∙ ap (λ n. with_part (n, inner) (parts (child_list c.room_for.new.self))) (c.in_ok-own_name.ensures {u = tt}).name
     ∙ ap (λ (l : List Child). with_part (name, inner) (parts l)) c.room_for.ensures.list in
@@ -159,16 +161,16 @@ returns-clause-opened g t c = MatchResult-weaker c.open_along-opened.result c.op
           (there.3, subst (λ id. Finds trees id c.in_ok-tree.tree finds.0) (sym there.4) finds.1)
           inner (child_list c.insert.new.self) same
           (subst (λ (d : Opened). Opens (EndsBefore c.args.not_looked_up) trees (names_of c.in-Some.rest.now) (dirs_of d)
-          (dirs_of c.open_along-opened.new.self) below.0) c.with_base-inner.ensures below.1),
+          (dirs_of c.open_recursively-opened.new.self) below.0) c.with_base-inner.ensures below.1),
       below.2 ∙ ap (λ n. counted n below.0) finds.2 ∙ counted_append c.args.lookups.now finds.0 below.0,
     )) (λ _ u. u)
 
 pub returns-clause-stopped_opening : goal.returns-clause-stopped_opening
-returns-clause-stopped_opening g t c = MatchResult-weaker c.open_along-opened.result c.open_along-opened.ensures.stopped_opening (λ _ u. u)
+returns-clause-stopped_opening g t c = MatchResult-weaker c.open_recursively-opened.result c.open_recursively-opened.ensures.stopped_opening (λ _ u. u)
     (λ error bad trees fits.
     let name = bstring_bytes c.in-Some.name.now in
     let cs = child_list c.self.inside.children in
-    let inner = c.open_along-opened.new.self in
+    let inner = c.open_recursively-opened.new.self in
     let same : parts (child_list c.insert.new.self) ≡ with_part (name, inner) (parts cs) =
     c.insert.ensures.inserted ∙ ap (λ n. with_part (n, inner) (parts (child_list c.room_for.new.self))) (c.in_ok-own_name.ensures {u = tt}).name
     ∙ ap (λ (l : List Child). with_part (name, inner) (parts l)) c.room_for.ensures.list in
@@ -187,22 +189,22 @@ returns-clause-stopped_opening g t c = MatchResult-weaker c.open_along-opened.re
           (there.3, subst (λ id. Finds trees id c.in_ok-tree.tree finds.0) (sym there.4) finds.1)
           inner (child_list c.insert.new.self) same
           (subst (λ (d : Opened). StopsOpening (EndsBefore c.args.not_looked_up) trees (names_of c.in-Some.rest.now) (dirs_of d)
-          (dirs_of c.open_along-opened.new.self) below.0 below.1) c.with_base-inner.ensures below.2),
+          (dirs_of c.open_recursively-opened.new.self) below.0 below.1) c.with_base-inner.ensures below.2),
       below.3 ∙ ap (λ n. counted n below.0) finds.2 ∙ counted_append c.args.lookups.now finds.0 below.0,
       below.4,
     ))
 
 pub returns-in-Some-position-clause-still_opened : goal.returns-in-Some-position-clause-still_opened
 returns-in-Some-position-clause-still_opened g t c =
-    let root = c.open_along.ensures.root in
+    let root = c.open_recursively.ensures.root in
     let it = c.in-Some-position.ensures {u = tt} in
     let found : IsFound (bstring_bytes c.in-Some.name.now) c.self.inside.children _ _ c.at_mut-child.result.now =
     record { within = it.within; found = it.found; is = c.at_mut-child.ensures.value } in
     down_in IsFormedList StaysOpened stays_opened_goes_down stays_opened_goes_in c.self.inside.entries c.args.self.now (names_of c.args.path.now)
     (bstring_bytes c.in-Some.name.now)
     (names_of c.in-Some.rest.now) (ap names_of c.in-Some.ensures.cases.0)
-    (is_child found) (is_changed found c.open_along.new.self) c.self.view_is c.self.invariant.level root.0 root.1
-    [] c.open_along.ensures.still_opened
+    (is_child found) (is_changed found c.open_recursively.new.self) c.self.view_is c.self.invariant.level root.0 root.1
+    [] c.open_recursively.ensures.still_opened
 
 pub returns-in_err-own_name-clause-still_opened : goal.returns-in_err-own_name-clause-still_opened
 returns-in_err-own_name-clause-still_opened g t c =
@@ -218,7 +220,7 @@ pub returns-clause-still_opened : goal.returns-clause-still_opened
 returns-clause-still_opened g t c =
     let name = bstring_bytes c.in-Some.name.now in
     let cs = child_list c.self.inside.children in
-    let inner = c.open_along-opened.new.self in
+    let inner = c.open_recursively-opened.new.self in
     let same : parts (child_list c.insert.new.self) ≡ with_part (name, inner) (parts cs) =
     c.insert.ensures.inserted ∙ ap (λ n. with_part (n, inner) (parts (child_list c.room_for.new.self))) (c.in_ok-own_name.ensures {u = tt}).name
     ∙ ap (λ (l : List Child). with_part (name, inner) (parts l)) c.room_for.ensures.list in
@@ -229,8 +231,8 @@ returns-clause-still_opened g t c =
     cs c.self.view_is c.self.invariant.level (all_names_differ name cs (c.in_default-position.ensures {u = tt}).none)
     (in_part_none name cs (c.in_default-position.ensures {u = tt}).none)
     there.0 there.1 there.2 c.in_ok-tree.tree [] [] (c.in_ok-tree.ensures {u = tt}).well_formed inner (child_list c.insert.new.self) same
-    (subst (λ (d : Opened). IsOpened (dirs_of d) → IsOpened (dirs_of c.open_along-opened.new.self)) c.with_base-inner.ensures
-    c.open_along-opened.ensures.still_opened)
+    (subst (λ (d : Opened). IsOpened (dirs_of d) → IsOpened (dirs_of c.open_recursively-opened.new.self)) c.with_base-inner.ensures
+    c.open_recursively-opened.ensures.still_opened)
 
 pub returns-in_default-clause-root : goal.returns-in_default-clause-root
 returns-in_default-clause-root g t c =
@@ -277,14 +279,14 @@ returns-in-Some-position-clause-bases g t c =
     let it = c.in-Some-position.ensures {u = tt} in
     let found : IsFound (bstring_bytes c.in-Some.name.now) c.self.inside.children _ _ c.at_mut-child.result.now =
     record { within = it.within; found = it.found; is = c.at_mut-child.ensures.value } in
-    set_moved base_opened opening c.args.self.now c.self.inside.entries (is_child found) (is_changed found c.open_along.new.self) c.self.view_is
-    c.self.invariant.level c.open_along.ensures.bases
+    set_moved base_opened opening c.args.self.now c.self.inside.entries (is_child found) (is_changed found c.open_recursively.new.self) c.self.view_is
+    c.self.invariant.level c.open_recursively.ensures.bases
 
 pub returns-clause-bases : goal.returns-clause-bases
 returns-clause-bases g t c =
     let name = bstring_bytes c.in-Some.name.now in
     let cs = child_list c.self.inside.children in
-    let inner = c.open_along-opened.new.self in
+    let inner = c.open_recursively-opened.new.self in
     let same : parts (child_list c.insert.new.self) ≡ with_part (name, inner) (parts cs) =
     c.insert.ensures.inserted ∙ ap (λ n. with_part (n, inner) (parts (child_list c.room_for.new.self))) (c.in_ok-own_name.ensures {u = tt}).name
     ∙ ap (λ (l : List Child). with_part (name, inner) (parts l)) c.room_for.ensures.list in
@@ -297,5 +299,45 @@ returns-clause-bases g t c =
     (in_part_none name cs (c.in_default-position.ensures {u = tt}).none)
     there.0 there.1 there.2 inner same
     (λ path. subst (λ (d : Opened). bases_of inner path ≡ base_opened (dirs_of d path) (dirs_of inner path) (bases_of d path)) inner_is
-    (c.open_along-opened.ensures.bases path)
-    ∙ base_opened_of_found tree path (dirs_of inner) (c.open_along-opened.ensures.same_root ∙ ap (λ (d : Opened). dirs_of d []) inner_is))
+    (c.open_recursively-opened.ensures.bases path)
+    ∙ base_opened_of_found tree path (dirs_of inner) (c.open_recursively-opened.ensures.same_root ∙ ap (λ (d : Opened). dirs_of d []) inner_is))
+
+pub returns-in-Some-position-clause-kept : goal.returns-in-Some-position-clause-kept
+returns-in-Some-position-clause-kept g t c =
+    let root = c.open_recursively.ensures.root in
+    let it = c.in-Some-position.ensures {u = tt} in
+    let found : IsFound (bstring_bytes c.in-Some.name.now) c.self.inside.children _ _ c.at_mut-child.result.now =
+    record { within = it.within; found = it.found; is = c.at_mut-child.ensures.value } in
+    down_in IsFormedList KeepsEntries keeps_goes_down keeps_goes_in c.self.inside.entries c.args.self.now (names_of c.args.path.now)
+    (bstring_bytes c.in-Some.name.now)
+    (names_of c.in-Some.rest.now) (ap names_of c.in-Some.ensures.cases.0)
+    (is_child found) (is_changed found c.open_recursively.new.self) c.self.view_is c.self.invariant.level root.0 root.1
+    [] c.open_recursively.ensures.kept
+
+pub returns-in_err-own_name-clause-kept : goal.returns-in_err-own_name-clause-kept
+returns-in_err-own_name-clause-kept g t c =
+    keeps_open_of_same c.self.inside.entries c.args.self.now (child_list c.self.inside.children) (child_list c.room_for.new.self)
+    c.self.view_is c.room_for.ensures.list
+
+pub returns-in_err-tree-clause-kept : goal.returns-in_err-tree-clause-kept
+returns-in_err-tree-clause-kept g t c =
+    keeps_open_of_same c.self.inside.entries c.args.self.now (child_list c.self.inside.children) (child_list c.room_for.new.self)
+    c.self.view_is c.room_for.ensures.list
+
+pub returns-clause-kept : goal.returns-clause-kept
+returns-clause-kept g t c =
+    let name = bstring_bytes c.in-Some.name.now in
+    let cs = child_list c.self.inside.children in
+    let inner = c.open_recursively-opened.new.self in
+    let same : parts (child_list c.insert.new.self) ≡ with_part (name, inner) (parts cs) =
+    c.insert.ensures.inserted ∙ ap (λ n. with_part (n, inner) (parts (child_list c.room_for.new.self))) (c.in_ok-own_name.ensures {u = tt}).name
+    ∙ ap (λ (l : List Child). with_part (name, inner) (parts l)) c.room_for.ensures.list in
+    let there = (c.in-Some-next_id.ensures {u = tt}).found in
+    found_in IsFormedList KeepsEntries keeps_goes_down keeps_goes_in c.self.inside.entries c.args.self.now (names_of c.args.path.now) name
+    (names_of c.in-Some.rest.now)
+    (ap names_of c.in-Some.ensures.cases.0)
+    cs c.self.view_is c.self.invariant.level (all_names_differ name cs (c.in_default-position.ensures {u = tt}).none)
+    (in_part_none name cs (c.in_default-position.ensures {u = tt}).none)
+    there.0 there.1 there.2 c.in_ok-tree.tree [] [] (c.in_ok-tree.ensures {u = tt}).well_formed inner (child_list c.insert.new.self) same
+    (subst (λ (d : Opened). KeepsOpen (dirs_of d) (dirs_of c.open_recursively-opened.new.self)) c.with_base-inner.ensures
+    c.open_recursively-opened.ensures.kept)
