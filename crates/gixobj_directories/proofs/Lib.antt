@@ -1,6 +1,7 @@
 pub mod Alongside
 pub mod BaseSteps
 pub mod BegunFrames
+pub mod CopiedFrames
 pub mod Deciding
 pub mod Descents
 pub mod Emitting

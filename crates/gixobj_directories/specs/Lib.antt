@@ -1,5 +1,6 @@
 pub mod Calls
 pub mod Children
+pub mod Copies
 pub mod Decreases
 pub mod Descents
 pub mod Frames

@@ -205,6 +205,22 @@ impl<'a> Remaining<'a> {
         (child, Remaining { piece, more })
     }
 
+    /// Returns the next directory, and those after it.
+    pub(crate) fn next(self) -> (Option<&'a Child>, Remaining<'a>)
+        requires { AreNonEmpty (λ p. p.items) self.more.now }
+        ensures some { IfSome result.0 (λ child. remaining_list self.entry
+            ≡ child.now ∷ remaining_list result.1) }
+        ensures none { IfNone result.0 (remaining_list self.entry ≡ []) }
+        ensures filled { AreNonEmpty (λ p. p.items) result.1.more.now }
+    {
+        let remaining = self.without_empty_piece();
+        let more = remaining.more;
+        let Some((child, piece)) = remaining.piece.split_first() else {
+            return (None, remaining);
+        };
+        (Some(child), Remaining { piece, more })
+    }
+
     /// Leaves out the first piece if it is empty.
     fn without_empty_piece(self) -> Remaining<'a>
         requires { AreNonEmpty (λ p. p.items) self.more.now }

@@ -2,6 +2,7 @@
 #![tactic(auto)]
 
 mod children;
+mod copying;
 mod descent;
 mod dropping;
 pub mod ensure_directory;

@@ -15,6 +15,7 @@ ghost use Rattle.gixobj_directories.specs.Calls.{names_of};
 ghost use Rattle.gixobj_directories.specs.Nested.{AreFilled, AreOrdered, IsPiecedLevel, bases_of, child_list, dirs_of, opened, parts, with_part};
 ghost use Rattle.gixobj_files.specs.Bases.{edited_bases};
 
+use crate::copying::copied;
 use crate::dropping::close;
 use crate::new_directories::new_with_entry;
 use bstr::BString;
@@ -251,60 +252,16 @@ impl Open {
 impl Open {
     /// Copies the directory and all that is open in it.
     ///
-    /// Allocates the trees, the bases and the names of the copy.
+    /// Allocates the trees, the bases and the names of the copy, and a list as long as the path is deep.
     ///
     /// # Errors
     ///
     /// [`AllocError`] if an allocation fails.
-    #[cycle(copying)]
     pub fn copy(&self, alloc: Global) -> Result<Open, AllocError>
         ensures { IfOk result (λ it. it ≡ self.now) }
     {
-        let tree = self.entries.copied(alloc)?;
-        let base = copy_tree(alloc, &self.base)?;
-        let children = self.children.copied(alloc)?;
-        Ok(Open {
-            entries: Entries::from_tree(alloc, tree),
-            base,
-            children,
-        })
+        copied(alloc, self)
     }
-}
-
-impl Children {
-    /// Copies the open directories into one piece.
-    #[cycle(copying)]
-    fn copied(&self, alloc: Global) -> Result<Children, AllocError>
-        ensures list { IfOk result (λ it. parts (child_list it) ≡ parts (child_list self.now)) }
-        ensures filled { IfOk result (λ it. AreFilled it) }
-    {
-        let mut first = Vec::new(alloc);
-        let items: &[Child] = &self.first;
-        append_copies(alloc, &mut first, items)?;
-        for piece in &self.more {
-            let others: &[Child] = piece;
-            append_copies(alloc, &mut first, others)?;
-        }
-        let more = Vec::new(alloc);
-        Ok(Children { first, more })
-    }
-}
-
-/// Appends copies of these open directories.
-#[cycle(copying)]
-fn append_copies(
-    alloc: Global,
-    copied: &mut Vec<Child>,
-    children: &[Child],
-) -> Result<(), AllocError>
-    ensures { OnOk result (parts copied.new.items ≡ parts copied.old.items ++ parts children.now) }
-{
-    for child in children {
-        let name = BString::from_slice(alloc, child.name.as_bytes())?;
-        let inner = child.open.copy(alloc)?;
-        copied.push(Child { name, open: inner })?;
-    }
-    Ok(())
 }
 
 /// Copies a tree, with names of its own.
