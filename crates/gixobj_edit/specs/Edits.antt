@@ -34,8 +34,9 @@ use Rattle.gixobj_hash.specs.declared.hash.object_id.ObjectId.{ObjectId}
 use Rattle.gixobj_keep.specs.Memory.{memory_objects}
 use Rattle.gixobj_keep.specs.declared.memory.Memory.{Memory}
 use Rattle.gixobj_mode.specs.Mode.{mode_of_kind}
-use Rattle.gixobj_script.specs.Edits.{memory_model}
+use Rattle.gixobj_script.specs.Edits.{IsScriptRunError, memory_model}
 use Rattle.gixobj_script.specs.Scripts.{IsFirstBad, IsScript}
+use Rattle.gixobj_script.specs.declared.script.ScriptError.TheVariants as parsing
 use Rattle.gixobj_tree.specs.Entries.{EntryView}
 use Rattle.gixobj_tree.specs.TreeEncoding.{IsDigestResult, IsEncodableTree}
 
@@ -134,10 +135,11 @@ pub record IsEdited (hash : Kind) (trees root script frames id : List ℕ) : Typ
 abbrev pub AreEncodableIfDone : List (Reply Error) → Type 0
 AreEncodableIfDone all = AreDone all → All (λ pair. IsEncodableTree pair.1) (emitted_pairs all)
 
--- why a script has no commands: its first bad line, or out of memory
+-- why a script has no commands: its first bad line; or out of memory, for a command before any bad line, or if no line
+-- is bad
 abbrev pub IsScriptFailure : Kind → List ℕ → Failure → ℕ → Type 0
-IsScriptFailure hash script it number =
-    ((it ≡ failure.BadLine) × IsFirstBad hash script number) ⊎ (it ≡ failure.OutOfMemory)
+IsScriptFailure hash script it number = ((it ≡ failure.BadLine) × IsFirstBad hash script number)
+    ⊎ ((it ≡ failure.OutOfMemory) × IsScriptRunError hash script parsing.OutOfMemory)
 
 -- why there is no editor: the bytes are no frames, or there is no root
 abbrev pub IsStartError : Kind → List ℕ → List ℕ → Failure → ℕ → Type 0

@@ -7,6 +7,10 @@ pub returns-in_default-clause-error : goal.returns-in_default-clause-error
 returns-in_default-clause-error c = frames_broken c.args.bytes.now c.frames.rest.now c.frames.invariant.0 c.frames.invariant.1
     (not_nil_of_test c.frames.rest.now (sym (c.frames-test.ensures {u = tt}))) c.in_default.ensures.none
 
+pub returns-in-Err-clause-error : goal.returns-in-Err-clause-error
+returns-in-Err-clause-error c =
+    (c.frames.invariant.0, c.in-Some.content.now, c.frames.rest.now, c.in-Some.after.now, c.frames.invariant.1, c.in-Some.ensures.found)
+
 pub frames-smaller : goal.frames-smaller
 frames-smaller c = frame_len_lt c.frames.rest.now c.in-Some.content.now c.in-Some.after.now c.in-Some.ensures.found
 
