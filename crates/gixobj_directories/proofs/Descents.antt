@@ -58,32 +58,32 @@ module _ (side : Level → List EntryView) where
       → in_path (reverse names) (at_side side (rebuilt names above here)) ≡ at_side side here
   at_rebuilt [] above here are = refl
   at_rebuilt (name ∷ names) above here are =
-      let whole : Dirs = at_side side (rebuilt (name ∷ names) above here) in
-      let below : in_path (reverse names) whole ≡ at_side side (with_inner name here above) =
+      let entire : Dirs = at_side side (rebuilt (name ∷ names) above here) in
+      let below : in_path (reverse names) entire ≡ at_side side (with_inner name here above) =
       at_rebuilt names (inner name above) (with_inner name here above) are.1 in
       let inside : in_dir name (at_side side (with_inner name here above)) ≡ at_side side here =
       λ i at. (at_with_inner side name here above are.0 (name ∷ at) ∙ in_dir_with_dir name (at_side side here) (at_side side above) at) i in
-      ap (λ (p : Path). in_path p whole) (reverse-cons name names) ∙ in_path_append (reverse names) (name ∷ []) whole ∙ ap (in_dir name) below ∙ inside
+      ap (λ (p : Path). in_path p entire) (reverse-cons name names) ∙ in_path_append (reverse names) (name ∷ []) entire ∙ ap (in_dir name) below ∙ inside
 
   -- another directory in its place changes what is open at and below the path alone
   rebuilt_with : (names : Path) (above here next : Opened) → AreAbove names above → (at : Path)
       → at_side side (rebuilt names above next) at ≡ with_path (reverse names) (at_side side next) (at_side side (rebuilt names above here)) at
   rebuilt_with [] above here next are at = refl
   rebuilt_with (name ∷ names) above here next are at =
-      let whole : Dirs = at_side side (rebuilt (name ∷ names) above here) in
+      let entire : Dirs = at_side side (rebuilt (name ∷ names) above here) in
       let out : Dirs = at_side side above in
-      let below : in_path (reverse names) whole ≡ at_side side (with_inner name here above) =
+      let below : in_path (reverse names) entire ≡ at_side side (with_inner name here above) =
       at_rebuilt names (inner name above) (with_inner name here above) are.1 in
       let placed : at_side side (with_inner name here above) ≡ with_dir name (at_side side here) out =
       λ i q. at_with_inner side name here above are.0 q i in
-      let step : (q : Path) → at_side side (with_inner name next above) q ≡ with_dir name (at_side side next) (in_path (reverse names) whole) q =
+      let step : (q : Path) → at_side side (with_inner name next above) q ≡ with_dir name (at_side side next) (in_path (reverse names) entire) q =
       λ q. at_with_inner side name next above are.0 q ∙ with_dir_twice name (at_side side next) (at_side side here) out q
       ∙ ap (λ (d : Dirs). with_dir name (at_side side next) d q) (sym (below ∙ placed)) in
       rebuilt_with names (inner name above) (with_inner name here above) (with_inner name next above) are.1 at
-      ∙ with_path_same (reverse names) (at_side side (with_inner name next above)) (with_dir name (at_side side next) (in_path (reverse names) whole)) whole
+      ∙ with_path_same (reverse names) (at_side side (with_inner name next above)) (with_dir name (at_side side next) (in_path (reverse names) entire)) entire
       step at
-      ∙ sym (with_path_snoc (reverse names) name (at_side side next) whole at)
-      ∙ ap (λ (p : Path). with_path p (at_side side next) whole at) (sym (reverse-cons name names))
+      ∙ sym (with_path_snoc (reverse names) name (at_side side next) entire at)
+      ∙ ap (λ (p : Path). with_path p (at_side side next) entire at) (sym (reverse-cons name names))
 
 -- the bases after a change in the directory reached
 bases_with_path : (g : OfBase) (path : Path) (dirs bases next based : Dirs) → ((at : Path) → bases at ≡ g (dirs at) (dirs at) (bases at))
@@ -116,7 +116,7 @@ module _ {names : Path} {old here above : Opened} (descended : IsDescended names
       let back : reverse (names ++ name ∷ []) ≡ name ∷ reverse names = reverse-append names (name ∷ []) in record {
         rebuilt_is = ap (λ (p : Path). rebuilt p next taken) back
             ∙ ap (λ (d : Opened). rebuilt (reverse names) d (with_inner name taken next)) exchanged.inner_again
-            ∙ ap (λ (d : Opened). rebuilt (reverse names) above d) exchanged.whole_again ∙ descended.rebuilt_is;
+            ∙ ap (λ (d : Opened). rebuilt (reverse names) above d) exchanged.old_again ∙ descended.rebuilt_is;
         are_above = subst (λ (p : Path). AreAbove p next) (sym back) (
           exchanged.has_again,
           subst (λ (d : Opened). AreAbove (reverse names) d) (sym exchanged.inner_again) descended.are_above,

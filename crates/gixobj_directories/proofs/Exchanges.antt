@@ -41,7 +41,7 @@ module _ (name : List ℕ) where
   inner_outside (d ∷ ds) = elim (is_in name d.0) as (λ b. is_in name d.0 ≡ b → inner name (cond (not b) (d ∷ outside name ds) (outside name ds)) ≡ [])
       [ true ↦ λ is. inner_outside ds | false ↦ λ is. rw is (inner_outside ds) ] refl
 
-  -- what is open in the directory of the name is what was put there
+  -- what is open in the directory of the name is what was exchanged for it
   pub inner_with_inner : (y ds : Opened) → has_inner name ds ≡ true → inner name (with_inner name y ds) ≡ y
   inner_with_inner y [] has = absurd (true≢false (sym has))
   inner_with_inner y (d ∷ ds) has =
@@ -175,7 +175,7 @@ module _ {name : List ℕ} {cs : List Child} {i : ℕ} {child : Child} (old : Op
         new_is = ap (λ l. ([], (es, base)) ∷ l) (sym (now_below.with_is other));
         has_again = then.has;
         inner_again = then.inner_is;
-        whole_again = ap (λ l. ([], (es, base)) ∷ l) (then.with_is child.open
+        old_again = ap (λ l. ([], (es, base)) ∷ l) (then.with_is child.open
             ∙ ap (λ (l : List Child). below (parts l)) (set-set cs i next (with_open child child.open))
             ∙ ap below (parts_set_same cs i child (with_open child child.open) here.is refl));
         tree = (es, refl, child_has_tree es here level.above);

@@ -163,47 +163,47 @@ module _ (R : Path → Dirs → Dirs → List ObjectId → Type 0) (goes_down : 
       root_of_path (m ∷ p) d h es is = (h.0.0, h.0.1)
 
 -- what an opening that has come along this path does at all
-pub record OpensAlong (StopsBefore : EntryView → Type 0) (trees : Trees) (path : Path) (old whole here : Dirs) (looked_up : List ObjectId) : Type 0 where
+pub record OpensAlong (StopsBefore : EntryView → Type 0) (trees : Trees) (path : Path) (old entire here : Dirs) (looked_up : List ObjectId) : Type 0 where
   pub opens : (rest : Path) (inner : Dirs) (more : List ObjectId) → Opens StopsBefore trees rest here inner more
-      → Opens StopsBefore trees (path ++ rest) old (with_path path inner whole) (looked_up ++ more)
+      → Opens StopsBefore trees (path ++ rest) old (with_path path inner entire) (looked_up ++ more)
   pub halts : (rest : Path) (inner : Dirs) (more : List ObjectId) (failed : Option ObjectId) → StopsOpening StopsBefore trees rest here inner more failed
-      → StopsOpening StopsBefore trees (path ++ rest) old (with_path path inner whole) (looked_up ++ more) failed
+      → StopsOpening StopsBefore trees (path ++ rest) old (with_path path inner entire) (looked_up ++ more) failed
 
 -- a relation at the next name holds at the path with that name
-snoc_step : (R : Path → Dirs → List ObjectId → Type 0) (path : Path) (name : List ℕ) (rest : Path) (inner whole here : Dirs)
-    (looked_up next more : List ObjectId) → R (path ++ name ∷ rest) (with_path path (with_dir name inner here) whole) (looked_up ++ (next ++ more))
-    → R ((path ++ name ∷ []) ++ rest) (with_path (path ++ name ∷ []) inner (with_path path here whole)) ((looked_up ++ next) ++ more)
-snoc_step R path name rest inner whole here looked_up next more r =
-    subst (λ (p : Path). R p (with_path (path ++ name ∷ []) inner (with_path path here whole)) ((looked_up ++ next) ++ more))
+snoc_step : (R : Path → Dirs → List ObjectId → Type 0) (path : Path) (name : List ℕ) (rest : Path) (inner entire here : Dirs)
+    (looked_up next more : List ObjectId) → R (path ++ name ∷ rest) (with_path path (with_dir name inner here) entire) (looked_up ++ (next ++ more))
+    → R ((path ++ name ∷ []) ++ rest) (with_path (path ++ name ∷ []) inner (with_path path here entire)) ((looked_up ++ next) ++ more)
+snoc_step R path name rest inner entire here looked_up next more r =
+    subst (λ (p : Path). R p (with_path (path ++ name ∷ []) inner (with_path path here entire)) ((looked_up ++ next) ++ more))
     (sym (append_assoc path (name ∷ []) rest))
     (subst (λ (d : Dirs). R (path ++ name ∷ rest) d ((looked_up ++ next) ++ more)) (λ i at. same at i)
-    (subst (λ (l : List ObjectId). R (path ++ name ∷ rest) (with_path path (with_dir name inner here) whole) l)
+    (subst (λ (l : List ObjectId). R (path ++ name ∷ rest) (with_path path (with_dir name inner here) entire) l)
     (sym (append_assoc looked_up next more)) r))
   where
     last : (at : Path) → with_path (name ∷ []) inner here at ≡ with_dir name inner here at
     last [] = refl
     last (first ∷ at) = refl
 
-    same : (at : Path) → with_path path (with_dir name inner here) whole at ≡ with_path (path ++ name ∷ []) inner (with_path path here whole) at
-    same at = sym (with_path_append path (name ∷ []) inner (with_path path here whole) at
-        ∙ ap (λ (d : Dirs). with_path path (with_path (name ∷ []) inner d) (with_path path here whole) at) (in_path_with_path path here whole)
-        ∙ ap (λ (d : Dirs). with_path path d (with_path path here whole) at) (λ i q. last q i)
-        ∙ with_path_twice path (with_dir name inner here) here whole at)
+    same : (at : Path) → with_path path (with_dir name inner here) entire at ≡ with_path (path ++ name ∷ []) inner (with_path path here entire) at
+    same at = sym (with_path_append path (name ∷ []) inner (with_path path here entire) at
+        ∙ ap (λ (d : Dirs). with_path path (with_path (name ∷ []) inner d) (with_path path here entire) at) (in_path_with_path path here entire)
+        ∙ ap (λ (d : Dirs). with_path path d (with_path path here entire) at) (λ i q. last q i)
+        ∙ with_path_twice path (with_dir name inner here) here entire at)
 
 module _ {StopsBefore : EntryView → Type 0} (trees : Trees) where
   pub opens_along_nil : (old : Dirs) → OpensAlong StopsBefore trees [] old old old []
   opens_along_nil old = record { opens = λ rest inner more r. r; halts = λ rest inner more failed r. r }
 
-  pub opens_along_snoc : (path : Path) (old whole here next : Dirs) (looked_up found_next : List ObjectId)
-      → OpensAlong StopsBefore trees path old whole here looked_up → (name : List ℕ) → Opens StopsBefore trees (name ∷ []) here next found_next
+  pub opens_along_snoc : (path : Path) (old entire here next : Dirs) (looked_up found_next : List ObjectId)
+      → OpensAlong StopsBefore trees path old entire here looked_up → (name : List ℕ) → Opens StopsBefore trees (name ∷ []) here next found_next
       → next (name ∷ []) ≢ None
-      → OpensAlong StopsBefore trees (path ++ name ∷ []) old (with_path path next whole) (in_dir name next) (looked_up ++ found_next)
-  opens_along_snoc path old whole here next looked_up found_next along name opens entered = record {
-    opens = λ rest inner more r. snoc_step (λ p d l. Opens StopsBefore trees p old d l) path name rest inner whole next looked_up found_next more
+      → OpensAlong StopsBefore trees (path ++ name ∷ []) old (with_path path next entire) (in_dir name next) (looked_up ++ found_next)
+  opens_along_snoc path old entire here next looked_up found_next along name opens entered = record {
+    opens = λ rest inner more r. snoc_step (λ p d l. Opens StopsBefore trees p old d l) path name rest inner entire next looked_up found_next more
         (along.opens (name ∷ rest) (with_dir name inner next) (found_next ++ more)
         (opens_then trees (Opens StopsBefore trees) (opens_goes_down StopsBefore trees) (opens_goes_in StopsBefore trees) (name ∷ []) here next found_next
         opens name refl entered rest inner more r));
-    halts = λ rest inner more failed r. snoc_step (λ p d l. StopsOpening StopsBefore trees p old d l failed) path name rest inner whole next looked_up
+    halts = λ rest inner more failed r. snoc_step (λ p d l. StopsOpening StopsBefore trees p old d l failed) path name rest inner entire next looked_up
         found_next more (along.halts (name ∷ rest) (with_dir name inner next) (found_next ++ more) failed
         (opens_then trees (HaltsAt StopsBefore trees failed) (halts_at_goes_down StopsBefore trees failed) (halts_at_goes_in StopsBefore trees failed)
         (name ∷ []) here next found_next opens name refl entered rest inner more r));
@@ -254,11 +254,11 @@ with_path_root [] next dirs same = same
 with_path_root (name ∷ path) next dirs same = refl
 
 -- what openings leave of the entire directory
-pub record IsOpenedFrom (root whole : Opened) : Type 0 where
-  pub kept : KeepsOpen (dirs_of root) (dirs_of whole)
-  pub still_opened : IsOpened (dirs_of root) → IsOpened (dirs_of whole)
-  pub bases : (at : Path) → bases_of whole at ≡ base_opened (dirs_of root at) (dirs_of whole at) (bases_of root at)
-  pub same_root : dirs_of whole [] ≡ dirs_of root []
+pub record IsOpenedFrom (root entire : Opened) : Type 0 where
+  pub kept : KeepsOpen (dirs_of root) (dirs_of entire)
+  pub still_opened : IsOpened (dirs_of root) → IsOpened (dirs_of entire)
+  pub bases : (at : Path) → bases_of entire at ≡ base_opened (dirs_of root at) (dirs_of entire at) (bases_of root at)
+  pub same_root : dirs_of entire [] ≡ dirs_of root []
 
 -- an opening along these names, with the number of lookups before and after, and one that stops with this error
 abbrev pub Opening : Objects → NotLookedUp → Path → Dirs → Dirs → ℕ → ℕ → Type 0
@@ -276,14 +276,14 @@ pub record ComesAlong (objects : Objects) (ends : NotLookedUp) (path : Path) (ro
   pub opens : OfTrees objects (λ trees. (looked_up : List ObjectId)
       × OpensAlong (EndsBefore ends) trees path (dirs_of root) (dirs_of (rebuilt (reverse path) above here)) (dirs_of here) looked_up
       × (count ≡ counted before looked_up))
-  pub whole : IsOpenedFrom root (rebuilt (reverse path) above here)
+  pub entire : IsOpenedFrom root (rebuilt (reverse path) above here)
 
 pub comes_along_nil : (objects : Objects) (ends : NotLookedUp) (root above : Opened) (count : ℕ) → ComesAlong objects ends [] root root above count count
 comes_along_nil objects ends root above count = record {
   are_above = tt;
   trees = tt;
   opens = λ trees fits. ([], opens_along_nil trees (dirs_of root), refl);
-  whole = record { kept = λ at es is. is; still_opened = λ all. all; bases = unmoved base_opened opening root; same_root = refl };
+  entire = record { kept = λ at es is. is; still_opened = λ all. all; bases = unmoved base_opened opening root; same_root = refl };
 }
 
 -- after the directories of one name more are opened in the directory reached
@@ -302,21 +302,21 @@ module _ {objects : Objects} {ends : NotLookedUp} {path : Path} {root here above
       → ((at : Path) → bases_of next at ≡ base_opened (dirs_of here at) (dirs_of next at) (bases_of here at)) → dirs_of next [] ≡ dirs_of here []
       → (entries : List EntryView) → dirs_of here [] ≡ Some entries → IsOpenedFrom root (rebuilt (reverse path) above next)
   is_opened_from_next kept still bases same entries is =
-      let whole : Dirs = dirs_of (rebuilt (reverse path) above here) in
-      let there : in_path path whole [] ≡ Some entries = ap (λ (d : Dirs). d []) reached ∙ is in
-      let more : KeepsOpen whole (dirs_of (rebuilt (reverse path) above next)) = subst (KeepsOpen whole) (sym top_is)
-      (goes_along KeepsEntries keeps_goes_down path whole along.trees entries there [] (dirs_of next) []
+      let entire : Dirs = dirs_of (rebuilt (reverse path) above here) in
+      let there : in_path path entire [] ≡ Some entries = ap (λ (d : Dirs). d []) reached ∙ is in
+      let more : KeepsOpen entire (dirs_of (rebuilt (reverse path) above next)) = subst (KeepsOpen entire) (sym top_is)
+      (goes_along KeepsEntries keeps_goes_down path entire along.trees entries there [] (dirs_of next) []
       (subst (λ (d : Dirs). KeepsOpen d (dirs_of next)) (sym reached) kept)) in
-      let opens : IsOpened whole → IsOpened (dirs_of (rebuilt (reverse path) above next)) = subst (λ (d : Dirs). IsOpened whole → IsOpened d) (sym top_is)
-      (goes_along StaysOpened stays_opened_goes_down path whole along.trees entries there [] (dirs_of next) []
+      let opens : IsOpened entire → IsOpened (dirs_of (rebuilt (reverse path) above next)) = subst (λ (d : Dirs). IsOpened entire → IsOpened d) (sym top_is)
+      (goes_along StaysOpened stays_opened_goes_down path entire along.trees entries there [] (dirs_of next) []
       (subst (λ (d : Dirs). IsOpened d → IsOpened (dirs_of next)) (sym reached) still)) in record {
-        kept = λ at es h. more at es (along.whole.kept at es h);
-        still_opened = λ all. opens (along.whole.still_opened all);
-        bases = λ at. base_opened_twice (dirs_of root at) (whole at) (dirs_of (rebuilt (reverse path) above next) at) (bases_of root at)
-            (bases_of (rebuilt (reverse path) above here) at) (bases_of (rebuilt (reverse path) above next) at) (along.whole.bases at)
-            (bases_at_ascent here_descended (rebuilt (reverse path) above next) next refl base_opened opening bases at) (along.whole.kept at) (more at);
-        same_root = ap (λ (d : Dirs). d []) top_is ∙ with_path_root path (dirs_of next) whole (same ∙ sym (ap (λ (d : Dirs). d []) reached))
-            ∙ along.whole.same_root;
+        kept = λ at es h. more at es (along.entire.kept at es h);
+        still_opened = λ all. opens (along.entire.still_opened all);
+        bases = λ at. base_opened_twice (dirs_of root at) (entire at) (dirs_of (rebuilt (reverse path) above next) at) (bases_of root at)
+            (bases_of (rebuilt (reverse path) above here) at) (bases_of (rebuilt (reverse path) above next) at) (along.entire.bases at)
+            (bases_at_ascent here_descended (rebuilt (reverse path) above next) next refl base_opened opening bases at) (along.entire.kept at) (more at);
+        same_root = ap (λ (d : Dirs). d []) top_is ∙ with_path_root path (dirs_of next) entire (same ∙ sym (ap (λ (d : Dirs). d []) reached))
+            ∙ along.entire.same_root;
       }
 
   -- into the directory of the name, which was opened
@@ -324,7 +324,7 @@ module _ {objects : Objects} {ends : NotLookedUp} {path : Path} {root here above
       → OfTrees objects (λ trees. (looked_up : List ObjectId) × Opens (EndsBefore ends) trees (name ∷ []) (dirs_of here) (dirs_of next) looked_up
       × (more ≡ counted count looked_up)) → IsExchanged name next above new taken
       → ComesAlong objects ends (path ++ name ∷ []) root taken new before more
-  comes_along_snoc name new taken more whole opened exchanged =
+  comes_along_snoc name new taken more entire opened exchanged =
       let top : Opened = rebuilt (reverse path) above next in
       let at_next : IsDescended path top next above = record {
         rebuilt_is = refl;
@@ -344,13 +344,14 @@ module _ {objects : Objects} {ends : NotLookedUp} {path : Path} {root here above
               so_far.0 ++ step.0,
               subst (λ (d : Dirs). OpensAlong (EndsBefore ends) trees (path ++ name ∷ []) (dirs_of root)
                   (dirs_of (rebuilt (reverse (path ++ name ∷ [])) new taken)) d (so_far.0 ++ step.0)) inside
-                  (subst (λ (d : Dirs). OpensAlong (EndsBefore ends) trees (path ++ name ∷ []) (dirs_of root) d (in_dir name (dirs_of next)) (so_far.0 ++ step.0))
+                  (subst (λ (d : Dirs). OpensAlong (EndsBefore ends) trees (path ++ name ∷ []) (dirs_of root) d (in_dir name (dirs_of next))
+                  (so_far.0 ++ step.0))
                   (sym top_is ∙ ap dirs_of (sym deeper.rebuilt_is))
                   (opens_along_snoc trees path (dirs_of root) (dirs_of (rebuilt (reverse path) above here)) (dirs_of here) (dirs_of next) so_far.0 step.0
                   so_far.1 name step.1 entered)),
               step.2 ∙ ap (λ n. counted n step.0) so_far.2 ∙ counted_append before so_far.0 step.0,
             );
-        whole = subst (IsOpenedFrom root) (sym deeper.rebuilt_is) whole;
+        entire = subst (IsOpenedFrom root) (sym deeper.rebuilt_is) entire;
       }
 
   -- an opening that ends here

@@ -64,7 +64,7 @@ pub record IsExchanged (name : List ℕ) (old other new taken : Opened) : Type 0
   pub new_is : new ≡ with_inner name other old
   pub has_again : has_inner name new ≡ true
   pub inner_again : inner name new ≡ other
-  pub whole_again : with_inner name taken new ≡ old
+  pub old_again : with_inner name taken new ≡ old
   pub tree : HasTreeAt name (dirs_of old)
   pub taken_root : (entries : List EntryView) × (dirs_of taken [] ≡ Some entries)
 

@@ -54,7 +54,7 @@ pub(crate) fn copied(alloc: Global, node: &Open) -> Result<Open, AllocError>
     }
 }
 
-/// Puts a begun copy in place of the one that waits for it, which is the last of the list then.
+/// Replaces a copy by one that is begun before it ends. The former waits at the end of the list then.
 fn wait<'a>(
     above: &mut Vec<Copying<'a>>,
     frame: &mut Copying<'a>,

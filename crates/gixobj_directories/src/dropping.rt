@@ -26,15 +26,15 @@ pub(crate) fn close(directory: Open) {
 fn merge(directory: Open, waiting: Open) -> Open
     ensures { length result + 1 ≡ length directory + length waiting }
 {
-    let mut hand = directory;
+    let mut current = directory;
     let mut waiting = waiting;
     loop {
-        let (next, inner) = hand.nest(waiting);
+        let (next, inner) = current.nest(waiting);
         let Some(inner) = inner else {
             return next;
         };
         waiting = next;
-        hand = inner;
+        current = inner;
     }
 }
 

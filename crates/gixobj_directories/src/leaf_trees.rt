@@ -63,7 +63,7 @@ impl Open {
 
 /// Settled directories.
 impl Open {
-    /// Makes one piece of the entries of the directory, and of those open in it, up to so many levels below.
+    /// Makes one piece of the entries of the directory, and of those open in it, up to `levels` levels below.
     ///
     /// Allocates nothing.
     #[cycle(settling)]
@@ -78,7 +78,7 @@ impl Open {
 }
 
 impl Children {
-    /// Makes one piece of the entries of each of these directories, and of those open up to so many levels below.
+    /// Makes one piece of the entries of each of these directories, and of those open up to `levels` levels below.
     #[cycle(settling)]
     fn settle(&mut self, levels: u32)
         ensures list { parts (child_list self.new) ≡ parts (child_list self.old) }
@@ -89,7 +89,7 @@ impl Children {
     }
 }
 
-/// Makes one piece of the entries of each directory in these pieces, and of those open up to so many levels below.
+/// Makes one piece of the entries of each directory in these pieces, and of those open up to `levels` levels below.
 #[cycle(settling)]
 fn settle_pieces(pieces: &mut [Vec<Child>], levels: u32)
     ensures list { parts (flat_map (λ p. p.items) pieces.new)
@@ -102,7 +102,7 @@ fn settle_pieces(pieces: &mut [Vec<Child>], levels: u32)
     }
 }
 
-/// Makes one piece of the entries of each of these directories, and of those open up to so many levels below.
+/// Makes one piece of the entries of each of these directories, and of those open up to `levels` levels below.
 #[cycle(settling)]
 fn settle_all(children: &mut [Child], levels: u32)
     ensures { parts children.new ≡ parts children.old }
@@ -186,10 +186,10 @@ fn take_last_tree(last: Open, rest: Open, trees: &mut Vec<Tree>) -> Open
     ensures capacity { vec_capacity trees.old ≤ vec_capacity trees.new }
     ensures fewer { length result + 1 ≡ length rest + length last }
 {
-    let mut hand = last;
+    let mut current = last;
     let mut waiting = rest;
     loop {
-        let Some(directory) = take_own_tree(hand, trees) else {
+        let Some(directory) = take_own_tree(current, trees) else {
             return waiting;
         };
         if !waiting.has_open_directory() {
@@ -197,7 +197,7 @@ fn take_last_tree(last: Open, rest: Open, trees: &mut Vec<Tree>) -> Open
         }
         let (next, inner) = directory.move_on(waiting);
         waiting = next;
-        hand = inner;
+        current = inner;
     }
 }
 

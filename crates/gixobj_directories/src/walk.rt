@@ -86,7 +86,7 @@ pub(crate) fn emit_below<E, F: FnMut(&Tree) -> Result<ObjectId, E>>(
     }
 }
 
-/// Puts a begun directory in place of the one that waits for it, which is the last of the list then.
+/// Replaces a directory by one that is begun before it ends. The former waits at the end of the list then.
 fn wait<'a>(
     above: &mut Vec<Frame<'a>>,
     frame: &mut Frame<'a>,

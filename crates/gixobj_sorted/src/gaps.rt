@@ -25,7 +25,7 @@ pub(crate) fn is_past_end<T: Named>(more: &[Vec<T>], name: &[u8], is_tree: bool)
     is_gap(last, last.len(), count, 0, name, is_tree)
 }
 
-/// Returns `true` if the items beside an index of a piece show that no item has this name and kind.
+/// Returns `true` if the items next to an index of a piece show that no item has this name and kind.
 ///
 /// The item before the index is less then, and the one at it is greater, or the list has no such item.
 /// `before` and `after` are the numbers of pieces before this one and after it. `false` says nothing.
@@ -47,7 +47,7 @@ pub(crate) fn is_gap<T: Named>(
     is_greater_from(items, index, after, name, is_tree)
 }
 
-/// Returns `true` if the items beside an index of a piece show that no item has the name and the other kind.
+/// Returns `true` if the items next to an index of a piece show that no item has the name and the other kind.
 ///
 /// It is `false` without a comparison if no item can be a file.
 pub(crate) fn is_alone_in<T: Named>(

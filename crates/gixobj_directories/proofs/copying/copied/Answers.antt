@@ -36,11 +36,11 @@ frames-preserved-in-Continue-branch-4 c =
       child.open,
       subst (λ xs. AllCopied root xs (bstring_bytes c.wait.new.frame.name) child.open)
           (sym (ap reverse waits.waits ∙ reverse-append c.frames.above.items (h ∷ []))) (
-        so.0,
-        so.1,
-        subst (λ n. IsHalfCopied h ((n, child.open) ∷ parts (remaining_list r)) so.0)
-            (sym (ap (λ (x : Copying). bstring_bytes x.name) waits.begun ∙ ap bstring_bytes begun.name ∙ named)) half,
-      ),
+            so.0,
+            so.1,
+            subst (λ n. IsHalfCopied h ((n, child.open) ∷ parts (remaining_list r)) so.0)
+                (sym (ap (λ (x : Copying). bstring_bytes x.name) waits.begun ∙ ap bstring_bytes begun.name ∙ named)) half,
+          ),
       subst (λ (x : Copying). IsHalfCopied x (parts (remaining_list x.remaining)) child.open) (sym waits.begun) begun.half,
     )
 

@@ -4,13 +4,13 @@ use Rattle.gixobj_directories.specs.LeafTrees.{waiting_trees}
 use Rattle.gixobj_directories.proofs.leaf_trees.take_last_tree.Given as goal
 
 abbrev pub decreases-loop-directory : goal.decreases-loop-directory
-decreases-loop-directory l = length l.hand
+decreases-loop-directory l = length l.current
 
 -- the trees that were taken, followed by those of the remaining directories, the last first, are those of all
 abbrev pub invariant-loop-directory : goal.invariant-loop-directory
 invariant-loop-directory l = record {
-  taken : l.trees.items ++ reverse (waiting_trees l.waiting l.hand) ≡ l.fn.trees.items ++ reverse (waiting_trees l.fn.rest l.fn.last);
-  room : vec_len l.trees + length (waiting_trees l.waiting l.hand) ≤ vec_capacity l.trees;
+  taken : l.trees.items ++ reverse (waiting_trees l.waiting l.current) ≡ l.fn.trees.items ++ reverse (waiting_trees l.fn.rest l.fn.last);
+  room : vec_len l.trees + length (waiting_trees l.waiting l.current) ≤ vec_capacity l.trees;
   capacity : vec_capacity l.fn.trees ≤ vec_capacity l.trees;
-  sizes : length l.waiting + length l.hand ≡ length l.fn.rest + length l.fn.last;
+  sizes : length l.waiting + length l.current ≡ length l.fn.rest + length l.fn.last;
 }

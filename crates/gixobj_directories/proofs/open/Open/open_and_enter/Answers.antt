@@ -23,9 +23,10 @@ loop-name-preserved g c =
     let path = c.args.path.now in
     let next = c.open_recursively.new.self in
     let o = c.open_recursively.ensures in
-    let whole = is_opened_from_next inv.along next o.kept o.still_opened o.bases o.same_root o.root.0 o.root.1 in
+    let entire = is_opened_from_next inv.along next o.kept o.still_opened o.bases o.same_root o.root.0 o.root.1 in
     let one : names_of c.from_ref-next.result.now ≡ name ∷ [] = ap names_of c.from_ref-next.ensures.value in
-    let opened = subst (λ (p : Path). Opening (g.S.Store.objects c.args.store.now) c.args.not_looked_up p (dirs_of c.loop-name.self) (dirs_of next) c.loop-name.lookups
+    let opened = subst (λ (p : Path). Opening (g.S.Store.objects c.args.store.now) c.args.not_looked_up p (dirs_of c.loop-name.self) (dirs_of next)
+    c.loop-name.lookups
     c.open_recursively.new.lookups) one (c.in_default.ensures {u = tt}).opened in
     let exchanged = (c.if-not-exchange.ensures {u = tt}).exchanged refl in record {
       count = ap (λ (n : ℕ). n + 1) inv.count;
@@ -33,7 +34,7 @@ loop-name-preserved g c =
           (subst (λ (p : Path). ComesAlong (g.S.Store.objects c.args.store.now) c.args.not_looked_up p c.args.self.now c.exchange.new.other c.exchange.new.self
           c.args.lookups.now c.open_recursively.new.lookups)
           (sym (names_of_take_more path k c.name-item.result c.loop-name-test.true c.name-item.is))
-          (comes_along_snoc inv.along next name c.exchange.new.self c.exchange.new.other c.open_recursively.new.lookups whole opened exchanged));
+          (comes_along_snoc inv.along next name c.exchange.new.self c.exchange.new.other c.open_recursively.new.lookups entire opened exchanged));
     }
 
 pub returns-in-Err-clause-still_opened : goal.returns-in-Err-clause-still_opened
@@ -44,10 +45,10 @@ returns-in-Err-clause-still_opened g c =
     let path = c.args.path.now in
     let next = c.open_recursively.new.self in
     let o = c.open_recursively.ensures in
-    let whole = is_opened_from_next inv.along next o.kept o.still_opened o.bases o.same_root o.root.0 o.root.1 in
+    let entire = is_opened_from_next inv.along next o.kept o.still_opened o.bases o.same_root o.root.0 o.root.1 in
     let top_is : top_of path c.loop-name.depth c.loop-name.above next ≡ rebuilt (reverse (names_of (take k path))) c.loop-name.above next =
     ap (λ (n : ℕ). top_of path n c.loop-name.above next) inv.count in
-    let top : IsOpenedFrom c.args.self.now _ = subst (IsOpenedFrom c.args.self.now) (sym top_is) whole in top.still_opened
+    let top : IsOpenedFrom c.args.self.now _ = subst (IsOpenedFrom c.args.self.now) (sym top_is) entire in top.still_opened
 
 pub returns-in-Err-clause-bases : goal.returns-in-Err-clause-bases
 returns-in-Err-clause-bases g c =
@@ -57,10 +58,10 @@ returns-in-Err-clause-bases g c =
     let path = c.args.path.now in
     let next = c.open_recursively.new.self in
     let o = c.open_recursively.ensures in
-    let whole = is_opened_from_next inv.along next o.kept o.still_opened o.bases o.same_root o.root.0 o.root.1 in
+    let entire = is_opened_from_next inv.along next o.kept o.still_opened o.bases o.same_root o.root.0 o.root.1 in
     let top_is : top_of path c.loop-name.depth c.loop-name.above next ≡ rebuilt (reverse (names_of (take k path))) c.loop-name.above next =
     ap (λ (n : ℕ). top_of path n c.loop-name.above next) inv.count in
-    let top : IsOpenedFrom c.args.self.now _ = subst (IsOpenedFrom c.args.self.now) (sym top_is) whole in top.bases
+    let top : IsOpenedFrom c.args.self.now _ = subst (IsOpenedFrom c.args.self.now) (sym top_is) entire in top.bases
 
 pub returns-in-Err-clause-same_root : goal.returns-in-Err-clause-same_root
 returns-in-Err-clause-same_root g c =
@@ -70,10 +71,10 @@ returns-in-Err-clause-same_root g c =
     let path = c.args.path.now in
     let next = c.open_recursively.new.self in
     let o = c.open_recursively.ensures in
-    let whole = is_opened_from_next inv.along next o.kept o.still_opened o.bases o.same_root o.root.0 o.root.1 in
+    let entire = is_opened_from_next inv.along next o.kept o.still_opened o.bases o.same_root o.root.0 o.root.1 in
     let top_is : top_of path c.loop-name.depth c.loop-name.above next ≡ rebuilt (reverse (names_of (take k path))) c.loop-name.above next =
     ap (λ (n : ℕ). top_of path n c.loop-name.above next) inv.count in
-    let top : IsOpenedFrom c.args.self.now _ = subst (IsOpenedFrom c.args.self.now) (sym top_is) whole in top.same_root
+    let top : IsOpenedFrom c.args.self.now _ = subst (IsOpenedFrom c.args.self.now) (sym top_is) entire in top.same_root
 
 pub returns-then-not-exchange-clause-still_opened : goal.returns-then-not-exchange-clause-still_opened
 returns-then-not-exchange-clause-still_opened g c =
@@ -83,13 +84,13 @@ returns-then-not-exchange-clause-still_opened g c =
     let path = c.args.path.now in
     let next = c.open_recursively.new.self in
     let o = c.open_recursively.ensures in
-    let whole = is_opened_from_next inv.along next o.kept o.still_opened o.bases o.same_root o.root.0 o.root.1 in
+    let entire = is_opened_from_next inv.along next o.kept o.still_opened o.bases o.same_root o.root.0 o.root.1 in
     let same = (c.if-not-exchange.ensures {u = tt}).unchanged refl in
     let top_is : top_of path c.loop-name.depth c.exchange.new.other c.exchange.new.self
     ≡ rebuilt (reverse (names_of (take k path))) c.loop-name.above next =
     ap (λ (n : ℕ). top_of path n c.exchange.new.other c.exchange.new.self) inv.count
     ∙ ap (λ (d : Opened). top_of path k c.exchange.new.other d) same.0 ∙ ap (λ (d : Opened). top_of path k d next) same.1 in
-    let top : IsOpenedFrom c.args.self.now _ = subst (IsOpenedFrom c.args.self.now) (sym top_is) whole in top.still_opened
+    let top : IsOpenedFrom c.args.self.now _ = subst (IsOpenedFrom c.args.self.now) (sym top_is) entire in top.still_opened
 
 pub returns-then-not-exchange-clause-bases : goal.returns-then-not-exchange-clause-bases
 returns-then-not-exchange-clause-bases g c =
@@ -99,13 +100,13 @@ returns-then-not-exchange-clause-bases g c =
     let path = c.args.path.now in
     let next = c.open_recursively.new.self in
     let o = c.open_recursively.ensures in
-    let whole = is_opened_from_next inv.along next o.kept o.still_opened o.bases o.same_root o.root.0 o.root.1 in
+    let entire = is_opened_from_next inv.along next o.kept o.still_opened o.bases o.same_root o.root.0 o.root.1 in
     let same = (c.if-not-exchange.ensures {u = tt}).unchanged refl in
     let top_is : top_of path c.loop-name.depth c.exchange.new.other c.exchange.new.self
     ≡ rebuilt (reverse (names_of (take k path))) c.loop-name.above next =
     ap (λ (n : ℕ). top_of path n c.exchange.new.other c.exchange.new.self) inv.count
     ∙ ap (λ (d : Opened). top_of path k c.exchange.new.other d) same.0 ∙ ap (λ (d : Opened). top_of path k d next) same.1 in
-    let top : IsOpenedFrom c.args.self.now _ = subst (IsOpenedFrom c.args.self.now) (sym top_is) whole in top.bases
+    let top : IsOpenedFrom c.args.self.now _ = subst (IsOpenedFrom c.args.self.now) (sym top_is) entire in top.bases
 
 pub returns-then-not-exchange-clause-same_root : goal.returns-then-not-exchange-clause-same_root
 returns-then-not-exchange-clause-same_root g c =
@@ -115,13 +116,13 @@ returns-then-not-exchange-clause-same_root g c =
     let path = c.args.path.now in
     let next = c.open_recursively.new.self in
     let o = c.open_recursively.ensures in
-    let whole = is_opened_from_next inv.along next o.kept o.still_opened o.bases o.same_root o.root.0 o.root.1 in
+    let entire = is_opened_from_next inv.along next o.kept o.still_opened o.bases o.same_root o.root.0 o.root.1 in
     let same = (c.if-not-exchange.ensures {u = tt}).unchanged refl in
     let top_is : top_of path c.loop-name.depth c.exchange.new.other c.exchange.new.self
     ≡ rebuilt (reverse (names_of (take k path))) c.loop-name.above next =
     ap (λ (n : ℕ). top_of path n c.exchange.new.other c.exchange.new.self) inv.count
     ∙ ap (λ (d : Opened). top_of path k c.exchange.new.other d) same.0 ∙ ap (λ (d : Opened). top_of path k d next) same.1 in
-    let top : IsOpenedFrom c.args.self.now _ = subst (IsOpenedFrom c.args.self.now) (sym top_is) whole in top.same_root
+    let top : IsOpenedFrom c.args.self.now _ = subst (IsOpenedFrom c.args.self.now) (sym top_is) entire in top.same_root
 
 pub returns-in-Err-clause-stopped_opening : goal.returns-in-Err-clause-stopped_opening
 returns-in-Err-clause-stopped_opening g c =
@@ -135,11 +136,14 @@ returns-in-Err-clause-stopped_opening g c =
     let rest = names_of (drop (k + 1) path) in
     let top_is : top_of path c.loop-name.depth c.loop-name.above next ≡ rebuilt (reverse (names_of (take k path))) c.loop-name.above next =
     ap (λ (n : ℕ). top_of path n c.loop-name.above next) inv.count in
-    let stopped = subst (λ (p : Path). Stopping (g.S.Store.objects c.args.store.now) (g.S.Store.may_fail c.args.store.now) c.args.not_looked_up c.in-Err.error p (dirs_of c.loop-name.self) (dirs_of next)
+    let stopped = subst (λ (p : Path). Stopping (g.S.Store.objects c.args.store.now) (g.S.Store.may_fail c.args.store.now) c.args.not_looked_up
+    c.in-Err.error p (dirs_of c.loop-name.self) (dirs_of next)
     c.loop-name.lookups c.open_recursively.new.lookups) one (c.in-Err.ensures {u = tt}).stopped_opening in
-    subst (λ (d : Opened). Stopping (g.S.Store.objects c.args.store.now) (g.S.Store.may_fail c.args.store.now) c.args.not_looked_up c.in-Err.error (names_of path) (dirs_of c.args.self.now) (dirs_of d)
+    subst (λ (d : Opened). Stopping (g.S.Store.objects c.args.store.now) (g.S.Store.may_fail c.args.store.now) c.args.not_looked_up c.in-Err.error
+    (names_of path) (dirs_of c.args.self.now) (dirs_of d)
     c.args.lookups.now c.open_recursively.new.lookups) (sym top_is)
-    (subst (λ (p : Path). Stopping (g.S.Store.objects c.args.store.now) (g.S.Store.may_fail c.args.store.now) c.args.not_looked_up c.in-Err.error p (dirs_of c.args.self.now)
+    (subst (λ (p : Path). Stopping (g.S.Store.objects c.args.store.now) (g.S.Store.may_fail c.args.store.now) c.args.not_looked_up c.in-Err.error p
+    (dirs_of c.args.self.now)
     (dirs_of (rebuilt (reverse (names_of (take k path))) c.loop-name.above next)) c.args.lookups.now c.open_recursively.new.lookups) (sym split)
     (halts_of_error inv.along next (g.S.Store.may_fail c.args.store.now) name rest c.open_recursively.new.lookups c.in-Err.error stopped))
 
@@ -158,7 +162,8 @@ returns-then-not-exchange-clause-opened g c =
     ≡ rebuilt (reverse (names_of (take k path))) c.loop-name.above next =
     ap (λ (n : ℕ). top_of path n c.exchange.new.other c.exchange.new.self) inv.count
     ∙ ap (λ (d : Opened). top_of path k c.exchange.new.other d) same.0 ∙ ap (λ (d : Opened). top_of path k d next) same.1 in
-    let opened = subst (λ (p : Path). Opening (g.S.Store.objects c.args.store.now) c.args.not_looked_up p (dirs_of c.loop-name.self) (dirs_of next) c.loop-name.lookups
+    let opened = subst (λ (p : Path). Opening (g.S.Store.objects c.args.store.now) c.args.not_looked_up p (dirs_of c.loop-name.self) (dirs_of next)
+    c.loop-name.lookups
     c.open_recursively.new.lookups) one (c.in_default.ensures {u = tt}).opened in
     let none : dirs_of next (name ∷ []) ≡ None = at_without_inner entries_side name next (sym (c.if-not-exchange.ensures {u = tt}).open) [] in
     subst (λ (d : Opened). Opening (g.S.Store.objects c.args.store.now) c.args.not_looked_up (names_of path) (dirs_of c.args.self.now) (dirs_of d)
@@ -190,4 +195,4 @@ returns-clause-bases g c =
     let top_is : top_of path c.loop-name.depth c.loop-name.above c.loop-name.self
     ≡ rebuilt (reverse (names_of (take k path))) c.loop-name.above c.loop-name.self =
     ap (λ (n : ℕ). top_of path n c.loop-name.above c.loop-name.self) inv.count in
-    let top : IsOpenedFrom c.args.self.now _ = subst (IsOpenedFrom c.args.self.now) (sym top_is) inv.along.whole in top.bases
+    let top : IsOpenedFrom c.args.self.now _ = subst (IsOpenedFrom c.args.self.now) (sym top_is) inv.along.entire in top.bases
