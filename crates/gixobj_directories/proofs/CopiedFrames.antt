@@ -1,14 +1,13 @@
 -- Directories whose copies are begun, each waiting for the copy of one in it; for `copied`.
-use Rattle.std.proofs.Common.{◌≡◌, ◌∙◌, ◌+◌, ◌*◌, ◌<◌, ℕ, List, [], ◌∷◌, ◌++◌, length, refl, sym, ap, subst, arith, append_assoc, append-nil, length-append}
+use Rattle.std.proofs.Common.{◌≡◌, ◌∙◌, ◌+◌, ◌*◌, ℕ, List, [], ◌∷◌, ◌++◌, length, sym, ap, subst, arith, append_assoc, append-nil, length-append}
 use Rattle.std.proofs.lemmas.List.{map-append}
 use Rattle.std.specs.declared.alloc.Global.{Global}
 use Rattle.std.specs.declared.vec.Vec.{Vec}
 use Rattle.bstr.specs.Owned.{bstring_bytes}
-use Rattle.gixobj_tree.specs.Entries.{EntryView}
 use Rattle.gixobj_sorted.specs.Pieces.{AreNonEmpty}
 use Rattle.gixobj_directories.specs.Children.{remaining_list}
 use Rattle.gixobj_directories.specs.Copies.{IsHalfCopied}
-use Rattle.gixobj_directories.specs.Nested.{IsLevel, Opened, Part, below, length-under, opened, part, parts, under}
+use Rattle.gixobj_directories.specs.Nested.{IsLevel, Opened, below, length-under, opened, part, parts, under}
 use Rattle.gixobj_directories.specs.declared.children.Remaining.{Remaining}
 use Rattle.gixobj_directories.specs.declared.copying.Copying.{Copying}
 use Rattle.gixobj_directories.specs.declared.open.Child.{Child}
@@ -52,11 +51,6 @@ copying_weight_begun f r child next = omega (
 )
 
 -- no directory remains
-pub level_of_copied : (f : Copying) (node : Opened) → remaining_list f.remaining ≡ [] → IsHalfCopied f (parts (remaining_list f.remaining)) node
-    → IsLevel f.entries (parts f.copies.items)
-level_of_copied f node none so = subst (IsLevel f.entries) (append-nil (parts f.copies.items))
-    (subst (λ cs. IsLevel f.entries (parts f.copies.items ++ parts cs)) none so.level)
-
 pub view_of_copied : (f : Copying) (node : Opened) → remaining_list f.remaining ≡ [] → IsHalfCopied f (parts (remaining_list f.remaining)) node
     → opened f.entries f.base (parts f.copies.items) ≡ node
 view_of_copied f node none so = ap (opened f.entries f.base) (sym (append-nil (parts f.copies.items)))

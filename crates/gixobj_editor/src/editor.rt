@@ -394,7 +394,8 @@ impl<S: Clone> Editor<S> {
     ///
     /// The copy has the same open directories with their bases, and the same number of lookups. Both editors
     /// emit the same trees in the next write, if `out` returns the same ids. Allocates for each open
-    /// directory, its entries and its base, and for the names of the newest cursor's path.
+    /// directory, its entries and its base, a list as long as the path is deep, and the names of the newest
+    /// cursor's path.
     ///
     /// # Errors
     ///

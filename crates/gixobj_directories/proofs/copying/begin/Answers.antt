@@ -1,4 +1,4 @@
-use Rattle.std.proofs.Common.{◌≡◌, ◌∙◌, ◌+◌, ◌++◌, length, sym, ap, subst, arith}
+use Rattle.std.proofs.Common.{◌≡◌, ◌∙◌, ◌++◌, length, sym, ap, subst, arith}
 use Rattle.gixobj_directories.specs.Children.{remaining_list}
 use Rattle.gixobj_directories.specs.Nested.{IsLevel, below, child_list, opened, parts}
 use Rattle.gixobj_directories.proofs.copying.begin.Goals as goal

@@ -1,14 +1,14 @@
 -- The loop of a copy over its frames meets its contract: each begins, waits and ends.
-use Rattle.std.proofs.Common.{◌≡◌, ◌∙◌, ◌+◌, ◌++◌, ◌∷◌, [], List, length, refl, sym, ap, subst, arith}
+use Rattle.std.proofs.Common.{◌≡◌, ◌∙◌, ◌∷◌, [], refl, sym, ap, subst, arith}
 use Rattle.std.specs.Prelude.{reverse}
 use Rattle.std.proofs.lemmas.List.{reverse-append}
 use Rattle.bstr.specs.Owned.{bstring_bytes}
 use Rattle.gixobj_directories.specs.Children.{remaining_list}
 use Rattle.gixobj_directories.specs.Copies.{IsHalfCopied}
-use Rattle.gixobj_directories.specs.Nested.{Opened, parts}
+use Rattle.gixobj_directories.specs.Nested.{parts}
 use Rattle.gixobj_directories.specs.declared.copying.Copying.{Copying}
 use Rattle.gixobj_directories.specs.declared.open.Child.{Child}
-use Rattle.gixobj_directories.proofs.CopiedFrames.{AllCopied, copying_weight, copying_weight_begun, copying_weights, copying_weights_pop, half_copied_begun, half_copied_ended, level_of_copied, view_of_copied}
+use Rattle.gixobj_directories.proofs.CopiedFrames.{AllCopied, copying_weight, copying_weight_begun, copying_weights, copying_weights_pop, half_copied_begun, half_copied_ended, view_of_copied}
 use Rattle.gixobj_directories.proofs.WaitingFrames.{nil_of_len}
 use Rattle.gixobj_directories.proofs.copying.copied.Goals as goal
 
