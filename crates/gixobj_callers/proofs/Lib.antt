@@ -5,6 +5,7 @@ mod Imported
 mod Importing
 mod Listed
 mod Once
+mod OneLog
 mod Planned
 mod Inserted
 mod Rebuilt

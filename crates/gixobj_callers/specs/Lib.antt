@@ -1,6 +1,7 @@
 pub mod Ancestors
 pub mod Archives
 pub mod Checkouts
+pub mod HistoryLengths
 pub mod Imports
 pub mod Plans
 pub mod Rebuilds

@@ -1,15 +1,18 @@
 //! A reader of history, who walks from a commit to its ancestors and looks up files in their trees.
-ghost use Rattle.std.specs.Prelude.{IfErr, IfOk, Some, map};
+ghost use Rattle.std.specs.Prelude.{◌≡◌, IfErr, IfOk, Some, map};
 ghost use Rattle.bstr.specs.Owned.{bstring_bytes};
 ghost use Rattle.gix_object.specs.Lookups.{IsAtPath};
 ghost use Rattle.gix_object.specs.Stores.{StoredObject};
 ghost use Rattle.gixobj_callers.specs.Ancestors.{HasTree, IsAncestor, IsFirstParent, IsEntryOfCommitError, IsParentError, IsWalkError};
+ghost use Rattle.gixobj_callers.specs.HistoryLengths.{IsHistoryLen, IsLenOfLog, len_to_root};
 
 use bstr::BString;
 use gix_object::find::{existing_iter, existing_object};
 use gix_object::hash::ObjectId;
 use gix_object::tree::Entry;
-use gix_object::{Find, FindExt, find};
+use gix_object::{Find, FindExt, OutOfMemory, find};
+use gixobj_listings::history::{CommitLog, LogEnd, LoggedCommit, log};
+use gixobj_listings::laws::log_is_unique;
 use std::alloc::Global;
 
 /// The error of [`ancestor`] and of [`entry_of`].
@@ -104,6 +107,42 @@ fn first_parent<S: Find>(
     match commit.parents().next() {
         Some(parent) => Ok(parent),
         None => Err(Error::NoParent(id)),
+    }
+}
+
+/// Returns the number of commits from a tip to a root commit by first parents (git-rev-list, `--count`), or `None` if
+/// the log ends before one: at a commit that isn't read, or with `max_commits` commits.
+///
+/// If no lookup fails, each log of the tip with at most `max_commits` commits has this number. Allocates what [`log`]
+/// allocates.
+///
+/// # Errors
+///
+/// [`OutOfMemory`] if an allocation fails.
+pub fn history_len<S: Find>(
+    alloc: Global,
+    store: &S,
+    tip: ObjectId,
+    max_commits: u32,
+) -> Result<Option<usize>, OutOfMemory>
+    ensures found { IfOk result (IsLenOfLog (S.objects store.now) (S.may_fail store.now)
+        max_commits tip) }
+    ensures unique { IfOk result (IsHistoryLen (S.objects store.now) (S.may_fail store.now)
+        max_commits tip) }
+{
+    log_is_unique();
+    let CommitLog { commits, end } = log(alloc, store, tip, max_commits)?;
+    Ok(log_len(&commits, end))
+}
+
+/// Returns the number of commits of a log that ends at a root commit, or `None` for another log.
+fn log_len(commits: &[LoggedCommit], end: LogEnd) -> Option<usize>
+    ensures { result ≡ len_to_root commits.now end }
+{
+    match end {
+        LogEnd::Root => Some(commits.len()),
+        LogEnd::Unread { .. } => None,
+        LogEnd::TooLong { .. } => None,
     }
 }
 
