@@ -1,10 +1,10 @@
 mod Agreeing
 pub mod Answered
-mod EnsuredAt
 mod Calling
 mod Causes
 mod CursorStays
 mod Edited
+mod EnsuredAt
 mod FoundBelow
 mod InPart
 mod Keeping
@@ -13,13 +13,14 @@ pub mod KeptPairs
 mod Named
 pub mod OneId
 mod OneMore
+mod OpenedOn
 mod Paths
 pub mod PlainRuns
 mod RemovedAt
 mod Removing
 mod Replied
-mod RootAlone
-mod OpenedOn
 pub mod Reported
+mod RootAlone
+pub mod ValidNames
 mod WrittenBelow
 mod WrittenOut

@@ -35,18 +35,20 @@ fn above(path: &[BString]) -> &[BString]
 }
 
 /// Counts the names before the first invalid one.
+#[tactic(auto, using(crate::proofs::ValidNames::are_names_take_more))]
 fn count_names(path: &[BString]) -> usize
     ensures names { AreNames (names_of (take result path.now)) }
     ensures rest { StartsInvalid (names_of (drop result path.now)) }
     ensures count { result ≤ length path.now }
 {
-    let Some((name, rest)) = path.split_first() else {
-        return 0;
-    };
-    if validate_name(name).is_err() {
-        return 0;
+    let mut count = 0;
+    for name in path {
+        if validate_name(name).is_err() {
+            return count;
+        }
+        count += 1;
     }
-    1 + count_names(rest)
+    count
 }
 
 /// Joins a prefix and a path; the result for an empty path is empty.
@@ -88,15 +90,15 @@ fn push_names(alloc: Global, names: &mut Vec<BString>, path: &[BString]) -> Resu
 }
 
 /// Rejects the first invalid name.
+#[tactic(auto, using(crate::proofs::ValidNames::are_names_take_more, crate::proofs::ValidNames::first_name_error_at))]
 pub(crate) fn validate_names(path: &[BString]) -> Result<(), Error>
     ensures accepted { OnOk result (AreNames (names_of path.now)) }
     ensures error { IfErr result (IsFirstNameError (names_of path.now)) }
 {
-    let Some((name, rest)) = path.split_first() else {
-        return Ok(());
-    };
-    validate_name(name)?;
-    validate_names(rest)
+    for name in path {
+        validate_name(name)?;
+    }
+    Ok(())
 }
 
 /// Rejects a name that is empty or contains a `/`.

@@ -1,5 +1,0 @@
-use Rattle.std.proofs.Common.{length}
-use Rattle.gixobj_editor.proofs.editor.names.+count_names.Given as goal
-
-abbrev pub decreases-count_names : goal.decreases-count_names
-decreases-count_names l = length l.path.now
