@@ -17,7 +17,8 @@ pub are_names_take_more : (path : List BString) (k : ℕ) (name : BString) → k
     → AreNames (names_of (take k path)) → IsEntryName (bstring_bytes name) → AreNames (names_of (take (k + 1) path))
 are_names_take_more path k name low is before valid =
     subst AreNames (sym (names_of_take_more path k name low is))
-    (All-append IsEntryName (names_of (take k path)) (bstring_bytes name ∷ []) before (All-cons IsEntryName (bstring_bytes name) [] valid (All-nil IsEntryName)))
+    (All-append IsEntryName (names_of (take k path)) (bstring_bytes name ∷ []) before
+    (All-cons IsEntryName (bstring_bytes name) [] valid (All-nil IsEntryName)))
 
 -- the first invalid name is the one after valid names
 first_name_error_append : (names rest : Path) (name : List ℕ) (error : Error) → AllByRecursion IsEntryName names → IsEntryNameError name error
