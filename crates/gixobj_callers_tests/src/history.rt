@@ -4,7 +4,7 @@ use gix_object::hash::{Kind as HashKind, ObjectId};
 use gix_object::tree::Entry;
 use gix_object::{Data, Kind};
 use gix_object_tests::samples::{id, path_of};
-use gixobj_callers::history::{Error, ancestor, entry_of};
+use gixobj_callers::history::{Error, ancestor, entry_of, history_len};
 use gixobj_callers::shelf::Shelf;
 use gixobj_listings::history::{CommitLog, LogEnd, LoggedCommit, log};
 use std::alloc::Global;
@@ -42,6 +42,16 @@ const SECOND_BYTES: &[u8] = b"tree 3c4e9cd789d88d8d89c1073707c3585e41b0e614\n\
     author A <a@b> 0 +0000\n\
     committer A <a@b> 0 +0000\n\
     \nsecond\n";
+
+/// Id that `git hash-object -t commit` prints for a merge of the second commit with another.
+const MERGE: &[u8] = b"4d7085ad2b70de744c3cd6a783e8e3d50d8bfc6a";
+
+const MERGE_BYTES: &[u8] = b"tree 3c4e9cd789d88d8d89c1073707c3585e41b0e614\n\
+    parent 528c29ecfcd64f329e231522dc53495bf0e9b054\n\
+    parent cc6d06b3595138e52f1f6523cddf1944996abc70\n\
+    author A <a@b> 0 +0000\n\
+    committer A <a@b> 0 +0000\n\
+    \nMerge the\nside\n\nBody.\n";
 
 /// Id that `git rev-parse` prints for `bak/test.txt` in the second commit.
 const VERSION_1: &[u8] = b"83baae61804e65cc73a7201a7252750c76066a30";
@@ -159,4 +169,51 @@ fn lists_commits_by_first_parents(rt: HostRuntime) {
     assert!(rt; logged(alloc, BAK, 1) == "second, before first");
     assert!(rt; logged(alloc, BAK, 0) == "none");
     assert!(rt; logged(alloc, FIRST, 2) == "second, without first");
+}
+
+/// The merge, and its ancestors by first parents.
+fn merged() -> [(ObjectId, Data<'static>); 3] {
+    [
+        object(MERGE, Kind::Commit, MERGE_BYTES),
+        object(SECOND, Kind::Commit, SECOND_BYTES),
+        object(FIRST, Kind::Commit, FIRST_BYTES),
+    ]
+}
+
+/// Whether the log of the merge has the ids, titles and authors that `git log --first-parent` prints.
+fn is_log_of_merge(alloc: Global) -> bool {
+    let objects = merged();
+    let store = Shelf { objects: &objects };
+    let Ok(CommitLog { commits, end }) = log(alloc, &store, id(MERGE), 9) else {
+        return false;
+    };
+    match (commits.as_slice(), end) {
+        ([merge, second, first], LogEnd::Root) => {
+            is_logged(merge, MERGE, b"Merge the side")
+                && is_logged(second, SECOND, b"second")
+                && is_logged(first, FIRST, b"first")
+        }
+        _ => false,
+    }
+}
+
+#[test]
+fn logs_merge_by_first_parents(rt: HostRuntime) {
+    assert!(rt; is_log_of_merge(rt.alloc()));
+}
+
+/// The number of commits of the merge's history, with at most `max_commits`.
+fn len_of_merge(alloc: Global, max_commits: u32) -> Option<usize> {
+    let objects = merged();
+    let store = Shelf { objects: &objects };
+    history_len(alloc, &store, id(MERGE), max_commits).ok()?
+}
+
+/// The number is the one that `git rev-list --first-parent --count` prints.
+#[test]
+fn counts_commits_by_first_parents(rt: HostRuntime) {
+    let alloc = rt.alloc();
+    assert!(rt; len_of_merge(alloc, 9) == Some(3));
+    assert!(rt; len_of_merge(alloc, 3) == Some(3));
+    assert!(rt; len_of_merge(alloc, 2) == None);
 }
