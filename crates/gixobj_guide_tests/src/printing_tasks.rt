@@ -2,7 +2,7 @@
 
 use crate::tasks::{
     BLOB, FIRST_BYTES, SECOND, SECOND_BYTES, TREE, TREE_BYTES, commit_edits, prints, programs,
-    values,
+    records, values,
 };
 use gix_object::hash::{Kind as HashKind, ObjectId};
 use gix_object::tree::EntryKind;
@@ -56,6 +56,24 @@ fn prints_log_of_batch(rt: HostRuntime) {
             b"cfe258e596ae478f05508755d7b1559681b5833a blob 6\nhello"
         )
     );
+}
+
+/// Whether these bytes have the titles of the second commit and of its first parent.
+fn has_titles(alloc: Global, batch: &[u8]) -> bool {
+    let Ok(titles) = records::titles(alloc, batch, id(SECOND)) else {
+        return false;
+    };
+    match titles.as_slice() {
+        [second, first] => second.as_bytes() == b"second".as_slice()
+            && first.as_bytes() == b"first".as_slice(),
+        _ => false,
+    }
+}
+
+#[test]
+fn lists_titles_of_records(rt: HostRuntime) {
+    assert!(rt; has_titles(rt.alloc(), BATCH));
+    assert!(rt; records::titles(rt.alloc(), MISSING, id(SECOND)).is_err());
 }
 
 /// Id that `git mktree` prints for the directory `docs` of the tree, and a file `z.txt`.

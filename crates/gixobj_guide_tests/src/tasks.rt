@@ -21,6 +21,7 @@ pub mod one_error;
 mod paths;
 pub mod prints;
 pub mod programs;
+pub mod records;
 mod rewording;
 mod runners;
 mod runs;
