@@ -7,6 +7,10 @@ use Rattle.gix_object.specs.hash.hash.object_id.ObjectId.{ObjectId}
 use Rattle.gix_object.specs.hash.kind.Kind.TheVariants.{Commit}
 use Rattle.gixobj_listings.specs.Histories.{NamesCommit}
 
+-- the id names an object that is a commit
+abbrev pub NamesCommitObject : Objects → ObjectId → Type 0
+NamesCommitObject objects id = (it : StoredObject) × Names objects id it × (it.kind ≡ Commit)
+
 -- the id names no object that is a commit
 abbrev pub NamesNoCommitObject : Objects → ObjectId → Type 0
 NamesNoCommitObject objects id = (it : StoredObject) → Names objects id it → ¬ (it.kind ≡ Commit)

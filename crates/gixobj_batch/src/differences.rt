@@ -1,9 +1,11 @@
 //! The command `diff`.
-ghost use Rattle.std.specs.Prelude.{◌≡◌, ◌++◌, IfOk, OnOk};
+ghost use Rattle.std.specs.Prelude.{◌≡◌, ◌++◌, IfErr, IfOk, OnOk};
 ghost use Rattle.std.specs.List.{flat_map};
 ghost use Rattle.std.specs.Option.{option_map};
+ghost use Rattle.gix_object.specs.Memory.{memory_objects};
 ghost use Rattle.gix_object.specs.Mode.{kind_of_mode, mode_bits};
 ghost use Rattle.gixobj_batch.specs.Lines.{change_letter, change_line, id_field_next_to, id_fields, mode_field, mode_fields, type_of_kind, version_view};
+ghost use Rattle.gixobj_batch.specs.Reports.{IsDiffError, PrintsChanges};
 
 use crate::fault::Fault;
 use crate::files::{MAX_DEPTH, tree_of};
@@ -21,7 +23,11 @@ pub(crate) fn list_changes(
     store: &Memory,
     from: ObjectId,
     to: ObjectId,
-) -> Result<Report, Fault> {
+) -> Result<Report, Fault>
+    ensures printed { IfOk result (λ report. PrintsChanges (memory_objects store.now) from to
+        report.lines.items report.fault) }
+    ensures error { IfErr result (IsDiffError (memory_objects store.now) from to) }
+{
     let before = tree_of(alloc, store, from)?;
     let after = tree_of(alloc, store, to)?;
     let changes = changes(alloc, store, before, after, MAX_DEPTH)?;

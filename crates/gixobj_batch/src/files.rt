@@ -1,9 +1,10 @@
 //! The command `ls`.
-ghost use Rattle.std.specs.Prelude.{◌≡◌, ◌++◌, IfOk, OnOk};
+ghost use Rattle.std.specs.Prelude.{◌≡◌, ◌++◌, IfErr, IfOk, OnOk};
 ghost use Rattle.std.specs.List.{flat_map};
 ghost use Rattle.gix_object.specs.Memory.{memory_objects};
 ghost use Rattle.gix_object.specs.Mode.{kind_of_mode, mode_bits};
 ghost use Rattle.gixobj_batch.specs.Lines.{file_line, printed_kind};
+ghost use Rattle.gixobj_batch.specs.Reports.{IsFilesError, IsUnreadCommit, PrintsFiles};
 ghost use Rattle.gixobj_batch.specs.Trees.{IsTreeOf};
 
 use crate::fault::Fault;
@@ -19,7 +20,11 @@ use std::alloc::{AllocError, Global};
 pub(crate) const MAX_DEPTH: u32 = 1024;
 
 /// Lists the files of a commit or a tree, a line for each.
-pub(crate) fn list_files(alloc: Global, store: &Memory, id: ObjectId) -> Result<Report, Fault> {
+pub(crate) fn list_files(alloc: Global, store: &Memory, id: ObjectId) -> Result<Report, Fault>
+    ensures printed { IfOk result (λ report. PrintsFiles (memory_objects store.now) id
+        report.lines.items report.fault) }
+    ensures error { IfErr result (IsFilesError (memory_objects store.now) id) }
+{
     let root = tree_of(alloc, store, id)?;
     let files = files_of(alloc, store, root, MAX_DEPTH)?;
     let lines = lines_of(alloc, &files)?;
@@ -40,7 +45,8 @@ fn lines_of(alloc: Global, files: &[File]) -> Result<Vec<u8>, AllocError>
 
 /// Returns the id of the tree of a commit, or the id itself if it names no commit.
 pub(crate) fn tree_of(alloc: Global, store: &Memory, id: ObjectId) -> Result<ObjectId, Fault>
-    ensures { IfOk result (IsTreeOf (memory_objects store.now) id) }
+    ensures found { IfOk result (IsTreeOf (memory_objects store.now) id) }
+    ensures error { IfErr result (IsUnreadCommit (memory_objects store.now) id) }
 {
     match store.try_header(id.as_oid()) {
         Ok(Some(header)) if header.kind == Kind::Commit => {}

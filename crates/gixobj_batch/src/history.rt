@@ -1,9 +1,11 @@
 //! The command `log`.
-ghost use Rattle.std.specs.Prelude.{◌≡◌, ◌++◌, IfOk, OnOk};
+ghost use Rattle.std.specs.Prelude.{◌≡◌, ◌++◌, IfErr, IfOk, OnOk};
 ghost use Rattle.std.specs.List.{flat_map};
 ghost use Rattle.bstr.specs.Owned.{bstring_bytes};
+ghost use Rattle.gix_object.specs.Memory.{memory_objects};
 ghost use Rattle.gixobj_batch.specs.Lines.{author_bytes, log_line};
-ghost use Rattle.gixobj_batch.specs.Reports.{IsFaultOfEnd};
+ghost use Rattle.gixobj_batch.specs.Reports.{IsFaultOfEnd, PrintsLog};
+ghost use Rattle.gixobj_batch.specs.declared.fault.Fault.TheVariants as program;
 
 use crate::fault::Fault;
 use crate::lines::push_id;
@@ -16,7 +18,11 @@ use std::alloc::{AllocError, Global};
 
 /// Lists a commit and its ancestors by first parents, a line for each. The error is that of the first commit that isn't
 /// read.
-pub(crate) fn list_commits(alloc: Global, store: &Memory, id: ObjectId) -> Result<Report, Fault> {
+pub(crate) fn list_commits(alloc: Global, store: &Memory, id: ObjectId) -> Result<Report, Fault>
+    ensures printed { IfOk result (λ report. PrintsLog (memory_objects store.now) id
+        report.lines.items report.fault) }
+    ensures error { IfErr result (λ fault. fault ≡ program.OutOfMemory) }
+{
     let CommitLog { commits, end } = log(alloc, store, id, u32::MAX)?;
     let lines = lines_of(alloc, &commits)?;
     let fault = fault_of(end);
