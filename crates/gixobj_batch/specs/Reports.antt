@@ -6,8 +6,12 @@ use Rattle.gix_object.specs.Files.{is_null}
 use Rattle.gix_object.specs.Stores.{Objects}
 use Rattle.gix_object.specs.hash.hash.object_id.ObjectId.{ObjectId}
 use Rattle.gix_object.specs.hash.kind.Kind.TheVariants.{Commit}
+use Rattle.gixobj_batch.specs.CheckLines.{PrintsCheck}
 use Rattle.gixobj_batch.specs.Lines.{change_line, file_line, log_line}
+use Rattle.gixobj_batch.specs.Objects.{objects_of}
 use Rattle.gixobj_batch.specs.Trees.{IsTreeOf, NamesCommitObject}
+use Rattle.gixobj_batch.specs.declared.arguments.Command.{Command}
+use Rattle.gixobj_batch.specs.declared.arguments.Command.TheVariants as command
 use Rattle.gixobj_batch.specs.declared.fault.Fault.{Fault}
 use Rattle.gixobj_batch.specs.declared.fault.Fault.TheVariants as program
 use Rattle.gixobj_listings.specs.Changes.{AreChangesInOrder, ChangeView}
@@ -17,6 +21,8 @@ use Rattle.gixobj_listings.specs.Histories.{IsLog, LoggedView}
 use Rattle.gixobj_listings.specs.Listings.{AreAllRead, HasFilesOf, IsListError}
 use Rattle.gixobj_listings.specs.declared.history.LogEnd.{LogEnd}
 use Rattle.gixobj_listings.specs.declared.history.LogEnd.TheVariants as end
+use Rattle.gixobj_records.specs.Records.{DecodesToRecords, IsBatchError, RecordView}
+use Rattle.gixobj_records.specs.declared.records.BatchError.{BatchError}
 
 -- no lookup fails: the objects are in memory
 abbrev pub never_fails : ObjectId → Bool
@@ -60,6 +66,19 @@ pub record PrintsChanges (objects : Objects) (from to : ObjectId) (lines : List 
   pub printed : lines ≡ flat_map change_line changes
   pub no_fault : fault ≡ None
 
+-- the lines of a command on these records, and the error after them
+abbrev pub Prints : Command → List RecordView → List ℕ → Option Fault → Type 0
+Prints (command.Log id) records lines fault = PrintsLog (objects_of records) id lines fault
+Prints (command.List id) records lines fault = PrintsFiles (objects_of records) id lines fault
+Prints (command.Diff from to) records lines fault = PrintsChanges (objects_of records) from to lines fault
+Prints command.Check records lines fault = PrintsCheck records lines fault
+
+-- the input is the concatenation of records, and these are the lines of a command on them, and the error after them
+pub record Reports (named : Command) (input lines : List ℕ) (fault : Option Fault) : Type 0 where
+  pub records : List RecordView
+  pub decoded : DecodesToRecords input records
+  pub printed : Prints named records lines fault
+
 -- ---- errors without lines
 
 -- the id names a commit that isn't read, for the cause of the error
@@ -84,3 +103,15 @@ IsDiffError objects from to (program.Tree cause) = (before after : ObjectId) × 
     × IsTreeOf objects to after × IsChangesError objects never_fails 1024 before after cause
 IsDiffError objects from to program.OutOfMemory = ⊤
 IsDiffError objects from to other = ⊥
+
+-- the error of a command on these records, without lines
+abbrev pub IsCommandError : Command → List RecordView → Fault → Type 0
+IsCommandError (command.Log id) records fault = fault ≡ program.OutOfMemory
+IsCommandError (command.List id) records fault = IsFilesError (objects_of records) id fault
+IsCommandError (command.Diff from to) records fault = IsDiffError (objects_of records) from to fault
+IsCommandError command.Check records fault = fault ≡ program.OutOfMemory
+
+-- the error of a command on this input, without lines: the input isn't a sequence of records; or that on its records
+abbrev pub IsReportError : Command → List ℕ → Fault → Type 0
+IsReportError named input fault = ((cause : BatchError) × (fault ≡ program.Batch cause) × IsBatchError input cause)
+    ⊎ ((records : List RecordView) × DecodesToRecords input records × IsCommandError named records fault)

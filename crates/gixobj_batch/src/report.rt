@@ -1,4 +1,7 @@
 //! The lines that a command prints, and the error after them.
+ghost use Rattle.std.specs.Prelude.{IfErr, IfOk, map};
+ghost use Rattle.gixobj_batch.specs.Reports.{IsCommandError, IsReportError, Prints, Reports};
+ghost use Rattle.gixobj_records.specs.Records.{record_view};
 
 use crate::arguments::Command;
 use crate::check::check;
@@ -7,7 +10,7 @@ use crate::fault::Fault;
 use crate::files::list_files;
 use crate::history::list_commits;
 use crate::store::store_of;
-use gixobj_records::decode_records;
+use gixobj_records::{Record, decode_records};
 use std::alloc::Global;
 
 /// What a command prints.
@@ -20,16 +23,34 @@ pub(crate) struct Report {
 }
 
 /// Runs a command on the records of the input.
-pub(crate) fn report_of(alloc: Global, command: Command, input: &[u8]) -> Result<Report, Fault> {
+pub(crate) fn report_of(alloc: Global, command: Command, input: &[u8]) -> Result<Report, Fault>
+    ensures printed { IfOk result (λ report. Reports command input.now report.lines.items
+        report.fault) }
+    ensures error { IfErr result (IsReportError command input.now) }
+{
     let records = decode_records(alloc, input)?;
-    if let Command::Check = command {
-        return check(alloc, records.as_slice());
-    }
-    let store = store_of(alloc, records.as_slice())?;
+    report_on(alloc, command, records.as_slice())
+}
+
+/// Runs a command on records.
+fn report_on(alloc: Global, command: Command, records: &[Record<'_>]) -> Result<Report, Fault>
+    ensures printed { IfOk result (λ report. Prints command (map record_view records.now)
+        report.lines.items report.fault) }
+    ensures error { IfErr result (IsCommandError command (map record_view records.now)) }
+{
     match command {
-        Command::Log(id) => list_commits(alloc, &store, id),
-        Command::List(id) => list_files(alloc, &store, id),
-        Command::Diff(from, to) => list_changes(alloc, &store, from, to),
-        Command::Check => check(alloc, records.as_slice()),
+        Command::Log(id) => {
+            let store = store_of(alloc, records)?;
+            list_commits(alloc, &store, id)
+        }
+        Command::List(id) => {
+            let store = store_of(alloc, records)?;
+            list_files(alloc, &store, id)
+        }
+        Command::Diff(from, to) => {
+            let store = store_of(alloc, records)?;
+            list_changes(alloc, &store, from, to)
+        }
+        Command::Check => check(alloc, records),
     }
 }
