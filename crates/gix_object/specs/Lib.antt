@@ -96,12 +96,11 @@ pub use Rattle.gixobj_object.specs.Parts
 pub use Rattle.gixobj_object.specs.declared as object
 pub use Rattle.gixobj_ref_iter.specs.CommitRuns
 pub use Rattle.gixobj_ref_iter.specs.CommitTokens
-pub use Rattle.gixobj_ref_iter.specs.CommitSignatures
+pub use Rattle.gixobj_ref_iter.specs.CommitExtracting
 pub use Rattle.gixobj_ref_iter.specs.Readers
 pub use Rattle.gixobj_ref_iter.specs.TagExtracting
 pub use Rattle.gixobj_ref_iter.specs.TagReaders
 pub use Rattle.gixobj_ref_iter.specs.TagTokenSteps
-pub use Rattle.gixobj_ref_iter.specs.TagTokens
 pub use Rattle.gixobj_ref_iter.specs.TokenFilters
 pub use Rattle.gixobj_ref_iter.specs.CommitTokenSteps
 pub use Rattle.gixobj_ref_iter.specs.TokenSearch
@@ -151,6 +150,12 @@ pub use Rattle.gixobj_text.specs.TrailerNames
 pub use Rattle.gixobj_text.specs.Trailers
 pub use Rattle.gixobj_text.specs.Unfolding
 pub use Rattle.gixobj_text.specs.declared as message
+pub use Rattle.gixobj_tokens.specs.CommitHeaders
+pub use Rattle.gixobj_tokens.specs.CommitSignatures
+pub use Rattle.gixobj_tokens.specs.TagBodies
+pub use Rattle.gixobj_tokens.specs.TagSignatures
+pub use Rattle.gixobj_tokens.specs.TagTokens
+pub use Rattle.gixobj_tokens.specs.declared as tokens
 pub use Rattle.gixobj_tree.specs.Entries
 pub use Rattle.gixobj_tree.specs.KeyOrder
 pub use Rattle.gixobj_tree.specs.EntryOrder

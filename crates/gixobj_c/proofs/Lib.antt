@@ -1,10 +1,9 @@
 pub mod ActorParts
 pub mod EntryParts
 pub mod Filled
-pub mod HeaderSearch
+pub mod HeaderCalls
 pub mod Lines
 pub mod Pieces
-pub mod Reencoded
 pub mod SignatureCalls
 pub mod TagParts
 pub mod Titles

@@ -2,22 +2,17 @@
 use Rattle.std.proofs.Common.{◌≡◌, ℕ, List, [], ◌++◌, ap, inl, refl, subst, sym, ◌∙◌}
 use Rattle.std.proofs.lemmas.List.{append-nil}
 use Rattle.std.specs.Prelude.{Some}
-use Rattle.bstr.specs.BStr.{bstr_bytes}
 use Rattle.gixobj_calls.specs.Buffers.{WritesTwo}
 use Rattle.gixobj_c.specs.Signatures.{IsCommitSignatureCall}
 use Rattle.gixobj_c.specs.Spans.{HasPieceBefore}
 use Rattle.gixobj_hash.specs.declared.hash.kind.Kind.{Kind}
-use Rattle.gixobj_ref_iter.specs.CommitSignatures.{HasCommitSignature}
-use Rattle.gixobj_ref_iter.specs.TagExtracting.{FindsSignatureOfTag}
-use Rattle.gixobj_signature.specs.SignedBytes.{signed_bytes}
-use Rattle.gixobj_signature.specs.declared.signature.signed_data.SignedData.{SignedData}
-use Rattle.gixobj_text.specs.declared.signature.SignatureRef.{SignatureRef}
+use Rattle.gixobj_tokens.specs.CommitSignatures.{HasCommitSignature}
 
-pub signature_before_end : (tag : List ℕ) (it : SignatureRef × SignedData) → FindsSignatureOfTag tag it → HasPieceBefore tag (bstr_bytes it.0.bytes) 0
-signature_before_end tag it has = record {
-  prefix = signed_bytes it.1;
+pub signature_before_end : (tag signed signature : List ℕ) → tag ≡ signed ++ signature → HasPieceBefore tag signature 0
+signature_before_end tag signed signature joined = record {
+  prefix = signed;
   rest = [];
-  joined = has.joined ∙ ap (λ (bytes : List ℕ). signed_bytes it.1 ++ bytes) (sym (append-nil (bstr_bytes it.0.bytes)));
+  joined = joined ∙ ap (λ (bytes : List ℕ). signed ++ bytes) (sym (append-nil signature));
   remaining = refl;
 }
 

@@ -5,7 +5,6 @@ pub mod Headers
 pub mod Loose
 pub mod Messages
 pub mod Objects
-pub mod Reencoding
 pub mod Signatures
 pub mod Spans
 pub mod Tags

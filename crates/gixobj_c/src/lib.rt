@@ -13,7 +13,6 @@ mod ids;
 mod loose;
 mod messages;
 mod objects;
-mod reencoding;
 mod signatures;
 mod spans;
 mod tags;

@@ -1,25 +1,29 @@
 //! Signatures of tags and commits, and what they sign.
-ghost use Rattle.std.specs.Prelude.{◌≡◌, Some};
+ghost use Rattle.std.specs.Prelude.{◌≡◌, ◌++◌, IfOk, Some};
 ghost use Rattle.gixobj_calls.specs.Codes.{hash_of_code as hash_of};
 ghost use Rattle.gixobj_c.specs.Signatures.{IsCommitSignatureCall, IsTagSignatureCall};
 
-use crate::spans::{Span, span_of};
+use crate::spans::{Span, span_before};
 use gixobj_calls::buffers::write_two;
 use gixobj_calls::codes::{DONE, MALFORMED, NOT_FOUND, OUT_OF_MEMORY, UNKNOWN_CODE, hash_of_code};
+use gixobj_hash::OutOfMemory;
 use gixobj_hash::decode::Error;
 use gixobj_hash::hash::Kind;
-use gixobj_ref_iter::{CommitRefIter, TagRefIter};
+use gixobj_text::signature;
+use gixobj_tokens::commit::find_signature;
 use std::alloc::Global;
 
 /// Finds the signature of a tag. It signs all bytes before it. Allocates nothing.
+#[tactic(auto, using(crate::proofs::SignatureCalls::signature_before_end))]
 #[unsafe(no_mangle)]
 pub extern "C" fn gixobj_tag_signature(tag: &[u8], out: &mut Span) -> u32
     ensures { IsTagSignatureCall tag.now out.old out.new result }
 {
-    let Some((signature, payload)) = TagRefIter::signature(tag) else {
+    let Some((place, _)) = signature::find(tag) else {
         return NOT_FOUND;
     };
-    let span = span_of(tag, signature.bytes, 0);
+    let (_, signature) = tag.split_at(place);
+    let span = span_before(tag, signature, 0);
     *out = span;
     DONE
 }
@@ -68,21 +72,30 @@ fn write_signature(
         signature_len.old signature_len.new signed.old signed.new signed_len.old signed_len.new
         result }
 {
-    let (value, payload) = match CommitRefIter::signature(alloc, commit, hash) {
+    let header = match find_signature(alloc, commit, hash) {
         Ok(Some(found)) => found,
         Ok(None) => return NOT_FOUND,
         Err(Error::Malformed) => return MALFORMED,
         Err(Error::OutOfMemory) => return OUT_OF_MEMORY,
     };
-    let Ok(bytes) = payload.to_bstring(alloc) else {
+    let Ok(payload) = joined(alloc, header.before, header.after) else {
         return OUT_OF_MEMORY;
     };
     write_two(
-        &value,
+        &header.value,
         signature,
         signature_len,
-        bytes.as_bytes(),
+        payload.as_slice(),
         signed,
         signed_len,
     )
+}
+
+/// Copies two slices into one list, which the call allocates.
+fn joined(alloc: Global, before: &[u8], after: &[u8]) -> Result<Vec<u8>, OutOfMemory>
+    ensures { IfOk result (λ it. it.items ≡ before.now ++ after.now) }
+{
+    let mut bytes = Vec::from_slice(alloc, before)?;
+    bytes.extend_from_slice(after)?;
+    Ok(bytes)
 }

@@ -12,11 +12,13 @@ use Rattle.gixobj_text.proofs.MarkerPlaces.{no_marker_and_marker_place, format_o
 use Rattle.gixobj_text.specs.Markers.{BeginsWithMarker, HasNoMarker, IsMarkerOf, IsMarkerPlace, MarksPlace, StartsLine, pgp_message, pgp_signature, signed_message, ssh_signature}
 use Rattle.gixobj_text.specs.declared.signature.Format.{Format}
 use Rattle.gixobj_text.specs.declared.signature.SignatureRef.{SignatureRef}
-use Rattle.gixobj_ref_iter.specs.TagExtracting.{FindsSignatureOfTag, HasTagSignature}
+use Rattle.gixobj_ref_iter.specs.TagExtracting.{FindsSignatureOfTag}
+use Rattle.gixobj_tokens.specs.TagSignatures.{HasTagSignature}
 use Rattle.gixobj_tag.proofs.EntireTags.{Reads, parts_of_decoded_tag}
 use Rattle.gixobj_line.specs.TagLines.{BeginsWithTagger}
 use Rattle.gixobj_tag.specs.Signed.{IsSignature}
-use Rattle.gixobj_tag.specs.TagFormat.{IsBody, IsParted, DecodesToTag, TagLines, are_newlines, after_a_newline, encode_tag_lines, newlines_alone, signed, signed_at_once, encode_tagger, unsigned}
+use Rattle.gixobj_tag.specs.TagFormat.{DecodesToTag, TagLines, encode_tag_lines, encode_tagger}
+use Rattle.gixobj_tokens.specs.TagBodies.{IsBody, IsParted, are_newlines, after_a_newline, newlines_alone, signed, signed_at_once, unsigned}
 use Rattle.gixobj_hash.proofs.Splits.{byte_free_of_all_pass}
 use Rattle.gixobj_hash.specs.ByteStrings.{IsByteFree}
 use Rattle.gixobj_signature.specs.SignedBytes.{signed_bytes}

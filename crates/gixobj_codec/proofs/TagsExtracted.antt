@@ -6,7 +6,7 @@ use Rattle.gixobj_text.specs.Markers.{BeginsWithMarker, HasNoMarker, IsMarkerPla
 use Rattle.gixobj_text.specs.declared.signature.Format.{Format}
 use Rattle.gixobj_tag.specs.TagFormat.{TagLines, encode_tag_lines}
 use Rattle.gixobj_tag.specs.TagWriting.{encode_message, encode_tag}
-use Rattle.gixobj_ref_iter.specs.TagExtracting.{HasTagSignature}
+use Rattle.gixobj_tokens.specs.TagSignatures.{HasTagSignature}
 use Rattle.gixobj_tag.specs.TagSigning.{payload_of_tag, signed_as}
 use Rattle.gixobj_codec.specs.OneMarker.{HasOneMarker}
 

@@ -16,13 +16,14 @@ ghost use Rattle.gixobj_codec.specs.SignedEncodings.{CommitPayloadIsSigned, Find
 ghost use Rattle.gixobj_text.specs.Markers.{HasNoMarker};
 ghost use Rattle.gixobj_text.specs.declared.signature.Format.{Format};
 ghost use Rattle.gixobj_text.specs.declared.signature.SignatureRef.{SignatureRef};
-ghost use Rattle.gixobj_ref_iter.specs.TagExtracting as tags;
+ghost use Rattle.gixobj_ref_iter.specs.TagExtracting.{FindsSignatureOfTag};
+ghost use Rattle.gixobj_tokens.specs.TagSignatures as tags;
 ghost use Rattle.gixobj_tag.specs.Signed.{IsSignature};
 ghost use Rattle.gixobj_tag.specs.TagSigning as tag_signing;
 ghost use Rattle.gixobj_tag.specs.TagFormat.{DecodesToTag, TagLines};
 ghost use Rattle.gixobj_tag.specs.TagViews as tag_views;
 ghost use Rattle.gixobj_tag.specs.TagWriting.{encode_tag};
-ghost use Rattle.gixobj_ref_iter.specs.CommitSignatures.{HasNoSignature, HasCommitSignature, IsCommitSignatureError};
+ghost use Rattle.gixobj_tokens.specs.CommitSignatures.{HasNoSignature, HasCommitSignature, IsCommitSignatureError};
 ghost use Rattle.gixobj_signature.specs.declared.signature.signed_data.SignedData.{SignedData};
 
 use crate::one_line::{actor_has_one_line, id_has_one_line, ids_have_one_line};
@@ -145,6 +146,6 @@ pub fn signed_tag_has_payload<R: Runner>(
 pub fn tag_signatures_agree()
     ensures { (kind : Kind) (content : List ℕ) (lines : TagLines) (own : Option SignatureRef)
         (found : Option (SignatureRef × SignedData)) → DecodesToTag kind content lines
-        → IsSignature lines.signature own → IfSome found (tags.FindsSignatureOfTag content)
+        → IsSignature lines.signature own → IfSome found (FindsSignatureOfTag content)
         → IfNone found (HasNoMarker content) → AreTheSame own found }
 {}

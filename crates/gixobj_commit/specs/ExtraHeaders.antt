@@ -1,5 +1,5 @@
 -- Searches of a commit's extra headers by name (gitdatamodel, "commits").
-use Rattle.std.specs.Prelude.{◌≡◌, ◌≢◌, ℕ, suc, List, [], ◌∷◌, ◌++◌, All, Option, None, Some, MatchOption, codes, length, map}
+use Rattle.std.specs.Prelude.{◌≡◌, ◌≢◌, ℕ, suc, List, [], ◌∷◌, ◌++◌, All, Option, None, Some, MatchOption, length, map}
 use Rattle.std.specs.Iterator.{Yields, YieldsThen}
 use Rattle.std.specs.List.{filter}
 use Rattle.std.specs.Str.{bytes_eq}
@@ -9,12 +9,6 @@ use Rattle.gixobj_fields.specs.HeaderFormat.{Header}
 use Rattle.gixobj_commit.specs.declared.extra_headers.ExtraHeaders.{ExtraHeaders}
 use Rattle.gixobj_commit.specs.declared.extra_headers.FindAll.{FindAll}
 use Rattle.gixobj_hash.specs.declared.hash.kind.Kind.{Kind}
-use Rattle.gixobj_hash.specs.declared.hash.kind.Kind.TheVariants as hash
-
--- the name of the signature header of a commit (gitformat-signature, "Commit signatures")
-abbrev pub signature_field : Kind → List ℕ
-signature_field hash.Sha1 = codes "gpgsig"
-signature_field hash.Sha256 = codes "gpgsig-sha256"
 
 -- the iterator that yields the headers
 abbrev pub iterator_of : {I : Type 0} → ExtraHeaders I → I

@@ -4,7 +4,8 @@ ghost use Rattle.std.specs.Prelude.{◌≡◌, ◌↔◌, ◌<◌, ◌^◌, IsTr
 ghost use Rattle.bstr.specs.BStr.{bstr_bytes};
 ghost use Rattle.std.specs.Iterator.{IsFinite, MakesProgress, size};
 ghost use Rattle.gixobj_fields.specs.HeaderReading.{header_of, owned_header_of};
-ghost use Rattle.gixobj_commit.specs.ExtraHeaders.{FindsPlace, FindsValue, NextValue, hash_kind_of, iterator_of, searched, signature_field, searched_name};
+ghost use Rattle.gixobj_commit.specs.ExtraHeaders.{FindsPlace, FindsValue, NextValue, hash_kind_of, iterator_of, searched, searched_name};
+ghost use Rattle.gixobj_tokens.specs.CommitSignatures.{signature_field};
 ghost use Rattle.gixobj_commit.specs.RemainingHeaders.{remaining_headers, remaining_owned_headers};
 ghost use Rattle.gixobj_commit.specs.Mergetags.{IsTagOf, mergetag_kind, mergetag_values};
 
@@ -12,24 +13,10 @@ use bstr::{BStr, BString};
 use gixobj_hash::decode::Error;
 use gixobj_hash::hash::Kind;
 use gixobj_tag::TagRef;
+pub use gixobj_tokens::commit::{
+    SIGNATURE_FIELD_NAME, SIGNATURE_FIELD_NAME_SHA256, signature_field_name,
+};
 use std::borrow::CowSlice;
-
-/// The name of the signature header of a commit with SHA-1 ids.
-pub const SIGNATURE_FIELD_NAME: &str = "gpgsig";
-
-/// The name of the signature header of a commit with SHA-256 ids.
-pub const SIGNATURE_FIELD_NAME_SHA256: &str = "gpgsig-sha256";
-
-/// Returns the name of the signature header of a commit with ids of this kind (gitformat-signature, "Commit
-/// signatures"). Allocates nothing.
-pub fn signature_field_name(hash_kind: Kind) -> &'static str
-    ensures { result.now ≡ signature_field hash_kind }
-{
-    match hash_kind {
-        Kind::Sha1 => SIGNATURE_FIELD_NAME,
-        Kind::Sha256 => SIGNATURE_FIELD_NAME_SHA256,
-    }
-}
 
 /// The extra headers of a commit, searched by name. [`crate::CommitRef::extra_headers`] and
 /// [`crate::Commit::extra_headers`] return them.

@@ -3,7 +3,7 @@ use Rattle.std.proofs.Common.{ℕ, List}
 use Rattle.gix_object.specs.Commit.{CommitLines, DecodesToCommit}
 use Rattle.gix_object.specs.CommitSignatures.{HasCommitSignature}
 use Rattle.gix_object.specs.ReceivedSignatures.{SignsCommit, SignsTag}
-use Rattle.gix_object.specs.TagExtracting.{HasTagSignature}
+use Rattle.gix_object.specs.TagSignatures.{HasTagSignature}
 use Rattle.gix_object.specs.TagFormat.{DecodesToTag, TagLines}
 use Rattle.gix_object.specs.hash.hash.kind.Kind as hash
 use Rattle.gix_object.specs.hash.kind.Kind.{Kind}

@@ -5,14 +5,14 @@ use Rattle.gix_object.specs.Hash.{DecodesToId}
 use Rattle.gix_object.specs.Runs.{Ending, complete, yields_end, yields_piece}
 use Rattle.gix_object.specs.TagReaders.{AreTokensOfTag, IsOptionalToken, IsAfterName, misses_body, misses_nothing, misses_tagger_and_body}
 use Rattle.gix_object.specs.TagFormat.{DecodesToTag, TagLines}
-use Rattle.gix_object.specs.TagTokenSteps.{NextTagToken, IsAtStartOfTag, YieldsTagTokens, tag_reader_state, tag_token_id}
-use Rattle.gix_object.specs.TagTokens.{BeginsWithTagToken, TagTokenView, kind_token, name_token, tag_token_view, target_token}
+use Rattle.gix_object.specs.TagTokenSteps.{NextTagToken, IsAtStartOfTag, YieldsTagTokens, tag_reader_state}
+use Rattle.gix_object.specs.TagTokens.{BeginsWithTagToken, TagTokenView, kind_token, name_token, tag_token_id, tag_token_view, target_token}
 use Rattle.gix_object.specs.hash.hash.kind.Kind.{Kind}
 use Rattle.gix_object.specs.hash.hash.object_id.ObjectId.{ObjectId}
-use Rattle.gix_object.specs.ref_iter.tag.State.{State}
-use Rattle.gix_object.specs.ref_iter.tag.State.TheVariants as state
+use Rattle.gix_object.specs.tokens.tag.State.{State}
+use Rattle.gix_object.specs.tokens.tag.State.TheVariants as state
 use Rattle.gix_object.specs.ref_iter.tag.TagRefIter.{TagRefIter}
-use Rattle.gix_object.specs.ref_iter.tag.Token.{Token}
+use Rattle.gix_object.specs.tokens.tag.Token.{Token}
 use Rattle.gixobj_object_callers.specs.Yielded.{IsToYield}
 
 -- ---- the laws, as their functions state them

@@ -21,7 +21,7 @@ use Rattle.gix_object.specs.SignedBytes.{signed_bytes}
 use Rattle.gix_object.specs.Signing as signing
 use Rattle.gix_object.specs.Signing.{sign_plan}
 use Rattle.gix_object.specs.SshReports.{ssh_report}
-use Rattle.gix_object.specs.TagExtracting as tags
+use Rattle.gix_object.specs.TagSignatures as tags
 use Rattle.gix_object.specs.TagFormat.{DecodesToTag, TagLines}
 use Rattle.gix_object.specs.Verifiers.{VerifyOptionsView, ProgramView, SshView, by_open_pgp, by_ssh, by_x509}
 use Rattle.gix_object.specs.Verifying.{IsOutcomeOf, IsFormatOf, accepts, human, principals_in, verify_plan}

@@ -4,7 +4,6 @@ mod CommitTokens
 mod CommitWalks
 mod CommitsFound
 mod ParentsFound
-mod Searching
 mod TagLanguage
 mod TagRuns
 mod TagTokens

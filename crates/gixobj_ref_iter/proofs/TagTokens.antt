@@ -3,15 +3,11 @@
 use Rattle.std.proofs.Common.{◌≡◌, ◌≢◌, ◌≤◌, ◌<◌, ◌+◌, ℕ, List, [], ◌∷◌, ◌++◌, Option, Some, None, ap, arith, length, length-append, refl, subst, sym, ◌∙◌}
 use Rattle.std.proofs.lemmas.List.{append-nil}
 use Rattle.std.specs.Prelude.{codes}
-use Rattle.bstr.specs.BStr.{bstr_bytes}
-use Rattle.bstr.specs.declared.bstr.BStr.{BStr}
 use Rattle.gixobj_actor.proofs.ActorLines.{actor_view_unique}
-use Rattle.gixobj_actor.specs.Actor.{IsActorLineOf, actor_view}
-use Rattle.gixobj_actor.specs.declared.actor.SignatureRef.{SignatureRef}
+use Rattle.gixobj_actor.specs.Actor.{IsActorLineOf}
 use Rattle.gixobj_fields.proofs.HeaderFields.{has_field_of_encoded, field_unique}
 use Rattle.gixobj_fields.specs.HeaderReading.{BeginsWithIdField}
 use Rattle.gixobj_fields.specs.HeaderFormat.{BeginsWithField, encode_field}
-use Rattle.gixobj_fields.specs.Runs.{HasNoPiece}
 use Rattle.gixobj_hash.proofs.Headers.{kind_keyword_injective}
 use Rattle.gixobj_hash.proofs.HexIds.{decoded_id_unique}
 use Rattle.gixobj_hash.specs.Hash.{DecodesToId}
@@ -20,47 +16,10 @@ use Rattle.gixobj_hash.specs.declared.hash.kind.Kind as hash
 use Rattle.gixobj_hash.specs.declared.hash.object_id.ObjectId.{ObjectId}
 use Rattle.gixobj_tag.proofs.Bodies.{body_unique}
 use Rattle.gixobj_line.proofs.TagLines.{no_tagger_and_begins_field}
-use Rattle.gixobj_line.specs.TagLines.{BeginsWithMalformedTagger, BeginsWithTagger}
-use Rattle.gixobj_line.specs.TagLineViews.{IsParsedTagger, line_if_some}
-use Rattle.gixobj_ref_iter.specs.TagReaders.{IsTokenOfTagger, yields_no_tagger, yields_tagger}
-use Rattle.gixobj_ref_iter.specs.TagTokens.{BeginsWithTagToken, DecodesToTagToken, TagTokenView, body_comes, kind_comes, kind_token, name_comes, name_token, no_tagger_comes, tagger_comes, tagger_token, target_comes, target_token}
+use Rattle.gixobj_tokens.specs.TagTokens.{BeginsWithTagToken, DecodesToTagToken, TagTokenView, body_comes, kind_comes, kind_token, name_comes, name_token, no_tagger_comes, tagger_comes, tagger_token, target_comes, target_token}
 use Rattle.gixobj_ref_iter.specs.TagTokenSteps.{remaining_states}
-use Rattle.gixobj_ref_iter.specs.declared.tag.State.{State}
-use Rattle.gixobj_ref_iter.specs.declared.tag.State.TheVariants as state
-
--- ---- the tagger
-
-pub is_token_of_tagger : (tagger : Option (BStr × SignatureRef)) (line : BStr) (actor : SignatureRef) → IsParsedTagger tagger → tagger ≡ Some (line, actor)
-    → IsTokenOfTagger (line_if_some tagger) (tagger_token (actor_view actor))
-is_token_of_tagger tagger line actor parsed same =
-    let it : IsParsedTagger (Some (line, actor)) = subst IsParsedTagger same parsed in
-    rw same (yields_tagger (bstr_bytes line) (actor_view actor) it.0 it.1)
-
-begins_with_token_of_tagger : (kind : hash.Kind) (input rest : List ℕ) (line : Option (List ℕ)) (token : TagTokenView) → input ≢ []
-    → BeginsWithTagger input line rest
-    → IsTokenOfTagger line token → BeginsWithTagToken kind state.Tagger input token state.Body rest
-begins_with_token_of_tagger kind input rest (Some line) token filled (field, _) (yields_tagger _ actor after is) =
-    tagger_comes input line rest actor after field is
-begins_with_token_of_tagger kind input rest None token filled (lacks, same) yields_no_tagger =
-    rw same (no_tagger_comes input filled lacks)
-
-pub has_tagger_token : (kind : hash.Kind) (before : State) (input rest : List ℕ) (line : Option (List ℕ)) (token : TagTokenView) → before ≡ state.Tagger
-    → input ≢ [] → BeginsWithTagger input line rest → IsTokenOfTagger line token
-    → BeginsWithTagToken kind before input token state.Body rest
-has_tagger_token kind before input rest line token same filled has yields = rw same (begins_with_token_of_tagger kind input rest line token filled has yields)
-
--- ---- no token
-
-no_token_of_malformed_tagger : (kind : hash.Kind) (input : List ℕ) (token : TagTokenView) (after : State) (rest : List ℕ) → BeginsWithMalformedTagger input
-    → BeginsWithTagToken kind state.Tagger input token after rest → ⊥
-no_token_of_malformed_tagger kind input token after rest none (tagger_comes _ line _ actor bytes field is) =
-    none (Some line) rest (field, (actor.name, actor.email, actor.time, bytes, is))
-no_token_of_malformed_tagger kind input token after rest none (no_tagger_comes _ filled lacks) = none None input (lacks, refl)
-
-pub has_no_tagger_token : (kind : hash.Kind) (before : State) (input : List ℕ) → before ≡ state.Tagger → BeginsWithMalformedTagger input
-    → HasNoPiece (BeginsWithTagToken kind) before input
-has_no_tagger_token kind before input same none token after rest has = no_token_of_malformed_tagger kind input token after rest none
-    (subst (λ (it : State). BeginsWithTagToken kind it input token after rest) same has)
+use Rattle.gixobj_tokens.specs.declared.tag.State.{State}
+use Rattle.gixobj_tokens.specs.declared.tag.State.TheVariants as state
 
 -- ---- a token consumes bytes, or at least a state
 

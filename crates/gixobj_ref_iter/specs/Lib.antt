@@ -1,11 +1,10 @@
 pub mod CommitRuns
 pub mod CommitTokens
-pub mod CommitSignatures
+pub mod CommitExtracting
 pub mod Readers
 pub mod TagExtracting
 pub mod TagReaders
 pub mod TagTokenSteps
-pub mod TagTokens
 pub mod TokenFilters
 pub mod CommitTokenSteps
 pub mod TokenSearch

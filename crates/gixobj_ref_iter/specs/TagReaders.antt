@@ -1,16 +1,9 @@
 -- A tag and its tokens (gitdatamodel, "tag objects").
 use Rattle.std.specs.Prelude.{◌≡◌, ℕ, List, [], ◌∷◌, ◌++◌, Option, Some, None, ⊤}
-use Rattle.gixobj_actor.specs.Actor.{ActorView, IsActorLineOf}
 use Rattle.gixobj_hash.specs.Hash.{DecodesToId}
 use Rattle.gixobj_hash.specs.declared.hash.object_id.ObjectId.{ObjectId}
 use Rattle.gixobj_tag.specs.TagFormat.{TagLines}
-use Rattle.gixobj_ref_iter.specs.TagTokens.{TagTokenView, body_token, kind_token, name_token, no_tagger_token, tagger_token, target_token}
-
--- the token of this tagger line, which is the actor with which its value begins; or the token of its absence
-pub data IsTokenOfTagger : Option (List ℕ) → TagTokenView → Type 0 where
-  yields_tagger : (line : List ℕ) (actor : ActorView) (rest : List ℕ) → IsActorLineOf line actor rest
-      → IsTokenOfTagger (Some line) (tagger_token actor)
-  yields_no_tagger : IsTokenOfTagger None no_tagger_token
+use Rattle.gixobj_tokens.specs.TagTokens.{IsTokenOfTagger, TagTokenView, body_token, kind_token, name_token, no_tagger_token, target_token}
 
 -- one of the tokens is a name
 abbrev pub IsAfterName : List TagTokenView → Type 0

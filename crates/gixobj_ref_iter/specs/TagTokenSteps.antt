@@ -12,11 +12,11 @@ use Rattle.gixobj_hash.specs.declared.decode.Error.{Error}
 use Rattle.gixobj_hash.specs.declared.decode.Error.TheVariants.{Malformed}
 use Rattle.gixobj_hash.specs.declared.hash.kind.Kind.{Kind}
 use Rattle.gixobj_hash.specs.declared.hash.object_id.ObjectId.{ObjectId}
-use Rattle.gixobj_ref_iter.specs.TagTokens.{BeginsWithTagToken, DecodesToTagToken, TagTokenView, body_token, kind_token, name_token, no_tagger_token, tagger_token, target_token, tag_token_view}
-use Rattle.gixobj_ref_iter.specs.declared.tag.State.{State}
-use Rattle.gixobj_ref_iter.specs.declared.tag.State.TheVariants as state
+use Rattle.gixobj_tokens.specs.TagTokens.{BeginsWithTagToken, DecodesToTagToken, TagTokenView, no_tagger_token, tagger_token, tag_token_id, tag_token_view}
+use Rattle.gixobj_tokens.specs.declared.tag.State.{State}
+use Rattle.gixobj_tokens.specs.declared.tag.State.TheVariants as state
+use Rattle.gixobj_tokens.specs.declared.tag.Token.{Token}
 use Rattle.gixobj_ref_iter.specs.declared.tag.TagRefIter.{TagRefIter}
-use Rattle.gixobj_ref_iter.specs.declared.tag.Token.{Token}
 
 -- ---- one token
 
@@ -69,15 +69,6 @@ DecodesToTagTokens kind input tokens = (encodings : List (List ℕ)) × (input �
     × AllZip (DecodesToTagToken kind) tokens encodings
 
 -- ---- ids of tokens
-
--- the id of a target, or none for another token
-abbrev pub tag_token_id : TagTokenView → Option ObjectId
-tag_token_id (target_token id) = Some id
-tag_token_id (kind_token kind) = None
-tag_token_id (name_token name) = None
-tag_token_id (tagger_token actor) = None
-tag_token_id no_tagger_token = None
-tag_token_id (body_token message signature) = None
 
 -- this id, or `Malformed` without one
 abbrev pub tag_id_or_malformed : Option ObjectId → Result ObjectId Error

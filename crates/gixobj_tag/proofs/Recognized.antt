@@ -11,8 +11,9 @@ use Rattle.gixobj_text.proofs.MarkerPlaces.{begins_with_marker_at_place, marker_
 use Rattle.gixobj_text.specs.Markers.{BeginsWithMarker, BeginsWithNoMarker, HasNoMarker, IsMarkerOf, IsMarkerPlace, MarksPlace, StartsLine, pgp_message, pgp_signature, signed_message, ssh_signature}
 use Rattle.gixobj_text.specs.declared.signature.Format.{Format}
 use Rattle.gixobj_line.specs.TagPrefix.{BeginsTag, IsTagBody, IsTag}
-use Rattle.gixobj_tag.proofs.Bodies.{is_body_after_newline, is_body_of_newlines}
-use Rattle.gixobj_tag.specs.TagFormat.{IsBody, IsParted, DecodesToTag, TagLines, are_newlines, after_a_newline, newlines_alone, signed, signed_at_once, unsigned}
+use Rattle.gixobj_tokens.proofs.TagBodies.{is_body_after_newline, is_body_of_newlines}
+use Rattle.gixobj_tag.specs.TagFormat.{DecodesToTag, TagLines}
+use Rattle.gixobj_tokens.specs.TagBodies.{IsBody, IsParted, are_newlines, after_a_newline, newlines_alone, signed, signed_at_once, unsigned}
 
 -- ---- a marker at the beginning, or none
 

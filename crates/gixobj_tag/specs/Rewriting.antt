@@ -6,7 +6,8 @@ use Rattle.gixobj_fields.specs.Streams.{AppendsPrefix, SinkView}
 use Rattle.gixobj_fields.specs.declared.encode.Error.{Error}
 use Rattle.gixobj_fields.specs.declared.encode.Error.TheVariants as error
 use Rattle.gixobj_tag.specs.NameRule.{BeginsWithDash, HasNoFault, IsFirstFault}
-use Rattle.gixobj_tag.specs.TagFormat.{TagLines, are_newlines}
+use Rattle.gixobj_tag.specs.TagFormat.{TagLines}
+use Rattle.gixobj_tokens.specs.TagBodies.{are_newlines}
 
 -- the tag is encoded as it was decoded: it is unsigned, or its message isn't newlines alone
 abbrev pub PreservesBody : TagLines → Type 0

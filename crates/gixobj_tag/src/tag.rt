@@ -8,7 +8,7 @@ ghost use Rattle.gixobj_tag.specs.TagOwned.{IsBadTagger, IsOwnedFormOfTag, IsTri
 ghost use Rattle.gixobj_tag.specs.TagViews.{owned_tag_lines, tag_lines};
 ghost use Rattle.gixobj_hash.specs.Optional.{bytes_if_some};
 
-pub mod decode;
+mod decode;
 mod owned;
 mod sign;
 pub mod write;

@@ -1,18 +1,15 @@
 //! The signature in a commit's encoding, and the data that it signs (gitformat-signature, "Commit
 //! signatures").
-ghost use Rattle.std.specs.Prelude.{◌≡◌, IfErr, IfOk, IfSome, MatchOption};
-ghost use Rattle.std.specs.Cow.{cow_slice_items};
+ghost use Rattle.std.specs.Prelude.{IfErr, IfOk, IfSome};
 ghost use Rattle.gixobj_fields.specs.HeaderReading.{BorrowsOneLine};
-ghost use Rattle.gixobj_line.specs.Lines.{IsParsedLine, header_line, line_view};
-ghost use Rattle.gixobj_ref_iter.specs.CommitSignatures.{FindsSignatureOfCommit, HasNoSignature, HasCommitSignature, IsNamedLine, IsCommitSignatureError};
-ghost use Rattle.gixobj_signature.specs.SignedBytes.{signed_bytes};
+ghost use Rattle.gixobj_ref_iter.specs.CommitExtracting.{FindsSignatureOfCommit};
+ghost use Rattle.gixobj_tokens.specs.CommitSignatures.{HasNoSignature, HasCommitSignature, IsCommitSignatureError};
 
 use super::CommitRefIter;
-use gixobj_commit::signature_field_name;
 use gixobj_hash::decode::Error;
 use gixobj_hash::hash::Kind;
-use gixobj_line::lines::{Line, State, decode_line};
 use gixobj_signature::signature::SignedData;
+use gixobj_tokens::commit::{FoundHeader, find_signature};
 use std::alloc::Global;
 use std::borrow::CowSlice;
 
@@ -20,9 +17,10 @@ use std::borrow::CowSlice;
 impl<'a> CommitRefIter<'a> {
     /// Finds the signature in a commit's encoding with ids of `hash_kind`, and the data that it signs.
     ///
-    /// The signature is the value of the first header named [`signature_field_name`] of `hash_kind`. The data
-    /// is all bytes except that header. Lines after it aren't decoded. Returns `None` if all lines are valid,
-    /// and none is such a header.
+    /// The signature is the value of the first header named
+    /// [`signature_field_name`](gixobj_tokens::commit::signature_field_name) of `hash_kind`. The data is all
+    /// bytes except that header. Lines after it aren't decoded. Returns `None` if all lines are valid, and
+    /// none is such a header.
     ///
     /// Allocates the values of headers of several lines, up to the signature. A value of one line is
     /// borrowed.
@@ -40,41 +38,17 @@ impl<'a> CommitRefIter<'a> {
         ensures error { IfErr result (IsCommitSignatureError hash_kind bytes.now) }
         ensures borrowed { IfOk result (λ found. IfSome found (λ it. BorrowsOneLine it.0)) }
     {
-        let field = signature_field_name(hash_kind).as_bytes();
-        let mut state = State::Tree;
-        let mut rest = bytes;
-        let mut place = 0;
-        'lines: while !rest.is_empty() {
-            let (line, next, after) = match decode_line(alloc, state, hash_kind, rest) {
-                Ok(read) => read,
-                Err(error) => return Err(error),
-            };
-            if let Some(value) = value_of_line(line, field) {
-                return Ok(Some((value, SignedData::new(&bytes[..place], after))));
+        match find_signature(alloc, bytes, hash_kind) {
+            Ok(Some(header)) => {
+                let FoundHeader {
+                    value,
+                    before,
+                    after,
+                } = header;
+                Ok(Some((value, SignedData::new(before, after))))
             }
-            place += rest.len() - after.len();
-            state = next;
-            rest = after;
+            Ok(None) => Ok(None),
+            Err(error) => Err(error),
         }
-        Ok(None)
-    }
-}
-
-/// Returns the value of a header of this name, and `None` for any other line.
-fn value_of_line<'a>(line: Line<'a>, name: &[u8]) -> Option<CowSlice<'a, u8>>
-    ensures found { MatchOption result (¬ IsNamedLine name.now (line_view line.entry))
-        (λ value. line_view line.entry ≡ header_line
-        (record { name = name.now; value = cow_slice_items value })) }
-    ensures borrowed { IfSome result (λ value. IsParsedLine line.entry → BorrowsOneLine value) }
-{
-    match line {
-        Line::ExtraHeader((key, value)) => {
-            if key.as_bytes() == name {
-                Some(value)
-            } else {
-                None
-            }
-        }
-        _ => None,
     }
 }

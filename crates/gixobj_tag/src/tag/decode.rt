@@ -1,21 +1,19 @@
-//! Decoding of tags, and of their body for other decoders (gitdatamodel, "tag objects").
-ghost use Rattle.std.specs.Prelude.{◌≡◌, ◌∷◌, IfErr, IfNone, IfOk, IfSome, IsFalse, MatchOption};
-ghost use Rattle.bstr.specs.BStr.{bstr_bytes};
+//! Decoding of tags (gitdatamodel, "tag objects").
+ghost use Rattle.std.specs.Prelude.{◌≡◌, IfErr, IfNone, IfOk, IfSome};
 ghost use Rattle.gixobj_hash.specs.Hash.{IsIdHex};
 ghost use Rattle.gixobj_hash.specs.declared.decode.Error.TheVariants.{Malformed};
 ghost use Rattle.gixobj_line.specs.TagLineViews.{line_if_some};
-ghost use Rattle.gixobj_tag.specs.TagFormat.{IsMalformedBody, IsBody, IsMalformedTag, IsParted, DecodesToTag, are_newlines as are_newlines_of};
+ghost use Rattle.gixobj_tag.specs.TagFormat.{IsMalformedTag, DecodesToTag};
 ghost use Rattle.gixobj_tag.specs.TagViews.{tag_lines};
-ghost use Rattle.gixobj_hash.specs.Bytes.{newline};
 ghost use Rattle.gixobj_hash.specs.Optional.{bytes_if_some};
 
 use super::TagRef;
 use bstr::BStr;
-use gixobj_fields::parse::{after_newline, header_id, header_kind};
+use gixobj_fields::parse::{header_id, header_kind};
 use gixobj_hash::decode::Error;
 use gixobj_hash::hash::Kind;
 use gixobj_line::tags::{TaggerLine, name, tagger};
-use gixobj_text::signature;
+use gixobj_tokens::bodies::body;
 
 impl<'a> TagRef<'a> {
     /// Decodes a tag whose target has an id of this kind (gitdatamodel, "tag objects"). Allocates nothing.
@@ -77,48 +75,4 @@ fn line_of(tagger: Option<TaggerLine<'_>>) -> Option<BStr<'_>>
         Some((line, _)) => Some(line),
         None => None,
     }
-}
-
-/// Decodes a body to its message and its signature.
-///
-/// A body of newlines alone, or an empty one, is itself the message. Any other begins with a newline, which
-/// isn't part of the message. Returns `None` without that newline. Allocates nothing.
-#[tactic(auto, using(crate::proofs::Bodies::is_body_of_newlines, crate::proofs::Bodies::is_body_after_newline, crate::proofs::Bodies::no_body_of_other_byte))]
-pub fn body(input: &[u8]) -> Option<(BStr<'_>, Option<BStr<'_>>)>
-    ensures found { IfSome result (λ it. IsBody input.now (bstr_bytes it.0) (bytes_if_some it.1)) }
-    ensures none { IfNone result (IsMalformedBody input.now) }
-{
-    if are_newlines(input) {
-        return Some((BStr::new(input), None));
-    }
-    let Some(content) = after_newline(input) else {
-        return None;
-    };
-    let (message, signature) = parted(content);
-    Some((message, signature))
-}
-
-/// Splits bytes at the last marker at the start of a line, which begins the signature. The newline before it
-/// is in neither the message nor the signature.
-#[tactic(auto, using(crate::proofs::Bodies::is_parted_unsigned, crate::proofs::Bodies::is_parted_at_start, crate::proofs::Bodies::is_parted_at_marker))]
-fn parted(content: &[u8]) -> (BStr<'_>, Option<BStr<'_>>)
-    ensures { IsParted content.now (bstr_bytes result.0) (bytes_if_some result.1) }
-{
-    let Some((start, _)) = signature::find(content) else {
-        return (BStr::new(content), None);
-    };
-    if start == 0 {
-        return (BStr::new(b""), Some(BStr::new(content)));
-    }
-    (
-        BStr::new(&content[..start - 1]),
-        Some(BStr::new(&content[start..])),
-    )
-}
-
-/// Returns whether all bytes are newlines, also if there are none.
-pub(super) fn are_newlines(content: &[u8]) -> bool
-    ensures { result ≡ are_newlines_of content.now }
-{
-    content.iter().all(|byte| *byte == b'\n')
 }

@@ -15,7 +15,6 @@ ghost use Rattle.gixobj_hash.specs.Optional.{bytes_if_some};
 mod owned;
 
 use super::TagRef;
-use super::decode::are_newlines;
 pub use crate::name::{Error, validated_name};
 use bstr::BStr;
 use gixobj_actor::actor::Signature;
@@ -25,6 +24,7 @@ use gixobj_fields::encode::{self, size_plus_field, size_plus_id, trusted_header_
 use gixobj_fields::streams::Sink;
 use gixobj_hash::Kind;
 use gixobj_hash::hash::ObjectId;
+use gixobj_tokens::bodies::are_newlines;
 use std::alloc::Global;
 use std::io;
 

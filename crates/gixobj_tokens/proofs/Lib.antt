@@ -1,0 +1,3 @@
+mod Searching
+pub mod TagBodies
+mod TaggerTokens

@@ -1,0 +1,37 @@
+use Rattle.std.proofs.Common.{arith, sym}
+use Rattle.gixobj_line.proofs.OneLine.{line_len_lt}
+use Rattle.gixobj_line.specs.Lines.{line_view}
+use Rattle.gixobj_tokens.proofs.Searching.{ended, token_bytes_are_prefix, nil_of_test, passes_on, offset_advances, rejected, not_nil_of_test}
+use Rattle.gixobj_tokens.proofs.commit.find_header.Goals as goal
+
+pub overflow_sub-place : goal.overflow_sub-place
+overflow_sub-place c =
+    let less = line_len_lt c.args.hash_kind c.lines.state c.lines.rest.now (line_view c.in-Ok.read.0) c.in-Ok.read.1 c.in-Ok.read.2.now
+    c.in-Ok.ensures.found in
+    omega (arith, less)
+
+pub lines-smaller : goal.lines-smaller
+lines-smaller c = line_len_lt c.args.hash_kind c.lines.state c.lines.rest.now (line_view c.in-Ok.read.0) c.in-Ok.read.1 c.in-Ok.read.2.now
+    c.in-Ok.ensures.found
+
+pub lines-preserved : goal.lines-preserved
+lines-preserved c =
+    let has = c.in-Ok.ensures.found in
+    let less = line_len_lt c.args.hash_kind c.lines.state c.lines.rest.now (line_view c.in-Ok.read.0) c.in-Ok.read.1 c.in-Ok.read.2.now has in
+    let one = token_bytes_are_prefix c.args.hash_kind c.lines.state c.lines.rest.now (line_view c.in-Ok.read.0) c.in-Ok.read.1 c.in-Ok.read.2.now has in
+    let inv = c.lines.invariant in
+    record {
+      passes = passes_on c.args.hash_kind c.args.name.now c.args.bytes.now c.lines.state c.lines.rest.now inv.passes
+          (line_view c.in-Ok.read.0) c.in-Ok.read.1 c.in-Ok.read.2.now has
+          (c.in_default.ensures {u = tt}).found;
+      placed = omega (arith, less, inv.placed);
+      joined = offset_advances c.args.bytes.now c.lines.rest.now one.0 c.in-Ok.read.2.now c.lines.place inv.placed inv.joined one.1;
+    }
+
+pub returns-in-Err-clause-error : goal.returns-in-Err-clause-error
+returns-in-Err-clause-error c = rejected c.args.hash_kind c.args.name.now c.args.bytes.now c.lines.state c.lines.rest.now c.lines.invariant.passes
+    c.in-Err.error (not_nil_of_test c.lines.rest.now (sym (c.lines-test.ensures {u = tt}))) c.in-Err.ensures.error
+
+pub returns-clause-found : goal.returns-clause-found
+returns-clause-found c = ended c.args.hash_kind c.args.name.now c.args.bytes.now c.lines.state c.lines.rest.now c.lines.invariant.passes
+    (nil_of_test c.lines.rest.now (sym (c.lines-test.ensures {u = tt})))

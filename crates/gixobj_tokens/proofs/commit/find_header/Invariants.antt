@@ -1,0 +1,17 @@
+use Rattle.std.proofs.Common.{◌≡◌, ◌+◌, ◌++◌, length, take}
+use Rattle.gixobj_fields.specs.Runs.{PassesNone}
+use Rattle.gixobj_line.specs.Lines.{BeginsWithLine}
+use Rattle.gixobj_line.specs.declared.lines.State.TheVariants as state
+use Rattle.gixobj_tokens.specs.CommitHeaders.{IsNamedLine}
+use Rattle.gixobj_tokens.proofs.commit.find_header.Given as goal
+
+-- no line so far is a header of the name, and the rest is the input from this position on
+abbrev pub invariant-lines : goal.invariant-lines
+invariant-lines l = record {
+  passes : PassesNone (BeginsWithLine l.fn.hash_kind) (IsNamedLine l.fn.name) state.Tree l.fn.bytes l.state l.rest;
+  placed : l.place + length l.rest ≡ length l.fn.bytes;
+  joined : l.fn.bytes ≡ take l.place l.fn.bytes ++ l.rest;
+}
+
+abbrev pub decreases-lines : goal.decreases-lines
+decreases-lines l = length l.rest

@@ -1,0 +1,5 @@
+pub mod CommitHeaders
+pub mod CommitSignatures
+pub mod TagBodies
+pub mod TagSignatures
+pub mod TagTokens
